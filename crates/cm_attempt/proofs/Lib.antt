@@ -1,0 +1,5 @@
+pub mod EntryLemmas
+pub mod RepeatLemmas
+pub mod TableLaws
+pub mod WorstLemmas
+pub mod IdLaws

@@ -1,0 +1,35 @@
+-- The rows of the table that the entries of the maps stand for.
+use Rattle.std.specs.Prelude.{List, String, map}
+use Rattle.std.specs.String.{string_bytes}
+use Rattle.std.specs.declared.alloc.Global.{Global}
+use Rattle.cm_attempt.specs.Table.{CaseRow, AttemptRow, Table, Text}
+use Rattle.cm_attempt.specs.declared.rows.Case.{Case}
+use Rattle.cm_attempt.specs.declared.rows.Attempt.{Attempt}
+
+abbrev pub case_row : Text → Case → CaseRow
+case_row id c = record {
+  id = id;
+  steps = map string_bytes c.steps.keys;
+  attempts = c.attempts;
+  last = c.last;
+}
+
+abbrev pub attempt_row : Text → Attempt → AttemptRow
+attempt_row id a = record {
+  id = id;
+  case_id = string_bytes a.case_id;
+  cursor = a.cursor;
+  worst = a.worst;
+}
+
+abbrev pub case_rows : List (String Global × Case) → List CaseRow
+case_rows = map (λ e. case_row (string_bytes e.0) e.1)
+
+abbrev pub attempt_rows : List (String Global × Attempt) → List AttemptRow
+attempt_rows = map (λ e. attempt_row (string_bytes e.0) e.1)
+
+abbrev pub table_of : List (String Global × Case) → List (String Global × Attempt) → Table
+table_of cases attempts = record {
+  cases = case_rows cases;
+  attempts = attempt_rows attempts;
+}

@@ -1,0 +1,142 @@
+//! The changes that a call makes once nothing is refused.
+ghost use Rattle.std.specs.Prelude.{◌≡◌, ◌+◌, ◌<◌, ◌≤◌, ◌++◌, ◌∷◌, [], All, IfSome, None, OnErr, OnOk, Some, find, map, option_map};
+ghost use Rattle.std.specs.Str.{bytes_eq};
+ghost use Rattle.std.specs.String.{string_bytes};
+ghost use Rattle.indexmap.specs.IndexMap.{index_map_len, values};
+ghost use Rattle.cm_attempt.specs.Rows.{attempt_rows, case_rows};
+ghost use Rattle.cm_attempt.specs.Table.{after_step, change_first, ended, opened, running, running_cursor};
+ghost use Rattle.cm_attempt.specs.Table.{step_done, with_last};
+ghost use Rattle.cm_attempt.specs.Table.{new_attempt as new_row, new_case};
+
+use crate::rows::{Attempt, Attempts, Case, Cases, Cursor, Last, Steps};
+use crate::status::{Status, joined};
+use std::alloc::{AllocError, Global};
+
+/// Adds a case with its steps. The id is new.
+pub(crate) fn add_case(
+    cases: &mut Cases,
+    alloc: Global,
+    id: &str,
+    steps: Steps,
+    most: u64,
+) -> Result<(), AllocError>
+    requires new { find (λ c. bytes_eq id.now c.id) (case_rows cases.old.entries) ≡ None }
+    requires few { All (λ c. c.attempts ≤ most) (values cases.old) }
+    ensures ok { OnOk result (case_rows cases.new.entries
+        ≡ case_rows cases.old.entries ++ new_case id.now (map string_bytes steps.keys) ∷ []) }
+    ensures err { OnErr result (case_rows cases.new.entries ≡ case_rows cases.old.entries) }
+    ensures few { All (λ c. c.attempts ≤ most) (values cases.new) }
+{
+    let id = String::from_str(alloc, id)?;
+    let case = Case {
+        steps,
+        attempts: 0,
+        last: Last::NotStarted,
+    };
+    cases.insert(id, case)?;
+    Ok(())
+}
+
+/// Adds an attempt of a case. The id is new.
+pub(crate) fn add_attempt(
+    attempts: &mut Attempts,
+    alloc: Global,
+    id: &str,
+    case_id: &str,
+) -> Result<(), AllocError>
+    requires { find (λ a. bytes_eq id.now a.id) (attempt_rows attempts.old.entries) ≡ None }
+    ensures ok { OnOk result (attempt_rows attempts.new.entries
+        ≡ attempt_rows attempts.old.entries ++ new_row id.now case_id.now ∷ []) }
+    ensures err { OnErr result (attempt_rows attempts.new.entries ≡ attempt_rows attempts.old.entries) }
+    ensures len { OnOk result (index_map_len attempts.new ≡ index_map_len attempts.old + 1) }
+    ensures len_err { OnErr result (index_map_len attempts.new ≡ index_map_len attempts.old) }
+{
+    let id = String::from_str(alloc, id)?;
+    let case_id = String::from_str(alloc, case_id)?;
+    let attempt = Attempt {
+        case_id,
+        cursor: Some(Cursor {
+            finished: 0,
+            is_running: false,
+        }),
+        worst: None,
+    };
+    attempts.insert(id, attempt)?;
+    Ok(())
+}
+
+/// Opens the last attempt of a case. Each case has fewer attempts than `most`.
+pub(crate) fn open_case(cases: &mut Cases, id: &str, most: u64)
+    requires { All (λ c. c.attempts < most) (values cases.old) }
+    ensures rows { case_rows cases.new.entries
+        ≡ change_first (λ c. bytes_eq id.now c.id) opened (case_rows cases.old.entries) }
+    ensures few { All (λ c. c.attempts ≤ most) (values cases.new) }
+{
+    if let Some(at) = cases.get_index_of(id) {
+        let case = &mut cases[at];
+        case.attempts += 1;
+        case.last = Last::Open;
+    }
+}
+
+/// Sets the state of a case's last attempt.
+pub(crate) fn close_case(cases: &mut Cases, id: &str, last: Last, most: u64)
+    requires { All (λ c. c.attempts ≤ most) (values cases.old) }
+    ensures rows { case_rows cases.new.entries
+        ≡ change_first (λ c. bytes_eq id.now c.id) (with_last last) (case_rows cases.old.entries) }
+    ensures few { All (λ c. c.attempts ≤ most) (values cases.new) }
+{
+    if let Some(at) = cases.get_index_of(id) {
+        let case = &mut cases[at];
+        case.last = last;
+    }
+}
+
+/// The cursor once the next step runs.
+fn started(cursor: Option<Cursor>) -> Option<Cursor>
+    ensures { result ≡ option_map running_cursor cursor }
+{
+    cursor.map(|at| Cursor {
+        finished: at.finished,
+        is_running: true,
+    })
+}
+
+/// Sets the next step of an attempt running.
+pub(crate) fn set_running(attempts: &mut Attempts, id: &str)
+    ensures rows { attempt_rows attempts.new.entries
+        ≡ change_first (λ a. bytes_eq id.now a.id) running (attempt_rows attempts.old.entries) }
+    ensures len { index_map_len attempts.new ≡ index_map_len attempts.old }
+{
+    if let Some(at) = attempts.get_index_of(id) {
+        let running = &mut attempts[at];
+        running.cursor = started(running.cursor);
+    }
+}
+
+/// Ends an attempt.
+pub(crate) fn set_ended(attempts: &mut Attempts, id: &str)
+    ensures rows { attempt_rows attempts.new.entries
+        ≡ change_first (λ a. bytes_eq id.now a.id) ended (attempt_rows attempts.old.entries) }
+    ensures len { index_map_len attempts.new ≡ index_map_len attempts.old }
+{
+    if let Some(at) = attempts.get_index_of(id) {
+        let ending = &mut attempts[at];
+        ending.cursor = None;
+    }
+}
+
+/// Counts the running step as finished, with its status. `next` is the cursor after it.
+pub(crate) fn note_status(attempts: &mut Attempts, id: &str, next: Cursor, status: Status)
+    requires { IfSome (find (λ a. bytes_eq id.now a.id) (attempt_rows attempts.old.entries))
+        (λ a. option_map after_step a.cursor ≡ Some next) }
+    ensures rows { attempt_rows attempts.new.entries ≡ change_first
+        (λ a. bytes_eq id.now a.id) (step_done status) (attempt_rows attempts.old.entries) }
+    ensures len { index_map_len attempts.new ≡ index_map_len attempts.old }
+{
+    if let Some(at) = attempts.get_index_of(id) {
+        let attempt = &mut attempts[at];
+        attempt.cursor = Some(next);
+        attempt.worst = Some(joined(attempt.worst, status));
+    }
+}

@@ -1,0 +1,176 @@
+//! What a call has to find before it changes anything.
+ghost use Rattle.std.specs.Prelude.{◌≡◌, ◌<◌, if◌then◌else◌, [], IfOk, IfSome, IsOk, MatchOption, None, Ok, Some, length, map, option_map};
+ghost use Rattle.std.specs.String.{string_bytes};
+ghost use Rattle.cm_attempt.specs.Rows.{attempt_row, table_of};
+ghost use Rattle.cm_attempt.specs.Table.{after_step, find_attempt as row_of};
+ghost use Rattle.cm_attempt.specs.Table.{finish_fault_at, is_closed_to_new as closed_to_new, is_next as next_step};
+ghost use Rattle.cm_attempt.specs.Table.{start_fault, step_fault_of, step_finish_fault, step_start_fault};
+ghost use Rattle.cm_attempt.specs.Table.{may_finish as ends_in_order, may_start as starts_in_order};
+
+use crate::fault::TrackFault;
+use crate::rows::{
+    Attempt, Attempts, Cases, Cursor, Last, case_has_step, find_attempt, find_case, steps_of,
+};
+
+/// Whether no new attempt may start beside or after the last one.
+pub(crate) fn is_closed_to_new(last: Last) -> bool
+    ensures { result ≡ closed_to_new last }
+{
+    matches!(last, Last::Open | Last::Final(_))
+}
+
+/// Whether the step is the one after those that are finished.
+fn is_next(cursor: Cursor, steps: &[String], step: &str) -> bool
+    ensures { result ≡ next_step cursor (map string_bytes steps.now) step.now }
+{
+    match steps.get(cursor.finished) {
+        Some(next) => step == next.as_str(),
+        None => false,
+    }
+}
+
+fn may_start(cursor: Option<Cursor>, steps: &[String], step: &str) -> bool
+    ensures { result ≡ starts_in_order step.now cursor (map string_bytes steps.now) }
+{
+    match cursor {
+        Some(cursor) => !cursor.is_running && is_next(cursor, steps, step),
+        None => false,
+    }
+}
+
+/// The cursor after one more finished step.
+fn following(cursor: Cursor, steps: &[String]) -> Cursor
+    requires { cursor.finished < length steps.now }
+    ensures { result ≡ after_step cursor }
+{
+    Cursor {
+        finished: cursor.finished + 1,
+        is_running: false,
+    }
+}
+
+/// The cursor after the step's finish, where it may finish.
+fn finished_in_order(cursor: Option<Cursor>, steps: &[String], step: &str) -> Option<Cursor>
+    ensures { result ≡ (if ends_in_order step.now cursor (map string_bytes steps.now)
+        then option_map after_step cursor else None) }
+{
+    let cursor = cursor?;
+    if cursor.is_running && is_next(cursor, steps, step) {
+        Some(following(cursor, steps))
+    } else {
+        None
+    }
+}
+
+fn check_step(is_known: bool, is_in_order: bool) -> Result<(), TrackFault>
+    ensures { MatchOption (step_fault_of is_known is_in_order)
+        (result ≡ Ok tt) (λ fault. result ≡ Err fault) }
+{
+    if !is_known {
+        return Err(TrackFault::UnknownStep);
+    }
+    if is_in_order {
+        Ok(())
+    } else {
+        Err(TrackFault::StepOrder)
+    }
+}
+
+pub(crate) fn check_new(
+    cases: &Cases,
+    attempts: &Attempts,
+    id: &str,
+    case: &str,
+    number: u64,
+) -> Result<(), TrackFault>
+    ensures { MatchOption (start_fault (table_of cases.now.entries attempts.now.entries) id.now case.now number)
+        (result ≡ Ok tt) (λ fault. result ≡ Err fault) }
+{
+    let Some(found) = find_case(cases, case) else {
+        return Err(TrackFault::UnknownCase);
+    };
+    if find_attempt(attempts, id).is_some() {
+        return Err(TrackFault::DuplicateId);
+    }
+    if number != found.attempts {
+        return Err(TrackFault::AttemptNumber);
+    }
+    if is_closed_to_new(found.last) {
+        return Err(TrackFault::AttemptOverlap);
+    }
+    Ok(())
+}
+
+/// Whether the step may start.
+pub(crate) fn check_start(
+    cases: &Cases,
+    attempts: &Attempts,
+    id: &str,
+    step: &str,
+) -> Result<(), TrackFault>
+    ensures { MatchOption (step_start_fault (table_of cases.now.entries attempts.now.entries) id.now step.now)
+        (result ≡ Ok tt) (λ fault. result ≡ Err fault) }
+{
+    let Some(attempt) = find_attempt(attempts, id) else {
+        return Err(TrackFault::UnknownAttempt);
+    };
+    let case = attempt.case_id.as_str();
+    let is_known = case_has_step(cases, case, step);
+    let steps = steps_of(cases, case);
+    check_step(is_known, may_start(attempt.cursor, steps, step))
+}
+
+fn check_running(
+    is_known: bool,
+    cursor: Option<Cursor>,
+    steps: &[String],
+    step: &str,
+) -> Result<Cursor, TrackFault>
+    ensures answer { MatchOption (step_fault_of is_known (ends_in_order step.now cursor (map string_bytes steps.now)))
+        (IsOk result) (λ fault. result ≡ Err fault) }
+    ensures next { IfOk result (λ next. option_map after_step cursor ≡ Some next) }
+{
+    if !is_known {
+        return Err(TrackFault::UnknownStep);
+    }
+    match finished_in_order(cursor, steps, step) {
+        Some(next) => Ok(next),
+        None => Err(TrackFault::StepOrder),
+    }
+}
+
+/// Whether the step may finish, and the attempt's cursor after it.
+pub(crate) fn check_finish(
+    cases: &Cases,
+    attempts: &Attempts,
+    id: &str,
+    step: &str,
+) -> Result<Cursor, TrackFault>
+    ensures answer { MatchOption (step_finish_fault (table_of cases.now.entries attempts.now.entries) id.now step.now)
+        (IsOk result) (λ fault. result ≡ Err fault) }
+    ensures next { IfOk result (λ next. IfSome
+        (row_of (table_of cases.now.entries attempts.now.entries) id.now)
+        (λ a. option_map after_step a.cursor ≡ Some next)) }
+{
+    let Some(attempt) = find_attempt(attempts, id) else {
+        return Err(TrackFault::UnknownAttempt);
+    };
+    let case = attempt.case_id.as_str();
+    let is_known = case_has_step(cases, case, step);
+    check_running(is_known, attempt.cursor, steps_of(cases, case), step)
+}
+
+/// Whether the attempt may end.
+pub(crate) fn check_end(cases: &Cases, attempt: &Attempt) -> Result<(), TrackFault>
+    ensures { MatchOption (finish_fault_at (table_of cases.now.entries []) (Some (attempt_row [] attempt.now)))
+        (result ≡ Ok tt) (λ fault. result ≡ Err fault) }
+{
+    let Some(cursor) = attempt.cursor else {
+        return Err(TrackFault::StepOrder);
+    };
+    if cursor.finished == steps_of(cases, attempt.case_id.as_str()).len() {
+        Ok(())
+    } else {
+        Err(TrackFault::FinishedEarly)
+    }
+}

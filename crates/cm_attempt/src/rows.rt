@@ -1,0 +1,165 @@
+//! What a track keeps of a case and of an attempt, and the look-ups in it.
+ghost use Rattle.std.specs.Prelude.{◌≡◌, IfOk, IfSome, [], ℕ, List, count_by, false, find, is_none, is_some, map, option_map};
+ghost use Rattle.std.specs.Option.{option_map_or};
+ghost use Rattle.std.specs.List.{list_all};
+ghost use Rattle.std.specs.Str.{bytes_eq};
+ghost use Rattle.std.specs.String.{string_bytes};
+ghost use Rattle.indexmap.specs.IndexMap.{values};
+ghost use Rattle.cm_attempt.specs.Rows.{attempt_row, attempt_rows, case_row, case_rows, table_of};
+ghost use Rattle.cm_attempt.specs.Table.{has_repeat, has_step, has_text, is_good_case as is_good, is_good_status};
+ghost use Rattle.cm_attempt.specs.Table.{outcome as specs_outcome, status_of_last, steps_of as steps_in};
+
+use crate::status::Status;
+use indexmap::{IndexMap, IndexSet};
+use std::alloc::{AllocError, Global};
+
+/// The state of the last attempt of a case.
+#[derive(Clone, Copy, Debug, PartialEq, Eq)]
+pub enum Last {
+    NotStarted,
+    Open,
+    Retried(Status),
+    Final(Status),
+}
+
+/// How far an open attempt has come: the number of its finished steps, and whether the next one
+/// is running.
+#[derive(Clone, Copy, Debug, PartialEq, Eq)]
+pub struct Cursor {
+    pub finished: usize,
+    pub is_running: bool,
+}
+
+#[derive(Drop)]
+pub(crate) struct Case {
+    pub(crate) steps: Steps,
+    pub(crate) attempts: u64,
+    pub(crate) last: Last,
+}
+
+/// An attempt. It has no cursor once it has ended.
+#[derive(Drop)]
+pub(crate) struct Attempt {
+    pub(crate) case_id: String,
+    pub(crate) cursor: Option<Cursor>,
+    pub(crate) worst: Option<Status>,
+}
+
+pub(crate) type Steps = IndexSet<String>;
+
+pub(crate) type Cases = IndexMap<String, Case>;
+
+pub(crate) type Attempts = IndexMap<String, Attempt>;
+
+pub(crate) fn find_case<'a>(cases: &'a Cases, id: &str) -> Option<&'a Case>
+    ensures { option_map (λ c. case_row id.now c.now) result
+        ≡ find (λ c. bytes_eq id.now c.id) (case_rows cases.now.entries) }
+{
+    cases.get(id)
+}
+
+pub(crate) fn find_attempt<'a>(attempts: &'a Attempts, id: &str) -> Option<&'a Attempt>
+    ensures { option_map (λ a. attempt_row id.now a.now) result
+        ≡ find (λ a. bytes_eq id.now a.id) (attempt_rows attempts.now.entries) }
+{
+    attempts.get(id)
+}
+
+/// The texts as a set in their order, and none where two of them are equal.
+pub(crate) fn distinct_texts(alloc: Global, texts: &[String]) -> Result<Option<Steps>, AllocError>
+    ensures repeated { IfOk result (λ set. is_none set ≡ has_repeat (map string_bytes texts.now)) }
+    ensures same { IfOk result (λ set. IfSome set
+        (λ s. map string_bytes s.keys ≡ map string_bytes texts.now)) }
+{
+    let mut set = IndexSet::new(alloc);
+    for text in texts {
+        if set.contains(text.as_str()) {
+            return Ok(None);
+        }
+        set.insert(text.clone()?)?;
+    }
+    Ok(Some(set))
+}
+
+/// The steps of the case, and none of an unknown case.
+pub(crate) fn steps_of<'a>(cases: &'a Cases, id: &str) -> &'a [String]
+    ensures { map string_bytes result.now
+        ≡ option_map_or (λ c. c.steps) (find (λ c. bytes_eq id.now c.id) (case_rows cases.now.entries)) [] }
+{
+    match find_case(cases, id) {
+        Some(case) => case.steps.as_slice(),
+        None => &[],
+    }
+}
+
+fn contains(steps: &Steps, step: &str) -> bool
+    ensures { result ≡ has_text step.now (map string_bytes steps.now.keys) }
+{
+    steps.contains(step)
+}
+
+/// Whether the case has the step.
+pub(crate) fn case_has_step(cases: &Cases, id: &str, step: &str) -> bool
+    ensures { result ≡ has_text step.now (steps_in (table_of cases.now.entries []) id.now) }
+{
+    match find_case(cases, id) {
+        Some(case) => contains(&case.steps, step),
+        None => false,
+    }
+}
+
+/// The status of a final attempt.
+pub(crate) fn final_status(last: Last) -> Option<Status>
+    ensures { result ≡ status_of_last last }
+{
+    match last {
+        Last::Final(status) => Some(status),
+        _ => None,
+    }
+}
+
+/// Whether the last attempt is a final one that passed or was skipped.
+pub(crate) fn is_good_last(last: Last) -> bool
+    ensures { result ≡ option_map_or is_good_status (status_of_last last) false }
+{
+    matches!(last, Last::Final(Status::Passed | Status::Skipped))
+}
+
+/// How the attempt leaves its case.
+pub(crate) fn outcome(attempt: &Attempt, will_be_retried: bool) -> Last
+    ensures { (id : List ℕ) → result ≡ specs_outcome (attempt_row id attempt.now) will_be_retried }
+{
+    let status = attempt.worst.unwrap_or(Status::Passed);
+    if will_be_retried {
+        Last::Retried(status)
+    } else {
+        Last::Final(status)
+    }
+}
+
+/// Whether each case has a final attempt that passed or was skipped.
+pub(crate) fn are_good(cases: &Cases) -> bool
+    ensures { result ≡ list_all (λ c. is_good (case_row [] c)) (values cases.now) }
+{
+    cases.values().all(|case| is_good_last(case.last))
+}
+
+/// How many attempts have not ended.
+pub(crate) fn count_open(attempts: &Attempts) -> u64
+    ensures { result ≡ count_by (λ a. is_some (attempt_row [] a).cursor) (values attempts.now) }
+{
+    attempts
+        .values()
+        .filter(|attempt| attempt.cursor.is_some())
+        .count() as u64
+}
+
+/// Whether there is such an attempt and its case has the step.
+pub(crate) fn attempt_has_step(cases: &Cases, attempts: &Attempts, id: &str, step: &str) -> bool
+    ensures { result ≡ has_step (table_of cases.now.entries attempts.now.entries) id.now step.now }
+{
+    match find_attempt(attempts, id) {
+        Some(attempt) => case_has_step(cases, attempt.case_id.as_str(), step),
+        None => false,
+    }
+}

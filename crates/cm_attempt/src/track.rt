@@ -1,0 +1,212 @@
+//! The record of test cases and attempts.
+ghost use Rattle.std.specs.Prelude.{◌≡◌, ◌+◌, ◌⊎◌, IfSome, IsErrAnd, IsOk, IsOkUnless, MatchOption, OnErr, OnOk, is_some, map};
+ghost use Rattle.std.specs.List.{list_all};
+ghost use Rattle.std.specs.String.{string_bytes};
+ghost use Rattle.cm_attempt.specs.Table.{HasDistinctIds, add_case_fault, change_attempt, empty_table};
+ghost use Rattle.cm_attempt.specs.Table.{find_attempt as row_of, find_case as case_of};
+ghost use Rattle.cm_attempt.specs.Table.{finish_fault, finished, has_step, is_good_case, open_count};
+ghost use Rattle.cm_attempt.specs.Table.{reported_of, running, start_fault, started, step_done};
+ghost use Rattle.cm_attempt.specs.Table.{step_finish_fault, step_start_fault, with_case};
+
+use crate::changes::{
+    add_attempt, add_case, close_case, note_status, open_case, set_ended, set_running,
+};
+use crate::checks::{check_end, check_finish, check_new, check_start};
+use crate::fault::TrackFault;
+use crate::rows::{
+    Attempts, Cases, are_good, attempt_has_step, count_open, distinct_texts, final_status,
+    find_attempt, find_case, outcome,
+};
+use crate::status::Status;
+use indexmap::IndexMap;
+use std::alloc::Global;
+use std::marker::Model;
+
+/// The test cases of a run and their attempts, as the Messages' `testCase`, `testCaseStarted`,
+/// `testStepStarted`, `testStepFinished` and `testCaseFinished` tell them. A refused call leaves
+/// it as it was.
+#[derive(Drop)]
+pub struct Track {
+    cases: Cases,
+    attempts: Attempts,
+    alloc: Global,
+}
+
+impl Model for Track {
+    ghost use Rattle.std.specs.Prelude.{◌≤◌, All};
+    ghost use Rattle.indexmap.specs.IndexMap.{index_map_len, values};
+    ghost use Rattle.cm_attempt.specs.Table.{HasDistinctIds, Table};
+
+    ghost Value = { Table };
+
+    ghost use Rattle.cm_attempt.specs.Rows.{table_of};
+
+    ghost view = { λ t. table_of t.cases.entries t.attempts.entries };
+
+    ghost invariant = { λ t. All (λ c. c.attempts ≤ index_map_len t.attempts) (values t.cases)
+        × HasDistinctIds (table_of t.cases.entries t.attempts.entries) };
+}
+
+impl Track {
+    /// A track with no case. It takes no memory.
+    pub fn new(alloc: Global) -> Track
+        ensures { result ≡ empty_table }
+    {
+        Track {
+            cases: IndexMap::new(alloc),
+            attempts: IndexMap::new(alloc),
+            alloc,
+        }
+    }
+
+    /// Adds a case with the ids of its steps, in their order.
+    ///
+    /// # Errors
+    /// `DuplicateId` where the id is that of a case or two steps are equal, `Memory` where a
+    /// growth is refused.
+    pub fn add_case(&mut self, id: &str, steps: &[String]) -> Result<(), TrackFault>
+        // Equal steps are found with memory, so want of it may stand in their place.
+        ensures repeated_id { IfSome (case_of self.old id.now)
+            (λ _. result ≡ Err TrackFault.DuplicateId) }
+        ensures answer { MatchOption (add_case_fault self.old id.now (map string_bytes steps.now))
+            (IsOkUnless result TrackFault.Memory)
+            (λ fault. IsErrAnd result (λ e. (e ≡ fault) ⊎ (e ≡ TrackFault.Memory))) }
+        ensures ok { OnOk result (self.new ≡ with_case id.now (map string_bytes steps.now) self.old) }
+        ensures err { OnErr result (self.new ≡ self.old) }
+        ensures open_count { open_count self.new ≡ open_count self.old }
+    {
+        if find_case(&self.cases, id).is_some() {
+            return Err(TrackFault::DuplicateId);
+        }
+        let Some(steps) = distinct_texts(self.alloc, steps)? else {
+            return Err(TrackFault::DuplicateId);
+        };
+        let most = self.attempts.len() as u64;
+        add_case(&mut self.cases, self.alloc, id, steps, most)?;
+        Ok(())
+    }
+
+    /// Starts an attempt of a case, with its number: 0 for the first.
+    ///
+    /// # Errors
+    /// In this order: `UnknownCase`; `DuplicateId` where the id is that of an attempt;
+    /// `AttemptNumber` where the number is not that of the case's attempts so far;
+    /// `AttemptOverlap` where an attempt of the case is open or its last one is not retried;
+    /// `Memory` where a growth is refused.
+    pub fn start(&mut self, id: &str, case: &str, attempt: u64) -> Result<(), TrackFault>
+        ensures answer { MatchOption (start_fault self.old id.now case.now attempt)
+            (IsOkUnless result TrackFault.Memory) (λ fault. result ≡ Err fault) }
+        ensures ok { OnOk result (self.new ≡ started id.now case.now self.old) }
+        ensures err { OnErr result (self.new ≡ self.old) }
+        ensures opens { OnOk result (open_count self.new ≡ open_count self.old + 1) }
+        ensures open_count_err { OnErr result (open_count self.new ≡ open_count self.old) }
+    {
+        check_new(&self.cases, &self.attempts, id, case, attempt)?;
+        add_attempt(&mut self.attempts, self.alloc, id, case)?;
+        let most = self.attempts.len() as u64;
+        open_case(&mut self.cases, case, most);
+        Ok(())
+    }
+
+    /// A step of an attempt starts. It takes no memory.
+    ///
+    /// # Errors
+    /// In this order: `UnknownAttempt`, `UnknownStep`, and `StepOrder` where the attempt has
+    /// ended, a step runs or the step is not the next of its case.
+    pub fn step_started(&mut self, attempt: &str, step: &str) -> Result<(), TrackFault>
+        ensures answer { MatchOption (step_start_fault self.old attempt.now step.now)
+            (IsOk result) (λ fault. result ≡ Err fault) }
+        ensures ok { OnOk result (self.new ≡ change_attempt attempt.now running self.old) }
+        ensures err { OnErr result (self.new ≡ self.old) }
+        ensures open_count { open_count self.new ≡ open_count self.old }
+    {
+        check_start(&self.cases, &self.attempts, attempt, step)?;
+        set_running(&mut self.attempts, attempt);
+        Ok(())
+    }
+
+    /// A step of an attempt finishes with a status. It takes no memory.
+    ///
+    /// # Errors
+    /// In this order: `UnknownAttempt`, `UnknownStep`, and `StepOrder` where the step is not the
+    /// one that runs.
+    pub fn step_finished(
+        &mut self,
+        attempt: &str,
+        step: &str,
+        status: Status,
+    ) -> Result<(), TrackFault>
+        ensures answer { MatchOption (step_finish_fault self.old attempt.now step.now)
+            (IsOk result) (λ fault. result ≡ Err fault) }
+        ensures ok { OnOk result (self.new ≡ change_attempt attempt.now (step_done status) self.old) }
+        ensures err { OnErr result (self.new ≡ self.old) }
+        ensures open_count { open_count self.new ≡ open_count self.old }
+    {
+        let next = check_finish(&self.cases, &self.attempts, attempt, step)?;
+        note_status(&mut self.attempts, attempt, next, status);
+        Ok(())
+    }
+
+    /// An attempt ends. `will_be_retried` says whether another of its case follows. It takes no
+    /// memory.
+    ///
+    /// # Errors
+    /// In this order: `UnknownAttempt`, `StepOrder` where the attempt has ended already, and
+    /// `FinishedEarly` where it has a step that is not finished.
+    pub fn finish(&mut self, attempt: &str, will_be_retried: bool) -> Result<(), TrackFault>
+        ensures answer { MatchOption (finish_fault self.old attempt.now)
+            (IsOk result) (λ fault. result ≡ Err fault) }
+        ensures ok { OnOk result (self.new ≡ finished attempt.now will_be_retried self.old) }
+        ensures err { OnErr result (self.new ≡ self.old) }
+        ensures closes { OnOk result (open_count self.new + 1 ≡ open_count self.old) }
+        ensures open_count_err { OnErr result (open_count self.new ≡ open_count self.old) }
+    {
+        let Some(found) = find_attempt(&self.attempts, attempt) else {
+            return Err(TrackFault::UnknownAttempt);
+        };
+        check_end(&self.cases, found)?;
+        let last = outcome(found, will_be_retried);
+        let most = self.attempts.len() as u64;
+        close_case(&mut self.cases, found.case_id.as_str(), last, most);
+        set_ended(&mut self.attempts, attempt);
+        Ok(())
+    }
+
+    /// The worst status of the case's final attempt, which is one that ended and is not retried.
+    /// None where there is no such attempt or no such case.
+    pub fn reported(&self, case: &str) -> Option<Status>
+        ensures value { result ≡ reported_of self.now case.now }
+        ensures distinct { HasDistinctIds self.now }
+    {
+        final_status(find_case(&self.cases, case)?.last)
+    }
+
+    /// How many attempts have not ended.
+    pub fn open_attempts(&self) -> u64
+        ensures { result ≡ open_count self.now }
+    {
+        count_open(&self.attempts)
+    }
+
+    /// Whether the attempt was started.
+    pub fn has_attempt(&self, id: &str) -> bool
+        ensures value { result ≡ is_some (row_of self.now id.now) }
+        ensures distinct { HasDistinctIds self.now }
+    {
+        find_attempt(&self.attempts, id).is_some()
+    }
+
+    /// Whether the attempt was started and its case has the step.
+    pub fn has_step(&self, attempt: &str, step: &str) -> bool
+        ensures { result ≡ has_step self.now attempt.now step.now }
+    {
+        attempt_has_step(&self.cases, &self.attempts, attempt, step)
+    }
+
+    /// Whether each case has a final attempt that passed or was skipped.
+    pub fn all_good(&self) -> bool
+        ensures { result ≡ list_all is_good_case self.now.cases }
+    {
+        are_good(&self.cases)
+    }
+}

@@ -1,0 +1,9 @@
+pub mod Lines
+pub mod Giving
+pub mod Behind
+pub mod Ends
+pub mod Finding
+pub mod Taking
+pub mod Each
+pub mod Judged
+pub mod Json

@@ -1,0 +1,244 @@
+-- Reading a feature's tree, in which the nodes have ids (Messages: GherkinDocument and its parts). A reading takes the ids
+-- of the nodes before it, and gives what was read and the ids up to its end: a node's number is how many ids stand before
+-- its own. Columns aren't read, and stand as 0; nor are descriptions, comments, fences and keyword types.
+use Rattle.std.specs.Prelude.{◌≡◌, ℕ, ◌^◌, List, [], ◌∷◌, ◌++◌, length, Bool, true, false, not, ◌&&◌, ◌||◌, if◌then◌else◌, nat_lt, nat_le, max, unwrap_or, option_map, Option, Some, None, is_some, option_and_then, Result, Ok, Err, codes}
+use Rattle.serde_json.specs.Data.{Data, Items, no_items, item}
+use Rattle.serde_json.specs.Find.{as_str, as_object}
+use Rattle.gk_line.specs.declared.tokens.Cell.{Cell}
+use Rattle.gk_line.specs.declared.tokens.Fence.TheVariants.{Quotes}
+use Rattle.gk_line.specs.declared.tokens.KeywordType.TheVariants as keyword_type
+use Rattle.gk_document.specs.declared.tree.Location.{Location}
+use Rattle.gk_document.specs.declared.tree.Tag.{Tag}
+use Rattle.gk_document.specs.declared.tree.Row.{Row}
+use Rattle.gk_document.specs.declared.tree.DocString.{DocString}
+use Rattle.gk_document.specs.declared.tree.Argument.{Argument}
+use Rattle.gk_document.specs.declared.tree.Argument.TheVariants.{Table, Text}
+use Rattle.gk_document.specs.declared.tree.Step.{Step}
+use Rattle.gk_document.specs.declared.tree.Background.{Background}
+use Rattle.gk_document.specs.declared.tree.ExampleTable.{ExampleTable}
+use Rattle.gk_document.specs.declared.tree.Examples.{Examples}
+use Rattle.gk_document.specs.declared.tree.Scenario.{Scenario}
+use Rattle.gk_document.specs.declared.tree.Rule.{Rule}
+use Rattle.gk_document.specs.declared.tree.Feature.{Feature}
+use Rattle.cm_envelope.specs.declared.fault.MemberFault.{MemberFault}
+use Rattle.cm_envelope.specs.declared.envelope.GherkinDocument.{GherkinDocument}
+use Rattle.cm_envelope.specs.declared.documents.DataTable.{DataTable}
+use Rattle.cm_envelope.specs.Member.{◌>>=◌, Fails, good, required, nested, optional_nested, list_of, items_in, present, rule, has_both, media_type, as_whole_number}
+
+abbrev pub Ids : Type 0
+Ids = List (List ℕ)
+
+-- what was read, and the ids up to its end
+abbrev pub NodeRead : Type 0 → Type 0
+NodeRead A = Result (A × Ids) (List ℕ)
+
+-- What a function returned, and the ids that it left, are what reading gives, unless memory ran out.
+abbrev pub GivesNode : {A : Type 0} → Result A MemberFault → Ids → NodeRead A → Type 0
+GivesNode (Ok x) ids reading = reading ≡ Ok (x, ids)
+GivesNode (Err e) ids reading = Fails e reading
+
+-- ---- nodes and lists of them
+
+abbrev pub node_in : {A : Type 0} → List ℕ → (Ids → Data → NodeRead A) → Ids → Data → NodeRead A
+node_in name read ids d = good name (as_object d) >>= λ members. read ids d
+
+abbrev pub optional_node_in : {A : Type 0} → (Ids → Data → NodeRead A) → List ℕ → Ids → Option Data → NodeRead (Option A)
+optional_node_in read name ids None = Ok (None, ids)
+optional_node_in read name ids (Some d) = do
+  found ← node_in name read ids d
+  Ok (Some found.0, found.1)
+
+abbrev pub optional_node : {A : Type 0} → (Ids → Data → NodeRead A) → List ℕ → Ids → Data → NodeRead (Option A)
+optional_node read name ids d = optional_node_in read name ids (present name d)
+
+abbrev pub each_node : {A : Type 0} → (Ids → Data → NodeRead A) → Ids → Items → NodeRead (List A)
+each_node read ids no_items = Ok ([], ids)
+each_node read ids (item d ds) = do
+  first ← read ids d
+  others ← each_node read first.1 ds
+  Ok (first.0 ∷ others.0, others.1)
+
+abbrev pub nodes_of : {A : Type 0} → (Ids → Data → NodeRead A) → List ℕ → Ids → Data → NodeRead (List A)
+nodes_of read name ids d = items_in name (present name d) >>= each_node (node_in name read) ids
+
+-- ---- the children of a feature and of a rule
+
+abbrev pub before_items : Option Data → Items → Items
+before_items None ds = ds
+before_items (Some d) ds = item d ds
+
+-- the children of one kind, in order: the items that have the member
+abbrev pub children_of : List ℕ → Items → Items
+children_of name no_items = no_items
+children_of name (item d ds) = before_items (present name d) (children_of name ds)
+
+-- the background, which is the first child where there is one
+abbrev pub background_in : Items → Option Data
+background_in no_items = None
+background_in (item d ds) = present (codes "background") d
+
+-- a child's place in the order of children, where it has exactly one of the three members
+abbrev pub rank_if : Bool → Bool → Bool → Option ℕ
+rank_if true false false = Some 0
+rank_if false true false = Some 1
+rank_if false false true = Some 2
+rank_if a b c = None
+
+-- In a rule's child, `rule` is an unknown member.
+abbrev pub rank_of : Bool → Data → Option ℕ
+rank_of in_feature d = rank_if (is_some (present (codes "background") d)) (is_some (present (codes "scenario") d)) (in_feature && is_some (present (codes "rule") d))
+
+-- at most one background, then scenarios, then rules: no child's rank is below least, nor the later ones' below its own or 1
+abbrev pub are_in_order : Bool → ℕ → Items → Bool
+are_in_order in_feature least no_items = true
+are_in_order in_feature least (item d ds) = unwrap_or (option_map (λ r. nat_le least r && are_in_order in_feature (max r 1) ds) (rank_of in_feature d)) false
+
+-- the children, once each has its kind and they are in order
+abbrev pub children_in : Bool → Data → Result Items (List ℕ)
+children_in in_feature d = do
+  children ← items_in (codes "children") (present (codes "children") d)
+  checked ← rule (codes "children") (are_in_order in_feature 0 children)
+  Ok children
+
+-- ---- places, cells and doc strings
+
+abbrev pub line_of : ℕ → Option ℕ
+line_of n = if nat_lt 0 n && nat_lt n (2 ^ 32) then Some n else None
+
+abbrev pub as_line : Data → Option ℕ
+as_line d = option_and_then line_of (as_whole_number d)
+
+abbrev pub location : Data → Result Location (List ℕ)
+location d = do
+  line ← required as_line (codes "line") d
+  Ok (record { line = line; column = 0 })
+
+abbrev pub cell : Data → Result Cell (List ℕ)
+cell d = do
+  value ← required as_str (codes "value") d
+  Ok (record { value = value; column = 0 })
+
+abbrev pub doc_string : Data → Result DocString (List ℕ)
+doc_string d = do
+  place ← nested location (codes "location") d
+  content ← required as_str (codes "content") d
+  media ← media_type d
+  Ok (record { location = place; media = media; content = content; fence = Quotes })
+
+-- ---- nodes
+
+abbrev pub tag : Ids → Data → NodeRead Tag
+tag ids d = do
+  id ← required as_str (codes "id") d
+  place ← nested location (codes "location") d
+  name ← required as_str (codes "name") d
+  Ok (record { node = length ids; location = place; name = name }, ids ++ id ∷ [])
+
+abbrev pub row : Ids → Data → NodeRead Row
+row ids d = do
+  id ← required as_str (codes "id") d
+  place ← nested location (codes "location") d
+  cells ← list_of cell (codes "cells") d
+  Ok (record { node = length ids; location = place; cells = cells }, ids ++ id ∷ [])
+
+-- without rows it is a table all the same
+abbrev pub data_table : Ids → Data → NodeRead DataTable
+data_table ids d = do
+  rows ← nodes_of row (codes "rows") ids d
+  Ok (record { rows = rows.0 }, rows.1)
+
+abbrev pub argument_of : Option DataTable → Option DocString → Option Argument
+argument_of (Some table) text = Some (Table table.rows)
+argument_of None (Some text) = Some (Text text)
+argument_of None None = None
+
+abbrev pub step : Ids → Data → NodeRead Step
+step ids d = do
+  id ← required as_str (codes "id") d
+  place ← nested location (codes "location") d
+  keyword ← required as_str (codes "keyword") d
+  text ← required as_str (codes "text") d
+  table ← optional_node data_table (codes "dataTable") (ids ++ id ∷ []) d
+  checked ← rule (codes "docString") (not (has_both (codes "dataTable") (codes "docString") d))
+  content ← optional_nested doc_string (codes "docString") d
+  Ok (record { node = length ids; location = place; keyword = keyword; kind = keyword_type.Unknown; text = text; argument = argument_of table.0 content }, table.1)
+
+abbrev pub background : Ids → Data → NodeRead Background
+background ids d = do
+  id ← required as_str (codes "id") d
+  place ← nested location (codes "location") d
+  keyword ← required as_str (codes "keyword") d
+  name ← required as_str (codes "name") d
+  steps ← nodes_of step (codes "steps") (ids ++ id ∷ []) d
+  Ok (record { node = length ids; location = place; keyword = keyword; name = name; description = []; steps = steps.0 }, steps.1)
+
+abbrev pub is_empty : Items → Bool
+is_empty no_items = true
+is_empty (item d ds) = false
+
+abbrev pub table_of : Option Row → List Row → Option ExampleTable
+table_of None body = None
+table_of (Some header) body = Some (record { header = header; body = body })
+
+-- A body that isn't empty needs a header.
+abbrev pub example_table : Ids → Data → NodeRead (Option ExampleTable)
+example_table ids d = do
+  header ← optional_node row (codes "tableHeader") ids d
+  rows ← items_in (codes "tableBody") (present (codes "tableBody") d)
+  checked ← rule (codes "tableBody") (is_some header.0 || is_empty rows)
+  body ← each_node (node_in (codes "tableBody") row) header.1 rows
+  Ok (table_of header.0 body.0, body.1)
+
+abbrev pub examples : Ids → Data → NodeRead Examples
+examples ids d = do
+  id ← required as_str (codes "id") d
+  place ← nested location (codes "location") d
+  tags ← nodes_of tag (codes "tags") ids d
+  keyword ← required as_str (codes "keyword") d
+  name ← required as_str (codes "name") d
+  table ← example_table (tags.1 ++ id ∷ []) d
+  Ok (record { node = length tags.1; location = place; tags = tags.0; keyword = keyword; name = name; description = []; table = table.0 }, table.1)
+
+abbrev pub scenario : Ids → Data → NodeRead Scenario
+scenario ids d = do
+  id ← required as_str (codes "id") d
+  place ← nested location (codes "location") d
+  tags ← nodes_of tag (codes "tags") ids d
+  keyword ← required as_str (codes "keyword") d
+  name ← required as_str (codes "name") d
+  steps ← nodes_of step (codes "steps") (tags.1 ++ id ∷ []) d
+  blocks ← nodes_of examples (codes "examples") steps.1 d
+  Ok (record { node = length tags.1; location = place; tags = tags.0; keyword = keyword; name = name; description = []; steps = steps.0; examples = blocks.0 }, blocks.1)
+
+abbrev pub rule_node : Ids → Data → NodeRead Rule
+rule_node ids d = do
+  id ← required as_str (codes "id") d
+  place ← nested location (codes "location") d
+  tags ← nodes_of tag (codes "tags") ids d
+  keyword ← required as_str (codes "keyword") d
+  name ← required as_str (codes "name") d
+  children ← children_in false d
+  first ← optional_node_in background (codes "background") (tags.1 ++ id ∷ []) (background_in children)
+  scenarios ← each_node (node_in (codes "scenario") scenario) first.1 (children_of (codes "scenario") children)
+  Ok (record { node = length tags.1; location = place; tags = tags.0; keyword = keyword; name = name; description = []; background = first.0; scenarios = scenarios.0 }, scenarios.1)
+
+-- A feature has no id.
+abbrev pub feature : Ids → Data → NodeRead Feature
+feature ids d = do
+  place ← nested location (codes "location") d
+  tags ← nodes_of tag (codes "tags") ids d
+  language ← required as_str (codes "language") d
+  keyword ← required as_str (codes "keyword") d
+  name ← required as_str (codes "name") d
+  children ← children_in true d
+  first ← optional_node_in background (codes "background") tags.1 (background_in children)
+  scenarios ← each_node (node_in (codes "scenario") scenario) first.1 (children_of (codes "scenario") children)
+  rules ← each_node (node_in (codes "rule") rule_node) scenarios.1 (children_of (codes "rule") children)
+  Ok (record { location = place; tags = tags.0; language = language; keyword = keyword; name = name; description = []; background = first.0; scenarios = scenarios.0; rules = rules.0 }, rules.1)
+
+-- the tree and the ids of its nodes in their order
+abbrev pub gherkin_document : Data → Result GherkinDocument (List ℕ)
+gherkin_document d = do
+  uri ← required as_str (codes "uri") d
+  top ← optional_node feature (codes "feature") [] d
+  Ok (record { uri = uri; document = record { feature = top.0; comments = []; nodes = length top.1 }; ids = top.1 })

@@ -1,0 +1,135 @@
+-- What a feed stores between two calls, and what one call does to it.
+use Rattle.std.specs.Prelude.{ℕ, ◌≡◌, ◌+◌, ◌<◌, ◌≤◌, ◌⊎◌, ⊤, Bool, true, false, not, IsTrue, ◌||◌, ◌==◌, List, [], ◌∷◌, ◌++◌, length, Option, Some, None, Result, Ok, Err, IsSome, if◌then◌else◌}
+use Rattle.cm_envelope.specs.Lines.{Line, Fed, size, line_feed, lines_of, feed_lines, trouble_of, nothing, trouble_alone, line_then}
+use Rattle.cm_envelope.specs.declared.feed.Trouble.{Trouble}
+use Rattle.cm_envelope.specs.declared.feed.Trouble.TheVariants.{ReadFailed, LineTooLong, StreamTooLong, Memory}
+use Rattle.cm_envelope.specs.declared.feed.Over.{Over}
+use Rattle.cm_envelope.specs.declared.feed.Over.TheVariants.{Ended, Failed}
+use denote.Ref.{Bor}
+
+-- what a feed stores
+pub record Stored : Type 0 where
+  pub line_limit : ℕ
+  pub stream_limit : ℕ
+  -- the bytes read and not yet given
+  pub held : List ℕ
+  -- how many bytes were given, their LFs included
+  pub given : ℕ
+  -- whether the end was read
+  pub is_ended : Bool
+  -- the end or the trouble, once answered
+  pub over : Option Over
+
+-- a new feed
+abbrev pub new_feed : ℕ → ℕ → Stored
+new_feed line_limit stream_limit = record { line_limit = line_limit; stream_limit = stream_limit; held = []; given = 0; is_ended = false; over = None }
+
+-- what a call answers: a line, the end, or a trouble
+abbrev pub Answer : Type 0
+Answer = Result (Option (List ℕ)) Trouble
+
+-- the answer, by the bytes that it lends
+abbrev pub answer_of : Result (Option (Bor (List ℕ))) Trouble → Answer
+answer_of (Ok (Some line)) = Ok (Some line.now)
+answer_of (Ok None) = Ok None
+answer_of (Err t) = Err t
+
+-- what is answered for good
+abbrev pub last_answer : Over → Answer
+last_answer Ended = Ok None
+last_answer (Failed t) = Err t
+
+-- what a call leaves as answered for good
+abbrev pub over_after : Answer → Option Over
+over_after (Ok (Some line)) = None
+over_after (Ok None) = Some Ended
+over_after (Err t) = Some (Failed t)
+
+-- these bytes have a LF
+abbrev pub has_line_feed : List ℕ → Bool
+has_line_feed [] = false
+has_line_feed (b ∷ bs) = (b == line_feed) || has_line_feed bs
+
+-- a line's bytes with its LF
+abbrev pub written : Line → List ℕ
+written l = l.bytes ++ (if l.has_end then line_feed ∷ [] else [])
+
+-- a call finds its answer without a read: it was answered for good, the end was read, or a whole line is held
+abbrev pub NeedsNoRead : Stored → Type 0
+NeedsNoRead s = IsSome s.over ⊎ (IsTrue s.is_ended ⊎ IsTrue (has_line_feed s.held))
+
+-- the trouble is that a read failed
+abbrev pub is_read_failed : Trouble → Bool
+is_read_failed ReadFailed = true
+is_read_failed LineTooLong = false
+is_read_failed StreamTooLong = false
+is_read_failed Memory = false
+
+-- this call's own read failed
+abbrev pub own_read_failed : Option Over → Answer → Bool
+own_read_failed (Some over) answer = false
+own_read_failed None (Ok line) = false
+own_read_failed None (Err t) = is_read_failed t
+
+-- the bytes not yet given: those held, and those to come where the end wasn't read yet
+abbrev pub not_given : Stored → List ℕ → List ℕ
+not_given s to_come = if s.is_ended then s.held else s.held ++ to_come
+
+-- what is left to answer
+abbrev pub left : Stored → List ℕ → Fed
+left s to_come = feed_lines s.line_limit s.stream_limit s.given (lines_of (not_given s to_come))
+
+-- these bytes are no whole line, and no limit is passed in them
+pub record ShowNothing (line_limit stream_limit before : ℕ) (bytes : List ℕ) : Type 0 where
+  pub no_end : has_line_feed bytes ≡ false
+  pub no_trouble : trouble_of line_limit stream_limit before (record { bytes = bytes; has_end = false }) ≡ None
+
+-- a line that was given: a LF ends it, unless the end was read
+abbrev pub given_line : Stored → List ℕ → Line
+given_line new line = record { bytes = line; has_end = not new.is_ended }
+
+-- what giving a line leaves, of any source
+pub record GivesLine (old new : Stored) (line : List ℕ) : Type 0 where
+  -- it is a line, and passes no limit
+  pub clean : has_line_feed line ≡ false
+  pub no_trouble : trouble_of old.line_limit old.stream_limit old.given (given_line new line) ≡ None
+  -- it and its LF are counted, and at least one byte was given
+  pub given : new.given ≡ old.given + size (given_line new line)
+  pub some : old.given < new.given
+  pub fits : new.given ≤ old.stream_limit
+  -- at most 65,536 bytes past the line and its LF have been read
+  pub ahead : length new.held ≤ 65536
+
+-- the line is the first of what was left, and the others are left
+pub record IsNextLine (old new : Stored) (before after line : List ℕ) : Type 0 where
+  pub first : left old before ≡ line_then line (left new after)
+  pub bytes : not_given old before ≡ written (given_line new line) ++ not_given new after
+
+-- what a feed that wasn't over answers, with these bytes to come before and after
+abbrev pub Gives : (old new : Stored) (before after : List ℕ) → Answer → Type 0
+Gives old new before after (Ok (Some line)) = IsNextLine old new before after line
+Gives old new before after (Ok None) = left old before ≡ nothing
+Gives old new before after (Err ReadFailed) = (not_given old before ≡ new.held ++ after) × (new.given ≡ old.given) × ShowNothing old.line_limit old.stream_limit old.given new.held
+Gives old new before after (Err LineTooLong) = left old before ≡ trouble_alone LineTooLong
+Gives old new before after (Err StreamTooLong) = left old before ≡ trouble_alone StreamTooLong
+Gives old new before after (Err Memory) = ⊤
+
+-- P of the bytes to come before and after, where the source tells them
+abbrev pub WhereTold : Option (List ℕ) → Option (List ℕ) → (List ℕ → List ℕ → Type 0) → Type 0
+WhereTold None after P = ⊤
+WhereTold (Some xs) None P = ⊥
+WhereTold (Some xs) (Some ys) P = P xs ys
+
+-- P of the line, where one is answered
+abbrev pub OnLine : Answer → (List ℕ → Type 0) → Type 0
+OnLine (Ok (Some line)) P = P line
+OnLine (Ok None) P = ⊤
+OnLine (Err t) P = ⊤
+
+-- what one call leaves
+pub record Leaves (old new : Stored) (before after : Option (List ℕ)) (answer : Answer) : Type 0 where
+  pub line_limit : new.line_limit ≡ old.line_limit
+  pub stream_limit : new.stream_limit ≡ old.stream_limit
+  pub over : new.over ≡ over_after answer
+  pub line : old.over ≡ None → OnLine answer (λ line. GivesLine old new line)
+  pub gives : old.over ≡ None → WhereTold before after (λ xs ys. Gives old new xs ys answer)

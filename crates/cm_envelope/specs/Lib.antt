@@ -1,0 +1,9 @@
+pub mod Device
+pub mod Lines
+pub mod Feeds
+pub mod Held
+pub mod Member
+pub mod Envelopes
+pub mod Pickles
+pub mod Documents
+pub mod Reading

@@ -1,0 +1,124 @@
+-- Reading the members of a JSON object. A reading is the value, or the name of the first bad member.
+use Rattle.std.specs.Prelude.{◌≡◌, ℕ, List, [], ◌∷◌, codes, Bool, true, not, ◌&&◌, if◌then◌else◌, Option, Some, None, is_some, option_map, option_and_then, unwrap_or, Result, Ok, Err, ⊤}
+use Rattle.serde_json.specs.Data.{Data, Items, no_items, item}
+use Rattle.serde_json.specs.Find.{get, as_str, as_null, as_number, as_u64, as_array, as_object}
+use Rattle.cm_envelope.specs.declared.fault.MemberFault.{MemberFault}
+use Rattle.cm_envelope.specs.declared.fault.MemberFault.TheVariants.{Bad, Memory}
+
+infixl 10 ◌>>=◌
+abbrev pub ◌>>=◌ : {A B E : Type 0} → Result A E → (A → Result B E) → Result B E
+(Ok x) >>= f = f x
+(Err e) >>= f = Err e
+
+-- What a function returned is what reading gives, unless memory ran out.
+abbrev pub Fails : {A : Type 0} → MemberFault → Result A (List ℕ) → Type 0
+Fails (Bad name) reading = reading ≡ Err name.now
+Fails Memory reading = Unit {0}
+
+abbrev pub Gives : {A : Type 0} → Result A MemberFault → Result A (List ℕ) → Type 0
+Gives (Ok x) reading = reading ≡ Ok x
+Gives (Err e) reading = Fails e reading
+
+-- the same of a value that is seen by view
+abbrev pub GivesOf : {A B : Type 0} → (A → B) → Result A MemberFault → Result B (List ℕ) → Type 0
+GivesOf view (Ok x) reading = reading ≡ Ok (view x)
+GivesOf view (Err e) reading = Fails e reading
+
+-- Null is absence.
+abbrev pub unless_null : Data → Option Data
+unless_null d = if is_some (as_null d) then None else Some d
+
+abbrev pub present : List ℕ → Data → Option Data
+present name d = option_and_then unless_null (get name d)
+
+abbrev pub as_whole_number : Data → Option ℕ
+as_whole_number d = option_and_then as_u64 (as_number d)
+
+-- what was found, or the member is bad
+abbrev pub good : {A : Type 0} → List ℕ → Option A → Result A (List ℕ)
+good name None = Err name
+good name (Some x) = Ok x
+
+-- ---- members of one value
+
+abbrev pub required : {A : Type 0} → (Data → Option A) → List ℕ → Data → Result A (List ℕ)
+required type name d = good name (option_and_then type (present name d))
+
+abbrev pub optional_in : {A : Type 0} → (Data → Option A) → List ℕ → Option Data → Result (Option A) (List ℕ)
+optional_in type name None = Ok None
+optional_in type name (Some d) = good name (option_map Some (type d))
+
+abbrev pub optional : {A : Type 0} → (Data → Option A) → List ℕ → Data → Result (Option A) (List ℕ)
+optional type name d = optional_in type name (present name d)
+
+-- with a value for an absent member
+abbrev pub optional_or : {A : Type 0} → A → (Data → Option A) → List ℕ → Data → Result A (List ℕ)
+optional_or absent type name d = do
+  found ← optional type name d
+  Ok (unwrap_or found absent)
+
+-- an empty text is none
+abbrev pub unless_empty : Option (List ℕ) → Option (List ℕ)
+unless_empty None = None
+unless_empty (Some []) = None
+unless_empty (Some (c ∷ cs)) = Some (c ∷ cs)
+
+-- the media type of a doc string, which is none where it is empty
+abbrev pub media_type : Data → Result (Option (List ℕ)) (List ℕ)
+media_type d = do
+  media ← optional as_str (codes "mediaType") d
+  Ok (unless_empty media)
+
+-- ---- objects and lists
+
+-- An element or a nested object that is no object makes the member bad.
+abbrev pub object_in : {A : Type 0} → List ℕ → (Data → Result A (List ℕ)) → Data → Result A (List ℕ)
+object_in name read d = good name (as_object d) >>= λ members. read d
+
+abbrev pub nested : {A : Type 0} → (Data → Result A (List ℕ)) → List ℕ → Data → Result A (List ℕ)
+nested read name d = good name (present name d) >>= object_in name read
+
+abbrev pub optional_nested_in : {A : Type 0} → (Data → Result A (List ℕ)) → List ℕ → Option Data → Result (Option A) (List ℕ)
+optional_nested_in read name None = Ok None
+optional_nested_in read name (Some d) = object_in name read d >>= λ x. Ok (Some x)
+
+abbrev pub optional_nested : {A : Type 0} → (Data → Result A (List ℕ)) → List ℕ → Data → Result (Option A) (List ℕ)
+optional_nested read name d = optional_nested_in read name (present name d)
+
+-- the items, one after the other
+abbrev pub each : {A : Type 0} → (Data → Result A (List ℕ)) → Items → Result (List A) (List ℕ)
+each read no_items = Ok []
+each read (item d ds) = do
+  first ← read d
+  others ← each read ds
+  Ok (first ∷ others)
+
+-- An absent list is empty.
+abbrev pub items_in : List ℕ → Option Data → Result Items (List ℕ)
+items_in name None = Ok no_items
+items_in name (Some d) = good name (as_array d)
+
+abbrev pub list_of : {A : Type 0} → (Data → Result A (List ℕ)) → List ℕ → Data → Result (List A) (List ℕ)
+list_of read name d = items_in name (present name d) >>= each (object_in name read)
+
+abbrev pub list_of_values : {A : Type 0} → (Data → Option A) → List ℕ → Data → Result (List A) (List ℕ)
+list_of_values type name d = items_in name (present name d) >>= each (λ e. good name (type e))
+
+-- ---- rules, checked when their member is reached
+
+abbrev pub rule : List ℕ → Bool → Result ⊤ (List ℕ)
+rule name holds = if holds then Ok tt else Err name
+
+abbrev pub has_one_of : List ℕ → List ℕ → Data → Bool
+has_one_of a b d = if is_some (present a d) then not (is_some (present b d)) else is_some (present b d)
+
+abbrev pub has_both : List ℕ → List ℕ → Data → Bool
+has_both a b d = is_some (present a d) && is_some (present b d)
+
+abbrev pub all_items : (Data → Bool) → Items → Bool
+all_items test no_items = true
+all_items test (item d ds) = test d && all_items test ds
+
+-- where the member is a list, each item passes the test
+abbrev pub each_item : (Data → Bool) → List ℕ → Data → Bool
+each_item test name d = unwrap_or (option_map (all_items test) (option_and_then as_array (present name d))) true

@@ -1,0 +1,99 @@
+-- The members of a pickle and of the objects in it, in the order in which they are read (Messages: Pickle, PickleTag,
+-- PickleStep, PickleStepArgument, PickleTable, PickleTableRow, PickleTableCell, PickleDocString).
+use Rattle.std.specs.Prelude.{List, ℕ, not, if◌then◌else◌, Option, Some, None, option_and_then, Result, Ok, codes, bytes_eq}
+use Rattle.serde_json.specs.Data.{Data}
+use Rattle.serde_json.specs.Find.{as_str}
+use Rattle.cm_envelope.specs.declared.pickle.Pickle.{Pickle}
+use Rattle.cm_envelope.specs.declared.pickle.PickleTag.{PickleTag}
+use Rattle.cm_envelope.specs.declared.pickle.PickleStep.{PickleStep}
+use Rattle.cm_envelope.specs.declared.pickle.StepKind.{StepKind}
+use Rattle.cm_envelope.specs.declared.pickle.StepKind.TheVariants.{Unknown, Context, Action, Outcome}
+use Rattle.cm_envelope.specs.declared.pickle.PickleArgument.{PickleArgument}
+use Rattle.cm_envelope.specs.declared.pickle.PickleArgument.TheVariants.{Table, Text}
+use Rattle.cm_envelope.specs.declared.pickle.PickleTable.{PickleTable}
+use Rattle.cm_envelope.specs.declared.pickle.PickleRow.{PickleRow}
+use Rattle.cm_envelope.specs.declared.pickle.PickleCell.{PickleCell}
+use Rattle.cm_envelope.specs.declared.pickle.PickleDocString.{PickleDocString}
+use Rattle.cm_envelope.specs.Member.{◌>>=◌, required, optional, optional_nested, list_of, list_of_values, rule, has_both, media_type}
+
+-- Messages: PickleStepType
+abbrev pub step_kind_of : List ℕ → Option StepKind
+step_kind_of word = if bytes_eq word (codes "Unknown") then Some Unknown
+    else if bytes_eq word (codes "Context") then Some Context
+    else if bytes_eq word (codes "Action") then Some Action
+    else if bytes_eq word (codes "Outcome") then Some Outcome
+    else None
+
+abbrev pub as_step_kind : Data → Option StepKind
+as_step_kind d = option_and_then step_kind_of (as_str d)
+
+abbrev pub pickle_tag : Data → Result PickleTag (List ℕ)
+pickle_tag d = do
+  name ← required as_str (codes "name") d
+  node ← required as_str (codes "astNodeId") d
+  Ok (record { name = name; ast_node_id = node })
+
+abbrev pub pickle_cell : Data → Result PickleCell (List ℕ)
+pickle_cell d = do
+  value ← required as_str (codes "value") d
+  Ok (record { value = value })
+
+abbrev pub pickle_row : Data → Result PickleRow (List ℕ)
+pickle_row d = do
+  cells ← list_of pickle_cell (codes "cells") d
+  Ok (record { cells = cells })
+
+-- without rows it is a table all the same
+abbrev pub pickle_table : Data → Result PickleTable (List ℕ)
+pickle_table d = do
+  rows ← list_of pickle_row (codes "rows") d
+  Ok (record { rows = rows })
+
+abbrev pub pickle_doc_string : Data → Result PickleDocString (List ℕ)
+pickle_doc_string d = do
+  content ← required as_str (codes "content") d
+  media ← media_type d
+  Ok (record { content = content; media_type = media })
+
+-- the one that there is
+abbrev pub argument_of : Option PickleTable → Option PickleDocString → Option PickleArgument
+argument_of (Some table) text = Some (Table table)
+argument_of None (Some text) = Some (Text text)
+argument_of None None = None
+
+abbrev pub pickle_argument : Data → Result (Option PickleArgument) (List ℕ)
+pickle_argument d = do
+  table ← optional_nested pickle_table (codes "dataTable") d
+  checked ← rule (codes "docString") (not (has_both (codes "dataTable") (codes "docString") d))
+  text ← optional_nested pickle_doc_string (codes "docString") d
+  Ok (argument_of table text)
+
+abbrev pub flattened : {A : Type 0} → Option (Option A) → Option A
+flattened None = None
+flattened (Some o) = o
+
+-- An argument with neither counts as absent.
+abbrev pub argument : Data → Result (Option PickleArgument) (List ℕ)
+argument d = do
+  found ← optional_nested pickle_argument (codes "argument") d
+  Ok (flattened found)
+
+abbrev pub pickle_step : Data → Result PickleStep (List ℕ)
+pickle_step d = do
+  id ← required as_str (codes "id") d
+  text ← required as_str (codes "text") d
+  kind ← optional as_step_kind (codes "type") d
+  nodes ← list_of_values as_str (codes "astNodeIds") d
+  below ← argument d
+  Ok (record { id = id; text = text; kind = kind; ast_node_ids = nodes; argument = below })
+
+abbrev pub pickle : Data → Result Pickle (List ℕ)
+pickle d = do
+  id ← required as_str (codes "id") d
+  uri ← required as_str (codes "uri") d
+  name ← required as_str (codes "name") d
+  language ← required as_str (codes "language") d
+  nodes ← list_of_values as_str (codes "astNodeIds") d
+  tags ← list_of pickle_tag (codes "tags") d
+  steps ← list_of pickle_step (codes "steps") d
+  Ok (record { id = id; uri = uri; name = name; language = language; ast_node_ids = nodes; tags = tags; steps = steps })

@@ -1,0 +1,131 @@
+-- The envelope of a line.
+use Rattle.std.specs.Prelude.{◌≡◌, ℕ, List, [], ◌∷◌, if◌then◌else◌, Option, Some, None, is_some, option_map, Result, Ok, Err, codes}
+use Rattle.std.specs.List.{filter_map}
+use Rattle.std.specs.Str.{is_utf8}
+use Rattle.std.specs.Borrow.{Bor}
+use Rattle.serde_json.specs.Data.{Data}
+use Rattle.serde_json.specs.View.{view}
+use Rattle.serde_json.specs.declared.value.Value.{Value}
+use Rattle.serde_json.specs.Read.{read}
+use Rattle.serde_json.specs.Find.{as_object}
+use Rattle.cm_envelope.specs.declared.envelope.Envelope.{Envelope}
+use Rattle.cm_envelope.specs.declared.envelope.Envelope.TheVariants as envelope
+use Rattle.cm_envelope.specs.declared.kind.Kind.{Kind}
+use Rattle.cm_envelope.specs.declared.kind.Kind.TheVariants.{Source, GherkinDocument, ParseError, Pickle, StepDefinition, Hook, TestCase, TestRunStarted, TestCaseStarted, TestStepStarted, TestStepFinished, TestCaseFinished, TestRunFinished, Attachment, TestRunHookStarted, TestRunHookFinished}
+use Rattle.cm_envelope.specs.declared.fault.ShapeFault.{ShapeFault}
+use Rattle.cm_envelope.specs.declared.fault.ShapeFault.TheVariants as faults
+use Rattle.cm_envelope.specs.Member.{◌>>=◌, present}
+use Rattle.cm_envelope.specs.Documents.{gherkin_document}
+use Rattle.cm_envelope.specs.Pickles.{pickle}
+use Rattle.cm_envelope.specs.Envelopes.{source, parse_error, step_definition, hook, test_case, test_run_started, test_case_started, test_step_started, test_step_finished, test_case_finished, test_run_finished, attachment}
+
+-- Why a line has no envelope: no JSON, no shape, or the kind and its first bad member.
+pub data Fault : Type 0 where
+  not_json : Fault
+  shape : Fault
+  field : List ℕ → List ℕ → Fault
+
+-- the judged kinds
+abbrev pub kinds : List Kind
+kinds = Source ∷ GherkinDocument ∷ ParseError ∷ Pickle ∷ StepDefinition ∷ Hook ∷ TestCase ∷ TestRunStarted ∷ TestCaseStarted ∷ TestStepStarted ∷ TestStepFinished ∷ TestCaseFinished ∷ TestRunFinished ∷ Attachment ∷ TestRunHookStarted ∷ TestRunHookFinished ∷ []
+
+-- the name of a kind's member in an envelope
+abbrev pub kind_name : Kind → List ℕ
+kind_name Source = codes "source"
+kind_name GherkinDocument = codes "gherkinDocument"
+kind_name ParseError = codes "parseError"
+kind_name Pickle = codes "pickle"
+kind_name StepDefinition = codes "stepDefinition"
+kind_name Hook = codes "hook"
+kind_name TestCase = codes "testCase"
+kind_name TestRunStarted = codes "testRunStarted"
+kind_name TestCaseStarted = codes "testCaseStarted"
+kind_name TestStepStarted = codes "testStepStarted"
+kind_name TestStepFinished = codes "testStepFinished"
+kind_name TestCaseFinished = codes "testCaseFinished"
+kind_name TestRunFinished = codes "testRunFinished"
+kind_name Attachment = codes "attachment"
+kind_name TestRunHookStarted = codes "testRunHookStarted"
+kind_name TestRunHookFinished = codes "testRunHookFinished"
+
+abbrev pub result_map : {A B E : Type 0} → (A → B) → Result A E → Result B E
+result_map f (Ok x) = Ok (f x)
+result_map f (Err e) = Err e
+
+-- what an object of the kind is read as, or the name of its first bad member
+abbrev pub members : Kind → Data → Result Envelope (List ℕ)
+members Source d = result_map envelope.Source (source d)
+members GherkinDocument d = result_map envelope.GherkinDocument (gherkin_document d)
+members ParseError d = result_map envelope.ParseError (parse_error d)
+members Pickle d = result_map envelope.Pickle (pickle d)
+members StepDefinition d = result_map envelope.StepDefinition (step_definition d)
+members Hook d = result_map envelope.Hook (hook d)
+members TestCase d = result_map envelope.TestCase (test_case d)
+members TestRunStarted d = result_map envelope.TestRunStarted (test_run_started d)
+members TestCaseStarted d = result_map envelope.TestCaseStarted (test_case_started d)
+members TestStepStarted d = result_map envelope.TestStepStarted (test_step_started d)
+members TestStepFinished d = result_map envelope.TestStepFinished (test_step_finished d)
+members TestCaseFinished d = result_map envelope.TestCaseFinished (test_case_finished d)
+members TestRunFinished d = result_map envelope.TestRunFinished (test_run_finished d)
+members Attachment d = result_map envelope.Attachment (attachment d)
+members TestRunHookStarted d = Ok envelope.TestRunHookStarted
+members TestRunHookFinished d = Ok envelope.TestRunHookFinished
+
+-- the judged kinds that the object has, each with its value
+abbrev pub judged_in : List Kind → Data → List (Kind × Data)
+judged_in ks d = filter_map (λ k. option_map (λ v. (k, v)) (present (kind_name k) d)) ks
+
+abbrev pub judged : Data → List (Kind × Data)
+judged d = judged_in kinds d
+
+abbrev pub in_kind : {A : Type 0} → Kind → Result A (List ℕ) → Result A Fault
+in_kind k (Ok x) = Ok x
+in_kind k (Err name) = Err (field (kind_name k) name)
+
+-- An object has at most one judged kind.
+abbrev pub the_one : {A : Type 0} → List A → Result (Option A) Fault
+the_one [] = Ok None
+the_one (x ∷ []) = Ok (Some x)
+the_one (x ∷ y ∷ more) = Err shape
+
+abbrev pub envelope_in : Kind → Data → Result Envelope Fault
+envelope_in k v = if is_some (as_object v) then in_kind k (members k v) else Err shape
+
+abbrev pub envelope_in_one : Option (Kind × Data) → Result Envelope Fault
+envelope_in_one None = Ok envelope.Other
+envelope_in_one (Some j) = envelope_in j.0 j.1
+
+abbrev pub envelope_of : Data → Result Envelope Fault
+envelope_of d = if is_some (as_object d) then the_one (judged d) >>= envelope_in_one else Err shape
+
+-- the JSON value that the line is
+abbrev pub value_of_line : List ℕ → Option Data
+value_of_line line = if is_utf8 line then read line else None
+
+abbrev pub json_or_fault : Option Data → Result Data Fault
+json_or_fault None = Err not_json
+json_or_fault (Some d) = Ok d
+
+abbrev pub json_of_line : List ℕ → Result Data Fault
+json_of_line line = json_or_fault (value_of_line line)
+
+abbrev pub envelope_of_line : List ℕ → Result Envelope Fault
+envelope_of_line line = json_of_line line >>= envelope_of
+
+-- What a function returned, seen by view, is what the reading gives, unless memory ran out.
+abbrev pub Fails : {A : Type 0} → ShapeFault → Result A Fault → Type 0
+Fails faults.NotJson reading = reading ≡ Err not_json
+Fails faults.Shape reading = reading ≡ Err shape
+Fails (faults.Field kind name) reading = reading ≡ Err (field kind.now name.now)
+Fails faults.Memory reading = Unit {0}
+
+abbrev pub GivesOf : {A B : Type 0} → (A → B) → Result A ShapeFault → Result B Fault → Type 0
+GivesOf view (Ok x) reading = reading ≡ Ok (view x)
+GivesOf view (Err e) reading = Fails e reading
+
+abbrev pub Gives : {A : Type 0} → Result A ShapeFault → Result A Fault → Type 0
+Gives result reading = GivesOf (λ x. x) result reading
+
+-- a judged kind and its value, as the code holds them
+abbrev pub seen : Kind × Bor Value → Kind × Data
+seen j = (j.0, view j.1.now)

@@ -1,0 +1,497 @@
+//! How a feature's tree is read, member by member, with the ids of its nodes.
+ghost use Rattle.std.specs.Prelude.{◌≡◌, [], codes};
+ghost use Rattle.serde_json.specs.Data.{Data};
+ghost use Rattle.serde_json.specs.View.{view, items_view};
+ghost use Rattle.cm_envelope.specs.Member.{Gives, GivesOf, required};
+ghost use Rattle.cm_envelope.specs.Documents.{GivesNode, NodeRead, Ids, node_in, optional_node_in, optional_node as optional_node_of, each_node, nodes_of as nodes_of_member, children_of, background_in, rank_of as rank_of_child, are_in_order as children_are_in_order, children_in as children_in_member, as_line, location, cell, doc_string, tag, row, data_table, argument_of, step, background, is_empty, table_of, example_table as example_table_of, examples, scenario, rule_node, feature, gherkin_document};
+
+use crate::envelope::GherkinDocument;
+use crate::fault::MemberFault;
+use crate::member::{has_both, media_type, present, text};
+use crate::object::{ReadObject, items, list_of, nested, optional_nested};
+use gk_document::{
+    Argument, Background, DocString, Document, ExampleTable, Examples, Feature, Location, Row,
+    Rule, Scenario, Step, Tag,
+};
+use gk_line::{Cell, Fence, KeywordType, Sequence, Text};
+use serde_json::Value;
+use std::alloc::Global;
+
+/// What is read from a node's members; the ids of the nodes are kept in the order of the nodes.
+pub(crate) trait ReadNode: Sized {
+    ghost reads: { Ids → Data → NodeRead Self };
+
+    fn read(alloc: Global, object: &Value, ids: &mut Sequence<Text>) -> Result<Self, MemberFault>
+        ensures { GivesNode result ids.new (reads ids.old (view object.now)) };
+}
+
+fn node_in_member<T: ReadNode>(
+    alloc: Global,
+    value: &Value,
+    name: &'static str,
+    ids: &mut Sequence<Text>,
+) -> Result<T, MemberFault>
+    ensures { GivesNode result ids.new (node_in name.now T.reads ids.old (view value.now)) }
+{
+    if !value.is_object() {
+        return Err(MemberFault::Bad(name));
+    }
+    T::read(alloc, value, ids)
+}
+
+fn optional_node<T: ReadNode>(
+    alloc: Global,
+    object: &Value,
+    name: &'static str,
+    ids: &mut Sequence<Text>,
+) -> Result<Option<T>, MemberFault>
+    ensures { GivesNode result ids.new (optional_node_of T.reads name.now ids.old (view object.now)) }
+{
+    match present(object, name) {
+        Some(value) => Ok(Some(node_in_member(alloc, value, name, ids)?)),
+        None => Ok(None),
+    }
+}
+
+fn nodes<T: ReadNode + Drop>(
+    alloc: Global,
+    values: &[Value],
+    name: &'static str,
+    ids: &mut Sequence<Text>,
+) -> Result<Sequence<T>, MemberFault>
+    ensures { GivesNode result ids.new
+        (each_node (node_in name.now T.reads) ids.old (items_view values.now)) }
+{
+    let mut nodes = Sequence::new(alloc);
+    for value in values {
+        let node = node_in_member(alloc, value, name, ids)?;
+        nodes.push(node)?;
+    }
+    Ok(nodes)
+}
+
+fn nodes_of<T: ReadNode + Drop>(
+    alloc: Global,
+    object: &Value,
+    name: &'static str,
+    ids: &mut Sequence<Text>,
+) -> Result<Sequence<T>, MemberFault>
+    ensures { GivesNode result ids.new (nodes_of_member T.reads name.now ids.old (view object.now)) }
+{
+    nodes(alloc, items(object, name)?, name, ids)
+}
+
+/// The children of one kind.
+fn children<T: ReadNode + Drop>(
+    alloc: Global,
+    values: &[Value],
+    name: &'static str,
+    ids: &mut Sequence<Text>,
+) -> Result<Sequence<T>, MemberFault>
+    ensures { GivesNode result ids.new
+        (each_node (node_in name.now T.reads) ids.old (children_of name.now (items_view values.now))) }
+{
+    let mut nodes = Sequence::new(alloc);
+    for value in values {
+        if let Some(child) = present(value, name) {
+            let node = node_in_member(alloc, child, name, ids)?;
+            nodes.push(node)?;
+        }
+    }
+    Ok(nodes)
+}
+
+/// The background, which is the first child where there is one.
+fn first_background(
+    alloc: Global,
+    children: &[Value],
+    ids: &mut Sequence<Text>,
+) -> Result<Option<Background>, MemberFault>
+    ensures { GivesNode result ids.new
+        (optional_node_in background (codes "background") ids.old (background_in (items_view children.now))) }
+{
+    match children {
+        [first, ..] => optional_node(alloc, first, "background", ids),
+        [] => Ok(None),
+    }
+}
+
+/// A child's place in the order of children, where it has exactly one kind.
+fn rank_of(child: &Value, in_feature: bool) -> Option<u8>
+    ensures { result ≡ rank_of_child in_feature (view child.now) }
+{
+    let background = present(child, "background").is_some();
+    let scenario = present(child, "scenario").is_some();
+    let rule = in_feature && present(child, "rule").is_some();
+    match (background, scenario, rule) {
+        (true, false, false) => Some(0),
+        (false, true, false) => Some(1),
+        (false, false, true) => Some(2),
+        _ => None,
+    }
+}
+
+fn are_in_order(children: &[Value], in_feature: bool) -> bool
+    ensures { result ≡ children_are_in_order in_feature 0 (items_view children.now) }
+{
+    let mut least = 0;
+    for child in children {
+        match rank_of(child, in_feature) {
+            Some(rank) if least <= rank => least = rank.max(1),
+            _ => return false,
+        }
+    }
+    true
+}
+
+/// The children, once each has its kind and they are in order.
+fn children_in(object: &Value, in_feature: bool) -> Result<&[Value], MemberFault>
+    ensures { GivesOf (λ values. items_view values.now) result (children_in_member in_feature (view object.now)) }
+{
+    let children = items(object, "children")?;
+    if !are_in_order(children, in_feature) {
+        return Err(MemberFault::Bad("children"));
+    }
+    Ok(children)
+}
+
+fn line(object: &Value, name: &'static str) -> Result<u32, MemberFault>
+    ensures { Gives result (required as_line name.now (view object.now)) }
+{
+    match present(object, name).and_then(Value::as_u64) {
+        Some(line) if 0 < line && line < 1 << 32 => Ok(line as u32),
+        _ => Err(MemberFault::Bad(name)),
+    }
+}
+
+impl ReadObject for Location {
+    ghost reads = { location };
+
+    fn read(_alloc: Global, object: &Value) -> Result<Location, MemberFault> {
+        Ok(Location {
+            line: line(object, "line")?,
+            column: 0,
+        })
+    }
+}
+
+impl ReadObject for Cell {
+    ghost reads = { cell };
+
+    fn read(alloc: Global, object: &Value) -> Result<Cell, MemberFault> {
+        Ok(Cell {
+            value: text(alloc, object, "value")?,
+            column: 0,
+        })
+    }
+}
+
+impl ReadObject for DocString {
+    ghost reads = { doc_string };
+
+    fn read(alloc: Global, object: &Value) -> Result<DocString, MemberFault> {
+        let location = nested(alloc, object, "location")?;
+        let content = text(alloc, object, "content")?;
+        let media = media_type(alloc, object)?;
+        Ok(DocString {
+            location,
+            media,
+            content,
+            fence: Fence::Quotes,
+        })
+    }
+}
+
+impl ReadNode for Tag {
+    ghost reads = { tag };
+
+    fn read(alloc: Global, object: &Value, ids: &mut Sequence<Text>) -> Result<Tag, MemberFault> {
+        let id = text(alloc, object, "id")?;
+        let location = nested(alloc, object, "location")?;
+        let name = text(alloc, object, "name")?;
+        let node = ids.len() as u64;
+        ids.push(id)?;
+        Ok(Tag {
+            node,
+            location,
+            name,
+        })
+    }
+}
+
+impl ReadNode for Row {
+    ghost reads = { row };
+
+    fn read(alloc: Global, object: &Value, ids: &mut Sequence<Text>) -> Result<Row, MemberFault> {
+        let id = text(alloc, object, "id")?;
+        let location = nested(alloc, object, "location")?;
+        let cells = list_of(alloc, object, "cells")?;
+        let node = ids.len() as u64;
+        ids.push(id)?;
+        Ok(Row {
+            node,
+            location,
+            cells,
+        })
+    }
+}
+
+/// The table of a step.
+#[derive(Drop)]
+pub(crate) struct DataTable {
+    rows: Sequence<Row>,
+}
+
+impl ReadNode for DataTable {
+    ghost reads = { data_table };
+
+    fn read(
+        alloc: Global,
+        object: &Value,
+        ids: &mut Sequence<Text>,
+    ) -> Result<DataTable, MemberFault> {
+        Ok(DataTable {
+            rows: nodes_of(alloc, object, "rows", ids)?,
+        })
+    }
+}
+
+fn argument_of(table: Option<DataTable>, text: Option<DocString>) -> Option<Argument>
+    ensures { result ≡ argument_of table text }
+{
+    match table {
+        Some(table) => Some(Argument::Table(table.rows)),
+        None => match text {
+            Some(text) => Some(Argument::Text(text)),
+            None => None,
+        },
+    }
+}
+
+impl ReadNode for Step {
+    ghost reads = { step };
+
+    fn read(alloc: Global, object: &Value, ids: &mut Sequence<Text>) -> Result<Step, MemberFault> {
+        let id = text(alloc, object, "id")?;
+        let location = nested(alloc, object, "location")?;
+        let keyword = text(alloc, object, "keyword")?;
+        let text = text(alloc, object, "text")?;
+        let node = ids.len() as u64;
+        ids.push(id)?;
+        let table = optional_node(alloc, object, "dataTable", ids)?;
+        if has_both(object, "dataTable", "docString") {
+            return Err(MemberFault::Bad("docString"));
+        }
+        let content = optional_nested(alloc, object, "docString")?;
+        Ok(Step {
+            node,
+            location,
+            keyword,
+            kind: KeywordType::Unknown,
+            text,
+            argument: argument_of(table, content),
+        })
+    }
+}
+
+impl ReadNode for Background {
+    ghost reads = { background };
+
+    fn read(
+        alloc: Global,
+        object: &Value,
+        ids: &mut Sequence<Text>,
+    ) -> Result<Background, MemberFault> {
+        let id = text(alloc, object, "id")?;
+        let location = nested(alloc, object, "location")?;
+        let keyword = text(alloc, object, "keyword")?;
+        let name = text(alloc, object, "name")?;
+        let node = ids.len() as u64;
+        ids.push(id)?;
+        let steps = nodes_of(alloc, object, "steps", ids)?;
+        Ok(Background {
+            node,
+            location,
+            keyword,
+            name,
+            description: no_text(alloc),
+            steps,
+        })
+    }
+}
+
+fn no_text(alloc: Global) -> Text
+    ensures { result ≡ [] }
+{
+    Text::from(String::new(alloc))
+}
+
+fn is_empty(values: &[Value]) -> bool
+    ensures { result ≡ is_empty (items_view values.now) }
+{
+    match values {
+        [] => true,
+        [_, ..] => false,
+    }
+}
+
+fn table_of(header: Option<Row>, body: Sequence<Row>) -> Option<ExampleTable>
+    ensures { result ≡ table_of header body }
+{
+    match header {
+        Some(header) => Some(ExampleTable { header, body }),
+        None => None,
+    }
+}
+
+fn example_table(
+    alloc: Global,
+    object: &Value,
+    ids: &mut Sequence<Text>,
+) -> Result<Option<ExampleTable>, MemberFault>
+    ensures { GivesNode result ids.new (example_table_of ids.old (view object.now)) }
+{
+    let header = optional_node(alloc, object, "tableHeader", ids)?;
+    let rows = items(object, "tableBody")?;
+    if header.is_none() && !is_empty(rows) {
+        return Err(MemberFault::Bad("tableBody"));
+    }
+    let body = nodes(alloc, rows, "tableBody", ids)?;
+    Ok(table_of(header, body))
+}
+
+impl ReadNode for Examples {
+    ghost reads = { examples };
+
+    fn read(
+        alloc: Global,
+        object: &Value,
+        ids: &mut Sequence<Text>,
+    ) -> Result<Examples, MemberFault> {
+        let id = text(alloc, object, "id")?;
+        let location = nested(alloc, object, "location")?;
+        let tags = nodes_of(alloc, object, "tags", ids)?;
+        let keyword = text(alloc, object, "keyword")?;
+        let name = text(alloc, object, "name")?;
+        let node = ids.len() as u64;
+        ids.push(id)?;
+        let table = example_table(alloc, object, ids)?;
+        Ok(Examples {
+            node,
+            location,
+            tags,
+            keyword,
+            name,
+            description: no_text(alloc),
+            table,
+        })
+    }
+}
+
+impl ReadNode for Scenario {
+    ghost reads = { scenario };
+
+    fn read(
+        alloc: Global,
+        object: &Value,
+        ids: &mut Sequence<Text>,
+    ) -> Result<Scenario, MemberFault> {
+        let id = text(alloc, object, "id")?;
+        let location = nested(alloc, object, "location")?;
+        let tags = nodes_of(alloc, object, "tags", ids)?;
+        let keyword = text(alloc, object, "keyword")?;
+        let name = text(alloc, object, "name")?;
+        let node = ids.len() as u64;
+        ids.push(id)?;
+        let steps = nodes_of(alloc, object, "steps", ids)?;
+        let examples = nodes_of(alloc, object, "examples", ids)?;
+        Ok(Scenario {
+            node,
+            location,
+            tags,
+            keyword,
+            name,
+            description: no_text(alloc),
+            steps,
+            examples,
+        })
+    }
+}
+
+impl ReadNode for Rule {
+    ghost reads = { rule_node };
+
+    fn read(alloc: Global, object: &Value, ids: &mut Sequence<Text>) -> Result<Rule, MemberFault> {
+        let id = text(alloc, object, "id")?;
+        let location = nested(alloc, object, "location")?;
+        let tags = nodes_of(alloc, object, "tags", ids)?;
+        let keyword = text(alloc, object, "keyword")?;
+        let name = text(alloc, object, "name")?;
+        let node = ids.len() as u64;
+        ids.push(id)?;
+        let members = children_in(object, false)?;
+        let background = first_background(alloc, members, ids)?;
+        let scenarios = children(alloc, members, "scenario", ids)?;
+        Ok(Rule {
+            node,
+            location,
+            tags,
+            keyword,
+            name,
+            description: no_text(alloc),
+            background,
+            scenarios,
+        })
+    }
+}
+
+impl ReadNode for Feature {
+    ghost reads = { feature };
+
+    fn read(
+        alloc: Global,
+        object: &Value,
+        ids: &mut Sequence<Text>,
+    ) -> Result<Feature, MemberFault> {
+        let location = nested(alloc, object, "location")?;
+        let tags = nodes_of(alloc, object, "tags", ids)?;
+        let language = text(alloc, object, "language")?;
+        let keyword = text(alloc, object, "keyword")?;
+        let name = text(alloc, object, "name")?;
+        let members = children_in(object, true)?;
+        let background = first_background(alloc, members, ids)?;
+        let scenarios = children(alloc, members, "scenario", ids)?;
+        let rules = children(alloc, members, "rule", ids)?;
+        Ok(Feature {
+            location,
+            tags,
+            language,
+            keyword,
+            name,
+            description: no_text(alloc),
+            background,
+            scenarios,
+            rules,
+        })
+    }
+}
+
+impl ReadObject for GherkinDocument {
+    ghost reads = { gherkin_document };
+
+    fn read(alloc: Global, object: &Value) -> Result<GherkinDocument, MemberFault> {
+        let uri = text(alloc, object, "uri")?;
+        let mut ids = Sequence::new(alloc);
+        let feature = optional_node(alloc, object, "feature", &mut ids)?;
+        let nodes = ids.len() as u64;
+        Ok(GherkinDocument {
+            uri,
+            document: Document {
+                feature,
+                comments: Sequence::new(alloc),
+                nodes,
+            },
+            ids,
+        })
+    }
+}

@@ -1,0 +1,49 @@
+//! Why a line has no envelope.
+use std::alloc::{AllocError, AllocFailed};
+use thiserror::Error;
+
+/// Why a line has no envelope.
+#[derive(Debug, Drop, Error)]
+pub enum ShapeFault {
+    /// The line isn't one JSON value (RFC 8259), isn't UTF-8, or nests deeper than 127.
+    #[error("not a JSON value")]
+    NotJson,
+    /// The value is no object, has two or more judged kinds, or one whose value is neither an object nor null.
+    #[error("not an object with at most one judged kind")]
+    Shape,
+    /// A judged kind and its first bad member in the order of its members, both by their names in JSON.
+    #[error("bad member {0}.{1}")]
+    Field(&'static str, &'static str),
+    /// There is no memory for the envelope.
+    #[error("out of memory")]
+    Memory,
+}
+
+/// Why an object could not be read: the name of its first bad member, or want of memory.
+#[derive(Debug, Drop)]
+pub(crate) enum MemberFault {
+    Bad(&'static str),
+    Memory,
+}
+
+impl From<AllocError> for MemberFault {
+    ghost use Rattle.std.specs.Prelude.{◌≡◌};
+    ghost use Rattle.cm_envelope.specs.declared.fault.MemberFault.TheVariants.{Memory};
+
+    ghost from_gives = { λ _ e. e ≡ Memory };
+
+    fn from(_refused: AllocError) -> MemberFault {
+        MemberFault::Memory
+    }
+}
+
+impl<T: Drop> From<AllocFailed<T>> for MemberFault {
+    ghost use Rattle.std.specs.Prelude.{◌≡◌};
+    ghost use Rattle.cm_envelope.specs.declared.fault.MemberFault.TheVariants.{Memory};
+
+    ghost from_gives = { λ _ e. e ≡ Memory };
+
+    fn from(_refused: AllocFailed<T>) -> MemberFault {
+        MemberFault::Memory
+    }
+}

@@ -1,0 +1,98 @@
+//! Members of a JSON object, by name. Null is absence.
+ghost use Rattle.std.specs.Prelude.{◌≡◌, option_map};
+ghost use Rattle.serde_json.specs.Find.{as_str, as_bool};
+ghost use Rattle.serde_json.specs.View.{view};
+ghost use Rattle.cm_envelope.specs.Member.{Gives, present as present_member, required, optional, optional_or, as_whole_number, has_both as has_both_members, media_type as media_type_member, unless_empty};
+
+use crate::fault::MemberFault;
+use gk_line::Text;
+use serde_json::Value;
+use std::alloc::Global;
+
+pub(crate) fn present<'v>(object: &'v Value, name: &str) -> Option<&'v Value>
+    ensures { option_map (λ v. view v.now) result ≡ present_member name.now (view object.now) }
+{
+    match object.get(name) {
+        Some(value) if !value.is_null() => Some(value),
+        _ => None,
+    }
+}
+
+pub(crate) fn text(alloc: Global, object: &Value, name: &'static str) -> Result<Text, MemberFault>
+    ensures { Gives result (required as_str name.now (view object.now)) }
+{
+    match present(object, name).and_then(Value::as_str) {
+        Some(found) => Ok(Text::copy_of(alloc, found)?),
+        None => Err(MemberFault::Bad(name)),
+    }
+}
+
+pub(crate) fn optional_text(
+    alloc: Global,
+    object: &Value,
+    name: &'static str,
+) -> Result<Option<Text>, MemberFault>
+    ensures { Gives result (optional as_str name.now (view object.now)) }
+{
+    let Some(member) = present(object, name) else {
+        return Ok(None);
+    };
+    match member.as_str() {
+        Some(found) => Ok(Some(Text::copy_of(alloc, found)?)),
+        None => Err(MemberFault::Bad(name)),
+    }
+}
+
+pub(crate) fn whole_number_or(
+    absent: u64,
+    object: &Value,
+    name: &'static str,
+) -> Result<u64, MemberFault>
+    ensures { Gives result (optional_or absent as_whole_number name.now (view object.now)) }
+{
+    match present(object, name) {
+        Some(member) => member.as_u64().ok_or(MemberFault::Bad(name)),
+        None => Ok(absent),
+    }
+}
+
+pub(crate) fn flag(object: &Value, name: &'static str) -> Result<bool, MemberFault>
+    ensures { Gives result (required as_bool name.now (view object.now)) }
+{
+    match present(object, name).and_then(Value::as_bool) {
+        Some(flag) => Ok(flag),
+        None => Err(MemberFault::Bad(name)),
+    }
+}
+
+pub(crate) fn flag_or(absent: bool, object: &Value, name: &'static str) -> Result<bool, MemberFault>
+    ensures { Gives result (optional_or absent as_bool name.now (view object.now)) }
+{
+    match present(object, name) {
+        Some(member) => member.as_bool().ok_or(MemberFault::Bad(name)),
+        None => Ok(absent),
+    }
+}
+
+pub(crate) fn has_both(object: &Value, first: &str, second: &str) -> bool
+    ensures { result ≡ has_both_members first.now second.now (view object.now) }
+{
+    present(object, first).is_some() && present(object, second).is_some()
+}
+
+/// The media type of a doc string, which is none where it is empty.
+pub(crate) fn media_type(alloc: Global, object: &Value) -> Result<Option<Text>, MemberFault>
+    ensures { Gives result (media_type_member (view object.now)) }
+{
+    let media = optional_text(alloc, object, "mediaType")?;
+    Ok(unless_empty(media))
+}
+
+fn unless_empty(text: Option<Text>) -> Option<Text>
+    ensures { result ≡ unless_empty text }
+{
+    match text {
+        Some(text) if !text.as_str().is_empty() => Some(text),
+        _ => None,
+    }
+}

@@ -1,0 +1,144 @@
+//! Objects within an envelope, and lists of them.
+ghost use Rattle.std.specs.Prelude.{◌≡◌, List, Result, ℕ};
+ghost use Rattle.serde_json.specs.Data.{Data};
+ghost use Rattle.serde_json.specs.Find.{as_str};
+ghost use Rattle.serde_json.specs.View.{view, items_view};
+ghost use Rattle.cm_envelope.specs.Member.{Gives, nested as nested_member, optional_nested as optional_nested_member, items_in, present as present_member, GivesOf, list_of as list_of_objects, list_of_values, each, object_in, good};
+
+use crate::fault::MemberFault;
+use crate::member::present;
+use gk_line::{Sequence, Text};
+use serde_json::Value;
+use std::alloc::Global;
+
+/// What is read from an object's members.
+pub(crate) trait ReadObject: Sized {
+    ghost reads: { Data → Result Self (List ℕ) };
+
+    fn read(alloc: Global, object: &Value) -> Result<Self, MemberFault>
+        ensures { Gives result (reads (view object.now)) };
+}
+
+fn object_in_member<T: ReadObject>(
+    alloc: Global,
+    value: &Value,
+    name: &'static str,
+) -> Result<T, MemberFault>
+    ensures { Gives result (object_in name.now T.reads (view value.now)) }
+{
+    if !value.is_object() {
+        return Err(MemberFault::Bad(name));
+    }
+    T::read(alloc, value)
+}
+
+pub(crate) fn nested<T: ReadObject>(
+    alloc: Global,
+    object: &Value,
+    name: &'static str,
+) -> Result<T, MemberFault>
+    ensures { Gives result (nested_member T.reads name.now (view object.now)) }
+{
+    match present(object, name) {
+        Some(value) => object_in_member(alloc, value, name),
+        None => Err(MemberFault::Bad(name)),
+    }
+}
+
+pub(crate) fn optional_nested<T: ReadObject>(
+    alloc: Global,
+    object: &Value,
+    name: &'static str,
+) -> Result<Option<T>, MemberFault>
+    ensures { Gives result (optional_nested_member T.reads name.now (view object.now)) }
+{
+    match present(object, name) {
+        Some(value) => Ok(Some(object_in_member(alloc, value, name)?)),
+        None => Ok(None),
+    }
+}
+
+/// The items of a list. An absent list is empty.
+pub(crate) fn items<'v>(object: &'v Value, name: &'static str) -> Result<&'v [Value], MemberFault>
+    ensures { GivesOf (λ values. items_view values.now) result
+        (items_in name.now (present_member name.now (view object.now))) }
+{
+    let Some(member) = present(object, name) else {
+        return Ok(&[]);
+    };
+    match member.as_array() {
+        Some(values) => Ok(values),
+        None => Err(MemberFault::Bad(name)),
+    }
+}
+
+pub(crate) fn list_of<T: ReadObject + Drop>(
+    alloc: Global,
+    object: &Value,
+    name: &'static str,
+) -> Result<Sequence<T>, MemberFault>
+    ensures { Gives result (list_of_objects T.reads name.now (view object.now)) }
+{
+    let Some(member) = present(object, name) else {
+        return Ok(Sequence::from(Vec::new(alloc)));
+    };
+    match member.as_array() {
+        Some(values) => objects(alloc, values, name),
+        None => Err(MemberFault::Bad(name)),
+    }
+}
+
+fn objects<T: ReadObject + Drop>(
+    alloc: Global,
+    values: &[Value],
+    name: &'static str,
+) -> Result<Sequence<T>, MemberFault>
+    ensures { Gives result (each (object_in name.now T.reads) (items_view values.now)) }
+{
+    let mut objects = Vec::new(alloc);
+    for value in values {
+        let object = object_in_member(alloc, value, name)?;
+        objects.push(object)?;
+    }
+    Ok(Sequence::from(objects))
+}
+
+pub(crate) fn texts(
+    alloc: Global,
+    object: &Value,
+    name: &'static str,
+) -> Result<Sequence<Text>, MemberFault>
+    ensures { Gives result (list_of_values as_str name.now (view object.now)) }
+{
+    let Some(member) = present(object, name) else {
+        return Ok(Sequence::from(Vec::new(alloc)));
+    };
+    match member.as_array() {
+        Some(values) => each_text(alloc, values, name),
+        None => Err(MemberFault::Bad(name)),
+    }
+}
+
+fn text_item(alloc: Global, value: &Value, name: &'static str) -> Result<Text, MemberFault>
+    ensures { Gives result (good name.now (as_str (view value.now))) }
+{
+    match value.as_str() {
+        Some(text) => Ok(Text::copy_of(alloc, text)?),
+        None => Err(MemberFault::Bad(name)),
+    }
+}
+
+fn each_text(
+    alloc: Global,
+    values: &[Value],
+    name: &'static str,
+) -> Result<Sequence<Text>, MemberFault>
+    ensures { Gives result (each (λ e. good name.now (as_str e)) (items_view values.now)) }
+{
+    let mut texts = Vec::new(alloc);
+    for value in values {
+        let text = text_item(alloc, value, name)?;
+        texts.push(text)?;
+    }
+    Ok(Sequence::from(texts))
+}

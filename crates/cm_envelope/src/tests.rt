@@ -1,0 +1,7 @@
+mod devices;
+mod documents;
+mod envelopes;
+mod feeds;
+mod members;
+mod pickles;
+mod producers;

@@ -1,0 +1,96 @@
+//! The bytes of a source that were read and not yet given, and room for more behind them.
+ghost use Rattle.std.specs.Prelude.{◌≡◌, ℕ, ◌+◌, ◌-◌, ◌<◌, ◌≤◌, List, [], ◌++◌, length, vec_len, slice_range, IfOk, OnOk, OnErr};
+ghost use Rattle.std.specs.Io.KnownBytes.{Keeps, Consumes, IsAtEnd};
+ghost use Rattle.cm_envelope.specs.Device.{Counts, call_failed};
+
+use crate::device::{ByteSource, DeviceFailed};
+use std::alloc::{AllocError, Global};
+
+/// The most bytes that are read at a time.
+pub(crate) const PIECE: usize = 65_536;
+
+#[derive(Drop)]
+pub struct Window {
+    bytes: Vec<u8>,
+    start: usize,
+    end: usize,
+    ghost ordered: { start ≤ end },
+    ghost within: { end ≤ vec_len bytes },
+}
+
+impl Window {
+    ghost use Rattle.cm_envelope.specs.Held.{items};
+
+    pub(crate) fn new(alloc: Global) -> Window
+        ensures { items result ≡ [] }
+    {
+        Window {
+            bytes: Vec::new(alloc),
+            start: 0,
+            end: 0,
+        }
+    }
+
+    pub(crate) fn as_slice(&self) -> &[u8]
+        ensures { result.now ≡ items self.now }
+    {
+        &self.bytes[self.start..self.end]
+    }
+
+    // The bytes between two places, also of those that were consumed.
+    pub(crate) fn slice(&self, from: usize, to: usize) -> &[u8]
+        requires order { from ≤ to }
+        requires within { to ≤ vec_len self.now.bytes }
+        ensures { result.now ≡ slice_range self.now.bytes.items from to }
+    {
+        &self.bytes[from..to]
+    }
+
+    pub(crate) fn start(&self) -> usize
+        ensures { result ≡ self.now.start }
+    {
+        self.start
+    }
+
+    pub(crate) fn consume(&mut self, count: usize)
+        requires { count ≤ length (items self.old) }
+        ensures bytes { self.new.bytes ≡ self.old.bytes }
+        ensures start { self.new.start ≡ self.old.start + count }
+        ensures end { self.new.end ≡ self.old.end }
+    {
+        self.start += count;
+    }
+
+    // Makes room for a piece.
+    pub(crate) fn make_room(&mut self) -> Result<(), AllocError>
+        ensures items { items self.new ≡ items self.old }
+        ensures room { OnOk result (self.new.end + PIECE ≤ vec_len self.new.bytes) }
+    {
+        let (start, end) = (self.start, self.end);
+        if start > 0 {
+            self.bytes.copy_within(start..end, 0);
+            self.start = 0;
+            self.end = end - start;
+        }
+        if self.bytes.len() < self.end + PIECE {
+            self.bytes.resize(self.end + PIECE, 0)?;
+        }
+        Ok(())
+    }
+
+    // Reads a piece behind the bytes.
+    pub(crate) fn read_from<S: ByteSource>(&mut self, source: &mut S) -> Result<usize, DeviceFailed>
+        requires { self.old.end + PIECE ≤ vec_len self.old.bytes }
+        ensures ok { IfOk result (λ n. (more : List ℕ) × (length more ≡ n) × (items self.new ≡ items self.old ++ more)
+            × Consumes (S.to_come source.old) (S.to_come source.new) more × (n ≤ PIECE)) }
+        ensures end { IfOk result (λ n. n ≡ 0 → IsAtEnd (S.to_come source.new)) }
+        ensures err { OnErr result ((items self.new ≡ items self.old)
+            × Keeps (S.to_come source.old) (S.to_come source.new)) }
+        ensures failures { Counts (call_failed result) (S.failed_calls source.old) (S.failed_calls source.new) }
+    {
+        let end = self.end;
+        let count = source.read_some(&mut self.bytes[end..end + PIECE])?;
+        self.end = end + count;
+        Ok(count)
+    }
+}

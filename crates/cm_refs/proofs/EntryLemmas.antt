@@ -1,0 +1,63 @@
+-- Look-ups and insertions of a map with text keys, through a row for each entry.
+use Rattle.std.proofs.Common.{◌≡◌, ◌∙◌, ap, sym, refl, subst, Bool, true, false, List, [], ◌∷◌, ◌++◌, ◌||◌, map, Option, None, Some, String, Bor}
+use Rattle.std.specs.Prelude.{find, option_map}
+use Rattle.std.specs.List.{list_any}
+use Rattle.std.specs.Option.{option_copied}
+use Rattle.std.specs.Map.{lookup}
+use Rattle.std.specs.Str.{bytes_eq}
+use Rattle.std.specs.String.{string_bytes, string_eq}
+use Rattle.std.specs.declared.alloc.Global.{Global}
+use Rattle.std.proofs.lemmas.List.{map-append}
+use Rattle.std.proofs.lemmas.Slice.Eq.{bytes_eq-Decides}
+use Rattle.indexmap.specs.IndexMap.{IndexMap, insert_entry}
+use Rattle.indexmap.proofs.CallerLemmas.{insert_entry-new}
+use Rattle.cm_refs.specs.Declarations.{Text}
+
+abbrev pub Key : Type 0
+Key = String Global
+
+abbrev pub is_key : Text → Key → Bool
+is_key id k = bytes_eq id (string_bytes k)
+
+module _ {V Y : Type 0} (row : Text → V → Y) where
+  abbrev pub rows : List (Key × V) → List Y
+  rows = map (λ e. row (string_bytes e.0) e.1)
+
+  module _ (id : Text) (p : Y → Bool) (says : (t : Text) (v : V) → p (row t v) ≡ bytes_eq id t) where
+    find_entry : (es : List (Key × V)) → find p (rows es) ≡ option_map (row id) (lookup (is_key id) es)
+    find_entry [] = refl
+    find_entry (e ∷ es) = go (is_key id e.0) refl (find_entry es)
+      where
+        go : (b : Bool) → is_key id e.0 ≡ b → find p (rows es) ≡ option_map (row id) (lookup (is_key id) es)
+            → find p (rows (e ∷ es)) ≡ option_map (row id) (lookup (is_key id) (e ∷ es))
+        go true h rec =
+            let same : id ≡ string_bytes e.0 = (bytes_eq-Decides _ _).0 h in
+            rw (says (string_bytes e.0) e.1, h, same) refl
+        go false h rec = rw (says (string_bytes e.0) e.1, h) rec
+
+    pub found_entry : (es : List (Key × V)) → option_map (row id) (lookup (is_key id) es) ≡ find p (rows es)
+    found_entry es = sym (find_entry es)
+
+    pub absent_key : (es : List (Key × V)) → find p (rows es) ≡ None → lookup (is_key id) es ≡ None
+    absent_key es h = go (lookup (is_key id) es) (found_entry es ∙ h)
+      where
+        go : (o : Option V) → option_map (row id) o ≡ None → o ≡ None
+        go None e = refl
+        go (Some v) e = cc
+
+    pub absent_get : (k : Key) → string_bytes k ≡ id → (es : List (Key × V)) → find p (rows es) ≡ None → lookup (string_eq k) es ≡ None
+    absent_get k same es h = subst (λ t. lookup (is_key t) es ≡ None) (sym same) (absent_key es h)
+
+    pub inserted_rows : {S : Type 0} (k : Key) → string_bytes k ≡ id → (m : IndexMap Key V S) (v : V) → find p (rows m.entries) ≡ None
+        → rows (insert_entry string_eq m.entries k v) ≡ rows m.entries ++ row id v ∷ []
+    inserted_rows k same m v h =
+        ap rows (insert_entry-new string_eq m k v (absent_get k same m.entries h))
+        ∙ subst (λ t. rows (m.entries ++ (k, v) ∷ []) ≡ rows m.entries ++ row t v ∷ []) same (map-append _ m.entries _)
+
+pub copied_map : {V Y : Type 0} (f : V → Y) (o : Option (Bor V)) → option_map (λ x. f x.now) o ≡ option_map f (option_copied o)
+copied_map f None = refl
+copied_map f (Some x) = refl
+
+pub list_any-map : {X Y : Type 0} (p : Y → Bool) (f : X → Y) (xs : List X) → list_any p (map f xs) ≡ list_any (λ x. p (f x)) xs
+list_any-map p f [] = refl
+list_any-map p f (x ∷ xs) = ap (λ b. p (f x) || b) (list_any-map p f xs)

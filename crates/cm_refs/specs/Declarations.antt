@@ -1,0 +1,75 @@
+-- What a stream has declared, and what each declaration makes of it.
+--
+-- The kinds are those of Cucumber Messages: `source` and `gherkinDocument` by their `uri`; `pickle`,
+-- `stepDefinition` and `hook` by their `id`, a pickle with the ids of its steps.
+use Rattle.std.specs.Prelude.{◌||◌, ℕ, Bool, false, List, [], ◌∷◌, ◌++◌, Option, None, Some, is_some, if◌then◌else◌, find}
+use Rattle.std.specs.List.{list_any}
+use Rattle.std.specs.Str.{bytes_eq}
+use Rattle.cm_refs.specs.declared.fault.RefFault.{RefFault}
+use Rattle.cm_refs.specs.declared.fault.RefFault.TheVariants as fault
+
+abbrev pub Text : Type 0
+Text = List ℕ
+
+-- a pickle, with the ids of its steps
+pub record PickleRow : Type 0 where
+  pub id : Text
+  pub steps : List Text
+
+-- one list a kind, in the order of declaration
+pub record Declarations : Type 0 where
+  pub sources : List Text
+  pub documents : List Text
+  pub pickles : List PickleRow
+  pub definitions : List Text
+  pub hooks : List Text
+
+abbrev pub no_declarations : Declarations
+no_declarations = record {
+  sources = [];
+  documents = [];
+  pickles = [];
+  definitions = [];
+  hooks = [];
+}
+
+-- ---- look-ups
+
+abbrev pub has_text : Text → List Text → Bool
+has_text text = list_any (bytes_eq text)
+
+-- two of the texts are equal
+abbrev pub has_repeat : List Text → Bool
+has_repeat [] = false
+has_repeat (text ∷ rest) = has_text text rest || has_repeat rest
+
+abbrev pub find_pickle : Declarations → Text → Option PickleRow
+find_pickle d id = find (λ p. bytes_eq id p.id) d.pickles
+
+-- ---- refusals
+
+-- a name that is in its kind's list is refused
+abbrev pub name_fault : RefFault → Text → List Text → Option RefFault
+name_fault taken name names = if has_text name names then Some taken else None
+
+-- a pickle whose id is in the list, or of which two steps have one id, is refused
+abbrev pub pickle_fault : Declarations → Text → List Text → Option RefFault
+pickle_fault d id steps =
+    if is_some (find_pickle d id) || has_repeat steps then Some fault.DuplicateId else None
+
+-- ---- declarations
+
+abbrev pub with_source : Text → Declarations → Declarations
+with_source uri d = record d { sources = d.sources ++ uri ∷ [] }
+
+abbrev pub with_document : Text → Declarations → Declarations
+with_document uri d = record d { documents = d.documents ++ uri ∷ [] }
+
+abbrev pub with_pickle : Text → List Text → Declarations → Declarations
+with_pickle id steps d = record d { pickles = d.pickles ++ record { id = id; steps = steps } ∷ [] }
+
+abbrev pub with_definition : Text → Declarations → Declarations
+with_definition id d = record d { definitions = d.definitions ++ id ∷ [] }
+
+abbrev pub with_hook : Text → Declarations → Declarations
+with_hook id d = record d { hooks = d.hooks ++ id ∷ [] }

@@ -1,0 +1,175 @@
+//! The declarations of a stream.
+ghost use Rattle.std.specs.Prelude.{◌≡◌, ◌⊎◌, IfSome, IsErrAnd, IsOkUnless, MatchOption, OnErr, OnOk, map, option_map};
+ghost use Rattle.std.specs.String.{string_bytes};
+ghost use Rattle.cm_refs.specs.Declarations.{find_pickle, has_text, name_fault, no_declarations, pickle_fault};
+ghost use Rattle.cm_refs.specs.Declarations.{with_definition, with_document, with_hook, with_pickle, with_source};
+
+use crate::fault::RefFault;
+use crate::names::{Names, contains, declare, distinct_texts};
+use crate::pickles::{Pickles, append, steps_of};
+use indexmap::{IndexMap, IndexSet};
+use std::alloc::Global;
+use std::marker::Model;
+
+/// What a stream has declared so far, in the order of declaration: one list of each kind.
+///
+/// Sources and documents go by their uri, all other declarations by their id. Ids of one kind are
+/// distinct, and so are uris of one kind; one text may be declared for several kinds.
+#[derive(Drop)]
+pub struct Declared {
+    sources: Names,
+    documents: Names,
+    pickles: Pickles,
+    definitions: Names,
+    hooks: Names,
+    alloc: Global,
+}
+
+impl Model for Declared {
+    ghost use Rattle.std.specs.Prelude.{map};
+    ghost use Rattle.std.specs.String.{string_bytes};
+    ghost use Rattle.cm_refs.specs.Declarations.{Declarations};
+    ghost use Rattle.cm_refs.specs.Rows.{pickle_rows};
+
+    ghost Value = { Declarations };
+
+    ghost view = { λ d. record {
+      sources = map string_bytes d.sources.keys;
+      documents = map string_bytes d.documents.keys;
+      pickles = pickle_rows d.pickles.entries;
+      definitions = map string_bytes d.definitions.keys;
+      hooks = map string_bytes d.hooks.keys;
+    } };
+}
+
+impl Declared {
+    /// Nothing declared yet. It takes no memory.
+    pub fn new(alloc: Global) -> Declared
+        ensures { result ≡ no_declarations }
+    {
+        Declared {
+            sources: IndexSet::new(alloc),
+            documents: IndexSet::new(alloc),
+            pickles: IndexMap::new(alloc),
+            definitions: IndexSet::new(alloc),
+            hooks: IndexSet::new(alloc),
+            alloc,
+        }
+    }
+
+    /// Declares the source of a uri.
+    ///
+    /// # Errors
+    /// `DuplicateUri` where the uri has a source, `Memory` where a growth is refused.
+    pub fn declare_source(&mut self, uri: &str) -> Result<(), RefFault>
+        ensures answer { MatchOption (name_fault RefFault.DuplicateUri uri.now self.old.sources)
+            (IsOkUnless result RefFault.Memory) (λ fault. result ≡ Err fault) }
+        ensures ok { OnOk result (self.new ≡ with_source uri.now self.old) }
+        ensures err { OnErr result (self.new ≡ self.old) }
+    {
+        declare(&mut self.sources, self.alloc, uri, RefFault::DuplicateUri)
+    }
+
+    /// Declares the document of a uri.
+    ///
+    /// # Errors
+    /// `DuplicateUri` where the uri has a document, `Memory` where a growth is refused.
+    pub fn declare_document(&mut self, uri: &str) -> Result<(), RefFault>
+        ensures answer { MatchOption (name_fault RefFault.DuplicateUri uri.now self.old.documents)
+            (IsOkUnless result RefFault.Memory) (λ fault. result ≡ Err fault) }
+        ensures ok { OnOk result (self.new ≡ with_document uri.now self.old) }
+        ensures err { OnErr result (self.new ≡ self.old) }
+    {
+        declare(&mut self.documents, self.alloc, uri, RefFault::DuplicateUri)
+    }
+
+    /// Declares a pickle with the ids of its steps.
+    ///
+    /// # Errors
+    /// `DuplicateId` where the id is that of a pickle or two of the step ids are equal, `Memory`
+    /// where a growth is refused.
+    pub fn declare_pickle(&mut self, id: &str, steps: &[String]) -> Result<(), RefFault>
+        // Equal steps are found with memory, so want of it may stand in their place.
+        ensures repeated_id { IfSome (find_pickle self.old id.now)
+            (λ _. result ≡ Err RefFault.DuplicateId) }
+        ensures answer { MatchOption (pickle_fault self.old id.now (map string_bytes steps.now))
+            (IsOkUnless result RefFault.Memory)
+            (λ fault. IsErrAnd result (λ e. (e ≡ fault) ⊎ (e ≡ RefFault.Memory))) }
+        ensures ok { OnOk result (self.new ≡ with_pickle id.now (map string_bytes steps.now) self.old) }
+        ensures err { OnErr result (self.new ≡ self.old) }
+    {
+        if steps_of(&self.pickles, id).is_some() {
+            return Err(RefFault::DuplicateId);
+        }
+        let Some(steps) = distinct_texts(self.alloc, steps)? else {
+            return Err(RefFault::DuplicateId);
+        };
+        append(&mut self.pickles, self.alloc, id, steps)?;
+        Ok(())
+    }
+
+    /// Declares a step definition.
+    ///
+    /// # Errors
+    /// `DuplicateId` where the id is that of a step definition, `Memory` where a growth is refused.
+    pub fn declare_definition(&mut self, id: &str) -> Result<(), RefFault>
+        ensures answer { MatchOption (name_fault RefFault.DuplicateId id.now self.old.definitions)
+            (IsOkUnless result RefFault.Memory) (λ fault. result ≡ Err fault) }
+        ensures ok { OnOk result (self.new ≡ with_definition id.now self.old) }
+        ensures err { OnErr result (self.new ≡ self.old) }
+    {
+        declare(&mut self.definitions, self.alloc, id, RefFault::DuplicateId)
+    }
+
+    /// Declares a hook.
+    ///
+    /// # Errors
+    /// `DuplicateId` where the id is that of a hook, `Memory` where a growth is refused.
+    pub fn declare_hook(&mut self, id: &str) -> Result<(), RefFault>
+        ensures answer { MatchOption (name_fault RefFault.DuplicateId id.now self.old.hooks)
+            (IsOkUnless result RefFault.Memory) (λ fault. result ≡ Err fault) }
+        ensures ok { OnOk result (self.new ≡ with_hook id.now self.old) }
+        ensures err { OnErr result (self.new ≡ self.old) }
+    {
+        declare(&mut self.hooks, self.alloc, id, RefFault::DuplicateId)
+    }
+
+    /// Whether the source of the uri is declared.
+    pub fn has_source(&self, uri: &str) -> bool
+        ensures { result ≡ has_text uri.now self.now.sources }
+    {
+        contains(&self.sources, uri)
+    }
+
+    /// Whether the document of the uri is declared.
+    pub fn has_document(&self, uri: &str) -> bool
+        ensures { result ≡ has_text uri.now self.now.documents }
+    {
+        contains(&self.documents, uri)
+    }
+
+    /// Whether the step definition is declared.
+    pub fn has_definition(&self, id: &str) -> bool
+        ensures { result ≡ has_text id.now self.now.definitions }
+    {
+        contains(&self.definitions, id)
+    }
+
+    /// Whether the hook is declared.
+    pub fn has_hook(&self, id: &str) -> bool
+        ensures { result ≡ has_text id.now self.now.hooks }
+    {
+        contains(&self.hooks, id)
+    }
+
+    /// The step ids of a declared pickle, in their order.
+    pub fn pickle(&self, id: &str) -> Option<&[String]>
+        ensures { option_map (λ steps. map string_bytes steps.now) result
+            ≡ option_map (λ p. p.steps) (find_pickle self.now id.now) }
+    {
+        match steps_of(&self.pickles, id) {
+            Some(steps) => Some(steps.as_slice()),
+            None => None,
+        }
+    }
+}

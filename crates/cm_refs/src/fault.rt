@@ -1,0 +1,25 @@
+//! Refusals of a declaration.
+ghost use Rattle.std.specs.Prelude.{◌≡◌};
+ghost use Rattle.cm_refs.specs.declared.fault.RefFault.TheVariants as fault;
+
+use std::alloc::AllocError;
+use thiserror::Error;
+
+/// Why a declaration is refused. `Declared` is then as it was.
+#[derive(Clone, Copy, Debug, PartialEq, Eq, Error)]
+pub enum RefFault {
+    #[error("the id is declared already, or two steps of the pickle have one id")]
+    DuplicateId,
+    #[error("the uri is declared already")]
+    DuplicateUri,
+    #[error("out of memory")]
+    Memory,
+}
+
+impl From<AllocError> for RefFault {
+    ghost from_gives = { λ _ e. e ≡ fault.Memory };
+
+    fn from(_error: AllocError) -> RefFault {
+        RefFault::Memory
+    }
+}

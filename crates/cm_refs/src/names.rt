@@ -1,0 +1,64 @@
+//! Sets of ids and uris, in the order of their declaration.
+ghost use Rattle.std.specs.Prelude.{◌≡◌, ◌++◌, ◌∷◌, [], IfOk, IfSome, IsOkUnless, MatchOption, OnErr, OnOk, false, is_none, map};
+ghost use Rattle.std.specs.String.{string_bytes};
+ghost use Rattle.cm_refs.specs.Declarations.{has_repeat, has_text, name_fault};
+
+use crate::fault::RefFault;
+use indexmap::IndexSet;
+use std::alloc::{AllocError, Global};
+
+pub(crate) type Names = IndexSet<String>;
+
+pub(crate) fn contains(names: &Names, name: &str) -> bool
+    ensures { result ≡ has_text name.now (map string_bytes names.now.keys) }
+{
+    names.contains(name)
+}
+
+/// Appends a name that is new.
+fn append(names: &mut Names, alloc: Global, name: &str) -> Result<(), AllocError>
+    requires { has_text name.now (map string_bytes names.old.keys) ≡ false }
+    ensures ok { OnOk result (map string_bytes names.new.keys
+        ≡ map string_bytes names.old.keys ++ name.now ∷ []) }
+    ensures err { OnErr result (map string_bytes names.new.keys ≡ map string_bytes names.old.keys) }
+{
+    let owned = String::from_str(alloc, name)?;
+    names.insert(owned)?;
+    Ok(())
+}
+
+/// Appends a name, or refuses one that is there by the fault `taken`.
+pub(crate) fn declare(
+    names: &mut Names,
+    alloc: Global,
+    name: &str,
+    taken: RefFault,
+) -> Result<(), RefFault>
+    ensures answer { MatchOption (name_fault taken name.now (map string_bytes names.old.keys))
+        (IsOkUnless result RefFault.Memory) (λ fault. result ≡ Err fault) }
+    ensures ok { OnOk result (map string_bytes names.new.keys
+        ≡ map string_bytes names.old.keys ++ name.now ∷ []) }
+    ensures err { OnErr result (map string_bytes names.new.keys ≡ map string_bytes names.old.keys) }
+{
+    if contains(names, name) {
+        return Err(taken);
+    }
+    append(names, alloc, name)?;
+    Ok(())
+}
+
+/// The texts as a set in their order, and none where two of them are equal.
+pub(crate) fn distinct_texts(alloc: Global, texts: &[String]) -> Result<Option<Names>, AllocError>
+    ensures repeated { IfOk result (λ set. is_none set ≡ has_repeat (map string_bytes texts.now)) }
+    ensures same { IfOk result (λ set. IfSome set
+        (λ s. map string_bytes s.keys ≡ map string_bytes texts.now)) }
+{
+    let mut set = IndexSet::new(alloc);
+    for text in texts {
+        if set.contains(text.as_str()) {
+            return Ok(None);
+        }
+        set.insert(text.clone()?)?;
+    }
+    Ok(Some(set))
+}

@@ -1,0 +1,36 @@
+//! Pickles by their ids.
+ghost use Rattle.std.specs.Prelude.{◌≡◌, ◌++◌, ◌∷◌, [], None, OnErr, OnOk, find, map, option_map};
+ghost use Rattle.std.specs.Str.{bytes_eq};
+ghost use Rattle.std.specs.String.{string_bytes};
+ghost use Rattle.cm_refs.specs.Rows.{pickle_row, pickle_rows};
+
+use crate::names::Names;
+use indexmap::IndexMap;
+use std::alloc::{AllocError, Global};
+
+pub(crate) type Pickles = IndexMap<String, Names>;
+
+/// The step ids of the pickle.
+pub(crate) fn steps_of<'a>(pickles: &'a Pickles, id: &str) -> Option<&'a Names>
+    ensures { option_map (λ steps. pickle_row id.now steps.now) result
+        ≡ find (λ p. bytes_eq id.now p.id) (pickle_rows pickles.now.entries) }
+{
+    pickles.get(id)
+}
+
+/// Appends a pickle whose id is new.
+pub(crate) fn append(
+    pickles: &mut Pickles,
+    alloc: Global,
+    id: &str,
+    steps: Names,
+) -> Result<(), AllocError>
+    requires { find (λ p. bytes_eq id.now p.id) (pickle_rows pickles.old.entries) ≡ None }
+    ensures ok { OnOk result (pickle_rows pickles.new.entries
+        ≡ pickle_rows pickles.old.entries ++ pickle_row id.now steps ∷ []) }
+    ensures err { OnErr result (pickle_rows pickles.new.entries ≡ pickle_rows pickles.old.entries) }
+{
+    let id = String::from_str(alloc, id)?;
+    pickles.insert(id, steps)?;
+    Ok(())
+}

@@ -1,0 +1,71 @@
+-- One row of a table among many.
+use Rattle.std.proofs.Common.{◌≡◌, suc, ◌≤◌, refl, sym, ap, ◌∙◌, List, [], ◌∷◌, ◌++◌, Option, Some, None, true, false, Bool, append-nil, map, length, arith}
+use Rattle.std.specs.List.{list_any, filter, filter_map}
+use Rattle.std.specs.Option.{option_map_or}
+use Rattle.std.specs.Str.{bytes_eq}
+use Rattle.std.proofs.lemmas.List.Elements.{filter_map-append}
+use Rattle.std.proofs.lemmas.List.Sums.{length-filter}
+use Rattle.cm_stream.specs.Texts.{Text}
+use Rattle.cm_attempt.specs.Table.{change_first}
+use Rattle.cm_stream.specs.Words.{Attempt, times_declared, declares_it, as_start, starts}
+use Rattle.cm_envelope.specs.declared.envelope.Envelope.{Envelope}
+use Rattle.cm_stream.proofs.Lists.{or_false}
+use Rattle.cm_stream.proofs.Declared.{declares_attempt}
+use Rattle.cm_stream.proofs.Passing.{AllPass}
+use Rattle.cm_stream.proofs.Distinct.{all_distinct, at_most_once}
+use Rattle.cm_stream.proofs.Sourced.{kept_count, same_kept}
+
+pub found_more : {X Y : Type 0} (h : X → Option Y) (xs : List X) (x : X) → h x ≡ None → filter_map h (xs ++ x ∷ []) ≡ filter_map h xs
+found_more h xs x e = filter_map-append h xs (x ∷ []) ∙ rw e (append-nil (filter_map h xs))
+
+pub found_push : {X Y : Type 0} (h : X → Option Y) (xs : List X) (x : X) (y : Y) → h x ≡ Some y → filter_map h (xs ++ x ∷ []) ≡ filter_map h xs ++ y ∷ []
+found_push h xs x y e = filter_map-append h xs (x ∷ []) ∙ rw e refl
+
+pub map_same : {X Y : Type 0} (f g : X → Y) → ((x : X) → f x ≡ g x) → (xs : List X) → map f xs ≡ map g xs
+map_same f g h [] = refl
+map_same f g h (x ∷ xs) = λ i. h x i ∷ map_same f g h xs i
+
+-- ---- one row among many
+
+-- at most one element passes
+abbrev pub OnlyOne : {X : Type 0} → (X → Bool) → List X → Type 0
+OnlyOne q [] = Unit {0}
+OnlyOne q (x ∷ xs) = (q x ≡ true → list_any q xs ≡ false) × OnlyOne q xs
+
+pub only_one : {X : Type 0} (q : X → Bool) (xs : List X) → length (filter q xs) ≤ 1 → OnlyOne q xs
+only_one q [] few = tt
+only_one {X} q (x ∷ xs) few = (λ e. none xs (short e), only_one q xs (rest (q x) refl))
+  where
+    none : (ys : List X) → length (filter q ys) ≡ 0 → list_any q ys ≡ false
+    none [] k = refl
+    none (y ∷ ys) k = go (q y) refl (none ys)
+      where
+        go : (b : Bool) → q y ≡ b → (length (filter q ys) ≡ 0 → list_any q ys ≡ false) → list_any q (y ∷ ys) ≡ false
+        go true e rec = let long : length (filter q (y ∷ ys)) ≡ suc (length (filter q ys)) = rw e refl in absurd (omega (arith, long, k))
+        go false e rec = let same : length (filter q (y ∷ ys)) ≡ length (filter q ys) = rw e refl in rw e (rec (sym same ∙ k))
+
+    short : q x ≡ true → length (filter q xs) ≡ 0
+    short e = let long : length (filter q (x ∷ xs)) ≡ suc (length (filter q xs)) = rw e refl in omega (arith, long, few)
+
+    rest : (b : Bool) → q x ≡ b → length (filter q xs) ≤ 1
+    rest true e = let long : length (filter q (x ∷ xs)) ≡ suc (length (filter q xs)) = rw e refl in omega (arith, long, few)
+    rest false e = let same : length (filter q (x ∷ xs)) ≡ length (filter q xs) = rw e refl in omega (arith, same, few)
+
+pub unchanged : {X Y : Type 0} (q : X → Bool) (g h : X → Y) → ((x : X) → q x ≡ false → h x ≡ g x) → (xs : List X) → list_any q xs ≡ false → map g xs ≡ map h xs
+unchanged q g h other [] none = refl
+unchanged q g h other (x ∷ xs) none = let k = or_false (q x) (list_any q xs) none in λ i. sym (other x k.0) i ∷ unchanged q g h other xs k.1 i
+
+pub change_one : {X Y : Type 0} (p : Y → Bool) (f : Y → Y) (q : X → Bool) (g h : X → Y) → ((x : X) → p (g x) ≡ q x) → ((x : X) → q x ≡ true → h x ≡ f (g x)) → ((x : X) → q x ≡ false → h x ≡ g x)
+    → (xs : List X) → OnlyOne q xs → change_first p f (map g xs) ≡ map h xs
+change_one p f q g h test hit other [] one = refl
+change_one {X} {Y} p f q g h test hit other (x ∷ xs) one = go (q x) refl (change_one p f q g h test hit other xs one.1)
+  where
+    go : (b : Bool) → q x ≡ b → change_first p f (map g xs) ≡ map h xs → change_first p f (map g (x ∷ xs)) ≡ map h (x ∷ xs)
+    go true e rec = rw (test x, e) (λ i. sym (hit x e) i ∷ unchanged q g h other xs (one.0 e) i)
+    go false e rec = rw (test x, e) (λ i. sym (other x e) i ∷ rec i)
+
+pub one_attempt : (es : List Envelope) → AllPass es → (a : Text) → OnlyOne (λ s. bytes_eq a s.id) (starts es)
+one_attempt es pass a =
+    let counted : length (filter (λ s. bytes_eq a s.id) (starts es)) ≡ times_declared (Attempt a) es =
+    kept_count as_start (λ s. bytes_eq a s.id) es ∙ ap length (sym (same_kept (declares_it (Attempt a)) (λ x. option_map_or (λ s. bytes_eq a s.id) (as_start x) false) (declares_attempt a) es)) ∙ length-filter (declares_it (Attempt a)) es in
+    only_one (λ s. bytes_eq a s.id) (starts es) (omega (arith, counted, at_most_once (Attempt a) es (all_distinct es pass)))

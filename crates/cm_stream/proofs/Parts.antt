@@ -1,0 +1,92 @@
+-- Lines that pass their checks have good cases, retries and results.
+use Rattle.std.proofs.Common.{◌≡◌, ℕ, refl, sym, ap, ◌∙◌, List, [], ◌∷◌, ◌++◌, Option, Some, None, true, false, Bool, not, ◌&&◌, ◌==◌, map, length, arith}
+use Rattle.std.specs.List.{list_any, list_all}
+use Rattle.std.specs.Option.{option_map_or}
+use Rattle.std.specs.Str.{bytes_eq}
+use Rattle.std.proofs.lemmas.Bool.Decides.{nat_tests}
+use Rattle.cm_stream.specs.Texts.{Text, same_list, same_texts}
+use Rattle.cm_stream.specs.Words.{is_run_hook, is_retried, starts_of, all_well, find_pickle, pickle_step_ids, as_pickle}
+use Rattle.cm_stream.specs.Good.{CasesGood, CaseGood, RetriesGood, RetryGood, SuccessGood, SuccessOf, has_unknown_result}
+use Rattle.cm_stream.specs.Checks.{checks_of, same_flag}
+use Rattle.cm_envelope.specs.declared.envelope.Envelope.{Envelope}
+use Rattle.cm_envelope.specs.declared.envelope.Envelope.TheVariants as envelope
+use Rattle.cm_envelope.specs.declared.pickle.Pickle.{Pickle}
+use Rattle.cm_envelope.specs.declared.envelope.TestCase.{TestCase}
+use Rattle.cm_stream.proofs.Readings.{success_is}
+use Rattle.cm_stream.proofs.Lists.{and_true}
+use Rattle.cm_stream.proofs.Found.{bytes_are, still_found}
+use Rattle.cm_stream.proofs.Ends.{EndsRun, same_well}
+use Rattle.cm_stream.proofs.Passing.{Passes, AllPass, was_not}
+use Rattle.cm_stream.proofs.Order.{everywhere_none, behind_end}
+
+-- ---- cases
+
+pub texts_are : (xs ys : List Text) → same_texts xs ys ≡ true → xs ≡ ys
+texts_are [] [] h = refl
+texts_are [] (y ∷ ys) h = cc
+texts_are (x ∷ xs) [] h = cc
+texts_are (x ∷ xs) (y ∷ ys) h =
+    let k = and_true (bytes_eq x y) (same_list bytes_eq xs ys) h in
+    let one : x ≡ y = bytes_are x y k.0 in
+    let more : xs ≡ ys = texts_are xs ys k.1 in
+    cc
+
+pub all_cases : (es : List Envelope) → AllPass es → CasesGood es
+all_cases es pass before e after cut = at e cut (pass before e after cut).1
+  where
+    go : (c : TestCase) → es ≡ before ++ envelope.TestCase c ∷ after → (o : Option Pickle) → find_pickle c.pickle_id before ≡ o
+        → option_map_or (λ p. same_texts (map (λ s. s.id) p.steps) (pickle_step_ids c)) o false ≡ true → CaseGood es (envelope.TestCase c)
+    go c cut None is h = cc
+    go c cut (Some p) is h =
+        let in_all : find_pickle c.pickle_id es ≡ Some p = ap (find_pickle c.pickle_id) cut ∙ still_found as_pickle (λ x. bytes_eq c.pickle_id x.id) before (envelope.TestCase c ∷ after) p is in
+        rw in_all (ap Some (texts_are (map (λ s. s.id) p.steps) (pickle_step_ids c) h))
+
+    at : (e : Envelope) → es ≡ before ++ e ∷ after → Passes (checks_of before e) → CaseGood es e
+    at (envelope.TestCase c) cut h = go c cut (find_pickle c.pickle_id before) refl (was_not _ (h.1).0)
+    at _ cut h = tt
+
+-- ---- retries
+
+numbers_are : (m n : ℕ) → not (m == n) ≡ false → m ≡ n
+numbers_are m n h = grind (arith, nat_tests)
+
+pub all_retries : (es : List Envelope) → AllPass es → RetriesGood es
+all_retries es pass before e after cut = at e (pass before e after cut).1
+  where
+    at : (e : Envelope) → Passes (checks_of before e) → RetryGood before e
+    at (envelope.TestCaseStarted s) h = (numbers_are s.attempt (length (starts_of s.test_case_id before)) (((h.1).1).1).0, was_not (list_all (λ x. is_retried x.id before) (starts_of s.test_case_id before)) ((((h.1).1).1).1).0)
+    at _ h = tt
+
+-- ---- results
+
+pub all_known : (es : List Envelope) → AllPass es → list_any has_unknown_result es ≡ false
+all_known es pass = everywhere_none has_unknown_result es (λ before e after cut. at before e (pass before e after cut).1)
+  where
+    at : (before : List Envelope) (e : Envelope) → Passes (checks_of before e) → has_unknown_result e ≡ false
+    at before (envelope.TestStepFinished s) h = ((h.1).1).0
+    at before _ h = refl
+
+pub all_unhooked : (es : List Envelope) → AllPass es → list_any is_run_hook es ≡ false
+all_unhooked es pass = everywhere_none is_run_hook es (λ before e after cut. at before e (pass before e after cut).1)
+  where
+    at : (before : List Envelope) (e : Envelope) → Passes (checks_of before e) → is_run_hook e ≡ false
+    at before envelope.TestRunHookStarted h = h.0
+    at before envelope.TestRunHookFinished h = h.0
+    at before _ h = refl
+
+-- ---- success
+
+flags_are : (a b : Bool) → not (same_flag a b) ≡ false → a ≡ b
+flags_are true true h = refl
+flags_are true false h = cc
+flags_are false true h = cc
+flags_are false false h = refl
+
+pub success_said : (es : List Envelope) → AllPass es → SuccessGood es
+success_said es pass before e after cut = at e cut (pass before e after cut).1
+  where
+    at : (e : Envelope) → es ≡ before ++ e ∷ after → Passes (checks_of before e) → SuccessOf es e
+    at (envelope.TestRunFinished f) cut h =
+        let run : EndsRun es before f after = record { cut = cut; none = behind_end es pass before f after cut } in
+        success_is es f (flags_are f.success (all_well before && not f.has_exception) ((((h.1).1).1).1).0 ∙ ap (λ b. b && not f.has_exception) (sym (same_well es before f after run)))
+    at _ cut h = tt

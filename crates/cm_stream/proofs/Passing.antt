@@ -1,0 +1,64 @@
+-- What it says of each line that it passes its checks.
+use Rattle.std.proofs.Common.{◌≡◌, refl, sym, ap, ◌∙◌, List, [], ◌∷◌, ◌++◌, Some, None, true, false, Bool, not, append_assoc, append-nil, subst}
+use Rattle.std.specs.List.{AllByRecursion}
+use Rattle.cm_stream.specs.Checks.{Check, checks_of, checks, first_failed, refers_to_unknown}
+use Rattle.cm_stream.specs.Laws.{HasNoFault}
+use Rattle.cm_envelope.specs.declared.envelope.Envelope.{Envelope}
+use Rattle.cm_envelope.specs.declared.envelope.Envelope.TheVariants as envelope
+
+abbrev pub Passes : List Check → Type 0
+Passes cs = AllByRecursion (λ (c : Check). c.fails ≡ false) cs
+
+pub was_not : (b : Bool) → not b ≡ false → b ≡ true
+was_not true h = refl
+was_not false h = cc
+
+pub passed : (cs : List Check) → first_failed cs ≡ None → Passes cs
+passed [] h = tt
+passed (c ∷ cs) h = go c.fails refl (passed cs)
+  where
+    go : (b : Bool) → c.fails ≡ b → (first_failed cs ≡ None → Passes cs) → Passes (c ∷ cs)
+    go true e rec = let no : Some c.finding ≡ None = rw e at h in cc
+    go false e rec = let rest : first_failed cs ≡ None = rw e at h in (e, rec rest)
+
+-- each line passes its checks
+abbrev pub AllPass : List Envelope → Type 0
+AllPass es = (before : List Envelope) (e : Envelope) (after : List Envelope) → es ≡ before ++ e ∷ after → Passes (checks before e)
+
+pub all_pass : (es : List Envelope) → HasNoFault es → AllPass es
+all_pass es h before e after cut = passed (checks before e) (h.lines before e after cut)
+
+pub front_passes : (xs ys : List Envelope) → AllPass (xs ++ ys) → AllPass xs
+front_passes xs ys h before e after cut = h before e (after ++ ys) (ap (λ zs. zs ++ ys) cut ∙ append_assoc before (e ∷ after) ys)
+
+pub last_passes : (xs : List Envelope) (e : Envelope) → AllPass (xs ++ e ∷ []) → Passes (checks xs e)
+last_passes xs e h = h xs e [] refl
+
+-- what a line that passes leaves true holds of all
+pub by_lines : (P : List Envelope → Type 0) → P [] → ((xs : List Envelope) (e : Envelope) → AllPass (xs ++ e ∷ []) → P xs → P (xs ++ e ∷ [])) → (es : List Envelope) → AllPass es → P es
+by_lines P start step es pass = go [] es pass start
+  where
+    go : (done rest : List Envelope) → AllPass (done ++ rest) → P done → P (done ++ rest)
+    go done [] h p = subst P (sym (append-nil done)) p
+    go done (e ∷ rest) h p =
+        let again : AllPass ((done ++ e ∷ []) ++ rest) = subst AllPass (sym (append_assoc done (e ∷ []) rest)) h in
+        subst P (append_assoc done (e ∷ []) rest) (go (done ++ e ∷ []) rest again (step done e (front_passes (done ++ e ∷ []) rest again) p))
+
+pub no_unknown : (before : List Envelope) (e : Envelope) → Passes (checks_of before e) → refers_to_unknown before e ≡ false
+no_unknown before (envelope.Source s) h = refl
+no_unknown before (envelope.GherkinDocument d) h = h.0
+no_unknown before (envelope.ParseError p) h = h.0
+no_unknown before (envelope.Pickle p) h = h.0
+no_unknown before (envelope.StepDefinition d) h = refl
+no_unknown before (envelope.Hook x) h = refl
+no_unknown before (envelope.TestCase c) h = h.0
+no_unknown before (envelope.TestRunStarted r) h = refl
+no_unknown before (envelope.TestCaseStarted s) h = (h.1).0
+no_unknown before (envelope.TestStepStarted s) h = h.0
+no_unknown before (envelope.TestStepFinished s) h = h.0
+no_unknown before (envelope.TestCaseFinished f) h = h.0
+no_unknown before (envelope.TestRunFinished f) h = (h.1).0
+no_unknown before (envelope.Attachment a) h = h.0
+no_unknown before envelope.TestRunHookStarted h = refl
+no_unknown before envelope.TestRunHookFinished h = refl
+no_unknown before envelope.Other h = refl

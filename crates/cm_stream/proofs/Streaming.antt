@@ -1,0 +1,152 @@
+-- The lines that the worked streams are made of.
+use Rattle.std.proofs.Common.{ℕ, suc, List, [], ◌∷◌, ◌++◌, Some, None, false, Bool}
+use Rattle.std.specs.Prelude.{codes}
+use Rattle.gk_document.specs.declared.tree.Document.{Document}
+use Rattle.cm_envelope.specs.declared.pickle.StepKind.TheVariants.{Context}
+use Rattle.cm_stream.specs.Texts.{Text}
+use Rattle.cm_stream.specs.Findings.{Finding}
+use Rattle.cm_stream.specs.Readings.{Reading, Accepted}
+use Rattle.cm_stream.specs.OnePass.{reads}
+use Rattle.cm_stream.specs.Sources.{plain, english}
+use Rattle.cm_stream.specs.Checks.{fault, fault_at_end}
+use Rattle.cm_stream.specs.Stream.{Told, At, NoFault, at_line, at_end, counts_of}
+use Rattle.cm_envelope.specs.declared.envelope.Envelope.{Envelope}
+use Rattle.cm_envelope.specs.declared.envelope.Envelope.TheVariants as envelope
+use Rattle.cm_envelope.specs.declared.envelope.Status.{Status}
+use Rattle.cm_stream.specs.declared.verdict.Counts.{Counts}
+
+-- ---- texts
+
+-- a feature of one scenario with one step
+abbrev pub one_step : Text
+one_step = codes "Feature: f\n\n  Scenario: s\n    Given a\n"
+
+-- an outline with three rows, of which two are alike
+abbrev pub outline : Text
+outline = codes "Feature: f\n  Scenario: s\n    Given <a>\n    Examples:\n      | a |\n      | x |\n      | x |\n      | y |\n"
+
+-- a scenario without steps of its own behind a background
+abbrev pub no_steps : Text
+no_steps = codes "Feature: f\n  Background:\n    Given a\n    And b\n  Scenario: s\n"
+
+abbrev pub french : Text
+french = codes "# language: fr\nFeature: x\n"
+
+-- ---- lines
+
+abbrev pub source : Text → Text → Envelope
+source uri text = envelope.Source (record { uri = uri; content = text; media_type = plain })
+
+-- the document that a text is read as
+abbrev pub document_in : Reading → Document
+document_in (Accepted d) = d
+document_in _ = record { feature = None; comments = []; nodes = 0 }
+
+abbrev pub document : Text → Text → List Text → Envelope
+document uri text ids = envelope.GherkinDocument (record { uri = uri; document = document_in (reads text); ids = ids })
+
+-- a pickle with one step
+abbrev pub pickle : Text → Text → List Text → Text → Text → List Text → Envelope
+pickle uri id nodes step text step_nodes = envelope.Pickle (record {
+  id = id;
+  uri = uri;
+  name = codes "s";
+  language = english;
+  ast_node_ids = nodes;
+  tags = [];
+  steps = record { id = step; text = text; kind = Some Context; ast_node_ids = step_nodes; argument = None } ∷ [];
+})
+
+abbrev pub run_started : Envelope
+run_started = envelope.TestRunStarted (record { id = None })
+
+abbrev pub run_finished : Bool → Envelope
+run_finished success = envelope.TestRunFinished (record { test_run_started_id = None; success = success; has_exception = false })
+
+-- a case of the pickle `3`, which runs its one step
+abbrev pub case : Text → Envelope
+case id = envelope.TestCase (record {
+  id = id;
+  pickle_id = codes "3";
+  test_run_started_id = None;
+  test_steps = record { id = codes "t1"; hook_id = None; pickle_step_id = Some (codes "2"); step_definition_ids = [] } ∷ [];
+})
+
+abbrev pub started : Text → Text → ℕ → Envelope
+started id case number = envelope.TestCaseStarted (record { id = id; test_case_id = case; attempt = number })
+
+abbrev pub step_started : Text → Envelope
+step_started id = envelope.TestStepStarted (record { test_case_started_id = id; test_step_id = codes "t1" })
+
+abbrev pub step_finished : Text → Status → Envelope
+step_finished id status = envelope.TestStepFinished (record { test_case_started_id = id; test_step_id = codes "t1"; test_step_result = record { status = status } })
+
+abbrev pub finished : Text → Bool → Envelope
+finished id retried = envelope.TestCaseFinished (record { test_case_started_id = id; will_be_retried = retried })
+
+abbrev pub parse_error : Text → Envelope
+parse_error uri = envelope.ParseError (record { source = record { uri = uri } })
+
+abbrev pub hook : Envelope
+hook = envelope.Hook (record { id = codes "h" })
+
+-- ---- the streams' fronts
+
+-- the source, the document and the pickle of the feature with one step, where the nodes have these ids
+abbrev pub one_step_as : Text → Text → List Envelope
+one_step_as scenario step =
+    source (codes "a") one_step ∷ document (codes "a") one_step (scenario ∷ step ∷ [])
+    ∷ pickle (codes "a") (codes "3") (scenario ∷ []) (codes "2") (codes "a") (step ∷ []) ∷ []
+
+abbrev pub one_pickle : List Envelope
+one_pickle = one_step_as (codes "0") (codes "1")
+
+-- the outline's source and document
+abbrev pub outline_front : List Envelope
+outline_front = source (codes "o") outline ∷ document (codes "o") outline (codes "0" ∷ codes "1" ∷ codes "2" ∷ codes "3" ∷ codes "4" ∷ codes "5" ∷ codes "6" ∷ []) ∷ []
+
+-- the outline's pickle of a row
+abbrev pub of_row : Text → Text → Text → Text → Envelope
+of_row id step text row = pickle (codes "o") id (codes "0" ∷ row ∷ []) step text (codes "1" ∷ row ∷ [])
+
+abbrev pub first_row : Envelope
+first_row = of_row (codes "8") (codes "7") (codes "x") (codes "4")
+
+abbrev pub second_row : Envelope
+second_row = of_row (codes "10") (codes "9") (codes "x") (codes "5")
+
+abbrev pub third_row : Text → Envelope
+third_row id = of_row id (codes "11") (codes "y") (codes "6")
+
+-- the source, the document and the one pickle, without steps
+abbrev pub no_steps_front : List Envelope
+no_steps_front =
+    source (codes "e") no_steps ∷ document (codes "e") no_steps (codes "0" ∷ codes "1" ∷ codes "2" ∷ codes "3" ∷ [])
+    ∷ envelope.Pickle (record { id = codes "4"; uri = codes "e"; name = codes "s"; language = english; ast_node_ids = codes "3" ∷ []; tags = []; steps = [] }) ∷ []
+
+-- a case of that pickle
+abbrev pub empty_case : Envelope
+empty_case = envelope.TestCase (record { id = codes "c1"; pickle_id = codes "4"; test_run_started_id = None; test_steps = [] })
+
+-- ---- what is told
+
+-- what is told of lines that are all envelopes, by its counts or its fault
+pub data Shown : Type 0 where
+  Good : Counts → Shown
+  Fault : ℕ → Finding → Shown
+  Other : Shown
+
+abbrev pub told_from : List Envelope → ℕ → List Envelope → Told
+told_from before n [] = at_end n before (fault_at_end before)
+told_from before n (e ∷ es) = at_line n (fault before e) (told_from (before ++ e ∷ []) (suc n) es)
+
+abbrev pub show : Told → Shown
+show (NoFault es) = Good (counts_of es)
+show (At n f) = Fault n f
+show _ = Other
+
+abbrev pub shown : List Envelope → Shown
+shown es = show (told_from [] 1 es)
+
+abbrev pub good : (sources pickles cases attempts unrun : ℕ) → Shown
+good s p c a u = Good (record { sources = s; pickles = p; cases = c; attempts = a; unrun = u })

@@ -1,0 +1,67 @@
+-- What a check of a line tells.
+use Rattle.std.specs.Prelude.{ℕ, List}
+use Rattle.cm_envelope.specs.Reading.{Fault as LineFault, not_json, shape, field}
+use Rattle.cm_stream.specs.declared.verdict.Bad.{Bad}
+use Rattle.cm_stream.specs.declared.verdict.Bad.TheVariants as declared
+use Rattle.cm_stream.specs.declared.verdict.Reason.{Reason}
+
+-- Why a stream is bad. A bad member is told by the names of its kind and of the member.
+pub data Fault : Type 0 where
+  NotJson : Fault
+  Shape : Fault
+  Field : List ℕ → List ℕ → Fault
+  DuplicateId : Fault
+  DuplicateUri : Fault
+  UnknownReference : Fault
+  DocumentOfRefusedSource : Fault
+  TreeDiffers : Fault
+  PickleDiffers : Fault
+  ParseErrorOfGoodSource : Fault
+  CaseStepsDiffer : Fault
+  AttemptNumber : Fault
+  AttemptOverlap : Fault
+  StepOrder : Fault
+  FinishedEarly : Fault
+  SecondRunStarted : Fault
+  OutsideRun : Fault
+  AfterRunFinished : Fault
+  AttemptOpen : Fault
+  SourceIncomplete : Fault
+  SuccessDiffers : Fault
+  NoRunFinished : Fault
+
+-- what is told of a line: it makes the stream bad, or the stream is not judged
+pub data Finding : Type 0 where
+  IsBad : Fault → Finding
+  IsUnsupported : Reason → Finding
+
+-- why a line has no envelope, as a fault of the stream
+abbrev pub fault_of_line : LineFault → Fault
+fault_of_line not_json = NotJson
+fault_of_line shape = Shape
+fault_of_line (field kind member) = Field kind member
+
+-- the fault that a program's answer names
+abbrev pub named : Bad → Fault
+named declared.NotJson = NotJson
+named declared.Shape = Shape
+named (declared.Field kind member) = Field kind.now member.now
+named declared.DuplicateId = DuplicateId
+named declared.DuplicateUri = DuplicateUri
+named declared.UnknownReference = UnknownReference
+named declared.DocumentOfRefusedSource = DocumentOfRefusedSource
+named declared.TreeDiffers = TreeDiffers
+named declared.PickleDiffers = PickleDiffers
+named declared.ParseErrorOfGoodSource = ParseErrorOfGoodSource
+named declared.CaseStepsDiffer = CaseStepsDiffer
+named declared.AttemptNumber = AttemptNumber
+named declared.AttemptOverlap = AttemptOverlap
+named declared.StepOrder = StepOrder
+named declared.FinishedEarly = FinishedEarly
+named declared.SecondRunStarted = SecondRunStarted
+named declared.OutsideRun = OutsideRun
+named declared.AfterRunFinished = AfterRunFinished
+named declared.AttemptOpen = AttemptOpen
+named declared.SourceIncomplete = SourceIncomplete
+named declared.SuccessDiffers = SuccessDiffers
+named declared.NoRunFinished = NoRunFinished

@@ -1,0 +1,134 @@
+-- Good streams, as predicates on the whole list of envelopes. The Cucumber Messages schemas say which members an envelope
+-- has; which lists of envelopes are good they leave open, and the rules here are this profile's.
+use Rattle.std.specs.Prelude.{◌≡◌, ◌↔◌, Bool, true, false, ◌||◌, List, [], ◌∷◌, ◌++◌, Some, map, length, count_by}
+use Rattle.std.specs.List.{list_any, list_all, flat_map, AllByRecursion}
+use Rattle.std.specs.Option.{option_map}
+use Rattle.std.specs.Str.{bytes_eq}
+use Rattle.cm_stream.specs.Texts.{same_list}
+use Rattle.cm_attempt.specs.Table.{has_repeat}
+use Rattle.gk_document.specs.declared.tree.Document.{Document}
+use Rattle.gk_document.specs.Skeleton.{skeleton}
+use Rattle.gk_pickle.specs.Pickles.{pickles as compiled}
+use Rattle.cm_stream.specs.Readings.{Reading, Accepted, Refused, OtherLanguage, TooLong, IsReading}
+use Rattle.cm_stream.specs.Sources.{plain, is_due}
+use Rattle.cm_stream.specs.Words.{cases, sources, is_good_case, Name, same_name, declares, times_declared, refers, sources_of, documents_of, pickles_of, starts_of, has_run_started, is_run_started, is_run_finished, is_run_hook, is_judged, find_pickle, pickle_step_ids, steps_of, moves, whole, is_retried}
+use Rattle.cm_envelope.specs.declared.envelope.Envelope.{Envelope}
+use Rattle.cm_envelope.specs.declared.envelope.Envelope.TheVariants as envelope
+use Rattle.cm_envelope.specs.declared.envelope.Source.{Source}
+use Rattle.cm_envelope.specs.declared.envelope.GherkinDocument.{GherkinDocument}
+use Rattle.cm_envelope.specs.declared.envelope.TestRunFinished.{TestRunFinished}
+use Rattle.cm_envelope.specs.declared.envelope.Status.{Status}
+use Rattle.cm_envelope.specs.declared.envelope.Status.TheVariants.{Unknown}
+
+-- what holds of each envelope, the ones before it and the ones behind it
+abbrev pub Everywhere : (List Envelope → Envelope → List Envelope → Type 0) → List Envelope → Type 0
+Everywhere P es = (before : List Envelope) (e : Envelope) (after : List Envelope) → es ≡ before ++ e ∷ after → P before e after
+
+-- Each reference names something that exactly one earlier envelope declares.
+abbrev pub ReferencesGood : List Envelope → Type 0
+ReferencesGood es = Everywhere (λ before e after. AllByRecursion (λ name. times_declared name before ≡ 1) (refers before e)) es
+
+-- One later document has the source's uri, with the skeleton of its text and distinct ids, and the pickles of the uri
+-- are those of that document in order; of a refused source there is no document and no pickle.
+abbrev pub MeetsSource : List Envelope → (before : List Envelope) → Source → (after : List Envelope) → Reading → Type 0
+MeetsSource es before s after (Accepted d) = (g : GherkinDocument) × (documents_of s.uri before ≡ []) × (documents_of s.uri after ≡ g ∷ [])
+    × (skeleton g.document ≡ skeleton d) × (has_repeat g.ids ≡ false) × (same_list (is_due g.ids) (pickles_of s.uri es) (compiled d) ≡ true)
+MeetsSource es before s after Refused = (documents_of s.uri es ≡ []) × (pickles_of s.uri es ≡ [])
+MeetsSource es before s after OtherLanguage = ⊥
+MeetsSource es before s after TooLong = ⊥
+
+-- the source's text is one of the grammar
+abbrev pub IsAccepted : Source → Type 0
+IsAccepted s = (d : Document) × IsReading s.content (Accepted d)
+
+-- A source is plain Gherkin within the limits and in English, and has its document and pickles; parse errors name only
+-- sources that are refused.
+abbrev pub SourceGood : List Envelope → List Envelope → Envelope → List Envelope → Type 0
+SourceGood es before (envelope.Source s) after = (bytes_eq s.media_type plain ≡ true) × (r : Reading) × IsReading s.content r × MeetsSource es before s after r
+SourceGood es before (envelope.ParseError p) after = AllByRecursion (λ s. IsAccepted s → ⊥) (sources_of p.source.uri es)
+SourceGood es before _ after = Unit {0}
+
+abbrev pub SourcesGood : List Envelope → Type 0
+SourcesGood es = Everywhere (SourceGood es) es
+
+-- The pickle steps of a case, in order, are the steps of its pickle.
+abbrev pub CaseGood : List Envelope → Envelope → Type 0
+CaseGood es (envelope.TestCase c) = option_map (λ p. map (λ s. s.id) p.steps) (find_pickle c.pickle_id es) ≡ Some (pickle_step_ids c)
+CaseGood es _ = Unit {0}
+
+abbrev pub CasesGood : List Envelope → Type 0
+CasesGood es = Everywhere (λ before e after. CaseGood es e) es
+
+-- An attempt starts, starts and finishes each step of its case in order, and finishes; no other envelope but attachments names it.
+abbrev pub AttemptGood : List Envelope → Envelope → Type 0
+AttemptGood es (envelope.TestCaseStarted s) = moves s.id es ≡ whole (steps_of s.test_case_id es)
+AttemptGood es _ = Unit {0}
+
+abbrev pub AttemptsGood : List Envelope → Type 0
+AttemptsGood es = Everywhere (λ before e after. AttemptGood es e) es
+
+-- An attempt's number is how many of its case started before it, and each of those is finished and will be retried.
+abbrev pub RetryGood : List Envelope → Envelope → Type 0
+RetryGood before (envelope.TestCaseStarted s) = (s.attempt ≡ length (starts_of s.test_case_id before)) × (list_all (λ x. is_retried x.id before) (starts_of s.test_case_id before) ≡ true)
+RetryGood before _ = Unit {0}
+
+abbrev pub RetriesGood : List Envelope → Type 0
+RetriesGood es = Everywhere (λ before e after. RetryGood before e) es
+
+-- Each case has a final attempt that is at worst skipped, no source is refused and there is no exception.
+pub record AllWell (es : List Envelope) (f : TestRunFinished) : Type 0 where
+  pub each_case : AllByRecursion (λ c. is_good_case es c ≡ true) (cases es)
+  pub each_source : AllByRecursion IsAccepted (sources es)
+  pub no_exception : f.has_exception ≡ false
+
+-- Success is said exactly if all is well.
+abbrev pub SuccessOf : List Envelope → Envelope → Type 0
+SuccessOf es (envelope.TestRunFinished f) = (f.success ≡ true) ↔ AllWell es f
+SuccessOf es _ = Unit {0}
+
+abbrev pub SuccessGood : List Envelope → Type 0
+SuccessGood es = Everywhere (λ before e after. SuccessOf es e) es
+
+-- ---- the rest
+
+-- two of the names are equal
+abbrev pub has_same_names : List Name → Bool
+has_same_names [] = false
+has_same_names (n ∷ ns) = list_any (λ later. same_name later n) ns || has_same_names ns
+
+abbrev pub StartsInside : List Envelope → Envelope → Type 0
+StartsInside before (envelope.TestCaseStarted s) = has_run_started before ≡ true
+StartsInside before _ = Unit {0}
+
+abbrev pub NothingBehind : Envelope → List Envelope → Type 0
+NothingBehind (envelope.TestRunFinished f) after = list_any is_judged after ≡ false
+NothingBehind _ after = Unit {0}
+
+-- The run starts once, before each attempt, and finishes once, behind every other judged envelope.
+pub record OrderGood (es : List Envelope) : Type 0 where
+  pub one_start : count_by is_run_started es ≡ 1
+  pub one_finish : count_by is_run_finished es ≡ 1
+  pub starts_inside : Everywhere (λ before e after. StartsInside before e) es
+  pub finish_last : Everywhere (λ before e after. NothingBehind e after) es
+
+abbrev pub is_unknown : Status → Bool
+is_unknown Unknown = true
+is_unknown _ = false
+
+-- a step result is unknown
+abbrev pub has_unknown_result : Envelope → Bool
+has_unknown_result (envelope.TestStepFinished s) = is_unknown s.test_step_result.status
+has_unknown_result _ = false
+
+-- a good list of envelopes
+pub record Good (es : List Envelope) : Type 0 where
+  pub references : ReferencesGood es
+  pub sources : SourcesGood es
+  pub cases : CasesGood es
+  pub attempts : AttemptsGood es
+  pub retries : RetriesGood es
+  pub success : SuccessGood es
+  pub distinct : has_same_names (flat_map declares es) ≡ false
+  pub order : OrderGood es
+  pub known : list_any has_unknown_result es ≡ false
+  pub no_hooks : list_any is_run_hook es ≡ false

@@ -1,0 +1,15 @@
+pub mod Texts
+pub mod Findings
+pub mod Skeleton
+pub mod Readings
+pub mod OnePass
+pub mod Sources
+pub mod Statuses
+pub mod Words
+pub mod Good
+pub mod Checks
+pub mod Stream
+pub mod Laws
+pub mod Seen
+pub mod Told
+pub mod Refusals

@@ -1,0 +1,71 @@
+-- What a record of attempts refuses, as the first failed of the checks that are its own.
+use Rattle.std.specs.Prelude.{◌≡◌, ◌==◌, not, List, [], ◌∷◌, ◌++◌, Option, Some, None, map, length}
+use Rattle.std.specs.List.{list_all}
+use Rattle.std.specs.Option.{option_and_then}
+use Rattle.cm_stream.specs.Words.{StepStarted, StepFinished, Ended, starts_of, is_ended, is_retried}
+use Rattle.cm_stream.specs.Checks.{Check, checks_of, ◌if◌, first_failed, refers_to_unknown, declares_again, is_next_move}
+use Rattle.cm_attempt.specs.Table.{Table, add_case_fault, start_fault, step_start_fault, step_finish_fault, finish_fault}
+use Rattle.cm_stream.specs.Seen.{table_of}
+use Rattle.cm_stream.specs.Told.{IsFaultless}
+use Rattle.cm_envelope.specs.declared.envelope.Envelope.{Envelope}
+use Rattle.cm_envelope.specs.declared.envelope.Envelope.TheVariants as envelope
+use Rattle.cm_stream.specs.Findings as bad
+use Rattle.cm_stream.specs.Findings.{Fault, Finding, IsBad}
+use Rattle.cm_attempt.specs.declared.fault.TrackFault.{TrackFault}
+use Rattle.cm_attempt.specs.declared.fault.TrackFault.TheVariants as refusal
+
+-- How a refusal is told. Want of memory is no fault of the stream.
+abbrev pub told_refusal : TrackFault → Option Finding
+told_refusal refusal.UnknownCase = Some (IsBad bad.UnknownReference)
+told_refusal refusal.UnknownAttempt = Some (IsBad bad.UnknownReference)
+told_refusal refusal.UnknownStep = Some (IsBad bad.UnknownReference)
+told_refusal refusal.DuplicateId = Some (IsBad bad.DuplicateId)
+told_refusal refusal.AttemptNumber = Some (IsBad bad.AttemptNumber)
+told_refusal refusal.AttemptOverlap = Some (IsBad bad.AttemptOverlap)
+told_refusal refusal.StepOrder = Some (IsBad bad.StepOrder)
+told_refusal refusal.FinishedEarly = Some (IsBad bad.FinishedEarly)
+told_refusal refusal.Memory = None
+
+-- what the call for a line refuses
+abbrev pub refused : Table → Envelope → Option TrackFault
+refused t (envelope.TestCase c) = add_case_fault t c.id (map (λ s. s.id) c.test_steps)
+refused t (envelope.TestCaseStarted s) = start_fault t s.id s.test_case_id s.attempt
+refused t (envelope.TestStepStarted s) = step_start_fault t s.test_case_started_id s.test_step_id
+refused t (envelope.TestStepFinished s) = step_finish_fault t s.test_case_started_id s.test_step_id
+refused t (envelope.TestCaseFinished f) = finish_fault t f.test_case_started_id
+refused t _ = None
+
+-- the checks of a line that its call makes
+abbrev pub own_checks : List Envelope → Envelope → List Check
+own_checks es (envelope.TestCase c) = bad.DuplicateId if declares_again es (envelope.TestCase c) ∷ []
+own_checks es (envelope.TestCaseStarted s) =
+    bad.UnknownReference if refers_to_unknown es (envelope.TestCaseStarted s)
+    ∷ bad.DuplicateId if declares_again es (envelope.TestCaseStarted s)
+    ∷ bad.AttemptNumber if not (s.attempt == length (starts_of s.test_case_id es))
+    ∷ bad.AttemptOverlap if not (list_all (λ x. is_retried x.id es) (starts_of s.test_case_id es)) ∷ []
+own_checks es (envelope.TestStepStarted s) =
+    bad.UnknownReference if refers_to_unknown es (envelope.TestStepStarted s) ∷ bad.StepOrder if not (is_next_move (StepStarted s.test_step_id) s.test_case_started_id es) ∷ []
+own_checks es (envelope.TestStepFinished s) =
+    bad.UnknownReference if refers_to_unknown es (envelope.TestStepFinished s) ∷ bad.StepOrder if not (is_next_move (StepFinished s.test_step_id) s.test_case_started_id es) ∷ []
+own_checks es (envelope.TestCaseFinished f) =
+    bad.UnknownReference if refers_to_unknown es (envelope.TestCaseFinished f)
+    ∷ bad.StepOrder if is_ended f.test_case_started_id es
+    ∷ bad.FinishedEarly if not (is_next_move Ended f.test_case_started_id es) ∷ []
+own_checks es _ = []
+
+-- behind lines without a fault the call refuses what the first failed of these checks tells
+abbrev pub RefusalsAre : Envelope → Type 0
+RefusalsAre e = (es : List Envelope) → IsFaultless es → option_and_then told_refusal (refused (table_of es) e) ≡ first_failed (own_checks es e)
+
+-- they are checks of the line, one after another
+pub record AreAmongChecks (es : List Envelope) (e : Envelope) : Type 0 where
+  pub first : List Check
+  pub rest : List Check
+  pub cut : checks_of es e ≡ first ++ own_checks es e ++ rest
+
+abbrev pub OwnAreChecks : Type 0
+OwnAreChecks = (es : List Envelope) (e : Envelope) → AreAmongChecks es e
+
+-- that of each line
+abbrev pub RefusalsAreTold : Type 0
+RefusalsAreTold = (e : Envelope) → RefusalsAre e

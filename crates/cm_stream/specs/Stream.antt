@@ -1,0 +1,134 @@
+-- Good streams of bytes, and the first fault of a stream. A stream is lines of JSON, each an envelope of the Cucumber
+-- Messages (NDJSON, but blank lines are skipped and a last line may lack its LF).
+use Rattle.std.specs.Prelude.{◌≡◌, ℕ, ◌+◌, not, List, [], ◌∷◌, ◌++◌, Option, Some, None, Result, Ok, Err, if◌then◌else◌, map, length, count_by}
+use Rattle.std.specs.List.{list_any}
+use Rattle.std.specs.Str.{bytes_eq}
+use Rattle.cm_envelope.specs.Lines.{Fed, feed, is_blank}
+use Rattle.cm_envelope.specs.declared.feed.Trouble.{Trouble}
+use Rattle.cm_envelope.specs.Reading.{Fault as LineFault, envelope_of_line}
+use Rattle.cm_stream.specs.Words.{sources, pickles, cases, starts}
+use Rattle.cm_stream.specs.Good.{Good}
+use Rattle.cm_stream.specs.Checks.{fault, fault_at_end}
+use Rattle.cm_envelope.specs.declared.envelope.Envelope.{Envelope}
+use Rattle.cm_stream.specs.Findings.{Finding, IsBad, IsUnsupported, named, fault_of_line}
+use Rattle.cm_stream.specs.declared.verdict.Counts.{Counts}
+use Rattle.cm_stream.specs.declared.verdict.Verdict.{Verdict}
+use Rattle.cm_stream.specs.declared.verdict.Verdict.TheVariants as verdict
+
+-- the most bytes that a line may have without its LF, and that a stream may have
+abbrev pub line_limit : ℕ
+line_limit = 67_108_864
+
+abbrev pub stream_limit : ℕ
+stream_limit = 1_073_741_824
+
+-- a stream's lines within the limits
+abbrev pub fed : List ℕ → Fed
+fed bytes = feed bytes line_limit stream_limit
+
+-- the lines that aren't blank, each with its number
+abbrev pub numbered : ℕ → List (List ℕ) → List (ℕ × List ℕ)
+numbered n [] = []
+numbered n (l ∷ ls) = if is_blank l then numbered (n + 1) ls else (n, l) ∷ numbered (n + 1) ls
+
+abbrev pub read_line : ℕ × List ℕ → ℕ × Result Envelope LineFault
+read_line l = (l.0, envelope_of_line l.1)
+
+abbrev pub as_read : ℕ × Envelope → ℕ × Result Envelope LineFault
+as_read l = (l.0, Ok l.1)
+
+-- The stream has no trouble, and its lines that aren't blank are read as these envelopes, each with its line number.
+pub record IsRead (bytes : List ℕ) (es : List (ℕ × Envelope)) : Type 0 where
+  pub no_trouble : (fed bytes).trouble ≡ None
+  pub read : map read_line (numbered 1 (fed bytes).lines) ≡ map as_read es
+
+abbrev pub envelopes : List (ℕ × Envelope) → List Envelope
+envelopes es = map (λ (l : ℕ × Envelope). l.1) es
+
+-- how many pickles no case names
+abbrev pub unrun : List Envelope → ℕ
+unrun es = count_by (λ p. not (list_any (λ c. bytes_eq p.id c.pickle_id) (cases es))) (pickles es)
+
+abbrev pub counts_of : List Envelope → Counts
+counts_of es = record { sources = length (sources es); pickles = length (pickles es); cases = length (cases es); attempts = length (starts es); unrun = unrun es }
+
+-- a good stream, which has these counts
+pub record IsGoodStream (bytes : List ℕ) (counts : Counts) : Type 0 where
+  pub lines : List (ℕ × Envelope)
+  pub read : IsRead bytes lines
+  pub good : Good (envelopes lines)
+  pub exact : counts ≡ counts_of (envelopes lines)
+
+-- ---- the first fault
+
+-- what is told of a stream: a finding at a line, a trouble, or none
+pub data Told : Type 0 where
+  At : ℕ → Finding → Told
+  Troubled : Trouble → Told
+  NoFault : List Envelope → Told
+
+abbrev pub at_end : ℕ → List Envelope → Option Finding → Told
+at_end n before None = NoFault before
+at_end n before (Some f) = At n f
+
+-- a finding at this line, or what is told behind it
+abbrev pub at_line : ℕ → Option Finding → Told → Told
+at_line n None more = more
+at_line n (Some f) more = At n f
+
+-- what a line is read as: nothing where it is blank
+abbrev pub shown : List ℕ → Option (Result Envelope LineFault)
+shown line = if is_blank line then None else Some (envelope_of_line line)
+
+abbrev pub told_line : (before : List Envelope) → (n : ℕ) → Option (Result Envelope LineFault) → (List Envelope → Told) → Told
+told_line before n None more = more before
+told_line before n (Some (Err b)) more = At n (IsBad (fault_of_line b))
+told_line before n (Some (Ok e)) more = at_line n (fault before e) (more (before ++ e ∷ []))
+
+-- of these lines, the first of which has the number n, and then the trouble or the end, behind envelopes without a fault
+abbrev pub told_of : (before : List Envelope) → (n : ℕ) → List (List ℕ) → Option Trouble → Told
+told_of before n [] (Some t) = Troubled t
+told_of before n [] None = at_end n before (fault_at_end before)
+told_of before n (l ∷ ls) t = told_line before n (shown l) (λ (now : List Envelope). told_of now (n + 1) ls t)
+
+abbrev pub told : List ℕ → Told
+told bytes = told_of [] 1 (fed bytes).lines (fed bytes).trouble
+
+-- ---- what an audit promises
+
+-- an answer, by what it names
+pub data Answer : Type 0 where
+  GoodWith : Counts → Answer
+  Found : ℕ → Finding → Answer
+  Failed : Trouble → Answer
+
+abbrev pub answered : Result Verdict Trouble → Answer
+answered (Ok (verdict.Good counts)) = GoodWith counts
+answered (Ok (verdict.Bad n b)) = Found n (IsBad (named b))
+answered (Ok (verdict.Unsupported n r)) = Found n (IsUnsupported r)
+answered (Err t) = Failed t
+
+-- the answer for what is told
+abbrev pub answer_for : Told → Answer
+answer_for (At n f) = Found n f
+answer_for (Troubled t) = Failed t
+answer_for (NoFault es) = GoodWith (counts_of es)
+
+-- Good only for good streams, with exact counts.
+abbrev pub GoodOnlyForGood : List ℕ → Result Verdict Trouble → Type 0
+GoodOnlyForGood bytes (Ok (verdict.Good counts)) = IsGoodStream bytes counts
+GoodOnlyForGood bytes _ = Unit {0}
+
+-- the other stream has the first n lines of this one
+pub record HaveFirstLines (n : ℕ) (bytes other : List ℕ) : Type 0 where
+  pub first : List (List ℕ)
+  pub rest : List (List ℕ)
+  pub other_rest : List (List ℕ)
+  pub count : length first ≡ n
+  pub here : (fed bytes).lines ≡ first ++ rest
+  pub there : (fed other).lines ≡ first ++ other_rest
+
+-- A finding at line n: no good stream has these first n lines. Past the last line: this stream is not good.
+abbrev pub NoneIsGood : List ℕ → Result Verdict Trouble → Type 0
+NoneIsGood bytes (Ok (verdict.Bad n b)) = ((other : List ℕ) (counts : Counts) → HaveFirstLines n bytes other → IsGoodStream other counts → ⊥) × ((counts : Counts) → IsGoodStream bytes counts → ⊥)
+NoneIsGood bytes _ = Unit {0}

@@ -1,0 +1,59 @@
+//! Laws of the definitions.
+ghost use Rattle.cm_stream.specs.Laws.{FaultlessAreGood, GoodHaveNoFault};
+ghost use Rattle.cm_stream.specs.OnePass.{EachTextIsRead};
+ghost use Rattle.cm_stream.specs.Readings.{OneReading};
+ghost use Rattle.cm_stream.specs.Refusals.{OwnAreChecks, RefusalsAreTold};
+ghost use Rattle.cm_stream.specs.Told.{AnswersAreRight, FoundIsNotGood, GoodIsNoFault, NoFaultIsGood, NoneBeginsSo, TableSteps};
+
+/// Each text is accepted with one document, refused, in another language, or too long, and never two of these.
+pub fn each_text_has_one_reading()
+    ensures some { EachTextIsRead }
+    ensures one { OneReading }
+{}
+
+/// A good list of envelopes has no fault at any of its lines and none at its end.
+pub fn good_streams_have_no_fault()
+    ensures { GoodHaveNoFault }
+{}
+
+/// A list of envelopes without a fault at its lines or at its end is good.
+pub fn streams_without_fault_are_good()
+    ensures { FaultlessAreGood }
+{}
+
+/// Where no fault is told of a stream, it is good.
+pub fn no_fault_is_good()
+    ensures { NoFaultIsGood }
+{}
+
+/// Of a good stream no fault is told.
+pub fn good_is_no_fault()
+    ensures { GoodIsNoFault }
+{}
+
+/// Where a fault is told at a line, no good stream begins with the lines up to it.
+pub fn none_begins_so()
+    ensures { NoneBeginsSo }
+{}
+
+/// A stream of which a fault is told isn't good, also where the fault stands past the last line.
+pub fn found_is_not_good()
+    ensures { FoundIsNotGood }
+{}
+
+/// An audit that answers what is told of the stream's bytes is right in both directions.
+pub fn answers_are_right()
+    ensures { AnswersAreRight }
+{}
+
+/// The table of attempts is a function of the lines so far, and a line changes it as the call for it changes a table.
+pub fn table_steps()
+    ensures { TableSteps }
+{}
+
+/// Behind lines without a fault, a call of the record of attempts refuses exactly where the line fails one of the checks
+/// that the call makes, and by that fault.
+pub fn refusals_are_told()
+    ensures refused { RefusalsAreTold }
+    ensures own { OwnAreChecks }
+{}

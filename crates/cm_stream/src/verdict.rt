@@ -1,0 +1,57 @@
+//! What is told of a stream.
+
+/// Why a stream is bad.
+#[derive(Clone, Copy, Debug, Drop, PartialEq, Eq)]
+pub enum Bad {
+    NotJson,
+    Shape,
+    /// A judged kind and its first bad member in the order of its members, both by their names in JSON.
+    Field(&'static str, &'static str),
+    DuplicateId,
+    DuplicateUri,
+    UnknownReference,
+    DocumentOfRefusedSource,
+    TreeDiffers,
+    PickleDiffers,
+    ParseErrorOfGoodSource,
+    CaseStepsDiffer,
+    AttemptNumber,
+    AttemptOverlap,
+    StepOrder,
+    FinishedEarly,
+    SecondRunStarted,
+    OutsideRun,
+    AfterRunFinished,
+    AttemptOpen,
+    SourceIncomplete,
+    SuccessDiffers,
+    NoRunFinished,
+}
+
+/// Why a stream is not judged.
+#[derive(Clone, Copy, Debug, Drop, PartialEq, Eq)]
+pub enum Reason {
+    Language,
+    MediaType,
+    UnknownStatus,
+    RunHook,
+    SourceTooLong,
+}
+
+/// How much a good stream has. `unrun` are the pickles that no test case names.
+#[derive(Clone, Copy, Debug, Drop, PartialEq, Eq)]
+pub struct Counts {
+    pub sources: u64,
+    pub pickles: u64,
+    pub cases: u64,
+    pub attempts: u64,
+    pub unrun: u64,
+}
+
+/// What an audit answers. Lines count from 1; a fault at the end has the line behind the last one.
+#[derive(Clone, Copy, Debug, Drop, PartialEq, Eq)]
+pub enum Verdict {
+    Good(Counts),
+    Bad { line: u64, fault: Bad },
+    Unsupported { line: u64, reason: Reason },
+}

@@ -1,0 +1,5 @@
+pub mod Calls
+pub mod Choosing
+pub mod Lines
+pub mod Runs
+pub mod Writes

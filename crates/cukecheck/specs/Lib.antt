@@ -1,0 +1,6 @@
+pub mod CommandLine
+pub mod Faults
+pub mod Outcome
+pub mod Reading
+pub mod Run
+pub mod Statuses

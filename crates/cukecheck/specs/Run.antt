@@ -1,0 +1,18 @@
+-- What a run of the program gives: its status, and the bytes that it writes.
+use Rattle.std.specs.Prelude.{◌≡◌, ◌<◌, ◌⊎◌, ℕ, List, Option}
+use Rattle.std.specs.Io.KnownBytes.{Appends}
+use Rattle.cm_envelope.specs.Device.{greatest_count}
+use Rattle.cm_envelope.specs.declared.feed.Trouble.TheVariants.{Memory}
+use Rattle.cukecheck.specs.Outcome.{Outcome, trouble, text_of, status_of}
+
+-- no call of a device failed between two of its counts of failed calls, the first of which could still rise
+abbrev pub NoneFailed : ℕ → ℕ → Type 0
+NoneFailed old new = (old < greatest_count) × (new ≡ old)
+
+-- the status is that of the outcome, and its text was written behind what was written before
+abbrev pub Tells : Outcome → ℕ → Option (List ℕ) → Option (List ℕ) → Type 0
+Tells outcome status old new = (status ≡ status_of outcome) × Appends old new (text_of outcome)
+
+-- the same, or that memory was refused
+abbrev pub TellsOrNoMemory : Outcome → ℕ → Option (List ℕ) → Option (List ℕ) → Type 0
+TellsOrNoMemory outcome status old new = Tells outcome status old new ⊎ Tells (trouble Memory) status old new

@@ -1,0 +1,31 @@
+-- The statuses of steps: what a line says, what a table keeps, and the words of both.
+use Rattle.std.specs.Prelude.{ℕ, List, Option, Some, None, codes}
+use Rattle.cm_attempt.specs.declared.status.Status.{Status}
+use Rattle.cm_attempt.specs.declared.status.Status.TheVariants.{Unknown, Passed, Skipped, Pending, Undefined, Ambiguous, Failed}
+use Rattle.cm_envelope.specs.declared.envelope.Status.{Status as LineStatus}
+use Rattle.cm_envelope.specs.declared.envelope.Status.TheVariants as line
+
+-- the status that a table keeps of a line's status
+abbrev pub kept : LineStatus → Status
+kept line.Unknown = Unknown
+kept line.Passed = Passed
+kept line.Skipped = Skipped
+kept line.Pending = Pending
+kept line.Undefined = Undefined
+kept line.Ambiguous = Ambiguous
+kept line.Failed = Failed
+
+-- the word of a status, as `testStepResult` of the Cucumber Messages schemas has it
+abbrev pub status_word : Status → List ℕ
+status_word Unknown = codes "UNKNOWN"
+status_word Passed = codes "PASSED"
+status_word Skipped = codes "SKIPPED"
+status_word Pending = codes "PENDING"
+status_word Undefined = codes "UNDEFINED"
+status_word Ambiguous = codes "AMBIGUOUS"
+status_word Failed = codes "FAILED"
+
+-- a case without a final attempt has no status
+abbrev pub reported_word : Option Status → List ℕ
+reported_word (Some status) = status_word status
+reported_word None = codes "NONE"

@@ -1,0 +1,78 @@
+//! The command line: what the words after the program's name ask for.
+ghost use Rattle.std.specs.Prelude.{◌≡◌, IfOk, map};
+ghost use Rattle.clap.specs.Words.{app_of, kind_of, subcommand_rows_of};
+ghost use Rattle.cukecheck.specs.CommandLine.{Chooses, choice_of, command_app, named};
+
+use clap::error::ErrorKind;
+use clap::{ArgMatches, Command, Error};
+use std::alloc::{AllocError, Global};
+
+/// What the words ask for.
+#[derive(Clone, Copy, Debug, PartialEq, Eq)]
+pub enum Choice {
+    /// The table of the test cases of a stream.
+    Results,
+}
+
+/// Why the words give no choice.
+#[derive(Drop)]
+pub enum Refusal {
+    /// A mistake in the words, with the text for the user.
+    Usage(String),
+    /// A call for help, with its text.
+    Help(String),
+    /// There was no memory.
+    Memory,
+}
+
+fn command<'a>(alloc: Global) -> Result<Command<'a>, AllocError>
+    ensures { IfOk result (λ c. app_of c ≡ command_app) }
+{
+    let bare = Command::new(alloc, "cukecheck").subcommand_required(true);
+    bare.subcommand(Command::new(alloc, "results"))
+}
+
+fn refusal_of(alloc: Global, error: &Error) -> Refusal
+    ensures { kind_of error.now ≡ ErrorKind.OutOfMemory → result ≡ Refusal.Memory }
+{
+    if error.kind() == ErrorKind::OutOfMemory {
+        return Refusal::Memory;
+    }
+    match error.to_string(alloc) {
+        Ok(text) => if error.exit_code() == 0 {
+            Refusal::Help(text)
+        } else {
+            Refusal::Usage(text)
+        },
+        Err(_) => Refusal::Memory,
+    }
+}
+
+fn chosen(matches: &ArgMatches<'_>) -> Option<Choice>
+    ensures { result ≡ named (subcommand_rows_of matches.now) }
+{
+    let (name, _) = matches.subcommand()?;
+    if name == "results" {
+        return Some(Choice::Results);
+    }
+    None
+}
+
+/// Reads the words, of which the first is the program's name.
+///
+/// # Errors
+/// The text for the user where the words name no command, or ask for help.
+pub fn choose<'a>(alloc: Global, words: &'a [&'a str]) -> Result<Choice, Refusal>
+    ensures { Chooses (choice_of (map (λ w. w.now) words.entry.now)) result }
+{
+    let Ok(command) = command(alloc) else {
+        return Err(Refusal::Memory);
+    };
+    match command.try_get_matches_from(words) {
+        Ok(matches) => match chosen(&matches) {
+            Some(choice) => Ok(choice),
+            None => Err(Refusal::Usage(String::new(alloc))),
+        },
+        Err(error) => Err(refusal_of(alloc, &error)),
+    }
+}

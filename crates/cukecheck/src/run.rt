@@ -1,0 +1,75 @@
+//! One command, from the words to the status.
+ghost use Rattle.std.specs.Prelude.{◌≡◌, ◌≢◌, ◌∷◌, ◌++◌, IfOk, IfSome, None, Some, codes, map};
+ghost use Rattle.cukecheck.specs.CommandLine.{choice_of};
+ghost use Rattle.cukecheck.specs.Outcome.{outcome_of};
+ghost use Rattle.cukecheck.specs.Run.{NoneFailed, TellsOrNoMemory};
+
+use crate::command_line::{Choice, Refusal, choose};
+use crate::report::report_of;
+use crate::stream::read_stream;
+use crate::write::{TROUBLE_STATUS, write_text};
+use cm_envelope::{ByteSink, ByteSource};
+use std::alloc::{AllocError, Global};
+
+const NO_MEMORY: &str = "trouble Memory\n";
+
+/// The status of a usage fault.
+const USAGE_STATUS: u8 = 2;
+
+// The words with the program's name before them.
+fn with_name<'a>(alloc: Global, words: &[&'a str]) -> Result<Vec<&'a str>, AllocError>
+    ensures { IfOk result (λ all. map (λ w. w.now) all.items ≡ codes "cukecheck" ∷ map (λ w. w.now) words.now) }
+{
+    let mut all = Vec::new(alloc);
+    all.push("cukecheck")?;
+    all.extend_from_slice(words)?;
+    Ok(all)
+}
+
+fn results<R: ByteSource, W: ByteSink>(alloc: Global, source: &mut R, sink: &mut W) -> u8
+    ensures told { NoneFailed (R.failed_calls source.old) (R.failed_calls source.new)
+        → NoneFailed (W.failed_calls sink.old) (W.failed_calls sink.new)
+        → IfSome (R.to_come source.old) (λ bytes.
+        TellsOrNoMemory (outcome_of bytes) result (W.taken sink.old) (W.taken sink.new)) }
+    ensures unwritten { W.failed_calls sink.new ≢ W.failed_calls sink.old → result ≡ 3 }
+    ensures unread { result ≡ 0 → R.failed_calls source.new ≡ R.failed_calls source.old }
+{
+    let read = read_stream(alloc, source);
+    match report_of(alloc, &read) {
+        Ok(report) => write_text(sink, report.text.as_str(), report.status),
+        Err(AllocError) => write_text(sink, NO_MEMORY, TROUBLE_STATUS),
+    }
+}
+
+/// Runs the command that the words after the program's name ask for, and gives the exit status: 0 where it is done,
+/// 1 where a line of the stream is bad, 2 for a mistake in the words, 3 for trouble. The output is built whole, then
+/// written, then flushed, and no read and no write is repeated.
+pub fn run<R: ByteSource, W: ByteSink>(
+    alloc: Global,
+    words: &[&str],
+    source: &mut R,
+    sink: &mut W,
+) -> u8
+    ensures results { choice_of (codes "cukecheck" ∷ map (λ w. w.now) words.now) ≡ Some Choice.Results
+        → NoneFailed (R.failed_calls source.old) (R.failed_calls source.new)
+        → NoneFailed (W.failed_calls sink.old) (W.failed_calls sink.new)
+        → IfSome (R.to_come source.old) (λ bytes.
+        TellsOrNoMemory (outcome_of bytes) result (W.taken sink.old) (W.taken sink.new)) }
+
+    // Words that ask for no command leave the source alone.
+    ensures refused { choice_of (codes "cukecheck" ∷ map (λ w. w.now) words.now) ≡ None → source.new ≡ source.old }
+
+    // A failed write or flush is seen in the status, and so is a failed read.
+    ensures unwritten { W.failed_calls sink.new ≢ W.failed_calls sink.old → result ≡ 3 }
+    ensures unread { result ≡ 0 → R.failed_calls source.new ≡ R.failed_calls source.old }
+{
+    let Ok(all) = with_name(alloc, words) else {
+        return write_text(sink, NO_MEMORY, TROUBLE_STATUS);
+    };
+    match choose(alloc, all.as_slice()) {
+        Ok(Choice::Results) => results(alloc, source, sink),
+        Err(Refusal::Usage(text)) => write_text(sink, text.as_str(), USAGE_STATUS),
+        Err(Refusal::Help(text)) => write_text(sink, text.as_str(), 0),
+        Err(Refusal::Memory) => write_text(sink, NO_MEMORY, TROUBLE_STATUS),
+    }
+}

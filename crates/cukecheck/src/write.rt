@@ -1,0 +1,49 @@
+//! Writing a whole text to a sink.
+ghost use Rattle.std.specs.Prelude.{◌≡◌, ◌≢◌, ◌⊎◌, OnErr, OnOk};
+ghost use Rattle.std.specs.Io.KnownBytes.{Appends};
+ghost use Rattle.cm_envelope.specs.Device.{count_up};
+ghost use Rattle.cukecheck.specs.Run.{NoneFailed};
+
+use cm_envelope::{ByteSink, DeviceFailed};
+
+/// The status where something outside the words and the stream failed.
+pub const TROUBLE_STATUS: u8 = 3;
+
+/// Writes all the bytes. No write is repeated, and one that takes nothing has failed.
+fn write_all<W: ByteSink>(sink: &mut W, bytes: &[u8]) -> Result<(), DeviceFailed>
+    ensures taken { OnOk result (Appends (W.taken sink.old) (W.taken sink.new) bytes.now) }
+    ensures ok { OnOk result (W.failed_calls sink.new ≡ W.failed_calls sink.old) }
+    ensures err { OnErr result (W.failed_calls sink.new ≡ count_up (W.failed_calls sink.old)) }
+{
+    let mut rest = bytes;
+    'writes: while !rest.is_empty() {
+        let taken = sink.write_some(rest)?;
+        if taken == 0 {
+            return Err(DeviceFailed);
+        }
+        rest = &rest[taken..];
+    }
+    Ok(())
+}
+
+/// Writes the text and flushes it, and gives the status, or `TROUBLE_STATUS` where a write or the flush failed. After a
+/// failed write it tries to write `trouble WriteFailed`, as far as the sink takes it.
+pub fn write_text<W: ByteSink>(sink: &mut W, text: &str, status: u8) -> u8
+    ensures written { NoneFailed (W.failed_calls sink.old) (W.failed_calls sink.new)
+        → (result ≡ status) × Appends (W.taken sink.old) (W.taken sink.new) text.now }
+    ensures failed { W.failed_calls sink.new ≢ W.failed_calls sink.old → result ≡ TROUBLE_STATUS }
+    ensures status { (result ≡ status) ⊎ (result ≡ TROUBLE_STATUS) }
+{
+    match write_all(sink, text.as_bytes()) {
+        Ok(()) => match sink.flush() {
+            Ok(()) => status,
+            Err(DeviceFailed) => TROUBLE_STATUS,
+        },
+        Err(DeviceFailed) => {
+            if write_all(sink, b"trouble WriteFailed\n").is_ok() {
+                let _ = sink.flush().is_ok();
+            }
+            TROUBLE_STATUS
+        }
+    }
+}

@@ -1,0 +1,140 @@
+//! The tree of a feature file, as `gherkin.berp` and the Messages' `gherkinDocument` have it.
+use gk_line::{Cell, Fence, KeywordType, Sequence, Text};
+
+/// Where a node begins: its line from 1, and the column of its keyword, `@`, `|` or fence in Unicode scalar values from 1.
+#[derive(Clone, Copy, Debug, PartialEq, Eq)]
+pub struct Location {
+    pub line: u32,
+    pub column: u32,
+}
+
+/// A tag, its name with the `@`.
+#[derive(Clone, Debug, PartialEq, Eq, Drop)]
+pub struct Tag {
+    pub node: u64,
+    pub location: Location,
+    pub name: Text,
+}
+
+/// A row of a data table or of an examples table.
+#[derive(Clone, Debug, PartialEq, Eq, Drop)]
+pub struct Row {
+    pub node: u64,
+    pub location: Location,
+    pub cells: Sequence<Cell>,
+}
+
+/// A doc string. An empty media type is none.
+#[derive(Clone, Debug, PartialEq, Eq, Drop)]
+pub struct DocString {
+    pub location: Location,
+    pub media: Option<Text>,
+    pub content: Text,
+    pub fence: Fence,
+}
+
+/// What stands below a step.
+#[derive(Clone, Debug, PartialEq, Eq, Drop)]
+pub enum Argument {
+    Table(Sequence<Row>),
+    Text(DocString),
+}
+
+/// A step, its keyword with the space that ends it.
+#[derive(Clone, Debug, PartialEq, Eq, Drop)]
+pub struct Step {
+    pub node: u64,
+    pub location: Location,
+    pub keyword: Text,
+    pub kind: KeywordType,
+    pub text: Text,
+    pub argument: Option<Argument>,
+}
+
+/// Steps that stand before those of each scenario.
+#[derive(Clone, Debug, PartialEq, Eq, Drop)]
+pub struct Background {
+    pub node: u64,
+    pub location: Location,
+    pub keyword: Text,
+    pub name: Text,
+    pub description: Text,
+    pub steps: Sequence<Step>,
+}
+
+/// The table of an examples block.
+#[derive(Clone, Debug, PartialEq, Eq, Drop)]
+pub struct ExampleTable {
+    pub header: Row,
+    pub body: Sequence<Row>,
+}
+
+/// An examples block of a scenario.
+#[derive(Clone, Debug, PartialEq, Eq, Drop)]
+pub struct Examples {
+    pub node: u64,
+    pub location: Location,
+    pub tags: Sequence<Tag>,
+    pub keyword: Text,
+    pub name: Text,
+    pub description: Text,
+    pub table: Option<ExampleTable>,
+}
+
+/// A scenario, or a scenario outline where it has examples blocks.
+#[derive(Clone, Debug, PartialEq, Eq, Drop)]
+pub struct Scenario {
+    pub node: u64,
+    pub location: Location,
+    pub tags: Sequence<Tag>,
+    pub keyword: Text,
+    pub name: Text,
+    pub description: Text,
+    pub steps: Sequence<Step>,
+    pub examples: Sequence<Examples>,
+}
+
+/// A rule with its background and scenarios.
+#[derive(Clone, Debug, PartialEq, Eq, Drop)]
+pub struct Rule {
+    pub node: u64,
+    pub location: Location,
+    pub tags: Sequence<Tag>,
+    pub keyword: Text,
+    pub name: Text,
+    pub description: Text,
+    pub background: Option<Background>,
+    pub scenarios: Sequence<Scenario>,
+}
+
+/// The feature of a document.
+#[derive(Clone, Debug, PartialEq, Eq, Drop)]
+pub struct Feature {
+    pub location: Location,
+    pub tags: Sequence<Tag>,
+    pub language: Text,
+    pub keyword: Text,
+    pub name: Text,
+    pub description: Text,
+    pub background: Option<Background>,
+    pub scenarios: Sequence<Scenario>,
+    pub rules: Sequence<Rule>,
+}
+
+/// A comment line: the whole line with its indent, at column 1.
+#[derive(Clone, Debug, PartialEq, Eq, Drop)]
+pub struct Comment {
+    pub location: Location,
+    pub text: Text,
+}
+
+/// The tree of a feature file.
+#[derive(Clone, Debug, PartialEq, Eq, Drop)]
+pub struct Document {
+    /// None where the file has only comments and blank lines.
+    pub feature: Option<Feature>,
+    /// The comments in the order of their lines.
+    pub comments: Sequence<Comment>,
+    /// How many nodes have a number: rules, backgrounds, scenarios, examples blocks, steps, rows and tags.
+    pub nodes: u64,
+}

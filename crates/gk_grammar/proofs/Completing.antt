@@ -1,0 +1,25 @@
+-- The lines that complete what is open, as they are read.
+use Rattle.std.proofs.Common.{◌≡◌, ℕ, [], ◌∷◌, refl}
+use Rattle.std.specs.Prelude.{codes}
+use Rattle.gk_line.specs.Tokens as tokens
+use Rattle.gk_line.specs.Texts as texts
+use Rattle.gk_line.specs.declared.tokens.Block.TheVariants as block
+use Rattle.gk_line.specs.declared.tokens.Fence.TheVariants as fence
+use Rattle.gk_grammar.specs.Token.{line, token_of, Title, Fenced}
+use Rattle.gk_grammar.specs.Place.{ByFeature, ByScenario, ByQuotes, ByBackticks, completing}
+
+pub by_feature : (n : ℕ) → completing ByFeature n ≡ line n (codes "Feature:") 0 (Title block.Feature (codes "Feature") []) ∷ []
+unfolding token_of tokens.is_blank_line tokens.begins_by texts.after texts.body_of texts.first_some tokens.title_of tokens.indent_of lib.Utf8.encode texts.trimmed
+by_feature n = refl
+
+pub by_scenario : (n : ℕ) → completing ByScenario n ≡ line n (codes "Scenario:") 0 (Title block.Scenario (codes "Scenario") []) ∷ []
+unfolding token_of tokens.is_blank_line tokens.begins_by texts.after texts.body_of texts.first_some tokens.title_of tokens.indent_of lib.Utf8.encode texts.trimmed
+by_scenario n = refl
+
+pub by_quotes : (n : ℕ) → completing ByQuotes n ≡ line n (codes "\"\"\"") 0 (Fenced fence.Quotes []) ∷ []
+unfolding token_of tokens.is_blank_line tokens.begins_by texts.after texts.body_of texts.first_some tokens.title_of tokens.step_of tokens.fence_of tokens.indent_of lib.Utf8.encode texts.trimmed
+by_quotes n = refl
+
+pub by_backticks : (n : ℕ) → completing ByBackticks n ≡ line n (codes "```") 0 (Fenced fence.Backticks []) ∷ []
+unfolding token_of tokens.is_blank_line tokens.begins_by texts.after texts.body_of texts.first_some tokens.title_of tokens.step_of tokens.fence_of tokens.indent_of lib.Utf8.encode texts.trimmed
+by_backticks n = refl

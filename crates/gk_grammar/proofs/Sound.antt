@@ -1,0 +1,181 @@
+-- What the machine takes is a text of the grammar.
+use Rattle.std.proofs.Common.{◌≡◌, ℕ, Bool, true, false, List, [], ◌∷◌, ◌++◌, Option, Some, None, Result, Ok, Err, refl, sym, ap, ◌∙◌, append_assoc, append-nil, inl, inr}
+use Rattle.std.proofs.lemmas.Bool.{eqb-true}
+use Rattle.std.specs.Prelude.{IfOk, IsTrue, IsFalse, cond, ◌==◌}
+use Rattle.gk_line.specs.declared.tokens.Block.{Block}
+use Rattle.gk_line.specs.declared.tokens.Block.TheVariants as block
+use Rattle.gk_grammar.specs.Token.{Text, Blank, Comment, Language, Tags, Title, Step, Row, Fenced, Other, Line, line, is_gap, is_language}
+use Rattle.gk_grammar.specs.Tree as tree
+use Rattle.gk_grammar.specs.Tree.{Tag}
+use Rattle.gk_grammar.specs.Grammar.{Then, Each, OneLine, comments_of, TagLines, Titled, stops, description_of, IsStep, IsTable, IsPlainGap, IsOpening, IsEnglish, english}
+use Rattle.gk_grammar.specs.Machine.{Chunk, Phase, Before, Spoken, Tagged, Described, Stepping, Quoting, Listing, State, Bad, next, at_phase, run, ◌>>=◌, initial, closed, described, entering, empty_body, step_at, row_at, same_text, beginning, before_feature, spoken, behind_tags, passing, follows, takes_tags}
+use Rattle.gk_grammar.proofs.Pieces.{extended, mapped, joined, then_empty, with_line, lengthened, gap_takes, one_line_takes, all_more, comments_of-append}
+use Rattle.gk_grammar.proofs.Open.{IsBody, has_steps, IsHead, IsChunk, TitledYet, IsOpen, IsDone, Holds, StateHolds, step_line, one_row, cond_ok, ChunkTags, chunk_tags, SomeTagLines, some_are, tags_take, no_tags, title_opens, tags_open, leaving_holds, stepping_holds, quoting_holds, listing_holds}
+
+-- ---- behind a title line
+
+head_is : (c : Chunk) (lines : List Line) (ls : List Line) (cs : List tree.Comment) → Then (ChunkTags c.block c.tags) (TitledYet c lines) ls cs → IsHead (described c lines) ls cs
+head_is c lines ls cs t = mapped (ChunkTags c.block c.tags) (TitledYet c lines) (Titled c.block c.place c.keyword c.name (description_of lines)) (λ xs ys q. go xs ys q) ls cs t
+  where
+    go : (xs : List Line) (ys : List tree.Comment) → TitledYet c lines xs ys → Titled c.block c.place c.keyword c.name (description_of lines) xs ys
+    go [] ys q = absurd q
+    go (x ∷ xs) ys q = (q.0, q.1, ap description_of q.2, q.3)
+
+titled_more : (c : Chunk) (lines : List Line) (l : Line) → IsFalse (stops c.block l) →
+    (xs : List Line) (ys : List tree.Comment) → TitledYet c lines xs ys → TitledYet c (lines ++ l ∷ []) (xs ++ l ∷ []) (ys ++ comments_of (l ∷ []))
+titled_more c lines l h [] ys q = absurd q
+titled_more c lines l h (x ∷ xs) ys q =
+    (q.0, all_more (λ z. IsFalse (stops c.block z)) xs l q.1 h, ap (λ (z : List Line). z ++ l ∷ []) q.2, ap (λ (z : List tree.Comment). z ++ comments_of (l ∷ [])) q.3 ∙ sym (comments_of-append xs (l ∷ [])))
+
+step_stops : (b : Block) (n i : ℕ) (t k m : Text) (y : _) → stops b (line n t i (Step k y m)) ≡ true → IsTrue (has_steps b)
+step_stops block.Background n i t k m y e = refl
+step_stops block.Scenario n i t k m y e = refl
+step_stops block.Feature n i t k m y e = absurd cc
+step_stops block.Rule n i t k m y e = absurd cc
+step_stops block.Examples n i t k m y e = absurd cc
+
+row_stops : (b : Block) (n i : ℕ) (t : Text) (cells : _) → stops b (line n t i (Row cells)) ≡ true → b ≡ block.Examples
+row_stops block.Examples n i t cells e = refl
+row_stops block.Background n i t cells e = absurd cc
+row_stops block.Scenario n i t cells e = absurd cc
+row_stops block.Feature n i t cells e = absurd cc
+row_stops block.Rule n i t cells e = absurd cc
+
+no_body : (b : Block) → IsBody b (empty_body b) [] []
+no_body block.Feature = (refl, refl)
+no_body block.Rule = (refl, refl)
+no_body block.Background = (refl, refl)
+no_body block.Scenario = (refl, refl)
+no_body block.Examples = (refl, refl)
+
+-- a block that ends with its description
+pub description_closes : (s : State) (c : Chunk) (lines ls : List Line) →
+    Then (IsDone s.chunks) (IsOpen (Described c lines)) ls s.comments → Then (IsDone s.chunks) (IsChunk (described c lines)) ls s.comments
+description_closes s c lines ls h =
+    mapped (IsDone s.chunks) (IsOpen (Described c lines)) (IsChunk (described c lines))
+    (λ xs ys q. then_empty (IsHead (described c lines)) (IsBody c.block c.body) xs ys (head_is c lines xs ys q.1) (rw q.0 (no_body c.block))) ls s.comments h
+
+entering_holds : (s : State) (c : Chunk) (lines : List Line) (l : Line) (ls : List Line) → stops c.block l ≡ true →
+    Then (IsDone s.chunks) (IsOpen (Described c lines)) ls s.comments → IfOk (entering s (described c lines) l) (StateHolds (ls ++ l ∷ []))
+entering_holds s c lines (line n t i (Step k y m)) ls e h =
+    lengthened (IsDone s.chunks) (IsOpen (Described c lines)) (IsOpen (Stepping (described c lines) [] (step_at s n i k y m))) (line n t i (Step k y m))
+    (λ xs ys q. (
+      step_stops c.block n i t k m y e,
+      joined (IsHead (described c lines)) (Then (Each IsStep []) (IsStep (step_at s n i k y m))) xs (line n t i (Step k y m) ∷ []) ys []
+          (head_is c lines xs ys q.1) (joined (Each IsStep []) (IsStep (step_at s n i k y m)) [] (line n t i (Step k y m) ∷ []) [] [] (refl, refl) (step_line (step_at s n i k y m) (line n t i (Step k y m)) (refl, refl, refl, refl) refl)),
+    )) ls s.comments h
+entering_holds s c lines (line n t i (Row cells)) ls e h =
+    lengthened (IsDone s.chunks) (IsOpen (Described c lines)) (IsOpen (Listing (described c lines) (row_at s n i cells ∷ []))) (line n t i (Row cells))
+    (λ xs ys q. (
+      row_stops c.block n i t cells e,
+      joined (IsHead (described c lines)) (IsTable (row_at s n i cells ∷ [])) xs (line n t i (Row cells) ∷ []) ys []
+          (head_is c lines xs ys q.1) (one_row (row_at s n i cells) (line n t i (Row cells)) (refl, refl)),
+    )) ls s.comments h
+entering_holds s c lines (line n t i Blank) ls e h = tt
+entering_holds s c lines (line n t i Comment) ls e h = tt
+entering_holds s c lines (line n t i (Language w)) ls e h = tt
+entering_holds s c lines (line n t i (Tags r)) ls e h = leaving_holds s (described c lines) (line n t i (Tags r)) ls (description_closes s c lines ls h)
+entering_holds s c lines (line n t i (Title b k m)) ls e h = leaving_holds s (described c lines) (line n t i (Title b k m)) ls (description_closes s c lines ls h)
+entering_holds s c lines (line n t i (Fenced f m)) ls e h = tt
+entering_holds s c lines (line n t i Other) ls e h = tt
+
+described_holds : (s : State) (c : Chunk) (lines : List Line) (l : Line) (ls : List Line) →
+    Then (IsDone s.chunks) (IsOpen (Described c lines)) ls s.comments → IfOk (at_phase s (Described c lines) l) (StateHolds (ls ++ l ∷ []))
+described_holds s c lines l ls h =
+    cond_ok (StateHolds (ls ++ l ∷ [])) (stops c.block l) _ _
+    (λ test. entering_holds s c lines l ls test h)
+    (λ test. extended (IsDone s.chunks) (IsOpen (Described c lines)) (IsOpen (Described c (lines ++ l ∷ []))) (l ∷ []) (comments_of (l ∷ []))
+    (λ xs ys q. (q.0, extended (ChunkTags c.block c.tags) (TitledYet c lines) (TitledYet c (lines ++ l ∷ [])) (l ∷ []) (comments_of (l ∷ [])) (λ us vs r. titled_more c lines l test us vs r) xs ys q.1)) ls s.comments h)
+
+-- ---- behind tag lines
+
+tags_gap : (s : State) (before : Option Block) (tags : List Tag) (l : Line) → IsTrue (is_gap l) → (ls : List Line) →
+    Then (IsDone s.chunks) (IsOpen (Tagged before tags)) ls s.comments → StateHolds (ls ++ l ∷ []) (passing s (Tagged before tags) l)
+tags_gap s before tags l g ls h = extended (IsDone s.chunks) (SomeTagLines tags) (SomeTagLines tags) (l ∷ []) (comments_of (l ∷ [])) (λ xs ys q. tags_take tags xs ys l g q) ls s.comments h
+
+some_tags : (s : State) (tags : List Tag) (ls : List Line) → Then (IsDone s.chunks) (SomeTagLines tags) ls s.comments → Then (IsDone s.chunks) (TagLines tags) ls s.comments
+some_tags s tags ls h = mapped (IsDone s.chunks) (SomeTagLines tags) (TagLines tags) (λ xs ys q. some_are tags xs ys q) ls s.comments h
+
+behind_tags_holds : (s : State) (before : Option Block) (tags : List Tag) (l : Line) (ls : List Line) →
+    Then (IsDone s.chunks) (SomeTagLines tags) ls s.comments → IfOk (behind_tags s before tags l) (StateHolds (ls ++ l ∷ []))
+behind_tags_holds s before tags (line n t i Blank) ls h = tags_gap s before tags (line n t i Blank) refl ls h
+behind_tags_holds s before tags (line n t i Comment) ls h = tags_gap s before tags (line n t i Comment) refl ls h
+behind_tags_holds s before tags (line n t i (Language w)) ls h = tags_gap s before tags (line n t i (Language w)) refl ls h
+behind_tags_holds s before tags (line n t i (Tags (Ok words))) ls h = tags_open s s.chunks before tags n i t words ls (some_tags s tags ls h)
+behind_tags_holds s before tags (line n t i (Tags (Err column))) ls h = tt
+behind_tags_holds s before tags (line n t i (Title b k m)) ls h =
+    cond_ok (StateHolds (ls ++ line n t i (Title b k m) ∷ [])) (follows before b) _ _
+    (λ _. cond_ok (StateHolds (ls ++ line n t i (Title b k m) ∷ [])) (takes_tags b) _ _ (λ takes. title_opens s s.chunks b tags n i t k m ls (mapped (IsDone s.chunks) (TagLines tags) (ChunkTags b tags) (λ xs ys q. chunk_tags b tags takes xs ys q) ls s.comments (some_tags s tags ls h))) (λ _. tt)) (λ _. tt)
+behind_tags_holds s before tags (line n t i _) ls h = tt
+
+-- ---- before the feature
+
+same_text_is : (a b : Text) → same_text a b ≡ true → a ≡ b
+same_text_is [] [] e = refl
+same_text_is [] (y ∷ ys) e = absurd cc
+same_text_is (x ∷ xs) [] e = absurd cc
+same_text_is (x ∷ xs) (y ∷ ys) e = go (x == y) refl e (same_text_is xs ys)
+  where
+    go : (t : Bool) → (x == y) ≡ t → cond t (same_text xs ys) false ≡ true → (same_text xs ys ≡ true → xs ≡ ys) → (x ∷ xs) ≡ (y ∷ ys)
+    go true p q h = let first : x ≡ y = eqb-true x y p in let others : xs ≡ ys = h q in cc
+    go false p q h = absurd cc
+
+plain_takes : (l : Line) → IsTrue (is_gap l) → IsFalse (is_language l) → (xs : List Line) (ys : List tree.Comment) → IsPlainGap xs ys → IsPlainGap (xs ++ l ∷ []) (ys ++ comments_of (l ∷ []))
+plain_takes l g h xs ys q = (all_more (λ z. IsFalse (is_language z)) xs l q.0 h, gap_takes xs ys l g q.1)
+
+-- nothing but the lines before the feature
+opening_done : (chunks : List Chunk) → chunks ≡ [] → (ls : List Line) (cs : List tree.Comment) → IsOpening ls cs → Then (IsDone chunks) (TagLines []) ls cs
+opening_done chunks e ls cs h = then_empty (IsDone chunks) (TagLines []) ls cs (then_empty IsOpening (Each IsChunk chunks) ls cs h (rw e (refl, refl))) no_tags
+
+beginning_holds : (s : State) (p : Phase) (l : Line) (ls : List Line) → s.chunks ≡ [] → IsOpening ls s.comments →
+    (IsTrue (is_gap l) → IsFalse (is_language l) → StateHolds (ls ++ l ∷ []) (passing s p l)) → IfOk (beginning s p l) (StateHolds (ls ++ l ∷ []))
+beginning_holds s p (line n t i Blank) ls e h g = g refl refl
+beginning_holds s p (line n t i Comment) ls e h g = g refl refl
+beginning_holds s p (line n t i (Tags (Ok words))) ls e h g = tags_open s s.chunks None [] n i t words ls (opening_done s.chunks e ls s.comments h)
+beginning_holds s p (line n t i (Tags (Err column))) ls e h g = tt
+beginning_holds s p (line n t i (Title block.Feature k m)) ls e h g = title_opens s s.chunks block.Feature [] n i t k m ls (opening_done s.chunks e ls s.comments h)
+beginning_holds s p (line n t i (Title _ k m)) ls e h g = tt
+beginning_holds s p (line n t i _) ls e h g = tt
+
+before_holds : (s : State) (l : Line) (ls : List Line) → s.chunks ≡ [] → IsPlainGap ls s.comments → IfOk (before_feature s l) (StateHolds (ls ++ l ∷ []))
+before_holds s (line n t i (Language w)) ls e h =
+    cond_ok (StateHolds (ls ++ line n t i (Language w) ∷ [])) (same_text w english) _ _
+    (λ test. (e, with_line IsPlainGap (OneLine IsEnglish) (line n t i (Language w)) (same_text_is w english test, (tt, refl)) ls s.comments h))
+    (λ _. tt)
+before_holds s (line n t i k) ls e h = beginning_holds s Before (line n t i k) ls e (inl h) (λ g f. (e, plain_takes (line n t i k) g f ls s.comments h))
+
+spoken_gap : (s : State) (l : Line) → IsTrue (is_gap l) → (ls : List Line) → s.chunks ≡ [] → Then IsPlainGap (OneLine IsEnglish) ls s.comments → StateHolds (ls ++ l ∷ []) (passing s Spoken l)
+spoken_gap s l g ls e h = (e, extended IsPlainGap (OneLine IsEnglish) (OneLine IsEnglish) (l ∷ []) (comments_of (l ∷ [])) (λ xs ys q. one_line_takes IsEnglish xs ys l g q) ls s.comments h)
+
+spoken_holds : (s : State) (l : Line) (ls : List Line) → s.chunks ≡ [] → Then IsPlainGap (OneLine IsEnglish) ls s.comments → IfOk (spoken s l) (StateHolds (ls ++ l ∷ []))
+spoken_holds s (line n t i (Language w)) ls e h = spoken_gap s (line n t i (Language w)) refl ls e h
+spoken_holds s (line n t i k) ls e h = beginning_holds s Spoken (line n t i k) ls e (inr h) (λ g f. spoken_gap s (line n t i k) g ls e h)
+
+-- ---- any line
+
+at_phase_holds : (s : State) (p : Phase) (l : Line) (ls : List Line) → Holds p s.chunks ls s.comments → IfOk (at_phase s p l) (StateHolds (ls ++ l ∷ []))
+at_phase_holds s Before l ls h = before_holds s l ls h.0 h.1
+at_phase_holds s Spoken l ls h = spoken_holds s l ls h.0 h.1
+at_phase_holds s (Tagged before tags) l ls h = behind_tags_holds s before tags l ls h
+at_phase_holds s (Described c lines) l ls h = described_holds s c lines l ls h
+at_phase_holds s (Stepping c before last) l ls h = stepping_holds s c before last l ls h
+at_phase_holds s (Quoting c before last q inside) l ls h = quoting_holds s c before last q inside l ls h
+at_phase_holds s (Listing c rows) l ls h = listing_holds s c rows l ls h
+
+pub run_holds : (ls : List Line) (s : State) (read : List Line) → StateHolds read s → IfOk (run s ls) (StateHolds (read ++ ls))
+run_holds [] s read h = rw append-nil h
+run_holds (l ∷ ls) s read h = go (λ x q. run_holds ls x (read ++ l ∷ []) q) (next s l) (at_phase_holds s s.phase l read h)
+  where
+    go : ((x : State) → StateHolds (read ++ l ∷ []) x → IfOk (run x ls) (StateHolds ((read ++ l ∷ []) ++ ls))) →
+        (r : Result State Bad) → IfOk r (StateHolds (read ++ l ∷ [])) → IfOk (r >>= λ x. run x ls) (StateHolds (read ++ l ∷ ls))
+    go f (Ok x) q = rw append_assoc at (f x q)
+    go f (Err e) q = tt
+
+-- at the start
+pub starts : StateHolds [] initial
+starts = (refl, (tt, (tt, refl)))
+
+-- ---- the end
+
+pub ended : State → List Chunk → Type 0
+ended s last = closed s.phase ≡ Some last

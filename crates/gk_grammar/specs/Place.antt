@@ -1,0 +1,91 @@
+-- Where a list of lines stops being the front of a text, and which fault stands there.
+use Rattle.std.specs.Prelude.{◌≡◌, ◌≢◌, ℕ, ◌+◌, ◌≤◌, ◌<◌, Bool, true, List, [], ◌∷◌, ◌++◌, length, take, codes, Err, IsTrue, ◌⊎◌}
+use Rattle.std.specs.List.{AllByRecursion}
+use Rattle.gk_line.specs.declared.tokens.Cell.{Cell}
+use Rattle.gk_grammar.specs.declared.fault.FaultKind.{FaultKind}
+use Rattle.gk_grammar.specs.declared.fault.FaultKind.TheVariants as kind
+use Rattle.gk_grammar.specs.Token.{Language, Tags, Row, Line, line, line_of, is_gap}
+use Rattle.gk_grammar.specs.Tree.{Document}
+use Rattle.gk_grammar.specs.Grammar.{Doc}
+
+-- the lines are a text of the grammar
+abbrev pub IsText : List Line → Type 0
+IsText ls = (d : Document) × Doc ls d
+
+-- what may follow the first lines to show that they are the front of a text
+pub data Completion : Type 0 where
+  ByNothing : Completion
+  ByFeature : Completion
+  ByScenario : Completion
+  ByQuotes : Completion
+  ByBackticks : Completion
+
+-- the line `Feature:`, `Scenario:`, three quotes or three backticks, at this number
+abbrev pub completing : Completion → ℕ → List Line
+completing ByNothing n = []
+completing ByFeature n = line_of (n, codes "Feature:") ∷ []
+completing ByScenario n = line_of (n, codes "Scenario:") ∷ []
+completing ByQuotes n = line_of (n, codes "\"\"\"") ∷ []
+completing ByBackticks n = line_of (n, codes "```") ∷ []
+
+-- the lines are the front of a text, as one of the five completions shows
+abbrev pub IsFront : List Line → Type 0
+IsFront ls = (c : Completion) × IsText (ls ++ completing c (length ls + 1))
+
+-- The first n lines are the first that are no front. There is a line number n.
+pub record IsFirstBad (ls : List Line) (n : ℕ) : Type 0 where
+  pub from_one : 1 ≤ n
+  pub within : n ≤ length ls
+  pub bad : IsFront (take n ls) → ⊥
+  pub least : (m : ℕ) → 1 ≤ m → m < n → IsFront (take m ls)
+
+-- every first lines are a front, but the whole is no text
+pub record IsOpenAtEnd (ls : List Line) (n : ℕ) : Type 0 where
+  pub behind : n ≡ length ls + 1
+  pub fronts : (m : ℕ) → 1 ≤ m → m ≤ length ls → IsFront (take m ls)
+  pub open_yet : IsText ls → ⊥
+
+-- a row or what may stand between rows
+abbrev pub is_row_or_gap : Line → Bool
+is_row_or_gap (line n t i (Row cells)) = true
+is_row_or_gap l = is_gap l
+
+abbrev pub HasOtherCount : List Cell → Line → Type 0
+HasOtherCount cells (line n t i (Row others)) = length others ≢ length cells
+HasOtherCount cells _ = ⊥
+
+-- a row with another count stands before, with nothing but rows, comments and blank lines between
+pub record DiffersFromTable (before : List Line) (cells : List Cell) : Type 0 where
+  pub earlier : List Line
+  pub row : Line
+  pub between : List Line
+  pub cut : before ≡ earlier ++ row ∷ between
+  pub other : HasOtherCount cells row
+  pub one_table : AllByRecursion (λ l. IsTrue (is_row_or_gap l)) between
+
+-- the kind and the column of the fault at a line, by the line and those before it
+abbrev pub IsFaultAt : List Line → Line → FaultKind → ℕ → Type 0
+IsFaultAt before (line n t i (Tags (Err c))) k column = (k ≡ kind.TagSpace) × (column ≡ c)
+IsFaultAt before (line n t i (Language w)) k column = (k ≡ kind.UnsupportedLanguage) × (column ≡ i + 1)
+IsFaultAt before (line n t i (Row cells)) k column =
+    ((DiffersFromTable before cells × (k ≡ kind.CellCount)) ⊎ ((DiffersFromTable before cells → ⊥) × (k ≡ kind.Unexpected))) × (column ≡ i + 1)
+IsFaultAt before (line n t i _) k column = (k ≡ kind.Unexpected) × (column ≡ i + 1)
+
+-- a fault at one of the lines: the line is cut out of the list
+pub record IsFaultWithin (ls : List Line) (k : FaultKind) (n column : ℕ) : Type 0 where
+  pub place : IsFirstBad ls n
+  pub before : List Line
+  pub at : Line
+  pub behind : List Line
+  pub cut : ls ≡ before ++ at ∷ behind
+  pub here : length before + 1 ≡ n
+  pub what : IsFaultAt before at k column
+
+pub record IsFaultAtEnd (ls : List Line) (k : FaultKind) (n column : ℕ) : Type 0 where
+  pub place : IsOpenAtEnd ls n
+  pub what : k ≡ kind.UnexpectedEnd
+  pub first_column : column ≡ 1
+
+-- the fault of lines that are no text
+abbrev pub IsFault : List Line → FaultKind → (n column : ℕ) → Type 0
+IsFault ls k n column = IsFaultWithin ls k n column ⊎ IsFaultAtEnd ls k n column

@@ -1,0 +1,13 @@
+pub mod ColumnLemmas
+pub mod CommentLemmas
+pub mod CutLemmas
+pub mod FenceLemmas
+pub mod KeywordLemmas
+pub mod KindLemmas
+pub mod LineLemmas
+pub mod PlaceLemmas
+pub mod RowLemmas
+pub mod TagLemmas
+pub mod TextLemmas
+pub mod TitleLemmas
+pub mod UnitLemmas

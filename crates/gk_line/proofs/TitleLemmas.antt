@@ -1,0 +1,118 @@
+-- A title and a step, read by a cut at the character that ends the keyword.
+use Rattle.std.proofs.Common.{◌≡◌, ℕ, ◌+◌, Bool, true, false, cond, List, [], ◌∷◌, ◌++◌, Option, Some, None, sym, refl, ap, ◌∙◌, codes}
+use Rattle.std.specs.Prelude.{◌==◌, if◌then◌else◌, find}
+use Rattle.std.specs.Char.{is_ascii}
+use Rattle.std.specs.List.{list_all, list_any}
+use Rattle.std.specs.Option.{option_map}
+use Rattle.std.specs.Str.{chars, bytes_eq, NonePass, IsUtf8}
+use Rattle.gk_line.specs.Texts.{body_of, trimmed, IsCutAt}
+use Rattle.gk_line.specs.Tokens.{TitleText, StepText, title_of, step_of, keywords, step_words, indent_of}
+use Rattle.gk_line.specs.declared.tokens.Block.{Block}
+use Rattle.gk_line.specs.declared.tokens.Block.TheVariants.{Feature, Rule, Background, Scenario, Examples}
+use Rattle.gk_line.specs.declared.tokens.KeywordType.{KeywordType}
+use Rattle.std.proofs.Common.{subst}
+use Rattle.std.proofs.lemmas.Slice.Eq.{bytes_eq-Decides}
+use Rattle.std.proofs.Common.{length, ◌<◌, get_or, length-append, append_assoc, take, arith}
+use Rattle.std.proofs.Math.Seq.{take-append_seam}
+use native.Mathlib.Nat.{sub-zero}
+use Rattle.std.specs.Prelude.{slice_range}
+use Rattle.std.specs.Str.{IsCharBoundary}
+use Rattle.std.proofs.lemmas.Grind.{common_steps}
+use Rattle.std.proofs.lemmas.Str.{chars-IsAscii, IsAscii-append, IsCharBoundary-after_ascii}
+use Rattle.gk_line.proofs.TextLemmas.{find-chars, list_any-chars, and_true, ascii_bytes}
+use Rattle.gk_line.proofs.KeywordLemmas.{lacks, keyed_none, keyed_cut, find_same}
+use Rattle.gk_line.specs.Characters.{colon, plain_space}
+
+keywords_plain : (block : Block) → list_all (λ k. lacks colon k) (keywords block) ≡ true
+keywords_plain Feature = refl
+keywords_plain Rule = refl
+keywords_plain Background = refl
+keywords_plain Scenario = refl
+keywords_plain Examples = refl
+
+keywords_ascii : (block : Block) → list_all (λ k. list_all is_ascii k) (keywords block) ≡ true
+keywords_ascii Feature = refl
+keywords_ascii Rule = refl
+keywords_ascii Background = refl
+keywords_ascii Scenario = refl
+keywords_ascii Examples = refl
+
+abbrev pub title_at : List ℕ → List ℕ → List ℕ → TitleText
+title_at line keyword rest = record { keyword = keyword; name = trimmed rest; column = indent_of line + 1 }
+
+pub title-none : (block : Block) (line : List ℕ) → NonePass (λ d. d == colon) (body_of line) → title_of block line ≡ None
+unfolding title_of
+title-none block line h = keyed_none colon (λ k. k) (title_at line) (body_of line) (keywords block) h
+
+pub title-cut : (block : Block) (line w rest : List ℕ) → IsUtf8 w → IsCutAt colon (body_of line) (chars w) rest → title_of block line ≡ (if list_any (bytes_eq w) (keywords block) then Some (title_at line (chars w) rest) else None)
+unfolding title_of
+title-cut block line w rest u cut =
+    rw (cut.parts, list_any-chars (keywords block) w u (keywords_ascii block))
+    (keyed_cut colon (λ k. k) (title_at line) (chars w) rest (keywords block) (keywords_plain block) cut.first ∙ find_same (λ k. title_at line k rest) (chars w) (keywords block))
+
+abbrev pub step_at : List ℕ → (List ℕ × KeywordType) → List ℕ → StepText
+step_at line entry rest = record { keyword = entry.0 ++ codes " "; kind = entry.1; text = trimmed rest; column = indent_of line + 1 }
+
+pub step-none : (line : List ℕ) → NonePass (λ d. d == plain_space) (body_of line) → step_of line ≡ None
+unfolding step_of
+step-none line h = keyed_none plain_space (λ entry. entry.0) (step_at line) (body_of line) step_words h
+
+pub step-cut : (line w rest : List ℕ) → IsUtf8 w → IsCutAt plain_space (body_of line) (chars w) rest → step_of line ≡ option_map (λ entry. step_at line entry rest) (find (λ entry. bytes_eq w entry.0) step_words)
+unfolding step_of
+step-cut line w rest u cut =
+    rw (cut.parts, find-chars (λ entry. entry.0) step_words w u refl)
+    (keyed_cut plain_space (λ entry. entry.0) (step_at line) (chars w) rest step_words refl cut.first)
+
+pair_same : {A B : Type 0} {a c : A} {b d : B} → c ≡ a → b ≡ d → ◌≡◌ {A = A × B} (a, b) (c, d)
+pair_same e f = cc
+
+found_entry : {T : Type 0} (w : List ℕ) (kind : T) (xs : List (List ℕ × T)) → option_map (λ (e : List ℕ × T). e.1) (find (λ e. bytes_eq w e.0) xs) ≡ Some kind → find (λ e. bytes_eq w e.0) xs ≡ Some (w, kind)
+found_entry w kind [] h = cc
+found_entry {T} w kind (x ∷ xs) h = by_test (bytes_eq w x.0) (bytes_eq-Decides w x.0).0 _ (found_entry w kind xs) h where
+  by_test : (b : Bool) → (b ≡ true → w ≡ x.0) → (more : Option (List ℕ × T)) → (option_map (λ (e : List ℕ × T). e.1) more ≡ Some kind → more ≡ Some (w, kind)) → option_map (λ (e : List ℕ × T). e.1) (cond b (Some x) more) ≡ Some kind → cond b (Some x) more ≡ Some (w, kind)
+  by_test true same more next e = let is : x.1 ≡ kind = cc in ap (λ p. Some p) (pair_same (same refl) is)
+  by_test false same more next e = next e
+
+missed_entry : {T : Type 0} (w : List ℕ) (xs : List (List ℕ × T)) → option_map (λ (e : List ℕ × T). e.1) (find (λ e. bytes_eq w e.0) xs) ≡ None → find (λ e. bytes_eq w e.0) xs ≡ None
+missed_entry w xs h = by_option (find (λ e. bytes_eq w e.0) xs) h where
+  by_option : {T : Type 0} (o : Option (List ℕ × T)) → option_map (λ (e : List ℕ × T). e.1) o ≡ None → o ≡ None
+  by_option None e = refl
+  by_option (Some x) e = absurd (cc)
+
+pub step-found : (line w rest : List ℕ) (kind : KeywordType) → IsUtf8 w → IsCutAt plain_space (body_of line) (chars w) rest → Some kind ≡ option_map (λ (e : List ℕ × KeywordType). e.1) (find (λ e. bytes_eq w e.0) step_words) → step_of line ≡ Some (step_at line (w, kind) rest)
+step-found line w rest kind u cut h =
+    step-cut line w rest u cut ∙ ap (option_map (λ entry. step_at line entry rest)) (found_entry w kind step_words (sym h))
+
+pub step-missed : (line w rest : List ℕ) → IsUtf8 w → IsCutAt plain_space (body_of line) (chars w) rest → None ≡ option_map (λ (e : List ℕ × KeywordType). e.1) (find (λ e. bytes_eq w e.0) step_words) → step_of line ≡ None
+step-missed line w rest u cut h =
+    step-cut line w rest u cut ∙ ap (option_map (λ entry. step_at line entry rest)) (missed_entry w step_words (sym h))
+
+-- the word that was found is written in ASCII
+found_ascii : {T : Type 0} (w : List ℕ) (kind : T) (xs : List (List ℕ × T)) → list_all (λ (e : List ℕ × T). list_all is_ascii e.0) xs ≡ true → find (λ e. bytes_eq w e.0) xs ≡ Some (w, kind) → list_all is_ascii w ≡ true
+found_ascii w kind [] a h = absurd (cc)
+found_ascii {T} w kind (x ∷ xs) a h =
+    by_test (bytes_eq w x.0) (bytes_eq-Decides w x.0).0 _ (and_true _ _ a).0 (found_ascii w kind xs (and_true _ _ a).1) h where
+      by_test : (b : Bool) → (b ≡ true → w ≡ x.0) → (more : Option (List ℕ × T)) → list_all is_ascii x.0 ≡ true → (more ≡ Some (w, kind) → list_all is_ascii w ≡ true) → cond b (Some x) more ≡ Some (w, kind) → list_all is_ascii w ≡ true
+      by_test true same more ascii next e = subst (λ k. list_all is_ascii k ≡ true) (sym (same refl)) ascii
+      by_test false same more ascii next e = next e
+
+-- the first n elements, where n counts those before b and b itself
+pub take_with : (w : List ℕ) (b : ℕ) (text : List ℕ) → take (length w + 1) (w ++ b ∷ text) ≡ w ++ b ∷ []
+take_with w b text =
+    let long : length w + 1 ≡ length (w ++ b ∷ []) = sym (length-append w (b ∷ [])) in
+    let whole : w ++ b ∷ text ≡ (w ++ b ∷ []) ++ text = sym (append_assoc w (b ∷ []) text) in
+    rw long (rw whole (take-append_seam (w ++ b ∷ []) text))
+
+-- the front of a line up to the space after its keyword
+pub step_keyword : (body w text front : List ℕ) (kind : KeywordType) → Some kind ≡ option_map (λ (e : List ℕ × KeywordType). e.1) (find (λ e. bytes_eq w e.0) step_words) → body ≡ w ++ plain_space ∷ text → front ≡ slice_range body 0 (length w + 1) → chars front ≡ w ++ plain_space ∷ []
+step_keyword body w text front kind h parts is =
+    let ascii = ascii_bytes w (found_ascii w kind step_words refl (found_entry w kind step_words (sym h))) in
+    let cut : front ≡ w ++ plain_space ∷ [] = is ∙ rw parts (rw sub-zero (take_with w plain_space text)) in
+    rw cut (chars-IsAscii (w ++ plain_space ∷ []) (IsAscii-append w (plain_space ∷ []) ascii (ascii_bytes (plain_space ∷ []) refl)))
+
+-- a text may be cut after the first space
+pub cut_after_space : (body w text : List ℕ) → IsUtf8 body → body ≡ w ++ plain_space ∷ text → IsCharBoundary body (length w + 1)
+cut_after_space body w text u parts =
+    let inside : length w < length body = omega (arith, ap length parts, length-append w (plain_space ∷ text)) in
+    let space : get_or body (length w) 0 ≡ plain_space = rw parts (grind (arith, common_steps)) in
+    IsCharBoundary-after_ascii body (length w) u inside (omega (arith, space))

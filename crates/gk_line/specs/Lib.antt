@@ -1,0 +1,13 @@
+pub mod Cells
+pub mod Characters
+pub mod Columns
+pub mod DocStrings
+pub mod Kinds
+pub mod LineEnds
+pub mod Lines
+pub mod LinesLeft
+pub mod Places
+pub mod Tags
+pub mod Texts
+pub mod Tokens
+pub mod Views

@@ -1,0 +1,103 @@
+//! The lines inside a doc string.
+ghost use Rattle.std.specs.Prelude.{◌≡◌, ◌≤◌, ◌∷◌, [], drop, length, IfOk, IsTrue};
+ghost use Rattle.std.specs.Char.{is_ascii};
+ghost use Rattle.std.specs.List.{list_all};
+ghost use Rattle.std.specs.Str.{chars};
+ghost use Rattle.std.specs.String.{string_bytes};
+ghost use Rattle.gk_line.specs.DocStrings.{doc_line_of, outdented, fences_unescaped, fence_characters, fence_mark, escaped_mark};
+ghost use Rattle.gk_line.specs.Characters.{backslash};
+ghost use Rattle.gk_line.specs.Views.{line_chars};
+
+use crate::texts::{after_first, cut, leading_space, strip, trim_start};
+use crate::tokens::{Fence, Line};
+use std::alloc::{AllocError, Global};
+
+/// What a line inside a doc string says, where the opening line has this fence and this indent (in characters).
+///
+/// The line loses as many leading characters as the indent has, or its own indent where that is less. Then each
+/// fence that is written with a backslash before each of its characters stands for the fence. Takes time linear in
+/// the line.
+///
+/// # Errors
+/// Only where there is no memory for the text.
+///
+/// Source: Gherkin reference, "Doc Strings".
+#[tactic(auto, unfolding(crate::specs::DocStrings::doc_line_of))]
+pub fn doc_line(
+    alloc: Global,
+    line: Line<'_>,
+    fence: Fence,
+    indent: u32,
+) -> Result<String, AllocError>
+    requires { length line.text.now ≤ 16_777_216 }
+    ensures { IfOk result (λ text. chars (string_bytes text) ≡ doc_line_of fence indent (line_chars line.entry)) }
+{
+    unescape_fences(alloc, outdent(line.text, indent), fence)
+}
+
+/// The text with a fence in place of each escaped one.
+fn unescape_fences(alloc: Global, text: &str, fence: Fence) -> Result<String, AllocError>
+    ensures { IfOk result (λ value. chars (string_bytes value) ≡ fences_unescaped (fence_mark fence) 0 (chars text.now)) }
+{
+    let mut value = String::new(alloc);
+    let mut rest = text;
+    while let Some((front, next)) = cut(rest, b'\\') {
+        value.push_str(front)?;
+        if let Some(after) = strip(next, after_backslash(fence)) {
+            value.push_str(plain_fence(fence))?;
+            rest = after;
+        } else {
+            value.push('\\')?;
+            rest = next;
+        }
+    }
+    value.push_str(rest)?;
+    Ok(value)
+}
+
+/// What follows the first backslash of a fence with a backslash before each character.
+fn after_backslash(fence: Fence) -> &'static str
+    ensures value { backslash ∷ result.now ≡ escaped_mark (fence_mark fence) }
+    ensures ascii { IsTrue (list_all is_ascii result.now) }
+{
+    match fence {
+        Fence::Quotes => "\"\\\"\\\"",
+        Fence::Backticks => "`\\`\\`",
+    }
+}
+
+fn plain_fence(fence: Fence) -> &'static str
+    ensures { result.now ≡ fence_characters fence }
+{
+    match fence {
+        Fence::Quotes => "\"\"\"",
+        Fence::Backticks => "```",
+    }
+}
+
+/// The text without as many leading characters, or without its indent where that is shorter.
+#[tactic(auto, unfolding(crate::specs::DocStrings::outdented, crate::specs::Tokens::indent_of))]
+fn outdent(text: &str, indent: u32) -> &str
+    requires { length text.now ≤ 16_777_216 }
+    ensures { chars result.now ≡ outdented indent (chars text.now) }
+{
+    if leading_space(text) < indent {
+        trim_start(text)
+    } else {
+        skip(text, indent)
+    }
+}
+
+/// What follows the first characters, where `count` says how many.
+fn skip(text: &str, count: u32) -> &str
+    ensures { chars result.now ≡ drop count (chars text.now) }
+{
+    let mut rest = text;
+    for i in 0..count {
+        match after_first(rest) {
+            Some(next) => rest = next,
+            None => return rest,
+        }
+    }
+    rest
+}

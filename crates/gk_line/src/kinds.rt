@@ -1,0 +1,74 @@
+//! The indent of a line, and the kinds that its first characters tell.
+ghost use Rattle.std.specs.Prelude.{◌≡◌, ◌≤◌, ◌+◌, length, codes, IsTrue};
+ghost use Rattle.std.specs.Char.{is_ascii};
+ghost use Rattle.std.specs.List.{list_all};
+ghost use Rattle.gk_line.specs.Tokens.{indent_of, is_blank_line, begins_by};
+ghost use Rattle.gk_line.specs.Views.{line_chars};
+
+use crate::texts::{strip, trim_start};
+use crate::tokens::Line;
+
+/// How many white space characters the line begins with.
+///
+/// White space is what Unicode's White_Space property says, as for `char::is_whitespace`.
+#[tactic(auto, unfolding(crate::specs::Tokens::indent_of))]
+pub fn indent(line: Line<'_>) -> u32
+    requires { length line.text.now ≤ 16_777_216 }
+    ensures value { result ≡ indent_of (line_chars line.entry) }
+    ensures bound { result ≤ 16_777_216 }
+{
+    line.text.chars().take_while(|c| c.is_whitespace()).count() as u32
+}
+
+/// The column of the first character after the indent.
+pub(crate) fn column(line: Line<'_>) -> u32
+    requires { length line.text.now ≤ 16_777_216 }
+    ensures value { result ≡ indent_of (line_chars line.entry) + 1 }
+    ensures bound { result ≤ 16_777_217 }
+{
+    indent(line) + 1
+}
+
+/// Whether the line is white space alone.
+#[tactic(auto, unfolding(crate::specs::Tokens::is_blank_line))]
+pub fn is_blank(line: Line<'_>) -> bool
+    ensures { result ≡ is_blank_line (line_chars line.entry) }
+{
+    line.text.chars().all(|c| c.is_whitespace())
+}
+
+/// Whether the line is a comment: after its indent it begins with `#`. Its text is the whole line, from column 1.
+///
+/// Source: Gherkin reference, "Comments".
+pub fn is_comment(line: Line<'_>) -> bool
+    ensures { result ≡ begins_by (codes "#") (line_chars line.entry) }
+{
+    begins(line, "#")
+}
+
+/// Whether the line is a tag line: after its indent it begins with `@`.
+///
+/// Source: Gherkin reference, "Tags"; `gherkin.berp`, `TagLine`.
+pub fn is_tags(line: Line<'_>) -> bool
+    ensures { result ≡ begins_by (codes "@") (line_chars line.entry) }
+{
+    begins(line, "@")
+}
+
+/// Whether the line is a row of a table: after its indent it begins with `|`.
+///
+/// Source: Gherkin reference, "Data Tables"; `gherkin.berp`, `TableRow`.
+pub fn is_row(line: Line<'_>) -> bool
+    ensures { result ≡ begins_by (codes "|") (line_chars line.entry) }
+{
+    begins(line, "|")
+}
+
+/// Whether this ASCII text comes first after the indent.
+#[tactic(auto, unfolding(crate::specs::Tokens::begins_by))]
+fn begins(line: Line<'_>, first: &str) -> bool
+    requires { IsTrue (list_all is_ascii first.now) }
+    ensures { result ≡ begins_by first.now (line_chars line.entry) }
+{
+    strip(trim_start(line.text), first).is_some()
+}

@@ -1,0 +1,120 @@
+//! The cells of a table row.
+ghost use Rattle.std.specs.Prelude.{◌≡◌, ◌≤◌, ◌<◌, ◌+◌, ◌∷◌, ◌++◌, ◌^◌, map, length, IfOk, IfSome, OnOk, MatchOption, [], if◌then◌else◌, codes, IsTrue};
+ghost use Rattle.std.specs.List.{slice_split, prefix_len};
+ghost use Rattle.std.specs.Char.{is_whitespace};
+ghost use Rattle.std.specs.Str.{chars, IsUtf8};
+ghost use Rattle.std.specs.String.{string_bytes};
+ghost use Rattle.gk_line.specs.Characters.{backslash};
+ghost use Rattle.gk_line.specs.Cells.{units, escaped, cells_of, cells_from, cell_at, is_bar, IsCutAtBar, NoBar};
+ghost use Rattle.gk_line.specs.Tokens.{begins_by};
+ghost use Rattle.gk_line.specs.Views.{line_chars, cell_text};
+
+use crate::kinds::column;
+use crate::text::Text;
+use crate::texts::{after_first, count, leading_space, strip, trim, trim_start};
+use crate::tokens::{Cell, Line};
+use memchr::memchr2;
+use std::alloc::{AllocError, Global};
+
+/// The cells of a row, in order: what stands between two bars, without white space at both ends.
+///
+/// `\|` is a bar, `\\` a backslash and `\n` a line feed; any other backslash is itself. An escaped bar closes no cell,
+/// what follows the last bar is no cell, and a line feed written as `\n` is no white space. Takes time linear in the
+/// line.
+///
+/// # Errors
+/// Only where there is no memory for the cells.
+///
+/// Source: Gherkin reference, "Data Tables" and "Table Cell Escaping".
+pub fn cells(alloc: Global, line: Line<'_>) -> Result<Vec<Cell>, AllocError>
+    requires row { IsTrue (begins_by (codes "|") (line_chars line)) }
+    requires short { length line.text.now ≤ 16_777_216 }
+    ensures { IfOk result (λ cells. map cell_text cells.items ≡ cells_of (line_chars line.entry)) }
+{
+    let mut cells = Vec::new(alloc);
+    let mut column = column(line) + 1;
+    let Some(mut rest) = strip(trim_start(line.text), "|") else {
+        return Ok(cells);
+    };
+    while let Some((part, next)) = cut_at_bar(rest) {
+        cells.push(cell(alloc, part, column)?)?;
+        column += count(part) + 1;
+        rest = next;
+    }
+    Ok(cells)
+}
+
+/// The cell that is written as this text from this column on.
+fn cell(alloc: Global, part: &str, column: u32) -> Result<Cell, AllocError>
+    requires { column + length part.now < 2 ^ 32 }
+    ensures { IfOk result (λ cell. cell_text cell ≡ cell_at column (units (chars part.now))) }
+{
+    Ok(Cell {
+        value: Text::from(unescape(alloc, trim(part))?),
+        column: column + leading_space(part),
+    })
+}
+
+/// The text with what each of its units stands for.
+fn unescape(alloc: Global, text: &str) -> Result<String, AllocError>
+    ensures { IfOk result (λ value. chars (string_bytes value) ≡ map (λ u. u.stands_for) (units (chars text.now))) }
+{
+    let mut value = String::new(alloc);
+    let mut escaped = false;
+    for c in text.chars() {
+        if !escaped && c == '\\' {
+            escaped = true;
+        } else {
+            push_unit(&mut value, escaped, c)?;
+            escaped = false;
+        }
+    }
+    if !escaped {
+        return Ok(value);
+    }
+    value.push('\\')?;
+    Ok(value)
+}
+
+/// Adds what a character stands for, by itself or after a backslash.
+fn push_unit(value: &mut String, escaped: bool, c: char) -> Result<(), AllocError>
+    ensures { OnOk result (chars (string_bytes value.new) ≡ chars (string_bytes value.old) ++ map (λ u. u.stands_for) (units (if escaped then backslash ∷ c ∷ [] else c ∷ []))) }
+{
+    if !escaped {
+        return value.push(c);
+    }
+    if let Some(meant) = unescaped(c) {
+        return value.push(meant);
+    }
+    value.push('\\')?;
+    value.push(c)
+}
+
+/// What a backslash and this character stand for, where they are a pair.
+fn unescaped(c: char) -> Option<char>
+    ensures { result ≡ escaped c }
+{
+    match c {
+        '|' | '\\' => Some(c),
+        'n' => Some('\n'),
+        _ => None,
+    }
+}
+
+/// The text before the first bar that no backslash escapes, and the text after that bar.
+fn cut_at_bar(text: &str) -> Option<(&str, &str)>
+    ensures lengths { IfSome result (λ parts. length parts.0.now + length parts.1.now + 1 ≡ length text.now) }
+    ensures place { MatchOption result (NoBar (units (chars text.now)))
+        (λ parts. IsCutAtBar (units (chars text.now)) (units (chars parts.0.now)) (units (chars parts.1.now))) }
+    ensures utf8 { IfSome result (λ parts. IsUtf8 parts.1.now) }
+{
+    let mut rest = text;
+    while let Some(place) = memchr2(b'|', b'\\', rest.as_bytes()) {
+        let next = &rest[place + 1..];
+        if rest.as_bytes()[place] == b'|' {
+            return Some((&text[..text.len() - next.len() - 1], next));
+        }
+        rest = after_first(next)?;
+    }
+    None
+}

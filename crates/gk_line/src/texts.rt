@@ -1,0 +1,74 @@
+//! The text functions that the readings of a line use, by characters.
+ghost use Rattle.std.specs.Prelude.{◌≡◌, ◌≤◌, ◌+◌, [], ◌<◌, ◌==◌, ◌∷◌, ◌++◌, IsTrue, IfSome, MatchOption, length, ◌^◌};
+ghost use Rattle.std.specs.Char.{is_ascii, is_whitespace};
+ghost use Rattle.std.specs.List.{list_all, prefix_len};
+ghost use Rattle.std.specs.Option.{option_map};
+ghost use Rattle.std.specs.Str.{chars, NonePass, IsUtf8};
+ghost use Rattle.gk_line.specs.Texts.{body_of, trimmed, after, TakesFirst, IsCutAt};
+
+use memchr::memchr;
+
+/// The text without the white space at its start.
+pub(crate) fn trim_start(text: &str) -> &str
+    ensures value { chars result.now ≡ body_of (chars text.now) }
+    ensures bound { length result.now ≤ length text.now }
+{
+    text.trim_start()
+}
+
+/// The text without the white space at both its ends.
+pub(crate) fn trim(text: &str) -> &str
+    ensures { chars result.now ≡ trimmed (chars text.now) }
+{
+    text.trim()
+}
+
+/// What follows an ASCII front, where the text begins with it.
+pub(crate) fn strip<'a>(text: &'a str, front: &str) -> Option<&'a str>
+    requires { IsTrue (list_all is_ascii front.now) }
+    ensures value { option_map (λ rest. chars rest.now) result ≡ after front.now (chars text.now) }
+    ensures bound { IfSome result (λ rest. length rest.now + length front.now ≡ length text.now) }
+    ensures utf8 { IfSome result (λ rest. IsUtf8 rest.now) }
+{
+    text.strip_prefix(front)
+}
+
+/// The text before the first place of an ASCII character, and the text after it.
+pub(crate) fn cut(text: &str, at: u8) -> Option<(&str, &str)>
+    requires { at < 128 }
+    ensures place { MatchOption result (NonePass (λ c. c == at) (chars text.now))
+        (λ parts. IsCutAt at (chars text.now) (chars parts.0.now) (chars parts.1.now)) }
+    ensures bytes { IfSome result (λ parts. text.now ≡ parts.0.now ++ at ∷ parts.1.now) }
+    ensures utf8 { IfSome result (λ parts. IsUtf8 parts.0.now) }
+    ensures rest_utf8 { IfSome result (λ parts. IsUtf8 parts.1.now) }
+{
+    let place = memchr(at, text.as_bytes())?;
+    Some((&text[..place], &text[place + 1..]))
+}
+
+/// What follows the first character.
+pub(crate) fn after_first(text: &str) -> Option<&str>
+    ensures { MatchOption result (text.now ≡ []) (λ rest. TakesFirst text.now rest.now) }
+{
+    let mut rest = text.chars();
+    rest.next()?;
+    Some(rest.as_str())
+}
+
+/// How many white space characters the text begins with.
+pub(crate) fn leading_space(text: &str) -> u32
+    requires { length text.now < 2 ^ 32 }
+    ensures value { result ≡ prefix_len is_whitespace (chars text.now) }
+    ensures bound { result ≤ length text.now }
+{
+    text.chars().take_while(|c| c.is_whitespace()).count() as u32
+}
+
+/// How many characters the text has.
+pub(crate) fn count(text: &str) -> u32
+    requires { length text.now < 2 ^ 32 }
+    ensures value { result ≡ length (chars text.now) }
+    ensures bound { result ≤ length text.now }
+{
+    text.chars().count() as u32
+}

@@ -1,0 +1,9 @@
+pub mod Replacing
+pub mod Types
+pub mod After
+pub mod Written
+pub mod Cutting
+pub mod Alike
+pub mod Characters
+pub mod Counting
+pub mod Ordering

@@ -1,0 +1,27 @@
+-- Filling a text from a row of examples.
+use Rattle.std.specs.Prelude.{ℕ, zero, suc, ◌-◌, List, [], ◌∷◌, ◌++◌, length, nat_eq, if◌then◌else◌, codes}
+use Rattle.std.specs.List.{starts_with}
+use Rattle.gk_line.specs.declared.tokens.Cell.{Cell}
+
+-- what a header cell's value stands as in a text: `<value>`
+abbrev pub placeholder : List ℕ → List ℕ
+placeholder name = codes "<" ++ name ++ codes ">"
+
+-- the text after `covered` bytes of an occurrence, with a cell in the place of each leftmost occurrence of the pattern
+-- that overlaps none before it
+unfoldable pub replaced_after : ℕ → List ℕ → List ℕ → List ℕ → List ℕ
+replaced_after covered pattern cell [] = []
+replaced_after (suc covered) pattern cell (b ∷ bs) = replaced_after covered pattern cell bs
+replaced_after zero pattern cell (b ∷ bs) =
+    if starts_with nat_eq (b ∷ bs) pattern then cell ++ replaced_after (length pattern - 1) pattern cell bs
+    else b ∷ replaced_after 0 pattern cell bs
+
+abbrev pub replaced : List ℕ → List ℕ → List ℕ → List ℕ
+replaced pattern cell text = replaced_after 0 pattern cell text
+
+-- Column by column, each `<header>` in the text so far is replaced by the row's cell (Cucumber's Gherkin reference,
+-- "Scenario Outline"). Columns that only the header or only the row has fill nothing.
+abbrev pub filled : List ℕ → List Cell → List Cell → List ℕ
+filled text [] row = text
+filled text (name ∷ names) [] = text
+filled text (name ∷ names) (cell ∷ cells) = filled (replaced (placeholder name.value) cell.value text) names cells

@@ -1,0 +1,11 @@
+pub mod Fill
+pub mod Around
+pub mod Steps
+pub mod Pickles
+pub mod Json
+pub mod TreeJson
+pub mod Cut
+pub mod Alike
+pub mod Characters
+pub mod Counts
+pub mod Order

@@ -1,0 +1,73 @@
+-- The pickles of a document, in order (Cucumber Messages, `Pickle.json`; Cucumber's Gherkin reference on backgrounds, rules,
+-- scenario outlines and tag inheritance).
+use Rattle.std.specs.Prelude.{List, [], ◌∷◌, ◌++◌, map, Option, Some, None}
+use Rattle.std.specs.List.{flat_map}
+use Rattle.gk_document.specs.declared.tree.Tag.{Tag}
+use Rattle.gk_document.specs.declared.tree.Step.{Step}
+use Rattle.gk_document.specs.declared.tree.Row.{Row}
+use Rattle.gk_document.specs.declared.tree.Background.{Background}
+use Rattle.gk_document.specs.declared.tree.ExampleTable.{ExampleTable}
+use Rattle.gk_document.specs.declared.tree.Examples.{Examples}
+use Rattle.gk_document.specs.declared.tree.Scenario.{Scenario}
+use Rattle.gk_document.specs.declared.tree.Rule.{Rule}
+use Rattle.gk_document.specs.declared.tree.Feature.{Feature}
+use Rattle.gk_document.specs.declared.tree.Document.{Document}
+use Rattle.gk_pickle.specs.declared.pickle.PickleTag.{PickleTag}
+use Rattle.gk_pickle.specs.declared.pickle.Pickle.{Pickle}
+use Rattle.gk_pickle.specs.Around.{Around, Filling, unfilled}
+use Rattle.gk_pickle.specs.Steps.{filled_by, pickle_steps}
+
+abbrev pub pickle_tag : Tag → PickleTag
+pickle_tag t = record { name = t.name; node = t.node }
+
+-- a scenario's pickle, with the tags of its examples and what fills it; tags aren't filled, and repeats are kept
+abbrev pub pickle_of : Around → Scenario → List Tag → Filling → Pickle
+pickle_of around s tags f = record {
+  name = filled_by f s.name;
+  nodes = s.node ∷ f.rows;
+  tags = map pickle_tag (around.tags ++ s.tags ++ tags);
+  steps = pickle_steps around.steps f s.steps;
+}
+
+abbrev pub row_filling : Row → Row → Filling
+row_filling header row = record { header = header.cells; cells = row.cells; rows = row.node ∷ [] }
+
+-- one for each body row; a block without a table has none
+abbrev pub table_pickles : Around → Scenario → List Tag → Option ExampleTable → List Pickle
+table_pickles around s tags None = []
+table_pickles around s tags (Some table) = map (λ row. pickle_of around s tags (row_filling table.header row)) table.body
+
+abbrev pub examples_pickles : Around → Scenario → Examples → List Pickle
+examples_pickles around s e = table_pickles around s e.tags e.table
+
+-- one without examples blocks, else those of each block
+abbrev pub outline_pickles : Around → Scenario → List Examples → List Pickle
+outline_pickles around s [] = pickle_of around s [] unfilled ∷ []
+outline_pickles around s (e ∷ es) = flat_map (examples_pickles around s) (e ∷ es)
+
+abbrev pub scenario_pickles : Around → Scenario → List Pickle
+scenario_pickles around s = outline_pickles around s s.examples
+
+abbrev pub background_steps : Option Background → List Step
+background_steps None = []
+background_steps (Some b) = b.steps
+
+-- around a scenario that stands in the feature itself, and around one in a rule
+abbrev pub in_feature : Feature → Around
+in_feature f = record { tags = f.tags; steps = background_steps f.background }
+
+abbrev pub in_rule : Feature → Rule → Around
+in_rule f r = record { tags = f.tags ++ r.tags; steps = background_steps f.background ++ background_steps r.background }
+
+abbrev pub rule_pickles : Feature → Rule → List Pickle
+rule_pickles f r = flat_map (scenario_pickles (in_rule f r)) r.scenarios
+
+abbrev pub feature_pickles : Feature → List Pickle
+feature_pickles f = flat_map (scenario_pickles (in_feature f)) f.scenarios ++ flat_map (rule_pickles f) f.rules
+
+abbrev pub pickles_in : Option Feature → List Pickle
+pickles_in None = []
+pickles_in (Some f) = feature_pickles f
+
+unfoldable pub pickles : Document → List Pickle
+pickles d = pickles_in d.feature

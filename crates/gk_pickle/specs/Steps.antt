@@ -1,0 +1,75 @@
+-- The steps of a pickle (Cucumber Messages, `Pickle.json`, `PickleStep`).
+use Rattle.std.specs.Prelude.{ℕ, List, [], ◌∷◌, ◌++◌, map, Option, Some, None, option_map, option_and_then}
+use Rattle.std.specs.List.{filter_map}
+use Rattle.gk_line.specs.declared.tokens.KeywordType.{KeywordType}
+use Rattle.gk_line.specs.declared.tokens.KeywordType.TheVariants as keyword
+use Rattle.gk_document.specs.declared.tree.Argument.{Argument}
+use Rattle.gk_document.specs.declared.tree.Argument.TheVariants as argument
+use Rattle.gk_document.specs.declared.tree.Row.{Row}
+use Rattle.gk_document.specs.declared.tree.Step.{Step}
+use Rattle.gk_pickle.specs.declared.pickle.StepType.{StepType}
+use Rattle.gk_pickle.specs.declared.pickle.StepType.TheVariants as kind
+use Rattle.gk_pickle.specs.declared.pickle.PickleArgument.{PickleArgument}
+use Rattle.gk_pickle.specs.declared.pickle.PickleArgument.TheVariants as value
+use Rattle.gk_pickle.specs.declared.pickle.PickleStep.{PickleStep}
+use Rattle.gk_pickle.specs.Around.{Filling, unfilled}
+use Rattle.gk_pickle.specs.Fill.{filled}
+
+-- a keyword's own type, which a conjunction (`And`, `But`) has not
+abbrev pub own_type : KeywordType → Option StepType
+own_type keyword.Unknown = Some kind.Unknown
+own_type keyword.Context = Some kind.Context
+own_type keyword.Action = Some kind.Action
+own_type keyword.Outcome = Some kind.Outcome
+own_type keyword.Conjunction = None
+
+-- the last of a list, or another value where it is empty
+abbrev pub last_or : {X : Type 0} → X → List X → X
+last_or other [] = other
+last_or other (x ∷ xs) = last_or x xs
+
+-- the type of the last of these keywords that is no conjunction, Unknown if there is none
+abbrev pub type_of : List KeywordType → StepType
+type_of keywords = last_or kind.Unknown (filter_map own_type keywords)
+
+abbrev pub filled_by : Filling → List ℕ → List ℕ
+filled_by f text = filled text f.header f.cells
+
+-- an empty media type is none
+abbrev pub media_type : List ℕ → Option (List ℕ)
+media_type [] = None
+media_type (b ∷ bs) = Some (b ∷ bs)
+
+abbrev pub filled_row : Filling → Row → List (List ℕ)
+filled_row f row = map (λ c. filled_by f c.value) row.cells
+
+abbrev pub filled_argument : Filling → Argument → PickleArgument
+filled_argument f (argument.Table rows) = value.Table (map (filled_row f) rows)
+filled_argument f (argument.Text d) = value.Text (record {
+  media = option_and_then (λ m. media_type (filled_by f m)) d.media;
+  content = filled_by f d.content;
+})
+
+-- a step of a pickle: it names its step, and the row that fills it
+abbrev pub filled_step : Filling → StepType → Step → PickleStep
+filled_step f t s = record {
+  text = filled_by f s.text;
+  kind = t;
+  nodes = s.node ∷ f.rows;
+  argument = option_map (filled_argument f) s.argument;
+}
+
+-- steps that stand after those with the earlier keywords: a step's type is that of the last step at or before it that is
+-- no conjunction
+abbrev pub steps_after : List KeywordType → Filling → List Step → List PickleStep
+steps_after earlier f [] = []
+steps_after earlier f (s ∷ ss) = filled_step f (type_of (earlier ++ s.kind ∷ [])) s ∷ steps_after (earlier ++ s.kind ∷ []) f ss
+
+-- the keyword types of steps
+abbrev pub keywords : List Step → List KeywordType
+keywords steps = map (λ s. s.kind) steps
+
+-- the backgrounds' steps, which nothing fills, and then the scenario's own; a scenario with no steps of its own has none
+abbrev pub pickle_steps : List Step → Filling → List Step → List PickleStep
+pickle_steps background f [] = []
+pickle_steps background f (s ∷ ss) = steps_after [] unfilled background ++ steps_after (keywords background) f (s ∷ ss)

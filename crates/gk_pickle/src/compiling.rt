@@ -1,0 +1,185 @@
+//! The pickles of a document.
+ghost use Rattle.std.specs.Prelude.{◌≡◌, ◌++◌, map, IfOk, OnOk};
+ghost use Rattle.std.specs.List.{flat_map};
+ghost use Rattle.gk_pickle.specs.Pickles.{pickle_tag, pickle_of, table_pickles, examples_pickles, scenario_pickles, background_steps, rule_pickles, feature_pickles, pickles};
+
+use crate::around::{Around, Filling};
+use crate::pickle::{Pickle, PickleTag};
+use crate::steps::all_steps;
+use gk_document::{Background, Document, ExampleTable, Feature, Rule, Scenario, Step, Tag};
+use gk_line::{Sequence, Text};
+use std::alloc::{AllocError, Global};
+
+/// Adds what pickles take of tags.
+fn add_tags(alloc: Global, tags: &[Tag], made: &mut Vec<PickleTag>) -> Result<(), AllocError>
+    ensures { OnOk result (made.new.items ≡ made.old.items ++ map pickle_tag tags.now) }
+{
+    for tag in tags {
+        let name = Text::copy_of(alloc, tag.name.as_str())?;
+        made.push(PickleTag {
+            name,
+            node: tag.node,
+        })?;
+    }
+    Ok(())
+}
+
+/// A scenario's pickle, with the tags of its examples and what fills it.
+fn pickle(
+    alloc: Global,
+    around: &Around<'_>,
+    scenario: &Scenario,
+    tags: &[Tag],
+    filling: &Filling<'_>,
+) -> Result<Pickle, AllocError>
+    ensures { IfOk result (λ p. p ≡ pickle_of around.now scenario.now tags.now filling.now) }
+{
+    let name = filling.text(alloc, scenario.name.as_str())?;
+    let nodes = filling.nodes(alloc, scenario.node)?;
+    let mut made = Vec::new(alloc);
+    add_tags(alloc, around.feature_tags, &mut made)?;
+    add_tags(alloc, around.rule_tags, &mut made)?;
+    add_tags(alloc, scenario.tags.as_slice(), &mut made)?;
+    add_tags(alloc, tags, &mut made)?;
+    let steps = all_steps(
+        alloc,
+        around.feature_steps,
+        around.rule_steps,
+        filling,
+        scenario.steps.as_slice(),
+    )?;
+    Ok(Pickle {
+        name,
+        nodes,
+        tags: Sequence::from(made),
+        steps,
+    })
+}
+
+/// Adds a pickle for each body row of a block's table.
+fn add_table(
+    alloc: Global,
+    around: &Around<'_>,
+    scenario: &Scenario,
+    tags: &[Tag],
+    table: &Option<ExampleTable>,
+    made: &mut Vec<Pickle>,
+) -> Result<(), AllocError>
+    ensures { OnOk result (made.new.items ≡ made.old.items ++ table_pickles around.now scenario.now tags.now table.now) }
+{
+    let Some(table) = table else {
+        return Ok(());
+    };
+    for row in table.body.as_slice() {
+        let filling = Filling::of_row(&table.header, row);
+        let pickle = pickle(alloc, around, scenario, tags, &filling)?;
+        made.push(pickle)?;
+    }
+    Ok(())
+}
+
+/// Adds a scenario's pickles.
+fn add_scenario(
+    alloc: Global,
+    around: &Around<'_>,
+    scenario: &Scenario,
+    made: &mut Vec<Pickle>,
+) -> Result<(), AllocError>
+    ensures { OnOk result (made.new.items ≡ made.old.items ++ scenario_pickles around.now scenario.now) }
+{
+    let examples = scenario.examples.as_slice();
+    if examples.is_empty() {
+        let pickle = pickle(alloc, around, scenario, &[], &Filling::none())?;
+        made.push(pickle)?;
+        return Ok(());
+    }
+    for block in examples {
+        add_table(
+            alloc,
+            around,
+            scenario,
+            block.tags.as_slice(),
+            &block.table,
+            made,
+        )?;
+    }
+    Ok(())
+}
+
+/// Adds the pickles of scenarios.
+fn add_scenarios(
+    alloc: Global,
+    around: &Around<'_>,
+    scenarios: &[Scenario],
+    made: &mut Vec<Pickle>,
+) -> Result<(), AllocError>
+    ensures { OnOk result (made.new.items ≡ made.old.items ++ flat_map (scenario_pickles around.now) scenarios.now) }
+{
+    for scenario in scenarios {
+        add_scenario(alloc, around, scenario, made)?;
+    }
+    Ok(())
+}
+
+/// The steps of a background, where there is one.
+fn steps_of(background: &Option<Background>) -> &[Step]
+    ensures { result.now ≡ background_steps background.now }
+{
+    match background {
+        Some(background) => background.steps.as_slice(),
+        None => &[],
+    }
+}
+
+/// Adds the pickles of a rule.
+fn add_rule(
+    alloc: Global,
+    feature: &Feature,
+    rule: &Rule,
+    made: &mut Vec<Pickle>,
+) -> Result<(), AllocError>
+    ensures { OnOk result (made.new.items ≡ made.old.items ++ rule_pickles feature.now rule.now) }
+{
+    let around = Around {
+        feature_tags: feature.tags.as_slice(),
+        rule_tags: rule.tags.as_slice(),
+        feature_steps: steps_of(&feature.background),
+        rule_steps: steps_of(&rule.background),
+    };
+    add_scenarios(alloc, &around, rule.scenarios.as_slice(), made)
+}
+
+/// Adds the pickles of a feature.
+fn add_feature(alloc: Global, feature: &Feature, made: &mut Vec<Pickle>) -> Result<(), AllocError>
+    ensures { OnOk result (made.new.items ≡ made.old.items ++ feature_pickles feature.now) }
+{
+    let around = Around {
+        feature_tags: feature.tags.as_slice(),
+        rule_tags: &[],
+        feature_steps: steps_of(&feature.background),
+        rule_steps: &[],
+    };
+    add_scenarios(alloc, &around, feature.scenarios.as_slice(), made)?;
+    for rule in feature.rules.as_slice() {
+        add_rule(alloc, feature, rule, made)?;
+    }
+    Ok(())
+}
+
+/// The pickles of a document, in order: one for a scenario without examples blocks, any other one for each body row.
+/// Only the row's columns that the header has too are filled, so no condition is on the tables.
+///
+/// Source: Cucumber's Gherkin reference on backgrounds, rules, scenario outlines and tag inheritance.
+///
+/// # Errors
+/// Only where there is no memory for the pickles.
+#[tactic(auto, unfolding(crate::specs::Pickles::pickles))]
+pub fn compile(alloc: Global, document: &Document) -> Result<Vec<Pickle>, AllocError>
+    ensures { IfOk result (λ made. made.items ≡ pickles document.now) }
+{
+    let mut made = Vec::new(alloc);
+    if let Some(feature) = &document.feature {
+        add_feature(alloc, feature, &mut made)?;
+    }
+    Ok(made)
+}

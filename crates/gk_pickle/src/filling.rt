@@ -1,0 +1,74 @@
+//! Filling placeholders from a row of examples.
+ghost use Rattle.std.specs.Prelude.{◌≡◌, ◌<◌, ◌++◌, List, ℕ, length, IfOk, IfSome, IfNone, string_bytes};
+ghost use Rattle.std.specs.Bool.{OnTrue};
+ghost use Rattle.gk_line.specs.declared.tokens.Cell.{Cell};
+ghost use Rattle.gk_pickle.specs.Fill.{placeholder, replaced, filled};
+
+use gk_line::Cell;
+use memchr::memchr;
+use memchr::memmem::Finder;
+use std::alloc::{AllocError, Global};
+
+/// What stands before and after the first `<name>` of a text.
+fn cut_at_first<'t>(finder: &Finder<'_>, name: &str, text: &'t str) -> Option<(&'t str, &'t str)>
+    requires { finder.now ≡ placeholder name.now }
+    ensures none { IfNone result ((cell : List ℕ) → replaced (placeholder name.now) cell text.now ≡ text.now) }
+    ensures some { IfSome result (λ parts. (cell : List ℕ) → replaced (placeholder name.now) cell text.now
+        ≡ parts.0.now ++ (cell ++ replaced (placeholder name.now) cell parts.1.now)) }
+    ensures shorter { IfSome result (λ parts. length parts.1.now < length text.now) }
+{
+    let start = finder.find(text.as_bytes())?;
+    let end = start + name.len() + 2;
+    Some((&text[..start], &text[end..]))
+}
+
+/// The text with each `<name>` replaced by a cell.
+fn replace(alloc: Global, text: &str, name: &str, cell: &str) -> Result<String, AllocError>
+    ensures { IfOk result (λ s. string_bytes s ≡ replaced (placeholder name.now) cell.now text.now) }
+{
+    let pattern = format!(in alloc; "<{name}>")?;
+    let finder = Finder::new(pattern.as_bytes());
+    let mut filled = String::new(alloc);
+    let mut rest = text;
+    while let Some((before, after)) = cut_at_first(&finder, name, rest) {
+        filled.push_str(before)?;
+        filled.push_str(cell)?;
+        rest = after;
+    }
+    filled.push_str(rest)?;
+    Ok(filled)
+}
+
+/// Whether the text has no `<`, and so nothing to fill.
+fn has_no_placeholder(text: &str) -> bool
+    ensures { OnTrue result ((header row : List Cell) → filled text.now header row ≡ text.now) }
+{
+    memchr(b'<', text.as_bytes()).is_none()
+}
+
+/// The text with its placeholders filled, column by column: for each name of the header in order, every `<name>` in the
+/// text so far, leftmost and without overlap, is replaced by the row's cell of that column. So a cell may bring in
+/// placeholders of the columns after it, and each such column may double the text. A column that only the header or only
+/// the row has fills nothing.
+///
+/// Source: Cucumber's Gherkin reference, "Scenario Outline".
+///
+/// # Errors
+/// Only where there is no memory for the text.
+pub fn fill(alloc: Global, text: &str, header: &[Cell], row: &[Cell]) -> Result<String, AllocError>
+    ensures { IfOk result (λ s. string_bytes s ≡ filled text.now header.now row.now) }
+{
+    let mut filled = String::from_str(alloc, text)?;
+    for (name, cell) in header.iter().zip(row) {
+        if has_no_placeholder(filled.as_str()) {
+            return Ok(filled);
+        }
+        filled = replace(
+            alloc,
+            filled.as_str(),
+            name.value.as_str(),
+            cell.value.as_str(),
+        )?;
+    }
+    Ok(filled)
+}

@@ -1,0 +1,239 @@
+//! Pickles as JSON, in the layout of Cucumber Messages.
+ghost use Rattle.std.specs.Prelude.{◌≡◌, ◌+◌, ◌<◌, ◌^◌, ◌∷◌, [], codes, length, IfOk, OnOk, option_map};
+ghost use Rattle.serde_json.specs.Data.{Data, array, string, put as with_member};
+ghost use Rattle.serde_json.specs.View.{view, members_view, items_of};
+ghost use Rattle.gk_pickle.specs.Json.{object_of, put_some, with_some, media_data, id_data, list_data, type_word, pickle_tag_data, pickle_cell_data, pickle_row_data, pickle_doc_string_data, argument_data, pickle_step_data, pickle_steps_data, pickle_data};
+
+use crate::pickle::{Pickle, PickleArgument, PickleDocString, PickleStep, PickleTag, StepType};
+use gk_line::{Sequence, Text};
+use serde_json::{Map, Value, json, put};
+use std::alloc::{AllocError, Global};
+
+/// What is written for a value.
+pub(crate) trait WriteJson {
+    ghost json: { Self → Data };
+
+    fn to_json(&self, alloc: Global) -> Result<Value, AllocError>
+        ensures { IfOk result (λ v. view v ≡ json self.now) };
+}
+
+/// The values of a list.
+pub(crate) fn list_value<T: WriteJson>(alloc: Global, items: &[T]) -> Result<Value, AllocError>
+    ensures { IfOk result (λ v. view v ≡ list_data T.json items.now) }
+{
+    let mut values = Vec::new(alloc);
+    for item in items {
+        let value = item.to_json(alloc)?;
+        values.push(value)?;
+    }
+    Ok(Value::Array(values))
+}
+
+/// Adds a member that holds a text.
+pub(crate) fn add_text(
+    members: &mut Map<String, Value>,
+    alloc: Global,
+    name: &str,
+    text: &str,
+) -> Result<(), AllocError>
+    ensures { OnOk result (members_view members.new.entries
+        ≡ with_member name.now (string text.now) (members_view members.old.entries)) }
+{
+    put(members, alloc, name, Value::try_from_str(alloc, text)?)
+}
+
+/// Adds the media type of a doc string, where there is one that isn't empty.
+pub(crate) fn add_media(
+    members: &mut Map<String, Value>,
+    alloc: Global,
+    media: &Option<Text>,
+) -> Result<(), AllocError>
+    ensures { OnOk result (members_view members.new.entries
+        ≡ put_some (codes "mediaType") (media_data media.now) (members_view members.old.entries)) }
+{
+    match media {
+        Some(media) => {
+            if media.as_str().is_empty() {
+                return Ok(());
+            }
+            add_text(members, alloc, "mediaType", media.as_str())
+        }
+        None => Ok(()),
+    }
+}
+
+/// Adds a member where there is a value for it.
+pub(crate) fn add_optional<T: WriteJson>(
+    members: &mut Map<String, Value>,
+    alloc: Global,
+    name: &str,
+    value: &Option<T>,
+) -> Result<(), AllocError>
+    ensures { OnOk result (members_view members.new.entries
+        ≡ put_some name.now (option_map T.json value.now) (members_view members.old.entries)) }
+{
+    match value {
+        Some(value) => put(members, alloc, name, value.to_json(alloc)?),
+        None => Ok(()),
+    }
+}
+
+/// An object with one more member where there is a value for it.
+pub(crate) fn with_optional<T: WriteJson>(
+    alloc: Global,
+    value: Value,
+    name: &str,
+    member: &Option<T>,
+) -> Result<Value, AllocError>
+    ensures { IfOk result (λ v. view v ≡ with_some name.now (option_map T.json member.now) (view value)) }
+{
+    match value {
+        Value::Object(mut members) => {
+            add_optional(&mut members, alloc, name, member)?;
+            Ok(Value::Object(members))
+        }
+        other => Ok(other),
+    }
+}
+
+/// An id.
+impl WriteJson for u64 {
+    ghost json = { id_data };
+
+    fn to_json(&self, alloc: Global) -> Result<Value, AllocError> {
+        let id = *self;
+        Ok(Value::String(format!(in alloc; "{id}")?))
+    }
+}
+
+impl WriteJson for PickleTag {
+    ghost json = { pickle_tag_data };
+
+    fn to_json(&self, alloc: Global) -> Result<Value, AllocError> {
+        let id = self.node.to_json(alloc)?;
+        json!(in alloc; {"astNodeId": id, "name": self.name.as_str()})
+    }
+}
+
+/// A cell of a table.
+impl WriteJson for Text {
+    ghost json = { pickle_cell_data };
+
+    fn to_json(&self, alloc: Global) -> Result<Value, AllocError> {
+        json!(in alloc; {"value": self.as_str()})
+    }
+}
+
+/// A row of a table.
+impl WriteJson for Sequence<Text> {
+    ghost json = { pickle_row_data };
+
+    fn to_json(&self, alloc: Global) -> Result<Value, AllocError> {
+        let cells = list_value(alloc, self.as_slice())?;
+        json!(in alloc; {"cells": cells})
+    }
+}
+
+impl WriteJson for PickleDocString {
+    ghost json = { pickle_doc_string_data };
+
+    fn to_json(&self, alloc: Global) -> Result<Value, AllocError> {
+        let mut members = Map::new(alloc);
+        add_text(&mut members, alloc, "content", self.content.as_str())?;
+        add_media(&mut members, alloc, &self.media)?;
+        Ok(Value::Object(members))
+    }
+}
+
+/// The rows of a table.
+fn table_value(alloc: Global, rows: &[Sequence<Text>]) -> Result<Value, AllocError>
+    ensures { IfOk result (λ v. view v ≡ object_of ((codes "rows", list_data pickle_row_data rows.now) ∷ [])) }
+{
+    let rows = list_value(alloc, rows)?;
+    json!(in alloc; {"rows": rows})
+}
+
+impl WriteJson for PickleArgument {
+    ghost json = { argument_data };
+
+    fn to_json(&self, alloc: Global) -> Result<Value, AllocError> {
+        match self {
+            PickleArgument::Table(rows) => {
+                let table = table_value(alloc, rows.as_slice())?;
+                json!(in alloc; {"dataTable": table})
+            }
+            PickleArgument::Text(doc_string) => {
+                let doc_string = doc_string.to_json(alloc)?;
+                json!(in alloc; {"docString": doc_string})
+            }
+        }
+    }
+}
+
+/// How a type is written.
+fn type_name(kind: StepType) -> &'static str
+    ensures { result.now ≡ type_word kind }
+{
+    match kind {
+        StepType::Unknown => "Unknown",
+        StepType::Context => "Context",
+        StepType::Action => "Action",
+        StepType::Outcome => "Outcome",
+    }
+}
+
+/// A step with its id.
+fn step_value(alloc: Global, step: &PickleStep, id: u64) -> Result<Value, AllocError>
+    ensures { IfOk result (λ v. view v ≡ pickle_step_data id step.now) }
+{
+    let nodes = list_value(alloc, step.nodes.as_slice())?;
+    let id = id.to_json(alloc)?;
+    let mut members = Map::new(alloc);
+    put(&mut members, alloc, "astNodeIds", nodes)?;
+    put(&mut members, alloc, "id", id)?;
+    add_text(&mut members, alloc, "text", step.text.as_str())?;
+    add_text(&mut members, alloc, "type", type_name(step.kind))?;
+    add_optional(&mut members, alloc, "argument", &step.argument)?;
+    Ok(Value::Object(members))
+}
+
+/// Steps with the ids from the first one on.
+fn steps_value(alloc: Global, steps: &[PickleStep], first_id: u64) -> Result<Value, AllocError>
+    requires { first_id + length steps.now < 2 ^ 64 }
+    ensures { IfOk result (λ v. view v ≡ array (items_of (pickle_steps_data first_id steps.now))) }
+{
+    let mut values = Vec::new(alloc);
+    let mut id = first_id;
+    for step in steps {
+        let value = step_value(alloc, step, id)?;
+        values.push(value)?;
+        id += 1;
+    }
+    Ok(Value::Array(values))
+}
+
+/// The envelope of a pickle, whose steps take the ids from `first_id` on, in order, and the pickle the one after them.
+/// Its members are those of Cucumber Messages' `Pickle.json`, in the byte order of their names. `argument` and a doc
+/// string's `mediaType` are absent where there is none.
+///
+/// # Errors
+/// Only where there is no memory for the value.
+#[tactic(auto, unfolding(crate::specs::Json::pickle_data))]
+pub fn pickle_value(
+    alloc: Global,
+    uri: &str,
+    pickle: &Pickle,
+    first_id: u64,
+) -> Result<Value, AllocError>
+    requires { first_id + length pickle.now.steps < 2 ^ 64 }
+    ensures { IfOk result (λ v. view v ≡ pickle_data uri.now first_id pickle.now) }
+{
+    let id = (first_id + pickle.steps.len() as u64).to_json(alloc)?;
+    let nodes = list_value(alloc, pickle.nodes.as_slice())?;
+    let steps = steps_value(alloc, pickle.steps.as_slice(), first_id)?;
+    let tags = list_value(alloc, pickle.tags.as_slice())?;
+    json!(in alloc; {"pickle": {
+        "astNodeIds": nodes, "id": id, "language": "en", "name": pickle.name.as_str(),
+        "steps": steps, "tags": tags, "uri": uri
+    }})
+}

@@ -1,0 +1,172 @@
+//! The steps of a pickle.
+ghost use Rattle.std.specs.Prelude.{◌≡◌, ◌++◌, ◌∷◌, [], List, map, option_map, option_and_then, IfOk, OnOk};
+ghost use Rattle.gk_line.specs.declared.tokens.KeywordType.{KeywordType};
+ghost use Rattle.gk_pickle.specs.Around.{unfilled};
+ghost use Rattle.gk_pickle.specs.Steps.{own_type, type_of, filled_by, media_type, filled_row, filled_argument, filled_step, steps_after, keywords, pickle_steps};
+
+use crate::around::Filling;
+use crate::pickle::{PickleArgument, PickleDocString, PickleStep, StepType};
+use gk_document::{Argument, DocString, Row, Step};
+use gk_line::{KeywordType, Sequence, Text};
+use std::alloc::{AllocError, Global};
+
+/// The type of a step with this keyword, after a step of type `before`.
+fn type_after(keyword: KeywordType, before: StepType) -> StepType
+    ensures { (earlier : List KeywordType) → before ≡ type_of earlier → result ≡ type_of (earlier ++ keyword ∷ []) }
+{
+    match keyword {
+        KeywordType::Unknown => StepType::Unknown,
+        KeywordType::Context => StepType::Context,
+        KeywordType::Action => StepType::Action,
+        KeywordType::Outcome => StepType::Outcome,
+        KeywordType::Conjunction => before,
+    }
+}
+
+/// The values of a row's cells, filled.
+fn filled_cells(
+    alloc: Global,
+    filling: &Filling<'_>,
+    row: &Row,
+) -> Result<Sequence<Text>, AllocError>
+    ensures { IfOk result (λ texts. texts ≡ filled_row filling.now row.now) }
+{
+    let mut texts = Vec::new(alloc);
+    for cell in row.cells.as_slice() {
+        let text = filling.text(alloc, cell.value.as_str())?;
+        texts.push(text)?;
+    }
+    Ok(Sequence::from(texts))
+}
+
+/// The rows of a table, filled.
+fn filled_rows(
+    alloc: Global,
+    filling: &Filling<'_>,
+    rows: &[Row],
+) -> Result<Sequence<Sequence<Text>>, AllocError>
+    ensures { IfOk result (λ table. table ≡ map (filled_row filling.now) rows.now) }
+{
+    let mut table = Vec::new(alloc);
+    for row in rows {
+        let cells = filled_cells(alloc, filling, row)?;
+        table.push(cells)?;
+    }
+    Ok(Sequence::from(table))
+}
+
+/// A media type, filled, where one is left.
+fn filled_media(
+    alloc: Global,
+    filling: &Filling<'_>,
+    media: &Option<Text>,
+) -> Result<Option<Text>, AllocError>
+    ensures { IfOk result (λ o. o ≡ option_and_then (λ m. media_type (filled_by filling.now m)) media.now) }
+{
+    match media {
+        Some(media) => {
+            let media = filling.text(alloc, media.as_str())?;
+            if media.as_str().is_empty() {
+                return Ok(None);
+            }
+            Ok(Some(media))
+        }
+        None => Ok(None),
+    }
+}
+
+/// A doc string, filled.
+fn filled_doc_string(
+    alloc: Global,
+    filling: &Filling<'_>,
+    doc_string: &DocString,
+) -> Result<PickleArgument, AllocError>
+    ensures { IfOk result (λ a. a ≡ filled_argument filling.now (Argument.Text doc_string.now)) }
+{
+    let media = filled_media(alloc, filling, &doc_string.media)?;
+    let content = filling.text(alloc, doc_string.content.as_str())?;
+    Ok(PickleArgument::Text(PickleDocString { media, content }))
+}
+
+/// What stands below a step, filled.
+fn argument(
+    alloc: Global,
+    filling: &Filling<'_>,
+    argument: &Option<Argument>,
+) -> Result<Option<PickleArgument>, AllocError>
+    ensures { IfOk result (λ o. o ≡ option_map (filled_argument filling.now) argument.now) }
+{
+    match argument {
+        None => Ok(None),
+        Some(Argument::Table(rows)) => {
+            let table = filled_rows(alloc, filling, rows.as_slice())?;
+            Ok(Some(PickleArgument::Table(table)))
+        }
+        Some(Argument::Text(doc_string)) => {
+            Ok(Some(filled_doc_string(alloc, filling, doc_string)?))
+        }
+    }
+}
+
+/// A step of a pickle.
+fn pickle_step(
+    alloc: Global,
+    filling: &Filling<'_>,
+    kind: StepType,
+    step: &Step,
+) -> Result<PickleStep, AllocError>
+    ensures { IfOk result (λ s. s ≡ filled_step filling.now kind step.now) }
+{
+    let text = filling.text(alloc, step.text.as_str())?;
+    let nodes = filling.nodes(alloc, step.node)?;
+    let argument = argument(alloc, filling, &step.argument)?;
+    Ok(PickleStep {
+        text,
+        kind,
+        nodes,
+        argument,
+    })
+}
+
+/// Adds steps that stand after one of type `before`. Answers the type of the last one.
+fn add_steps(
+    alloc: Global,
+    filling: &Filling<'_>,
+    before: StepType,
+    steps: &[Step],
+    made: &mut Vec<PickleStep>,
+) -> Result<StepType, AllocError>
+    ensures made { OnOk result ((earlier : List KeywordType) → before ≡ type_of earlier
+        → made.new.items ≡ made.old.items ++ steps_after earlier filling.now steps.now) }
+    ensures last { IfOk result (λ t. (earlier : List KeywordType) → before ≡ type_of earlier
+        → t ≡ type_of (earlier ++ keywords steps.now)) }
+{
+    let mut last = before;
+    for step in steps {
+        last = type_after(step.kind, last);
+        let step = pickle_step(alloc, filling, last, step)?;
+        made.push(step)?;
+    }
+    Ok(last)
+}
+
+/// The backgrounds' steps and then the scenario's own; none where the scenario has none.
+pub(crate) fn all_steps(
+    alloc: Global,
+    feature_steps: &[Step],
+    rule_steps: &[Step],
+    filling: &Filling<'_>,
+    steps: &[Step],
+) -> Result<Sequence<PickleStep>, AllocError>
+    ensures { IfOk result (λ made. made ≡ pickle_steps (feature_steps.now ++ rule_steps.now) filling.now steps.now) }
+{
+    if steps.is_empty() {
+        return Ok(Sequence::new(alloc));
+    }
+    let mut made = Vec::new(alloc);
+    let nothing = Filling::none();
+    let last = add_steps(alloc, &nothing, StepType::Unknown, feature_steps, &mut made)?;
+    let last = add_steps(alloc, &nothing, last, rule_steps, &mut made)?;
+    add_steps(alloc, filling, last, steps, &mut made)?;
+    Ok(Sequence::from(made))
+}

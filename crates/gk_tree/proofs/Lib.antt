@@ -1,0 +1,5 @@
+pub mod TokenLemmas
+pub mod TextLemmas
+pub mod LineLemmas
+mod NodeLemmas
+mod EndLemmas

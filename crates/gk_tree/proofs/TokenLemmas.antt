@@ -1,0 +1,93 @@
+-- What the code's tokens have to do with those of the grammar.
+use Rattle.std.proofs.Common.{◌≡◌, ℕ, zero, suc, ◌+◌, ◌-◌, ◌*◌, ◌≤◌, Bool, true, false, cond, List, [], ◌∷◌, ◌++◌, length, Option, Some, None, Ok, refl, sym, ap, ◌∙◌, arith}
+use Rattle.std.proofs.lemmas.Grind.{common_steps}
+use Rattle.std.specs.Prelude.{map, filter, ◌==◌}
+use Rattle.std.specs.List.{slice_split}
+use Rattle.std.specs.Str.{chars, chars_after, continuation_len, lead_bits, IsUtf8}
+use Rattle.std.proofs.lemmas.List.Splits.{length-slice_split}
+use Rattle.std.proofs.lemmas.List.Sums.{length-filter}
+use Rattle.std.proofs.lemmas.List.{length-map}
+use Rattle.std.proofs.lemmas.Str.{encodes-chars}
+use Rattle.gk_line.specs.declared.tokens.Cell.{Cell}
+use Rattle.gk_line.specs.declared.tokens.TagText.{TagText}
+use Rattle.gk_line.specs.Cells.{without_first, CellText}
+use Rattle.gk_line.specs.Tags.{uncommented, TagWord, pieces_from, tag_pieces, tags_of, is_tag}
+use Rattle.gk_line.specs.Views.{cell_text, tag_word}
+use Rattle.gk_grammar.specs.Token.{cell, tag_text, tag_list}
+use Rattle.gk_tree.specs.Views.{retold, word_of}
+
+count_bound : {X : Type 0} (p : X → Bool) (xs : List X) → length (filter p xs) ≤ length xs
+count_bound p [] = omega arith
+count_bound p (x ∷ xs) = go (p x) (count_bound p xs)
+  where
+    go : (b : Bool) → length (filter p xs) ≤ length xs → length (cond b (x ∷ filter p xs) (filter p xs)) ≤ suc (length xs)
+    go true h = omega arith
+    go false h = omega arith
+
+parts_bound : {X : Type 0} (p : X → Bool) (xs : List X) → length (slice_split p xs) ≤ length xs + 1
+parts_bound p xs = omega (arith, length-slice_split p xs, length-filter p xs, count_bound p xs)
+
+pieces_bound : (column : ℕ) (ps : List (List ℕ)) → length (pieces_from column ps) ≡ length ps
+pieces_bound column [] = refl
+pieces_bound column (p ∷ ps) = ap suc (pieces_bound (column + length p + 1) ps)
+
+first_bound : {X : Type 0} (n : ℕ) (xs : List X) → length xs ≤ n + 1 → length (without_first xs) ≤ n
+first_bound n [] h = omega arith
+first_bound n (x ∷ xs) h = omega arith
+
+uncommented_bound : (cs : List ℕ) → length (uncommented cs) ≤ length cs
+unfolding uncommented
+uncommented_bound [] = omega arith
+uncommented_bound (c ∷ cs) = grind (arith, common_steps, uncommented_bound cs)
+
+-- a line has no more tags than characters
+pub tags_bound : (cs : List ℕ) → length (tags_of cs) ≤ length cs
+unfolding tags_of tag_pieces
+tags_bound cs =
+    let parts = parts_bound (λ c. c == 64) (uncommented cs) in
+    let pieces = pieces_bound 0 (slice_split (λ c. c == 64) (uncommented cs)) in
+    let rest = first_bound (length (uncommented cs)) (pieces_from 0 (slice_split (λ c. c == 64) (uncommented cs))) (omega arith) in
+    let least = uncommented_bound cs in
+    let few = count_bound is_tag (without_first (pieces_from 0 (slice_split (λ c. c == 64) (uncommented cs)))) in
+    omega arith
+
+after_bound : (bs : List ℕ) (n c : ℕ) → length (chars_after n c bs) ≤ length bs + 1
+after_bound [] zero c = omega arith
+after_bound [] (suc n) c = omega arith
+after_bound (b ∷ bs) zero c = omega (arith, after_bound bs (continuation_len b) (lead_bits b))
+after_bound (b ∷ bs) (suc n) c = omega (arith, after_bound bs n (c * 64 + (b - 128)))
+
+-- no more characters than bytes
+pub chars_bound : (bs : List ℕ) → length (chars bs) ≤ length bs
+unfolding chars
+chars_bound [] = omega arith
+chars_bound (b ∷ bs) = omega (arith, after_bound bs (continuation_len b) (lead_bits b))
+
+pub words_bound : (bs : List ℕ) (ws : List TagText) → map tag_word ws ≡ tags_of (chars bs) → length ws ≤ length bs
+words_bound bs ws e = omega (arith, sym (length-map ws tag_word), ap length e, tags_bound (chars bs), chars_bound bs)
+
+pub no_space : (o : Option TagWord) (words : List TagWord) → o ≡ None → tag_list o words ≡ Ok (map tag_text words)
+no_space None words e = refl
+no_space (Some x) words e = absurd cc
+
+pub retold-same : (c : Cell) → IsUtf8 c.value → retold c ≡ c
+retold-same c u = ap (λ (z : List ℕ). record { value = z; column = c.column }) (encodes-chars c.value u)
+
+pub retold_more : (xs : List Cell) (x : Cell) → map retold xs ≡ xs → retold x ≡ x → map retold (xs ++ x ∷ []) ≡ xs ++ x ∷ []
+retold_more [] x h e = ap (λ (z : Cell). z ∷ []) e
+retold_more (y ∷ xs) x h e = let head : retold y ≡ y = cc in let tail : map retold xs ≡ xs = cc in let more = retold_more xs x tail e in cc
+
+-- the cells of the grammar
+pub cells_same : (xs : List Cell) (found : List CellText) → map retold xs ≡ xs → map cell_text xs ≡ found → xs ≡ map cell found
+cells_same xs found h e = sym h ∙ go xs ∙ ap (λ (z : List CellText). map cell z) e
+  where
+    go : (ys : List Cell) → map retold ys ≡ map cell (map cell_text ys)
+    go [] = refl
+    go (y ∷ ys) = ap (λ (z : List Cell). retold y ∷ z) (go ys)
+
+pub words_same : (xs : List TagText) (found : List TagWord) → map tag_word xs ≡ found → map word_of xs ≡ map tag_text found
+words_same xs found e = go xs ∙ ap (λ (z : List TagWord). map tag_text z) e
+  where
+    go : (ys : List TagText) → map word_of ys ≡ map tag_text (map tag_word ys)
+    go [] = refl
+    go (y ∷ ys) = ap (λ z. word_of y ∷ z) (go ys)

@@ -1,0 +1,30 @@
+use Rattle.std.proofs.Common.{◌≡◌, ◌∙◌, sym, ap, List, true, false, ◌++◌, [], ◌∷◌, refl, append-nil}
+use Rattle.gk_document.specs.declared.tree.Comment.{Comment}
+use Rattle.gk_grammar.specs.Token.{Line, is_comment}
+use Rattle.gk_grammar.specs.Grammar.{comments_of, comment_of}
+use Rattle.gk_line.specs.Views.{line_chars}
+use Rattle.gk_tree.specs.Views.{line_at}
+use Rattle.gk_tree.proofs.header.pass.Goals as goal
+
+kept : (l : Line) → is_comment l ≡ true → comments_of (l ∷ []) ≡ comment_of l ∷ []
+kept l e = rw e refl
+
+passed : (l : Line) → is_comment l ≡ false → comments_of (l ∷ []) ≡ []
+passed l e = rw e refl
+
+pub returns-then-is_comment_token : goal.returns-then-is_comment_token
+returns-then-is_comment_token c =
+    let at = c.args.at in
+    let l = line_at at c.args.token.now in
+    let same = c.is_comment_token.ensures at.line.number (line_chars at.line) at.indent in
+    c.in_ok-kept.ensures
+    ∙ ap (λ (z : List Comment). record { comments = c.args.progress.comments ++ z; nodes = c.args.progress.nodes; chunks = c.args.progress.chunks })
+    (sym (kept l (sym same ∙ c.if-is_comment_token.true)))
+
+pub returns : goal.returns
+returns c =
+    let at = c.args.at in
+    let l = line_at at c.args.token.now in
+    let same = c.is_comment_token.ensures at.line.number (line_chars at.line) at.indent in
+    ap (λ (z : List Comment). record { comments = z; nodes = c.args.progress.nodes; chunks = c.args.progress.chunks })
+    (sym (append-nil c.args.progress.comments) ∙ ap (λ (z : List Comment). c.args.progress.comments ++ z) (sym (passed l (sym same ∙ c.if-is_comment_token.false))))

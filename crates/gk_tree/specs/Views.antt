@@ -1,0 +1,94 @@
+-- What the parser's values are in the machine's terms.
+use Rattle.std.specs.Prelude.{◌≡◌, ℕ, List, map, Result, Ok, Err, ◌⊎◌}
+use Rattle.std.specs.Str.{chars, encode_utf8_all}
+use Rattle.gk_line.specs.Views.{line_chars, numbered_line, tag_word, title_text, step_text, fence_text}
+use Rattle.gk_grammar.specs.declared.fault.FaultKind.TheVariants as kind
+use Rattle.gk_grammar.specs.Token as read
+use Rattle.gk_grammar.specs.Token.{Text, line, line_of, tag_text, title_token, step_token, fence_token}
+use Rattle.gk_grammar.specs.Machine as machine
+use Rattle.gk_grammar.specs.Machine.{State, Bad}
+use Rattle.gk_line.specs.declared.tokens.Cell.{Cell}
+use Rattle.gk_line.specs.declared.tokens.TagText.{TagText}
+use Rattle.gk_tree.specs.declared.fault.ParseFault.{ParseFault}
+use Rattle.gk_tree.specs.declared.token.IndentedLine.{IndentedLine}
+use Rattle.gk_tree.specs.declared.token.Token.{Token}
+use Rattle.gk_tree.specs.declared.token.Token.TheVariants as token
+use Rattle.gk_tree.specs.declared.chunk.Body.{Body}
+use Rattle.gk_tree.specs.declared.chunk.Body.TheVariants as body
+use Rattle.gk_tree.specs.declared.chunk.Chunk.{Chunk}
+use Rattle.gk_tree.specs.declared.state.Progress.{Progress}
+use Rattle.gk_tree.specs.declared.state.Quote.{Quote}
+use Rattle.gk_tree.specs.declared.state.Phase.{Phase}
+use Rattle.gk_tree.specs.declared.state.Phase.TheVariants as phase
+use Rattle.gk_tree.specs.declared.state.Parser.{Parser}
+
+-- the text of these bytes, as a token has it
+abbrev pub text_of : List ℕ → Text
+text_of bytes = encode_utf8_all (chars bytes)
+
+abbrev pub word_of : TagText → read.TagText
+word_of t = tag_text (tag_word t)
+
+abbrev pub token_view : Token → read.Token
+token_view token.Blank = read.Blank
+token_view token.Comment = read.Comment
+token_view (token.Language word) = read.Language (text_of word.now)
+token_view (token.Tags tags) = read.Tags (Ok (map word_of tags.words.items))
+token_view (token.SpacedTag column) = read.Tags (Err column)
+token_view (token.Title block title) = title_token block (title_text title)
+token_view (token.Step step) = step_token (step_text step)
+token_view (token.Row cells) = read.Row cells
+token_view (token.Fenced fence) = fence_token (fence_text fence)
+token_view token.Other = read.Other
+
+-- a cell, its value as its characters spell it
+abbrev pub retold : Cell → Cell
+retold c = record { value = text_of c.value; column = c.column }
+
+-- a line that is read as this token
+abbrev pub line_at : IndentedLine → Token → read.Line
+line_at at t = line at.line.number (line_chars at.line) at.indent (token_view t)
+
+-- a line that was kept
+abbrev pub kept_line : IndentedLine → read.Line
+kept_line at = line_of (numbered_line at.line)
+
+abbrev pub body_of : Body → machine.Body
+body_of body.Bare = machine.Bare
+body_of (body.Steps steps) = machine.Steps steps
+body_of (body.Rows rows) = machine.Rows rows
+
+abbrev pub chunk_of : Chunk → machine.Chunk
+chunk_of c = record { block = c.block; node = c.node; place = c.location; tags = c.tags; keyword = c.keyword; name = c.name; description = c.description; body = body_of c.body }
+
+abbrev pub quote_of : Quote → machine.Quote
+quote_of q = record { place = q.location; fence = q.fence; media = text_of q.media.now; indent = q.indent }
+
+abbrev pub phase_of : Phase → machine.Phase
+phase_of phase.Before = machine.Before
+phase_of phase.Spoken = machine.Spoken
+phase_of (phase.Tagged before tags) = machine.Tagged before tags
+phase_of (phase.Described chunk lines) = machine.Described (chunk_of chunk) (map kept_line lines.items)
+phase_of (phase.Stepping s) = machine.Stepping (chunk_of s.chunk) s.before s.last
+phase_of (phase.Quoting s quote lines) = machine.Quoting (chunk_of s.chunk) s.before s.last (quote_of quote) (map kept_line lines.items)
+phase_of (phase.Listing chunk rows) = machine.Listing (chunk_of chunk) rows
+
+abbrev pub state_at : Progress → machine.Phase → State
+state_at p phase = record { comments = p.comments; nodes = p.nodes; chunks = map chunk_of p.chunks; phase = phase }
+
+abbrev pub state_of : Parser → State
+state_of p = state_at p.progress (phase_of p.phase)
+
+abbrev pub bad_of : ParseFault → Bad
+bad_of f = record { kind = f.kind; line = f.line; column = f.column }
+
+abbrev pub out_of_memory : ParseFault
+out_of_memory = record { kind = kind.Memory; line = 0; column = 0 }
+
+abbrev pub too_long : ParseFault
+too_long = record { kind = kind.TooLong; line = 0; column = 0 }
+
+-- what a function returned is what the machine gives, unless memory ran out
+abbrev pub Gives : {X Y : Type 0} → (X → Y) → Result X ParseFault → Result Y Bad → Type 0
+Gives view (Ok x) r = r ≡ Ok (view x)
+Gives view (Err fault) r = (fault ≡ out_of_memory) ⊎ (r ≡ Err (bad_of fault))

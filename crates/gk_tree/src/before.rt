@@ -1,0 +1,141 @@
+//! The lines before the first block, and those behind tags.
+ghost use Rattle.std.specs.Prelude.{◌≡◌, ◌<◌, ◌^◌};
+ghost use Rattle.gk_grammar.specs.Grammar.{english};
+ghost use Rattle.gk_grammar.specs.Machine as machine;
+ghost use Rattle.gk_tree.specs.Views.{text_of, line_at, phase_of, state_at, state_of, Gives};
+
+use crate::blocks::follows;
+use crate::fault::ParseFault;
+use crate::header::{fault, location, opened, spaced_tag, tagged, unexpected, with_comment};
+use crate::state::{Parser, Phase, Progress};
+use crate::token::{IndentedLine, Token};
+use gk_document::Tag;
+use gk_grammar::FaultKind;
+use gk_line::{Block, Sequence};
+use std::alloc::Global;
+
+/// A line before the first tag line or feature line.
+fn beginning<'a>(
+    alloc: Global,
+    progress: Progress,
+    phase: Phase<'a>,
+    at: IndentedLine<'a>,
+    token: Token<'a>,
+) -> Result<Parser<'a>, ParseFault>
+    requires room { progress.nodes < 2 ^ 63 }
+    ensures { Gives state_of result (machine.beginning (state_at progress machine.Before) (phase_of phase.entry) (line_at at.entry token.entry)) }
+{
+    match token {
+        Token::Blank => Ok(Parser {
+            progress,
+            phase: phase,
+        }),
+        Token::Comment => {
+            let progress = with_comment(alloc, progress, at)?;
+            Ok(Parser {
+                progress,
+                phase: phase,
+            })
+        }
+        Token::Tags(words) => {
+            Ok(tagged(alloc, progress, None, Sequence::new(alloc), at, words)?)
+        }
+        Token::SpacedTag(column) => Err(spaced_tag(at, column)),
+        Token::Title(Block::Feature, title) => {
+            Ok(opened(
+                alloc,
+                progress,
+                Block::Feature,
+                Sequence::new(alloc),
+                at,
+                title,
+            )?)
+        }
+        _ => Err(unexpected(at)),
+    }
+}
+
+/// A line before the first tag line, feature line or language line.
+pub(crate) fn before_feature<'a>(
+    alloc: Global,
+    progress: Progress,
+    at: IndentedLine<'a>,
+    token: Token<'a>,
+) -> Result<Parser<'a>, ParseFault>
+    requires room { progress.nodes < 2 ^ 63 }
+    ensures { Gives state_of result (machine.before_feature (state_at progress machine.Before) (line_at at.entry token.entry)) }
+{
+    if let Token::Language(word) = token {
+        if !is_english(word) {
+            return Err(fault(FaultKind::UnsupportedLanguage, location(at)));
+        }
+        return Ok(Parser {
+            progress,
+            phase: Phase::Spoken,
+        });
+    }
+    beginning(alloc, progress, Phase::Before, at, token)
+}
+
+fn is_english(word: &str) -> bool
+    ensures { result ≡ machine.same_text (text_of word.now) english }
+{
+    word == "en"
+}
+
+/// A line behind the language line, before the first tag line or feature line.
+pub(crate) fn spoken<'a>(
+    alloc: Global,
+    progress: Progress,
+    at: IndentedLine<'a>,
+    token: Token<'a>,
+) -> Result<Parser<'a>, ParseFault>
+    requires room { progress.nodes < 2 ^ 63 }
+    ensures { Gives state_of result (machine.spoken (state_at progress machine.Before) (line_at at.entry token.entry)) }
+{
+    if let Token::Language(_) = token {
+        let progress = with_comment(alloc, progress, at)?;
+        return Ok(Parser {
+            progress,
+            phase: Phase::Spoken,
+        });
+    }
+    beginning(alloc, progress, Phase::Spoken, at, token)
+}
+
+/// A line behind tag lines.
+pub(crate) fn behind_tags<'a>(
+    alloc: Global,
+    progress: Progress,
+    before: Option<Block>,
+    tags: Sequence<Tag>,
+    at: IndentedLine<'a>,
+    token: Token<'a>,
+) -> Result<Parser<'a>, ParseFault>
+    requires room { progress.nodes < 2 ^ 63 }
+    ensures { Gives state_of result (machine.behind_tags (state_at progress machine.Before) before tags (line_at at.entry token.entry)) }
+{
+    match token {
+        Token::Blank => Ok(Parser {
+            progress,
+            phase: Phase::Tagged(before, tags),
+        }),
+        Token::Comment | Token::Language(_) => {
+            let progress = with_comment(alloc, progress, at)?;
+            Ok(Parser {
+                progress,
+                phase: Phase::Tagged(before, tags),
+            })
+        }
+        Token::Tags(words) => Ok(tagged(alloc, progress, before, tags, at, words)?),
+        Token::SpacedTag(column) => Err(spaced_tag(at, column)),
+        Token::Title(block, title) => {
+            if follows(before, block) && block != Block::Background {
+                Ok(opened(alloc, progress, block, tags, at, title)?)
+            } else {
+                Err(unexpected(at))
+            }
+        }
+        _ => Err(unexpected(at)),
+    }
+}

@@ -1,0 +1,24 @@
+//! Blocks without the blocks below them.
+use gk_document::{Location, Row, Step, Tag};
+use gk_line::{Block, Sequence, Text};
+
+/// What stands below the description of a block.
+#[derive(Debug, Drop)]
+pub(crate) enum Body {
+    Bare,
+    Steps(Sequence<Step>),
+    Rows(Sequence<Row>),
+}
+
+/// A block without the blocks below it. A feature has the number of the next node.
+#[derive(Debug, Drop)]
+pub(crate) struct Chunk {
+    pub block: Block,
+    pub node: u64,
+    pub location: Location,
+    pub tags: Sequence<Tag>,
+    pub keyword: Text,
+    pub name: Text,
+    pub description: Text,
+    pub body: Body,
+}

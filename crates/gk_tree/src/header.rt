@@ -1,0 +1,229 @@
+//! Comments, tag lines and title lines.
+ghost use Rattle.std.specs.Prelude.{◌≡◌, ◌<◌, ◌≤◌, ◌^◌, ◌+◌, ◌∷◌, ◌++◌, [], ℕ, List, map, length, IfOk};
+ghost use Rattle.gk_grammar.specs.declared.fault.FaultKind.TheVariants as kinds;
+ghost use Rattle.gk_grammar.specs.Token as read;
+ghost use Rattle.gk_line.specs.Views.{line_chars};
+ghost use Rattle.gk_grammar.specs.Grammar.{comment_of, comments_of};
+ghost use Rattle.gk_grammar.specs.Machine as machine;
+ghost use Rattle.gk_tree.specs.Views.{text_of, word_of, token_view, line_at, body_of, state_at, state_of};
+
+use crate::chunk::{Body, Chunk};
+use crate::fault::ParseFault;
+use crate::state::{Parser, Phase, Progress};
+use crate::texts::{copied, tag_name};
+use crate::token::{IndentedLine, TagWords, Token};
+use gk_document::{Comment, Location, Tag};
+use gk_grammar::FaultKind;
+use gk_line::{Block, Sequence, TagText, Text, Title};
+use std::alloc::{AllocError, Global};
+
+/// The place of a line's first character behind its indent.
+pub(crate) fn location(at: IndentedLine<'_>) -> Location
+    ensures { result ≡ record { line = at.entry.line.number; column = at.entry.indent + 1 } }
+{
+    Location {
+        line: at.line.number,
+        column: at.indent + 1,
+    }
+}
+
+/// The fault of this kind there.
+pub(crate) fn fault(kind: FaultKind, location: Location) -> ParseFault
+    ensures { result ≡ record { kind = kind; line = location.line; column = location.column } }
+{
+    ParseFault {
+        kind,
+        line: location.line,
+        column: location.column,
+    }
+}
+
+/// The fault of a line that can't stand where it does.
+pub(crate) fn unexpected(at: IndentedLine<'_>) -> ParseFault
+    ensures { result ≡ record { kind = kinds.Unexpected; line = at.entry.line.number; column = at.entry.indent + 1 } }
+{
+    fault(FaultKind::Unexpected, location(at))
+}
+
+/// The fault of a tag line with white space in the tag at this column.
+pub(crate) fn spaced_tag(at: IndentedLine<'_>, column: u32) -> ParseFault
+    ensures { result ≡ record { kind = kinds.TagSpace; line = at.entry.line.number; column = column } }
+{
+    ParseFault {
+        kind: FaultKind::TagSpace,
+        line: at.line.number,
+        column,
+    }
+}
+
+/// Keeps the line if it is a comment.
+pub(crate) fn pass(
+    alloc: Global,
+    progress: Progress,
+    at: IndentedLine<'_>,
+    token: &Token<'_>,
+) -> Result<Progress, AllocError>
+    ensures { IfOk result (λ p. p ≡ record progress { comments = progress.comments ++ comments_of (line_at at.entry token.now ∷ []) }) }
+{
+    if is_comment_token(token) {
+        let kept = with_comment(alloc, progress, at)?;
+        return Ok(kept);
+    }
+    Ok(progress)
+}
+
+/// Keeps the line, which is a comment.
+pub(crate) fn with_comment(
+    alloc: Global,
+    mut progress: Progress,
+    at: IndentedLine<'_>,
+) -> Result<Progress, AllocError>
+    ensures { IfOk result (λ p. p ≡ record progress {
+      comments
+          = progress.comments ++ comment_of (read.line at.entry.line.number (line_chars at.entry.line) at.entry.indent read.Comment) ∷ [];
+    }) }
+{
+    let comment = Comment {
+        location: Location {
+            line: at.line.number,
+            column: 1,
+        },
+        text: copied(alloc, at.line.text)?,
+    };
+    progress.comments.push(comment)?;
+    Ok(progress)
+}
+
+/// Whether the line is a comment, also a language line.
+fn is_comment_token(token: &Token<'_>) -> bool
+    ensures { (n : ℕ) (text : List ℕ) (i : ℕ) → result ≡ read.is_comment (read.line n text i (token_view token.now)) }
+{
+    match token {
+        Token::Comment | Token::Language(_) => true,
+        Token::Blank
+        | Token::Tags(_)
+        | Token::SpacedTag(_)
+        | Token::Title(_, _)
+        | Token::Step(_)
+        | Token::Row(_)
+        | Token::Fenced(_)
+        | Token::Other => false,
+    }
+}
+
+/// The tags with those of a line behind them, numbered from `node` on.
+fn with_tags(
+    alloc: Global,
+    tags: Sequence<Tag>,
+    node: u64,
+    number: u32,
+    words: &[TagText<'_>],
+) -> Result<Sequence<Tag>, AllocError>
+    requires { node + length words.now < 2 ^ 64 }
+    ensures { IfOk result (λ all. all ≡ tags ++ machine.tags_from number node (map word_of words.now)) }
+{
+    let mut all = tags;
+    let mut next = node;
+    for word in words {
+        all.push(Tag {
+            node: next,
+            location: Location {
+                line: number,
+                column: word.column,
+            },
+            name: tag_name(alloc, word.word)?,
+        })?;
+        next += 1;
+    }
+    Ok(all)
+}
+
+/// A tag line behind these tags.
+pub(crate) fn tagged<'a>(
+    alloc: Global,
+    progress: Progress,
+    before: Option<Block>,
+    tags: Sequence<Tag>,
+    at: IndentedLine<'a>,
+    words: TagWords<'a>,
+) -> Result<Parser<'a>, AllocError>
+    requires room { progress.nodes < 2 ^ 63 }
+    ensures { IfOk result (λ p. state_of p
+        ≡ machine.tagged (state_at progress machine.Before) before tags at.entry.line.number (map word_of words.entry.words.items)) }
+{
+    let Progress {
+        comments,
+        nodes,
+        chunks,
+    } = progress;
+    let count = words.words.len() as u64;
+    let tags = with_tags(alloc, tags, nodes, at.line.number, &words.words)?;
+    Ok(Parser {
+        progress: Progress {
+            comments,
+            nodes: nodes + count,
+            chunks,
+        },
+        phase: Phase::Tagged(before, tags),
+    })
+}
+
+/// A title line behind these tags.
+pub(crate) fn opened<'a>(
+    alloc: Global,
+    progress: Progress,
+    block: Block,
+    tags: Sequence<Tag>,
+    at: IndentedLine<'a>,
+    title: Title<'a>,
+) -> Result<Parser<'a>, AllocError>
+    requires room { progress.nodes < 2 ^ 63 }
+    ensures { IfOk result (λ p. state_of p
+        ≡ machine.opened (state_at progress machine.Before) block tags at.entry.line.number at.entry.indent (text_of title.entry.keyword.now) (text_of title.entry.name.now)) }
+{
+    let Progress {
+        comments,
+        nodes,
+        chunks,
+    } = progress;
+    let chunk = Chunk {
+        block,
+        node: nodes,
+        location: location(at),
+        tags,
+        keyword: copied(alloc, title.keyword)?,
+        name: copied(alloc, title.name)?,
+        description: Text::from(String::new(alloc)),
+        body: empty_body(alloc, block),
+    };
+    Ok(Parser {
+        progress: Progress {
+            comments,
+            nodes: nodes + own_node(block),
+            chunks,
+        },
+        phase: Phase::Described(chunk, Vec::new(alloc)),
+    })
+}
+
+/// How many nodes the title line of a block is.
+fn own_node(block: Block) -> u64
+    ensures value { result ≡ machine.own_node block }
+    ensures bound { result ≤ 1 }
+{
+    match block {
+        Block::Feature => 0,
+        Block::Rule | Block::Background | Block::Scenario | Block::Examples => 1,
+    }
+}
+
+/// What a block has below its description at first.
+fn empty_body(alloc: Global, block: Block) -> Body
+    ensures { body_of result ≡ machine.empty_body block }
+{
+    match block {
+        Block::Feature | Block::Rule => Body::Bare,
+        Block::Background | Block::Scenario => Body::Steps(Sequence::new(alloc)),
+        Block::Examples => Body::Rows(Sequence::new(alloc)),
+    }
+}

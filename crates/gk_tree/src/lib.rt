@@ -1,0 +1,26 @@
+//! The parser of feature files: it takes exactly the texts of the grammar, and makes their one document.
+#![tactic(auto)]
+
+mod assemble;
+mod before;
+mod blocks;
+mod chunk;
+mod fault;
+mod header;
+mod one_pass;
+mod read;
+mod state;
+mod steps;
+mod texts;
+mod token;
+
+pub use fault::ParseFault;
+pub use gk_document::{
+    Argument, Background, Comment, DocString, Document, ExampleTable, Examples, Feature, Location,
+    Row, Rule, Scenario, Step, Tag,
+};
+pub use gk_grammar::FaultKind;
+pub use one_pass::parse;
+
+#[cfg(test)]
+mod tests;

@@ -1,0 +1,161 @@
+//! The one pass over the lines of a text.
+ghost use Rattle.std.specs.Prelude.{◌≡◌, ◌≢◌, ◌≤◌, ◌<◌, ◌+◌, ◌^◌, ◌↔◌, None, Err, length, IfOk, IfErr, IfSome};
+ghost use Rattle.gk_line.specs.Views.{numbered_line};
+ghost use Rattle.gk_grammar.specs.declared.fault.FaultKind.TheVariants as kind;
+ghost use Rattle.gk_grammar.specs.Documents.{lines_read, IsDocumentOf, HasFault, IsTooLong, byte_limit, line_limit};
+ghost use Rattle.gk_grammar.specs.Token.{line_of};
+ghost use Rattle.gk_grammar.specs.Machine as machine;
+ghost use Rattle.gk_tree.specs.Views.{state_of, phase_of, Gives, out_of_memory, too_long};
+ghost use Rattle.gk_tree.specs.Ends.{ended, document_at, Answers};
+ghost use Rattle.gk_tree.specs.EndViews.{last_of};
+
+use crate::assemble::assembled;
+use crate::before::{before_feature, behind_tags, spoken};
+use crate::blocks::{described, describing, listing, with_rows};
+use crate::chunk::Chunk;
+use crate::fault::ParseFault;
+use crate::read::{indented, token};
+use crate::state::{Parser, Phase, Progress};
+use crate::steps::{quoting, stepping, with_steps};
+use gk_document::Document;
+use gk_grammar::FaultKind;
+use gk_line::{Line, Sequence, lines};
+use std::alloc::Global;
+
+/// The most bytes of a text.
+const MAX_BYTES: usize = 16_777_216;
+
+/// The most lines of a text.
+const MAX_LINES: u32 = 1_000_000;
+
+/// The document of a feature file.
+///
+/// # Errors
+/// The fault of a text that is no feature file. A text of more than 16,777,216 bytes or 1,000,000 lines is too long,
+/// whatever else is wrong with it, and no memory is taken for it.
+pub fn parse(alloc: Global, text: &str) -> Result<Document, ParseFault>
+    ensures ok { IfOk result (λ d. IsDocumentOf text.now d) }
+    ensures fault { IfErr result (λ f. f.kind ≢ kind.Memory → f.kind ≢ kind.TooLong → HasFault text.now f.kind f.line f.column) }
+    ensures too_long { (result ≡ Err too_long) ↔ IsTooLong text.now }
+    ensures at_limits { IfErr result (λ f. f.kind ≡ kind.TooLong → f ≡ too_long) }
+    ensures memory { IfErr result (λ f. f.kind ≡ kind.Memory → f ≡ out_of_memory) }
+{
+    let Some(count) = line_count(text) else {
+        return Err(ParseFault {
+            kind: FaultKind::TooLong,
+            line: 0,
+            column: 0,
+        });
+    };
+    within_limits(alloc, text, count + 1)
+}
+
+/// How many lines the text has, if it isn't too long.
+#[tactic(auto, unfolding(gk_grammar::specs::Documents::lines_read))]
+fn line_count(text: &str) -> Option<u32>
+    ensures some { IfSome result (λ count. (count ≡ length (lines_read text.now)) × (count ≤ line_limit) × (length text.now ≤ byte_limit)) }
+    ensures none { (result ≡ None) ↔ IsTooLong text.now }
+{
+    if text.len() > MAX_BYTES {
+        return None;
+    }
+    let mut count = 0;
+    for _line in lines(text) {
+        if count == MAX_LINES {
+            return None;
+        }
+        count += 1;
+    }
+    Some(count)
+}
+
+/// The document of a text that isn't too long, and behind whose last line is this one.
+fn within_limits(alloc: Global, text: &str, behind: u32) -> Result<Document, ParseFault>
+    requires short { length text.now ≤ byte_limit }
+    requires few { length (lines_read text.now) ≤ line_limit }
+    requires behind { behind ≡ length (lines_read text.now) + 1 }
+    ensures { Answers text.now result }
+{
+    let parser = taken(alloc, text)?;
+    finished(alloc, parser, behind)
+}
+
+/// All lines.
+#[tactic(auto, unfolding(gk_grammar::specs::Documents::lines_read))]
+fn taken<'a>(alloc: Global, text: &'a str) -> Result<Parser<'a>, ParseFault>
+    requires short { length text.now ≤ byte_limit }
+    requires few { length (lines_read text.now) ≤ line_limit }
+    ensures { Gives state_of result (machine.run machine.initial (lines_read text.now)) }
+{
+    let mut parser = Parser {
+        progress: Progress {
+            comments: Sequence::new(alloc),
+            nodes: 0,
+            chunks: Sequence::new(alloc),
+        },
+        phase: Phase::Before,
+    };
+    for line in lines(text) {
+        parser = take(alloc, parser, line)?;
+    }
+    Ok(parser)
+}
+
+/// One line.
+fn take<'a>(alloc: Global, parser: Parser<'a>, line: Line<'a>) -> Result<Parser<'a>, ParseFault>
+    requires short { length line.text.now ≤ 16_777_216 }
+    requires room { parser.progress.nodes < 2 ^ 63 }
+    ensures { Gives state_of result (machine.next (state_of parser.entry) (line_of (numbered_line line.entry))) }
+{
+    let Parser { progress, phase } = parser;
+    let at = indented(line);
+    let token = token(alloc, line)?;
+    match phase {
+        Phase::Before => before_feature(alloc, progress, at, token),
+        Phase::Spoken => spoken(alloc, progress, at, token),
+        Phase::Tagged(before, tags) => behind_tags(alloc, progress, before, tags, at, token),
+        Phase::Described(chunk, lines) => describing(alloc, progress, chunk, lines, at, token),
+        Phase::Stepping(stepped) => stepping(alloc, progress, stepped, at, token),
+        Phase::Quoting(stepped, quote, lines) => {
+            quoting(alloc, progress, stepped, quote, lines, at, token)
+        }
+        Phase::Listing(chunk, rows) => listing(alloc, progress, chunk, rows, at, token),
+    }
+}
+
+/// The last block, where the text may end at this phase. Elsewhere the fault stands at the line behind the last one.
+fn closed(alloc: Global, phase: Phase<'_>, behind: u32) -> Result<Option<Chunk>, ParseFault>
+    ensures { Gives last_of result (ended behind (machine.closed (phase_of phase.entry))) }
+{
+    match phase {
+        Phase::Before => Ok(None),
+        Phase::Described(chunk, lines) => Ok(Some(described(alloc, chunk, &lines)?)),
+        Phase::Stepping(stepped) => Ok(Some(with_steps(stepped)?)),
+        Phase::Listing(chunk, rows) => Ok(Some(with_rows(chunk, rows))),
+        Phase::Spoken | Phase::Tagged(_, _) | Phase::Quoting(_, _, _) => Err(ParseFault {
+            kind: FaultKind::UnexpectedEnd,
+            line: behind,
+            column: 1,
+        }),
+    }
+}
+
+/// The document, where the text may end.
+fn finished(alloc: Global, parser: Parser<'_>, behind: u32) -> Result<Document, ParseFault>
+    ensures { Gives (λ d. d) result (document_at behind (state_of parser.entry)) }
+{
+    let Parser { progress, phase } = parser;
+    let Progress {
+        comments,
+        nodes,
+        mut chunks,
+    } = progress;
+    if let Some(chunk) = closed(alloc, phase, behind)? {
+        chunks.push(chunk)?;
+    }
+    Ok(Document {
+        feature: assembled(alloc, chunks)?,
+        comments,
+        nodes,
+    })
+}

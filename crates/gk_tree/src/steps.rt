@@ -1,0 +1,298 @@
+//! Steps, the rows of tables, and doc strings.
+ghost use Rattle.std.specs.Prelude.{◌≡◌, ◌<◌, ◌^◌, ◌+◌, ◌∷◌, ◌++◌, [], ℕ, List, map, None, Ok, IfOk};
+ghost use Rattle.gk_line.specs.Views.{line_chars, step_text};
+ghost use Rattle.gk_grammar.specs.Token as read;
+ghost use Rattle.gk_grammar.specs.Grammar as grammar;
+ghost use Rattle.gk_grammar.specs.Machine as machine;
+ghost use Rattle.gk_tree.specs.Views.{text_of, token_view, line_at, chunk_of, quote_of, kept_line, state_at, state_of, Gives};
+ghost use Rattle.gk_tree.specs.Rows.{rows_with, row_behind};
+ghost use Rattle.gk_tree.specs.Read.{IsRead};
+
+use crate::blocks::leaving;
+use crate::chunk::{Body, Chunk};
+use crate::fault::ParseFault;
+use crate::header::{fault, location, unexpected, with_comment};
+use crate::state::{Parser, Phase, Progress, Quote, Stepped};
+use crate::texts::{content, copied, media_type};
+use crate::token::{IndentedLine, Token};
+use gk_document::{Argument, DocString, Row, Step};
+use gk_grammar::FaultKind;
+use gk_line::{Cell, FenceLine, Sequence, StepLine};
+use std::alloc::{AllocError, Global};
+
+/// With one node more.
+pub(crate) fn counted(mut progress: Progress) -> Progress
+    requires room { progress.nodes < 2 ^ 63 }
+    ensures { result ≡ record progress { nodes = progress.nodes + 1 } }
+{
+    progress.nodes += 1;
+    progress
+}
+
+/// The row that the line is.
+pub(crate) fn row_at(node: u64, at: IndentedLine<'_>, cells: Sequence<Cell>) -> Row
+    ensures { result ≡ record { node = node; location = grammar.at at.entry.line.number (at.entry.indent + 1); cells = cells } }
+{
+    Row {
+        node,
+        location: location(at),
+        cells,
+    }
+}
+
+/// The step that the line is.
+pub(crate) fn step_at(
+    alloc: Global,
+    node: u64,
+    at: IndentedLine<'_>,
+    line: StepLine<'_>,
+) -> Result<Step, AllocError>
+    ensures { IfOk result (λ s. s ≡ record {
+      node = node;
+      location = grammar.at at.entry.line.number (at.entry.indent + 1);
+      keyword = text_of line.entry.keyword.now;
+      kind = line.entry.kind;
+      text = text_of line.entry.text.now;
+      argument = None;
+    }) }
+{
+    Ok(Step {
+        node,
+        location: location(at),
+        keyword: copied(alloc, line.keyword)?,
+        kind: line.kind,
+        text: copied(alloc, line.text)?,
+        argument: None,
+    })
+}
+
+/// The first row of a table.
+pub(crate) fn single_row(alloc: Global, row: Row) -> Result<Sequence<Row>, AllocError>
+    ensures { IfOk result (λ rows. rows ≡ row ∷ []) }
+{
+    let mut rows = Sequence::new(alloc);
+    rows.push(row)?;
+    Ok(rows)
+}
+
+/// One row more of a table.
+pub(crate) fn with_row(mut rows: Sequence<Row>, row: Row) -> Result<Sequence<Row>, ParseFault>
+    ensures { Gives (λ all. all) result (rows_with rows row) }
+{
+    if row.cells.len() != cell_count(rows.as_slice()) {
+        return Err(fault(FaultKind::CellCount, row.location));
+    }
+    rows.push(row)?;
+    Ok(rows)
+}
+
+/// How many cells the first row has.
+fn cell_count(rows: &[Row]) -> usize
+    ensures { result ≡ machine.count_of rows.now }
+{
+    match rows {
+        [] => 0,
+        [first, ..] => first.cells.len(),
+    }
+}
+
+/// The block with its steps below it.
+pub(crate) fn with_steps(stepped: Stepped) -> Result<Chunk, AllocError>
+    ensures { IfOk result (λ c. chunk_of c ≡ machine.with_steps (chunk_of stepped.chunk) (stepped.before ++ stepped.last ∷ [])) }
+{
+    let Stepped {
+        mut chunk,
+        mut before,
+        last,
+    } = stepped;
+    before.push(last)?;
+    chunk.body = Body::Steps(before);
+    Ok(chunk)
+}
+
+/// A step line behind steps.
+fn next_step<'a>(
+    alloc: Global,
+    progress: Progress,
+    stepped: Stepped,
+    at: IndentedLine<'a>,
+    line: StepLine<'a>,
+) -> Result<Parser<'a>, AllocError>
+    requires room { progress.nodes < 2 ^ 63 }
+    ensures { IfOk result (λ p. machine.stepping (state_at progress machine.Before) (chunk_of stepped.chunk) stepped.before stepped.last
+        (read.line at.entry.line.number (line_chars at.entry.line) at.entry.indent (read.step_token (step_text line.entry))) ≡ Ok (state_of p)) }
+{
+    let Stepped {
+        chunk,
+        mut before,
+        last,
+    } = stepped;
+    before.push(last)?;
+    let last = step_at(alloc, progress.nodes, at, line)?;
+    Ok(Parser {
+        progress: counted(progress),
+        phase: Phase::Stepping(Stepped {
+            chunk,
+            before,
+            last,
+        }),
+    })
+}
+
+/// A row behind a step.
+fn step_row(alloc: Global, mut last: Step, row: Row) -> Result<Step, ParseFault>
+    ensures { Gives (λ step. step) result (row_behind last last.argument row) }
+{
+    let rows = match last.argument.take() {
+        None => single_row(alloc, row)?,
+        Some(Argument::Table(rows)) => with_row(rows, row)?,
+        Some(Argument::Text(_)) => return Err(fault(FaultKind::Unexpected, row.location)),
+    };
+    last.argument = Some(Argument::Table(rows));
+    Ok(last)
+}
+
+/// A fence behind a step.
+fn step_fence<'a>(
+    alloc: Global,
+    progress: Progress,
+    stepped: Stepped,
+    at: IndentedLine<'a>,
+    line: FenceLine<'a>,
+) -> Result<Parser<'a>, ParseFault>
+    ensures { Gives state_of result (machine.step_fence (state_at progress machine.Before) (chunk_of stepped.chunk) stepped.before stepped.last
+        stepped.last.argument at.entry.line.number at.entry.indent line.entry.fence (text_of line.entry.media.now)) }
+{
+    if stepped.last.argument.is_some() {
+        return Err(unexpected(at));
+    }
+    let quote = Quote {
+        location: location(at),
+        fence: line.fence,
+        media: line.media,
+        indent: at.indent,
+    };
+    Ok(Parser {
+        progress,
+        phase: Phase::Quoting(stepped, quote, Vec::new(alloc)),
+    })
+}
+
+/// A line behind a whole block with steps, which isn't part of it.
+fn leaving_steps<'a>(
+    alloc: Global,
+    progress: Progress,
+    stepped: Stepped,
+    at: IndentedLine<'a>,
+    token: Token<'a>,
+) -> Result<Parser<'a>, ParseFault>
+    requires room { progress.nodes < 2 ^ 63 }
+    ensures { Gives state_of result (machine.leaving (state_at progress machine.Before)
+        (machine.with_steps (chunk_of stepped.chunk) (stepped.before ++ stepped.last ∷ [])) (line_at at.entry token.entry)) }
+{
+    let chunk = with_steps(stepped)?;
+    leaving(alloc, progress, chunk, at, token)
+}
+
+/// A line behind steps.
+pub(crate) fn stepping<'a>(
+    alloc: Global,
+    progress: Progress,
+    stepped: Stepped,
+    at: IndentedLine<'a>,
+    token: Token<'a>,
+) -> Result<Parser<'a>, ParseFault>
+    requires room { progress.nodes < 2 ^ 63 }
+    ensures { Gives state_of result (machine.stepping (state_at progress machine.Before) (chunk_of stepped.chunk) stepped.before stepped.last
+        (line_at at.entry token.entry)) }
+{
+    match token {
+        Token::Step(line) => Ok(next_step(alloc, progress, stepped, at, line)?),
+        Token::Row(cells) => {
+            let row = row_at(progress.nodes, at, cells);
+            let Stepped {
+                chunk,
+                before,
+                last,
+            } = stepped;
+            let last = step_row(alloc, last, row)?;
+            Ok(Parser {
+                progress: counted(progress),
+                phase: Phase::Stepping(Stepped {
+                    chunk,
+                    before,
+                    last,
+                }),
+            })
+        }
+        Token::Fenced(line) => step_fence(alloc, progress, stepped, at, line),
+        Token::Blank => Ok(Parser {
+            progress,
+            phase: Phase::Stepping(stepped),
+        }),
+        Token::Comment | Token::Language(_) => {
+            let progress = with_comment(alloc, progress, at)?;
+            Ok(Parser {
+                progress,
+                phase: Phase::Stepping(stepped),
+            })
+        }
+        token => leaving_steps(alloc, progress, stepped, at, token),
+    }
+}
+
+/// The steps with the doc string below the last one.
+fn quoted(
+    alloc: Global,
+    mut stepped: Stepped,
+    quote: Quote<'_>,
+    lines: &[IndentedLine<'_>],
+) -> Result<Stepped, AllocError>
+    ensures { IfOk result (λ s. s ≡ record stepped { last = machine.quoted stepped.last (quote_of quote.entry) (map kept_line lines.now) }) }
+{
+    let text = DocString {
+        location: quote.location,
+        media: media_type(alloc, quote.media)?,
+        content: content(alloc, lines, quote.fence, quote.indent)?,
+        fence: quote.fence,
+    };
+    stepped.last.argument = Some(Argument::Text(text));
+    Ok(stepped)
+}
+
+/// A line in a doc string, or the one that closes it.
+pub(crate) fn quoting<'a>(
+    alloc: Global,
+    progress: Progress,
+    stepped: Stepped,
+    quote: Quote<'a>,
+    mut lines: Vec<IndentedLine<'a>>,
+    at: IndentedLine<'a>,
+    token: Token<'a>,
+) -> Result<Parser<'a>, ParseFault>
+    requires { IsRead at token }
+    ensures { Gives state_of result (machine.at_phase (state_at progress machine.Before)
+        (machine.Quoting (chunk_of stepped.chunk) stepped.before stepped.last (quote_of quote.entry) (map kept_line lines.entry.items)) (line_at at.entry token.entry)) }
+{
+    if is_fence(quote, &token) {
+        return Ok(Parser {
+            progress,
+            phase: Phase::Stepping(quoted(alloc, stepped, quote, &lines)?),
+        });
+    }
+    lines.push(at)?;
+    Ok(Parser {
+        progress,
+        phase: Phase::Quoting(stepped, quote, lines),
+    })
+}
+
+/// Whether the line closes the doc string.
+fn is_fence(quote: Quote<'_>, token: &Token<'_>) -> bool
+    ensures { (n : ℕ) (text : List ℕ) (i : ℕ) → result ≡ grammar.is_fence quote.entry.fence (read.line n text i (token_view token.now)) }
+{
+    match token {
+        Token::Fenced(line) => line.fence == quote.fence,
+        _ => false,
+    }
+}

@@ -1,0 +1,129 @@
+//! Texts of the tree.
+ghost use Rattle.std.specs.Prelude.{◌≡◌, ◌++◌, map, reverse, filter, not, codes, length, IfOk, OnOk, if◌then◌else◌, [], ◌∷◌};
+ghost use Rattle.std.specs.String.{string_bytes};
+ghost use Rattle.std.specs.List.{join_with_byte};
+ghost use Rattle.gk_grammar.specs.Token.{bytes};
+ghost use Rattle.gk_grammar.specs.Token as read;
+ghost use Rattle.gk_grammar.specs.Grammar.{media_of, description_of, from_text, line_feed, content_line};
+ghost use Rattle.gk_tree.specs.Views.{text_of, kept_line};
+
+use crate::token::IndentedLine;
+use gk_line::{Fence, Text, doc_line, is_blank, is_comment};
+use std::alloc::{AllocError, Global};
+
+/// A text of its own with these characters.
+pub(crate) fn copied(alloc: Global, text: &str) -> Result<Text, AllocError>
+    ensures { IfOk result (λ t. t ≡ text_of text.now) }
+{
+    Text::copy_of(alloc, text)
+}
+
+/// The media type, where there is one.
+pub(crate) fn media_type(alloc: Global, media: &str) -> Result<Option<Text>, AllocError>
+    ensures { IfOk result (λ m. m ≡ media_of (text_of media.now)) }
+{
+    if media.is_empty() {
+        return Ok(None);
+    }
+    Ok(Some(Text::copy_of(alloc, media)?))
+}
+
+/// The name of a tag.
+pub(crate) fn tag_name(alloc: Global, word: &str) -> Result<Text, AllocError>
+    ensures { IfOk result (λ t. t ≡ codes "@" ++ text_of word.now) }
+{
+    let mut name = String::new(alloc);
+    name.push('@')?;
+    name.push_str(word)?;
+    Ok(Text::from(name))
+}
+
+/// The text of a description of these lines.
+pub(crate) fn description(alloc: Global, lines: &[IndentedLine<'_>]) -> Result<Text, AllocError>
+    ensures { IfOk result (λ t. t ≡ description_of (map kept_line lines.now)) }
+{
+    let kept = without_comments(alloc, lines)?;
+    joined(alloc, without_last_blanks(without_first_blanks(&kept)))
+}
+
+fn without_comments<'a>(
+    alloc: Global,
+    lines: &[IndentedLine<'a>],
+) -> Result<Vec<IndentedLine<'a>>, AllocError>
+    ensures { IfOk result (λ v. map kept_line v.items ≡ filter (λ l. not (read.is_comment l)) (map kept_line lines.now)) }
+{
+    let mut kept = Vec::new(alloc);
+    for line in lines {
+        if !is_comment(line.line) {
+            kept.push(*line)?;
+        }
+    }
+    Ok(kept)
+}
+
+fn without_first_blanks<'a, 'l>(lines: &'l [IndentedLine<'a>]) -> &'l [IndentedLine<'a>]
+    ensures { map kept_line result.now ≡ from_text (map kept_line lines.now) }
+{
+    for (i, line) in lines.iter().enumerate() {
+        if !is_blank(line.line) {
+            return &lines[i..];
+        }
+    }
+    &lines[lines.len()..]
+}
+
+fn without_last_blanks<'a, 'l>(lines: &'l [IndentedLine<'a>]) -> &'l [IndentedLine<'a>]
+    ensures { map kept_line result.now ≡ reverse (from_text (reverse (map kept_line lines.now))) }
+{
+    let mut end = lines.len();
+    while end > 0 {
+        if !is_blank(lines[end - 1].line) {
+            return &lines[..end];
+        }
+        end -= 1;
+    }
+    &lines[..0]
+}
+
+/// Adds a line, behind a line feed if it isn't the first.
+#[tactic(auto, using(crate::proofs::TextLemmas::text_same))]
+fn push_line(text: &mut String, is_first: bool, line: &str) -> Result<(), AllocError>
+    ensures { OnOk result (string_bytes text.new
+        ≡ (if is_first then string_bytes text.old ++ text_of line.now else (string_bytes text.old ++ line_feed ∷ []) ++ text_of line.now)) }
+{
+    if is_first {
+        text.push_str(line)?;
+        return Ok(());
+    }
+    text.push('\n')?;
+    text.push_str(line)?;
+    Ok(())
+}
+
+/// The lines with a line feed between them.
+fn joined(alloc: Global, lines: &[IndentedLine<'_>]) -> Result<Text, AllocError>
+    ensures { IfOk result (λ t. t ≡ join_with_byte line_feed (map bytes (map kept_line lines.now))) }
+{
+    let mut text = String::new(alloc);
+    for (i, line) in lines.iter().enumerate() {
+        push_line(&mut text, i == 0, line.line.text)?;
+    }
+    Ok(Text::from(text))
+}
+
+/// The content of a doc string of these lines.
+pub(crate) fn content(
+    alloc: Global,
+    lines: &[IndentedLine<'_>],
+    fence: Fence,
+    indent: u32,
+) -> Result<Text, AllocError>
+    ensures { IfOk result (λ t. t ≡ join_with_byte line_feed (map (content_line fence indent) (map kept_line lines.now))) }
+{
+    let mut text = String::new(alloc);
+    for (i, line) in lines.iter().enumerate() {
+        let line = doc_line(alloc, line.line, fence, indent)?;
+        push_line(&mut text, i == 0, line.as_str())?;
+    }
+    Ok(Text::from(text))
+}

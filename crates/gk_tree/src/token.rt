@@ -1,0 +1,37 @@
+//! What the grammar asks of a line.
+ghost use Rattle.std.specs.Prelude.{◌≡◌, ◌≤◌, vec_len, length};
+
+use gk_line::{Block, Cell, FenceLine, Line, Sequence, StepLine, TagText, Title};
+
+/// A line with its indent.
+#[derive(Clone, Copy)]
+pub(crate) struct IndentedLine<'a> {
+    pub line: Line<'a>,
+    pub indent: u32,
+    ghost short: { length line.text.now ≤ 16_777_216 },
+    ghost bound: { indent ≤ 16_777_216 },
+}
+
+/// The tags of a tag line.
+#[derive(Drop)]
+pub(crate) struct TagWords<'a> {
+    pub words: Vec<TagText<'a>>,
+    ghost few: { vec_len words ≤ 16_777_216 },
+}
+
+/// What a line is read as, behind its indent.
+#[derive(Drop)]
+pub(crate) enum Token<'a> {
+    Blank,
+    Comment,
+    /// The word of a language line.
+    Language(&'a str),
+    Tags(TagWords<'a>),
+    /// A tag line with white space in the tag at this column.
+    SpacedTag(u32),
+    Title(Block, Title<'a>),
+    Step(StepLine<'a>),
+    Row(Sequence<Cell>),
+    Fenced(FenceLine<'a>),
+    Other,
+}
