@@ -25,35 +25,56 @@ pub(crate) fn refuses(rt: &impl Abort, alloc: Global, line: &[u8], kind: &str, f
     }
 }
 
+// The kind and the field of each fault (`-` for none), and the line that has it.
+const FAULTS: &str = r#"Shape - []
+testCase id {"testCase":{}}
+Shape - {"testCase":[]}
+Shape - {"testCase":{},"testStepStarted":{}}
+NotJson - {} {}
+testCase pickleId {"testCase":{"testSteps":5,"id":"c"}}
+testCase testSteps {"testCase":{"testSteps":5,"id":"c","pickleId":"p"}}
+testCase testSteps {"testCase":{"testSteps":[{}],"id":"c","pickleId":"p"}}
+testCase id {"testCase":{"testSteps":[{"hookId":5}],"id":"c","pickleId":"p"}}
+testCase stepDefinitionIds {"testCase":{"testSteps":[{"id":"t","hookId":"h","stepDefinitionIds":[1]}],"id":"c","pickleId":"p"}}
+testStepFinished testStepResult {"testStepFinished":{"testCaseStartedId":"a","testStepId":"t"}}
+testStepFinished status {"testStepFinished":{"testCaseStartedId":"a","testStepId":"t","testStepResult":{"status":"passed"}}}"#;
+
 #[test]
-fn first_lines(rt: HostRuntime) -> Result<(), Fail> {
+fn faults_of_lines(rt: HostRuntime) {
     let alloc = rt.alloc();
-    refuses(&rt, alloc, b"[]", "Shape", "");
-    refuses(&rt, alloc, b"{\"testCase\":{}}", "testCase", "id");
-    refuses(&rt, alloc, b"{\"testCase\":[]}", "Shape", "");
-    refuses(
-        &rt,
-        alloc,
-        b"{\"testCase\":{},\"testStepStarted\":{}}",
-        "Shape",
-        "",
-    );
-    refuses(&rt, alloc, b"\xff", "NotJson", "");
-    refuses(&rt, alloc, b"", "NotJson", "");
-    refuses(&rt, alloc, b"\xef\xbb\xbf{}", "NotJson", "");
-    refuses(&rt, alloc, b"{} {}", "NotJson", "");
-    assert!(rt;
-        matches!(
-            read_envelope(alloc, b"{\"meta\":{}}\r"),
-            Ok(Envelope::Other)
-        )
-    );
+    for told in FAULTS.lines() {
+        let parts = told.split_once(' ');
+        let Some((kind, rest)) = parts else {
+            assert!(rt; false, "{told}");
+            return;
+        };
+        let Some((field, line)) = rest.split_once(' ') else {
+            assert!(rt; false, "{told}");
+            return;
+        };
+        let field = if field == "-" { "" } else { field };
+        refuses(&rt, alloc, line.as_bytes(), kind, field);
+    }
+}
+
+#[test]
+fn lines_without_a_value(rt: HostRuntime) {
+    let alloc = rt.alloc();
+    for line in [b"".as_slice(), b"\xff", b"\xef\xbb\xbf{}"] {
+        refuses(&rt, alloc, line, "NotJson", "");
+    }
+}
+
+#[test]
+fn a_return_at_the_end_and_a_null_kind(rt: HostRuntime) {
+    let alloc = rt.alloc();
+    let other = read_envelope(alloc, b"{\"meta\":{}}\r");
+    assert!(rt; matches!(other, Ok(Envelope::Other)));
     let null_kind = read_envelope(
         alloc,
         b"{\"testCase\":null,\"testCaseFinished\":{\"testCaseStartedId\":\"a\"}}",
     );
     assert!(rt; matches!(null_kind, Ok(Envelope::TestCaseFinished(_))));
-    Ok(())
 }
 
 #[test]
@@ -107,57 +128,8 @@ fn attempts(rt: HostRuntime) -> Result<(), Fail> {
 }
 
 #[test]
-fn members_in_order(rt: HostRuntime) -> Result<(), Fail> {
+fn a_test_case(rt: HostRuntime) {
     let alloc = rt.alloc();
-    refuses(
-        &rt,
-        alloc,
-        b"{\"testCase\":{\"testSteps\":5,\"id\":\"c\"}}",
-        "testCase",
-        "pickleId",
-    );
-    refuses(
-        &rt,
-        alloc,
-        b"{\"testCase\":{\"testSteps\":5,\"id\":\"c\",\"pickleId\":\"p\"}}",
-        "testCase",
-        "testSteps",
-    );
-    refuses(
-        &rt,
-        alloc,
-        b"{\"testCase\":{\"testSteps\":[{}],\"id\":\"c\",\"pickleId\":\"p\"}}",
-        "testCase",
-        "testSteps",
-    );
-    refuses(
-        &rt,
-        alloc,
-        b"{\"testCase\":{\"testSteps\":[{\"hookId\":5}],\"id\":\"c\",\"pickleId\":\"p\"}}",
-        "testCase",
-        "id",
-    );
-    refuses(
-        &rt,
-        alloc,
-        b"{\"testCase\":{\"testSteps\":[{\"id\":\"t\",\"hookId\":\"h\",\"stepDefinitionIds\":[1]}],\"id\":\"c\",\"pickleId\":\"p\"}}",
-        "testCase",
-        "stepDefinitionIds",
-    );
-    refuses(
-        &rt,
-        alloc,
-        b"{\"testStepFinished\":{\"testCaseStartedId\":\"a\",\"testStepId\":\"t\"}}",
-        "testStepFinished",
-        "testStepResult",
-    );
-    refuses(
-        &rt,
-        alloc,
-        b"{\"testStepFinished\":{\"testCaseStartedId\":\"a\",\"testStepId\":\"t\",\"testStepResult\":{\"status\":\"passed\"}}}",
-        "testStepFinished",
-        "status",
-    );
     let case = read_envelope(
         alloc,
         b"{\"testCase\":{\"id\":\"c1\",\"pickleId\":\"3\",\"testSteps\":[{\"id\":\"t1\",\"pickleStepId\":\"2\"}]}}",
@@ -171,6 +143,11 @@ fn members_in_order(rt: HostRuntime) -> Result<(), Fail> {
         }
         _ => assert!(rt; false),
     }
+}
+
+#[test]
+fn a_finished_step(rt: HostRuntime) {
+    let alloc = rt.alloc();
     let finished = read_envelope(
         alloc,
         b"{\"testStepFinished\":{\"testCaseStartedId\":\"a\",\"testStepId\":\"t\",\"testStepResult\":{\"status\":\"FAILED\"}}}",
@@ -181,7 +158,6 @@ fn members_in_order(rt: HostRuntime) -> Result<(), Fail> {
         }
         _ => assert!(rt; false),
     }
-    Ok(())
 }
 
 #[test]
