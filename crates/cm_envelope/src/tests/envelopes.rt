@@ -1,5 +1,5 @@
 //! The envelopes of single lines.
-use crate::{Envelope, ShapeFault, Status, read_envelope};
+use crate::{Envelope, ShapeFault, Status, TestCase, read_envelope};
 use std::alloc::Global;
 use std::process::Abort;
 use std::test::Fail;
@@ -43,13 +43,12 @@ testStepFinished status {"testStepFinished":{"testCaseStartedId":"a","testStepId
 fn faults_of_lines(rt: HostRuntime) {
     let alloc = rt.alloc();
     for told in FAULTS.lines() {
-        let parts = told.split_once(' ');
-        let Some((kind, rest)) = parts else {
-            assert!(rt; false, "{told}");
+        let Some((kind, rest)) = told.split_once(' ') else {
+            assert!(rt; false, "no kind");
             return;
         };
         let Some((field, line)) = rest.split_once(' ') else {
-            assert!(rt; false, "{told}");
+            assert!(rt; false, "no field");
             return;
         };
         let field = if field == "-" { "" } else { field };
@@ -65,16 +64,16 @@ fn lines_without_a_value(rt: HostRuntime) {
     }
 }
 
+fn is_other(alloc: Global, line: &[u8]) -> bool {
+    matches!(read_envelope(alloc, line), Ok(Envelope::Other))
+}
+
 #[test]
-fn a_return_at_the_end_and_a_null_kind(rt: HostRuntime) {
+fn white_space_around_a_value(rt: HostRuntime) {
     let alloc = rt.alloc();
-    let other = read_envelope(alloc, b"{\"meta\":{}}\r");
-    assert!(rt; matches!(other, Ok(Envelope::Other)));
-    let null_kind = read_envelope(
-        alloc,
-        b"{\"testCase\":null,\"testCaseFinished\":{\"testCaseStartedId\":\"a\"}}",
-    );
-    assert!(rt; matches!(null_kind, Ok(Envelope::TestCaseFinished(_))));
+    for line in [b"{\"meta\":{}}\r".as_slice(), b" \t{ \"meta\" : {} }\r"] {
+        assert!(rt; is_other(alloc, line));
+    }
 }
 
 #[test]
@@ -127,37 +126,51 @@ fn attempts(rt: HostRuntime) -> Result<(), Fail> {
     Ok(())
 }
 
-#[test]
-fn a_test_case(rt: HostRuntime) {
-    let alloc = rt.alloc();
-    let case = read_envelope(
-        alloc,
-        b"{\"testCase\":{\"id\":\"c1\",\"pickleId\":\"3\",\"testSteps\":[{\"id\":\"t1\",\"pickleStepId\":\"2\"}]}}",
-    );
-    match &case {
-        Ok(Envelope::TestCase(case)) => {
-            let steps = case.test_steps.as_slice();
-            assert_eq!(rt; steps.len(), 1);
-            assert!(rt; steps[0].id.as_str() == "t1");
-            assert!(rt; steps[0].hook_id.is_none());
-        }
-        _ => assert!(rt; false),
+fn test_case(alloc: Global, line: &str) -> Result<TestCase, &'static str> {
+    match read_envelope(alloc, line.as_bytes()) {
+        Ok(Envelope::TestCase(case)) => Ok(case),
+        _ => Err("no test case"),
     }
 }
 
 #[test]
-fn a_finished_step(rt: HostRuntime) {
-    let alloc = rt.alloc();
-    let finished = read_envelope(
-        alloc,
-        b"{\"testStepFinished\":{\"testCaseStartedId\":\"a\",\"testStepId\":\"t\",\"testStepResult\":{\"status\":\"FAILED\"}}}",
-    );
-    match &finished {
-        Ok(Envelope::TestStepFinished(step)) => {
-            assert_eq!(rt; step.test_step_result.status, Status::Failed);
-        }
-        _ => assert!(rt; false),
+fn a_test_case(rt: HostRuntime) -> Result<(), Fail> {
+    let line =
+        r#"{"testCase":{"id":"c1","pickleId":"3","testSteps":[{"id":"t1","pickleStepId":"2"}]}}"#;
+    let case = test_case(rt.alloc(), line)?;
+    assert!(rt; case.id.as_str() == "c1" && case.pickle_id.as_str() == "3");
+    let steps = case.test_steps.as_slice();
+    assert_eq!(rt; steps.len(), 1);
+    assert!(rt; steps[0].id.as_str() == "t1");
+    assert!(rt; steps[0].hook_id.is_none());
+    Ok(())
+}
+
+fn finished_status(alloc: Global, line: &str) -> Option<Status> {
+    match read_envelope(alloc, line.as_bytes()) {
+        Ok(Envelope::TestStepFinished(step)) => Some(step.test_step_result.status),
+        _ => None,
     }
+}
+
+#[test]
+fn each_status(rt: HostRuntime) -> Result<(), Fail> {
+    let alloc = rt.alloc();
+    for (word, status) in [
+        ("UNKNOWN", Status::Unknown),
+        ("PASSED", Status::Passed),
+        ("SKIPPED", Status::Skipped),
+        ("PENDING", Status::Pending),
+        ("UNDEFINED", Status::Undefined),
+        ("AMBIGUOUS", Status::Ambiguous),
+        ("FAILED", Status::Failed),
+    ] {
+        let line = format!(in alloc;
+            "{{\"testStepFinished\":{{\"testCaseStartedId\":\"a\",\"testStepId\":\"t\",\"testStepResult\":{{\"status\":\"{word}\"}}}}}}"
+        )?;
+        assert_eq!(rt; finished_status(alloc, line.as_str()), Some(status));
+    }
+    Ok(())
 }
 
 #[test]
@@ -173,6 +186,5 @@ fn values_that_are_not_json(rt: HostRuntime) {
         refuses(&rt, alloc, line, "NotJson", "");
     }
     // The last of repeated members stands.
-    let twice = read_envelope(alloc, b"{\"testCase\":{},\"testCase\":null}");
-    assert!(rt; matches!(twice, Ok(Envelope::Other)));
+    assert!(rt; is_other(alloc, b"{\"testCase\":{},\"testCase\":null}"));
 }

@@ -34,6 +34,7 @@ parseError {"parseError":{"source":{"uri":"features/b.feature","location":{"line
 stepDefinition {"stepDefinition":{"id":"4","pattern":{"source":"I have {int} cukes","type":"CUCUMBER_EXPRESSION"},"sourceReference":{"uri":"features/steps.ts","location":{"line":5}}}}
 hook {"hook":{"id":"5","type":"BEFORE_TEST_CASE","name":"clean","tagExpression":"@a","sourceReference":{"uri":"features/hooks.ts","location":{"line":3}}}}
 hook {"source":null,"hook":{"id":"h"}}
+testCaseFinished {"testCase":null,"testCaseFinished":{"testCaseStartedId":"a"}}
 testRunStarted {"testRunStarted":{"id":"6","timestamp":{"seconds":0,"nanos":0}}}
 testCase {"testCase":{"id":"7","pickleId":"3","testRunStartedId":"6","testSteps":[{"id":"8","hookId":"5"},{"id":"9","pickleStepId":"2","stepDefinitionIds":["4"],"stepMatchArgumentsLists":[{"stepMatchArguments":[{"argumentIndex":0,"group":{"start":7,"value":"42","children":[]},"parameterTypeName":"int"}]}]}]}}
 testRunHookStarted {"testRunHookStarted":{"id":"10","testRunStartedId":"6","hookId":"5","timestamp":{"seconds":0,"nanos":1}}}
@@ -50,7 +51,7 @@ fn lines_of_producers(rt: HostRuntime) -> Result<(), Fail> {
     let alloc = rt.alloc();
     for told in LINES.lines() {
         let Some((kind, line)) = told.split_once(' ') else {
-            assert!(rt; false, "{told}");
+            assert!(rt; false, "no kind");
             return Ok(());
         };
         match (
@@ -58,10 +59,10 @@ fn lines_of_producers(rt: HostRuntime) -> Result<(), Fail> {
             read_envelope(alloc, line.as_bytes()),
         ) {
             (Ok(one), Ok(other)) => {
-                assert!(rt; kind_of(&one) == kind, "{kind}");
-                assert!(rt; one == other && one.clone()? == other, "{kind}");
+                assert!(rt; kind_of(&one) == kind);
+                assert!(rt; one == other && one.clone()? == other);
             }
-            _ => assert!(rt; false, "{kind}"),
+            _ => assert!(rt; false, "no envelope"),
         }
     }
     Ok(())
