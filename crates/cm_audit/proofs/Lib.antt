@@ -1,0 +1,4 @@
+pub mod Floats
+pub mod Nodes
+pub mod Ids
+pub mod Writes
