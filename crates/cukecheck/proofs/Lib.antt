@@ -2,4 +2,5 @@ pub mod Calls
 pub mod Choosing
 pub mod Lines
 pub mod Runs
+pub mod TextLemmas
 pub mod Writes

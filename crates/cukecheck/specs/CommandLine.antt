@@ -12,13 +12,20 @@ use Rattle.cukecheck.specs.declared.command_line.Refusal.TheVariants as refusal
 abbrev pub bare_app : App
 bare_app = on_top (λ s. record s { subcommand_required = true }) (new_app (codes "cukecheck"))
 
--- the program with its one command `results`
+-- the program with its command `parse`
+abbrev pub parse_app : App
+parse_app = with_subcommand bare_app (new_app (codes "parse")).top
+
+-- the program with its commands `parse` and `results`
 abbrev pub command_app : App
-command_app = with_subcommand bare_app (new_app (codes "results")).top
+command_app = with_subcommand parse_app (new_app (codes "results")).top
 
 -- the choice that a command's name stands for
 abbrev pub choice_named : Text → Option Choice
-choice_named name = if bytes_eq name (codes "results") then Some choice.Results else None
+choice_named name =
+    if bytes_eq name (codes "parse") then Some choice.Parse
+    else if bytes_eq name (codes "results") then Some choice.Results
+    else None
 
 abbrev pub named : Option (Text × List Row) → Option Choice
 named sub = option_and_then (λ s. choice_named s.0) sub

@@ -1,8 +1,11 @@
 -- What a run of the program gives: its status, and the bytes that it writes.
-use Rattle.std.specs.Prelude.{◌≡◌, ◌<◌, ◌⊎◌, ℕ, List, Option}
+use Rattle.std.specs.Prelude.{◌≡◌, ◌<◌, ◌⊎◌, ℕ, List, Option, Result}
 use Rattle.std.specs.Io.KnownBytes.{Appends}
 use Rattle.cm_envelope.specs.Device.{greatest_count}
 use Rattle.cm_envelope.specs.declared.feed.Trouble.TheVariants.{Memory}
+use Rattle.gk_grammar.specs.Tree.{Document}
+use Rattle.cukecheck.specs.declared.feature.FeatureFault.{FeatureFault}
+use Rattle.cukecheck.specs.Features.{IsAnswer, answer_status, answer_text}
 use Rattle.cukecheck.specs.Outcome.{Outcome, trouble, text_of, status_of}
 
 -- no call of a device failed between two of its counts of failed calls, the first of which could still rise
@@ -16,3 +19,8 @@ Tells outcome status old new = (status ≡ status_of outcome) × Appends old new
 -- the same, or that memory was refused
 abbrev pub TellsOrNoMemory : Outcome → ℕ → Option (List ℕ) → Option (List ℕ) → Type 0
 TellsOrNoMemory outcome status old new = Tells outcome status old new ⊎ Tells (trouble Memory) status old new
+
+-- what the bytes are as a feature file is told: its status, and its text behind what was written before
+abbrev pub TellsFeature : List ℕ → ℕ → Option (List ℕ) → Option (List ℕ) → Type 0
+TellsFeature bytes status old new =
+    (answer : Result Document FeatureFault) × IsAnswer bytes answer × (status ≡ answer_status answer) × Appends old new (answer_text answer)

@@ -10,6 +10,8 @@ use std::alloc::{AllocError, Global};
 /// What the words ask for.
 #[derive(Clone, Copy, Debug, PartialEq, Eq)]
 pub enum Choice {
+    /// What a feature file is.
+    Parse,
     /// The table of the test cases of a stream.
     Results,
 }
@@ -29,7 +31,8 @@ fn command<'a>(alloc: Global) -> Result<Command<'a>, AllocError>
     ensures { IfOk result (λ c. app_of c ≡ command_app) }
 {
     let bare = Command::new(alloc, "cukecheck").subcommand_required(true);
-    bare.subcommand(Command::new(alloc, "results"))
+    let with_parse = bare.subcommand(Command::new(alloc, "parse"))?;
+    with_parse.subcommand(Command::new(alloc, "results"))
 }
 
 fn refusal_of(alloc: Global, error: &Error) -> Refusal
@@ -52,6 +55,9 @@ fn chosen(matches: &ArgMatches<'_>) -> Option<Choice>
     ensures { result ≡ named (subcommand_rows_of matches.now) }
 {
     let (name, _) = matches.subcommand()?;
+    if name == "parse" {
+        return Some(Choice::Parse);
+    }
     if name == "results" {
         return Some(Choice::Results);
     }

@@ -1,12 +1,15 @@
-//! `cukecheck`: reads Cucumber Messages from standard input, and tells of them on standard output.
+//! `cukecheck`: reads Cucumber Messages or a feature file from standard input, and tells of them on standard output.
 #![tactic(auto)]
 
 mod command_line;
 mod fault;
+mod feature;
+mod parsed;
 mod report;
 mod run;
 mod status;
 mod stream;
+mod text;
 mod write;
 
 use cm_envelope::{Reader, Writer};

@@ -2,9 +2,11 @@
 ghost use Rattle.std.specs.Prelude.{◌≡◌, ◌≢◌, ◌∷◌, ◌++◌, IfOk, IfSome, None, Some, codes, map};
 ghost use Rattle.cukecheck.specs.CommandLine.{choice_of};
 ghost use Rattle.cukecheck.specs.Outcome.{outcome_of};
-ghost use Rattle.cukecheck.specs.Run.{NoneFailed, TellsOrNoMemory};
+ghost use Rattle.cukecheck.specs.Run.{NoneFailed, TellsFeature, TellsOrNoMemory};
 
 use crate::command_line::{Choice, Refusal, choose};
+use crate::feature::read_document;
+use crate::parsed::parse_report;
 use crate::report::report_of;
 use crate::stream::read_stream;
 use crate::write::{TROUBLE_STATUS, write_text};
@@ -41,8 +43,22 @@ fn results<R: ByteSource, W: ByteSink>(alloc: Global, source: &mut R, sink: &mut
     }
 }
 
+fn parse<R: ByteSource, W: ByteSink>(alloc: Global, source: &mut R, sink: &mut W) -> u8
+    ensures told { NoneFailed (R.failed_calls source.old) (R.failed_calls source.new)
+        → NoneFailed (W.failed_calls sink.old) (W.failed_calls sink.new)
+        → IfSome (R.to_come source.old) (λ bytes. TellsFeature bytes result (W.taken sink.old) (W.taken sink.new)) }
+    ensures unwritten { W.failed_calls sink.new ≢ W.failed_calls sink.old → result ≡ 3 }
+    ensures unread { result ≡ 0 → R.failed_calls source.new ≡ R.failed_calls source.old }
+{
+    let read = read_document(alloc, source);
+    match parse_report(alloc, &read) {
+        Ok(report) => write_text(sink, report.text.as_str(), report.status),
+        Err(AllocError) => write_text(sink, NO_MEMORY, TROUBLE_STATUS),
+    }
+}
+
 /// Runs the command that the words after the program's name ask for, and gives the exit status: 0 where it is done,
-/// 1 where a line of the stream is bad, 2 for a mistake in the words, 3 for trouble. The output is built whole, then
+/// 1 where a line of the stream is bad or a feature file is refused, 2 for a mistake in the words, 3 for trouble. The output is built whole, then
 /// written, then flushed, and no read and no write is repeated.
 pub fn run<R: ByteSource, W: ByteSink>(
     alloc: Global,
@@ -56,6 +72,11 @@ pub fn run<R: ByteSource, W: ByteSink>(
         → IfSome (R.to_come source.old) (λ bytes.
         TellsOrNoMemory (outcome_of bytes) result (W.taken sink.old) (W.taken sink.new)) }
 
+    ensures parse { choice_of (codes "cukecheck" ∷ map (λ w. w.now) words.now) ≡ Some Choice.Parse
+        → NoneFailed (R.failed_calls source.old) (R.failed_calls source.new)
+        → NoneFailed (W.failed_calls sink.old) (W.failed_calls sink.new)
+        → IfSome (R.to_come source.old) (λ bytes. TellsFeature bytes result (W.taken sink.old) (W.taken sink.new)) }
+
     // Words that ask for no command leave the source alone.
     ensures refused { choice_of (codes "cukecheck" ∷ map (λ w. w.now) words.now) ≡ None → source.new ≡ source.old }
 
@@ -67,6 +88,7 @@ pub fn run<R: ByteSource, W: ByteSink>(
         return write_text(sink, NO_MEMORY, TROUBLE_STATUS);
     };
     match choose(alloc, all.as_slice()) {
+        Ok(Choice::Parse) => parse(alloc, source, sink),
         Ok(Choice::Results) => results(alloc, source, sink),
         Err(Refusal::Usage(text)) => write_text(sink, text.as_str(), USAGE_STATUS),
         Err(Refusal::Help(text)) => write_text(sink, text.as_str(), 0),

@@ -1,4 +1,6 @@
 // Runs over readers and writers in memory.
+mod features;
+
 ghost use Rattle.std.specs.Prelude.{Some, string_bytes};
 
 use crate::run::run;
@@ -329,14 +331,16 @@ fn a_flush_that_fails(rt: HostRuntime) {
 
 #[test]
 fn words_that_ask_for_no_command(rt: HostRuntime) {
-    let cases: [(&[&str], u8); 7] = [
+    let cases: [(&[&str], u8); 9] = [
         (&[], 2),
-        (&["parse"], 2),
+        (&["audit"], 2),
+        (&["parse", "x"], 2),
         (&["results", "x"], 2),
         (&["help", "x"], 2),
         (&["help"], 0),
         (&["--help"], 0),
         (&["results", "-h"], 0),
+        (&["parse", "--help"], 0),
     ];
     for (words, status) in cases {
         let mut source = whole(b"[]");

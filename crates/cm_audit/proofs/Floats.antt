@@ -1,0 +1,219 @@
+-- No line has a float.
+use Rattle.std.proofs.Common.{◌≡◌, ℕ, ◌+◌, List, [], ◌∷◌, ◌++◌, map, Bool, true, false, Less, Equal, Greater, Option, Some, None, codes, refl}
+use Rattle.std.specs.Prelude.{◌||◌, option_map}
+use Rattle.std.specs.Ordering.{nat_cmp, match_ordering}
+use Rattle.std.specs.Option.{option_to_list}
+use Rattle.std.specs.Cmp.Lexicographic.{slice_cmp}
+use Rattle.serde_json.specs.Data.{Data, array, object, Members, no_members, member, put}
+use Rattle.serde_json.specs.View.{items_of}
+use Rattle.serde_json.specs.Written.{has_float, items_have_float, members_have_float}
+use Rattle.gk_document.specs.declared.tree.Location.{Location}
+use Rattle.gk_document.specs.declared.tree.Row.{Row}
+use Rattle.gk_document.specs.declared.tree.DocString.{DocString}
+use Rattle.gk_document.specs.declared.tree.Argument.{Argument}
+use Rattle.gk_document.specs.declared.tree.Argument.TheVariants as argument
+use Rattle.gk_document.specs.declared.tree.Step.{Step}
+use Rattle.gk_document.specs.declared.tree.Background.{Background}
+use Rattle.gk_document.specs.declared.tree.ExampleTable.{ExampleTable}
+use Rattle.gk_document.specs.declared.tree.Examples.{Examples}
+use Rattle.gk_document.specs.declared.tree.Scenario.{Scenario}
+use Rattle.gk_document.specs.declared.tree.Rule.{Rule}
+use Rattle.gk_document.specs.declared.tree.Feature.{Feature}
+use Rattle.gk_document.specs.declared.tree.Document.{Document}
+use Rattle.gk_pickle.specs.declared.pickle.PickleDocString.{PickleDocString}
+use Rattle.gk_pickle.specs.declared.pickle.PickleArgument.{PickleArgument}
+use Rattle.gk_pickle.specs.declared.pickle.PickleArgument.TheVariants as value
+use Rattle.gk_pickle.specs.declared.pickle.PickleStep.{PickleStep}
+use Rattle.gk_pickle.specs.declared.pickle.Pickle.{Pickle}
+use Rattle.gk_pickle.specs.Json.{put_some, list_data, id_data, media_data, pickle_tag_data, pickle_cell_data, pickle_row_data, pickle_doc_string_data, argument_data, pickle_step_data, pickle_steps_data, pickle_data}
+use Rattle.gk_pickle.specs.TreeJson.{comment_data, tag_data, cell_data, row_data, doc_string_data, table_data, table_of, doc_string_of, step_data, background_data, body_of, block_members, examples_data, scenario_data, background_child, scenario_child, children_data, rule_data, rule_child, feature_data, document_data, source_data}
+
+abbrev IsPlain : Data → Type 0
+IsPlain d = has_float d ≡ false
+
+-- ---- members and items
+
+abbrev ArePlain : Members → Type 0
+ArePlain no_members = Unit {0}
+ArePlain (member k d ms) = IsPlain d × ArePlain ms
+
+abbrev IsPlainObject : Data → Type 0
+IsPlainObject (object ms) = ArePlain ms
+IsPlainObject d = ⊥
+
+abbrev IsPlainIfSome : Option Data → Type 0
+IsPlainIfSome None = Unit {0}
+IsPlainIfSome (Some d) = IsPlain d
+
+abbrev AllPlain : List Data → Type 0
+AllPlain [] = Unit {0}
+AllPlain (d ∷ ds) = IsPlain d × AllPlain ds
+
+either : (a b : Bool) → a ≡ false → b ≡ false → (a || b) ≡ false
+either a b p q = rw (p, q)
+
+-- what an object's first member holds
+abbrev first_value : Data → Data
+first_value (object (member k d ms)) = d
+first_value d = d
+
+plain_members : (ms : Members) → ArePlain ms → members_have_float ms ≡ false
+plain_members no_members h = refl
+plain_members (member k d ms) h = either (has_float d) (members_have_float ms) h.0 (plain_members ms h.1)
+
+plain_object : (d : Data) → IsPlainObject d → IsPlain d
+plain_object (object ms) h = plain_members ms h
+plain_object _ h = absurd h
+
+plain_items : (ds : List Data) → AllPlain ds → IsPlain (array (items_of ds))
+plain_items [] h = refl
+plain_items (d ∷ ds) h = either (has_float d) (items_have_float (items_of ds)) h.0 (plain_items ds h.1)
+
+all_of_map : {X : Type 0} (json : X → Data) → ((x : X) → IsPlain (json x)) → (xs : List X) → AllPlain (map json xs)
+all_of_map json h [] = tt
+all_of_map json h (x ∷ xs) = (h x, all_of_map json h xs)
+
+all_of_two : (ds es : List Data) → AllPlain ds → AllPlain es → AllPlain (ds ++ es)
+all_of_two [] es h k = k
+all_of_two (d ∷ ds) es h k = (h.0, all_of_two ds es h.1 k)
+
+plain_list : {X : Type 0} (json : X → Data) → ((x : X) → IsPlain (json x)) → (xs : List X) → IsPlain (list_data json xs)
+plain_list json h xs = plain_items (map json xs) (all_of_map json h xs)
+
+plain_put : (k : List ℕ) (d : Data) (ms : Members) → IsPlain d → ArePlain ms → ArePlain (put k d ms)
+plain_put k d no_members p h = (p, tt)
+plain_put k d (member l e ms) p h =
+    elim (slice_cmp nat_cmp k l) as (λ o. ArePlain (match_ordering o (member k d (member l e ms)) (member l d ms) (member l e (put k d ms)))) [
+      | Less ↦ (p, h)
+      | Equal ↦ (p, h.1)
+      | Greater ↦ (h.0, plain_put k d ms p h.1)
+    ]
+
+plain_put_some : (k : List ℕ) (o : Option Data) (ms : Members) → IsPlainIfSome o → ArePlain ms → ArePlain (put_some k o ms)
+plain_put_some k None ms p h = h
+plain_put_some k (Some d) ms p h = plain_put k d ms p h
+
+plain_map : {X : Type 0} (json : X → Data) → ((x : X) → IsPlain (json x)) → (o : Option X) → IsPlainIfSome (option_map json o)
+plain_map json h None = tt
+plain_map json h (Some x) = h x
+
+plain_media : (media : Option (List ℕ)) → IsPlainIfSome (media_data media)
+plain_media None = tt
+plain_media (Some []) = tt
+plain_media (Some (b ∷ bs)) = refl
+
+-- ---- sources and documents
+
+pub source_plain : (uri text : List ℕ) → has_float (source_data uri text) ≡ false
+unfolding source_data
+source_plain uri text = refl
+
+row_plain : (r : Row) → IsPlain (row_data r)
+row_plain r = plain_object (row_data r) (plain_list (cell_data r.location.line) (λ c. refl) r.cells, (refl, (refl, tt)))
+
+doc_string_plain : (d : DocString) → IsPlain (doc_string_data d)
+doc_string_plain d = plain_object (doc_string_data d) (plain_put_some (codes "mediaType") (media_data d.media) _ (plain_media d.media) (refl, (refl, (refl, tt))))
+
+table_plain : (place : Location) (rows : List Row) → IsPlain (table_data place rows)
+table_plain place rows = plain_object (table_data place rows) (refl, (plain_list row_data row_plain rows, tt))
+
+table_of_plain : (place : Location) (o : Option Argument) → IsPlainIfSome (table_of place o)
+table_of_plain place None = tt
+table_of_plain place (Some (argument.Table rows)) = table_plain place rows
+table_of_plain place (Some (argument.Text d)) = tt
+
+doc_string_of_plain : (o : Option Argument) → IsPlainIfSome (doc_string_of o)
+doc_string_of_plain None = tt
+doc_string_of_plain (Some (argument.Table rows)) = tt
+doc_string_of_plain (Some (argument.Text d)) = doc_string_plain d
+
+step_plain : (s : Step) → IsPlain (step_data s)
+step_plain s =
+    plain_object (step_data s) (plain_put_some (codes "docString") (doc_string_of s.argument) _ (doc_string_of_plain s.argument)
+    (plain_put_some (codes "dataTable") (table_of s.location s.argument) _ (table_of_plain s.location s.argument) (refl, (refl, (refl, (refl, (refl, tt)))))))
+
+background_plain : (b : Background) → IsPlain (background_data b)
+background_plain b = plain_object (background_data b) (refl, (refl, (refl, (refl, (refl, (plain_list step_data step_plain b.steps, tt))))))
+
+examples_plain : (e : Examples) → IsPlain (examples_data e)
+examples_plain e =
+    plain_object (examples_data e) (plain_put_some (codes "tableHeader") (option_map (λ (t : ExampleTable). row_data t.header) e.table) _
+    (plain_map (λ (t : ExampleTable). row_data t.header) (λ t. row_plain t.header) e.table)
+    (refl, (refl, (refl, (refl, (refl, (plain_list row_data row_plain (body_of e.table), (plain_list tag_data (λ t. refl) e.tags, tt))))))))
+
+scenario_plain : (s : Scenario) → IsPlain (scenario_data s)
+scenario_plain s =
+    plain_object (scenario_data s)
+    (refl, (plain_list examples_data examples_plain s.examples, (refl, (refl, (refl, (refl, (plain_list step_data step_plain s.steps, (plain_list tag_data (λ t. refl) s.tags, tt))))))))
+
+background_child_plain : (b : Background) → IsPlain (background_child b)
+background_child_plain b = plain_object (background_child b) (background_plain b, tt)
+
+scenario_child_plain : (s : Scenario) → IsPlain (scenario_child s)
+scenario_child_plain s = plain_object (scenario_child s) (scenario_plain s, tt)
+
+children_plain : (background : Option Background) (scenarios : List Scenario) → AllPlain (children_data background scenarios)
+children_plain background scenarios =
+    all_of_two (map background_child (option_to_list background)) (map scenario_child scenarios)
+    (all_of_map background_child background_child_plain (option_to_list background)) (all_of_map scenario_child scenario_child_plain scenarios)
+
+rule_plain : (r : Rule) → IsPlain (rule_data r)
+rule_plain r =
+    plain_object (rule_data r) (
+      plain_items (children_data r.background r.scenarios) (children_plain r.background r.scenarios),
+      (refl, (refl, (refl, (refl, (refl, (plain_list tag_data (λ t. refl) r.tags, tt)))))),
+    )
+
+rule_child_plain : (r : Rule) → IsPlain (rule_child r)
+rule_child_plain r = plain_object (rule_child r) (rule_plain r, tt)
+
+feature_plain : (f : Feature) → IsPlain (feature_data f)
+feature_plain f =
+    plain_object (feature_data f) (
+      plain_items (children_data f.background f.scenarios ++ map rule_child f.rules)
+          (all_of_two (children_data f.background f.scenarios) (map rule_child f.rules) (children_plain f.background f.scenarios) (all_of_map rule_child rule_child_plain f.rules)),
+      (refl, (refl, (refl, (refl, (refl, (plain_list tag_data (λ t. refl) f.tags, tt)))))),
+    )
+
+pub document_plain : (uri : List ℕ) (d : Document) → has_float (document_data uri d) ≡ false
+unfolding document_data
+document_plain uri d =
+    plain_object (document_data uri d) (
+      plain_members _
+          (plain_put_some (codes "feature") (option_map feature_data d.feature) _ (plain_map feature_data feature_plain d.feature) (plain_list comment_data (λ c. refl) d.comments, (refl, tt))),
+      tt,
+    )
+
+-- ---- pickles
+
+pickle_row_plain : (cells : List (List ℕ)) → IsPlain (pickle_row_data cells)
+pickle_row_plain cells = plain_object (pickle_row_data cells) (plain_list pickle_cell_data (λ c. refl) cells, tt)
+
+pickle_doc_string_plain : (d : PickleDocString) → IsPlain (pickle_doc_string_data d)
+pickle_doc_string_plain d = plain_object (pickle_doc_string_data d) (plain_put_some (codes "mediaType") (media_data d.media) _ (plain_media d.media) (refl, tt))
+
+argument_plain : (a : PickleArgument) → IsPlain (argument_data a)
+argument_plain (value.Table rows) =
+    plain_object (argument_data (value.Table rows))
+    (plain_object (first_value (argument_data (value.Table rows))) (plain_list pickle_row_data pickle_row_plain rows, tt), tt)
+argument_plain (value.Text d) = plain_object (argument_data (value.Text d)) (pickle_doc_string_plain d, tt)
+
+ids_plain : (ids : List ℕ) → IsPlain (list_data id_data ids)
+ids_plain ids = plain_list id_data (λ id. refl) ids
+
+pickle_step_plain : (id : ℕ) (s : PickleStep) → IsPlain (pickle_step_data id s)
+pickle_step_plain id s =
+    plain_object (pickle_step_data id s) (plain_put_some (codes "argument") (option_map argument_data s.argument) _
+    (plain_map argument_data argument_plain s.argument) (ids_plain s.nodes, (refl, (refl, (refl, tt)))))
+
+pickle_steps_plain : (id : ℕ) (ss : List PickleStep) → AllPlain (pickle_steps_data id ss)
+pickle_steps_plain id [] = tt
+pickle_steps_plain id (s ∷ ss) = (pickle_step_plain id s, pickle_steps_plain (id + 1) ss)
+
+pub pickle_plain : (uri : List ℕ) (first : ℕ) (p : Pickle) → has_float (pickle_data uri first p) ≡ false
+unfolding pickle_data
+pickle_plain uri first p =
+    let steps : IsPlain (array (items_of (pickle_steps_data first p.steps))) = plain_items (pickle_steps_data first p.steps) (pickle_steps_plain first p.steps) in
+    let tags : IsPlain (list_data pickle_tag_data p.tags) = plain_list pickle_tag_data (λ t. refl) p.tags in
+    plain_object (pickle_data uri first p)
+    (plain_object (first_value (pickle_data uri first p)) (ids_plain p.nodes, (refl, (refl, (refl, (steps, (tags, (refl, tt))))))), tt)

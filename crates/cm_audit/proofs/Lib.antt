@@ -1,0 +1,5 @@
+pub mod Floats
+pub mod Nodes
+pub mod Ids
+pub mod Writes
+pub mod Fronts

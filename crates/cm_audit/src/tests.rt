@@ -1,0 +1,197 @@
+//! Feature files written to sinks in memory, some of which fail.
+ghost use Rattle.std.specs.Prelude.{Some};
+
+use crate::{CompileFault, write_compiled};
+use cm_envelope::{ByteSink, DeviceFailed};
+use gk_tree::{FaultKind, ParseFault};
+use std::alloc::Global;
+use std::process::Abort;
+use std::test::Fail;
+
+const EMPTY_LINES: &str =
+    r#"{"source":{"data":"","mediaType":"text/x.cucumber.gherkin+plain","uri":"e.feature"}}
+{"gherkinDocument":{"comments":[],"uri":"e.feature"}}
+"#;
+
+const PLAIN_TEXT: &str = "Feature: f\n\n  Scenario: s\n    Given a\n";
+
+const PLAIN_LINES: &str =
+    r#"{"source":{"data":"Feature: f\n\n  Scenario: s\n    Given a\n","mediaType":"text/x.cucumber.gherkin+plain","uri":"a.feature"}}
+{"gherkinDocument":{"comments":[],"feature":{"children":[{"scenario":{"description":"","examples":[],"id":"0","keyword":"Scenario","location":{"column":3,"line":3},"name":"s","steps":[{"id":"1","keyword":"Given ","keywordType":"Context","location":{"column":5,"line":4},"text":"a"}],"tags":[]}}],"description":"","keyword":"Feature","language":"en","location":{"column":1,"line":1},"name":"f","tags":[]},"uri":"a.feature"}}
+{"pickle":{"astNodeIds":["0"],"id":"3","language":"en","name":"s","steps":[{"astNodeIds":["1"],"id":"2","text":"a","type":"Context"}],"tags":[],"uri":"a.feature"}}
+"#;
+
+const OUTLINE_TEXT: &str =
+    "Feature: f\n  Scenario: s\n    Given <a>\n    Examples:\n      | a |\n      | x |\n      | x |\n      | y |\n";
+
+const OUTLINE_PICKLES: &str =
+    r#"{"pickle":{"astNodeIds":["0","4"],"id":"8","language":"en","name":"s","steps":[{"astNodeIds":["1","4"],"id":"7","text":"x","type":"Context"}],"tags":[],"uri":"o.feature"}}
+{"pickle":{"astNodeIds":["0","5"],"id":"10","language":"en","name":"s","steps":[{"astNodeIds":["1","5"],"id":"9","text":"x","type":"Context"}],"tags":[],"uri":"o.feature"}}
+{"pickle":{"astNodeIds":["0","6"],"id":"12","language":"en","name":"s","steps":[{"astNodeIds":["1","6"],"id":"11","text":"y","type":"Context"}],"tags":[],"uri":"o.feature"}}
+"#;
+
+const FULL_URI: &str = "ü/\"u\".feature";
+
+const FULL_TEXT: &str =
+    "# \u{1}\u{8}\u{c}\u{1f}\u{1F600}\\\n@f @g\nFeature: F \u{1F600}\n  Words \"q\" \\\n  # in\n  more\n\n  Background: b\n    When x\n      | a\\|b |  |\n\n  Rule: r\n    @s\n    Scenario Outline: <n> o\n      And <n>\n        \"\"\"json <n>\n        tab\tq\n         \\\"\\\"\\\"\n        \"\"\"\n      @e\n      Examples: E\n        d\n        | n |\n        | \u{1D11E} |\n        |  |\n";
+
+const FULL_LINES: &str =
+    r##"{"source":{"data":"# \u0001\b\f\u001f😀\\\n@f @g\nFeature: F 😀\n  Words \"q\" \\\n  # in\n  more\n\n  Background: b\n    When x\n      | a\\|b |  |\n\n  Rule: r\n    @s\n    Scenario Outline: <n> o\n      And <n>\n        \"\"\"json <n>\n        tab\tq\n         \\\"\\\"\\\"\n        \"\"\"\n      @e\n      Examples: E\n        d\n        | n |\n        | 𝄞 |\n        |  |\n","mediaType":"text/x.cucumber.gherkin+plain","uri":"ü/\"u\".feature"}}
+{"gherkinDocument":{"comments":[{"location":{"column":1,"line":1},"text":"# \u0001\b\f\u001f😀\\"},{"location":{"column":1,"line":5},"text":"  # in"}],"feature":{"children":[{"background":{"description":"","id":"2","keyword":"Background","location":{"column":3,"line":8},"name":"b","steps":[{"dataTable":{"location":{"column":7,"line":10},"rows":[{"cells":[{"location":{"column":9,"line":10},"value":"a|b"},{"location":{"column":17,"line":10},"value":""}],"id":"4","location":{"column":7,"line":10}}]},"id":"3","keyword":"When ","keywordType":"Action","location":{"column":5,"line":9},"text":"x"}]}},{"rule":{"children":[{"scenario":{"description":"","examples":[{"description":"        d","id":"10","keyword":"Examples","location":{"column":7,"line":21},"name":"E","tableBody":[{"cells":[{"location":{"column":11,"line":24},"value":"𝄞"}],"id":"12","location":{"column":9,"line":24}},{"cells":[{"location":{"column":12,"line":25},"value":""}],"id":"13","location":{"column":9,"line":25}}],"tableHeader":{"cells":[{"location":{"column":11,"line":23},"value":"n"}],"id":"11","location":{"column":9,"line":23}},"tags":[{"id":"9","location":{"column":7,"line":20},"name":"@e"}]}],"id":"7","keyword":"Scenario Outline","location":{"column":5,"line":14},"name":"<n> o","steps":[{"docString":{"content":"tab\tq\n \"\"\"","delimiter":"\"\"\"","location":{"column":9,"line":16},"mediaType":"json <n>"},"id":"8","keyword":"And ","keywordType":"Conjunction","location":{"column":7,"line":15},"text":"<n>"}],"tags":[{"id":"6","location":{"column":5,"line":13},"name":"@s"}]}}],"description":"","id":"5","keyword":"Rule","location":{"column":3,"line":12},"name":"r","tags":[]}}],"description":"  Words \"q\" \\\n  more","keyword":"Feature","language":"en","location":{"column":1,"line":3},"name":"F 😀","tags":[{"id":"0","location":{"column":1,"line":2},"name":"@f"},{"id":"1","location":{"column":4,"line":2},"name":"@g"}]},"uri":"ü/\"u\".feature"}}
+{"pickle":{"astNodeIds":["7","12"],"id":"16","language":"en","name":"𝄞 o","steps":[{"argument":{"dataTable":{"rows":[{"cells":[{"value":"a|b"},{"value":""}]}]}},"astNodeIds":["3"],"id":"14","text":"x","type":"Action"},{"argument":{"docString":{"content":"tab\tq\n \"\"\"","mediaType":"json 𝄞"}},"astNodeIds":["8","12"],"id":"15","text":"𝄞","type":"Action"}],"tags":[{"astNodeId":"0","name":"@f"},{"astNodeId":"1","name":"@g"},{"astNodeId":"6","name":"@s"},{"astNodeId":"9","name":"@e"}],"uri":"ü/\"u\".feature"}}
+{"pickle":{"astNodeIds":["7","13"],"id":"19","language":"en","name":" o","steps":[{"argument":{"dataTable":{"rows":[{"cells":[{"value":"a|b"},{"value":""}]}]}},"astNodeIds":["3"],"id":"17","text":"x","type":"Action"},{"argument":{"docString":{"content":"tab\tq\n \"\"\"","mediaType":"json "}},"astNodeIds":["8","13"],"id":"18","text":"","type":"Action"}],"tags":[{"astNodeId":"0","name":"@f"},{"astNodeId":"1","name":"@g"},{"astNodeId":"6","name":"@s"},{"astNodeId":"9","name":"@e"}],"uri":"ü/\"u\".feature"}}
+"##;
+
+// Takes at most `most` bytes a call until it has taken `room`, and then fails, or takes nothing.
+#[derive(Drop)]
+struct Sink {
+    taken: Vec<u8>,
+    room: usize,
+    most: usize,
+    takes_none: bool,
+    calls: usize,
+    failed_calls: u64,
+}
+
+impl ByteSink for Sink {
+    ghost taken = { λ s. Some s.taken.items };
+
+    ghost failed_calls = { λ s. s.failed_calls };
+
+    fn write_some(&mut self, bytes: &[u8]) -> Result<usize, DeviceFailed> {
+        self.calls = self.calls.saturating_add(1);
+        if bytes.is_empty() {
+            return Ok(0);
+        }
+        let count = bytes.len().min(self.room).min(self.most);
+        if count == 0 {
+            self.failed_calls = self.failed_calls.saturating_add(1);
+            return if self.takes_none {
+                Ok(0)
+            } else {
+                Err(DeviceFailed)
+            };
+        }
+        if self.taken.extend_from_slice(&bytes[..count]).is_err() {
+            self.failed_calls = self.failed_calls.saturating_add(1);
+            return Err(DeviceFailed);
+        }
+        self.room -= count;
+        Ok(count)
+    }
+
+    fn flush(&mut self) -> Result<(), DeviceFailed> {
+        self.failed_calls = self.failed_calls.saturating_add(1);
+        Err(DeviceFailed)
+    }
+}
+
+fn sink(alloc: Global, room: usize, most: usize, takes_none: bool) -> Sink {
+    Sink {
+        taken: Vec::new(alloc),
+        room,
+        most,
+        takes_none,
+        calls: 0,
+        failed_calls: 0,
+    }
+}
+
+/// A sink that takes all: the lines are the wanted ones.
+fn check_lines(rt: &impl Abort, alloc: Global, uri: &str, text: &str, wanted: &str) {
+    let mut sink = sink(alloc, 1_000_000, 1_000_000, false);
+    assert_eq!(rt; write_compiled(alloc, uri, text, &mut sink), Ok(()));
+    assert!(rt; sink.taken.as_slice() == wanted.as_bytes());
+    assert_eq!(rt; sink.failed_calls, 0);
+}
+
+#[test]
+fn an_empty_text_has_two_lines(rt: HostRuntime) -> Result<(), Fail> {
+    check_lines(&rt, rt.alloc(), "e.feature", "", EMPTY_LINES);
+    Ok(())
+}
+
+#[test]
+fn a_scenario_has_three_lines(rt: HostRuntime) -> Result<(), Fail> {
+    check_lines(&rt, rt.alloc(), "a.feature", PLAIN_TEXT, PLAIN_LINES);
+    Ok(())
+}
+
+#[test]
+fn all_that_a_feature_may_have(rt: HostRuntime) -> Result<(), Fail> {
+    check_lines(&rt, rt.alloc(), FULL_URI, FULL_TEXT, FULL_LINES);
+    Ok(())
+}
+
+#[test]
+fn ids_go_on_from_pickle_to_pickle(rt: HostRuntime) -> Result<(), Fail> {
+    let alloc = rt.alloc();
+    let mut sink = sink(alloc, 1_000_000, 1_000_000, false);
+    assert_eq!(rt;
+        write_compiled(alloc, "o.feature", OUTLINE_TEXT, &mut sink),
+        Ok(())
+    );
+    assert!(rt; sink.taken.as_slice().ends_with(OUTLINE_PICKLES.as_bytes()));
+    Ok(())
+}
+
+fn check_refused(rt: &impl Abort, alloc: Global, text: &str, fault: ParseFault) {
+    let mut sink = sink(alloc, 1_000_000, 1_000_000, false);
+    let done = write_compiled(alloc, "u", text, &mut sink);
+    assert_eq!(rt; done, Err(CompileFault::Parse(fault)));
+    assert_eq!(rt; sink.calls, 0);
+}
+
+#[test]
+fn nothing_is_written_of_a_refused_text(rt: HostRuntime) -> Result<(), Fail> {
+    let alloc = rt.alloc();
+    let unexpected = ParseFault {
+        kind: FaultKind::Unexpected,
+        line: 1,
+        column: 1,
+    };
+    check_refused(&rt, alloc, "Given x\nFeature: f", unexpected);
+    let unfinished = ParseFault {
+        kind: FaultKind::UnexpectedEnd,
+        line: 2,
+        column: 1,
+    };
+    check_refused(&rt, alloc, "# language: en", unfinished);
+    Ok(())
+}
+
+#[test]
+fn the_bytes_before_a_failed_write_are_written(rt: HostRuntime) -> Result<(), Fail> {
+    let alloc = rt.alloc();
+    let mut sink = sink(alloc, 100, 1_000_000, false);
+    let done = write_compiled(alloc, "a.feature", PLAIN_TEXT, &mut sink);
+    assert_eq!(rt; done, Err(CompileFault::WriteFailed));
+    assert!(rt; PLAIN_LINES.len() == 737);
+    assert!(rt; sink.taken.as_slice() == &PLAIN_LINES.as_bytes()[..100]);
+    assert_eq!(rt; sink.failed_calls, 1);
+    Ok(())
+}
+
+/// One byte a write, and the write behind `room` bytes fails or takes nothing: it isn't repeated.
+fn check_failed(rt: &impl Abort, alloc: Global, room: usize, takes_none: bool) {
+    let mut sink = sink(alloc, room, 1, takes_none);
+    let done = write_compiled(alloc, "a.feature", PLAIN_TEXT, &mut sink);
+    assert_eq!(rt; done, Err(CompileFault::WriteFailed));
+    assert!(rt; sink.taken.len() == room);
+    assert!(rt; PLAIN_LINES.as_bytes().starts_with(sink.taken.as_slice()));
+    assert!(rt; room.checked_add(1) == Some(sink.calls));
+    assert_eq!(rt; sink.failed_calls, 1);
+}
+
+#[test]
+fn each_write_may_fail(rt: HostRuntime) -> Result<(), Fail> {
+    let alloc = rt.alloc();
+    for room in 0..PLAIN_LINES.len() {
+        check_failed(&rt, alloc, room, false);
+        check_failed(&rt, alloc, room, true);
+    }
+    let mut whole = sink(alloc, PLAIN_LINES.len(), 1, false);
+    let done = write_compiled(alloc, "a.feature", PLAIN_TEXT, &mut whole);
+    assert_eq!(rt; done, Ok(()));
+    Ok(())
+}
