@@ -3,3 +3,4 @@ pub mod TextLemmas
 pub mod LineLemmas
 mod NodeLemmas
 mod EndLemmas
+mod PlainCuts

@@ -1,0 +1,182 @@
+//! The plain program of the grammar: slow, by all cuts of the lines, for small texts. It witnesses the definition, and
+//! `parse` is compared with it.
+ghost use Rattle.std.specs.Prelude.{◌≡◌, ◌≤◌, ◌↔◌, ℕ, List, map, length, IfOk, IsTrue, Some, None};
+ghost use Rattle.std.specs.List.{list_all};
+ghost use Rattle.gk_grammar.specs.Token.{Line};
+ghost use Rattle.gk_tree.specs.Plain.{kind_of, Is, Has};
+ghost use Rattle.gk_tree.specs.PlainLines as spec;
+
+use crate::kinds::Kind;
+use crate::parts::{Part, Rule, rule_of};
+use gk_line::{Block, Fence};
+
+/// Whether the line is a comment or blank.
+fn is_gap(kind: Kind) -> bool
+    ensures { result ≡ spec.is_gap kind }
+{
+    match kind {
+        Kind::Blank | Kind::Comment | Kind::English | Kind::OtherLanguage => true,
+        _ => false,
+    }
+}
+
+fn are_gap(lines: &[Kind]) -> bool
+    ensures { result ≡ list_all spec.is_gap lines.now }
+{
+    lines.iter().all(|kind| is_gap(*kind))
+}
+
+fn is_plain(kind: Kind) -> bool
+    ensures { result ≡ spec.is_plain kind }
+{
+    match kind {
+        Kind::Blank | Kind::Comment => true,
+        _ => false,
+    }
+}
+
+/// Whether these are comments and blank lines, without a language line.
+fn are_plain(lines: &[Kind]) -> bool
+    ensures { result ≡ list_all spec.is_plain lines.now }
+{
+    lines.iter().all(|kind| is_plain(*kind))
+}
+
+/// Whether the line ends a description of the block.
+fn stops(block: Block, kind: Kind) -> bool
+    ensures { result ≡ spec.stops block kind }
+{
+    match kind {
+        Kind::Tags | Kind::SpacedTag => true,
+        Kind::Title(Block::Rule | Block::Scenario) => true,
+        Kind::Title(Block::Background) => block == Block::Feature || block == Block::Rule,
+        Kind::Title(Block::Examples) => block == Block::Scenario || block == Block::Examples,
+        Kind::Step => block == Block::Background || block == Block::Scenario,
+        Kind::Row(_) => block == Block::Examples,
+        _ => false,
+    }
+}
+
+fn are_text(block: Block, lines: &[Kind]) -> bool
+    ensures { result ≡ list_all (spec.is_text block) lines.now }
+{
+    lines.iter().all(|kind| !stops(block, *kind))
+}
+
+fn is_title(block: Block, kind: Kind) -> bool
+    ensures { result ≡ spec.is_title block kind }
+{
+    match kind {
+        Kind::Title(other) => other == block,
+        _ => false,
+    }
+}
+
+/// Whether the lines are a title line of the block and a description.
+fn is_heading(block: Block, lines: &[Kind]) -> bool
+    ensures { result ≡ spec.is_heading block lines.now }
+{
+    match lines {
+        [] => false,
+        [first, rest @ ..] => is_title(block, *first) && are_text(block, rest),
+    }
+}
+
+/// Whether a part of one line, with the gap behind it, begins with the line.
+fn begins(part: Part, kind: Kind) -> bool
+    ensures { result ≡ spec.begins part kind }
+{
+    match (part, kind) {
+        (Part::EnglishLine, Kind::English)
+        | (Part::TagLine, Kind::Tags)
+        | (Part::StepLine, Kind::Step) => true,
+        (Part::Row(count), Kind::Row(other)) => other == count,
+        _ => false,
+    }
+}
+
+fn is_line(part: Part, lines: &[Kind]) -> bool
+    ensures { result ≡ spec.is_line part lines.now }
+{
+    match lines {
+        [] => false,
+        [first, rest @ ..] => begins(part, *first) && are_gap(rest),
+    }
+}
+
+fn is_fence(fence: Fence, kind: Kind) -> bool
+    ensures { result ≡ spec.is_fence fence kind }
+{
+    match kind {
+        Kind::Fenced(other) => other == fence,
+        _ => false,
+    }
+}
+
+/// Whether the lines are the content of a doc string, the line that closes it, and a gap.
+fn closes(fence: Fence, lines: &[Kind]) -> bool
+    ensures { result ≡ spec.closes fence lines.now }
+{
+    match lines {
+        [] => false,
+        [first, rest @ ..] => {
+            if is_fence(fence, *first) {
+                are_gap(rest)
+            } else {
+                closes(fence, rest)
+            }
+        }
+    }
+}
+
+fn is_doc_string(lines: &[Kind]) -> bool
+    ensures { result ≡ spec.is_doc_string lines.now }
+{
+    match lines {
+        [Kind::Fenced(fence), rest @ ..] => closes(*fence, rest),
+        _ => false,
+    }
+}
+
+/// Whether the lines are those of a part that is cut no further.
+fn are_lines(part: Part, lines: &[Kind]) -> bool
+    ensures { result ≡ spec.are_lines part lines.now }
+{
+    match part {
+        Part::PlainGap => are_plain(lines),
+        Part::DocString => is_doc_string(lines),
+        Part::Heading(block) => is_heading(block, lines),
+        _ => is_line(part, lines),
+    }
+}
+
+/// Whether the lines are those of the part.
+fn belongs(part: Part, lines: &[Kind]) -> bool
+    ensures { (ls : List Line) → map kind_of ls ≡ lines.now → IsTrue result ↔ Is part ls }
+{
+    let (first, second, least) = match rule_of(part) {
+        Rule::Lines => return are_lines(part, lines),
+        Rule::Either(one, other) => return belongs(one, lines) || belongs(other, lines),
+        Rule::Maybe(one) => return lines.is_empty() || belongs(one, lines),
+        Rule::EqualRows => {
+            return match lines {
+                [Kind::Row(count), ..] => belongs(Part::Rows(*count), lines),
+                _ => false,
+            };
+        }
+        Rule::Both(first, second) => (first, second, 0),
+        Rule::Many(one) => {
+            if lines.is_empty() {
+                return true;
+            }
+            (one, part, 1)
+        }
+    };
+    for cut in least..=lines.len() {
+        let (front, back) = lines.split_at(cut);
+        if belongs(first, front) && belongs(second, back) {
+            return true;
+        }
+    }
+    false
+}
