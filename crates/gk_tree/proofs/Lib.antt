@@ -3,4 +3,7 @@ pub mod TextLemmas
 pub mod LineLemmas
 mod NodeLemmas
 mod EndLemmas
-mod PlainCuts
+pub mod PlainCuts
+pub mod PlainRanks
+pub mod PlainAnswers
+pub mod PlainKinds

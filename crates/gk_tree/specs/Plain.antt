@@ -51,6 +51,36 @@ IsRowOf count r = OneLine (λ l. (length r.cells ≡ count) × IsRow r l)
 abbrev pub Bare : Piece → Unit {0} → Piece
 Bare P u = P
 
+abbrev pub IsUntaggedExamples : Heading × Option ExampleTable → Piece
+IsUntaggedExamples x = IsHeading block.Examples x.0 ⨾ AtMostOne IsExampleTable x.1
+
+abbrev pub IsBelowScenario : List tree.Step × List Examples → Piece
+IsBelowScenario x = Each IsStep x.0 ⨾ Each IsExamples x.1
+
+abbrev pub IsUntaggedScenario : Heading × (List tree.Step × List Examples) → Piece
+IsUntaggedScenario x = IsHeading block.Scenario x.0 ⨾ Each IsStep x.1.0 ⨾ Each IsExamples x.1.1
+
+abbrev pub IsBelowRule : Option Background × List Scenario → Piece
+IsBelowRule x = AtMostOne IsBackground x.0 ⨾ Each IsScenario x.1
+
+abbrev pub IsUntaggedRule : Heading × (Option Background × List Scenario) → Piece
+IsUntaggedRule x = IsHeading block.Rule x.0 ⨾ AtMostOne IsBackground x.1.0 ⨾ Each IsScenario x.1.1
+
+abbrev pub AreScenariosAndRules : List Scenario × List Rule → Piece
+AreScenariosAndRules x = Each IsScenario x.0 ⨾ Each IsRule x.1
+
+abbrev pub IsBelowFeature : Option Background × (List Scenario × List Rule) → Piece
+IsBelowFeature x = AtMostOne IsBackground x.0 ⨾ Each IsScenario x.1.0 ⨾ Each IsRule x.1.1
+
+abbrev pub IsUntaggedFeature : Heading × (Option Background × (List Scenario × List Rule)) → Piece
+IsUntaggedFeature x = IsHeading block.Feature x.0 ⨾ AtMostOne IsBackground x.1.0 ⨾ Each IsScenario x.1.1.0 ⨾ Each IsRule x.1.1.1
+
+abbrev pub IsSpokenGap : Unit {0} → Piece
+IsSpokenGap u = IsPlainGap ⨾ OneLine IsEnglish
+
+abbrev pub IsWithFeature : Feature → Piece
+IsWithFeature f = IsOpening ⨾ IsFeature f
+
 -- the lines are those of the part
 abbrev pub Is : Part → List Line → Type 0
 Is part.PlainGap = Has (Bare IsPlainGap)
@@ -68,26 +98,26 @@ Is part.Step = Has IsStep
 Is part.Steps = Has (Each IsStep)
 Is part.TagLines = Has TagLines
 Is part.MaybeTable = Has (AtMostOne IsExampleTable)
-Is part.UntaggedExamples = Has (λ (x : Heading × Option ExampleTable). IsHeading block.Examples x.0 ⨾ AtMostOne IsExampleTable x.1)
+Is part.UntaggedExamples = Has IsUntaggedExamples
 Is part.Examples = Has IsExamples
 Is part.ExamplesBlocks = Has (Each IsExamples)
-Is part.BelowScenario = Has (λ (x : List tree.Step × List Examples). Each IsStep x.0 ⨾ Each IsExamples x.1)
-Is part.UntaggedScenario = Has (λ (x : Heading × (List tree.Step × List Examples)). IsHeading block.Scenario x.0 ⨾ Each IsStep x.1.0 ⨾ Each IsExamples x.1.1)
+Is part.BelowScenario = Has IsBelowScenario
+Is part.UntaggedScenario = Has IsUntaggedScenario
 Is part.Scenario = Has IsScenario
 Is part.Scenarios = Has (Each IsScenario)
 Is part.Background = Has IsBackground
 Is part.MaybeBackground = Has (AtMostOne IsBackground)
-Is part.BelowRule = Has (λ (x : Option Background × List Scenario). AtMostOne IsBackground x.0 ⨾ Each IsScenario x.1)
-Is part.UntaggedRule = Has (λ (x : Heading × (Option Background × List Scenario)). IsHeading block.Rule x.0 ⨾ AtMostOne IsBackground x.1.0 ⨾ Each IsScenario x.1.1)
+Is part.BelowRule = Has IsBelowRule
+Is part.UntaggedRule = Has IsUntaggedRule
 Is part.Rule = Has IsRule
 Is part.Rules = Has (Each IsRule)
-Is part.ScenariosAndRules = Has (λ (x : List Scenario × List Rule). Each IsScenario x.0 ⨾ Each IsRule x.1)
-Is part.BelowFeature = Has (λ (x : Option Background × (List Scenario × List Rule)). AtMostOne IsBackground x.0 ⨾ Each IsScenario x.1.0 ⨾ Each IsRule x.1.1)
-Is part.UntaggedFeature = Has (λ (x : Heading × (Option Background × (List Scenario × List Rule))). IsHeading block.Feature x.0 ⨾ AtMostOne IsBackground x.1.0 ⨾ Each IsScenario x.1.1.0 ⨾ Each IsRule x.1.1.1)
+Is part.ScenariosAndRules = Has AreScenariosAndRules
+Is part.BelowFeature = Has IsBelowFeature
+Is part.UntaggedFeature = Has IsUntaggedFeature
 Is part.Feature = Has IsFeature
-Is part.SpokenGap = Has (Bare (IsPlainGap ⨾ OneLine IsEnglish))
+Is part.SpokenGap = Has IsSpokenGap
 Is part.Opening = Has (Bare IsOpening)
-Is part.FeatureText = Has (λ (f : Feature). IsOpening ⨾ IsFeature f)
+Is part.FeatureText = Has IsWithFeature
 
 -- ---- rules
 

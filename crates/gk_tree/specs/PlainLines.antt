@@ -1,5 +1,5 @@
 -- Which kinds of lines the parts are that are cut no further.
-use Rattle.std.specs.Prelude.{ℕ, Bool, true, false, not, ◌&&◌, ◌==◌, List, [], ◌∷◌, if◌then◌else◌}
+use Rattle.std.specs.Prelude.{ℕ, Bool, true, false, not, ◌&&◌, ◌==◌, List, [], ◌∷◌, Option, Some, None, if◌then◌else◌}
 use Rattle.std.specs.List.{list_all}
 use Rattle.gk_line.specs.declared.tokens.Block.{Block}
 use Rattle.gk_line.specs.declared.tokens.Block.TheVariants as block
@@ -93,3 +93,8 @@ are_lines part.PlainGap ks = list_all is_plain ks
 are_lines part.DocString ks = is_doc_string ks
 are_lines (part.Heading b) ks = is_heading b ks
 are_lines p ks = is_line p ks
+
+-- how many cells the first line has, if it is a row
+abbrev pub row_count : List Kind → Option ℕ
+row_count (kind.Row count ∷ ks) = Some count
+row_count _ = None

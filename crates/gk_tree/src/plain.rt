@@ -150,6 +150,16 @@ fn are_lines(part: Part, lines: &[Kind]) -> bool
     }
 }
 
+/// How many cells the first line has, if it is a row.
+fn row_count(lines: &[Kind]) -> Option<usize>
+    ensures { result ≡ spec.row_count lines.now }
+{
+    match lines {
+        [Kind::Row(count), ..] => Some(*count),
+        _ => None,
+    }
+}
+
 /// Whether the lines are those of the part.
 fn belongs(part: Part, lines: &[Kind]) -> bool
     ensures { (ls : List Line) → map kind_of ls ≡ lines.now → IsTrue result ↔ Is part ls }
@@ -159,9 +169,9 @@ fn belongs(part: Part, lines: &[Kind]) -> bool
         Rule::Either(one, other) => return belongs(one, lines) || belongs(other, lines),
         Rule::Maybe(one) => return lines.is_empty() || belongs(one, lines),
         Rule::EqualRows => {
-            return match lines {
-                [Kind::Row(count), ..] => belongs(Part::Rows(*count), lines),
-                _ => false,
+            return match row_count(lines) {
+                Some(count) => belongs(Part::Rows(count), lines),
+                None => false,
             };
         }
         Rule::Both(first, second) => (first, second, 0),
