@@ -7,3 +7,4 @@ pub mod PlainCuts
 pub mod PlainRanks
 pub mod PlainAnswers
 pub mod PlainKinds
+pub mod PlainNumbers

@@ -1,5 +1,6 @@
 //! What the grammar asks of the lines of a text, without their words.
 ghost use Rattle.std.specs.Prelude.{◌≡◌, ◌≤◌, ℕ, List, map, length, IfOk};
+ghost use Rattle.gk_line.specs.Views.{numbered_line};
 ghost use Rattle.gk_grammar.specs.Token as read;
 ghost use Rattle.gk_grammar.specs.Documents.{lines_read, byte_limit};
 ghost use Rattle.gk_tree.specs.Views.{token_view, text_of};
@@ -8,7 +9,7 @@ ghost use Rattle.gk_tree.specs.Plain.{kind_of};
 use crate::before::is_english;
 use crate::read::token;
 use crate::token::Token;
-use gk_line::{Block, Fence, lines};
+use gk_line::{Block, Fence, Line, lines};
 use std::alloc::{AllocError, Global};
 
 /// What a line is.
@@ -57,6 +58,14 @@ fn language_kind(word: &str) -> Kind
     }
 }
 
+fn kind_of_line(alloc: Global, line: Line<'_>) -> Result<Kind, AllocError>
+    requires { length line.text.now ≤ 16_777_216 }
+    ensures { IfOk result (λ k. k ≡ kind_of (read.line_of (numbered_line line.entry))) }
+{
+    let token = token(alloc, line)?;
+    Ok(kind_of_token(&token))
+}
+
 /// The kinds of the lines of a text.
 #[tactic(auto, unfolding(gk_grammar::specs::Documents::lines_read))]
 pub(crate) fn kinds(alloc: Global, text: &str) -> Result<Vec<Kind>, AllocError>
@@ -65,8 +74,7 @@ pub(crate) fn kinds(alloc: Global, text: &str) -> Result<Vec<Kind>, AllocError>
 {
     let mut all = Vec::new(alloc);
     for line in lines(text) {
-        let token = token(alloc, line)?;
-        all.push(kind_of_token(&token))?;
+        all.push(kind_of_line(alloc, line)?)?;
     }
     Ok(all)
 }

@@ -1,14 +1,18 @@
 //! The plain program of the grammar: slow, by all cuts of the lines, for small texts. It witnesses the definition, and
 //! `parse` is compared with it.
-ghost use Rattle.std.specs.Prelude.{◌≡◌, ◌≤◌, ◌↔◌, ℕ, List, map, length, IfOk, IsTrue, Some, None};
+ghost use Rattle.std.specs.Prelude.{◌≡◌, ◌≤◌, ◌↔◌, ◌⊎◌, ◌++◌, ◌∷◌, [], List, map, length, IfOk, IfSome, IsTrue, None};
 ghost use Rattle.std.specs.List.{list_all};
 ghost use Rattle.gk_grammar.specs.Token.{Line};
-ghost use Rattle.gk_tree.specs.Plain.{kind_of, Is, Has};
+ghost use Rattle.gk_grammar.specs.Tree.{Document};
+ghost use Rattle.gk_grammar.specs.Place.{IsText, IsFront, IsFirstBad, IsOpenAtEnd};
+ghost use Rattle.gk_grammar.specs.Documents.{lines_read, IsDocumentOf, byte_limit};
+ghost use Rattle.gk_tree.specs.Plain.{kind_of, Is};
 ghost use Rattle.gk_tree.specs.PlainLines as spec;
 
-use crate::kinds::Kind;
+use crate::kinds::{Kind, kinds};
 use crate::parts::{Part, Rule, rule_of};
 use gk_line::{Block, Fence};
+use std::alloc::{AllocError, Global};
 
 /// Whether the line is a comment or blank.
 fn is_gap(kind: Kind) -> bool
@@ -189,4 +193,79 @@ fn belongs(part: Part, lines: &[Kind]) -> bool
         }
     }
     false
+}
+
+/// Whether the lines are a text of the grammar.
+fn is_feature_file(lines: &[Kind]) -> bool
+    ensures { (ls : List Line) → map kind_of ls ≡ lines.now → IsTrue result ↔ IsText ls }
+{
+    belongs(Part::PlainGap, lines) || belongs(Part::FeatureText, lines)
+}
+
+/// Whether the lines, and then this one, are a text of the grammar. The line is taken away again.
+fn completes(lines: &mut Vec<Kind>, last: Kind) -> Result<bool, AllocError>
+    ensures same { IfOk result (λ _. lines.new.items ≡ lines.old.items) }
+    ensures told { IfOk result (λ told. (ls : List Line) → map kind_of ls ≡ lines.old.items ++ last ∷ [] → IsTrue told ↔ IsText ls) }
+{
+    lines.push(last)?;
+    let told = is_feature_file(lines);
+    let _ = lines.pop();
+    Ok(told)
+}
+
+/// Whether the lines are the front of a text: by themselves, or with one of four lines behind them.
+fn is_front(lines: &mut Vec<Kind>) -> Result<bool, AllocError>
+    ensures same { IfOk result (λ _. lines.new.items ≡ lines.old.items) }
+    ensures told { IfOk result (λ told. (ls : List Line) → map kind_of ls ≡ lines.old.items → IsTrue told ↔ IsFront ls) }
+{
+    Ok(is_feature_file(lines)
+        || completes(lines, Kind::Title(Block::Feature))?
+        || completes(lines, Kind::Title(Block::Scenario))?
+        || completes(lines, Kind::Fenced(Fence::Quotes))?
+        || completes(lines, Kind::Fenced(Fence::Backticks))?)
+}
+
+/// The first line up to which the lines are no front of a text, or the line behind the last one where they are a front
+/// and no text, or none where they are a text.
+fn first_bad(alloc: Global, lines: &[Kind]) -> Result<Option<usize>, AllocError>
+    ensures none { IfOk result (λ n. n ≡ None → (ls : List Line) → map kind_of ls ≡ lines.now → IsText ls) }
+    ensures some { IfOk result (λ n. IfSome n (λ n. (ls : List Line) → map kind_of ls ≡ lines.now → IsFirstBad ls n ⊎ IsOpenAtEnd ls n)) }
+{
+    let mut front = Vec::new(alloc);
+    for (before, kind) in lines.iter().enumerate() {
+        front.push(*kind)?;
+        if !is_front(&mut front)? {
+            return Ok(Some(before + 1));
+        }
+    }
+    if is_feature_file(lines) {
+        return Ok(None);
+    }
+    Ok(Some(lines.len() + 1))
+}
+
+/// Whether some document belongs to the text by the grammar. It takes all cuts of the lines, and is slow.
+///
+/// # Errors
+/// There is no memory for the kinds of the lines.
+pub fn has_document(alloc: Global, text: &str) -> Result<bool, AllocError>
+    requires short { length text.now ≤ byte_limit }
+    ensures { IfOk result (λ told. IsTrue told ↔ ((d : Document) × IsDocumentOf text.now d)) }
+{
+    let kinds = kinds(alloc, text)?;
+    Ok(is_feature_file(&kinds))
+}
+
+/// The line of the text's fault, by the definition of its place, and none where the text has a document. It tries all
+/// fronts of the lines with each completion, and is slow.
+///
+/// # Errors
+/// There is no memory for the kinds of the lines.
+pub fn place(alloc: Global, text: &str) -> Result<Option<usize>, AllocError>
+    requires short { length text.now ≤ byte_limit }
+    ensures none { IfOk result (λ n. n ≡ None → IsText (lines_read text.now)) }
+    ensures some { IfOk result (λ n. IfSome n (λ n. IsFirstBad (lines_read text.now) n ⊎ IsOpenAtEnd (lines_read text.now) n)) }
+{
+    let kinds = kinds(alloc, text)?;
+    first_bad(alloc, &kinds)
 }
