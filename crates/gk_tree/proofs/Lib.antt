@@ -8,3 +8,4 @@ pub mod PlainRanks
 pub mod PlainAnswers
 pub mod PlainKinds
 pub mod PlainNumbers
+pub mod PlainFronts

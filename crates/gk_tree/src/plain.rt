@@ -202,27 +202,32 @@ fn is_feature_file(lines: &[Kind]) -> bool
     belongs(Part::PlainGap, lines) || belongs(Part::FeatureText, lines)
 }
 
-/// Whether the lines, and then this one, are a text of the grammar. The line is taken away again.
-fn completes(lines: &mut Vec<Kind>, last: Kind) -> Result<bool, AllocError>
-    ensures same { IfOk result (λ _. lines.new.items ≡ lines.old.items) }
-    ensures told { IfOk result (λ told. (ls : List Line) → map kind_of ls ≡ lines.old.items ++ last ∷ [] → IsTrue told ↔ IsText ls) }
+/// Whether the lines, and then this one, are a text of the grammar.
+fn completes(alloc: Global, lines: &[Kind], last: Kind) -> Result<bool, AllocError>
+    ensures { IfOk result (λ told. (ls : List Line) → map kind_of ls ≡ lines.now ++ last ∷ [] → IsTrue told ↔ IsText ls) }
 {
-    lines.push(last)?;
-    let told = is_feature_file(lines);
-    let _ = lines.pop();
-    Ok(told)
+    let mut all = lines.to_vec(alloc)?;
+    all.push(last)?;
+    Ok(is_feature_file(&all))
 }
 
 /// Whether the lines are the front of a text: by themselves, or with one of four lines behind them.
-fn is_front(lines: &mut Vec<Kind>) -> Result<bool, AllocError>
-    ensures same { IfOk result (λ _. lines.new.items ≡ lines.old.items) }
-    ensures told { IfOk result (λ told. (ls : List Line) → map kind_of ls ≡ lines.old.items → IsTrue told ↔ IsFront ls) }
+fn is_front(alloc: Global, lines: &[Kind]) -> Result<bool, AllocError>
+    ensures { IfOk result (λ told. (ls : List Line) → map kind_of ls ≡ lines.now → IsTrue told ↔ IsFront ls) }
 {
-    Ok(is_feature_file(lines)
-        || completes(lines, Kind::Title(Block::Feature))?
-        || completes(lines, Kind::Title(Block::Scenario))?
-        || completes(lines, Kind::Fenced(Fence::Quotes))?
-        || completes(lines, Kind::Fenced(Fence::Backticks))?)
+    if is_feature_file(lines) {
+        return Ok(true);
+    }
+    if completes(alloc, lines, Kind::Title(Block::Feature))? {
+        return Ok(true);
+    }
+    if completes(alloc, lines, Kind::Title(Block::Scenario))? {
+        return Ok(true);
+    }
+    if completes(alloc, lines, Kind::Fenced(Fence::Quotes))? {
+        return Ok(true);
+    }
+    Ok(completes(alloc, lines, Kind::Fenced(Fence::Backticks))?)
 }
 
 /// The first line up to which the lines are no front of a text, or the line behind the last one where they are a front
@@ -231,10 +236,9 @@ fn first_bad(alloc: Global, lines: &[Kind]) -> Result<Option<usize>, AllocError>
     ensures none { IfOk result (λ n. n ≡ None → (ls : List Line) → map kind_of ls ≡ lines.now → IsText ls) }
     ensures some { IfOk result (λ n. IfSome n (λ n. (ls : List Line) → map kind_of ls ≡ lines.now → IsFirstBad ls n ⊎ IsOpenAtEnd ls n)) }
 {
-    let mut front = Vec::new(alloc);
-    for (before, kind) in lines.iter().enumerate() {
-        front.push(*kind)?;
-        if !is_front(&mut front)? {
+    for before in 0..lines.len() {
+        let (front, _) = lines.split_at(before + 1);
+        if !is_front(alloc, front)? {
             return Ok(Some(before + 1));
         }
     }
