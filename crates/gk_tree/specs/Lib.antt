@@ -4,3 +4,5 @@ pub mod Ends
 pub mod Read
 pub mod Rows
 pub mod Views
+pub mod Plain
+pub mod PlainLines

@@ -77,7 +77,7 @@ pub(crate) fn before_feature<'a>(
     beginning(alloc, progress, Phase::Before, at, token)
 }
 
-fn is_english(word: &str) -> bool
+pub(crate) fn is_english(word: &str) -> bool
     ensures { result ≡ machine.same_text (text_of word.now) english }
 {
     word == "en"
