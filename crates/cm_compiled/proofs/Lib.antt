@@ -1,0 +1,6 @@
+pub mod Children
+pub mod Depths
+pub mod Lines
+pub mod Lists
+pub mod Pickles
+pub mod Trees

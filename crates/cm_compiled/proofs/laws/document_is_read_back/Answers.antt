@@ -1,0 +1,11 @@
+use Rattle.gk_pickle.specs.TreeJson.{document_data}
+use Rattle.cm_compiled.proofs.Depths.{document_depth}
+use Rattle.cm_compiled.proofs.Lines.{line_is}
+use Rattle.cm_compiled.proofs.Trees.{document_is}
+use Rattle.cm_compiled.proofs.laws.document_is_read_back.Goals as goal
+
+pub returns-clause-value : goal.returns-clause-value
+returns-clause-value c = document_is
+
+pub returns-clause-line : goal.returns-clause-line
+returns-clause-line c = λ uri d line numbered lines given. line_is line (document_data uri d) _ (document_is uri d numbered lines) (document_depth uri d) given

@@ -1,0 +1,11 @@
+use Rattle.gk_pickle.specs.Json.{pickle_data}
+use Rattle.cm_compiled.proofs.Depths.{pickle_depth}
+use Rattle.cm_compiled.proofs.Lines.{line_is}
+use Rattle.cm_compiled.proofs.Pickles.{pickle_is}
+use Rattle.cm_compiled.proofs.laws.pickle_is_read_back.Goals as goal
+
+pub returns-clause-value : goal.returns-clause-value
+returns-clause-value c = pickle_is
+
+pub returns-clause-line : goal.returns-clause-line
+returns-clause-line c = λ uri first p line given. line_is line (pickle_data uri first p) _ (pickle_is uri first p) (pickle_depth uri first p) given

@@ -1,0 +1,21 @@
+//! Writing and reading agree.
+ghost use Rattle.cm_compiled.specs.Laws.{DocumentIsReadBack, DocumentLineIsReadBack, PickleIsReadBack, PickleLineIsReadBack, SourceIsReadBack, SourceLineIsReadBack};
+
+/// The envelope that is written of a source is read as that source, and so is each line that is its JSON.
+pub fn source_is_read_back()
+    ensures value { SourceIsReadBack }
+    ensures line { SourceLineIsReadBack }
+{}
+
+/// The envelope that is written of a pickle is read as that pickle, and so is each line that is its JSON.
+pub fn pickle_is_read_back()
+    ensures value { PickleIsReadBack }
+    ensures line { PickleLineIsReadBack }
+{}
+
+/// The envelope that is written of a document is read as that document without what no envelope keeps, and so is each line
+/// that is its JSON. The document's nodes are numbered in the order of the tree, and its lines begin at 1.
+pub fn document_is_read_back()
+    ensures value { DocumentIsReadBack }
+    ensures line { DocumentLineIsReadBack }
+{}
