@@ -26,9 +26,9 @@ use Rattle.gk_pickle.specs.declared.pickle.Pickle.{Pickle}
 use Rattle.gk_pickle.specs.Json.{id_data, pickle_cell_data, pickle_row_data, pickle_tag_data, pickle_doc_string_data, argument_data, pickle_step_data, pickle_steps_data, pickle_data}
 use Rattle.gk_pickle.specs.TreeJson.{cell_data, row_data, tag_data, comment_data, doc_string_data, step_data, background_data, background_child, examples_data, scenario_data, scenario_child, children_data, rule_data, rule_child, feature_data, document_data, source_data}
 
-pub items_within : {A : Type 0} (data : A → Data) (n : ℕ) → ((x : A) → depth (data x) ≤ n) → (xs : List A) → items_depth (items_of (map data xs)) ≤ n
-items_within data n one [] = omega arith
-items_within data n one (x ∷ xs) = let first = one x in let others = items_within data n one xs in omega arith
+pub items_within : {A : Type 0} (written : A → Data) (n : ℕ) → ((x : A) → depth (written x) ≤ n) → (xs : List A) → items_depth (items_of (map written xs)) ≤ n
+items_within written n one [] = omega arith
+items_within written n one (x ∷ xs) = let first = one x in let others = items_within written n one xs in omega arith
 
 pub source_depth : (uri text : List ℕ) → depth (source_data uri text) ≤ max_depth
 unfolding source_data

@@ -3,4 +3,5 @@ pub mod Depths
 pub mod Lines
 pub mod Lists
 pub mod Pickles
+pub mod Texts
 pub mod Trees

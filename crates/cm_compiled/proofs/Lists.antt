@@ -9,10 +9,10 @@ use Rattle.gk_grammar.proofs.Complete.{Counts, counts_apart}
 use Rattle.cm_envelope.specs.Member.{each}
 use Rattle.cm_envelope.specs.Documents.{Ids, NodeRead, each_node}
 
-pub each_is : {A B : Type 0} (read : Data → Result B (List ℕ)) (data : A → Data) (view : A → B) → ((x : A) → read (data x) ≡ Ok (view x)) → (xs : List A) →
-    each read (items_of (map data xs)) ≡ Ok (map view xs)
-each_is read data view one [] = refl
-each_is read data view one (x ∷ xs) = rw (one x, each_is read data view one xs) refl
+pub each_is : {A B : Type 0} (read : Data → Result B (List ℕ)) (written : A → Data) (view : A → B) → ((x : A) → read (written x) ≡ Ok (view x)) → (xs : List A) →
+    each read (items_of (map written xs)) ≡ Ok (map view xs)
+each_is read written view one [] = refl
+each_is read written view one (x ∷ xs) = rw (one x, each_is read written view one xs) refl
 
 -- ---- ids
 
@@ -34,16 +34,16 @@ apart ids a b c =
 
 -- What is written of a node is read as the node, and adds the ids of its nodes.
 abbrev pub IsRead : {A B : Type 0} → (Ids → Data → NodeRead B) → (A → Data) → (A → List Node) → (A → B) → (A → Type 0) → Type 0
-IsRead {A} read data nodes view HasLines = (ids : Ids) (x : A) → HasLines x → Counts (length ids) (nodes x) → read ids (data x) ≡ Ok (view x, ids ++ names (nodes x))
+IsRead {A} read written nodes view HasLines = (ids : Ids) (x : A) → HasLines x → Counts (length ids) (nodes x) → read ids (written x) ≡ Ok (view x, ids ++ names (nodes x))
 
-pub nodes_are : {A B : Type 0} (read : Ids → Data → NodeRead B) (data : A → Data) (nodes : A → List Node) (view : A → B) (HasLines : A → Type 0) → IsRead read data nodes view HasLines →
+pub nodes_are : {A B : Type 0} (read : Ids → Data → NodeRead B) (written : A → Data) (nodes : A → List Node) (view : A → B) (HasLines : A → Type 0) → IsRead read written nodes view HasLines →
     (ids : Ids) (xs : List A) → AllByRecursion HasLines xs → Counts (length ids) (flat_map nodes xs) →
-    each_node read ids (items_of (map data xs)) ≡ Ok (map view xs, ids ++ names (flat_map nodes xs))
-nodes_are {A} {B} read data nodes view HasLines one ids [] h c = ap (λ (i : Ids). Ok ([], i)) (sym (append-nil ids))
-nodes_are {A} {B} read data nodes view HasLines one ids (x ∷ xs) h c =
+    each_node read ids (items_of (map written xs)) ≡ Ok (map view xs, ids ++ names (flat_map nodes xs))
+nodes_are {A} {B} read written nodes view HasLines one ids [] h c = ap (λ (i : Ids). Ok ([], i)) (sym (append-nil ids))
+nodes_are {A} {B} read written nodes view HasLines one ids (x ∷ xs) h c =
     let parts = apart ids (nodes x) (flat_map nodes xs) c in
     let here = one ids x h.0 parts.0 in
-    let others = nodes_are read data nodes view HasLines one (ids ++ names (nodes x)) xs h.1 parts.1 in
+    let others = nodes_are read written nodes view HasLines one (ids ++ names (nodes x)) xs h.1 parts.1 in
     rw (here, others) (ap (λ (i : Ids). Ok (view x ∷ map view xs, i))
     (append_assoc ids (names (nodes x)) (names (flat_map nodes xs)) ∙ ap (λ (i : Ids). ids ++ i) (sym (map-append _ (nodes x) (flat_map nodes xs)))))
 
@@ -52,9 +52,9 @@ singles f [] = refl
 singles f (x ∷ xs) = ap (λ ns. f x ∷ ns) (singles f xs)
 
 -- the same where each is one node
-pub each_one : {A B : Type 0} (read : Ids → Data → NodeRead B) (data : A → Data) (node : A → Node) (view : A → B) (HasLines : A → Type 0) →
-    IsRead read data (λ x. node x ∷ []) view HasLines →
-    (ids : Ids) (xs : List A) → AllByRecursion HasLines xs → Counts (length ids) (map node xs) → each_node read ids (items_of (map data xs)) ≡ Ok (map view xs, ids ++ names (map node xs))
-each_one {A} {B} read data node view HasLines one ids xs h =
-    subst (λ (ns : List Node). Counts (length ids) ns → each_node read ids (items_of (map data xs)) ≡ Ok (map view xs, ids ++ names ns))
-    (singles node xs) (nodes_are read data (λ x. node x ∷ []) view HasLines one ids xs h)
+pub each_one : {A B : Type 0} (read : Ids → Data → NodeRead B) (written : A → Data) (node : A → Node) (view : A → B) (HasLines : A → Type 0) →
+    IsRead read written (λ x. node x ∷ []) view HasLines →
+    (ids : Ids) (xs : List A) → AllByRecursion HasLines xs → Counts (length ids) (map node xs) → each_node read ids (items_of (map written xs)) ≡ Ok (map view xs, ids ++ names (map node xs))
+each_one {A} {B} read written node view HasLines one ids xs h =
+    subst (λ (ns : List Node). Counts (length ids) ns → each_node read ids (items_of (map written xs)) ≡ Ok (map view xs, ids ++ names ns))
+    (singles node xs) (nodes_are read written (λ x. node x ∷ []) view HasLines one ids xs h)

@@ -4,6 +4,7 @@ use Rattle.std.specs.Str.{IsUtf8}
 use Rattle.serde_json.specs.Data.{Data, depth}
 use Rattle.serde_json.specs.Read.{read, max_depth}
 use Rattle.gk_document.specs.declared.tree.Document.{Document}
+use Rattle.gk_grammar.specs.Documents.{IsDocumentOf, IsTooLong}
 use Rattle.gk_pickle.specs.declared.pickle.Pickle.{Pickle}
 use Rattle.gk_pickle.specs.Json.{pickle_data}
 use Rattle.gk_pickle.specs.TreeJson.{document_data, source_data}
@@ -40,3 +41,7 @@ abbrev pub DocumentLineIsReadBack : Type 0
 DocumentLineIsReadBack =
     (uri : List ℕ) (d : Document) (line : List ℕ) → IsNumbered d → FeatureHasLines d.feature → IsLineOf line (document_data uri d) →
     envelope_of_line line ≡ Ok (envelope.GherkinDocument (document_read uri d))
+
+-- the document of a text that isn't too long is such a document
+abbrev pub ParsedAreSuch : Type 0
+ParsedAreSuch = (text : List ℕ) (d : Document) → IsDocumentOf text d → (IsTooLong text → ⊥) → IsNumbered d × FeatureHasLines d.feature

@@ -1,5 +1,5 @@
 //! Writing and reading agree.
-ghost use Rattle.cm_compiled.specs.Laws.{DocumentIsReadBack, DocumentLineIsReadBack, PickleIsReadBack, PickleLineIsReadBack, SourceIsReadBack, SourceLineIsReadBack};
+ghost use Rattle.cm_compiled.specs.Laws.{DocumentIsReadBack, DocumentLineIsReadBack, ParsedAreSuch, PickleIsReadBack, PickleLineIsReadBack, SourceIsReadBack, SourceLineIsReadBack};
 
 /// The envelope that is written of a source is read as that source, and so is each line that is its JSON.
 pub fn source_is_read_back()
@@ -14,8 +14,10 @@ pub fn pickle_is_read_back()
 {}
 
 /// The envelope that is written of a document is read as that document without what no envelope keeps, and so is each line
-/// that is its JSON. The document's nodes are numbered in the order of the tree, and its lines begin at 1.
+/// that is its JSON. The document's nodes are numbered in the order of the tree and its lines are numbers of 32 bits from 1, as in
+/// the document of a text that isn't too long.
 pub fn document_is_read_back()
     ensures value { DocumentIsReadBack }
     ensures line { DocumentLineIsReadBack }
+    ensures parsed { ParsedAreSuch }
 {}

@@ -1,6 +1,7 @@
 use Rattle.gk_pickle.specs.TreeJson.{document_data}
 use Rattle.cm_compiled.proofs.Depths.{document_depth}
 use Rattle.cm_compiled.proofs.Lines.{line_is}
+use Rattle.cm_compiled.proofs.Texts.{parsed_are_such}
 use Rattle.cm_compiled.proofs.Trees.{document_is}
 use Rattle.cm_compiled.proofs.laws.document_is_read_back.Goals as goal
 
@@ -9,3 +10,6 @@ returns-clause-value c = document_is
 
 pub returns-clause-line : goal.returns-clause-line
 returns-clause-line c = λ uri d line numbered lines given. line_is line (document_data uri d) _ (document_is uri d numbered lines) (document_depth uri d) given
+
+pub returns-clause-parsed : goal.returns-clause-parsed
+returns-clause-parsed c = parsed_are_such
