@@ -96,8 +96,8 @@ doc_string_fits d (line n u i _ ∷ ls) cs t h = absurd t
 
 argument_fits : (a : Option Argument) → Gives (AtMostOne IsArgument a) (ArgumentHasLines a)
 argument_fits None ls cs t h = tt
-argument_fits (Some (Table rows)) = table_fits rows
-argument_fits (Some (Quoted d)) = doc_string_fits d
+argument_fits (Some (Table rows)) ls cs t h = table_fits rows ls cs t h
+argument_fits (Some (Quoted d)) ls cs t h = doc_string_fits d ls cs t h
 
 step_fits : (s : tree.Step) (l : Line) → IsStepLine s l → Fits l → HasLine s.location
 step_fits s (line n t i (Step k y m)) e h = subst HasLine (sym e.0) h
@@ -112,13 +112,13 @@ steps_fit s =
 
 background_fits : (o : Option Background) → Gives (AtMostOne IsBackground o) (BackgroundHasLines o)
 background_fits None ls cs t h = tt
-background_fits (Some b) =
+background_fits (Some b) ls cs t h =
     gives_then (Titled block.Background b.location b.keyword b.name b.description) (Each IsStep b.steps) (HasLine b.location) (AllByRecursion StepHasLines b.steps)
-    (title_fits block.Background b.location b.keyword b.name b.description) (gives_each IsStep StepHasLines steps_fit b.steps)
+    (title_fits block.Background b.location b.keyword b.name b.description) (gives_each IsStep StepHasLines steps_fit b.steps) ls cs t h
 
 example_table_fits : (o : Option ExampleTable) → Gives (AtMostOne IsExampleTable o) (TableHasLines o)
 example_table_fits None ls cs t h = tt
-example_table_fits (Some t) = table_fits (t.header ∷ t.body)
+example_table_fits (Some x) ls cs t h = table_fits (x.header ∷ x.body) ls cs t h
 
 -- a header, and what is below it
 header_fits : (b : Block) (p : Location) (tags : List Tag) (k m d : Text) (Q : Piece) (X : Type 0) → Gives Q X → Gives (TagLines tags ⨾ Titled b p k m d ⨾ Q) (TagsHaveLines tags × (HasLine p × X))
