@@ -1,6 +1,6 @@
 -- Sources and pickles are read back.
-use Rattle.std.proofs.Common.{◌≡◌, ℕ, ◌+◌, List, [], ◌∷◌, map, Option, Some, None, Result, Ok, refl, codes, decimal}
-use Rattle.serde_json.specs.Data.{Data, string}
+use Rattle.std.proofs.Common.{◌≡◌, ℕ, ◌+◌, List, [], ◌∷◌, map, Option, Some, None, Ok, refl, codes, decimal}
+use Rattle.serde_json.specs.Data.{string}
 use Rattle.serde_json.specs.Find.{as_str}
 use Rattle.serde_json.specs.View.{items_of}
 use Rattle.gk_pickle.specs.declared.pickle.StepType.{StepType}
@@ -10,12 +10,10 @@ use Rattle.gk_pickle.specs.declared.pickle.PickleDocString.{PickleDocString}
 use Rattle.gk_pickle.specs.declared.pickle.PickleArgument.{PickleArgument}
 use Rattle.gk_pickle.specs.declared.pickle.PickleArgument.TheVariants.{Table, Text}
 use Rattle.gk_pickle.specs.declared.pickle.PickleStep.{PickleStep}
-use Rattle.gk_pickle.specs.declared.pickle.Pickle.{Pickle}
 use Rattle.gk_pickle.specs.Json.{id_data, type_word, pickle_cell_data, pickle_row_data, pickle_tag_data, pickle_doc_string_data, pickle_step_data, pickle_steps_data, pickle_data}
 use Rattle.gk_pickle.specs.TreeJson.{source_data}
 use Rattle.cm_envelope.specs.Member.{each, object_in, good}
 use Rattle.cm_envelope.specs.Pickles.{as_step_kind, pickle_tag, pickle_cell, pickle_row, pickle_doc_string, pickle_step}
-use Rattle.cm_envelope.specs.Pickles as read
 use Rattle.cm_compiled.specs.Laws.{SourceIsReadBack, PickleIsReadBack}
 use Rattle.cm_compiled.proofs.Lists.{each_is}
 use Rattle.cm_compiled.specs.Pickles.{kind_read, tag_read, cell_read, row_read, doc_string_read, step_read, steps_read}

@@ -1,15 +1,14 @@
 -- The document of a text stands at lines of the text.
-use Rattle.std.proofs.Common.{◌≡◌, ℕ, ◌+◌, ◌^◌, ◌<◌, ◌≤◌, List, [], ◌∷◌, ◌++◌, length, map, Option, Some, None, Ok, Err, sym, ap, subst, arith, flat_map, inl, inr}
+use Rattle.std.proofs.Common.{◌≡◌, ℕ, ◌+◌, ◌^◌, ◌<◌, ◌≤◌, List, [], ◌∷◌, ◌++◌, length, map, Option, Some, None, Ok, Err, sym, ap, subst, arith, flat_map, inr}
 use Rattle.std.specs.List.{AllByRecursion}
 use Rattle.gk_line.specs.declared.tokens.Block.{Block}
 use Rattle.gk_line.specs.declared.tokens.Block.TheVariants as block
-use Rattle.gk_line.specs.declared.tokens.Fence.{Fence}
 use Rattle.gk_document.specs.declared.tree.Argument.TheVariants.{Table, Text as Quoted}
 use Rattle.gk_grammar.specs.Token.{Text, TagText, Tags, Title, Step, Row, Fenced, Line, line, number}
 use Rattle.gk_grammar.specs.Tree as tree
 use Rattle.gk_grammar.specs.Tree.{Location, Tag, DocString, Argument, Background, ExampleTable, Examples, Scenario, Rule, Feature, Document}
-use Rattle.gk_grammar.specs.Grammar.{Piece, Then, ◌⨾◌, Nothing, Each, AtMostOne, OneLine, at, place_and_name, tag_at, IsTagLine, TagLines, Titled, IsRow, IsTable, IsDocString, IsArgument, IsStepLine, IsStep, IsBackground, IsExampleTable, IsExamples, IsScenario, IsRule, IsFeature, IsOpening, IsFeatureText}
-use Rattle.gk_grammar.specs.Documents.{lines_read, line_limit, IsDocumentOf, IsTooLong}
+use Rattle.gk_grammar.specs.Grammar.{Piece, Then, ◌⨾◌, Each, AtMostOne, OneLine, place_and_name, tag_at, IsTagLine, TagLines, Titled, IsRow, IsTable, IsDocString, IsArgument, IsStepLine, IsStep, IsBackground, IsExampleTable, IsExamples, IsScenario, IsRule, IsFeature, IsOpening, IsFeatureText}
+use Rattle.gk_grammar.specs.Documents.{lines_read, line_limit}
 use Rattle.gk_grammar.proofs.Places.{AreLines}
 use Rattle.gk_grammar.proofs.Reading.{read_are_lines}
 use Rattle.gk_grammar.proofs.LawLemmas.{numbered_in_order_holds}
@@ -133,15 +132,15 @@ examples_fit e ls cs t h =
 scenario_fits : (s : Scenario) → Gives (IsScenario s) (ScenarioHasLines s)
 scenario_fits s ls cs t h =
     let x = header_fits block.Scenario s.location s.tags s.keyword s.name s.description (Each IsStep s.steps ⨾ Each IsExamples s.examples) (AllByRecursion StepHasLines s.steps × AllByRecursion ExamplesHaveLines s.examples)
-        (gives_then (Each IsStep s.steps) (Each IsExamples s.examples) (AllByRecursion StepHasLines s.steps) (AllByRecursion ExamplesHaveLines s.examples)
-        (gives_each IsStep StepHasLines steps_fit s.steps) (gives_each IsExamples ExamplesHaveLines examples_fit s.examples)) ls cs t h in
+    (gives_then (Each IsStep s.steps) (Each IsExamples s.examples) (AllByRecursion StepHasLines s.steps) (AllByRecursion ExamplesHaveLines s.examples)
+    (gives_each IsStep StepHasLines steps_fit s.steps) (gives_each IsExamples ExamplesHaveLines examples_fit s.examples)) ls cs t h in
     (x.1.0, x.0, x.1.1.0, x.1.1.1)
 
 rule_fits : (r : Rule) → Gives (IsRule r) (RuleHasLines r)
 rule_fits r ls cs t h =
     let x = header_fits block.Rule r.location r.tags r.keyword r.name r.description (AtMostOne IsBackground r.background ⨾ Each IsScenario r.scenarios) (BackgroundHasLines r.background × AllByRecursion ScenarioHasLines r.scenarios)
-        (gives_then (AtMostOne IsBackground r.background) (Each IsScenario r.scenarios) (BackgroundHasLines r.background) (AllByRecursion ScenarioHasLines r.scenarios)
-        (background_fits r.background) (gives_each IsScenario ScenarioHasLines scenario_fits r.scenarios)) ls cs t h in
+    (gives_then (AtMostOne IsBackground r.background) (Each IsScenario r.scenarios) (BackgroundHasLines r.background) (AllByRecursion ScenarioHasLines r.scenarios)
+    (background_fits r.background) (gives_each IsScenario ScenarioHasLines scenario_fits r.scenarios)) ls cs t h in
     (x.1.0, x.0, x.1.1.0, x.1.1.1)
 
 feature_fits : (f : Feature) → Gives (IsFeature f) (FeatureHasLines (Some f))
@@ -149,9 +148,9 @@ feature_fits f ls cs t h =
     let rest = Each IsScenario f.scenarios ⨾ Each IsRule f.rules in
     let Rest = AllByRecursion ScenarioHasLines f.scenarios × AllByRecursion RuleHasLines f.rules in
     let x = header_fits block.Feature f.location f.tags f.keyword f.name f.description (AtMostOne IsBackground f.background ⨾ rest) (BackgroundHasLines f.background × Rest)
-        (gives_then (AtMostOne IsBackground f.background) rest (BackgroundHasLines f.background) Rest (background_fits f.background)
-        (gives_then (Each IsScenario f.scenarios) (Each IsRule f.rules) (AllByRecursion ScenarioHasLines f.scenarios) (AllByRecursion RuleHasLines f.rules)
-        (gives_each IsScenario ScenarioHasLines scenario_fits f.scenarios) (gives_each IsRule RuleHasLines rule_fits f.rules))) ls cs t h in
+    (gives_then (AtMostOne IsBackground f.background) rest (BackgroundHasLines f.background) Rest (background_fits f.background)
+    (gives_then (Each IsScenario f.scenarios) (Each IsRule f.rules) (AllByRecursion ScenarioHasLines f.scenarios) (AllByRecursion RuleHasLines f.rules)
+    (gives_each IsScenario ScenarioHasLines scenario_fits f.scenarios) (gives_each IsRule RuleHasLines rule_fits f.rules))) ls cs t h in
     (x.1.0, x.0, x.1.1.0, x.1.1.1.0, x.1.1.1.1)
 
 text_fits : (f : Option Feature) → Gives (IsFeatureText f) (FeatureHasLines f)

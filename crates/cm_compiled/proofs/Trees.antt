@@ -1,11 +1,11 @@
 -- Documents are read back.
-use Rattle.std.proofs.Common.{◌≡◌, ℕ, zero, suc, ◌+◌, ◌^◌, ◌<◌, List, [], ◌∷◌, ◌++◌, length, map, Option, Some, None, Ok, Bool, true, refl, sym, ap, ◌∙◌, codes, decimal, arith, append_assoc, append-nil, flat_map}
+use Rattle.std.proofs.Common.{◌≡◌, ℕ, zero, suc, ◌+◌, List, [], ◌∷◌, ◌++◌, length, map, Option, Some, None, Ok, refl, sym, ap, ◌∙◌, codes, decimal, arith, append_assoc, append-nil, flat_map}
 use Rattle.std.proofs.lemmas.List.{map-append}
 use Rattle.std.proofs.lemmas.List.FromFn.{length-map-range_with_len}
 use Rattle.std.proofs.lemmas.Bool.Decides.{nat_tests}
 use Rattle.std.specs.Prelude.{option_map}
 use Rattle.std.specs.List.{AllByRecursion, range_with_len}
-use Rattle.serde_json.specs.Data.{Data, number, unsigned}
+use Rattle.serde_json.specs.Data.{number, unsigned}
 use Rattle.serde_json.specs.View.{items_of}
 use Rattle.gk_line.specs.declared.tokens.Cell.{Cell}
 use Rattle.gk_document.specs.declared.tree.Location.{Location}
@@ -22,16 +22,16 @@ use Rattle.gk_document.specs.declared.tree.Scenario.{Scenario}
 use Rattle.gk_document.specs.declared.tree.Rule.{Rule}
 use Rattle.gk_document.specs.declared.tree.Feature.{Feature}
 use Rattle.gk_document.specs.declared.tree.Document.{Document}
-use Rattle.gk_document.specs.Skeleton.{line_alone, bare_cell}
-use Rattle.gk_grammar.specs.Grammar.{Node, node_of_tag, tag_nodes, node_of_row, row_nodes, argument_nodes, step_nodes, background_nodes, table_rows, examples_nodes, scenario_nodes, rule_nodes, feature_nodes}
+use Rattle.gk_document.specs.Skeleton.{bare_cell}
+use Rattle.gk_grammar.specs.Grammar.{Node, node_of_tag, tag_nodes, node_of_row, row_nodes, step_nodes, background_nodes, examples_nodes, scenario_nodes, rule_nodes, feature_nodes}
 use Rattle.gk_grammar.proofs.Complete.{Counts}
-use Rattle.gk_pickle.specs.TreeJson.{location_data, cell_data, row_data, tag_data, doc_string_data, step_data, background_data, examples_data, scenario_data, rule_data, feature_data, document_data}
+use Rattle.gk_pickle.specs.TreeJson.{cell_data, row_data, tag_data, doc_string_data, step_data, background_data, examples_data, scenario_data, rule_data, feature_data, document_data}
 use Rattle.cm_envelope.specs.declared.envelope.Envelope.TheVariants as envelope
 use Rattle.cm_envelope.specs.Reading.{envelope_of}
 use Rattle.cm_envelope.specs.Member.{each, object_in}
 use Rattle.cm_envelope.specs.Documents.{Ids, each_node, node_in, optional_node_in}
 use Rattle.cm_envelope.specs.Documents as read
-use Rattle.cm_compiled.specs.Documents.{tag_kept, row_kept, doc_string_kept, argument_kept, step_kept, background_kept, table_kept, examples_kept, scenario_kept, rule_kept, feature_kept, HasLine, TagsHaveLines, RowsHaveLines, ArgumentHasLines, StepHasLines, BackgroundHasLines, TableHasLines, ExamplesHaveLines, ScenarioHasLines, RuleHasLines, FeatureHasLines, document_read}
+use Rattle.cm_compiled.specs.Documents.{tag_kept, row_kept, doc_string_kept, step_kept, background_kept, examples_kept, scenario_kept, rule_kept, feature_kept, HasLine, TagsHaveLines, RowsHaveLines, ArgumentHasLines, StepHasLines, BackgroundHasLines, TableHasLines, ExamplesHaveLines, ScenarioHasLines, RuleHasLines, FeatureHasLines, document_read}
 use Rattle.cm_compiled.specs.Laws.{DocumentIsReadBack}
 use Rattle.cm_compiled.proofs.Children.{feature_in_order, rule_in_order, feature_background, rule_background, feature_scenarios, rule_scenarios, feature_rules}
 use Rattle.cm_compiled.proofs.Lists.{names, each_is, next_one, apart, IsRead, nodes_are, each_one}
