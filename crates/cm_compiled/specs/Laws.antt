@@ -4,13 +4,14 @@ use Rattle.std.specs.Str.{IsUtf8}
 use Rattle.serde_json.specs.Data.{Data, depth}
 use Rattle.serde_json.specs.Read.{read, max_depth}
 use Rattle.gk_document.specs.declared.tree.Document.{Document}
+use Rattle.gk_document.specs.Skeleton.{skeleton}
 use Rattle.gk_grammar.specs.Documents.{IsDocumentOf, IsTooLong}
 use Rattle.gk_pickle.specs.declared.pickle.Pickle.{Pickle}
 use Rattle.gk_pickle.specs.Json.{pickle_data}
 use Rattle.gk_pickle.specs.TreeJson.{document_data, source_data}
 use Rattle.cm_envelope.specs.declared.envelope.Envelope.TheVariants as envelope
 use Rattle.cm_envelope.specs.Reading.{envelope_of, envelope_of_line}
-use Rattle.cm_compiled.specs.Documents.{IsNumbered, FeatureHasLines, document_read}
+use Rattle.cm_compiled.specs.Documents.{IsNumbered, FeatureHasLines, document_read, kept}
 use Rattle.cm_compiled.specs.Pickles.{pickle_read, source_read}
 
 -- The line is the value in JSON: it is UTF-8, and read as that value if the value's nesting is within the limit. Each text
@@ -45,3 +46,7 @@ DocumentLineIsReadBack =
 -- the document of a text that isn't too long is such a document
 abbrev pub ParsedAreSuch : Type 0
 ParsedAreSuch = (text : List ℕ) (d : Document) → IsDocumentOf text d → (IsTooLong text → ⊥) → IsNumbered d × FeatureHasLines d.feature
+
+-- what is kept of the document of a text has that document's skeleton
+abbrev pub ParsedHaveSkeletons : Type 0
+ParsedHaveSkeletons = (text : List ℕ) (d : Document) → IsDocumentOf text d → skeleton (kept d) ≡ skeleton d

@@ -1,5 +1,5 @@
 //! Writing and reading agree.
-ghost use Rattle.cm_compiled.specs.Laws.{DocumentIsReadBack, DocumentLineIsReadBack, ParsedAreSuch, PickleIsReadBack, PickleLineIsReadBack, SourceIsReadBack, SourceLineIsReadBack};
+ghost use Rattle.cm_compiled.specs.Laws.{DocumentIsReadBack, DocumentLineIsReadBack, ParsedAreSuch, ParsedHaveSkeletons, PickleIsReadBack, PickleLineIsReadBack, SourceIsReadBack, SourceLineIsReadBack};
 
 /// The envelope that is written of a source is read as that source, and so is each line that is its JSON.
 pub fn source_is_read_back()
@@ -20,4 +20,5 @@ pub fn document_is_read_back()
     ensures value { DocumentIsReadBack }
     ensures line { DocumentLineIsReadBack }
     ensures parsed { ParsedAreSuch }
+    ensures skeleton { ParsedHaveSkeletons }
 {}

@@ -1,6 +1,7 @@
 use Rattle.gk_pickle.specs.TreeJson.{document_data}
 use Rattle.cm_compiled.proofs.Depths.{document_depth}
 use Rattle.cm_compiled.proofs.Lines.{line_is}
+use Rattle.cm_compiled.proofs.Skeletons.{skeletons_same}
 use Rattle.cm_compiled.proofs.Texts.{parsed_are_such}
 use Rattle.cm_compiled.proofs.Trees.{document_is}
 use Rattle.cm_compiled.proofs.laws.document_is_read_back.Goals as goal
@@ -13,3 +14,6 @@ returns-clause-line c = λ uri d line numbered lines given. line_is line (docume
 
 pub returns-clause-parsed : goal.returns-clause-parsed
 returns-clause-parsed c = parsed_are_such
+
+pub returns-clause-skeleton : goal.returns-clause-skeleton
+returns-clause-skeleton c = skeletons_same
