@@ -6,3 +6,4 @@ pub mod Pickles
 pub mod Skeletons
 pub mod Texts
 pub mod Trees
+pub mod Values

@@ -1,3 +1,4 @@
 pub mod Documents
 pub mod Laws
 pub mod Pickles
+pub mod Values

@@ -1,5 +1,5 @@
 //! Writing and reading agree.
-ghost use Rattle.cm_compiled.specs.Laws.{DocumentIsReadBack, DocumentLineIsReadBack, ParsedAreSuch, ParsedHaveSkeletons, PickleIsReadBack, PickleLineIsReadBack, SourceIsReadBack, SourceLineIsReadBack};
+ghost use Rattle.cm_compiled.specs.Laws.{DocumentIsReadBack, DocumentLineIsReadBack, ParsedAreSuch, ParsedHaveSkeletons, PickleIsReadBack, PickleLineIsReadBack, PlainHaveLines, SourceIsReadBack, SourceLineIsReadBack};
 
 /// The envelope that is written of a source is read as that source, and so is each line that is its JSON.
 pub fn source_is_read_back()
@@ -21,4 +21,10 @@ pub fn document_is_read_back()
     ensures line { DocumentLineIsReadBack }
     ensures parsed { ParsedAreSuch }
     ensures skeleton { ParsedHaveSkeletons }
+{}
+
+/// The compact text of a value of JSON is a line of it, where its texts are UTF-8, its numbers whole numbers of 64 bits, and its
+/// members in the order of their names.
+pub fn plain_values_have_lines()
+    ensures { PlainHaveLines }
 {}

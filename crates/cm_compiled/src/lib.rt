@@ -3,4 +3,6 @@
 
 mod laws;
 
-pub use laws::{document_is_read_back, pickle_is_read_back, source_is_read_back};
+pub use laws::{
+    document_is_read_back, pickle_is_read_back, plain_values_have_lines, source_is_read_back,
+};
