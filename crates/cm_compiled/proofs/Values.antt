@@ -1,7 +1,8 @@
 -- The compact text of a plain value is read as that value.
-use Rattle.std.proofs.Common.{◌≡◌, ℕ, suc, ◌≤◌, max, List, [], ◌∷◌, ◌++◌, Bool, true, false, Option, Some, Less, Greater, IsUtf8, refl, sym, ap, ap₂, ◌∙◌, subst, arith, append-nil, decimal, nat_cmp, option_and_then}
+use Rattle.std.proofs.Common.{◌≡◌, ℕ, suc, ◌≤◌, max, List, [], ◌∷◌, ◌++◌, Bool, true, false, Option, Some, Ordering, Less, Equal, Greater, IsUtf8, refl, sym, ap, ap₂, ◌∙◌, subst, arith, append-nil, decimal, nat_cmp, option_and_then}
 use Rattle.std.specs.Prelude.{⊤}
-use Rattle.std.specs.Ordering.{ordering_reverse}
+use Rattle.std.specs.Ordering.{ordering_reverse, is_lt}
+use Rattle.std.proofs.lemmas.Bool.{and_parts}
 use Rattle.std.specs.Cmp.Lexicographic.{slice_cmp}
 use Rattle.std.proofs.lemmas.Cmp.{nat_list_cmp_total}
 use Rattle.std.proofs.lemmas.Fmt.{IsAscii-decimal}
@@ -18,7 +19,7 @@ use Rattle.serde_json.specs.Written.{outline, items_outline, members_outline, co
 use Rattle.serde_json.proofs.Numbers.{number_of-decimal}
 use Rattle.serde_json.proofs.Texts.{print-outline}
 use Rattle.cm_compiled.specs.Laws.{PlainHaveLines}
-use Rattle.cm_compiled.specs.Values.{StandsBefore, IsPlain, ItemsArePlain, MembersArePlain}
+use Rattle.cm_compiled.specs.Values.{IsPlain, ItemsArePlain, MembersArePlain, stands_before, in_order, items_in_order, members_in_order}
 
 -- ---- members that go in one after another, in order
 
@@ -29,7 +30,7 @@ joined (member k d ms) more = member k d (joined ms more)
 -- all of the first stand before the second
 abbrev AllBefore : Members → Members → Type 0
 AllBefore no_members more = ⊤
-AllBefore (member k d ms) more = StandsBefore k more × AllBefore ms more
+AllBefore (member k d ms) more = (stands_before k more ≡ true) × AllBefore ms more
 
 joined_none : (ms : Members) → joined ms no_members ≡ ms
 joined_none no_members = refl
@@ -39,36 +40,43 @@ joined_one : (found ms : Members) (k : List ℕ) (d : Data) → joined (joined f
 joined_one no_members ms k d = refl
 joined_one (member l e found) ms k d = ap (member l e) (joined_one found ms k d)
 
+is_less : (o : Ordering) → is_lt o ≡ true → o ≡ Less
+is_less Less h = refl
+is_less Equal h = cc
+is_less Greater h = cc
+
 put_last : (found ms : Members) (k : List ℕ) (d : Data) → AllBefore found (member k d ms) → put k d found ≡ joined found (member k d no_members)
 put_last no_members ms k d h = refl
 put_last (member l e found) ms k d h =
-    let above : slice_cmp nat_cmp k l ≡ Greater = nat_list_cmp_total.antisymm k l ∙ ap ordering_reverse h.0.0 in
+    let above : slice_cmp nat_cmp k l ≡ Greater = nat_list_cmp_total.antisymm k l ∙ ap ordering_reverse (is_less _ (and_parts _ _ h.0).0) in
     rw above (ap (member l e) (put_last found ms k d h.1))
 
-one_more : (found ms : Members) (k : List ℕ) (d : Data) → AllBefore found (member k d ms) → StandsBefore k ms → AllBefore (joined found (member k d no_members)) ms
+one_more : (found ms : Members) (k : List ℕ) (d : Data) → AllBefore found (member k d ms) → stands_before k ms ≡ true → AllBefore (joined found (member k d no_members)) ms
 one_more no_members ms k d h s = (s, tt)
-one_more (member l e found) ms k d h s = (h.0.1, one_more found ms k d h.1 s)
+one_more (member l e found) ms k d h s = ((and_parts _ _ h.0).1, one_more found ms k d h.1 s)
 
 mutual
-  value_back : (d : Data) → IsPlain d → of_json (outline d) ≡ Some d
-  value_back null h = refl
-  value_back (boolean b) h = refl
-  value_back (number (unsigned n)) h = rw (number_of-decimal n h) refl
-  value_back (number (negative z)) h = absurd h
-  value_back (number (float x)) h = absurd h
-  value_back (string s) h = refl
-  value_back (array ds) h = rw (items_back ds h) refl
-  value_back (object ms) h = rw (members_back ms no_members h tt) refl
+  value_back : (d : Data) → IsPlain d → in_order d ≡ true → of_json (outline d) ≡ Some d
+  value_back null h o = refl
+  value_back (boolean b) h o = refl
+  value_back (number (unsigned n)) h o = rw (number_of-decimal n h) refl
+  value_back (number (negative z)) h o = absurd h
+  value_back (number (float x)) h o = absurd h
+  value_back (string s) h o = refl
+  value_back (array ds) h o = rw (items_back ds h o) refl
+  value_back (object ms) h o = rw (members_back ms no_members h o tt) refl
 
-  items_back : (ds : Items) → ItemsArePlain ds → of_items (items_outline ds) ≡ Some ds
-  items_back no_items h = refl
-  items_back (item d ds) h = rw (value_back d h.0, items_back ds h.1) refl
+  items_back : (ds : Items) → ItemsArePlain ds → items_in_order ds ≡ true → of_items (items_outline ds) ≡ Some ds
+  items_back no_items h o = refl
+  items_back (item d ds) h o = let p = and_parts _ _ o in rw (value_back d h.0 p.0, items_back ds h.1 p.1) refl
 
-  members_back : (ms found : Members) → MembersArePlain ms → AllBefore found ms → of_members (members_outline ms) found ≡ Some (joined found ms)
-  members_back no_members found h b = ap Some (sym (joined_none found))
-  members_back (member k d ms) found h b =
-      rw (value_back d h.1, put_last found ms k d b)
-      (members_back ms (joined found (member k d no_members)) h.3 (one_more found ms k d b h.2) ∙ ap Some (joined_one found ms k d))
+  members_back : (ms found : Members) → MembersArePlain ms → members_in_order ms ≡ true → AllBefore found ms → of_members (members_outline ms) found ≡ Some (joined found ms)
+  members_back no_members found h o b = ap Some (sym (joined_none found))
+  members_back (member k d ms) found h o b =
+      let p = and_parts _ _ o in
+      let q = and_parts _ _ p.1 in
+      rw (value_back d h.1 q.0, put_last found ms k d b)
+      (members_back ms (joined found (member k d no_members)) h.2 q.1 (one_more found ms k d b p.0) ∙ ap Some (joined_one found ms k d))
 
 -- ---- what is printed
 
@@ -89,7 +97,7 @@ mutual
 
   members_numbers_are : (ms : Members) → MembersArePlain ms → tree.MembersHaveNumbers (members_outline ms)
   members_numbers_are no_members h = tt
-  members_numbers_are (member k d ms) h = (numbers_are d h.1, members_numbers_are ms h.3)
+  members_numbers_are (member k d ms) h = (numbers_are d h.1, members_numbers_are ms h.2)
 
 mutual
   depth_is : (d : Data) → tree.depth (outline d) ≡ depth d
@@ -135,18 +143,18 @@ mutual
   members_utf8 : (later : Bool) (ms : Members) → MembersArePlain ms → IsUtf8 (members_text later ms)
   members_utf8 later no_members h = IsUtf8-are_ascii (125 ∷ []) refl
   members_utf8 later (member k d ms) h =
-      let rest = IsUtf8-append (compact_text d) _ (text_utf8 d h.1) (members_utf8 true ms h.3) in
+      let rest = IsUtf8-append (compact_text d) _ (text_utf8 d h.1) (members_utf8 true ms h.2) in
       IsUtf8-append (comma_if later) _ (comma_utf8 later) (IsUtf8-append _ _ (IsUtf8-quoted k h.0) (byte_then 58 _ (IsUtf8-are_ascii (58 ∷ []) refl) rest))
 
 -- ---- the whole
 
-text_back : (d : Data) → IsPlain d → depth d ≤ max_depth → read (compact_text d) ≡ Some d
-text_back d h shallow =
+text_back : (d : Data) → IsPlain d → in_order d ≡ true → depth d ≤ max_depth → read (compact_text d) ≡ Some d
+text_back d h o shallow =
     let j = outline d in
     let ts : tokens (compact_text d) ≡ tree.json_tokens j ++ [] = ap tokens (sym (print-outline d)) ∙ tokens-print (tree.json_tokens j) (ArePrintable-json_tokens j (numbers_are d h)) ∙ sym (append-nil (tree.json_tokens j)) in
     let e = depth_is d in
     let v = value-json_tokens j max_depth [] (omega arith) in
-    rw (ts, v) (value_back d h)
+    rw (ts, v) (value_back d h o)
 
 pub plain_have_lines : PlainHaveLines
-plain_have_lines d h = (text_utf8 d h, λ shallow. text_back d h shallow)
+plain_have_lines d h o = (text_utf8 d h, λ shallow. text_back d h o shallow)

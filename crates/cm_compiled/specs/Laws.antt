@@ -1,5 +1,5 @@
 -- What is written is read back, as a value of JSON and as a line.
-use Rattle.std.specs.Prelude.{◌≡◌, ◌≤◌, ℕ, List, Some, Ok}
+use Rattle.std.specs.Prelude.{◌≡◌, ◌≤◌, ℕ, List, Some, Ok, true}
 use Rattle.std.specs.Str.{IsUtf8}
 use Rattle.serde_json.specs.Data.{Data, depth}
 use Rattle.serde_json.specs.Read.{read, max_depth}
@@ -14,16 +14,16 @@ use Rattle.cm_envelope.specs.declared.envelope.Envelope.TheVariants as envelope
 use Rattle.cm_envelope.specs.Reading.{envelope_of, envelope_of_line}
 use Rattle.cm_compiled.specs.Documents.{IsNumbered, FeatureHasLines, document_read, kept}
 use Rattle.cm_compiled.specs.Pickles.{pickle_read, source_read}
-use Rattle.cm_compiled.specs.Values.{IsPlain}
+use Rattle.cm_compiled.specs.Values.{IsPlain, in_order}
 
 -- The line is the value in JSON: it is UTF-8, and read as that value if the value's nesting is within the limit. Each text
 -- that `to_string` gives of the value is such a line.
 abbrev pub IsLineOf : List ℕ → Data → Type 0
 IsLineOf line d = IsUtf8 line × (depth d ≤ max_depth → read line ≡ Some d)
 
--- the text without spaces of a plain value is a line of it
+-- the text without spaces of a plain value, its members in order, is a line of it
 abbrev pub PlainHaveLines : Type 0
-PlainHaveLines = (d : Data) → IsPlain d → IsLineOf (compact_text d) d
+PlainHaveLines = (d : Data) → IsPlain d → in_order d ≡ true → IsLineOf (compact_text d) d
 
 abbrev pub SourceIsReadBack : Type 0
 SourceIsReadBack = (uri text : List ℕ) → envelope_of (source_data uri text) ≡ Ok (envelope.Source (source_read uri text))

@@ -1,22 +1,16 @@
 -- Values whose text is read back.
-use Rattle.std.specs.Prelude.{◌≡◌, ℕ, ◌^◌, ◌<◌, List, ⊤}
-use Rattle.std.specs.Ordering.{nat_cmp}
-use Rattle.std.specs.declared.cmp.Ordering.TheVariants.{Less}
+use Rattle.std.specs.Prelude.{ℕ, ◌^◌, ◌<◌, ◌&&◌, Bool, true, List, ⊤}
+use Rattle.std.specs.Ordering.{nat_cmp, is_lt}
 use Rattle.std.specs.Cmp.Lexicographic.{slice_cmp}
 use Rattle.std.specs.Str.{IsUtf8}
 use Rattle.serde_json.specs.Data.{Num, unsigned, negative, float, Data, null, boolean, number, string, array, object, Items, no_items, item, Members, no_members, member}
-
--- the name stands before those of the members
-abbrev pub StandsBefore : List ℕ → Members → Type 0
-StandsBefore name no_members = ⊤
-StandsBefore name (member k d ms) = (slice_cmp nat_cmp name k ≡ Less) × StandsBefore name ms
 
 abbrev pub IsWhole : Num → Type 0
 IsWhole (unsigned n) = n < 2 ^ 64
 IsWhole (negative z) = ⊥
 IsWhole (float x) = ⊥
 
--- texts are UTF-8, numbers whole and of 64 bits, and members in the order of their names
+-- the texts in the value are UTF-8, its numbers whole and of 64 bits
 abbrev mutual
   pub IsPlain : Data → Type 0
   IsPlain null = ⊤
@@ -32,4 +26,27 @@ abbrev mutual
 
   pub MembersArePlain : Members → Type 0
   MembersArePlain no_members = ⊤
-  MembersArePlain (member k d ms) = IsUtf8 k × IsPlain d × StandsBefore k ms × MembersArePlain ms
+  MembersArePlain (member k d ms) = IsUtf8 k × IsPlain d × MembersArePlain ms
+
+-- the name stands before those of the members
+abbrev pub stands_before : List ℕ → Members → Bool
+stands_before name no_members = true
+stands_before name (member k d ms) = is_lt (slice_cmp nat_cmp name k) && stands_before name ms
+
+-- the objects in the value have their members in the order of their names
+abbrev mutual
+  pub in_order : Data → Bool
+  in_order null = true
+  in_order (boolean b) = true
+  in_order (number n) = true
+  in_order (string s) = true
+  in_order (array ds) = items_in_order ds
+  in_order (object ms) = members_in_order ms
+
+  pub items_in_order : Items → Bool
+  items_in_order no_items = true
+  items_in_order (item d ds) = in_order d && items_in_order ds
+
+  pub members_in_order : Members → Bool
+  members_in_order no_members = true
+  members_in_order (member k d ms) = stands_before k ms && (in_order d && members_in_order ms)
