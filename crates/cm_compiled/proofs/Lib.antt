@@ -2,6 +2,7 @@ pub mod Children
 pub mod Depths
 pub mod Lines
 pub mod Lists
+pub mod Orders
 pub mod Pickles
 pub mod Skeletons
 pub mod Texts

@@ -32,6 +32,10 @@ abbrev pub SourceLineIsReadBack : Type 0
 SourceLineIsReadBack =
     (uri text line : List ℕ) → IsLineOf line (source_data uri text) → envelope_of_line line ≡ Ok (envelope.Source (source_read uri text))
 
+abbrev pub SourceTextIsReadBack : Type 0
+SourceTextIsReadBack =
+    (uri text : List ℕ) → IsPlain (source_data uri text) → envelope_of_line (compact_text (source_data uri text)) ≡ Ok (envelope.Source (source_read uri text))
+
 abbrev pub PickleIsReadBack : Type 0
 PickleIsReadBack =
     (uri : List ℕ) (first : ℕ) (p : Pickle) → envelope_of (pickle_data uri first p) ≡ Ok (envelope.Pickle (pickle_read uri first p))
@@ -39,6 +43,10 @@ PickleIsReadBack =
 abbrev pub PickleLineIsReadBack : Type 0
 PickleLineIsReadBack =
     (uri : List ℕ) (first : ℕ) (p : Pickle) (line : List ℕ) → IsLineOf line (pickle_data uri first p) → envelope_of_line line ≡ Ok (envelope.Pickle (pickle_read uri first p))
+
+abbrev pub PickleTextIsReadBack : Type 0
+PickleTextIsReadBack =
+    (uri : List ℕ) (first : ℕ) (p : Pickle) → IsPlain (pickle_data uri first p) → envelope_of_line (compact_text (pickle_data uri first p)) ≡ Ok (envelope.Pickle (pickle_read uri first p))
 
 abbrev pub DocumentIsReadBack : Type 0
 DocumentIsReadBack =
@@ -48,6 +56,11 @@ abbrev pub DocumentLineIsReadBack : Type 0
 DocumentLineIsReadBack =
     (uri : List ℕ) (d : Document) (line : List ℕ) → IsNumbered d → FeatureHasLines d.feature → IsLineOf line (document_data uri d) →
     envelope_of_line line ≡ Ok (envelope.GherkinDocument (document_read uri d))
+
+abbrev pub DocumentTextIsReadBack : Type 0
+DocumentTextIsReadBack =
+    (uri : List ℕ) (d : Document) → IsNumbered d → FeatureHasLines d.feature → IsPlain (document_data uri d) →
+    envelope_of_line (compact_text (document_data uri d)) ≡ Ok (envelope.GherkinDocument (document_read uri d))
 
 -- the document of a text that isn't too long is such a document
 abbrev pub ParsedAreSuch : Type 0

@@ -1,16 +1,18 @@
 //! Writing and reading agree.
-ghost use Rattle.cm_compiled.specs.Laws.{DocumentIsReadBack, DocumentLineIsReadBack, ParsedAreSuch, ParsedHaveSkeletons, PickleIsReadBack, PickleLineIsReadBack, PlainHaveLines, SourceIsReadBack, SourceLineIsReadBack};
+ghost use Rattle.cm_compiled.specs.Laws.{DocumentIsReadBack, DocumentLineIsReadBack, DocumentTextIsReadBack, ParsedAreSuch, ParsedHaveSkeletons, PickleIsReadBack, PickleLineIsReadBack, PickleTextIsReadBack, PlainHaveLines, SourceIsReadBack, SourceLineIsReadBack, SourceTextIsReadBack};
 
 /// The envelope that is written of a source is read as that source, and so is each line that is its JSON.
 pub fn source_is_read_back()
     ensures value { SourceIsReadBack }
     ensures line { SourceLineIsReadBack }
+    ensures text { SourceTextIsReadBack }
 {}
 
 /// The envelope that is written of a pickle is read as that pickle, and so is each line that is its JSON.
 pub fn pickle_is_read_back()
     ensures value { PickleIsReadBack }
     ensures line { PickleLineIsReadBack }
+    ensures text { PickleTextIsReadBack }
 {}
 
 /// The envelope that is written of a document is read as that document without what no envelope keeps, and so is each line
@@ -19,6 +21,7 @@ pub fn pickle_is_read_back()
 pub fn document_is_read_back()
     ensures value { DocumentIsReadBack }
     ensures line { DocumentLineIsReadBack }
+    ensures text { DocumentTextIsReadBack }
     ensures parsed { ParsedAreSuch }
     ensures skeleton { ParsedHaveSkeletons }
 {}
