@@ -10,17 +10,26 @@ use Rattle.gk_pickle.specs.declared.pickle.PickleDocString.{PickleDocString}
 use Rattle.gk_pickle.specs.declared.pickle.PickleArgument.{PickleArgument}
 use Rattle.gk_pickle.specs.declared.pickle.PickleArgument.TheVariants.{Table, Text}
 use Rattle.gk_pickle.specs.declared.pickle.PickleStep.{PickleStep}
+use Rattle.gk_pickle.specs.declared.pickle.Pickle.{Pickle}
 use Rattle.gk_pickle.specs.Json.{id_data, type_word, pickle_cell_data, pickle_row_data, pickle_tag_data, pickle_doc_string_data, pickle_step_data, pickle_steps_data, pickle_data}
 use Rattle.gk_pickle.specs.TreeJson.{source_data}
+use Rattle.cm_envelope.specs.declared.envelope.Envelope.TheVariants as envelope
+use Rattle.cm_envelope.specs.Reading.{envelope_of}
 use Rattle.cm_envelope.specs.Member.{each, object_in, good}
 use Rattle.cm_envelope.specs.Pickles.{as_step_kind, pickle_tag, pickle_cell, pickle_row, pickle_doc_string, pickle_step}
 use Rattle.cm_compiled.specs.Laws.{SourceIsReadBack, PickleIsReadBack}
+use Rattle.cm_compiled.proofs.Depths.{source_depth, pickle_depth}
+use Rattle.cm_compiled.proofs.Lines.{read_as}
 use Rattle.cm_compiled.proofs.Lists.{each_is}
-use Rattle.cm_compiled.specs.Pickles.{kind_read, tag_read, cell_read, row_read, doc_string_read, step_read, steps_read}
+use Rattle.cm_compiled.proofs.Orders.{source_order, pickle_order}
+use Rattle.cm_compiled.specs.Pickles.{source_read, pickle_read, kind_read, tag_read, cell_read, row_read, doc_string_read, step_read, steps_read}
+
+source_value_is : (uri text : List ℕ) → envelope_of (source_data uri text) ≡ Ok (envelope.Source (source_read uri text))
+unfolding source_data
+source_value_is uri text = refl
 
 pub source_is : SourceIsReadBack
-unfolding source_data
-source_is uri text = refl
+source_is uri text = read_as (source_data uri text) _ (source_value_is uri text) (source_depth uri text) (source_order uri text)
 
 -- ---- lists
 
@@ -59,6 +68,9 @@ steps_are : (id : ℕ) (ss : List PickleStep) → each (object_in (codes "steps"
 steps_are id [] = refl
 steps_are id (s ∷ ss) = rw (step_at id s s.argument, steps_are (id + 1) ss) refl
 
-pub pickle_is : PickleIsReadBack
+pickle_value_is : (uri : List ℕ) (first : ℕ) (p : Pickle) → envelope_of (pickle_data uri first p) ≡ Ok (envelope.Pickle (pickle_read uri first p))
 unfolding pickle_data
-pickle_is uri first p = rw (ids_are (codes "astNodeIds") p.nodes, tags_are p.tags, steps_are first p.steps) refl
+pickle_value_is uri first p = rw (ids_are (codes "astNodeIds") p.nodes, tags_are p.tags, steps_are first p.steps) refl
+
+pub pickle_is : PickleIsReadBack
+pickle_is uri first p = read_as (pickle_data uri first p) _ (pickle_value_is uri first p) (pickle_depth uri first p) (pickle_order uri first p)

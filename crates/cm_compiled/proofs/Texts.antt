@@ -13,7 +13,7 @@ use Rattle.gk_grammar.proofs.Places.{AreLines}
 use Rattle.gk_grammar.proofs.Reading.{read_are_lines}
 use Rattle.gk_grammar.proofs.LawLemmas.{numbered_in_order_holds}
 use Rattle.cm_compiled.specs.Documents.{HasLine, TagsHaveLines, RowsHaveLines, ArgumentHasLines, StepHasLines, BackgroundHasLines, TableHasLines, ExamplesHaveLines, ScenarioHasLines, RuleHasLines, FeatureHasLines}
-use Rattle.cm_compiled.specs.Laws.{ParsedAreSuch}
+use Rattle.cm_compiled.specs.Laws.{ParsedAreReadable}
 
 -- ---- lines
 
@@ -160,7 +160,10 @@ text_fits (Some f) ls cs t h = (gives_then IsOpening (IsFeature f) (Unit {0}) (F
 within_limit : (n : ℕ) → (line_limit < n → ⊥) → n ≤ line_limit
 within_limit n h = omega arith
 
-pub parsed_are_such : ParsedAreSuch
-parsed_are_such text d is short =
+pub parsed_are_readable : ParsedAreReadable
+parsed_are_readable text d is short =
     let few : length (lines_read text) ≤ line_limit = within_limit (length (lines_read text)) (λ h. short (inr h)) in
-    (numbered_in_order_holds text d is, text_fits d.feature (lines_read text) d.comments is.text (lines_fit 1 (lines_read text) (read_are_lines text) (omega arith) (omega arith)))
+    record {
+      numbered = numbered_in_order_holds text d is;
+      lines = text_fits d.feature (lines_read text) d.comments is.text (lines_fit 1 (lines_read text) (read_are_lines text) (omega arith) (omega arith));
+    }

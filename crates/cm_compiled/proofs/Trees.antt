@@ -34,6 +34,9 @@ use Rattle.cm_envelope.specs.Documents as read
 use Rattle.cm_compiled.specs.Documents.{tag_kept, row_kept, doc_string_kept, step_kept, background_kept, examples_kept, scenario_kept, rule_kept, feature_kept, HasLine, TagsHaveLines, RowsHaveLines, ArgumentHasLines, StepHasLines, BackgroundHasLines, TableHasLines, ExamplesHaveLines, ScenarioHasLines, RuleHasLines, FeatureHasLines, document_read}
 use Rattle.cm_compiled.specs.Laws.{DocumentIsReadBack}
 use Rattle.cm_compiled.proofs.Children.{feature_in_order, rule_in_order, feature_background, rule_background, feature_scenarios, rule_scenarios, feature_rules}
+use Rattle.cm_compiled.proofs.Depths.{document_depth}
+use Rattle.cm_compiled.proofs.Lines.{read_as}
+use Rattle.cm_compiled.proofs.Orders.{document_order}
 use Rattle.cm_compiled.proofs.Lists.{names, each_is, next_one, apart, IsRead, nodes_are, each_one}
 
 -- ---- places, cells and doc strings
@@ -194,4 +197,4 @@ document_at uri d (Some f) e h =
     rw (top, count, ids) refl
 
 pub document_is : DocumentIsReadBack
-document_is uri d e h = document_at uri d d.feature e h
+document_is uri d is = read_as (document_data uri d) _ (document_at uri d d.feature is.numbered is.lines) (document_depth uri d) (document_order uri d)

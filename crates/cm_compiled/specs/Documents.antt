@@ -136,3 +136,8 @@ abbrev pub FeatureHasLines : Option Feature → Type 0
 FeatureHasLines None = ⊤
 FeatureHasLines (Some f) =
     HasLine f.location × TagsHaveLines f.tags × BackgroundHasLines f.background × AllByRecursion ScenarioHasLines f.scenarios × AllByRecursion RuleHasLines f.rules
+
+-- the document's nodes are numbered in the order of the tree, and its lines are such
+pub record IsReadable (d : Document) : Type 0 where
+  pub numbered : IsNumbered d
+  pub lines : FeatureHasLines d.feature

@@ -1,33 +1,27 @@
 //! Writing and reading agree.
-ghost use Rattle.cm_compiled.specs.Laws.{DocumentIsReadBack, DocumentLineIsReadBack, DocumentTextIsReadBack, ParsedAreSuch, ParsedHaveSkeletons, PickleIsReadBack, PickleLineIsReadBack, PickleTextIsReadBack, PlainHaveLines, SourceIsReadBack, SourceLineIsReadBack, SourceTextIsReadBack};
+ghost use Rattle.cm_compiled.specs.Laws.{DocumentIsReadBack, ParsedAreReadable, ParsedHaveSkeletons, PickleIsReadBack, PlainHaveLines, SourceIsReadBack};
 
-/// The envelope that is written of a source is read as that source, and so is each line that is its JSON.
+/// What is written of a source is read as that source: as a value of JSON, as a line, and as its text.
 pub fn source_is_read_back()
-    ensures value { SourceIsReadBack }
-    ensures line { SourceLineIsReadBack }
-    ensures text { SourceTextIsReadBack }
+    ensures { SourceIsReadBack }
 {}
 
-/// The envelope that is written of a pickle is read as that pickle, and so is each line that is its JSON.
+/// What is written of a pickle is read as that pickle: as a value of JSON, as a line, and as its text.
 pub fn pickle_is_read_back()
-    ensures value { PickleIsReadBack }
-    ensures line { PickleLineIsReadBack }
-    ensures text { PickleTextIsReadBack }
+    ensures { PickleIsReadBack }
 {}
 
-/// The envelope that is written of a document is read as that document without what no envelope keeps, and so is each line
-/// that is its JSON. The document's nodes are numbered in the order of the tree and its lines are numbers of 32 bits from 1, as in
-/// the document of a text that isn't too long.
+/// What is written of a document is read as that document without what no envelope keeps: as a value of JSON, as a line, and as
+/// its text. Its nodes have to be numbered in the order of the tree, and its lines to be numbers of 32 bits from 1, as they are
+/// in the document of each text that isn't too long.
 pub fn document_is_read_back()
-    ensures value { DocumentIsReadBack }
-    ensures line { DocumentLineIsReadBack }
-    ensures text { DocumentTextIsReadBack }
-    ensures parsed { ParsedAreSuch }
+    ensures read { DocumentIsReadBack }
+    ensures parsed { ParsedAreReadable }
     ensures skeleton { ParsedHaveSkeletons }
 {}
 
-/// The compact text of a value of JSON is a line of it, where its texts are UTF-8, its numbers whole numbers of 64 bits, and its
-/// members in the order of their names.
+/// The text without spaces of a value of JSON is a line of it, where the texts in it are UTF-8, its numbers whole and of 64
+/// bits, and its members in the order of their names.
 pub fn plain_values_have_lines()
     ensures { PlainHaveLines }
 {}
