@@ -4,6 +4,7 @@ pub mod Lines
 pub mod Lists
 pub mod Orders
 pub mod Pickles
+pub mod Places
 pub mod Skeletons
 pub mod Texts
 pub mod Trees

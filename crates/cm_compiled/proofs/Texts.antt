@@ -12,7 +12,8 @@ use Rattle.gk_grammar.specs.Documents.{lines_read, line_limit}
 use Rattle.gk_grammar.proofs.Places.{AreLines}
 use Rattle.gk_grammar.proofs.Reading.{read_are_lines}
 use Rattle.gk_grammar.proofs.LawLemmas.{numbered_in_order_holds}
-use Rattle.cm_compiled.specs.Documents.{HasLine, TagsHaveLines, RowsHaveLines, ArgumentHasLines, StepHasLines, BackgroundHasLines, TableHasLines, ExamplesHaveLines, ScenarioHasLines, RuleHasLines, FeatureHasLines}
+use Rattle.cm_compiled.specs.Documents.{HasLine}
+use Rattle.cm_compiled.proofs.Places.{all_apart, feature_to, TagsHaveLines, RowsHaveLines, ArgumentHasLines, StepHasLines, BackgroundHasLines, TableHasLines, ExamplesHaveLines, ScenarioHasLines, RuleHasLines, FeatureHasLines}
 use Rattle.cm_compiled.specs.Laws.{ParsedAreReadable}
 
 -- ---- lines
@@ -23,10 +24,6 @@ Fits l = (0 < number l) × (number l < 2 ^ 32)
 lines_fit : (n : ℕ) (ls : List Line) → AreLines n ls → 0 < n → n + length ls ≤ 2 ^ 32 → AllByRecursion Fits ls
 lines_fit n [] a h k = tt
 lines_fit n (l ∷ ls) a h k = let e = a.0 in ((omega arith, omega arith), lines_fit (n + 1) ls a.2 (omega arith) (omega arith))
-
-all_apart : {A : Type 0} (P : A → Type 0) (xs ys : List A) → AllByRecursion P (xs ++ ys) → AllByRecursion P xs × AllByRecursion P ys
-all_apart P [] ys h = (tt, h)
-all_apart P (x ∷ xs) ys h = let others = all_apart P xs ys h.1 in ((h.0, others.0), others.1)
 
 -- a piece of lines that fit has what is in X
 abbrev Gives : Piece → Type 0 → Type 0
@@ -163,7 +160,6 @@ within_limit n h = omega arith
 pub parsed_are_readable : ParsedAreReadable
 parsed_are_readable text d is short =
     let few : length (lines_read text) ≤ line_limit = within_limit (length (lines_read text)) (λ h. short (inr h)) in
-    record {
-      numbered = numbered_in_order_holds text d is;
-      lines = text_fits d.feature (lines_read text) d.comments is.text (lines_fit 1 (lines_read text) (read_are_lines text) (omega arith) (omega arith));
-    }
+    let fit = text_fits d.feature (lines_read text) d.comments is.text (lines_fit 1 (lines_read text) (read_are_lines text) (omega arith) (omega arith)) in
+    let parts = feature_to d.feature fit in
+    record { numbered = numbered_in_order_holds text d is; feature = parts.0; nodes = parts.1; doc_strings = parts.2 }

@@ -31,7 +31,8 @@ use Rattle.cm_envelope.specs.Reading.{envelope_of}
 use Rattle.cm_envelope.specs.Member.{each, object_in}
 use Rattle.cm_envelope.specs.Documents.{Ids, each_node, node_in, optional_node_in}
 use Rattle.cm_envelope.specs.Documents as read
-use Rattle.cm_compiled.specs.Documents.{tag_kept, row_kept, doc_string_kept, step_kept, background_kept, examples_kept, scenario_kept, rule_kept, feature_kept, HasLine, TagsHaveLines, RowsHaveLines, ArgumentHasLines, StepHasLines, BackgroundHasLines, TableHasLines, ExamplesHaveLines, ScenarioHasLines, RuleHasLines, FeatureHasLines, document_read}
+use Rattle.cm_compiled.specs.Documents.{tag_kept, row_kept, doc_string_kept, step_kept, background_kept, examples_kept, scenario_kept, rule_kept, feature_kept, HasLine, document_read}
+use Rattle.cm_compiled.proofs.Places.{feature_from, TagsHaveLines, RowsHaveLines, ArgumentHasLines, StepHasLines, BackgroundHasLines, TableHasLines, ExamplesHaveLines, ScenarioHasLines, RuleHasLines, FeatureHasLines}
 use Rattle.cm_compiled.specs.Laws.{DocumentIsReadBack}
 use Rattle.cm_compiled.proofs.Children.{feature_in_order, rule_in_order, feature_background, rule_background, feature_scenarios, rule_scenarios, feature_rules}
 use Rattle.cm_compiled.proofs.Depths.{document_depth}
@@ -197,4 +198,4 @@ document_at uri d (Some f) e h =
     rw (top, count, ids) refl
 
 pub document_is : DocumentIsReadBack
-document_is uri d is = read_as (document_data uri d) _ (document_at uri d d.feature is.numbered is.lines) (document_depth uri d) (document_order uri d)
+document_is uri d is = read_as (document_data uri d) _ (document_at uri d d.feature is.numbered (feature_from d.feature is.feature is.nodes is.doc_strings)) (document_depth uri d) (document_order uri d)

@@ -20,6 +20,7 @@ use Rattle.gk_document.specs.declared.tree.Feature.{Feature}
 use Rattle.gk_document.specs.declared.tree.Document.{Document}
 use Rattle.gk_document.specs.Skeleton.{line_alone, bare_cell}
 use Rattle.gk_grammar.specs.Grammar.{Node, feature_nodes}
+use Rattle.gk_pickle.specs.Order.{document_steps}
 use Rattle.gk_pickle.specs.Steps.{media_type}
 use Rattle.cm_envelope.specs.declared.envelope.GherkinDocument.{GherkinDocument}
 
@@ -100,44 +101,20 @@ IsNumbered d = map (λ (x : Node). x.1) (feature_nodes d.feature) ≡ range_with
 abbrev pub HasLine : Location → Type 0
 HasLine l = (0 < l.line) × (l.line < 2 ^ 32)
 
--- the nodes and doc strings of each part have such lines
-abbrev pub TagsHaveLines : List Tag → Type 0
-TagsHaveLines tags = AllByRecursion (λ (t : Tag). HasLine t.location) tags
+abbrev pub FeatureHasLine : Option Feature → Type 0
+FeatureHasLine None = ⊤
+FeatureHasLine (Some f) = HasLine f.location
 
-abbrev pub RowsHaveLines : List Row → Type 0
-RowsHaveLines rows = AllByRecursion (λ (r : Row). HasLine r.location) rows
+-- a doc string has such a line
+abbrev pub DocStringHasLine : Option Argument → Type 0
+DocStringHasLine None = ⊤
+DocStringHasLine (Some (Table rows)) = ⊤
+DocStringHasLine (Some (Text d)) = HasLine d.location
 
-abbrev pub ArgumentHasLines : Option Argument → Type 0
-ArgumentHasLines None = ⊤
-ArgumentHasLines (Some (Table rows)) = RowsHaveLines rows
-ArgumentHasLines (Some (Text d)) = HasLine d.location
-
-abbrev pub StepHasLines : Step → Type 0
-StepHasLines s = HasLine s.location × ArgumentHasLines s.argument
-
-abbrev pub BackgroundHasLines : Option Background → Type 0
-BackgroundHasLines None = ⊤
-BackgroundHasLines (Some b) = HasLine b.location × AllByRecursion StepHasLines b.steps
-
-abbrev pub TableHasLines : Option ExampleTable → Type 0
-TableHasLines None = ⊤
-TableHasLines (Some t) = HasLine t.header.location × RowsHaveLines t.body
-
-abbrev pub ExamplesHaveLines : Examples → Type 0
-ExamplesHaveLines e = HasLine e.location × TagsHaveLines e.tags × TableHasLines e.table
-
-abbrev pub ScenarioHasLines : Scenario → Type 0
-ScenarioHasLines s = HasLine s.location × TagsHaveLines s.tags × AllByRecursion StepHasLines s.steps × AllByRecursion ExamplesHaveLines s.examples
-
-abbrev pub RuleHasLines : Rule → Type 0
-RuleHasLines r = HasLine r.location × TagsHaveLines r.tags × BackgroundHasLines r.background × AllByRecursion ScenarioHasLines r.scenarios
-
-abbrev pub FeatureHasLines : Option Feature → Type 0
-FeatureHasLines None = ⊤
-FeatureHasLines (Some f) =
-    HasLine f.location × TagsHaveLines f.tags × BackgroundHasLines f.background × AllByRecursion ScenarioHasLines f.scenarios × AllByRecursion RuleHasLines f.rules
-
--- the document's nodes are numbered in the order of the tree, and its lines are such
+-- A document whose envelope can be read: its nodes are numbered in order, and the feature, the nodes and the doc strings of the
+-- steps have such lines.
 pub record IsReadable (d : Document) : Type 0 where
   pub numbered : IsNumbered d
-  pub lines : FeatureHasLines d.feature
+  pub feature : FeatureHasLine d.feature
+  pub nodes : AllByRecursion (λ (x : Node). HasLine x.0) (feature_nodes d.feature)
+  pub doc_strings : AllByRecursion (λ (s : Step). DocStringHasLine s.argument) (document_steps d.feature)
