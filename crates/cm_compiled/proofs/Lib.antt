@@ -1,0 +1,11 @@
+pub mod Children
+pub mod Depths
+pub mod Lines
+pub mod Lists
+pub mod Orders
+pub mod Pickles
+pub mod Places
+pub mod Skeletons
+pub mod Texts
+pub mod Trees
+pub mod Values

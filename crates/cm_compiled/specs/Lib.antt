@@ -1,0 +1,4 @@
+pub mod Documents
+pub mod Laws
+pub mod Pickles
+pub mod Values
