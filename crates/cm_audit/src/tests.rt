@@ -8,6 +8,8 @@ use std::alloc::Global;
 use std::process::Abort;
 use std::test::Fail;
 
+mod read_back;
+
 const EMPTY_LINES: &str =
     r#"{"source":{"data":"","mediaType":"text/x.cucumber.gherkin+plain","uri":"e.feature"}}
 {"gherkinDocument":{"comments":[],"uri":"e.feature"}}
