@@ -1,5 +1,5 @@
 -- No line has a float.
-use Rattle.std.proofs.Common.{◌≡◌, ℕ, ◌+◌, List, [], ◌∷◌, ◌++◌, map, Bool, true, false, Less, Equal, Greater, Option, Some, None, codes, refl}
+use Rattle.std.proofs.Common.{◌≡◌, ℕ, ◌+◌, List, [], ◌∷◌, ◌++◌, map, Bool, false, Less, Equal, Greater, Option, Some, None, codes, refl}
 use Rattle.std.specs.Prelude.{◌||◌, option_map}
 use Rattle.std.specs.Ordering.{nat_cmp, match_ordering}
 use Rattle.std.specs.Option.{option_to_list}
@@ -26,7 +26,7 @@ use Rattle.gk_pickle.specs.declared.pickle.PickleArgument.TheVariants as value
 use Rattle.gk_pickle.specs.declared.pickle.PickleStep.{PickleStep}
 use Rattle.gk_pickle.specs.declared.pickle.Pickle.{Pickle}
 use Rattle.gk_pickle.specs.Json.{put_some, list_data, id_data, media_data, pickle_tag_data, pickle_cell_data, pickle_row_data, pickle_doc_string_data, argument_data, pickle_step_data, pickle_steps_data, pickle_data}
-use Rattle.gk_pickle.specs.TreeJson.{comment_data, tag_data, cell_data, row_data, doc_string_data, table_data, table_of, doc_string_of, step_data, background_data, body_of, block_members, examples_data, scenario_data, background_child, scenario_child, children_data, rule_data, rule_child, feature_data, document_data, source_data}
+use Rattle.gk_pickle.specs.TreeJson.{comment_data, tag_data, cell_data, row_data, doc_string_data, table_data, table_of, doc_string_of, step_data, background_data, body_of, examples_data, scenario_data, background_child, scenario_child, children_data, rule_data, rule_child, feature_data, document_data, source_data}
 
 abbrev IsPlain : Data → Type 0
 IsPlain d = has_float d ≡ false

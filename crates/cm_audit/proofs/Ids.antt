@@ -1,5 +1,5 @@
 -- The ids of a text's nodes and pickles fit.
-use Rattle.std.proofs.Common.{◌≡◌, ℕ, ◌+◌, ◌*◌, ◌<◌, ◌≤◌, ◌^◌, List, [], ◌∷◌, length, drop, get_or, map, inl, arith}
+use Rattle.std.proofs.Common.{◌≡◌, ℕ, ◌+◌, ◌*◌, ◌<◌, ◌≤◌, ◌^◌, List, [], ◌∷◌, length, inl, arith}
 use Rattle.std.specs.Prelude.{◌↔◌, Ok, Err}
 use Rattle.std.specs.List.{sum_by, AllByRecursion}
 use Rattle.std.specs.Str.{IsUtf8}

@@ -1,6 +1,6 @@
 -- A document has no more pickles than nodes, and no more steps in a pickle.
-use Rattle.std.proofs.Common.{◌≡◌, ℕ, ◌+◌, ◌≤◌, zero, suc, List, [], ◌∷◌, ◌++◌, map, length, Option, Some, None, refl, sym, ap, ◌∙◌, arith, length-append}
-use Rattle.std.specs.List.{flat_map, AllByRecursion}
+use Rattle.std.proofs.Common.{◌≡◌, ℕ, ◌≤◌, suc, List, [], ◌∷◌, ◌++◌, length, Option, Some, None, sym, ap, ◌∙◌, arith, length-append}
+use Rattle.std.specs.List.{flat_map}
 use Rattle.std.proofs.lemmas.List.{length-map}
 use Rattle.gk_document.specs.declared.tree.Tag.{Tag}
 use Rattle.gk_document.specs.declared.tree.Row.{Row}
@@ -11,8 +11,7 @@ use Rattle.gk_document.specs.declared.tree.Examples.{Examples}
 use Rattle.gk_document.specs.declared.tree.Scenario.{Scenario}
 use Rattle.gk_document.specs.declared.tree.Rule.{Rule}
 use Rattle.gk_document.specs.declared.tree.Feature.{Feature}
-use Rattle.gk_document.specs.declared.tree.Document.{Document}
-use Rattle.gk_grammar.specs.Grammar.{Node, tag_nodes, node_of_row, row_nodes, argument_nodes, step_nodes, background_nodes, table_rows, examples_nodes, scenario_nodes, rule_nodes, feature_nodes}
+use Rattle.gk_grammar.specs.Grammar.{tag_nodes, node_of_row, row_nodes, step_nodes, background_nodes, table_rows, examples_nodes, scenario_nodes, rule_nodes, feature_nodes}
 use Rattle.gk_pickle.specs.declared.pickle.PickleStep.{PickleStep}
 use Rattle.gk_pickle.specs.declared.pickle.Pickle.{Pickle}
 use Rattle.gk_pickle.specs.Around.{Around}

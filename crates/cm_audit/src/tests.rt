@@ -88,7 +88,7 @@ impl ByteSink for Sink {
     }
 }
 
-fn sink(alloc: Global, room: usize, most: usize, takes_none: bool) -> Sink {
+fn sink_with(alloc: Global, room: usize, most: usize, takes_none: bool) -> Sink {
     Sink {
         taken: Vec::new(alloc),
         room,
@@ -101,7 +101,7 @@ fn sink(alloc: Global, room: usize, most: usize, takes_none: bool) -> Sink {
 
 /// A sink that takes all: the lines are the wanted ones.
 fn check_lines(rt: &impl Abort, alloc: Global, uri: &str, text: &str, wanted: &str) {
-    let mut sink = sink(alloc, 1_000_000, 1_000_000, false);
+    let mut sink = sink_with(alloc, 1_000_000, 1_000_000, false);
     assert_eq!(rt; write_compiled(alloc, uri, text, &mut sink), Ok(()));
     assert!(rt; sink.taken.as_slice() == wanted.as_bytes());
     assert_eq!(rt; sink.failed_calls, 0);
@@ -128,7 +128,7 @@ fn all_that_a_feature_may_have(rt: HostRuntime) -> Result<(), Fail> {
 #[test]
 fn ids_go_on_from_pickle_to_pickle(rt: HostRuntime) -> Result<(), Fail> {
     let alloc = rt.alloc();
-    let mut sink = sink(alloc, 1_000_000, 1_000_000, false);
+    let mut sink = sink_with(alloc, 1_000_000, 1_000_000, false);
     assert_eq!(rt;
         write_compiled(alloc, "o.feature", OUTLINE_TEXT, &mut sink),
         Ok(())
@@ -138,7 +138,7 @@ fn ids_go_on_from_pickle_to_pickle(rt: HostRuntime) -> Result<(), Fail> {
 }
 
 fn check_refused(rt: &impl Abort, alloc: Global, text: &str, fault: ParseFault) {
-    let mut sink = sink(alloc, 1_000_000, 1_000_000, false);
+    let mut sink = sink_with(alloc, 1_000_000, 1_000_000, false);
     let done = write_compiled(alloc, "u", text, &mut sink);
     assert_eq!(rt; done, Err(CompileFault::Parse(fault)));
     assert_eq!(rt; sink.calls, 0);
@@ -165,18 +165,18 @@ fn nothing_is_written_of_a_refused_text(rt: HostRuntime) -> Result<(), Fail> {
 #[test]
 fn the_bytes_before_a_failed_write_are_written(rt: HostRuntime) -> Result<(), Fail> {
     let alloc = rt.alloc();
-    let mut sink = sink(alloc, 100, 1_000_000, false);
+    let mut sink = sink_with(alloc, 100, 1_000_000, false);
     let done = write_compiled(alloc, "a.feature", PLAIN_TEXT, &mut sink);
     assert_eq!(rt; done, Err(CompileFault::WriteFailed));
-    assert!(rt; PLAIN_LINES.len() == 737);
-    assert!(rt; sink.taken.as_slice() == &PLAIN_LINES.as_bytes()[..100]);
+    assert_eq!(rt; sink.taken.len(), 100);
+    assert!(rt; PLAIN_LINES.as_bytes().starts_with(sink.taken.as_slice()));
     assert_eq!(rt; sink.failed_calls, 1);
     Ok(())
 }
 
 /// One byte a write, and the write behind `room` bytes fails or takes nothing: it isn't repeated.
 fn check_failed(rt: &impl Abort, alloc: Global, room: usize, takes_none: bool) {
-    let mut sink = sink(alloc, room, 1, takes_none);
+    let mut sink = sink_with(alloc, room, 1, takes_none);
     let done = write_compiled(alloc, "a.feature", PLAIN_TEXT, &mut sink);
     assert_eq!(rt; done, Err(CompileFault::WriteFailed));
     assert!(rt; sink.taken.len() == room);
@@ -192,7 +192,7 @@ fn each_write_may_fail(rt: HostRuntime) -> Result<(), Fail> {
         check_failed(&rt, alloc, room, false);
         check_failed(&rt, alloc, room, true);
     }
-    let mut whole = sink(alloc, PLAIN_LINES.len(), 1, false);
+    let mut whole = sink_with(alloc, PLAIN_LINES.len(), 1, false);
     let done = write_compiled(alloc, "a.feature", PLAIN_TEXT, &mut whole);
     assert_eq!(rt; done, Ok(()));
     Ok(())
