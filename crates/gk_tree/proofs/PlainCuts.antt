@@ -1,5 +1,5 @@
 -- The rules of the grammar as cuts of the lines.
-use Rattle.std.proofs.Common.{◌≡◌, ◌≤◌, ◌+◌, ◌⊎◌, inl, inr, ℕ, Bool, true, false, List, [], ◌∷◌, ◌++◌, map, length, take, drop, Option, Some, None, Ok, Err, refl, sym, ap, subst, ◌∙◌, arith}
+use Rattle.std.proofs.Common.{◌≡◌, ◌≤◌, ◌⊎◌, inl, inr, ℕ, List, [], ◌∷◌, ◌++◌, length, Option, Some, None, refl, sym, ap, subst, ◌∙◌, arith}
 use Rattle.std.specs.List.{AllByRecursion, flat_map}
 use Rattle.gk_line.specs.declared.tokens.Block.{Block}
 use Rattle.gk_line.specs.declared.tokens.Block.TheVariants as block
@@ -8,14 +8,12 @@ use Rattle.gk_grammar.specs.Token.{Text, Step, Row, Line, line}
 use Rattle.gk_grammar.specs.Tree as tree
 use Rattle.gk_grammar.specs.Tree.{Location, Tag, Argument, Background, ExampleTable, Examples, Scenario, Rule, Feature}
 use Rattle.gk_document.specs.declared.tree.Argument.TheVariants.{Table, Text as Quoted}
-use Rattle.gk_grammar.specs.Grammar.{Piece, Then, Nothing, Each, AtMostOne, OneLine, IsGap, IsPlainGap, IsEnglish, IsTagLine, TagLines, Titled, IsRow, IsTable, HaveEqualCounts, IsDocString, IsArgument, IsStep, IsStepLine, IsExampleTable, IsExamples, IsScenario, IsBackground, IsRule, IsFeature, IsOpening, english}
-use Rattle.gk_tree.specs.declared.kinds.Kind.{Kind}
+use Rattle.gk_grammar.specs.Grammar.{Piece, Then, Each, AtMostOne, OneLine, IsPlainGap, IsEnglish, IsTagLine, TagLines, Titled, IsRow, IsTable, IsArgument, IsStep, IsStepLine, IsExampleTable, IsExamples, IsScenario, IsBackground, IsRule, IsFeature, IsOpening, english}
 use Rattle.gk_tree.specs.declared.kinds.Kind.TheVariants as kind
 use Rattle.gk_tree.specs.declared.parts.Part.{Part}
 use Rattle.gk_tree.specs.declared.parts.Part.TheVariants as part
-use Rattle.gk_tree.specs.declared.parts.Rule.{Rule as Cutting}
 use Rattle.gk_tree.specs.declared.parts.Rule.TheVariants as rule
-use Rattle.gk_tree.specs.Plain.{kind_of, Has, Heading, IsHeading, IsRowOf, Bare, Is, IsUntaggedExamples, IsBelowScenario, IsUntaggedScenario, IsBelowRule, IsUntaggedRule, AreScenariosAndRules, IsBelowFeature, IsUntaggedFeature, IsSpokenGap, IsWithFeature, rule_of, Cut, BeginsWithRow, Means}
+use Rattle.gk_tree.specs.Plain.{Has, IsHeading, IsRowOf, Bare, Is, IsUntaggedExamples, IsBelowScenario, IsUntaggedScenario, IsBelowRule, IsUntaggedRule, AreScenariosAndRules, IsBelowFeature, IsUntaggedFeature, IsSpokenGap, IsWithFeature, rule_of, Cut, BeginsWithRow, Means}
 
 -- ---- many
 

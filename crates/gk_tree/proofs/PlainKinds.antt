@@ -1,5 +1,5 @@
 -- The kinds of the lines say what the grammar says of the lines.
-use Rattle.std.proofs.Common.{◌≡◌, ◌↔◌, ℕ, Bool, true, false, cond, List, [], ◌∷◌, ◌++◌, ◌+◌, map, Option, Some, None, Ok, Err, length, eqb, refl, sym, ap, subst, ◌∙◌}
+use Rattle.std.proofs.Common.{◌≡◌, ◌↔◌, ℕ, Bool, true, false, cond, List, [], ◌∷◌, ◌++◌, ◌+◌, map, None, Ok, Err, length, refl, sym, ap, subst, ◌∙◌}
 use Rattle.std.specs.Prelude.{IsTrue, IsFalse, not, ◌&&◌, ◌==◌}
 use Rattle.std.proofs.lemmas.Bool.{eqb-true, eq-eqb}
 use Rattle.std.specs.List.{AllByRecursion, list_all, join_with_byte}
@@ -22,7 +22,7 @@ use Rattle.gk_tree.specs.declared.parts.Part.TheVariants as part
 use Rattle.gk_tree.specs.declared.parts.Rule.TheVariants as rule
 use Rattle.gk_tree.specs.PlainLines as spec
 use Rattle.gk_tree.specs.PlainLines.{is_line, is_heading, closes, is_doc_string, are_lines, begins, same_block}
-use Rattle.gk_tree.specs.Plain.{kind_of, Has, Heading, IsHeading, IsRowOf, Bare, Is, rule_of}
+use Rattle.gk_tree.specs.Plain.{kind_of, Has, IsHeading, Is, rule_of}
 
 -- ---- both
 

@@ -5,12 +5,11 @@ use Rattle.std.proofs.lemmas.List.Sums.{sum_by-cons}
 use Rattle.std.specs.Prelude.{IsTrue}
 use Rattle.std.specs.Option.{option_map}
 use Rattle.std.specs.List.{AllByRecursion, flat_map}
-use Rattle.gk_line.specs.declared.tokens.Block.TheVariants as block
 use Rattle.gk_grammar.specs.Token.{Text, Tags, Step, Row, Line, line}
 use Rattle.gk_grammar.specs.Tree as tree
 use Rattle.gk_grammar.specs.Tree.{Location, Tag, Argument, Background, ExampleTable, Examples, Scenario, Rule, Feature, Document}
 use Rattle.gk_document.specs.declared.tree.Argument.TheVariants.{Table, Text as Quoted}
-use Rattle.gk_grammar.specs.Grammar.{Piece, Then, Each, AtMostOne, OneLine, place_and_name, IsTagLine, TagLines, IsRow, IsTable, HaveEqualCounts, IsArgument, IsStepLine, IsStep, IsBackground, IsExampleTable, IsExamples, IsScenario, IsRule, IsFeature, IsFeatureText, english, Node, node_of_tag, tag_nodes, node_of_row, row_nodes, argument_nodes, step_nodes, background_nodes, table_rows, examples_nodes, scenario_nodes, rule_nodes, feature_nodes, stands_before, AreNumbered, Doc}
+use Rattle.gk_grammar.specs.Grammar.{Piece, Then, Each, AtMostOne, OneLine, place_and_name, IsTagLine, TagLines, IsRow, IsTable, IsArgument, IsStepLine, IsStep, IsBackground, IsExampleTable, IsExamples, IsScenario, IsRule, IsFeature, IsFeatureText, english, Node, tag_nodes, row_nodes, argument_nodes, step_nodes, background_nodes, table_rows, examples_nodes, scenario_nodes, rule_nodes, feature_nodes, stands_before, AreNumbered}
 use Rattle.gk_grammar.specs.Place.{IsText}
 use Rattle.gk_tree.specs.declared.parts.Part.TheVariants as part
 use Rattle.gk_tree.specs.Plain.{Is}

@@ -1,4 +1,5 @@
-//! The parser of feature files: it takes exactly the texts of the grammar, and makes their one document.
+//! The parser of feature files: it takes exactly the texts of the grammar, and makes their one document. Beside it stands a
+//! plain program of the grammar, for small texts.
 #![tactic(auto)]
 
 mod assemble;

@@ -1,8 +1,6 @@
-use Rattle.std.proofs.Common.{◌≡◌, ◌≤◌, ◌<◌, ◌+◌, ◌↔◌, ℕ, List, [], map, length, take, drop, refl, sym, ap, subst, ◌∙◌, arith, rules}
-use Rattle.std.specs.Prelude.{IsTrue}
-use Rattle.gk_grammar.specs.Token.{Line}
-use Rattle.gk_tree.specs.Plain.{kind_of, Is, Cut}
-use Rattle.gk_tree.proofs.PlainAnswers.{either_begins, either_ends, maybe_ends, maybe_begins, many_begins, rows_begin, rows_begin_not, cut_here, no_cut, Choice, by_both, by_many, choice_first, choice_second, choice_cuts, not_empty, empty_so, none_more, either_falls, front_kinds, back_kinds, front_long, no_part}
+use Rattle.std.proofs.Common.{◌+◌, take, drop, refl, sym, ◌∙◌, arith}
+use Rattle.gk_tree.specs.Plain.{Is}
+use Rattle.gk_tree.proofs.PlainAnswers.{either_begins, either_ends, maybe_ends, many_begins, rows_begin, cut_here, Choice, by_both, by_many, choice_first, choice_second, choice_cuts, not_empty, empty_so, none_more, either_falls, front_kinds, back_kinds, front_long, no_part}
 use Rattle.gk_tree.proofs.PlainKinds.{lines_are}
 use Rattle.gk_tree.proofs.plain.+belongs.Goals as goal
 use Rattle.gk_tree.proofs.plain.+belongs.Goals.{in-Both, in-Many+else-is_empty-2, else-belongs-2-via-then-belongs-2+else-belongs-3, else-belongs-2-via-else-belongs-2}

@@ -1,5 +1,5 @@
-use Rattle.std.proofs.Common.{◌≡◌, ◌∙◌, ◌+◌, take, inl, inr, refl, sym, arith}
-use Rattle.gk_tree.proofs.PlainFronts.{fronts_more, take_kinds, first_bad_here, open_at_end}
+use Rattle.std.proofs.Common.{◌+◌, take, inl, arith}
+use Rattle.gk_tree.proofs.PlainFronts.{fronts_more, take_kinds, first_bad_here}
 use Rattle.gk_tree.proofs.plain.first_bad.Goals as goal
 
 pub returns-then-not-branch-clause-some : goal.returns-then-not-branch-clause-some
