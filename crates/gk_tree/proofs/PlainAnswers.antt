@@ -1,5 +1,5 @@
 -- What the rules say of the parts, as the plain program asks it.
-use Rattle.std.proofs.Common.{◌≡◌, ◌≤◌, ◌<◌, ◌+◌, ◌↔◌, ◌⊎◌, inl, inr, ℕ, Bool, true, false, List, [], ◌∷◌, ◌++◌, map, Option, Some, None, length, take, drop, refl, sym, ap, subst, ◌∙◌, arith, length-append, ltb}
+use Rattle.std.proofs.Common.{◌≡◌, ◌≤◌, ◌<◌, ◌+◌, ◌↔◌, ◌⊎◌, inl, inr, ℕ, Bool, true, false, List, [], ◌∷◌, map, Some, None, length, take, drop, refl, sym, ap, subst, ◌∙◌, arith, length-append, ltb}
 use Rattle.std.specs.Prelude.{IsTrue, ◌==◌}
 use Rattle.std.proofs.lemmas.Bool.{eqb-true, ltb-true, ltb-false}
 use Rattle.std.proofs.lemmas.List.{take-append-drop, take-map, drop-map, length-map, length-take-le}
@@ -17,7 +17,7 @@ use Rattle.gk_tree.proofs.PlainCuts.{is_means, means_is}
 use Rattle.gk_tree.proofs.PlainRanks.{rank, Falls, falls}
 
 -- a part and its rule
-pub by_rule : (p : Part) (r : Cutting) → rule_of p ≡ r → (ls : List Line) → Is p ls ↔ Means p r ls
+by_rule : (p : Part) (r : Cutting) → rule_of p ≡ r → (ls : List Line) → Is p ls ↔ Means p r ls
 by_rule p r e ls = (λ h. subst (λ (z : Cutting). Means p z ls) e (is_means p ls h), λ h. means_is p ls (subst (λ (z : Cutting). Means p z ls) (sym e) h))
 
 pub either_begins : (p one other : Part) → rule_of p ≡ rule.Either one other → (a : Bool) (ls : List Line) → IsTrue a ↔ Is one ls → a ≡ true → IsTrue a ↔ Is p ls
@@ -40,9 +40,6 @@ maybe_ends p one e b ls ks m n k = (λ i. (by_rule p _ e ls).1 (inr (k.0 i)), λ
 no_kinds : (ls : List Line) → map kind_of ls ≡ [] → ls ≡ []
 no_kinds [] m = refl
 no_kinds (l ∷ ls) m = absurd cc
-
-pub maybe_begins : (p one : Part) → rule_of p ≡ rule.Maybe one → (ls : List Line) → map kind_of ls ≡ [] → Is p ls
-maybe_begins p one e ls m = (by_rule p _ e ls).1 (inl (no_kinds ls m))
 
 pub many_begins : (p one : Part) → rule_of p ≡ rule.Many one → (ls : List Line) → map kind_of ls ≡ [] → Is p ls
 many_begins p one e ls m = (by_rule p _ e ls).1 (inl (no_kinds ls m))

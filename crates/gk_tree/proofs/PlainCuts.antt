@@ -1,5 +1,5 @@
 -- The rules of the grammar as cuts of the lines.
-use Rattle.std.proofs.Common.{◌≡◌, ◌≤◌, ◌+◌, ◌⊎◌, inl, inr, ℕ, Bool, true, false, List, [], ◌∷◌, ◌++◌, map, length, take, drop, Option, Some, None, Ok, Err, refl, sym, ap, subst, ◌∙◌, arith}
+use Rattle.std.proofs.Common.{◌≡◌, ◌≤◌, ◌⊎◌, inl, inr, ℕ, List, [], ◌∷◌, ◌++◌, length, Option, Some, None, refl, sym, ap, subst, ◌∙◌, arith}
 use Rattle.std.specs.List.{AllByRecursion, flat_map}
 use Rattle.gk_line.specs.declared.tokens.Block.{Block}
 use Rattle.gk_line.specs.declared.tokens.Block.TheVariants as block
@@ -8,14 +8,12 @@ use Rattle.gk_grammar.specs.Token.{Text, Step, Row, Line, line}
 use Rattle.gk_grammar.specs.Tree as tree
 use Rattle.gk_grammar.specs.Tree.{Location, Tag, Argument, Background, ExampleTable, Examples, Scenario, Rule, Feature}
 use Rattle.gk_document.specs.declared.tree.Argument.TheVariants.{Table, Text as Quoted}
-use Rattle.gk_grammar.specs.Grammar.{Piece, Then, Nothing, Each, AtMostOne, OneLine, IsGap, IsPlainGap, IsEnglish, IsTagLine, TagLines, Titled, IsRow, IsTable, HaveEqualCounts, IsDocString, IsArgument, IsStep, IsStepLine, IsExampleTable, IsExamples, IsScenario, IsBackground, IsRule, IsFeature, IsOpening, english}
-use Rattle.gk_tree.specs.declared.kinds.Kind.{Kind}
+use Rattle.gk_grammar.specs.Grammar.{Piece, Then, Each, AtMostOne, OneLine, IsPlainGap, IsEnglish, IsTagLine, TagLines, Titled, IsRow, IsTable, IsArgument, IsStep, IsStepLine, IsExampleTable, IsExamples, IsScenario, IsBackground, IsRule, IsFeature, IsOpening, english}
 use Rattle.gk_tree.specs.declared.kinds.Kind.TheVariants as kind
 use Rattle.gk_tree.specs.declared.parts.Part.{Part}
 use Rattle.gk_tree.specs.declared.parts.Part.TheVariants as part
-use Rattle.gk_tree.specs.declared.parts.Rule.{Rule as Cutting}
 use Rattle.gk_tree.specs.declared.parts.Rule.TheVariants as rule
-use Rattle.gk_tree.specs.Plain.{kind_of, Has, Heading, IsHeading, IsRowOf, Bare, Is, IsUntaggedExamples, IsBelowScenario, IsUntaggedScenario, IsBelowRule, IsUntaggedRule, AreScenariosAndRules, IsBelowFeature, IsUntaggedFeature, IsSpokenGap, IsWithFeature, rule_of, Cut, BeginsWithRow, Means}
+use Rattle.gk_tree.specs.Plain.{Has, IsHeading, IsRowOf, Bare, Is, IsUntaggedExamples, IsBelowScenario, IsUntaggedScenario, IsBelowRule, IsUntaggedRule, AreScenariosAndRules, IsBelowFeature, IsUntaggedFeature, IsSpokenGap, IsWithFeature, rule_of, Cut, BeginsWithRow, Means}
 
 -- ---- many
 
@@ -62,16 +60,20 @@ each_cut {A = A} P ne ls h = go h.0 h.1 h.2
 
 cut_each : {A : Type 0} (P : A → Piece) (ls : List Line) → Repeats P ls → Has (Each P) ls
 cut_each P ls (inl e) = ([], [], (e, refl))
-cut_each P ls (inr c) = (c.first.0 ∷ c.second.0, c.first.1 ++ c.second.1, record {
-  front = c.front;
-  back = c.back;
-  front_comments = c.first.1;
-  back_comments = c.second.1;
-  cut = c.cut;
-  comments = refl;
-  first = c.first.2;
-  second = c.second.2;
-})
+cut_each P ls (inr c) = (
+  c.first.0 ∷ c.second.0,
+  c.first.1 ++ c.second.1,
+  record {
+    front = c.front;
+    back = c.back;
+    front_comments = c.first.1;
+    back_comments = c.second.1;
+    cut = c.cut;
+    comments = refl;
+    first = c.first.2;
+    second = c.second.2;
+  },
+)
 
 -- ---- at most one
 
@@ -103,16 +105,20 @@ both_cut P Q R a b f ls h =
 
 cut_both : {A B C : Type 0} (P : A → Piece) (Q : B → Piece) (R : C → Piece) (make : A → B → C) →
     ((x : A) (y : B) (ls : List Line) (cs : List tree.Comment) → Then (P x) (Q y) ls cs → R (make x y) ls cs) → (ls : List Line) → Cut 0 (Has P) (Has Q) ls → Has R ls
-cut_both P Q R make f ls c = (make c.first.0 c.second.0, c.first.1 ++ c.second.1, f c.first.0 c.second.0 ls (c.first.1 ++ c.second.1) (record {
-  front = c.front;
-  back = c.back;
-  front_comments = c.first.1;
-  back_comments = c.second.1;
-  cut = c.cut;
-  comments = refl;
-  first = c.first.2;
-  second = c.second.2;
-}))
+cut_both P Q R make f ls c = (
+  make c.first.0 c.second.0,
+  c.first.1 ++ c.second.1,
+  f c.first.0 c.second.0 ls (c.first.1 ++ c.second.1) (record {
+    front = c.front;
+    back = c.back;
+    front_comments = c.first.1;
+    back_comments = c.second.1;
+    cut = c.cut;
+    comments = refl;
+    first = c.first.2;
+    second = c.second.2;
+  }),
+)
 
 -- ---- which parts are full
 
@@ -152,16 +158,24 @@ tags_cut ls h = go (each_cut (λ (tags : List Tag). OneLine (IsTagLine tags)) (�
 
 cut_tags : (ls : List Line) → (ls ≡ []) ⊎ Cut 1 (Is part.TagLine) (Is part.TagLines) ls → Has TagLines ls
 cut_tags ls (inl e) = ([], [], ([], refl, (e, refl)))
-cut_tags ls (inr c) = (c.first.0 ++ c.second.0, c.first.1 ++ c.second.1, (c.first.0 ∷ c.second.2.0, ap (λ (z : List Tag). c.first.0 ++ z) c.second.2.1, record {
-  front = c.front;
-  back = c.back;
-  front_comments = c.first.1;
-  back_comments = c.second.1;
-  cut = c.cut;
-  comments = refl;
-  first = c.first.2;
-  second = c.second.2.2;
-}))
+cut_tags ls (inr c) = (
+  c.first.0 ++ c.second.0,
+  c.first.1 ++ c.second.1,
+  (
+    c.first.0 ∷ c.second.2.0,
+    ap (λ (z : List Tag). c.first.0 ++ z) c.second.2.1,
+    record {
+      front = c.front;
+      back = c.back;
+      front_comments = c.first.1;
+      back_comments = c.second.1;
+      cut = c.cut;
+      comments = refl;
+      first = c.first.2;
+      second = c.second.2.2;
+    },
+  ),
+)
 
 -- ---- tables
 
@@ -195,17 +209,19 @@ of_rows : (n : ℕ) (xs : List tree.Row) (ls : List Line) (cs : List tree.Commen
 of_rows n [] ls cs t = (tt, t)
 of_rows n (x ∷ xs) ls cs t =
     let f = of_row n x t.front t.front_comments t.first in
-    let r = of_rows n xs t.back t.back_comments t.second in
-    ((f.0, r.0), record {
-      front = t.front;
-      back = t.back;
-      front_comments = t.front_comments;
-      back_comments = t.back_comments;
-      cut = t.cut;
-      comments = t.comments;
-      first = f.1;
-      second = r.1;
-    })
+    let r = of_rows n xs t.back t.back_comments t.second in (
+      (f.0, r.0),
+      record {
+        front = t.front;
+        back = t.back;
+        front_comments = t.front_comments;
+        back_comments = t.back_comments;
+        cut = t.cut;
+        comments = t.comments;
+        first = f.1;
+        second = r.1;
+      },
+    )
 
 counts_along : (n m : ℕ) → n ≡ m → (xs : List tree.Row) → AllByRecursion (λ (x : tree.Row). length x.cells ≡ n) xs → AllByRecursion (λ (x : tree.Row). length x.cells ≡ m) xs
 counts_along n m e [] a = tt

@@ -1,12 +1,12 @@
 -- Fronts of a text, by the kinds of their lines.
-use Rattle.std.proofs.Common.{◌≡◌, ◌≤◌, ◌<◌, ◌+◌, ◌↔◌, ◌⊎◌, inl, inr, ℕ, Bool, true, false, List, [], ◌∷◌, ◌++◌, map, length, take, drop, refl, sym, ap, subst, ◌∙◌, arith, append-nil, ltb}
+use Rattle.std.proofs.Common.{◌≡◌, ◌≤◌, ◌<◌, ◌+◌, ◌↔◌, ℕ, Bool, true, false, List, [], ◌∷◌, ◌++◌, map, length, take, refl, sym, ap, subst, ◌∙◌, arith, append-nil, ltb}
 use Rattle.std.specs.Prelude.{IsTrue}
 use Rattle.std.proofs.lemmas.Bool.{ltb-true, ltb-false}
 use Rattle.std.proofs.lemmas.List.{map-append, take-map, length-map}
 use Rattle.gk_line.specs.declared.tokens.Block.TheVariants as block
 use Rattle.gk_line.specs.declared.tokens.Fence.TheVariants as fence
 use Rattle.gk_grammar.specs.Token.{Line}
-use Rattle.gk_grammar.specs.Place.{IsText, IsFront, Completion, ByNothing, ByFeature, ByScenario, ByQuotes, ByBackticks, completing, IsFirstBad, IsOpenAtEnd}
+use Rattle.gk_grammar.specs.Place.{IsText, IsFront, Completion, ByNothing, ByFeature, ByScenario, ByQuotes, ByBackticks, completing, IsFirstBad}
 use Rattle.gk_grammar.proofs.Completing.{by_feature, by_scenario, by_quotes, by_backticks}
 use Rattle.gk_tree.specs.declared.kinds.Kind.{Kind}
 use Rattle.gk_tree.specs.declared.kinds.Kind.TheVariants as kind
@@ -44,10 +44,6 @@ told_front c b ks h t ls m = (c, (h (ls ++ completing c (length ls + 1)) (comple
 front_told : (c : Completion) (b : Bool) (ks : List Kind) → Tells b (ks ++ closing c) → (ls : List Line) → map kind_of ls ≡ ks → IsText (ls ++ completing c (length ls + 1)) → b ≡ true
 front_told c b ks h ls m i = (h (ls ++ completing c (length ls + 1)) (completed c ls ks m)).1 i
 
--- a text is a front
-pub text_front : (ls : List Line) → IsText ls → IsFront ls
-text_front ls h = (ByNothing, subst IsText (sym (append-nil ls)) h)
-
 -- where four answers are no, the last one says whether the lines are a front
 pub last_tells : (ks : List Kind) (b0 b1 b2 b3 b4 : Bool) → Tells b0 ks → Tells b1 (ks ++ closing ByFeature) → Tells b2 (ks ++ closing ByScenario) → Tells b3 (ks ++ closing ByQuotes) → Tells b4 (ks ++ closing ByBackticks) →
     b0 ≡ false → b1 ≡ false → b2 ≡ false → b3 ≡ false → (ls : List Line) → map kind_of ls ≡ ks → IsTrue b4 ↔ IsFront ls
@@ -76,9 +72,3 @@ pub first_bad_here : (n : ℕ) (ls : List Line) (ks : List Kind) → map kind_of
 first_bad_here n ls ks m within fronts bad =
     let e : length ls ≡ length ks = sym (length-map ls kind_of) ∙ ap (λ (z : List Kind). length z) m in
     record { from_one = omega arith; within = omega arith; bad = bad; least = λ k a b. fronts k a (omega arith) }
-
--- where all first lines are fronts and the whole is no text
-pub open_at_end : (ls : List Line) (ks : List Kind) → map kind_of ls ≡ ks → ((m : ℕ) → 1 ≤ m → m ≤ length ks → IsFront (take m ls)) → (IsText ls → ⊥) → IsOpenAtEnd ls (length ks + 1)
-open_at_end ls ks m fronts none =
-    let e : length ls ≡ length ks = sym (length-map ls kind_of) ∙ ap (λ (z : List Kind). length z) m in
-    record { behind = omega arith; fronts = λ k a b. fronts k a (omega arith); open_yet = none }

@@ -1,5 +1,5 @@
 -- The kinds of the lines say what the grammar says of the lines.
-use Rattle.std.proofs.Common.{◌≡◌, ◌↔◌, ℕ, Bool, true, false, cond, List, [], ◌∷◌, ◌++◌, ◌+◌, map, Option, Some, None, Ok, Err, length, eqb, refl, sym, ap, subst, ◌∙◌}
+use Rattle.std.proofs.Common.{◌≡◌, ◌↔◌, ℕ, Bool, true, false, cond, List, [], ◌∷◌, ◌++◌, ◌+◌, map, None, Ok, Err, length, refl, sym, ap, subst, ◌∙◌}
 use Rattle.std.specs.Prelude.{IsTrue, IsFalse, not, ◌&&◌, ◌==◌}
 use Rattle.std.proofs.lemmas.Bool.{eqb-true, eq-eqb}
 use Rattle.std.specs.List.{AllByRecursion, list_all, join_with_byte}
@@ -22,7 +22,7 @@ use Rattle.gk_tree.specs.declared.parts.Part.TheVariants as part
 use Rattle.gk_tree.specs.declared.parts.Rule.TheVariants as rule
 use Rattle.gk_tree.specs.PlainLines as spec
 use Rattle.gk_tree.specs.PlainLines.{is_line, is_heading, closes, is_doc_string, are_lines, begins, same_block}
-use Rattle.gk_tree.specs.Plain.{kind_of, Has, Heading, IsHeading, IsRowOf, Bare, Is, rule_of}
+use Rattle.gk_tree.specs.Plain.{kind_of, Has, IsHeading, Is, rule_of}
 
 -- ---- both
 
@@ -241,9 +241,10 @@ gap_to : (ls : List Line) (cs : List tree.Comment) → IsGap ls cs → list_all 
 gap_to ls cs h = all_to (λ l. IsTrue (read.is_gap l)) spec.is_gap (λ l g. gap_same l ∙ g) ls h.0
 
 plain_from : (ls : List Line) → list_all spec.is_plain (map kind_of ls) ≡ true → IsPlainGap ls (comments_of ls)
-plain_from ls e =
-    (all_from (λ l. IsFalse (read.is_language l)) spec.is_plain (λ l h. not_true (read.is_language l) (and_apart (not (read.is_language l)) (read.is_gap l) (sym (plain_same l) ∙ h)).0) ls e,
-    (all_from (λ l. IsTrue (read.is_gap l)) spec.is_plain (λ l h. (and_apart (not (read.is_language l)) (read.is_gap l) (sym (plain_same l) ∙ h)).1) ls e, refl))
+plain_from ls e = (
+  all_from (λ l. IsFalse (read.is_language l)) spec.is_plain (λ l h. not_true (read.is_language l) (and_apart (not (read.is_language l)) (read.is_gap l) (sym (plain_same l) ∙ h)).0) ls e,
+  (all_from (λ l. IsTrue (read.is_gap l)) spec.is_plain (λ l h. (and_apart (not (read.is_language l)) (read.is_gap l) (sym (plain_same l) ∙ h)).1) ls e, refl),
+)
 
 plain_to : (ls : List Line) → AllByRecursion (λ l. IsFalse (read.is_language l)) ls → AllByRecursion (λ l. IsTrue (read.is_gap l)) ls → list_all spec.is_plain (map kind_of ls) ≡ true
 plain_to [] a b = refl
@@ -342,32 +343,40 @@ abbrev IsClosed : Fence → ℕ → List Line → Type 0
 IsClosed f n ls = (content : Text) × (cs : List tree.Comment) × Closes f n content ls cs
 
 closes_later : (f : Fence) (n : ℕ) (l : Line) (ls : List Line) → spec.is_fence f (kind_of l) ≡ false → IsClosed f n ls → IsClosed f n (l ∷ ls)
-closes_later f n l ls h c = (join_with_byte line_feed (map (content_line f n) (l ∷ c.2.inside)), c.1, record {
-  inside = l ∷ c.2.inside;
-  close = c.2.close;
-  gap = c.2.gap;
-  cut = ap (λ (z : List Line). l ∷ z) c.2.cut;
-  open_yet = (sym (fence_same f l) ∙ h, c.2.open_yet);
-  closed = c.2.closed;
-  value = refl;
-  behind = c.2.behind;
-})
+closes_later f n l ls h c = (
+  join_with_byte line_feed (map (content_line f n) (l ∷ c.2.inside)),
+  c.1,
+  record {
+    inside = l ∷ c.2.inside;
+    close = c.2.close;
+    gap = c.2.gap;
+    cut = ap (λ (z : List Line). l ∷ z) c.2.cut;
+    open_yet = (sym (fence_same f l) ∙ h, c.2.open_yet);
+    closed = c.2.closed;
+    value = refl;
+    behind = c.2.behind;
+  },
+)
 
 closes_from : (f : Fence) (n : ℕ) (ls : List Line) → closes f (map kind_of ls) ≡ true → IsClosed f n ls
 closes_from f n [] e = absurd cc
 closes_from f n (l ∷ ls) e = go (spec.is_fence f (kind_of l)) refl (closes_from f n ls) e
   where
     go : (b : Bool) → spec.is_fence f (kind_of l) ≡ b → (closes f (map kind_of ls) ≡ true → IsClosed f n ls) → cond b (list_all spec.is_gap (map kind_of ls)) (closes f (map kind_of ls)) ≡ true → IsClosed f n (l ∷ ls)
-    go true h more e = (join_with_byte line_feed [], comments_of ls, record {
-      inside = [];
-      close = l;
-      gap = ls;
-      cut = refl;
-      open_yet = tt;
-      closed = sym (fence_same f l) ∙ h;
-      value = refl;
-      behind = gap_from ls e;
-    })
+    go true h more e = (
+      join_with_byte line_feed [],
+      comments_of ls,
+      record {
+        inside = [];
+        close = l;
+        gap = ls;
+        cut = refl;
+        open_yet = tt;
+        closed = sym (fence_same f l) ∙ h;
+        value = refl;
+        behind = gap_from ls e;
+      },
+    )
     go false h more e = closes_later f n l ls h (more e)
 
 closes_to : (f : Fence) (inside : List Line) (close : Line) (gap : List Line) (cs : List tree.Comment) → AllByRecursion (λ l. IsFalse (grammar.is_fence f l)) inside → IsTrue (grammar.is_fence f close) → IsGap gap cs →
@@ -406,6 +415,7 @@ lines_are p e ls ks m b r = (λ i. from p e (ap (are_lines p) m ∙ sym r ∙ i)
     from (part.Heading b) e h = heading_from b ls h
     from part.DocString e h = doc_string_from ls h
     from _ e h = absurd cc
+
     to : (p : Part) → rule_of p ≡ rule.Lines → Is p ls → are_lines p (map kind_of ls) ≡ true
     to part.PlainGap e h = plain_to ls h.2.0 h.2.1.0
     to part.EnglishLine e h = line_to (λ (u : Unit {0}). IsEnglish) part.EnglishLine english_to ls h.0 h.1 h.2

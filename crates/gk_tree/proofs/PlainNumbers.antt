@@ -5,12 +5,11 @@ use Rattle.std.proofs.lemmas.List.Sums.{sum_by-cons}
 use Rattle.std.specs.Prelude.{IsTrue}
 use Rattle.std.specs.Option.{option_map}
 use Rattle.std.specs.List.{AllByRecursion, flat_map}
-use Rattle.gk_line.specs.declared.tokens.Block.TheVariants as block
 use Rattle.gk_grammar.specs.Token.{Text, Tags, Step, Row, Line, line}
 use Rattle.gk_grammar.specs.Tree as tree
 use Rattle.gk_grammar.specs.Tree.{Location, Tag, Argument, Background, ExampleTable, Examples, Scenario, Rule, Feature, Document}
 use Rattle.gk_document.specs.declared.tree.Argument.TheVariants.{Table, Text as Quoted}
-use Rattle.gk_grammar.specs.Grammar.{Piece, Then, Each, AtMostOne, OneLine, place_and_name, IsTagLine, TagLines, IsRow, IsTable, HaveEqualCounts, IsArgument, IsStepLine, IsStep, IsBackground, IsExampleTable, IsExamples, IsScenario, IsRule, IsFeature, IsFeatureText, english, Node, node_of_tag, tag_nodes, node_of_row, row_nodes, argument_nodes, step_nodes, background_nodes, table_rows, examples_nodes, scenario_nodes, rule_nodes, feature_nodes, stands_before, AreNumbered, Doc}
+use Rattle.gk_grammar.specs.Grammar.{Piece, Then, Each, AtMostOne, OneLine, place_and_name, IsTagLine, TagLines, IsRow, IsTable, IsArgument, IsStepLine, IsStep, IsBackground, IsExampleTable, IsExamples, IsScenario, IsRule, IsFeature, IsFeatureText, english, Node, tag_nodes, row_nodes, argument_nodes, step_nodes, background_nodes, table_rows, examples_nodes, scenario_nodes, rule_nodes, feature_nodes, stands_before, AreNumbered}
 use Rattle.gk_grammar.specs.Place.{IsText}
 use Rattle.gk_tree.specs.declared.parts.Part.TheVariants as part
 use Rattle.gk_tree.specs.Plain.{Is}
@@ -97,9 +96,11 @@ flat_by h [] = refl
 flat_by h (x ∷ xs) = map-append h x (flat_map (λ (ts : List Tag). ts) xs) ∙ ap (λ (z : List Tag). map h x ++ z) (flat_by h xs)
 
 tag_lines_by : (g : Numbers) (tags : List Tag) (ls : List Line) (cs : List tree.Comment) → TagLines tags ls cs → TagLines (map (tag_by g) tags) ls cs
-tag_lines_by g tags ls cs t =
-    (map (λ (ts : List Tag). map (tag_by g) ts) t.0, ap (λ (z : List Tag). map (tag_by g) z) t.1 ∙ flat_by (tag_by g) t.0,
-    each_by (λ (ts : List Tag). OneLine (IsTagLine ts)) (λ (ts : List Tag). map (tag_by g) ts) (λ ts us ds h. tag_line_by g ts us ds h) t.0 ls cs t.2)
+tag_lines_by g tags ls cs t = (
+  map (λ (ts : List Tag). map (tag_by g) ts) t.0,
+  ap (λ (z : List Tag). map (tag_by g) z) t.1 ∙ flat_by (tag_by g) t.0,
+  each_by (λ (ts : List Tag). OneLine (IsTagLine ts)) (λ (ts : List Tag). map (tag_by g) ts) (λ ts us ds h. tag_line_by g ts us ds h) t.0 ls cs t.2,
+)
 
 row_line_by : (g : Numbers) (r : tree.Row) (ls : List Line) (cs : List tree.Comment) → OneLine (IsRow r) ls cs → OneLine (IsRow (row_by g r)) ls cs
 row_line_by g r [] cs h = h
@@ -215,12 +216,14 @@ all_numbered all (x ∷ xs) = (sym (count_by_same (count_before all) all x.0), a
 -- a feature behind its opening makes a text
 with_numbers : (f : Feature) (ls : List Line) (cs : List tree.Comment) → IsFeatureText (Some (record f { language = english })) ls cs → IsText ls
 with_numbers f ls cs t =
-    let g : Numbers = count_before (feature_nodes (Some f)) in
-    (record { feature = Some (feature_by g f); comments = cs; nodes = length (feature_nodes (Some (feature_by g f))) }, record {
-      text = (refl, then_by _ _ _ _ (λ us ds h. h) (feature_lines_by g f) ls cs t.1);
-      numbers = subst AreNumbered (sym (feature_nodes_by g f)) (all_numbered (feature_nodes (Some f)) (feature_nodes (Some f)));
-      count = refl;
-    })
+    let g : Numbers = count_before (feature_nodes (Some f)) in (
+      record { feature = Some (feature_by g f); comments = cs; nodes = length (feature_nodes (Some (feature_by g f))) },
+      record {
+        text = (refl, then_by _ _ _ _ (λ us ds h. h) (feature_lines_by g f) ls cs t.1);
+        numbers = subst AreNumbered (sym (feature_nodes_by g f)) (all_numbered (feature_nodes (Some f)) (feature_nodes (Some f)));
+        count = refl;
+      },
+    )
 
 -- a text is comments and blank lines, or a feature behind its opening
 pub text_parts : (ls : List Line) → IsText ls ↔ (Is part.PlainGap ls ⊎ Is part.FeatureText ls)
@@ -229,6 +232,7 @@ text_parts ls = (λ h. there h.0.feature h.0.comments h.1.text, here)
     there : (o : Option Feature) (cs : List tree.Comment) → IsFeatureText o ls cs → Is part.PlainGap ls ⊎ Is part.FeatureText ls
     there None cs t = inl (tt, cs, t)
     there (Some f) cs t = inr (f, cs, t.1)
+
     here : Is part.PlainGap ls ⊎ Is part.FeatureText ls → IsText ls
     here (inl h) = (record { feature = None; comments = h.1; nodes = 0 }, record { text = h.2; numbers = tt; count = refl })
     here (inr h) = with_numbers h.0 ls h.1 (refl, h.2)

@@ -1,6 +1,5 @@
 -- The measure of the plain program: a part's rule names parts of lower rank.
-use Rattle.std.proofs.Common.{◌<◌, ◌≤◌, ◌+◌, ◌*◌, ℕ, arith, lit<}
-use Rattle.gk_line.specs.declared.tokens.Block.TheVariants as block
+use Rattle.std.proofs.Common.{◌<◌, ℕ, lit<}
 use Rattle.gk_tree.specs.declared.parts.Part.{Part}
 use Rattle.gk_tree.specs.declared.parts.Part.TheVariants as part
 use Rattle.gk_tree.specs.declared.parts.Rule.{Rule as Cutting}

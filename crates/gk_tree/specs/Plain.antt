@@ -1,14 +1,12 @@
 -- The parts of a text, each with the grammar's rule of it, and the rules as a table.
-use Rattle.std.specs.Prelude.{◌≡◌, ◌≤◌, ◌⊎◌, ℕ, Bool, true, false, List, [], ◌∷◌, ◌++◌, length, Option, Some, None, Ok, Err, if◌then◌else◌, IsTrue, IsFalse}
+use Rattle.std.specs.Prelude.{◌≡◌, ◌≤◌, ◌⊎◌, ℕ, List, [], ◌∷◌, ◌++◌, length, Option, Ok, Err, if◌then◌else◌}
 use Rattle.gk_line.specs.declared.tokens.Block.{Block}
 use Rattle.gk_line.specs.declared.tokens.Block.TheVariants as block
-use Rattle.gk_line.specs.declared.tokens.Fence.{Fence}
-use Rattle.gk_line.specs.declared.tokens.Fence.TheVariants as fence
 use Rattle.gk_grammar.specs.Token.{Text, Blank, Comment, Language, Tags, Title, Step, Row, Fenced, Other, Line, line}
 use Rattle.gk_grammar.specs.Tree as tree
 use Rattle.gk_grammar.specs.Tree.{Location, Tag, Argument, Background, ExampleTable, Examples, Scenario, Rule, Feature}
 use Rattle.gk_grammar.specs.Machine.{same_text}
-use Rattle.gk_grammar.specs.Grammar.{Piece, Then, ◌⨾◌, Each, AtMostOne, OneLine, IsPlainGap, IsEnglish, IsTagLine, TagLines, Titled, IsRow, IsTable, IsDocString, IsArgument, IsStepLine, IsStep, IsExampleTable, IsExamples, IsScenario, IsBackground, IsRule, IsFeature, IsOpening, english}
+use Rattle.gk_grammar.specs.Grammar.{Piece, ◌⨾◌, Each, AtMostOne, OneLine, IsPlainGap, IsEnglish, IsTagLine, TagLines, Titled, IsRow, IsTable, IsDocString, IsArgument, IsStepLine, IsStep, IsExampleTable, IsExamples, IsScenario, IsBackground, IsRule, IsFeature, IsOpening, english}
 use Rattle.gk_tree.specs.declared.kinds.Kind.{Kind}
 use Rattle.gk_tree.specs.declared.kinds.Kind.TheVariants as kind
 use Rattle.gk_tree.specs.declared.parts.Part.{Part}

@@ -1,4 +1,5 @@
-//! The parser of feature files: it takes exactly the texts of the grammar, and makes their one document.
+//! The parser of feature files: it takes exactly the texts of the grammar, and makes their one document. Beside it stands a
+//! plain program of the grammar, for small texts.
 #![tactic(auto)]
 
 mod assemble;
@@ -24,6 +25,9 @@ pub use gk_document::{
 };
 pub use gk_grammar::FaultKind;
 pub use one_pass::parse;
+pub use plain::{has_document, place};
 
+#[cfg(test)]
+mod plain_tests;
 #[cfg(test)]
 mod tests;

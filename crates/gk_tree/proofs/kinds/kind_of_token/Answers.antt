@@ -1,4 +1,3 @@
-use Rattle.std.proofs.Common.{◌≡◌}
 use Rattle.gk_tree.proofs.kinds.kind_of_token.Goals as goal
 
 pub returns-in-Language : goal.returns-in-Language

@@ -1,8 +1,6 @@
-use Rattle.std.proofs.Common.{◌≡◌, ◌≤◌, ◌<◌, ◌+◌, ◌↔◌, ℕ, List, [], map, length, take, drop, refl, sym, ap, subst, ◌∙◌, arith, rules}
-use Rattle.std.specs.Prelude.{IsTrue}
-use Rattle.gk_grammar.specs.Token.{Line}
-use Rattle.gk_tree.specs.Plain.{kind_of, Is, Cut}
-use Rattle.gk_tree.proofs.PlainAnswers.{either_begins, either_ends, maybe_ends, maybe_begins, many_begins, rows_begin, rows_begin_not, cut_here, no_cut, Choice, by_both, by_many, choice_first, choice_second, choice_cuts, not_empty, empty_so, none_more, either_falls, front_kinds, back_kinds, front_long, no_part}
+use Rattle.std.proofs.Common.{◌+◌, take, drop, refl, sym, ◌∙◌, arith}
+use Rattle.gk_tree.specs.Plain.{Is}
+use Rattle.gk_tree.proofs.PlainAnswers.{either_begins, either_ends, maybe_ends, many_begins, rows_begin, cut_here, Choice, by_both, by_many, choice_first, choice_second, choice_cuts, not_empty, empty_so, none_more, either_falls, front_kinds, back_kinds, front_long, no_part}
 use Rattle.gk_tree.proofs.PlainKinds.{lines_are}
 use Rattle.gk_tree.proofs.plain.+belongs.Goals as goal
 use Rattle.gk_tree.proofs.plain.+belongs.Goals.{in-Both, in-Many+else-is_empty-2, else-belongs-2-via-then-belongs-2+else-belongs-3, else-belongs-2-via-else-belongs-2}
@@ -31,8 +29,8 @@ returns-in-Some t c ls m = rows_begin c.args.part (sym c.rule_of.ensures ∙ c.i
 pub loop-cut-init : goal.loop-cut-init
 loop-cut-init t c =
     let choice : Choice c.args.part c.args.lines.now c.match-rule_of.first = elim c.match-rule_of.branch [
-      in-Both w ↦ by_both w.in-Both.first w.in-Both.second (sym c.rule_of.ensures ∙ w.in-Both.is) w.first-is
-    | in-Many+else-is_empty-2 w ↦ by_many w.in-Many.one (sym c.rule_of.ensures ∙ w.in-Many.is) (not_empty c.args.lines.now (sym w.if-is_empty-2.false ∙ w.is_empty-in-Many.ensures)) w.first-is
+      | in-Both w ↦ by_both w.in-Both.first w.in-Both.second (sym c.rule_of.ensures ∙ w.in-Both.is) w.first-is
+      | in-Many+else-is_empty-2 w ↦ by_many w.in-Many.one (sym c.rule_of.ensures ∙ w.in-Many.is) (not_empty c.args.lines.now (sym w.if-is_empty-2.false ∙ w.is_empty-in-Many.ensures)) w.first-is
     ] in
     record {
       least = omega arith;
@@ -43,10 +41,13 @@ loop-cut-init t c =
     }
 
 pub returns-then-belongs-3 : goal.returns-then-belongs-3
-returns-then-belongs-3 t c ls m = (λ i. (c.loop-cut.invariant.cuts ls m).1 (cut_here c.match-rule_of.first.2 (Is c.match-rule_of.first.0) (Is c.match-rule_of.first.1) ls c.loop-cut.cut
-    (front_long ls c.args.lines.now c.loop-cut.cut c.match-rule_of.first.2 m (omega arith) c.loop-cut.invariant.least)
-    ((c.belongs-in-loop-cut.ensures (take c.loop-cut.cut ls) (front_kinds ls c.args.lines.now c.split_at.result.0.now c.loop-cut.cut m c.split_at.ensures.front)).0 c.if-belongs-2.true)
-    ((c.belongs-then-belongs-2.ensures (drop c.loop-cut.cut ls) (back_kinds ls c.args.lines.now c.split_at.result.1.now c.loop-cut.cut m c.split_at.ensures.back)).0 c.if-belongs-3.true)), λ i. refl)
+returns-then-belongs-3 t c ls m = (
+  λ i. (c.loop-cut.invariant.cuts ls m).1 (cut_here c.match-rule_of.first.2 (Is c.match-rule_of.first.0) (Is c.match-rule_of.first.1) ls c.loop-cut.cut
+      (front_long ls c.args.lines.now c.loop-cut.cut c.match-rule_of.first.2 m (omega arith) c.loop-cut.invariant.least)
+      ((c.belongs-in-loop-cut.ensures (take c.loop-cut.cut ls) (front_kinds ls c.args.lines.now c.split_at.result.0.now c.loop-cut.cut m c.split_at.ensures.front)).0 c.if-belongs-2.true)
+      ((c.belongs-then-belongs-2.ensures (drop c.loop-cut.cut ls) (back_kinds ls c.args.lines.now c.split_at.result.1.now c.loop-cut.cut m c.split_at.ensures.back)).0 c.if-belongs-3.true)),
+  λ i. refl,
+)
 
 pub loop-cut-preserved : goal.loop-cut-preserved
 loop-cut-preserved t c = record {
@@ -55,17 +56,20 @@ loop-cut-preserved t c = record {
   second = c.loop-cut.invariant.second;
   cuts = c.loop-cut.invariant.cuts;
   none_yet = λ ls m. none_more c.match-rule_of.first.0 c.match-rule_of.first.1 ls c.args.lines.now c.match-rule_of.first.2 c.loop-cut.cut m (c.loop-cut.invariant.none_yet ls m)
-  (λ p q. elim c.else-belongs-2.branch [
-    else-belongs-2-via-then-belongs-2+else-belongs-3 w ↦ (let e = (w.belongs-then-belongs-2.ensures (drop c.loop-cut.cut ls) (back_kinds ls c.args.lines.now c.split_at.result.1.now c.loop-cut.cut m c.split_at.ensures.back)).1 q in let f = w.if-belongs-3.false in cc)
-  | else-belongs-2-via-else-belongs-2 w ↦ (let e = (c.belongs-in-loop-cut.ensures (take c.loop-cut.cut ls) (front_kinds ls c.args.lines.now c.split_at.result.0.now c.loop-cut.cut m c.split_at.ensures.front)).1 p in let f = w.if-belongs-2.false in cc)
-  ]);
+      (λ p q. elim c.else-belongs-2.branch [
+        | else-belongs-2-via-then-belongs-2+else-belongs-3 w ↦ (let e = (w.belongs-then-belongs-2.ensures (drop c.loop-cut.cut ls) (back_kinds ls c.args.lines.now c.split_at.result.1.now c.loop-cut.cut m c.split_at.ensures.back)).1 q in let f = w.if-belongs-3.false in cc)
+        | else-belongs-2-via-else-belongs-2 w ↦ (let e = (c.belongs-in-loop-cut.ensures (take c.loop-cut.cut ls) (front_kinds ls c.args.lines.now c.split_at.result.0.now c.loop-cut.cut m c.split_at.ensures.front)).1 p in let f = w.if-belongs-2.false in cc)
+      ]);
 }
 
 pub returns-else-belongs-2 : goal.returns-else-belongs-2
-returns-else-belongs-2 t c ls m = (λ i. absurd cc, λ i. absurd (
-    no_part c.match-rule_of.first.2 c.match-rule_of.first.0 c.match-rule_of.first.1 c.args.part ls c.args.lines.now (c.loop-cut.cut + 1) m (c.loop-cut.invariant.cuts ls m) (omega arith)
-    (none_more c.match-rule_of.first.0 c.match-rule_of.first.1 ls c.args.lines.now c.match-rule_of.first.2 c.loop-cut.cut m (c.loop-cut.invariant.none_yet ls m)
-  (λ p q. elim c.else-belongs-2.branch [
-    else-belongs-2-via-then-belongs-2+else-belongs-3 w ↦ (let e = (w.belongs-then-belongs-2.ensures (drop c.loop-cut.cut ls) (back_kinds ls c.args.lines.now c.split_at.result.1.now c.loop-cut.cut m c.split_at.ensures.back)).1 q in let f = w.if-belongs-3.false in cc)
-  | else-belongs-2-via-else-belongs-2 w ↦ (let e = (c.belongs-in-loop-cut.ensures (take c.loop-cut.cut ls) (front_kinds ls c.args.lines.now c.split_at.result.0.now c.loop-cut.cut m c.split_at.ensures.front)).1 p in let f = w.if-belongs-2.false in cc)
-  ])) i))
+returns-else-belongs-2 t c ls m = (
+  λ i. absurd cc,
+  λ i. absurd (
+      no_part c.match-rule_of.first.2 c.match-rule_of.first.0 c.match-rule_of.first.1 c.args.part ls c.args.lines.now (c.loop-cut.cut + 1) m (c.loop-cut.invariant.cuts ls m) (omega arith)
+      (none_more c.match-rule_of.first.0 c.match-rule_of.first.1 ls c.args.lines.now c.match-rule_of.first.2 c.loop-cut.cut m (c.loop-cut.invariant.none_yet ls m)
+      (λ p q. elim c.else-belongs-2.branch [
+        | else-belongs-2-via-then-belongs-2+else-belongs-3 w ↦ (let e = (w.belongs-then-belongs-2.ensures (drop c.loop-cut.cut ls) (back_kinds ls c.args.lines.now c.split_at.result.1.now c.loop-cut.cut m c.split_at.ensures.back)).1 q in let f = w.if-belongs-3.false in cc)
+        | else-belongs-2-via-else-belongs-2 w ↦ (let e = (c.belongs-in-loop-cut.ensures (take c.loop-cut.cut ls) (front_kinds ls c.args.lines.now c.split_at.result.0.now c.loop-cut.cut m c.split_at.ensures.front)).1 p in let f = w.if-belongs-2.false in cc)
+      ])) i),
+)
