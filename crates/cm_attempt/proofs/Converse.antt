@@ -17,7 +17,7 @@ use Rattle.cm_attempt.specs.declared.fault.TrackFault.TheVariants as fault
 use Rattle.cm_attempt.specs.Calls.{Call, AddCase, Start, StartStep, FinishStep, Finish, refusal_of, after_call, left_by, table_after, DeclaredCase, StartedAttempt, as_case, as_start, cases, starts, declared, start_of, starts_of, steps_of_attempt, Move, Started, StepStarted, StepFinished, Ended, move_of, moves, through, whole, ends_of, is_retried}
 use Rattle.cm_attempt.specs.CallLaws.{IsFront, ComeInOrder}
 use Rattle.cm_attempt.proofs.Growing.{bytes_same, bytes_are, by_id, or_false, at_end, kept_cut}
-use Rattle.cm_attempt.proofs.Standing.{cursor_at, Stands, between, inside, over, left_of}
+use Rattle.cm_attempt.proofs.Standing.{cursor_at, Stands, between, inside, over, rest_of, left_is}
 use Rattle.cm_attempt.proofs.Tracked.{AttemptIs, unstarted, begun, Begun, Retried, Latest, none_yet, one_open, last_over, CaseIs, undeclared, known, Known, Tracked, start_still, declared_still}
 use Rattle.cm_attempt.proofs.NextCall.{steps_are}
 use Rattle.cm_attempt.proofs.Accepted.{none_tracked, one_more, its_steps, last_all}
@@ -25,8 +25,8 @@ use Rattle.cm_attempt.proofs.Accepted.{none_tracked, one_more, its_steps, last_a
 -- ---- lists that are cut at an element
 
 no_repeat_found : {X : Type 0} (id : X → Text) (xs : List X) (y : X) (ys : List X) → has_repeat (map id (xs ++ y ∷ ys)) ≡ false → find (λ x. bytes_eq (id y) (id x)) xs ≡ None
-no_repeat_found id [] y ys h = refl
-no_repeat_found id (x ∷ xs) y ys h =
+no_repeat_found {X} id [] y ys h = refl
+no_repeat_found {X} id (x ∷ xs) y ys h =
     let parts = or_false (has_text (id x) (map id (xs ++ y ∷ ys))) (has_repeat (map id (xs ++ y ∷ ys))) h in
     let no : bytes_eq (id x) (id y) ≡ false = any_cut xs parts.0 in
     let turned : bytes_eq (id y) (id x) ≡ false = by_id (id y) (id x) (λ k. k) (λ k. let yes : bytes_eq (id x) (id y) ≡ true = ap (bytes_eq (id x)) k ∙ bytes_same (id x) in cc) in
@@ -56,15 +56,15 @@ record MayGo (may : Option Cursor → List Text → Bool) (o : Option Cursor) (s
 is_at : (done : List Text) (step : Text) (more : List Text) → option_map_or (bytes_eq step) (slice_get (done ++ step ∷ more) (length done)) false ≡ true
 is_at done step more = ap (λ z. option_map_or (bytes_eq step) z false) (at_end done (step ∷ more)) ∙ bytes_same step
 
-rest_is : (steps : List Text) (ms : List Move) (rs : List Bool) (o : Option Cursor) (zs : List Move) → (st : Stands steps ms rs o) → whole steps ≡ ms ++ zs → (left_of steps ms rs o st).0 ≡ zs
-rest_is steps ms rs o zs st e = append_cancel_left ms (left_of steps ms rs o st).0 zs (sym (left_of steps ms rs o st).1 ∙ e)
+rest_is : (steps : List Text) (ms : List Move) (rs : List Bool) (o : Option Cursor) (zs : List Move) → (st : Stands steps ms rs o) → whole steps ≡ ms ++ zs → rest_of steps ms rs o st ≡ zs
+rest_is steps ms rs o zs st e = append_cancel_left ms (rest_of steps ms rs o st) zs (sym (left_is steps ms rs o st) ∙ e)
 
-step_named : Text → Move → Text
+abbrev step_named : Text → Move → Text
 step_named d (StepStarted s) = s
 step_named d (StepFinished s) = s
 step_named d _ = d
 
-first_of_list : Move → List Move → Move
+abbrev first_of_list : Move → List Move → Move
 first_of_list d [] = d
 first_of_list d (m ∷ ms) = m
 
@@ -76,33 +76,33 @@ shape (StepFinished s ∷ ms) = 3
 shape (Ended ∷ ms) = 4
 
 may_start_next : (steps : List Text) (ms : List Move) (rs : List Bool) (o : Option Cursor) (step : Text) (zs : List Move) → Stands steps ms rs o → whole steps ≡ ms ++ StepStarted step ∷ zs → MayGo (may_start step) o steps step
-may_start_next steps ms rs o step zs (between done [] a b c d) e = let no : 4 ≡ 2 = ap shape (rest_is steps ms rs o (StepStarted step ∷ zs) (between done [] a b c d) e) in cc
+may_start_next steps ms rs o step zs (between done [] a b c d) e = let no : 4 ≡ 2 = ap shape (rest_is steps ms rs o (StepStarted step ∷ zs) (between done [] a b c d) e) in absurd (omega (arith, no))
 may_start_next steps ms rs o step zs (between done (x ∷ more) a b c d) e =
     let first : StepStarted x ∷ StepFinished x ∷ (through more ++ Ended ∷ []) ≡ StepStarted step ∷ zs = rest_is steps ms rs o (StepStarted step ∷ zs) (between done (x ∷ more) a b c d) e in
     let same : x ≡ step = ap (λ l. step_named step (first_of_list Ended l)) first in
     let all : steps ≡ done ++ step ∷ more = a ∙ ap (λ z. done ++ z ∷ more) same in
     record { next = rw (d, all) (is_at done step more); known_step = ap (has_text step) all ∙ has_here step done more }
-may_start_next steps ms rs o step zs (inside done x more a b c d) e = let no : 3 ≡ 2 = ap shape (rest_is steps ms rs o (StepStarted step ∷ zs) (inside done x more a b c d) e) in cc
-may_start_next steps ms rs o step zs (over r a b c) e = let no : 0 ≡ 2 = ap shape (rest_is steps ms rs o (StepStarted step ∷ zs) (over r a b c) e) in cc
+may_start_next steps ms rs o step zs (inside done x more a b c d) e = let no : 3 ≡ 2 = ap shape (rest_is steps ms rs o (StepStarted step ∷ zs) (inside done x more a b c d) e) in absurd (omega (arith, no))
+may_start_next steps ms rs o step zs (over r a b c) e = let no : 0 ≡ 2 = ap shape (rest_is steps ms rs o (StepStarted step ∷ zs) (over r a b c) e) in absurd (omega (arith, no))
 
 may_finish_next : (steps : List Text) (ms : List Move) (rs : List Bool) (o : Option Cursor) (step : Text) (zs : List Move) → Stands steps ms rs o → whole steps ≡ ms ++ StepFinished step ∷ zs → MayGo (may_finish step) o steps step
-may_finish_next steps ms rs o step zs (between done [] a b c d) e = let no : 4 ≡ 3 = ap shape (rest_is steps ms rs o (StepFinished step ∷ zs) (between done [] a b c d) e) in cc
-may_finish_next steps ms rs o step zs (between done (x ∷ more) a b c d) e = let no : 2 ≡ 3 = ap shape (rest_is steps ms rs o (StepFinished step ∷ zs) (between done (x ∷ more) a b c d) e) in cc
+may_finish_next steps ms rs o step zs (between done [] a b c d) e = let no : 4 ≡ 3 = ap shape (rest_is steps ms rs o (StepFinished step ∷ zs) (between done [] a b c d) e) in absurd (omega (arith, no))
+may_finish_next steps ms rs o step zs (between done (x ∷ more) a b c d) e = let no : 2 ≡ 3 = ap shape (rest_is steps ms rs o (StepFinished step ∷ zs) (between done (x ∷ more) a b c d) e) in absurd (omega (arith, no))
 may_finish_next steps ms rs o step zs (inside done x more a b c d) e =
     let first : StepFinished x ∷ (through more ++ Ended ∷ []) ≡ StepFinished step ∷ zs = rest_is steps ms rs o (StepFinished step ∷ zs) (inside done x more a b c d) e in
     let same : x ≡ step = ap (λ l. step_named step (first_of_list Ended l)) first in
     let all : steps ≡ done ++ step ∷ more = a ∙ ap (λ z. done ++ z ∷ more) same in
     record { next = rw (d, all) (is_at done step more); known_step = ap (has_text step) all ∙ has_here step done more }
-may_finish_next steps ms rs o step zs (over r a b c) e = let no : 0 ≡ 3 = ap shape (rest_is steps ms rs o (StepFinished step ∷ zs) (over r a b c) e) in cc
+may_finish_next steps ms rs o step zs (over r a b c) e = let no : 0 ≡ 3 = ap shape (rest_is steps ms rs o (StepFinished step ∷ zs) (over r a b c) e) in absurd (omega (arith, no))
 
 all_finished : (done : List Text) (b : Bool) → end_fault_of (Some (cursor_at (length done) b)) (done ++ []) ≡ None
 all_finished done b = let same : (length done == length (done ++ [])) ≡ true = (let long = length-append done [] in grind (arith, nat_tests, long)) in rw same refl
 
 may_end_next : (steps : List Text) (ms : List Move) (rs : List Bool) (o : Option Cursor) (zs : List Move) → Stands steps ms rs o → whole steps ≡ ms ++ Ended ∷ zs → end_fault_of o steps ≡ None
 may_end_next steps ms rs o zs (between done [] a b c d) e = ap (λ z. end_fault_of z steps) d ∙ ap (end_fault_of (Some (cursor_at (length done) false))) a ∙ all_finished done false
-may_end_next steps ms rs o zs (between done (x ∷ more) a b c d) e = let no : 2 ≡ 4 = ap shape (rest_is steps ms rs o (Ended ∷ zs) (between done (x ∷ more) a b c d) e) in cc
-may_end_next steps ms rs o zs (inside done x more a b c d) e = let no : 3 ≡ 4 = ap shape (rest_is steps ms rs o (Ended ∷ zs) (inside done x more a b c d) e) in cc
-may_end_next steps ms rs o zs (over r a b c) e = let no : 0 ≡ 4 = ap shape (rest_is steps ms rs o (Ended ∷ zs) (over r a b c) e) in cc
+may_end_next steps ms rs o zs (between done (x ∷ more) a b c d) e = let no : 2 ≡ 4 = ap shape (rest_is steps ms rs o (Ended ∷ zs) (between done (x ∷ more) a b c d) e) in absurd (omega (arith, no))
+may_end_next steps ms rs o zs (inside done x more a b c d) e = let no : 3 ≡ 4 = ap shape (rest_is steps ms rs o (Ended ∷ zs) (inside done x more a b c d) e) in absurd (omega (arith, no))
+may_end_next steps ms rs o zs (over r a b c) e = let no : 0 ≡ 4 = ap shape (rest_is steps ms rs o (Ended ∷ zs) (over r a b c) e) in absurd (omega (arith, no))
 
 -- ---- an attempt that the calls name further on
 
@@ -218,7 +218,7 @@ start_accepted xs id case number cs t h order = go (h.of_cases case)
 
 start_step_accepted : (xs : List Call) (a step : Text) (cs : List Call) (t : Table) → Tracked xs t → ComeInOrder (xs ++ StartStep a step ∷ cs) → step_start_fault t a step ≡ None
 start_step_accepted xs a step cs t h order =
-    let g = goes_on xs (StartStep a step) cs t h order a (StepStarted step) (rw (bytes_same a) refl) (λ e. cc) in
+    let g = goes_on xs (StartStep a step) cs t h order a (StepStarted step) (rw (bytes_same a) refl) (λ e. omega (arith, e)) in
     let b = g.begins in
     let may = may_start_next b.its_case.steps (moves a xs) (ends_of a xs) g.row.cursor step g.zs b.stands g.next in
     let same = steps_are xs t a g.row b in
@@ -226,7 +226,7 @@ start_step_accepted xs a step cs t h order =
 
 finish_step_accepted : (xs : List Call) (a step : Text) (status : Status) (cs : List Call) (t : Table) → Tracked xs t → ComeInOrder (xs ++ FinishStep a step status ∷ cs) → step_finish_fault t a step ≡ None
 finish_step_accepted xs a step status cs t h order =
-    let g = goes_on xs (FinishStep a step status) cs t h order a (StepFinished step) (rw (bytes_same a) refl) (λ e. cc) in
+    let g = goes_on xs (FinishStep a step status) cs t h order a (StepFinished step) (rw (bytes_same a) refl) (λ e. omega (arith, e)) in
     let b = g.begins in
     let may = may_finish_next b.its_case.steps (moves a xs) (ends_of a xs) g.row.cursor step g.zs b.stands g.next in
     let same = steps_are xs t a g.row b in
@@ -234,7 +234,7 @@ finish_step_accepted xs a step status cs t h order =
 
 end_accepted : (xs : List Call) (a : Text) (r : Bool) (cs : List Call) (t : Table) → Tracked xs t → ComeInOrder (xs ++ Finish a r ∷ cs) → finish_fault t a ≡ None
 end_accepted xs a r cs t h order =
-    let g = goes_on xs (Finish a r) cs t h order a Ended (rw (bytes_same a) refl) (λ e. cc) in
+    let g = goes_on xs (Finish a r) cs t h order a Ended (rw (bytes_same a) refl) (λ e. omega (arith, e)) in
     let b = g.begins in
     let fine = may_end_next b.its_case.steps (moves a xs) (ends_of a xs) g.row.cursor g.zs b.stands g.next in
     ap (finish_fault_at t) g.found ∙ ap (end_fault_of g.row.cursor) (steps_are xs t a g.row b) ∙ fine

@@ -80,15 +80,22 @@ not_over steps ms rs o (over r a b c) h = let no : false ≡ true = rw c at h in
 
 -- ---- the whole of it
 
-pub left_of : (steps : List Text) (ms : List Move) (rs : List Bool) (o : Option Cursor) → Stands steps ms rs o → IsFront ms (whole steps)
-left_of steps ms rs o (between done todo a b c d) =
-    (through todo ++ Ended ∷ [],
-    ap whole a ∙ ap (λ z. Started ∷ z ++ Ended ∷ []) (flat_map-append (λ s. StepStarted s ∷ StepFinished s ∷ []) done todo) ∙ ap (λ z. Started ∷ z) (append_assoc (through done) (through todo) (Ended ∷ [])) ∙ ap (λ z. z ++ (through todo ++ Ended ∷ [])) (sym b))
-left_of steps ms rs o (inside done x todo a b c d) =
-    (StepFinished x ∷ (through todo ++ Ended ∷ []),
+-- what is left of it
+abbrev pub rest_of : (steps : List Text) (ms : List Move) (rs : List Bool) (o : Option Cursor) → Stands steps ms rs o → List Move
+rest_of steps ms rs o (between done todo a b c d) = through todo ++ Ended ∷ []
+rest_of steps ms rs o (inside done x todo a b c d) = StepFinished x ∷ (through todo ++ Ended ∷ [])
+rest_of steps ms rs o (over r a b c) = []
+
+pub left_is : (steps : List Text) (ms : List Move) (rs : List Bool) (o : Option Cursor) → (st : Stands steps ms rs o) → whole steps ≡ ms ++ rest_of steps ms rs o st
+left_is steps ms rs o (between done todo a b c d) =
+    ap whole a ∙ ap (λ z. Started ∷ z ++ Ended ∷ []) (flat_map-append (λ s. StepStarted s ∷ StepFinished s ∷ []) done todo) ∙ ap (λ z. Started ∷ z) (append_assoc (through done) (through todo) (Ended ∷ [])) ∙ ap (λ z. z ++ (through todo ++ Ended ∷ [])) (sym b)
+left_is steps ms rs o (inside done x todo a b c d) =
     ap whole a ∙ ap (λ z. Started ∷ z ++ Ended ∷ []) (flat_map-append (λ s. StepStarted s ∷ StepFinished s ∷ []) done (x ∷ todo)) ∙ ap (λ z. Started ∷ z) (append_assoc (through done) (through (x ∷ todo)) (Ended ∷ []) ∙ sym (append_assoc (through done) (StepStarted x ∷ []) (StepFinished x ∷ (through todo ++ Ended ∷ []))))
-    ∙ ap (λ z. z ++ (StepFinished x ∷ (through todo ++ Ended ∷ []))) (sym b))
-left_of steps ms rs o (over r a b c) = ([], sym a ∙ sym (append-nil ms))
+    ∙ ap (λ z. z ++ (StepFinished x ∷ (through todo ++ Ended ∷ []))) (sym b)
+left_is steps ms rs o (over r a b c) = sym a ∙ sym (append-nil ms)
+
+pub left_of : (steps : List Text) (ms : List Move) (rs : List Bool) (o : Option Cursor) → Stands steps ms rs o → IsFront ms (whole steps)
+left_of steps ms rs o st = (rest_of steps ms rs o st, left_is steps ms rs o st)
 
 no_end : (steps : List Text) → list_any is_end (through steps) ≡ false
 no_end [] = refl
