@@ -100,7 +100,7 @@ last_all p (x ∷ ss) s h = go (p x) refl h (last_all p ss s)
     go true e k rec = rec (rw e at k)
     go false e k rec = let no : false ≡ true = rw e at k in cc
 
-all_then : (calls : List Call) (front : List StartedAttempt) (s : StartedAttempt) → AllByRecursion (Retried calls) front → Retried calls s → list_all (λ s. is_retried s.id calls) (front ++ s ∷ []) ≡ true
+pub all_then : (calls : List Call) (front : List StartedAttempt) (s : StartedAttempt) → AllByRecursion (Retried calls) front → Retried calls s → list_all (λ s. is_retried s.id calls) (front ++ s ∷ []) ≡ true
 all_then calls [] s h k = all_retried calls (s ∷ []) (k, tt)
 all_then calls (x ∷ front) s h k = let yes : is_retried x.id calls ≡ true = ap (list_any (λ r. r)) h.0 in rw (yes, all_then calls front s h.1 k) refl
 

@@ -55,7 +55,7 @@ step_finishes steps ms rs o step (inside done x todo a b c d) h =
     (ap (option_map after_step) d ∙ ap (λ n. Some (cursor_at n false)) (sym (length-append done (x ∷ []))))
 step_finishes steps ms rs o step (over r a b c) h = let no : false ≡ true = rw c at h in cc
 
-some_left : (done : List Text) (s : Text) (more : List Text) → (length done == length (done ++ s ∷ more)) ≡ false
+pub some_left : (done : List Text) (s : Text) (more : List Text) → (length done == length (done ++ s ∷ more)) ≡ false
 some_left done s more = let long = length-append done (s ∷ more) in grind (arith, nat_tests, long)
 
 refused_early : (n : ℕ) (b : Bool) (steps : List Text) → (n == length steps) ≡ false → end_fault_of (Some (cursor_at n b)) steps ≡ Some fault.FinishedEarly

@@ -1,4 +1,5 @@
 //! Laws of the calls of a run, for every interleaving of attempts.
+ghost use Rattle.cm_attempt.specs.CallFaults.{RefusedForFault};
 ghost use Rattle.cm_attempt.specs.CallLaws.{AcceptedComeInOrder, AreNumbered, CountsOpen, FinishedAreWhole, HasCases, IdsDistinct};
 ghost use Rattle.cm_attempt.specs.CallLaws.{InOrderAreAccepted, NoneOverlaps, OfTheirTable, Reports, StepsInOrder, WhereAccepted};
 
@@ -40,4 +41,9 @@ pub fn accepted_is_in_order()
     ensures in_order { AcceptedComeInOrder }
     ensures accepted { InOrderAreAccepted }
     ensures distinct { WhereAccepted IdsDistinct }
+{}
+
+/// A call behind accepted calls is refused exactly for the first fault that it has by what those calls tell.
+pub fn calls_are_refused_for_faults()
+    ensures { RefusedForFault }
 {}
