@@ -48,7 +48,7 @@ all_to_mapped : {X Y : Type 0} (P : Y → Type 0) (f : X → Y) (xs : List X) �
 all_to_mapped P f [] h = tt
 all_to_mapped P f (x ∷ xs) h = (h.0, all_to_mapped P f xs h.1)
 
-some_mapped : {X Y : Type 0} (f : X → Y) (o : Option X) → is_some (option_map f o) ≡ is_some o
+pub some_mapped : {X Y : Type 0} (f : X → Y) (o : Option X) → is_some (option_map f o) ≡ is_some o
 some_mapped f None = refl
 some_mapped f (Some x) = refl
 
@@ -118,13 +118,13 @@ start_ids es = ap (map (λ (s : StartedAttempt). s.id)) (starts_told es) ∙ map
 
 -- ---- each start
 
-some_told : (case : Text) (es : List Envelope) → is_some (call.declared case (calls_of es)) ≡ is_some (find_case case es)
+pub some_told : (case : Text) (es : List Envelope) → is_some (call.declared case (calls_of es)) ≡ is_some (find_case case es)
 some_told case es = ap is_some (declared_told case es) ∙ some_mapped case_told (find_case case es)
 
-long_told : (case : Text) (es : List Envelope) → length (call.starts_of case (calls_of es)) ≡ length (starts_of case es)
+pub long_told : (case : Text) (es : List Envelope) → length (call.starts_of case (calls_of es)) ≡ length (starts_of case es)
 long_told case es = ap length (starts_of_told case es) ∙ map_long start_told (starts_of case es)
 
-retried_told : (case : Text) (es : List Envelope) → list_all (λ (s : StartedAttempt). call.is_retried s.id (calls_of es)) (call.starts_of case (calls_of es)) ≡ list_all (λ (s : TestCaseStarted). is_retried s.id es) (starts_of case es)
+pub retried_told : (case : Text) (es : List Envelope) → list_all (λ (s : StartedAttempt). call.is_retried s.id (calls_of es)) (call.starts_of case (calls_of es)) ≡ list_all (λ (s : TestCaseStarted). is_retried s.id es) (starts_of case es)
 retried_told case es = ap (list_all (λ (s : StartedAttempt). call.is_retried s.id (calls_of es))) (starts_of_told case es) ∙ go (starts_of case es)
   where
     go : (ss : List TestCaseStarted) → list_all (λ (s : StartedAttempt). call.is_retried s.id (calls_of es)) (map start_told ss) ≡ list_all (λ (s : TestCaseStarted). is_retried s.id es) ss

@@ -1,2 +1,3 @@
 pub mod Told
 pub mod Joined
+pub mod Faults

@@ -3,4 +3,4 @@
 
 mod laws;
 
-pub use laws::{fronts_come_well, tables_have_results, well_come_is_taken};
+pub use laws::{fronts_come_well, refusals_are_checks, tables_have_results, well_come_is_taken};
