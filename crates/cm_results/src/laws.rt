@@ -1,5 +1,6 @@
 //! Laws of the definitions.
-ghost use Rattle.cm_results.specs.Joining.{FrontsComeWell, RefusedForChecks, TablesHaveResults, WellComeIsTaken};
+ghost use Rattle.cm_results.specs.FirstFault.{FaultsAreFirst, NoFaultIsExact};
+ghost use Rattle.cm_results.specs.Joining.{FaultsAreExact, FrontsComeWell, RefusedForChecks, TablesChange, TablesHaveResults, WellComeIsTaken};
 
 /// Where no call for the envelopes is refused, their attempts come as they must, and the table reports of each case, in order of
 /// declaration, the worst status of its final attempt.
@@ -21,4 +22,24 @@ pub fn fronts_come_well()
 /// that it fails.
 pub fn refusals_are_checks()
     ensures { RefusedForChecks }
+{}
+
+/// Behind envelopes whose calls are accepted, one that fails none of its own checks changes the table as its call does.
+pub fn tables_change()
+    ensures { TablesChange }
+{}
+
+/// An envelope behind attempts that come as they must fails one of its own checks exactly where they don't come so with it.
+pub fn faults_are_exact()
+    ensures { FaultsAreExact }
+{}
+
+/// No fault is told exactly of streams that are read as envelopes whose attempts come as they must.
+pub fn no_fault_is_exact()
+    ensures { NoFaultIsExact }
+{}
+
+/// A fault that is told is that of the first line without an envelope, or whose attempts don't come as they must.
+pub fn faults_are_first()
+    ensures { FaultsAreFirst }
 {}

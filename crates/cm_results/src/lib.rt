@@ -3,4 +3,7 @@
 
 mod laws;
 
-pub use laws::{fronts_come_well, refusals_are_checks, tables_have_results, well_come_is_taken};
+pub use laws::{
+    faults_are_exact, faults_are_first, fronts_come_well, no_fault_is_exact, refusals_are_checks,
+    tables_change, tables_have_results, well_come_is_taken,
+};
