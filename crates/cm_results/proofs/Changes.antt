@@ -113,8 +113,9 @@ faults_are_exact es well e = go (table_after (calls_of es)) refl (well_come_is_t
   where
     go : (o : Option Table) → table_after (calls_of es) ≡ o → is_some o ≡ true → (first_failed (own_checks es e) ≡ None) ↔ AttemptsComeWell (es ++ e ∷ [])
     go None taken k = cc
-    go (Some t) taken k =
-        (λ none. (tables_have_results (es ++ e ∷ []) (changed t e) (tables_change es t taken e none)).0,
-        λ more.
-        let all : is_some (unless_refused (refused t e) (Some (changed t e))) ≡ true = ap is_some (sym (left_one es t taken e)) ∙ well_come_is_taken (es ++ e ∷ []) more in
-        sym (refused_for_checks es t taken e) ∙ ap (option_and_then told) (accepted_one (refused t e) (Some (changed t e)) all))
+    go (Some t) taken k = (
+      λ none. (tables_have_results (es ++ e ∷ []) (changed t e) (tables_change es t taken e none)).0,
+      λ more.
+          let all : is_some (unless_refused (refused t e) (Some (changed t e))) ≡ true = ap is_some (sym (left_one es t taken e)) ∙ well_come_is_taken (es ++ e ∷ []) more in
+          sym (refused_for_checks es t taken e) ∙ ap (option_and_then told) (accepted_one (refused t e) (Some (changed t e)) all),
+    )

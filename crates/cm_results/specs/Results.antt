@@ -7,7 +7,7 @@ use Rattle.cm_attempt.specs.Worst.{worst_of}
 use Rattle.cm_attempt.specs.CallLaws.{IsFront}
 use Rattle.cm_attempt.specs.declared.status.Status.{Status}
 use Rattle.cm_stream.specs.Texts.{Text}
-use Rattle.cm_stream.specs.Words.{cases, starts, starts_of, find_case, moves, whole, is_ended, is_final, statuses, last_of}
+use Rattle.cm_stream.specs.Words.{cases, starts, starts_of, find_case, moves, whole, is_final, statuses, last_of}
 use Rattle.cm_stream.specs.Good.{Everywhere, RetriesGood}
 use Rattle.cm_stream.specs.Checks.{steps_of_attempt}
 use Rattle.cm_envelope.specs.declared.envelope.Envelope.{Envelope}
