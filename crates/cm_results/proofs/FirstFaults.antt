@@ -8,7 +8,7 @@ use Rattle.cm_envelope.specs.declared.feed.Trouble.{Trouble}
 use Rattle.cm_stream.specs.Findings.{Finding, IsBad, fault_of_line}
 use Rattle.cm_stream.specs.Stream.{Told, At, Troubled, NoFault, at_line, shown, fed, numbered, read_line, as_read, envelopes, IsRead}
 use Rattle.cm_results.specs.Results.{AttemptsComeWell}
-use Rattle.cm_results.specs.FirstFault.{fault, told_line, told_of, told, IsWell, FaultOf, IsFirstFault, NoFaultIsExact, FaultsAreFirst}
+use Rattle.cm_results.specs.FirstFault.{fault, told_line, told_of, told, IsWell, FaultOf, IsFirstFault, IsTroubled, NoFaultIsExact, FaultsAreFirst, TroublesAreLast}
 use Rattle.cm_results.proofs.Joined.{tables_have_results, fronts_come_well}
 use Rattle.cm_results.proofs.Changes.{faults_are_exact}
 
@@ -157,3 +157,42 @@ pub faults_are_first : FaultsAreFirst
 faults_are_first bytes n f h =
     let w = first [] 1 (fed bytes).lines (fed bytes).trouble n f none_well h in
     record { front = w.front; line = w.line; rest = w.rest; before = w.read_as; cut = w.cut; read = w.read; well = w.well; why = w.why }
+
+-- ---- a trouble
+
+record Cut (before : List Envelope) (n : ℕ) (ls : List (List ℕ)) (t : Option Trouble) (u : Trouble) : Type 0 where
+  lines : List (ℕ × Envelope)
+  read : map read_line (numbered n ls) ≡ map as_read lines
+  well : AttemptsComeWell (before ++ envelopes lines)
+  end : t ≡ Some u
+
+cut_off : (before : List Envelope) (n : ℕ) (ls : List (List ℕ)) (t : Option Trouble) (u : Trouble) → AttemptsComeWell before → told_of before n ls t ≡ Troubled u → Cut before n ls t u
+cut_off before n [] None u well h = cc
+cut_off before n [] (Some t) u well h =
+    let same : t ≡ u = cc in
+    record { lines = []; read = refl; well = subst AttemptsComeWell (sym (append-nil before)) well; end = ap Some same }
+cut_off before n (l ∷ ls) t u well h = go (is_blank l) refl (cut_off before (n + 1) ls t u well) (λ e. cut_off (before ++ e ∷ []) (n + 1) ls t u)
+  where
+    on_fault : (e : Envelope) → is_blank l ≡ false → envelope_of_line l ≡ Ok e → (o : Option Finding) → fault before e ≡ o → at_line n o (told_of (before ++ e ∷ []) (n + 1) ls t) ≡ Troubled u
+        → (AttemptsComeWell (before ++ e ∷ []) → told_of (before ++ e ∷ []) (n + 1) ls t ≡ Troubled u → Cut (before ++ e ∷ []) (n + 1) ls t u) → Cut before n (l ∷ ls) t u
+    on_fault e filled is (Some f) k told rec = cc
+    on_fault e filled is None k told rec =
+        let c = rec ((faults_are_exact before well e).0 k) told in
+        record { lines = (n, e) ∷ c.lines; read = rw (filled, is, c.read) refl; well = subst AttemptsComeWell (append_assoc before (e ∷ []) (envelopes c.lines)) c.well; end = c.end }
+
+    on_read : is_blank l ≡ false → (r : Result Envelope LineFault) → envelope_of_line l ≡ r → told_line before n (Some r) (λ (now : List Envelope). told_of now (n + 1) ls t) ≡ Troubled u
+        → ((e : Envelope) → AttemptsComeWell (before ++ e ∷ []) → told_of (before ++ e ∷ []) (n + 1) ls t ≡ Troubled u → Cut (before ++ e ∷ []) (n + 1) ls t u) → Cut before n (l ∷ ls) t u
+    on_read filled (Err b) is told rec = cc
+    on_read filled (Ok e) is told rec = on_fault e filled is (fault before e) refl told (rec e)
+
+    go : (b : Bool) → is_blank l ≡ b → (told_of before (n + 1) ls t ≡ Troubled u → Cut before (n + 1) ls t u)
+        → ((e : Envelope) → AttemptsComeWell (before ++ e ∷ []) → told_of (before ++ e ∷ []) (n + 1) ls t ≡ Troubled u → Cut (before ++ e ∷ []) (n + 1) ls t u) → Cut before n (l ∷ ls) t u
+    go true e skip rec =
+        let c = skip (rw e at h) in
+        record { lines = c.lines; read = rw e c.read; well = c.well; end = c.end }
+    go false e skip rec = on_read e (envelope_of_line l) refl (rw e at h) rec
+
+pub troubles_are_last : TroublesAreLast
+troubles_are_last bytes t h =
+    let c = cut_off [] 1 (fed bytes).lines (fed bytes).trouble t none_well h in
+    record { lines = c.lines; read = c.read; well = c.well; end = c.end }

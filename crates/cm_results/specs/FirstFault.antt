@@ -53,6 +53,13 @@ pub record IsFirstFault (bytes : List ℕ) (n : ℕ) (f : Finding) : Type 0 wher
   pub well : AttemptsComeWell (envelopes before)
   pub why : FaultOf (envelopes before) (envelope_of_line line) f
 
+-- every line is read as envelopes whose attempts come as they must, and then comes this trouble
+pub record IsTroubled (bytes : List ℕ) (t : Trouble) : Type 0 where
+  pub lines : List (ℕ × Envelope)
+  pub read : map read_line (numbered 1 (fed bytes).lines) ≡ map as_read lines
+  pub well : AttemptsComeWell (envelopes lines)
+  pub end : (fed bytes).trouble ≡ Some t
+
 -- No fault is told exactly of streams that are read as envelopes whose attempts come as they must.
 pub record NoFaultIsExact : Type 0 where
   pub well : (bytes : List ℕ) (es : List Envelope) → told bytes ≡ NoFault es → IsWell bytes es
@@ -61,3 +68,7 @@ pub record NoFaultIsExact : Type 0 where
 -- a fault that is told is that of the first line with one
 abbrev pub FaultsAreFirst : Type 0
 FaultsAreFirst = (bytes : List ℕ) (n : ℕ) (f : Finding) → told bytes ≡ At n f → IsFirstFault bytes n f
+
+-- a trouble is told where no line has a fault
+abbrev pub TroublesAreLast : Type 0
+TroublesAreLast = (bytes : List ℕ) (t : Trouble) → told bytes ≡ Troubled t → IsTroubled bytes t

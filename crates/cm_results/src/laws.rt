@@ -1,5 +1,5 @@
 //! Laws of the definitions.
-ghost use Rattle.cm_results.specs.FirstFault.{FaultsAreFirst, NoFaultIsExact};
+ghost use Rattle.cm_results.specs.FirstFault.{FaultsAreFirst, NoFaultIsExact, TroublesAreLast};
 ghost use Rattle.cm_results.specs.Joining.{FaultsAreExact, FrontsComeWell, RefusedForChecks, TablesChange, TablesHaveResults, WellComeIsTaken};
 
 /// Where no call for the envelopes is refused, their attempts come as they must, and the table reports of each case, in order of
@@ -42,4 +42,9 @@ pub fn no_fault_is_exact()
 /// A fault that is told is that of the first line without an envelope, or whose attempts don't come as they must.
 pub fn faults_are_first()
     ensures { FaultsAreFirst }
+{}
+
+/// A trouble is told only where no line has a fault.
+pub fn troubles_are_last()
+    ensures { TroublesAreLast }
 {}
