@@ -3,3 +3,11 @@ pub mod RepeatLemmas
 pub mod TableLaws
 pub mod WorstLemmas
 pub mod IdLaws
+pub mod Growing
+pub mod Standing
+pub mod Tracked
+pub mod Fits
+pub mod NextCall
+pub mod Accepted
+pub mod Converse
+pub mod Refused

@@ -4,11 +4,17 @@
 mod changes;
 mod checks;
 mod fault;
+mod laws;
 mod rows;
 mod status;
 mod track;
 
 pub use fault::TrackFault;
+pub use laws::{
+    accepted_is_in_order, attempts_are_numbered, attempts_never_overlap,
+    calls_are_refused_for_faults, final_attempts_are_reported, finished_attempts_are_whole,
+    open_attempts_are_counted, steps_come_in_order,
+};
 pub use status::{Status, worst};
 pub use track::Track;
 

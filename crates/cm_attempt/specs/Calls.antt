@@ -1,0 +1,165 @@
+-- Calls of a `Track` in a row, and what they tell: the cases, the attempts in order of start, and what each attempt went
+-- through. The calls are the Messages' `testCase`, `testCaseStarted`, `testStepStarted`, `testStepFinished` and
+-- `testCaseFinished`. Only `left_by` knows a table.
+use Rattle.std.specs.Prelude.{ℕ, Bool, true, false, not, List, [], ◌∷◌, ◌++◌, map, Option, Some, None, if◌then◌else◌, find}
+use Rattle.std.specs.List.{list_any, filter, filter_map, flat_map}
+use Rattle.std.specs.Option.{option_map_or, option_and_then}
+use Rattle.std.specs.Str.{bytes_eq}
+use Rattle.cm_attempt.specs.Table.{Text, Table, empty_table, add_case_fault, start_fault, step_start_fault, step_finish_fault, finish_fault}
+use Rattle.cm_attempt.specs.Table.{with_case, started, change_attempt, running, step_done, finished}
+use Rattle.cm_attempt.specs.Worst.{worst_of}
+use Rattle.cm_attempt.specs.declared.status.Status.{Status}
+use Rattle.cm_attempt.specs.declared.fault.TrackFault.{TrackFault}
+
+pub data Call : Type 0 where
+  AddCase : (id : Text) → (steps : List Text) → Call
+  Start : (id test_case : Text) → (number : ℕ) → Call
+  StartStep : (attempt step : Text) → Call
+  FinishStep : (attempt step : Text) → Status → Call
+  Finish : (attempt : Text) → (will_be_retried : Bool) → Call
+
+-- why a table refuses a call, the first reason in order
+abbrev pub refusal_of : Table → Call → Option TrackFault
+refusal_of t (AddCase id steps) = add_case_fault t id steps
+refusal_of t (Start id case number) = start_fault t id case number
+refusal_of t (StartStep attempt step) = step_start_fault t attempt step
+refusal_of t (FinishStep attempt step status) = step_finish_fault t attempt step
+refusal_of t (Finish attempt will_be_retried) = finish_fault t attempt
+
+-- the table after a call that isn't refused
+abbrev pub after_call : Table → Call → Table
+after_call t (AddCase id steps) = with_case id steps t
+after_call t (Start id case number) = started id case t
+after_call t (StartStep attempt step) = change_attempt attempt running t
+after_call t (FinishStep attempt step status) = change_attempt attempt (step_done status) t
+after_call t (Finish attempt will_be_retried) = finished attempt will_be_retried t
+
+abbrev pub unless_refused : Option TrackFault → Option Table → Option Table
+unless_refused None left = left
+unless_refused (Some fault) left = None
+
+-- the table that the calls make of a table, and none where one of them is refused
+abbrev pub left_by : Table → List Call → Option Table
+left_by t [] = Some t
+left_by t (c ∷ calls) = unless_refused (refusal_of t c) (left_by (after_call t c) calls)
+
+-- the table after the calls of a run, and none where one of them is refused
+abbrev pub table_after : List Call → Option Table
+table_after calls = left_by empty_table calls
+
+-- ---- the cases, and the attempts in order of start
+
+pub record DeclaredCase : Type 0 where
+  pub id : Text
+  pub steps : List Text
+
+pub record StartedAttempt : Type 0 where
+  pub id : Text
+  pub case_id : Text
+  pub number : ℕ
+
+abbrev pub as_case : Call → Option DeclaredCase
+as_case (AddCase id steps) = Some (record { id = id; steps = steps })
+as_case _ = None
+
+abbrev pub as_start : Call → Option StartedAttempt
+as_start (Start id case number) = Some (record { id = id; case_id = case; number = number })
+as_start _ = None
+
+abbrev pub cases : List Call → List DeclaredCase
+cases calls = filter_map as_case calls
+
+abbrev pub starts : List Call → List StartedAttempt
+starts calls = filter_map as_start calls
+
+abbrev pub declared : Text → List Call → Option DeclaredCase
+declared case calls = find (λ c. bytes_eq case c.id) (cases calls)
+
+abbrev pub start_of : Text → List Call → Option StartedAttempt
+start_of attempt calls = find (λ s. bytes_eq attempt s.id) (starts calls)
+
+-- the attempts of a case, in order of start
+abbrev pub starts_of : Text → List Call → List StartedAttempt
+starts_of case calls = filter (λ s. bytes_eq case s.case_id) (starts calls)
+
+-- the steps of a case, and those of the case of an attempt
+abbrev pub steps_of : Text → List Call → List Text
+steps_of case calls = option_map_or (λ c. c.steps) (declared case calls) []
+
+abbrev pub steps_of_attempt : Text → List Call → List Text
+steps_of_attempt attempt calls = option_map_or (λ s. steps_of s.case_id calls) (start_of attempt calls) []
+
+-- ---- what an attempt goes through
+
+pub data Move : Type 0 where
+  Started : Move
+  StepStarted : Text → Move
+  StepFinished : Text → Move
+  Ended : Move
+
+abbrev pub move_of : Text → Call → Option Move
+move_of a (Start id case number) = if bytes_eq a id then Some Started else None
+move_of a (StartStep attempt step) = if bytes_eq a attempt then Some (StepStarted step) else None
+move_of a (FinishStep attempt step status) = if bytes_eq a attempt then Some (StepFinished step) else None
+move_of a (Finish attempt will_be_retried) = if bytes_eq a attempt then Some Ended else None
+move_of a _ = None
+
+-- what the calls that name an attempt say of it
+abbrev pub moves : Text → List Call → List Move
+moves a calls = filter_map (move_of a) calls
+
+-- each step started and finished
+abbrev pub through : List Text → List Move
+through steps = flat_map (λ s. StepStarted s ∷ StepFinished s ∷ []) steps
+
+-- what an attempt of a case with these steps has to go through
+abbrev pub whole : List Text → List Move
+whole steps = Started ∷ through steps ++ Ended ∷ []
+
+abbrev pub retry_in : Text → Call → Option Bool
+retry_in a (Finish attempt will_be_retried) = if bytes_eq a attempt then Some will_be_retried else None
+retry_in a _ = None
+
+-- of each end of the attempt, whether it will be retried
+abbrev pub ends_of : Text → List Call → List Bool
+ends_of a calls = filter_map (retry_in a) calls
+
+abbrev pub is_end : Move → Bool
+is_end Ended = true
+is_end _ = false
+
+-- it is finished
+abbrev pub is_ended : Text → List Call → Bool
+is_ended a calls = list_any is_end (moves a calls)
+
+-- it is finished and will be retried
+abbrev pub is_retried : Text → List Call → Bool
+is_retried a calls = list_any (λ r. r) (ends_of a calls)
+
+-- it is finished and won't be retried
+abbrev pub is_final : Text → List Call → Bool
+is_final a calls = list_any not (ends_of a calls)
+
+abbrev pub status_in : Text → Call → Option Status
+status_in a (FinishStep attempt step status) = if bytes_eq a attempt then Some status else None
+status_in a _ = None
+
+-- the statuses of the steps of the attempt that finished
+abbrev pub statuses : Text → List Call → List Status
+statuses a calls = filter_map (status_in a) calls
+
+-- ---- the result of a case
+
+-- the last of a list
+abbrev pub last_of : {A : Type 0} → List A → Option A
+last_of [] = None
+last_of (x ∷ []) = Some x
+last_of (x ∷ y ∷ more) = last_of (y ∷ more)
+
+-- the worst status of the attempt, where it is finished and won't be retried
+abbrev pub final_status : List Call → StartedAttempt → Option Status
+final_status calls s = if is_final s.id calls then Some (worst_of (statuses s.id calls)) else None
+
+-- the worst status of the case's final attempt, which is its last, finished and not to be retried
+abbrev pub result_of : Text → List Call → Option Status
+result_of case calls = option_and_then (final_status calls) (last_of (starts_of case calls))

@@ -1,0 +1,5 @@
+pub mod Told
+pub mod Joined
+pub mod Faults
+pub mod Changes
+pub mod FirstFaults

@@ -1,0 +1,178 @@
+-- What envelopes tell is what their calls tell.
+use Rattle.std.proofs.Common.{◌≡◌, ℕ, refl, sym, ap, ◌∙◌, List, [], ◌∷◌, ◌++◌, Option, Some, None, true, false, Bool, not, map, length}
+use Rattle.std.specs.Prelude.{find, filter, filter_map, option_map, if◌then◌else◌}
+use Rattle.std.specs.List.{list_any, list_all, flat_map, cons_option}
+use Rattle.std.specs.Option.{option_map_or, option_and_then}
+use Rattle.std.specs.Str.{bytes_eq}
+use Rattle.std.proofs.lemmas.List.{map-append}
+use Rattle.cm_attempt.specs.Calls as call
+use Rattle.cm_attempt.specs.Calls.{Call, DeclaredCase, StartedAttempt}
+use Rattle.cm_attempt.specs.declared.status.Status.{Status}
+use Rattle.cm_stream.specs.Texts.{Text}
+use Rattle.cm_stream.specs.Words.{as_case, as_start, cases, starts, starts_of, find_case, steps_of, case_of, Move, Started, StepStarted, StepFinished, Ended, move_of, moves, whole, retry_in, ends_of, status_in, statuses, is_retried, is_final, last_of}
+use Rattle.cm_stream.specs.Checks.{steps_of_attempt}
+use Rattle.cm_envelope.specs.declared.envelope.Envelope.{Envelope}
+use Rattle.cm_envelope.specs.declared.envelope.Envelope.TheVariants as envelope
+use Rattle.cm_envelope.specs.declared.envelope.TestCase.{TestCase}
+use Rattle.cm_envelope.specs.declared.envelope.TestCaseStarted.{TestCaseStarted}
+use Rattle.cm_results.specs.Joining.{call_of, calls_of}
+
+-- ---- kept through two maps
+
+kept_twice : {X Y Z : Type 0} (g : X → Option Y) (h : Y → Option Z) (k : X → Option Z) → ((x : X) → option_and_then h (g x) ≡ k x) → (xs : List X) → filter_map h (filter_map g xs) ≡ filter_map k xs
+kept_twice g h k same [] = refl
+kept_twice {X} {Y} {Z} g h k same (x ∷ xs) = go (g x) refl (kept_twice g h k same xs)
+  where
+    go : (o : Option Y) → g x ≡ o → filter_map h (filter_map g xs) ≡ filter_map k xs → filter_map h (filter_map g (x ∷ xs)) ≡ filter_map k (x ∷ xs)
+    go None e rec =
+        let none : None ≡ k x = sym (ap (option_and_then h) e) ∙ same x in
+        rw (e, ← none) rec
+    go (Some y) e rec =
+        let told : h y ≡ k x = sym (ap (option_and_then h) e) ∙ same x in
+        rw (e, told) (inner (k x))
+      where
+        inner : (o : Option Z) → cons_option o (filter_map h (filter_map g xs)) ≡ cons_option o (filter_map k xs)
+        inner None = rec
+        inner (Some z) = ap (λ zs. z ∷ zs) rec
+
+kept_map : {X Y Z : Type 0} (k : X → Option Y) (f : Y → Z) (xs : List X) → filter_map (λ x. option_map f (k x)) xs ≡ map f (filter_map k xs)
+kept_map k f [] = refl
+kept_map {X} {Y} k f (x ∷ xs) = go (k x) refl (kept_map k f xs)
+  where
+    go : (o : Option Y) → k x ≡ o → filter_map (λ x. option_map f (k x)) xs ≡ map f (filter_map k xs) → filter_map (λ x. option_map f (k x)) (x ∷ xs) ≡ map f (filter_map k (x ∷ xs))
+    go None e rec = rw e rec
+    go (Some y) e rec = rw e (ap (λ ys. f y ∷ ys) rec)
+
+find_mapped : {X Y : Type 0} (f : X → Y) (p : Y → Bool) (xs : List X) → find p (map f xs) ≡ option_map f (find (λ x. p (f x)) xs)
+find_mapped f p [] = refl
+find_mapped f p (x ∷ xs) = go (p (f x)) refl (find_mapped f p xs)
+  where
+    go : (b : Bool) → p (f x) ≡ b → find p (map f xs) ≡ option_map f (find (λ x. p (f x)) xs) → find p (map f (x ∷ xs)) ≡ option_map f (find (λ x. p (f x)) (x ∷ xs))
+    go true e rec = rw e refl
+    go false e rec = rw e rec
+
+filter_mapped : {X Y : Type 0} (f : X → Y) (p : Y → Bool) (xs : List X) → filter p (map f xs) ≡ map f (filter (λ x. p (f x)) xs)
+filter_mapped f p [] = refl
+filter_mapped f p (x ∷ xs) = go (p (f x)) refl (filter_mapped f p xs)
+  where
+    go : (b : Bool) → p (f x) ≡ b → filter p (map f xs) ≡ map f (filter (λ x. p (f x)) xs) → filter p (map f (x ∷ xs)) ≡ map f (filter (λ x. p (f x)) (x ∷ xs))
+    go true e rec = rw e (ap (λ ys. f x ∷ ys) rec)
+    go false e rec = rw e rec
+
+-- ---- cases and starts
+
+abbrev pub case_told : TestCase → DeclaredCase
+case_told c = record { id = c.id; steps = map (λ s. s.id) c.test_steps }
+
+abbrev pub start_told : TestCaseStarted → StartedAttempt
+start_told s = record { id = s.id; case_id = s.test_case_id; number = s.attempt }
+
+case_same : (e : Envelope) → option_and_then call.as_case (call_of e) ≡ option_map case_told (as_case e)
+case_same (envelope.TestCase c) = refl
+case_same (envelope.TestCaseStarted s) = refl
+case_same (envelope.TestStepStarted s) = refl
+case_same (envelope.TestStepFinished s) = refl
+case_same (envelope.TestCaseFinished s) = refl
+case_same _ = refl
+
+start_same : (e : Envelope) → option_and_then call.as_start (call_of e) ≡ option_map start_told (as_start e)
+start_same (envelope.TestCase c) = refl
+start_same (envelope.TestCaseStarted s) = refl
+start_same (envelope.TestStepStarted s) = refl
+start_same (envelope.TestStepFinished s) = refl
+start_same (envelope.TestCaseFinished s) = refl
+start_same _ = refl
+
+pub cases_told : (es : List Envelope) → call.cases (calls_of es) ≡ map case_told (cases es)
+cases_told es = kept_twice call_of call.as_case (λ e. option_map case_told (as_case e)) case_same es ∙ kept_map as_case case_told es
+
+pub starts_told : (es : List Envelope) → call.starts (calls_of es) ≡ map start_told (starts es)
+starts_told es = kept_twice call_of call.as_start (λ e. option_map start_told (as_start e)) start_same es ∙ kept_map as_start start_told es
+
+pub declared_told : (case : Text) (es : List Envelope) → call.declared case (calls_of es) ≡ option_map case_told (find_case case es)
+declared_told case es = ap (find (λ (c : DeclaredCase). bytes_eq case c.id)) (cases_told es) ∙ find_mapped case_told (λ c. bytes_eq case c.id) (cases es)
+
+pub start_of_told : (a : Text) (es : List Envelope) → call.start_of a (calls_of es) ≡ option_map start_told (find (λ s. bytes_eq a s.id) (starts es))
+start_of_told a es = ap (find (λ (s : StartedAttempt). bytes_eq a s.id)) (starts_told es) ∙ find_mapped start_told (λ s. bytes_eq a s.id) (starts es)
+
+pub starts_of_told : (case : Text) (es : List Envelope) → call.starts_of case (calls_of es) ≡ map start_told (starts_of case es)
+starts_of_told case es = ap (filter (λ (s : StartedAttempt). bytes_eq case s.case_id)) (starts_told es) ∙ filter_mapped start_told (λ s. bytes_eq case s.case_id) (starts es)
+
+steps_in : (o : Option TestCase) → option_map_or (λ (c : DeclaredCase). c.steps) (option_map case_told o) [] ≡ option_map_or (λ (c : TestCase). map (λ s. s.id) c.test_steps) o []
+steps_in None = refl
+steps_in (Some c) = refl
+
+pub steps_told : (case : Text) (es : List Envelope) → call.steps_of case (calls_of es) ≡ steps_of case es
+steps_told case es = ap (λ o. option_map_or (λ (c : DeclaredCase). c.steps) o []) (declared_told case es) ∙ steps_in (find_case case es)
+
+pub attempt_steps_told : (a : Text) (es : List Envelope) → call.steps_of_attempt a (calls_of es) ≡ steps_of_attempt a es
+attempt_steps_told a es = ap (λ o. option_map_or (λ (s : StartedAttempt). call.steps_of s.case_id (calls_of es)) o []) (start_of_told a es) ∙ go (find (λ s. bytes_eq a s.id) (starts es))
+  where
+    go : (o : Option TestCaseStarted) → option_map_or (λ (s : StartedAttempt). call.steps_of s.case_id (calls_of es)) (option_map start_told o) [] ≡ option_map_or (λ c. steps_of c es) (option_map (λ (s : TestCaseStarted). s.test_case_id) o) []
+    go None = refl
+    go (Some s) = steps_told s.test_case_id es
+
+-- ---- what an attempt goes through
+
+abbrev pub move_told : Move → call.Move
+move_told Started = call.Started
+move_told (StepStarted s) = call.StepStarted s
+move_told (StepFinished s) = call.StepFinished s
+move_told Ended = call.Ended
+
+abbrev pub move_back : call.Move → Move
+move_back call.Started = Started
+move_back (call.StepStarted s) = StepStarted s
+move_back (call.StepFinished s) = StepFinished s
+move_back call.Ended = Ended
+
+pub there_and_back : (ms : List Move) → map move_back (map move_told ms) ≡ ms
+there_and_back [] = refl
+there_and_back (Started ∷ ms) = ap (λ xs. Started ∷ xs) (there_and_back ms)
+there_and_back (StepStarted s ∷ ms) = ap (λ xs. StepStarted s ∷ xs) (there_and_back ms)
+there_and_back (StepFinished s ∷ ms) = ap (λ xs. StepFinished s ∷ xs) (there_and_back ms)
+there_and_back (Ended ∷ ms) = ap (λ xs. Ended ∷ xs) (there_and_back ms)
+
+if_told : (b : Bool) (m : Move) → (if b then Some (move_told m) else None) ≡ option_map move_told (if b then Some m else None)
+if_told true m = refl
+if_told false m = refl
+
+move_same : (a : Text) (e : Envelope) → option_and_then (call.move_of a) (call_of e) ≡ option_map move_told (move_of a e)
+move_same a (envelope.TestCase c) = refl
+move_same a (envelope.TestCaseStarted s) = if_told (bytes_eq a s.id) Started
+move_same a (envelope.TestStepStarted s) = if_told (bytes_eq a s.test_case_started_id) (StepStarted s.test_step_id)
+move_same a (envelope.TestStepFinished s) = if_told (bytes_eq a s.test_case_started_id) (StepFinished s.test_step_id)
+move_same a (envelope.TestCaseFinished f) = if_told (bytes_eq a f.test_case_started_id) Ended
+move_same a _ = refl
+
+pub moves_told : (a : Text) (es : List Envelope) → call.moves a (calls_of es) ≡ map move_told (moves a es)
+moves_told a es = kept_twice call_of (call.move_of a) (λ e. option_map move_told (move_of a e)) (move_same a) es ∙ kept_map (move_of a) move_told es
+
+through_told : (steps : List Text) → map move_told (flat_map (λ s. StepStarted s ∷ StepFinished s ∷ []) steps ++ Ended ∷ []) ≡ call.through steps ++ call.Ended ∷ []
+through_told [] = refl
+through_told (s ∷ steps) = ap (λ ms. call.StepStarted s ∷ call.StepFinished s ∷ ms) (through_told steps)
+
+pub whole_told : (steps : List Text) → map move_told (whole steps) ≡ call.whole steps
+whole_told steps = ap (λ ms. call.Started ∷ ms) (through_told steps)
+
+retry_same : (a : Text) (e : Envelope) → option_and_then (call.retry_in a) (call_of e) ≡ retry_in a e
+retry_same a (envelope.TestCase c) = refl
+retry_same a (envelope.TestCaseStarted s) = refl
+retry_same a (envelope.TestStepStarted s) = refl
+retry_same a (envelope.TestStepFinished s) = refl
+retry_same a (envelope.TestCaseFinished f) = refl
+retry_same a _ = refl
+
+pub ends_told : (a : Text) (es : List Envelope) → call.ends_of a (calls_of es) ≡ ends_of a es
+ends_told a es = kept_twice call_of (call.retry_in a) (retry_in a) (retry_same a) es
+
+status_same : (a : Text) (e : Envelope) → option_and_then (call.status_in a) (call_of e) ≡ status_in a e
+status_same a (envelope.TestCase c) = refl
+status_same a (envelope.TestCaseStarted s) = refl
+status_same a (envelope.TestStepStarted s) = refl
+status_same a (envelope.TestStepFinished s) = refl
+status_same a (envelope.TestCaseFinished f) = refl
+status_same a _ = refl
+
+pub statuses_told : (a : Text) (es : List Envelope) → call.statuses a (calls_of es) ≡ statuses a es
+statuses_told a es = kept_twice call_of (call.status_in a) (status_in a) (status_same a) es

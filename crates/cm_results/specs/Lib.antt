@@ -1,0 +1,3 @@
+pub mod Results
+pub mod Joining
+pub mod FirstFault
