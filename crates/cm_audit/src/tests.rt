@@ -8,6 +8,7 @@ use std::alloc::Global;
 use std::process::Abort;
 use std::test::Fail;
 
+mod pickles;
 mod read_back;
 
 const EMPTY_LINES: &str =
