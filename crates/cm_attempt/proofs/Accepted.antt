@@ -1,21 +1,18 @@
 -- What holds of calls that were all accepted, and of the table that they left.
-use Rattle.std.proofs.Common.{◌≡◌, ℕ, suc, refl, sym, ap, ◌∙◌, subst, List, [], ◌∷◌, ◌++◌, Option, Some, None, true, false, Bool, not, ◌||◌, length, map, append-nil, append_assoc, arith}
-use Rattle.std.specs.Prelude.{find, is_some, unwrap_or, filter, count_by, option_and_then}
+use Rattle.std.proofs.Common.{◌≡◌, ℕ, suc, refl, sym, ap, ◌∙◌, subst, List, [], ◌∷◌, ◌++◌, Option, Some, None, true, false, Bool, not, length, map, append-nil, append_assoc}
+use Rattle.std.specs.Prelude.{find, is_some, unwrap_or, filter, option_and_then}
 use Rattle.std.specs.List.{list_any, list_all, AllByRecursion}
-use Rattle.std.specs.Option.{option_map_or}
 use Rattle.std.specs.Str.{bytes_eq}
 use Rattle.std.proofs.lemmas.List.Sums.{length-filter}
-use Rattle.cm_attempt.specs.Table.{Text, CaseRow, AttemptRow, Table, empty_table, has_text, has_repeat, find_case, find_attempt, is_closed_to_new, status_of_last, reported_of, open_count}
-use Rattle.cm_attempt.specs.Worst.{worst_of}
-use Rattle.cm_attempt.specs.declared.status.Status.{Status}
+use Rattle.cm_attempt.specs.Table.{Text, AttemptRow, Table, empty_table, has_text, has_repeat, find_attempt, is_closed_to_new, status_of_last, reported_of}
 use Rattle.cm_attempt.specs.declared.rows.Last.{Last}
 use Rattle.cm_attempt.specs.declared.fault.TrackFault.{TrackFault}
-use Rattle.cm_attempt.specs.Calls.{Call, AddCase, Start, StartStep, FinishStep, Finish, refusal_of, after_call, unless_refused, left_by, table_after, StartedAttempt, cases, starts, declared, start_of, starts_of, steps_of_attempt, moves, whole, ends_of, is_ended, is_retried, last_of, final_status, result_of}
+use Rattle.cm_attempt.specs.Calls.{Call, AddCase, Start, StartStep, FinishStep, Finish, refusal_of, after_call, unless_refused, left_by, table_after, StartedAttempt, starts, starts_of, steps_of_attempt, moves, whole, ends_of, is_ended, is_retried, last_of, final_status, result_of}
 use Rattle.cm_attempt.specs.CallLaws.{IsFront, CasesKnown, AreNumbered, NoneOverlaps, StepsInOrder, FinishedAreWhole, IdsDistinct, ComeInOrder, HasCases, Reports, CountsOpen}
-use Rattle.cm_attempt.proofs.Growing.{bytes_same, bytes_are, by_id, or_false, all_weaker}
+use Rattle.cm_attempt.proofs.Growing.{bytes_same, by_id, or_false, all_weaker}
 use Rattle.cm_attempt.proofs.Standing.{left_of, open_is, whole_if_ended}
 use Rattle.cm_attempt.proofs.Fits.{StartFits, start_fits}
-use Rattle.cm_attempt.proofs.Tracked.{AttemptIs, unstarted, begun, Begun, begun_of, Retried, left_as, Latest, none_yet, one_open, last_over, CaseIs, undeclared, known, Known, known_of, Tracked}
+use Rattle.cm_attempt.proofs.Tracked.{AttemptIs, unstarted, begun, Begun, begun_of, Retried, Latest, none_yet, one_open, last_over, CaseIs, undeclared, known, Known, known_of, Tracked}
 use Rattle.cm_attempt.proofs.NextCall.{case_added, attempt_started, step_started, step_finished, attempt_finished}
 
 pub none_tracked : Tracked [] empty_table

@@ -1,5 +1,5 @@
 -- Calls that come as they must are accepted.
-use Rattle.std.proofs.Common.{◌≡◌, ℕ, refl, sym, ap, ◌∙◌, subst, ◌≢◌, List, [], ◌∷◌, ◌++◌, Option, Some, None, true, false, Bool, not, ◌||◌, ◌==◌, length, length-append, map, append_assoc, arith}
+use Rattle.std.proofs.Common.{◌≡◌, ℕ, refl, sym, ap, ◌∙◌, subst, ◌≢◌, List, [], ◌∷◌, ◌++◌, Option, Some, None, true, false, Bool, ◌||◌, ◌==◌, length, length-append, map, append_assoc, arith}
 use Rattle.std.specs.Prelude.{find, is_some, slice_get, unwrap_or}
 use Rattle.std.specs.List.{list_any, list_all, AllByRecursion}
 use Rattle.std.specs.Option.{option_map_or}
@@ -7,20 +7,17 @@ use Rattle.std.specs.Str.{bytes_eq}
 use Rattle.std.proofs.lemmas.Bool.Decides.{nat_tests}
 use Rattle.std.proofs.lemmas.List.{append_cancel_left}
 use Rattle.std.proofs.lemmas.List.Folds.{list_any-append}
-use Rattle.cm_attempt.specs.Table.{Text, CaseRow, AttemptRow, Table, empty_table, has_text, has_repeat, find_case, find_attempt, steps_of, add_case_fault, start_fault, start_fault_at, step_start_fault, step_finish_fault, step_fault_at, step_fault_of, finish_fault, finish_fault_at, end_fault_of, may_start, may_finish, is_closed_to_new}
+use Rattle.cm_attempt.specs.Table.{Text, AttemptRow, Table, empty_table, has_text, has_repeat, find_attempt, steps_of, add_case_fault, start_fault, step_start_fault, step_finish_fault, step_fault_at, finish_fault, finish_fault_at, end_fault_of, may_start, may_finish, is_closed_to_new}
 use Rattle.cm_attempt.specs.declared.rows.Cursor.{Cursor}
 use Rattle.cm_attempt.specs.declared.status.Status.{Status}
 use Rattle.cm_attempt.specs.declared.rows.Last.{Last}
-use Rattle.cm_attempt.specs.declared.rows.Last.TheVariants as last
-use Rattle.cm_attempt.specs.declared.fault.TrackFault.{TrackFault}
-use Rattle.cm_attempt.specs.declared.fault.TrackFault.TheVariants as fault
 use Rattle.cm_attempt.specs.Calls.{Call, AddCase, Start, StartStep, FinishStep, Finish, refusal_of, after_call, left_by, table_after, DeclaredCase, StartedAttempt, as_case, as_start, cases, starts, declared, start_of, starts_of, steps_of_attempt, Move, Started, StepStarted, StepFinished, Ended, move_of, moves, through, whole, ends_of, is_retried}
 use Rattle.cm_attempt.specs.CallLaws.{IsFront, ComeInOrder}
-use Rattle.cm_attempt.proofs.Growing.{bytes_same, bytes_are, by_id, or_false, at_end, kept_cut}
+use Rattle.cm_attempt.proofs.Growing.{bytes_same, by_id, or_false, at_end, kept_cut}
 use Rattle.cm_attempt.proofs.Standing.{cursor_at, Stands, between, inside, over, rest_of, left_is}
-use Rattle.cm_attempt.proofs.Tracked.{AttemptIs, unstarted, begun, Begun, Retried, Latest, none_yet, one_open, last_over, CaseIs, undeclared, known, Known, Tracked, start_still, declared_still}
+use Rattle.cm_attempt.proofs.Tracked.{AttemptIs, unstarted, begun, Begun, Latest, none_yet, one_open, last_over, CaseIs, undeclared, known, Tracked, start_still, declared_still}
 use Rattle.cm_attempt.proofs.NextCall.{steps_are}
-use Rattle.cm_attempt.proofs.Accepted.{none_tracked, one_more, its_steps, last_all}
+use Rattle.cm_attempt.proofs.Accepted.{none_tracked, one_more, last_all}
 
 -- ---- lists that are cut at an element
 

@@ -1,5 +1,5 @@
 -- What a call finds in the table that doesn't refuse it.
-use Rattle.std.proofs.Common.{◌≡◌, ℕ, refl, sym, ap, ◌∙◌, List, Option, Some, None, true, false, Bool, not, ◌||◌, ◌==◌, arith}
+use Rattle.std.proofs.Common.{◌≡◌, ℕ, refl, List, Option, Some, None, true, false, Bool, not, ◌||◌, ◌==◌, arith}
 use Rattle.std.specs.Prelude.{is_some, if◌then◌else◌}
 use Rattle.std.proofs.lemmas.Bool.Decides.{nat_tests}
 use Rattle.cm_attempt.specs.Table.{Text, CaseRow, AttemptRow, Table, has_text, has_repeat, find_case, find_attempt, steps_of, add_case_fault, start_fault, start_fault_at, is_closed_to_new, step_fault_at, step_fault_of, end_fault_of, finish_fault, finish_fault_at}

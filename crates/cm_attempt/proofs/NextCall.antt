@@ -1,11 +1,10 @@
 -- What one more call that isn't refused makes of what the calls tell, and of the table.
-use Rattle.std.proofs.Common.{◌≡◌, ℕ, ◌+◌, refl, sym, ap, ◌∙◌, subst, List, [], ◌∷◌, ◌++◌, Option, Some, None, true, false, Bool, length, length-append, map, append-nil, arith}
-use Rattle.std.specs.Prelude.{find, is_some, option_map, unwrap_or, filter, filter_map}
+use Rattle.std.proofs.Common.{◌≡◌, ℕ, ◌+◌, refl, sym, ap, ◌∙◌, subst, List, [], ◌∷◌, ◌++◌, Option, Some, None, true, false, Bool, length, length-append, map}
+use Rattle.std.specs.Prelude.{find, is_some, option_map, unwrap_or}
 use Rattle.std.specs.List.{AllByRecursion}
-use Rattle.std.specs.Option.{option_map_or, option_or}
+use Rattle.std.specs.Option.{option_map_or}
 use Rattle.std.specs.Str.{bytes_eq}
 use Rattle.std.proofs.lemmas.List.{map-append}
-use Rattle.std.proofs.lemmas.List.Elements.{filter_map-append}
 use Rattle.std.proofs.lemmas.List.Folds.{find-append}
 use Rattle.std.proofs.lemmas.List.Sums.{fold_push}
 use Rattle.cm_attempt.specs.Table.{Text, CaseRow, AttemptRow, Table, has_repeat, find_case, find_attempt, steps_of, add_case_fault, start_fault, step_start_fault, step_finish_fault, finish_fault, is_closed_to_new}
@@ -16,13 +15,13 @@ use Rattle.cm_attempt.specs.declared.status.Status.TheVariants.{Passed}
 use Rattle.cm_attempt.specs.declared.rows.Cursor.{Cursor}
 use Rattle.cm_attempt.specs.declared.rows.Last.{Last}
 use Rattle.cm_attempt.specs.declared.rows.Last.TheVariants as last
-use Rattle.cm_attempt.specs.Calls.{Call, AddCase, Start, StartStep, FinishStep, Finish, DeclaredCase, StartedAttempt, as_case, as_start, cases, starts, declared, start_of, starts_of, Move, Started, StepStarted, StepFinished, Ended, move_of, moves, retry_in, ends_of, status_in, statuses}
+use Rattle.cm_attempt.specs.Calls.{Call, AddCase, Start, StartStep, FinishStep, Finish, DeclaredCase, StartedAttempt, as_case, as_start, cases, starts, start_of, starts_of, Move, Started, StepStarted, StepFinished, Ended, move_of, moves, retry_in, ends_of, status_in, statuses}
 use Rattle.cm_attempt.proofs.Growing.{bytes_same, bytes_are, by_id, kept_more, kept_push, all_push, still_found, found_new, found_past, find_all, find_passes, find_kept, found_changed, found_elsewhere, same_ids}
 use Rattle.cm_attempt.proofs.IdLaws.{distinct_after_change, distinct_after_push}
-use Rattle.cm_attempt.proofs.Standing.{cursor_at, Stands, between, step_starts, step_finishes, attempt_ends, not_over}
-use Rattle.cm_attempt.proofs.Fits.{CaseFits, case_fits, StartFits, start_fits, StepFits, step_fits, EndFits, end_fits}
-use Rattle.cm_attempt.proofs.Tracked.{is_of, Unstarted, Begun, AttemptIs, begun, begun_of, new_of, Retried, left_as, Latest, none_yet, one_open, last_over, Known, known, CaseIs, known_of, undeclared_of, Tracked}
-use Rattle.cm_attempt.proofs.Tracked.{start_still, declared_still, starts_both, starts_same, stands_as, KeepsSteps, keeps_same, keeps_changed, carry_attempt, LeavesLatest, still_retried, carry_case}
+use Rattle.cm_attempt.proofs.Standing.{Stands, between, step_starts, step_finishes, attempt_ends, not_over}
+use Rattle.cm_attempt.proofs.Fits.{CaseFits, case_fits, StartFits, start_fits, step_fits, end_fits}
+use Rattle.cm_attempt.proofs.Tracked.{is_of, Begun, AttemptIs, begun, begun_of, new_of, Retried, left_as, Latest, none_yet, one_open, last_over, known, CaseIs, known_of, undeclared_of, Tracked}
+use Rattle.cm_attempt.proofs.Tracked.{start_still, declared_still, starts_both, starts_same, stands_as, KeepsSteps, keeps_same, keeps_changed, carry_attempt, still_retried, carry_case}
 
 -- ---- a case is added
 

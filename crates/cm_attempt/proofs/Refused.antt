@@ -1,20 +1,20 @@
 -- A call is refused for what the calls before it tell.
 use Rattle.std.proofs.Common.{◌≡◌, ℕ, refl, sym, ap, ◌∙◌, List, [], ◌∷◌, ◌++◌, Option, Some, None, true, false, Bool, not, ◌||◌, ◌==◌, length, append-nil, arith}
-use Rattle.std.specs.Prelude.{is_some, slice_get, unwrap_or, if◌then◌else◌}
+use Rattle.std.specs.Prelude.{is_some, slice_get, if◌then◌else◌}
 use Rattle.std.specs.List.{list_any, list_all}
 use Rattle.std.specs.Option.{option_map_or}
 use Rattle.std.specs.Str.{bytes_eq}
 use Rattle.std.proofs.lemmas.Bool.Decides.{nat_tests}
-use Rattle.cm_attempt.specs.Table.{Text, AttemptRow, Table, has_text, has_repeat, find_case, find_attempt, steps_of, start_fault_at, step_fault_at, step_fault_of, finish_fault_at, end_fault_of, may_start, may_finish, is_closed_to_new}
+use Rattle.cm_attempt.specs.Table.{Text, Table, has_text, has_repeat, find_case, find_attempt, steps_of, start_fault_at, step_fault_at, step_fault_of, finish_fault_at, end_fault_of, may_start, may_finish, is_closed_to_new}
 use Rattle.cm_attempt.specs.declared.rows.Cursor.{Cursor}
 use Rattle.cm_attempt.specs.declared.rows.Last.{Last}
 use Rattle.cm_attempt.specs.declared.fault.TrackFault.{TrackFault}
 use Rattle.cm_attempt.specs.declared.fault.TrackFault.TheVariants as fault
-use Rattle.cm_attempt.specs.Calls.{Call, AddCase, Start, StartStep, FinishStep, Finish, refusal_of, StartedAttempt, declared, start_of, starts_of, steps_of_attempt, Move, StepStarted, StepFinished, Ended, moves, whole, ends_of, is_end, is_ended, is_retried}
+use Rattle.cm_attempt.specs.Calls.{Call, AddCase, Start, StartStep, FinishStep, Finish, refusal_of, StartedAttempt, declared, start_of, starts_of, steps_of_attempt, Move, StepStarted, StepFinished, Ended, moves, whole, ends_of, is_ended, is_retried}
 use Rattle.cm_attempt.specs.CallFaults.{same_move, is_next_move, step_fault, fault_of, RefusedForFault}
 use Rattle.cm_attempt.proofs.Growing.{at_end}
-use Rattle.cm_attempt.proofs.Standing.{cursor_at, Stands, between, inside, over, rest_of, left_is, some_left, open_is}
-use Rattle.cm_attempt.proofs.Tracked.{AttemptIs, unstarted, begun, Begun, Latest, none_yet, one_open, last_over, CaseIs, undeclared, known, Tracked}
+use Rattle.cm_attempt.proofs.Standing.{Stands, between, inside, over, rest_of, left_is, some_left, open_is}
+use Rattle.cm_attempt.proofs.Tracked.{AttemptIs, unstarted, begun, Latest, none_yet, one_open, last_over, CaseIs, undeclared, known, Tracked}
 use Rattle.cm_attempt.proofs.NextCall.{steps_are}
 use Rattle.cm_attempt.proofs.Accepted.{tracked, its_steps, last_all, all_then}
 

@@ -1,20 +1,18 @@
 -- How far an attempt has come in what it has to go through, and what its cursor lets it do next.
-use Rattle.std.proofs.Common.{◌≡◌, ℕ, ◌+◌, refl, sym, ap, ◌∙◌, subst, List, [], ◌∷◌, ◌++◌, Option, Some, None, true, false, Bool, not, ◌==◌, length, length-append, append-nil, append_assoc, arith}
+use Rattle.std.proofs.Common.{◌≡◌, ℕ, refl, sym, ap, ◌∙◌, List, [], ◌∷◌, ◌++◌, Option, Some, None, true, false, Bool, not, ◌==◌, length, length-append, append-nil, append_assoc, arith}
 use Rattle.std.specs.Prelude.{slice_get, is_some, option_map}
 use Rattle.std.specs.List.{list_any}
 use Rattle.std.specs.Option.{option_map_or}
 use Rattle.std.specs.Str.{bytes_eq}
 use Rattle.std.proofs.lemmas.Bool.Decides.{nat_tests}
 use Rattle.std.proofs.lemmas.Grind.{flat_map-append}
-use Rattle.std.proofs.lemmas.List.{append_cancel_left}
 use Rattle.std.proofs.lemmas.List.Folds.{list_any-append}
-use Rattle.cm_attempt.specs.Table.{Text, has_text, running_cursor, after_step, may_start, may_finish, end_fault_of}
+use Rattle.cm_attempt.specs.Table.{Text, running_cursor, after_step, may_start, may_finish, end_fault_of}
 use Rattle.cm_attempt.specs.declared.rows.Cursor.{Cursor}
-use Rattle.cm_attempt.specs.declared.fault.TrackFault.{TrackFault}
 use Rattle.cm_attempt.specs.declared.fault.TrackFault.TheVariants as fault
 use Rattle.cm_attempt.specs.Calls.{Move, Started, StepStarted, StepFinished, Ended, through, whole, is_end}
 use Rattle.cm_attempt.specs.CallLaws.{IsFront}
-use Rattle.cm_attempt.proofs.Growing.{at_end, bytes_are, bytes_same, or_false}
+use Rattle.cm_attempt.proofs.Growing.{at_end, bytes_are}
 
 abbrev pub cursor_at : ℕ → Bool → Cursor
 cursor_at finished is_running = record { finished = finished; is_running = is_running }

@@ -1,6 +1,6 @@
 -- What the calls so far tell, against the rows of the table that they left.
-use Rattle.std.proofs.Common.{◌≡◌, ℕ, ◌+◌, refl, sym, ap, ◌∙◌, subst, List, [], ◌∷◌, ◌++◌, Option, Some, None, true, false, Bool, length, map, append-nil}
-use Rattle.std.specs.Prelude.{find, unwrap_or, option_map, filter, filter_map}
+use Rattle.std.proofs.Common.{◌≡◌, refl, sym, ap, ◌∙◌, subst, List, [], ◌∷◌, ◌++◌, Option, Some, None, true, false, Bool, length, map, append-nil}
+use Rattle.std.specs.Prelude.{find, unwrap_or, option_map, filter}
 use Rattle.std.specs.List.{AllByRecursion}
 use Rattle.std.specs.Str.{bytes_eq}
 use Rattle.std.proofs.lemmas.List.Elements.{filter_map-append, filter-append}
@@ -12,7 +12,7 @@ use Rattle.cm_attempt.specs.declared.rows.Cursor.{Cursor}
 use Rattle.cm_attempt.specs.declared.rows.Last.{Last}
 use Rattle.cm_attempt.specs.declared.rows.Last.TheVariants as last
 use Rattle.cm_attempt.specs.Calls.{Call, DeclaredCase, StartedAttempt, as_case, as_start, cases, starts, declared, start_of, starts_of, Move, move_of, moves, retry_in, ends_of, status_in, statuses}
-use Rattle.cm_attempt.proofs.Growing.{bytes_same, bytes_are, by_id, kept_more, kept_push, all_weaker, still_found, found_new, found_past, find_all, find_passes, found_changed, found_elsewhere}
+use Rattle.cm_attempt.proofs.Growing.{by_id, kept_more, all_weaker, still_found, found_changed, found_elsewhere}
 use Rattle.cm_attempt.proofs.Standing.{Stands}
 
 abbrev pub is_of : Text → StartedAttempt → Bool

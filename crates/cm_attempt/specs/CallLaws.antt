@@ -1,8 +1,8 @@
 -- What the calls of a run tell where none is refused, for every interleaving of attempts, and what their table shows of it.
-use Rattle.std.specs.Prelude.{◌≡◌, ◌↔◌, ℕ, true, false, not, List, [], ◌∷◌, ◌++◌, map, length, Option, Some, is_some, count_by}
+use Rattle.std.specs.Prelude.{◌≡◌, ℕ, true, false, not, List, ◌∷◌, ◌++◌, map, length, Some, is_some, count_by}
 use Rattle.std.specs.List.{list_all, AllByRecursion}
 use Rattle.cm_attempt.specs.Table.{Text, Table, has_repeat, open_count, reported_of}
-use Rattle.cm_attempt.specs.Calls.{Call, Start, table_after, cases, starts, declared, starts_of, steps_of_attempt, Move, moves, whole, ends_of, is_ended, is_retried, result_of}
+use Rattle.cm_attempt.specs.Calls.{Call, Start, table_after, cases, starts, declared, starts_of, steps_of_attempt, moves, whole, ends_of, is_ended, is_retried, result_of}
 
 -- the list begins so
 abbrev pub IsFront : {A : Type 0} → List A → List A → Type 0

@@ -1,7 +1,7 @@
 -- Calls of a `Track` in a row, and what they tell: the cases, the attempts in order of start, and what each attempt went
 -- through. The calls are the Messages' `testCase`, `testCaseStarted`, `testStepStarted`, `testStepFinished` and
 -- `testCaseFinished`. Only `left_by` knows a table.
-use Rattle.std.specs.Prelude.{ℕ, Bool, true, false, not, List, [], ◌∷◌, ◌++◌, map, Option, Some, None, if◌then◌else◌, find}
+use Rattle.std.specs.Prelude.{ℕ, Bool, true, false, not, List, [], ◌∷◌, ◌++◌, Option, Some, None, if◌then◌else◌, find}
 use Rattle.std.specs.List.{list_any, filter, filter_map, flat_map}
 use Rattle.std.specs.Option.{option_map_or, option_and_then}
 use Rattle.std.specs.Str.{bytes_eq}

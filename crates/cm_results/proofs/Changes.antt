@@ -1,6 +1,6 @@
 -- What one more envelope makes of the table, and of attempts that come as they must.
 use Rattle.std.proofs.Common.{◌≡◌, refl, sym, ap, ◌∙◌, List, [], ◌∷◌, ◌++◌, Option, Some, None, true, false, Bool, not, ◌||◌, ◌==◌, length, map, ◌↔◌, unwrap_or}
-use Rattle.std.specs.Prelude.{is_some, filter_map, if◌then◌else◌}
+use Rattle.std.specs.Prelude.{is_some, if◌then◌else◌}
 use Rattle.std.specs.List.{list_all}
 use Rattle.std.specs.Option.{option_and_then}
 use Rattle.std.proofs.lemmas.List.Elements.{filter_map-append}

@@ -5,7 +5,7 @@ use Rattle.std.specs.List.{list_any, list_all}
 use Rattle.std.specs.Option.{option_map_or, option_and_then}
 use Rattle.std.specs.Str.{bytes_eq}
 use Rattle.std.proofs.lemmas.Bool.Decides.{nat_tests}
-use Rattle.cm_attempt.specs.Table.{Table, has_text, has_repeat, find_case as case_in}
+use Rattle.cm_attempt.specs.Table.{has_text, has_repeat, find_case as case_in}
 use Rattle.cm_attempt.specs.Calls as call
 use Rattle.cm_attempt.specs.Calls.{Call, refusal_of, table_after}
 use Rattle.cm_attempt.specs.CallFaults as calls
@@ -34,8 +34,7 @@ use Rattle.cm_envelope.specs.declared.envelope.Envelope.TheVariants as envelope
 use Rattle.cm_envelope.specs.declared.envelope.TestCase.{TestCase}
 use Rattle.cm_envelope.specs.declared.envelope.TestCaseStarted.{TestCaseStarted}
 use Rattle.cm_envelope.specs.declared.envelope.TestCaseFinished.{TestCaseFinished}
-use Rattle.cm_results.specs.Results.{AttemptsComeWell}
-use Rattle.cm_results.specs.Joining.{call_of, calls_of, RefusedForChecks}
+use Rattle.cm_results.specs.Joining.{calls_of, RefusedForChecks}
 use Rattle.cm_results.proofs.Told.{start_told, start_of_told, attempt_steps_told, move_told, moves_told, whole_told}
 use Rattle.cm_results.proofs.Joined.{some_told, some_mapped, long_told, retried_told, tables_have_results}
 

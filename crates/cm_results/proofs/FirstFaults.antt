@@ -6,9 +6,9 @@ use Rattle.cm_envelope.specs.Reading.{Fault as LineFault, envelope_of_line}
 use Rattle.cm_envelope.specs.declared.envelope.Envelope.{Envelope}
 use Rattle.cm_envelope.specs.declared.feed.Trouble.{Trouble}
 use Rattle.cm_stream.specs.Findings.{Finding, IsBad, fault_of_line}
-use Rattle.cm_stream.specs.Stream.{Told, At, Troubled, NoFault, at_line, shown, fed, numbered, read_line, as_read, envelopes, IsRead}
+use Rattle.cm_stream.specs.Stream.{At, Troubled, NoFault, at_line, fed, numbered, read_line, as_read, envelopes}
 use Rattle.cm_results.specs.Results.{AttemptsComeWell}
-use Rattle.cm_results.specs.FirstFault.{fault, told_line, told_of, told, IsWell, FaultOf, IsFirstFault, IsTroubled, NoFaultIsExact, FaultsAreFirst, TroublesAreLast}
+use Rattle.cm_results.specs.FirstFault.{fault, told_line, told_of, told, IsWell, FaultOf, NoFaultIsExact, FaultsAreFirst, TroublesAreLast}
 use Rattle.cm_results.proofs.Joined.{tables_have_results, fronts_come_well}
 use Rattle.cm_results.proofs.Changes.{faults_are_exact}
 

@@ -1,6 +1,6 @@
 -- The attempts of a stream come as they must exactly where no call is refused, and the table reports the results.
-use Rattle.std.proofs.Common.{◌≡◌, ℕ, suc, refl, sym, ap, ◌∙◌, subst, List, [], ◌∷◌, ◌++◌, Option, Some, None, true, false, Bool, not, ◌&&◌, map, length, unwrap_or}
-use Rattle.std.specs.Prelude.{find, is_some, filter, filter_map, option_map, if◌then◌else◌}
+use Rattle.std.proofs.Common.{◌≡◌, ℕ, suc, refl, sym, ap, ◌∙◌, subst, List, [], ◌∷◌, ◌++◌, Option, Some, None, true, false, not, ◌&&◌, map, length, unwrap_or}
+use Rattle.std.specs.Prelude.{is_some, filter_map, option_map, if◌then◌else◌}
 use Rattle.std.specs.List.{list_any, list_all, AllByRecursion}
 use Rattle.std.specs.Option.{option_and_then}
 use Rattle.std.proofs.lemmas.List.{map-append}
@@ -9,13 +9,12 @@ use Rattle.cm_attempt.specs.Table.{Table, has_repeat, reported_of, empty_table}
 use Rattle.cm_attempt.specs.Worst.{worst_of}
 use Rattle.cm_attempt.specs.Calls as call
 use Rattle.cm_attempt.specs.Calls.{Call, Start, DeclaredCase, StartedAttempt, table_after}
-use Rattle.cm_attempt.specs.CallLaws.{IsFront, IdsDistinct, ComeInOrder, AtEachStart}
-use Rattle.cm_attempt.specs.declared.status.Status.{Status}
+use Rattle.cm_attempt.specs.CallLaws.{IsFront, ComeInOrder, AtEachStart}
 use Rattle.cm_attempt.proofs.Growing.{kept_cut}
 use Rattle.cm_attempt.proofs.Accepted.{come_in_order, has_cases, reports, cut_at}
 use Rattle.cm_attempt.proofs.Converse.{are_accepted}
 use Rattle.cm_stream.specs.Texts.{Text}
-use Rattle.cm_stream.specs.Words.{as_start, cases, starts, starts_of, find_case, moves, whole, ends_of, statuses, is_retried, is_final, last_of}
+use Rattle.cm_stream.specs.Words.{cases, starts, starts_of, find_case, moves, whole, is_retried, last_of}
 use Rattle.cm_stream.specs.Good.{Everywhere, RetryGood}
 use Rattle.cm_stream.specs.Checks.{steps_of_attempt}
 use Rattle.cm_envelope.specs.declared.envelope.Envelope.{Envelope}

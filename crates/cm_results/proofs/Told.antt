@@ -1,15 +1,13 @@
 -- What envelopes tell is what their calls tell.
-use Rattle.std.proofs.Common.{◌≡◌, ℕ, refl, sym, ap, ◌∙◌, List, [], ◌∷◌, ◌++◌, Option, Some, None, true, false, Bool, not, map, length}
+use Rattle.std.proofs.Common.{◌≡◌, refl, sym, ap, ◌∙◌, List, [], ◌∷◌, ◌++◌, Option, Some, None, true, false, Bool, map}
 use Rattle.std.specs.Prelude.{find, filter, filter_map, option_map, if◌then◌else◌}
-use Rattle.std.specs.List.{list_any, list_all, flat_map, cons_option}
+use Rattle.std.specs.List.{flat_map, cons_option}
 use Rattle.std.specs.Option.{option_map_or, option_and_then}
 use Rattle.std.specs.Str.{bytes_eq}
-use Rattle.std.proofs.lemmas.List.{map-append}
 use Rattle.cm_attempt.specs.Calls as call
 use Rattle.cm_attempt.specs.Calls.{Call, DeclaredCase, StartedAttempt}
-use Rattle.cm_attempt.specs.declared.status.Status.{Status}
 use Rattle.cm_stream.specs.Texts.{Text}
-use Rattle.cm_stream.specs.Words.{as_case, as_start, cases, starts, starts_of, find_case, steps_of, case_of, Move, Started, StepStarted, StepFinished, Ended, move_of, moves, whole, retry_in, ends_of, status_in, statuses, is_retried, is_final, last_of}
+use Rattle.cm_stream.specs.Words.{as_case, as_start, cases, starts, starts_of, find_case, steps_of, Move, Started, StepStarted, StepFinished, Ended, move_of, moves, whole, retry_in, ends_of, status_in, statuses}
 use Rattle.cm_stream.specs.Checks.{steps_of_attempt}
 use Rattle.cm_envelope.specs.declared.envelope.Envelope.{Envelope}
 use Rattle.cm_envelope.specs.declared.envelope.Envelope.TheVariants as envelope
