@@ -1,5 +1,6 @@
 pub mod Calls
 pub mod Choosing
+pub mod Compiles
 pub mod Lines
 pub mod Runs
 pub mod TextLemmas

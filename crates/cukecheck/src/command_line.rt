@@ -1,17 +1,19 @@
 //! The command line: what the words after the program's name ask for.
-ghost use Rattle.std.specs.Prelude.{◌≡◌, IfOk, map};
+ghost use Rattle.std.specs.Prelude.{◌≡◌, IfOk, map, option_map};
 ghost use Rattle.clap.specs.Words.{app_of, kind_of, subcommand_rows_of};
-ghost use Rattle.cukecheck.specs.CommandLine.{Chooses, choice_of, command_app, named};
+ghost use Rattle.cukecheck.specs.CommandLine.{Chooses, asked, command_app, command_of, named};
 
 use clap::error::ErrorKind;
-use clap::{ArgMatches, Command, Error};
+use clap::{Arg, ArgAction, ArgMatches, Command, Error};
 use std::alloc::{AllocError, Global};
 
 /// What the words ask for.
 #[derive(Clone, Copy, Debug, PartialEq, Eq)]
-pub enum Choice {
+pub enum Choice<'a> {
     /// What a feature file is.
     Parse,
+    /// The message lines of a feature file, with its uri.
+    Compile(&'a str),
     /// The table of the test cases of a stream.
     Results,
 }
@@ -32,7 +34,14 @@ fn command<'a>(alloc: Global) -> Result<Command<'a>, AllocError>
 {
     let bare = Command::new(alloc, "cukecheck").subcommand_required(true);
     let with_parse = bare.subcommand(Command::new(alloc, "parse"))?;
-    with_parse.subcommand(Command::new(alloc, "results"))
+    let uri = Arg::new(alloc, "uri")
+        .long("uri")
+        .required(true)
+        .action(ArgAction::Set);
+    let compile = Command::new(alloc, "compile").arg(uri)?;
+    let with_compile = with_parse.subcommand(compile)?;
+    let with_results = with_compile.subcommand(Command::new(alloc, "results"))?;
+    Ok(with_results)
 }
 
 fn refusal_of(alloc: Global, error: &Error) -> Refusal
@@ -51,12 +60,15 @@ fn refusal_of(alloc: Global, error: &Error) -> Refusal
     }
 }
 
-fn chosen(matches: &ArgMatches<'_>) -> Option<Choice>
-    ensures { result ≡ named (subcommand_rows_of matches.now) }
+fn chosen<'a>(matches: &ArgMatches<'a>) -> Option<Choice<'a>>
+    ensures { option_map asked result ≡ named (subcommand_rows_of matches.now) }
 {
-    let (name, _) = matches.subcommand()?;
+    let (name, values) = matches.subcommand()?;
     if name == "parse" {
         return Some(Choice::Parse);
+    }
+    if name == "compile" {
+        return Some(Choice::Compile(values.get_str("uri")?));
     }
     if name == "results" {
         return Some(Choice::Results);
@@ -68,8 +80,8 @@ fn chosen(matches: &ArgMatches<'_>) -> Option<Choice>
 ///
 /// # Errors
 /// The text for the user where the words name no command, or ask for help.
-pub fn choose<'a>(alloc: Global, words: &'a [&'a str]) -> Result<Choice, Refusal>
-    ensures { Chooses (choice_of (map (λ w. w.now) words.entry.now)) result }
+pub fn choose<'a>(alloc: Global, words: &'a [&'a str]) -> Result<Choice<'a>, Refusal>
+    ensures { Chooses (command_of (map (λ w. w.now) words.entry.now)) result }
 {
     let Ok(command) = command(alloc) else {
         return Err(Refusal::Memory);

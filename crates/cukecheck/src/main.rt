@@ -2,6 +2,7 @@
 #![tactic(auto)]
 
 mod command_line;
+mod compiled;
 mod fault;
 mod feature;
 mod parsed;

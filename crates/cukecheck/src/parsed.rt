@@ -1,10 +1,13 @@
 //! What the command `parse` tells of a feature file.
-ghost use Rattle.std.specs.Prelude.{◌≡◌, IfOk, string_bytes};
+ghost use Rattle.std.specs.Prelude.{◌≡◌, ◌≢◌, ◌⊎◌, IfOk, string_bytes};
+ghost use Rattle.cukecheck.specs.Run.{NoneFailed, TellsFault};
+ghost use Rattle.cukecheck.specs.declared.feature.FeatureFault.TheVariants.{Memory};
 ghost use Rattle.cukecheck.specs.Features.{answer_status, answer_text, document_text, fault_status, fault_text, kind_label, refused_text};
 
 use crate::feature::FeatureFault;
 use crate::report::Report;
-use crate::write::TROUBLE_STATUS;
+use crate::write::{NO_MEMORY, TROUBLE_STATUS, write_text};
+use cm_envelope::ByteSink;
 use gk_document::Document;
 use gk_grammar::FaultKind;
 use gk_tree::ParseFault;
@@ -81,5 +84,19 @@ pub fn parse_report(
             status: 0,
         }),
         Err(fault) => fault_report(alloc, *fault),
+    }
+}
+
+/// Tells why a feature file gave no document, and gives the status.
+pub fn tell_fault<W: ByteSink>(alloc: Global, fault: FeatureFault, sink: &mut W) -> u8
+    ensures told { NoneFailed (W.failed_calls sink.old) (W.failed_calls sink.new)
+        → TellsFault fault result (W.taken sink.old) (W.taken sink.new)
+        ⊎ TellsFault Memory result (W.taken sink.old) (W.taken sink.new) }
+    ensures unwritten { W.failed_calls sink.new ≢ W.failed_calls sink.old → result ≡ TROUBLE_STATUS }
+    ensures some { result ≢ 0 }
+{
+    match fault_report(alloc, fault) {
+        Ok(report) => write_text(sink, report.text.as_str(), report.status),
+        Err(AllocError) => write_text(sink, NO_MEMORY, TROUBLE_STATUS),
     }
 }

@@ -1,19 +1,19 @@
 //! One command, from the words to the status.
-ghost use Rattle.std.specs.Prelude.{◌≡◌, ◌≢◌, ◌∷◌, ◌++◌, IfOk, IfSome, None, Some, codes, map};
-ghost use Rattle.cukecheck.specs.CommandLine.{choice_of};
+ghost use Rattle.std.specs.Prelude.{◌≡◌, ◌≢◌, ◌∷◌, ◌++◌, ℕ, List, IfOk, IfSome, None, Some, codes, map};
+ghost use Rattle.cukecheck.specs.CommandLine.{ask_compile, ask_parse, ask_results, command_of};
 ghost use Rattle.cukecheck.specs.Outcome.{outcome_of};
-ghost use Rattle.cukecheck.specs.Run.{NoneFailed, TellsFeature, TellsOrNoMemory};
+ghost use Rattle.cukecheck.specs.Run.{Compiles, NoneFailed, TellsFeature, TellsOrNoMemory};
 
 use crate::command_line::{Choice, Refusal, choose};
-use crate::feature::read_document;
-use crate::parsed::parse_report;
+use crate::compiled::compile_text;
+use crate::feature::{FeatureFault, read_document};
+use crate::parsed::{parse_report, tell_fault};
 use crate::report::report_of;
 use crate::stream::read_stream;
-use crate::write::{TROUBLE_STATUS, write_text};
+use crate::text::read_text;
+use crate::write::{NO_MEMORY, TROUBLE_STATUS, write_text};
 use cm_envelope::{ByteSink, ByteSource};
 use std::alloc::{AllocError, Global};
-
-const NO_MEMORY: &str = "trouble Memory\n";
 
 /// The status of a usage fault.
 const USAGE_STATUS: u8 = 2;
@@ -57,6 +57,19 @@ fn parse<R: ByteSource, W: ByteSink>(alloc: Global, source: &mut R, sink: &mut W
     }
 }
 
+fn compile<R: ByteSource, W: ByteSink>(alloc: Global, uri: &str, source: &mut R, sink: &mut W) -> u8
+    ensures told { NoneFailed (R.failed_calls source.old) (R.failed_calls source.new)
+        → NoneFailed (W.failed_calls sink.old) (W.failed_calls sink.new)
+        → IfSome (R.to_come source.old) (λ bytes. Compiles uri.now bytes result (W.taken sink.old) (W.taken sink.new)) }
+    ensures unwritten { W.failed_calls sink.new ≢ W.failed_calls sink.old → result ≡ 3 }
+    ensures unread { result ≡ 0 → R.failed_calls source.new ≡ R.failed_calls source.old }
+{
+    match read_text(alloc, source) {
+        Ok(text) => compile_text(alloc, uri, text.as_str(), sink),
+        Err(fault) => tell_fault(alloc, FeatureFault::from(fault), sink),
+    }
+}
+
 /// Runs the command that the words after the program's name ask for, and gives the exit status: 0 where it is done,
 /// 1 where a line of the stream is bad or a feature file is refused, 2 for a mistake in the words, 3 for trouble. The output is built whole, then
 /// written, then flushed, and no read and no write is repeated.
@@ -66,19 +79,24 @@ pub fn run<R: ByteSource, W: ByteSink>(
     source: &mut R,
     sink: &mut W,
 ) -> u8
-    ensures results { choice_of (codes "cukecheck" ∷ map (λ w. w.now) words.now) ≡ Some Choice.Results
+    ensures results { command_of (codes "cukecheck" ∷ map (λ w. w.now) words.now) ≡ Some ask_results
         → NoneFailed (R.failed_calls source.old) (R.failed_calls source.new)
         → NoneFailed (W.failed_calls sink.old) (W.failed_calls sink.new)
         → IfSome (R.to_come source.old) (λ bytes.
         TellsOrNoMemory (outcome_of bytes) result (W.taken sink.old) (W.taken sink.new)) }
 
-    ensures parse { choice_of (codes "cukecheck" ∷ map (λ w. w.now) words.now) ≡ Some Choice.Parse
+    ensures parse { command_of (codes "cukecheck" ∷ map (λ w. w.now) words.now) ≡ Some ask_parse
         → NoneFailed (R.failed_calls source.old) (R.failed_calls source.new)
         → NoneFailed (W.failed_calls sink.old) (W.failed_calls sink.new)
         → IfSome (R.to_come source.old) (λ bytes. TellsFeature bytes result (W.taken sink.old) (W.taken sink.new)) }
 
+    ensures compile { (uri : List ℕ) → command_of (codes "cukecheck" ∷ map (λ w. w.now) words.now) ≡ Some (ask_compile uri)
+        → NoneFailed (R.failed_calls source.old) (R.failed_calls source.new)
+        → NoneFailed (W.failed_calls sink.old) (W.failed_calls sink.new)
+        → IfSome (R.to_come source.old) (λ bytes. Compiles uri bytes result (W.taken sink.old) (W.taken sink.new)) }
+
     // Words that ask for no command leave the source alone.
-    ensures refused { choice_of (codes "cukecheck" ∷ map (λ w. w.now) words.now) ≡ None → source.new ≡ source.old }
+    ensures refused { command_of (codes "cukecheck" ∷ map (λ w. w.now) words.now) ≡ None → source.new ≡ source.old }
 
     // A failed write or flush is seen in the status, and so is a failed read.
     ensures unwritten { W.failed_calls sink.new ≢ W.failed_calls sink.old → result ≡ 3 }
@@ -89,6 +107,7 @@ pub fn run<R: ByteSource, W: ByteSink>(
     };
     match choose(alloc, all.as_slice()) {
         Ok(Choice::Parse) => parse(alloc, source, sink),
+        Ok(Choice::Compile(uri)) => compile(alloc, uri, source, sink),
         Ok(Choice::Results) => results(alloc, source, sink),
         Err(Refusal::Usage(text)) => write_text(sink, text.as_str(), USAGE_STATUS),
         Err(Refusal::Help(text)) => write_text(sink, text.as_str(), 0),

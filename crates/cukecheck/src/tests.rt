@@ -1,4 +1,5 @@
 // Runs over readers and writers in memory.
+mod compiled;
 mod features;
 
 ghost use Rattle.std.specs.Prelude.{Some, string_bytes};

@@ -1,13 +1,16 @@
 //! Writing a whole text to a sink.
-ghost use Rattle.std.specs.Prelude.{◌≡◌, ◌≢◌, ◌⊎◌, OnErr, OnOk};
+ghost use Rattle.std.specs.Prelude.{◌≡◌, ◌≢◌, ◌≤◌, ◌⊎◌, OnErr, OnOk};
 ghost use Rattle.std.specs.Io.KnownBytes.{Appends};
-ghost use Rattle.cm_envelope.specs.Device.{count_up};
+ghost use Rattle.cm_envelope.specs.Device.{count_up, greatest_count};
 ghost use Rattle.cukecheck.specs.Run.{NoneFailed};
 
 use cm_envelope::{ByteSink, DeviceFailed};
 
 /// The status where something outside the words and the stream failed.
 pub const TROUBLE_STATUS: u8 = 3;
+
+/// What is told where memory was refused.
+pub const NO_MEMORY: &str = "trouble Memory\n";
 
 /// Writes all the bytes. No write is repeated, and one that takes nothing has failed.
 fn write_all<W: ByteSink>(sink: &mut W, bytes: &[u8]) -> Result<(), DeviceFailed>
@@ -26,6 +29,17 @@ fn write_all<W: ByteSink>(sink: &mut W, bytes: &[u8]) -> Result<(), DeviceFailed
     Ok(())
 }
 
+/// Tries to write `trouble WriteFailed`, as far as the sink takes it.
+pub fn tell_write_failed<W: ByteSink>(sink: &mut W) -> u8
+    ensures status { result ≡ TROUBLE_STATUS }
+    ensures counted { W.failed_calls sink.old ≤ greatest_count → W.failed_calls sink.old ≤ W.failed_calls sink.new }
+{
+    if write_all(sink, b"trouble WriteFailed\n").is_ok() {
+        let _ = sink.flush().is_ok();
+    }
+    TROUBLE_STATUS
+}
+
 /// Writes the text and flushes it, and gives the status, or `TROUBLE_STATUS` where a write or the flush failed. After a
 /// failed write it tries to write `trouble WriteFailed`, as far as the sink takes it.
 pub fn write_text<W: ByteSink>(sink: &mut W, text: &str, status: u8) -> u8
@@ -39,11 +53,6 @@ pub fn write_text<W: ByteSink>(sink: &mut W, text: &str, status: u8) -> u8
             Ok(()) => status,
             Err(DeviceFailed) => TROUBLE_STATUS,
         },
-        Err(DeviceFailed) => {
-            if write_all(sink, b"trouble WriteFailed\n").is_ok() {
-                let _ = sink.flush().is_ok();
-            }
-            TROUBLE_STATUS
-        }
+        Err(DeviceFailed) => tell_write_failed(sink),
     }
 }

@@ -1,3 +1,4 @@
+use Rattle.cukecheck.proofs.Compiles.{memory_told}
 use Rattle.cukecheck.proofs.Runs.{feature_no_memory, tells_no_memory}
 use Rattle.cukecheck.proofs.run.run.Goals as goal
 
@@ -15,3 +16,13 @@ pub returns-clause-parse : goal.returns-clause-parse
 returns-clause-parse g c = λ asked none written.
     let told = c.write_text-in-Err-Memory.ensures.written written in
     feature_no_memory (g.R.ByteSource.to_come c.args.source.now) _ _ _ told.0 told.1
+
+pub returns-in_default-clause-compile : goal.returns-in_default-clause-compile
+returns-in_default-clause-compile g c = λ uri asked none written.
+    let told = c.write_text.ensures.written written in
+    memory_told (g.R.ByteSource.to_come c.args.source.now) _ _ uri _ told.0 told.1
+
+pub returns-clause-compile : goal.returns-clause-compile
+returns-clause-compile g c = λ uri asked none written.
+    let told = c.write_text-in-Err-Memory.ensures.written written in
+    memory_told (g.R.ByteSource.to_come c.args.source.now) _ _ uri _ told.0 told.1
