@@ -1,3 +1,4 @@
+pub mod Answer
 pub mod CommandLine
 pub mod Faults
 pub mod Features

@@ -1,5 +1,7 @@
 //! One command, from the words to the status.
 ghost use Rattle.std.specs.Prelude.{◌≡◌, ◌≢◌, ◌∷◌, ◌++◌, ℕ, List, IfOk, IfSome, None, Some, codes, map};
+ghost use Rattle.cm_results.specs.FirstFault.{told};
+ghost use Rattle.cukecheck.specs.Answer.{AnswersOrNoMemory};
 ghost use Rattle.cukecheck.specs.CommandLine.{ask_compile, ask_parse, ask_results, command_of};
 ghost use Rattle.cukecheck.specs.Outcome.{outcome_of};
 ghost use Rattle.cukecheck.specs.Run.{Compiles, NoneFailed, TellsFeature, TellsOrNoMemory};
@@ -83,7 +85,7 @@ pub fn run<R: ByteSource, W: ByteSink>(
         → NoneFailed (R.failed_calls source.old) (R.failed_calls source.new)
         → NoneFailed (W.failed_calls sink.old) (W.failed_calls sink.new)
         → IfSome (R.to_come source.old) (λ bytes.
-        TellsOrNoMemory (outcome_of bytes) result (W.taken sink.old) (W.taken sink.new)) }
+        AnswersOrNoMemory (told bytes) result (W.taken sink.old) (W.taken sink.new)) }
 
     ensures parse { command_of (codes "cukecheck" ∷ map (λ w. w.now) words.now) ≡ Some ask_parse
         → NoneFailed (R.failed_calls source.old) (R.failed_calls source.new)

@@ -1,3 +1,4 @@
+use Rattle.cukecheck.proofs.Answered.{answers_told}
 use Rattle.cukecheck.proofs.Compiles.{memory_told}
 use Rattle.cukecheck.proofs.Runs.{feature_no_memory, tells_no_memory}
 use Rattle.cukecheck.proofs.run.run.Goals as goal
@@ -7,10 +8,13 @@ returns-in_default-clause-parse g c = λ asked none written.
     let told = c.write_text.ensures.written written in
     feature_no_memory (g.R.ByteSource.to_come c.args.source.now) _ _ _ told.0 told.1
 
+pub returns-in-Ok-Results-clause-results : goal.returns-in-Ok-Results-clause-results
+returns-in-Ok-Results-clause-results g c = λ asked none written. answers_told (g.R.ByteSource.to_come c.args.source.now) _ _ _ (c.results.ensures.told none written)
+
 pub returns-clause-results : goal.returns-clause-results
 returns-clause-results g c = λ asked none written.
     let told = c.write_text-in-Err-Memory.ensures.written written in
-    tells_no_memory (g.R.ByteSource.to_come c.args.source.now) _ _ _ told.0 told.1
+    answers_told (g.R.ByteSource.to_come c.args.source.now) _ _ _ (tells_no_memory (g.R.ByteSource.to_come c.args.source.now) _ _ _ told.0 told.1)
 
 pub returns-clause-parse : goal.returns-clause-parse
 returns-clause-parse g c = λ asked none written.
