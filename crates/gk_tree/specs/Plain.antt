@@ -16,6 +16,7 @@ use Rattle.gk_tree.specs.declared.parts.Rule.TheVariants as rule
 
 -- ---- lines
 
+-- what a line is, without its words
 abbrev pub kind_of : Line → Kind
 kind_of (line n t i Blank) = kind.Blank
 kind_of (line n t i Comment) = kind.Comment
@@ -49,6 +50,7 @@ IsRowOf count r = OneLine (λ l. (length r.cells ≡ count) × IsRow r l)
 abbrev pub Bare : Piece → Unit {0} → Piece
 Bare P u = P
 
+-- the blocks without their tags, and without their title lines and descriptions
 abbrev pub IsUntaggedExamples : Heading × Option ExampleTable → Piece
 IsUntaggedExamples x = IsHeading block.Examples x.0 ⨾ AtMostOne IsExampleTable x.1
 
@@ -73,6 +75,7 @@ IsBelowFeature x = AtMostOne IsBackground x.0 ⨾ Each IsScenario x.1.0 ⨾ Each
 abbrev pub IsUntaggedFeature : Heading × (Option Background × (List Scenario × List Rule)) → Piece
 IsUntaggedFeature x = IsHeading block.Feature x.0 ⨾ AtMostOne IsBackground x.1.0 ⨾ Each IsScenario x.1.1.0 ⨾ Each IsRule x.1.1.1
 
+-- the front of a text up to the language line, and a feature behind its opening
 abbrev pub IsSpokenGap : Unit {0} → Piece
 IsSpokenGap u = IsPlainGap ⨾ OneLine IsEnglish
 
@@ -119,6 +122,7 @@ Is part.FeatureText = Has IsWithFeature
 
 -- ---- rules
 
+-- how the lines of a part are cut
 abbrev pub rule_of : Part → Cutting
 rule_of part.PlainGap = rule.Lines
 rule_of part.EnglishLine = rule.Lines
