@@ -9,7 +9,7 @@ use std::process::Abort;
 use std::test::Fail;
 
 mod pickles;
-mod read_back;
+mod skeletons;
 
 const EMPTY_LINES: &str =
     r#"{"source":{"data":"","mediaType":"text/x.cucumber.gherkin+plain","uri":"e.feature"}}
