@@ -1,6 +1,7 @@
 // Runs over readers and writers in memory.
 mod compiled;
 mod features;
+mod retries;
 
 ghost use Rattle.std.specs.Prelude.{Some, string_bytes};
 
