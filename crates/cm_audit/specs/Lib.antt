@@ -1,3 +1,9 @@
 pub mod Faults
-pub mod Compiled
 pub mod Writing
+pub mod Due
+pub mod Stops
+pub mod AcceptedSource
+pub mod Kept
+pub mod State
+pub mod Audit
+pub mod Judging

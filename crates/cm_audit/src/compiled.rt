@@ -10,7 +10,7 @@ ghost use Rattle.gk_pickle.specs.Json.{pickle_data};
 ghost use Rattle.gk_pickle.specs.TreeJson.{source_data, document_data};
 ghost use Rattle.cm_envelope.specs.Device.{count_up};
 ghost use Rattle.cm_audit.specs.declared.fault.CompileFault.TheVariants.{Parse, WriteFailed};
-ghost use Rattle.cm_audit.specs.Compiled.{json_line, id_count, pickle_lines, compiled_lines, IsCompiledOf, HasLines};
+ghost use Rattle.cm_good.specs.Compiled.{json_line, id_count, pickle_lines, compiled_lines, IsCompiledOf, HasLines};
 ghost use Rattle.cm_audit.specs.Faults.{IsRefusedWith};
 ghost use Rattle.cm_audit.specs.Writing.{AppendsFront};
 

@@ -4,6 +4,7 @@
 -- `stepDefinition` and `hook` by their `id`, a pickle with the ids of its steps.
 use Rattle.std.specs.Prelude.{◌||◌, ℕ, Bool, false, List, [], ◌∷◌, ◌++◌, Option, None, Some, is_some, if◌then◌else◌, find}
 use Rattle.std.specs.List.{list_any}
+use Rattle.std.specs.Option.{option_map_or}
 use Rattle.std.specs.Str.{bytes_eq}
 use Rattle.cm_refs.specs.declared.fault.RefFault.{RefFault}
 use Rattle.cm_refs.specs.declared.fault.RefFault.TheVariants as fault
@@ -45,6 +46,10 @@ has_repeat (text ∷ rest) = has_text text rest || has_repeat rest
 
 abbrev pub find_pickle : Declarations → Text → Option PickleRow
 find_pickle d id = find (λ p. bytes_eq id p.id) d.pickles
+
+-- the ids of the pickle's steps, and none of a pickle that isn't declared
+abbrev pub steps_of : Declarations → Text → List Text
+steps_of d id = option_map_or (λ p. p.steps) (find_pickle d id) []
 
 -- ---- refusals
 

@@ -1,12 +1,12 @@
 //! The declarations of a stream.
 ghost use Rattle.std.specs.Prelude.{◌≡◌, ◌⊎◌, IfSome, IsErrAnd, IsOkUnless, MatchOption, OnErr, OnOk, map, option_map};
 ghost use Rattle.std.specs.String.{string_bytes};
-ghost use Rattle.cm_refs.specs.Declarations.{find_pickle, has_text, name_fault, no_declarations, pickle_fault};
+ghost use Rattle.cm_refs.specs.Declarations.{find_pickle, has_text, name_fault, no_declarations, pickle_fault, steps_of as steps_in};
 ghost use Rattle.cm_refs.specs.Declarations.{with_definition, with_document, with_hook, with_pickle, with_source};
 
 use crate::fault::RefFault;
 use crate::names::{Names, contains, declare, distinct_texts};
-use crate::pickles::{Pickles, append, steps_of};
+use crate::pickles::{Pickles, append, has_step, steps_of};
 use indexmap::{IndexMap, IndexSet};
 use std::alloc::Global;
 use std::marker::Model;
@@ -171,5 +171,12 @@ impl Declared {
             Some(steps) => Some(steps.as_slice()),
             None => None,
         }
+    }
+
+    /// Whether the pickle is declared and has the step.
+    pub fn has_step(&self, pickle: &str, step: &str) -> bool
+        ensures { result ≡ has_text step.now (steps_in self.now pickle.now) }
+    {
+        has_step(&self.pickles, pickle, step)
     }
 }

@@ -1,10 +1,12 @@
 //! Pickles by their ids.
 ghost use Rattle.std.specs.Prelude.{◌≡◌, ◌++◌, ◌∷◌, [], None, OnErr, OnOk, find, map, option_map};
+ghost use Rattle.std.specs.Option.{option_map_or};
 ghost use Rattle.std.specs.Str.{bytes_eq};
 ghost use Rattle.std.specs.String.{string_bytes};
+ghost use Rattle.cm_refs.specs.Declarations.{has_text};
 ghost use Rattle.cm_refs.specs.Rows.{pickle_row, pickle_rows};
 
-use crate::names::Names;
+use crate::names::{Names, contains};
 use indexmap::IndexMap;
 use std::alloc::{AllocError, Global};
 
@@ -16,6 +18,17 @@ pub(crate) fn steps_of<'a>(pickles: &'a Pickles, id: &str) -> Option<&'a Names>
         ≡ find (λ p. bytes_eq id.now p.id) (pickle_rows pickles.now.entries) }
 {
     pickles.get(id)
+}
+
+/// Whether there is such a pickle and it has the step.
+pub(crate) fn has_step(pickles: &Pickles, id: &str, step: &str) -> bool
+    ensures { result ≡ has_text step.now
+        (option_map_or (λ p. p.steps) (find (λ p. bytes_eq id.now p.id) (pickle_rows pickles.now.entries)) []) }
+{
+    match steps_of(pickles, id) {
+        Some(steps) => contains(steps, step),
+        None => false,
+    }
 }
 
 /// Appends a pickle whose id is new.

@@ -70,5 +70,8 @@ fn a_pickle_has_distinct_steps(rt: HostRuntime) -> Result<(), Fail> {
         let first = declared.pickle(id).and_then(|steps| steps.first());
         assert_eq!(rt; first.map(|step| step.as_str()), known);
     }
+    assert!(rt; declared.has_step("p", "s"));
+    assert!(rt; !declared.has_step("p", "t"));
+    assert!(rt; !declared.has_step("q", "s"));
     Ok(())
 }

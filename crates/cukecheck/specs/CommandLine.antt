@@ -14,12 +14,14 @@ use Rattle.cukecheck.specs.declared.command_line.Refusal.TheVariants as refusal
 pub data Command : Type 0 where
   ask_parse : Command
   ask_compile : List ℕ → Command
+  ask_audit : Command
   ask_results : Command
 
 -- the command, as the code holds it
 abbrev pub asked : Choice → Command
 asked choice.Parse = ask_parse
 asked (choice.Compile uri) = ask_compile uri.now
+asked choice.Audit = ask_audit
 asked choice.Results = ask_results
 
 -- `--uri URI`, which must be given
@@ -45,15 +47,20 @@ uri_app = with_rule (new_app (codes "compile")) uri_rule
 abbrev pub compile_app : App
 compile_app = with_subcommand parse_app uri_app.top
 
--- the program with its commands `parse`, `compile --uri URI` and `results`
+-- the program with its commands `parse`, `compile --uri URI` and `audit`
+abbrev pub audit_app : App
+audit_app = with_subcommand compile_app (new_app (codes "audit")).top
+
+-- the program with all its commands: `parse`, `compile --uri URI`, `audit` and `results`
 abbrev pub command_app : App
-command_app = with_subcommand compile_app (new_app (codes "results")).top
+command_app = with_subcommand audit_app (new_app (codes "results")).top
 
 -- the command of this name, with the values that stand behind it
 abbrev pub command_named : Text → List Row → Option Command
 command_named name rows =
     if bytes_eq name (codes "parse") then Some ask_parse
     else if bytes_eq name (codes "compile") then option_map ask_compile (first_of (codes "uri") rows)
+    else if bytes_eq name (codes "audit") then Some ask_audit
     else if bytes_eq name (codes "results") then Some ask_results
     else None
 

@@ -7,3 +7,4 @@ pub mod Reading
 pub mod Run
 pub mod Statuses
 pub mod Texts
+pub mod Audited

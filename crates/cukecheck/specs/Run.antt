@@ -5,7 +5,7 @@ use Rattle.cm_envelope.specs.Device.{greatest_count}
 use Rattle.cm_envelope.specs.declared.feed.Trouble.TheVariants.{Memory}
 use Rattle.gk_grammar.specs.Tree.{Document}
 use Rattle.cukecheck.specs.declared.feature.FeatureFault.{FeatureFault}
-use Rattle.cm_audit.specs.Compiled.{IsCompiledOf}
+use Rattle.cm_good.specs.Compiled.{IsCompiledOf}
 use Rattle.cukecheck.specs.Features.{IsAnswer, IsFaultOf, IsReadable, answer_status, answer_text, fault_status, fault_text}
 use Rattle.cukecheck.specs.Outcome.{Outcome, trouble, text_of, status_of}
 

@@ -14,6 +14,8 @@ pub enum Choice<'a> {
     Parse,
     /// The message lines of a feature file, with its uri.
     Compile(&'a str),
+    /// The verdict on a stream.
+    Audit,
     /// The table of the test cases of a stream.
     Results,
 }
@@ -40,7 +42,8 @@ fn command<'a>(alloc: Global) -> Result<Command<'a>, AllocError>
         .action(ArgAction::Set);
     let compile = Command::new(alloc, "compile").arg(uri)?;
     let with_compile = with_parse.subcommand(compile)?;
-    let with_results = with_compile.subcommand(Command::new(alloc, "results"))?;
+    let with_audit = with_compile.subcommand(Command::new(alloc, "audit"))?;
+    let with_results = with_audit.subcommand(Command::new(alloc, "results"))?;
     Ok(with_results)
 }
 
@@ -69,6 +72,9 @@ fn chosen<'a>(matches: &ArgMatches<'a>) -> Option<Choice<'a>>
     }
     if name == "compile" {
         return Some(Choice::Compile(values.get_str("uri")?));
+    }
+    if name == "audit" {
+        return Some(Choice::Audit);
     }
     if name == "results" {
         return Some(Choice::Results);

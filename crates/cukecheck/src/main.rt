@@ -1,6 +1,7 @@
 //! `cukecheck`: reads Cucumber Messages or a feature file from standard input, and tells of them on standard output.
 #![tactic(auto)]
 
+mod audited;
 mod command_line;
 mod compiled;
 mod fault;

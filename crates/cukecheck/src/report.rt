@@ -12,7 +12,7 @@ use cm_envelope::Trouble;
 use std::alloc::{AllocError, Global};
 
 /// The status where a line of the stream is bad.
-const BAD_LINE_STATUS: u8 = 1;
+pub const BAD_LINE_STATUS: u8 = 1;
 
 /// What a run tells.
 #[derive(Drop)]
@@ -21,7 +21,8 @@ pub struct Report {
     pub status: u8,
 }
 
-fn name_of(trouble: Trouble) -> &'static str
+/// The name of a trouble.
+pub fn name_of(trouble: Trouble) -> &'static str
     ensures { result.now ≡ trouble_name trouble }
 {
     match trouble {

@@ -1,11 +1,15 @@
 //! One command, from the words to the status.
 ghost use Rattle.std.specs.Prelude.{◌≡◌, ◌≢◌, ◌∷◌, ◌++◌, ℕ, List, IfOk, IfSome, None, Some, codes, map};
 ghost use Rattle.cm_results.specs.FirstFault.{told};
+ghost use Rattle.cm_stream.specs.Stream as stream;
+ghost use Rattle.cm_stream.specs.Stream.{answer_for};
 ghost use Rattle.cukecheck.specs.Answer.{AnswersOrNoMemory};
-ghost use Rattle.cukecheck.specs.CommandLine.{ask_compile, ask_parse, ask_results, command_of};
+ghost use Rattle.cukecheck.specs.CommandLine.{ask_audit, ask_compile, ask_parse, ask_results, command_of};
+ghost use Rattle.cukecheck.specs.Audited.{IsGoodSomehow, TellsVerdict};
 ghost use Rattle.cukecheck.specs.Outcome.{outcome_of};
 ghost use Rattle.cukecheck.specs.Run.{Compiles, NoneFailed, TellsFeature, TellsOrNoMemory};
 
+use crate::audited::audit_stream;
 use crate::command_line::{Choice, Refusal, choose};
 use crate::compiled::compile_text;
 use crate::feature::{FeatureFault, read_document};
@@ -73,7 +77,8 @@ fn compile<R: ByteSource, W: ByteSink>(alloc: Global, uri: &str, source: &mut R,
 }
 
 /// Runs the command that the words after the program's name ask for, and gives the exit status: 0 where it is done,
-/// 1 where a line of the stream is bad or a feature file is refused, 2 for a mistake in the words, 3 for trouble. The output is built whole, then
+/// 1 where a line of the stream is bad or a feature file is refused, 2 for a mistake in the words, 3 for trouble, 4 for a
+/// stream that is not judged. The output is built whole, then
 /// written, then flushed, and no read and no write is repeated.
 pub fn run<R: ByteSource, W: ByteSink>(
     alloc: Global,
@@ -86,6 +91,15 @@ pub fn run<R: ByteSource, W: ByteSink>(
         → NoneFailed (W.failed_calls sink.old) (W.failed_calls sink.new)
         → IfSome (R.to_come source.old) (λ bytes.
         AnswersOrNoMemory (told bytes) result (W.taken sink.old) (W.taken sink.new)) }
+
+    // The verdict is that of the stream over all its lines, and status 0 is for good streams alone.
+    ensures audit { command_of (codes "cukecheck" ∷ map (λ w. w.now) words.now) ≡ Some ask_audit
+        → NoneFailed (R.failed_calls source.old) (R.failed_calls source.new)
+        → NoneFailed (W.failed_calls sink.old) (W.failed_calls sink.new)
+        → IfSome (R.to_come source.old) (λ bytes.
+        TellsVerdict (answer_for (stream.told bytes)) result (W.taken sink.old) (W.taken sink.new)) }
+    ensures good { command_of (codes "cukecheck" ∷ map (λ w. w.now) words.now) ≡ Some ask_audit
+        → result ≡ 0 → IfSome (R.to_come source.old) IsGoodSomehow }
 
     ensures parse { command_of (codes "cukecheck" ∷ map (λ w. w.now) words.now) ≡ Some ask_parse
         → NoneFailed (R.failed_calls source.old) (R.failed_calls source.new)
@@ -110,6 +124,7 @@ pub fn run<R: ByteSource, W: ByteSink>(
     match choose(alloc, all.as_slice()) {
         Ok(Choice::Parse) => parse(alloc, source, sink),
         Ok(Choice::Compile(uri)) => compile(alloc, uri, source, sink),
+        Ok(Choice::Audit) => audit_stream(alloc, source, sink),
         Ok(Choice::Results) => results(alloc, source, sink),
         Err(Refusal::Usage(text)) => write_text(sink, text.as_str(), USAGE_STATUS),
         Err(Refusal::Help(text)) => write_text(sink, text.as_str(), 0),

@@ -1,6 +1,8 @@
 // Runs over readers and writers in memory.
+mod audits;
 mod compiled;
 mod features;
+mod fronts;
 mod retries;
 
 ghost use Rattle.std.specs.Prelude.{Some, string_bytes};
@@ -150,15 +152,22 @@ fn stream(alloc: Global, lines: &[&str]) -> Result<String, AllocError> {
     Ok(text)
 }
 
-fn expect_results(rt: &impl Abort, alloc: Global, bytes: &[u8], text: &str, status: u8) {
-    let mut source = whole(bytes);
+fn expect_told(
+    rt: &impl Abort,
+    alloc: Global,
+    word: &str,
+    source: Source<'_>,
+    text: &str,
+    status: u8,
+) {
+    let mut source = source;
     let mut sink = taking(alloc, 7);
-    assert_eq!(rt;
-        run(alloc, &["results"], &mut source, &mut sink),
-        status,
-        "{text}"
-    );
+    assert_eq!(rt; run(alloc, &[word], &mut source, &mut sink), status);
     assert_eq!(rt; sink.taken.as_slice(), text.as_bytes());
+}
+
+fn expect_results(rt: &impl Abort, alloc: Global, bytes: &[u8], text: &str, status: u8) {
+    expect_told(rt, alloc, "results", whole(bytes), text, status);
 }
 
 fn expect_lines(
@@ -335,7 +344,7 @@ fn a_flush_that_fails(rt: HostRuntime) {
 fn words_that_ask_for_no_command(rt: HostRuntime) {
     let cases: [(&[&str], u8); 9] = [
         (&[], 2),
-        (&["audit"], 2),
+        (&["audit", "x"], 2),
         (&["parse", "x"], 2),
         (&["results", "x"], 2),
         (&["help", "x"], 2),

@@ -56,7 +56,7 @@ fn done_line(alloc: Global, attempt: &str, is_retried: &str) -> Result<String, F
     )?)
 }
 
-fn line_of(alloc: Global, word: &str) -> Result<String, Fail> {
+pub(crate) fn line_of(alloc: Global, word: &str) -> Result<String, Fail> {
     let (kind, rest) = word.split_once(':').unwrap_or(("-", ""));
     let (id, rest) = rest.split_once(':').unwrap_or(("", ""));
     match kind {

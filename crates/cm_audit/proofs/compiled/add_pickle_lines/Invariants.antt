@@ -1,6 +1,6 @@
 use Rattle.std.proofs.Common.{◌≡◌, ◌++◌, ◌+◌, drop}
 use Rattle.std.specs.List.{sum_by}
-use Rattle.cm_audit.specs.Compiled.{id_count, pickle_lines}
+use Rattle.cm_good.specs.Compiled.{id_count, pickle_lines}
 use Rattle.cm_audit.proofs.compiled.add_pickle_lines.Given as goal
 
 abbrev pub invariant-pickles : goal.invariant-pickles

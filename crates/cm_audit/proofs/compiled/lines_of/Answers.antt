@@ -1,8 +1,9 @@
 use Rattle.std.proofs.Common.{◌<◌, ◌+◌, ◌∙◌, List, sym, subst}
 use Rattle.std.specs.List.{sum_by}
 use Rattle.gk_pickle.specs.declared.pickle.Pickle.{Pickle}
-use Rattle.cm_audit.specs.Compiled.{id_count}
-use Rattle.cm_audit.proofs.Ids.{ids_fit, within_limit}
+use Rattle.cm_good.specs.Compiled.{id_count}
+use Rattle.cm_good.proofs.Ids.{ids_fit}
+use Rattle.cm_audit.proofs.Limits.{within_limit}
 use Rattle.cm_audit.proofs.compiled.lines_of.Goals as goal
 
 pub add_pickle_lines-requires : goal.add_pickle_lines-requires

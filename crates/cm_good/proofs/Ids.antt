@@ -1,21 +1,19 @@
 -- The ids of a text's nodes and pickles fit.
-use Rattle.std.proofs.Common.{◌≡◌, ℕ, ◌+◌, ◌*◌, ◌<◌, ◌≤◌, ◌^◌, List, [], ◌∷◌, length, inl, arith}
-use Rattle.std.specs.Prelude.{◌↔◌, Ok, Err}
+use Rattle.std.proofs.Common.{◌≡◌, ℕ, ◌+◌, ◌*◌, ◌<◌, ◌≤◌, ◌^◌, List, [], ◌∷◌, length, arith}
 use Rattle.std.specs.List.{sum_by, AllByRecursion}
 use Rattle.std.specs.Str.{IsUtf8}
 use Rattle.std.proofs.lemmas.List.Sums.{sum_by-cons}
 use Rattle.std.proofs.lemmas.Nat.{mul-le}
 use Rattle.gk_document.specs.declared.tree.Document.{Document}
 use Rattle.gk_grammar.specs.Grammar.{feature_nodes}
-use Rattle.gk_grammar.specs.Documents.{IsDocumentOf, IsTooLong}
-use Rattle.gk_tree.specs.Views.{too_long}
+use Rattle.gk_grammar.specs.Documents.{IsDocumentOf}
 use Rattle.gk_grammar.proofs.LawLemmas.{no_more_nodes_than_bytes_holds}
 use Rattle.gk_pickle.specs.declared.pickle.Pickle.{Pickle}
 use Rattle.gk_pickle.specs.Pickles.{pickles}
 use Rattle.gk_pickle.specs.Order.{document_steps, ComesFrom}
 use Rattle.gk_pickle.proofs.Ordering.{steps_in_document_order}
-use Rattle.cm_audit.specs.Compiled.{id_count}
-use Rattle.cm_audit.proofs.Nodes.{few_pickles, few_steps}
+use Rattle.cm_good.specs.Compiled.{id_count}
+use Rattle.cm_good.proofs.Nodes.{few_pickles, few_steps}
 
 at_most : (d : Document) (ps : List Pickle) → AllByRecursion (ComesFrom (document_steps d.feature)) ps
     → sum_by id_count ps ≤ length ps * (length (feature_nodes d.feature) + 1)
@@ -40,12 +38,3 @@ ids_fit text d u h short =
     let all : length (pickles d) * (length (feature_nodes d.feature) + 1) ≤ 16777216 * 16777217 =
     mul-le (length (pickles d)) (length (feature_nodes d.feature) + 1) 16777216 16777217 (omega (arith, few d)) (omega arith) in
     omega arith
-
-no_more : (n m : ℕ) → (m < n → ⊥) → n ≤ m
-no_more n m h = omega (arith, h)
-
--- what the parser takes isn't too long
-pub within_limit : (text : List ℕ) (d : Document) → ((Ok d ≡ Err too_long) ↔ IsTooLong text) → length text ≤ 16777216
-within_limit text d h =
-    let never : (Ok d ≡ Err too_long) → ⊥ = λ e. cc in
-    no_more (length text) 16777216 (λ more. never (h.1 (inl more)))

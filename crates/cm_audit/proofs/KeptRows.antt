@@ -1,0 +1,96 @@
+-- The rows of the sources that are kept.
+use Rattle.std.proofs.Common.{◌≡◌, ◌∙◌, refl, sym, ap, subst, arith, ℕ, zero, suc, ◌<◌, length, Bool, true, false, List, [], ◌∷◌, map, Option, Some, None, Bor}
+use Rattle.std.specs.Prelude.{find, is_some, option_map, slice_get, unwrap_or}
+use Rattle.std.specs.Option.{option_map_or}
+use Rattle.std.specs.Str.{bytes_eq}
+use Rattle.cm_attempt.specs.Table.{change_first, has_text}
+use Rattle.cm_stream.specs.Texts.{Text}
+use Rattle.cm_summary.specs.Summary.{SourceRow}
+use Rattle.cm_stream.specs.Checks.{due_pickles}
+use Rattle.cm_stream.specs.Sources.{DuePickle, is_due}
+use Rattle.cm_envelope.specs.declared.pickle.Pickle.{Pickle}
+use Rattle.cm_summary.specs.Findings.{is_next_of}
+use Rattle.cm_stream.specs.Words.{is_accepted}
+use Rattle.cm_audit.specs.Kept.{HasMore, kept_row}
+use Rattle.cm_audit.specs.declared.source.Kept.{Kept}
+use Rattle.cm_audit.specs.declared.source.Kept.TheVariants as kept
+
+pub row_uri : (uri : Text) (k : Kept) → (kept_row uri k).uri ≡ uri
+row_uri uri kept.Refused = refl
+row_uri uri (kept.Accepted a) = refl
+
+-- a row is found by its key
+pub row_says : (uri t : Text) (k : Kept) → bytes_eq uri (kept_row t k).uri ≡ bytes_eq uri t
+row_says uri t k = ap (bytes_eq uri) (row_uri t k)
+
+pub moved_row : (uri : Text) (k : Kept) → kept_row uri k ≡ record (kept_row [] k) { uri = uri }
+moved_row uri kept.Refused = refl
+moved_row uri (kept.Accepted a) = refl
+
+-- there is a row of a uri where it is one of the uris
+pub row_listed : (uri : Text) (rows : List SourceRow) → is_some (find (λ r. bytes_eq uri r.uri) rows) ≡ has_text uri (map (λ r. r.uri) rows)
+row_listed uri [] = refl
+row_listed uri (r ∷ rows) = go (bytes_eq uri r.uri) refl (row_listed uri rows)
+  where
+    go : (b : Bool) → bytes_eq uri r.uri ≡ b → is_some (find (λ r. bytes_eq uri r.uri) rows) ≡ has_text uri (map (λ r. r.uri) rows)
+        → is_some (find (λ r. bytes_eq uri r.uri) (r ∷ rows)) ≡ has_text uri (map (λ r. r.uri) (r ∷ rows))
+    go true e rest = rw e refl
+    go false e rest = rw e rest
+
+pub row_absent : (uri : Text) (rows : List SourceRow) → has_text uri (map (λ r. r.uri) rows) ≡ false → find (λ r. bytes_eq uri r.uri) rows ≡ None
+row_absent uri rows h = go (find (λ r. bytes_eq uri r.uri) rows) (row_listed uri rows ∙ h)
+  where
+    go : (o : Option SourceRow) → is_some o ≡ false → o ≡ None
+    go None e = refl
+    go (Some r) e = cc
+
+-- a change of a row that keeps its uri keeps the list of them
+pub changed_uris : (p : SourceRow → Bool) (f : SourceRow → SourceRow) → ((r : SourceRow) → (f r).uri ≡ r.uri) → (rows : List SourceRow)
+    → map (λ r. r.uri) (change_first p f rows) ≡ map (λ r. r.uri) rows
+changed_uris p f keeps [] = refl
+changed_uris p f keeps (r ∷ rows) = go (p r) refl (changed_uris p f keeps rows)
+  where
+    go : (b : Bool) → p r ≡ b → map (λ r. r.uri) (change_first p f rows) ≡ map (λ r. r.uri) rows → map (λ r. r.uri) (change_first p f (r ∷ rows)) ≡ map (λ r. r.uri) (r ∷ rows)
+    go true e rest = rw e (ap (λ t. t ∷ map (λ r. r.uri) rows) (keeps r))
+    go false e rest = rw e (ap (λ ts. r.uri ∷ ts) rest)
+
+-- what is asked of a row doesn't ask for its key
+pub good_bare : (uri : Text) (k : Kept) → is_accepted (kept_row uri k).reading ≡ true → is_accepted (kept_row [] k).reading ≡ true
+good_bare uri kept.Refused h = h
+good_bare uri (kept.Accepted a) h = h
+
+pub more_bare : (uri : Text) (k : Kept) → HasMore (kept_row uri k) → HasMore (kept_row [] k)
+more_bare uri kept.Refused h = h
+more_bare uri (kept.Accepted a) h = h
+
+-- whether a row is found, by the list of the uris
+pub listed_is : (uri : Text) (rows : List SourceRow) (names : List Text) (o : Option SourceRow) → map (λ r. r.uri) rows ≡ names
+    → o ≡ find (λ r. bytes_eq uri r.uri) rows → has_text uri names ≡ is_some o
+listed_is uri rows names o listed e = sym (ap (has_text uri) listed) ∙ sym (row_listed uri rows) ∙ sym (ap is_some e)
+
+-- what was found by an equal text
+pub found_by : (t uri : Text) (o : Option (Bor Kept)) (rows : List SourceRow) → t ≡ uri
+    → option_map (λ (k : Bor Kept). kept_row t k.now) o ≡ find (λ r. bytes_eq t r.uri) rows
+    → option_map (λ (k : Bor Kept). kept_row uri k.now) o ≡ find (λ r. bytes_eq uri r.uri) rows
+found_by t uri o rows e h = subst (λ t. option_map (λ (k : Bor Kept). kept_row t k.now) o ≡ find (λ r. bytes_eq t r.uri) rows) e h
+
+pub found_kept : (uri : Text) (o : Option (Bor Kept)) (k : Bor Kept) (rows : List SourceRow) → o ≡ Some k
+    → option_map (λ (k : Bor Kept). kept_row uri k.now) o ≡ find (λ r. bytes_eq uri r.uri) rows → Some (kept_row uri k.now) ≡ find (λ r. bytes_eq uri r.uri) rows
+found_kept uri o k rows e h = sym (ap (option_map (λ (k : Bor Kept). kept_row uri k.now)) e) ∙ h
+
+pub found_none : (uri : Text) (o : Option (Bor Kept)) (rows : List SourceRow) → o ≡ None
+    → option_map (λ (k : Bor Kept). kept_row uri k.now) o ≡ find (λ r. bytes_eq uri r.uri) rows → None ≡ find (λ r. bytes_eq uri r.uri) rows
+found_none uri o rows e h = sym (ap (option_map (λ (k : Bor Kept). kept_row uri k.now)) e) ∙ h
+
+pub next_bare : (uri : Text) (p : Pickle) (k : Kept) → is_next_of p (kept_row uri k) ≡ is_next_of p (kept_row [] k)
+next_bare uri p kept.Refused = refl
+next_bare uri p (kept.Accepted a) = refl
+
+-- the next pickle of a row is one that its source compiles to
+pub next_more : (p : Pickle) (r : SourceRow) → is_next_of p r ≡ true → HasMore r
+next_more p r h = within (due_pickles (Some r.reading)) r.matched h
+  where
+    within : (dues : List DuePickle) (n : ℕ) → option_map_or (λ due. is_due (unwrap_or r.ids []) p due) (slice_get dues n) false ≡ true → n < length dues
+    within [] n h = cc
+    within (d ∷ ds) zero h = omega arith
+    within (d ∷ ds) (suc n) h = let less : n < length ds = within ds n h in omega arith

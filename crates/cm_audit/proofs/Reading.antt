@@ -1,0 +1,167 @@
+-- What an audit has read and judged of a stream, line by line.
+use Rattle.std.proofs.Common.{◌≡◌, ◌≤◌, ◌<◌, ℕ, ◌+◌, refl, sym, ap, ◌∙◌, List, [], ◌∷◌, ◌++◌, Option, Some, None, Result, Ok, Err, true, false, Bool, not, append_assoc, append-nil, map, length, arith, ◌⊎◌, inl, inr}
+use Rattle.std.specs.Prelude.{IfSome, if◌then◌else◌, ⊤}
+use Rattle.std.specs.List.{flat_map}
+use Rattle.cm_envelope.specs.Lines.{Line, Fed, size, line_feed, line_then, nothing, trouble_alone}
+use Rattle.cm_envelope.specs.Reading.{Fault as LineFault}
+use Rattle.cm_envelope.specs.Feeds.{Stored, ShowNothing, written, given_line, not_given, left, new_feed, GivesLine, IsNextLine, WhereTold}
+use Rattle.cm_envelope.specs.declared.envelope.Envelope.{Envelope}
+use Rattle.cm_envelope.specs.declared.feed.Trouble.{Trouble}
+use Rattle.cm_envelope.specs.declared.feed.Trouble.TheVariants.{ReadFailed}
+use Rattle.cm_stream.specs.Findings.{Finding, IsBad, IsUnsupported, named, fault_of_line}
+use Rattle.cm_stream.specs.Stream.{Answer, Found, Failed, answered, fed, shown}
+use Rattle.cm_stream.proofs.Lists.{length-both}
+use Rattle.cm_stream.proofs.NewRows.{map_both}
+use Rattle.cm_summary.specs.Summary.{Summary, nothing_seen, after}
+use Rattle.cm_summary.specs.Findings.{finding, finding_at_end}
+use Rattle.cm_summary.specs.Laws.{at_end, judged_line, judged_of}
+use Rattle.cm_audit.specs.Audit.{AnswersAs, Begins, ReadsNoFurther, TakesLine, verdict_at}
+use Rattle.cm_audit.specs.Judging.{judged, lines_then, HasRead, HasJudged, JudgesTo, HoldNoFault}
+use Rattle.cm_audit.specs.State.{summary_of}
+use Rattle.cm_audit.specs.declared.state.State.{State}
+use Rattle.cm_audit.specs.declared.stop.Stop.{Stop}
+use Rattle.cm_audit.specs.declared.stop.Stop.TheVariants as stop
+
+-- ---- lists
+
+flat_snoc : {X : Type 0} (f : X → List ℕ) (xs : List X) (x : X) → flat_map f (xs ++ x ∷ []) ≡ flat_map f xs ++ f x
+flat_snoc f [] x = append-nil (f x)
+flat_snoc f (y ∷ xs) x = ap (λ ys. f y ++ ys) (flat_snoc f xs x) ∙ sym (append_assoc (f y) (flat_map f xs) (f x))
+
+-- ---- what was read
+
+abbrev pub bytes_of : List Line → List (List ℕ)
+bytes_of lines = map (λ (l : Line). l.bytes) lines
+
+one_more : (lines : List Line) (l : Line) (more : List (List ℕ)) → bytes_of (lines ++ l ∷ []) ++ more ≡ bytes_of lines ++ l.bytes ∷ more
+one_more lines l more = ap (λ ls. ls ++ more) (map_both (λ (x : Line). x.bytes) lines (l ∷ [])) ∙ append_assoc (bytes_of lines) (l.bytes ∷ []) more
+
+as_long : (l : Line) → length (written l) ≡ size l
+as_long l = go l.has_end
+  where
+    go : (b : Bool) → length (l.bytes ++ (if b then line_feed ∷ [] else [])) ≡ length l.bytes + (if b then 1 else 0)
+    go true = length-both l.bytes (line_feed ∷ [])
+    go false = ap length (append-nil l.bytes) ∙ omega arith
+
+nothing_read : (bytes : List ℕ) → HasRead bytes bytes (new_feed 67108864 1073741824) 0
+nothing_read bytes = record { lines = []; count = refl; cut = refl; fed = refl; long = refl }
+
+next_read : {before ys zs : List ℕ} {old new : Stored} {n : ℕ} {line : List ℕ} (r : HasRead before ys old n) → IsNextLine old new ys zs line → GivesLine old new line → HasRead before zs new (n + 1)
+next_read {before} {ys} {zs} {old} {new} {n} {line} r i g =
+    let l = given_line new line in
+    record {
+      lines = r.lines ++ l ∷ [];
+      count = length-both r.lines (l ∷ []) ∙ ap (λ k. k + 1) r.count;
+      cut = r.cut ∙ ap (λ b. flat_map written r.lines ++ b) i.bytes ∙ sym (append_assoc (flat_map written r.lines) (written l) (not_given new zs)) ∙ ap (λ b. b ++ not_given new zs) (sym (flat_snoc written r.lines l));
+      fed = r.fed ∙ ap (lines_then (bytes_of r.lines)) i.first ∙ shift l;
+      long = ap length (flat_snoc written r.lines l) ∙ length-both (flat_map written r.lines) (written l) ∙ (λ j. r.long j + as_long l j) ∙ sym g.given;
+    }
+  where
+    shift : (l : Line) → lines_then (bytes_of r.lines) (line_then l.bytes (left new zs)) ≡ lines_then (bytes_of (r.lines ++ l ∷ [])) (left new zs)
+    shift l = λ j. record { lines = sym (one_more r.lines l (left new zs).lines) j; trouble = (left new zs).trouble }
+
+-- ---- what was judged
+
+judges_nothing : JudgesTo [] 0 nothing_seen
+judges_nothing more t = refl
+
+pub nothing_judged : (bytes : List ℕ) → HasJudged bytes bytes (new_feed 67108864 1073741824) 0 nothing_seen
+unfolding nothing_read
+nothing_judged bytes = record { read = nothing_read bytes; judges = judges_nothing }
+
+taken : (old new : State) (n : ℕ) (r : Option (Result Envelope LineFault)) (more : Summary → Answer) → TakesLine old new r (Ok tt) → judged_line (summary_of old) n r more ≡ more (summary_of new)
+taken old new n None more k = ap more (sym k.0)
+taken old new n (Some (Err b)) more k = absurd k
+taken old new n (Some (Ok e)) more k = rw k.0 (ap more (sym k.1))
+
+judges_next : (lines : List Line) (n : ℕ) (old new : State) (l : Line) → JudgesTo lines n (summary_of old) → TakesLine old new (shown l.bytes) (Ok tt) → JudgesTo (lines ++ l ∷ []) (n + 1) (summary_of new)
+judges_next lines n old new l h k more t =
+    ap (λ ls. judged_of nothing_seen 1 ls t) (one_more lines l more) ∙ h (l.bytes ∷ more) t ∙ taken old new (n + 1) (shown l.bytes) (λ (now : Summary). judged_of now (n + 1 + 1) more t) k
+
+pub next_judged : (before ys zs : List ℕ) (feed later : Stored) (n : ℕ) (old new : State) (line : List ℕ) → HasJudged before ys feed n (summary_of old) → IsNextLine feed later ys zs line → GivesLine feed later line
+    → TakesLine old new (shown line) (Ok tt) → HasJudged before zs later (n + 1) (summary_of new)
+unfolding next_read
+next_judged before ys zs feed later n old new line h i g k = record { read = next_read h.read i g; judges = judges_next (h.read).lines n old new (given_line later line) h.judges k }
+
+-- ---- the answer
+
+found : (old new : State) (n : ℕ) (r : Option (Result Envelope LineFault)) (more : Summary → Answer) (why : Stop) → TakesLine old new r (Err why) → AnswersAs (judged_line (summary_of old) n r more) (verdict_at n why)
+found old new n None more why k = absurd k
+found old new n (Some (Err b)) more (stop.Bad f) k = let same : IsBad (fault_of_line b) ≡ IsBad (named f) = cc in ap (Found n) (sym same)
+found old new n (Some (Err b)) more (stop.Unsupported r) k = cc
+found old new n (Some (Err b)) more stop.Memory k = tt
+found old new n (Some (Ok e)) more (stop.Bad f) k = rw k refl
+found old new n (Some (Ok e)) more (stop.Unsupported r) k = rw k refl
+found old new n (Some (Ok e)) more stop.Memory k = tt
+
+-- what is left decides
+pub judged_left : {before ys : List ℕ} {feed : Stored} {n : ℕ} {s : Summary} (r : HasRead before ys feed n) → JudgesTo r.lines n s → judged before ≡ judged_of s (n + 1) (left feed ys).lines (left feed ys).trouble
+judged_left {before} {ys} {feed} r h = ap (λ (f : Fed). judged_of nothing_seen 1 f.lines f.trouble) r.fed ∙ h (left feed ys).lines (left feed ys).trouble
+
+pub found_at : (before ys zs : List ℕ) (feed later : Stored) (n : ℕ) (old new : State) (line : List ℕ) (r : HasRead before ys feed n) → JudgesTo r.lines n (summary_of old) → IsNextLine feed later ys zs line
+    → (why : Stop) → TakesLine old new (shown line) (Err why) → AnswersAs (judged before) (verdict_at (n + 1) why)
+found_at before ys zs feed later n old new line r h i why k =
+    rw (judged_left r h, i.first) (found old new (n + 1) (shown line) (λ (now : Summary). judged_of now (n + 1 + 1) (left later zs).lines (left later zs).trouble) why k)
+
+pub at_the_end : {before ys : List ℕ} {feed : Stored} {n : ℕ} {s : Summary} (r : HasRead before ys feed n) → JudgesTo r.lines n s → left feed ys ≡ nothing → judged before ≡ at_end (n + 1) s (finding_at_end s)
+at_the_end {n = n} {s = s} r h e = judged_left r h ∙ ap (λ (f : Fed). judged_of s (n + 1) f.lines f.trouble) e
+
+pub at_trouble : {before ys : List ℕ} {feed : Stored} {n : ℕ} {s : Summary} (r : HasRead before ys feed n) → JudgesTo r.lines n s → (t : Trouble) → left feed ys ≡ trouble_alone t → judged before ≡ Failed t
+at_trouble {n = n} {s = s} r h t e = judged_left r h ∙ ap (λ (f : Fed). judged_of s (n + 1) f.lines f.trouble) e
+
+-- ---- how far it reads
+
+first_lines : {before ys : List ℕ} {feed : Stored} {n : ℕ} (r : HasRead before ys feed n) (behind rest : List ℕ) → not_given feed ys ≡ behind ++ rest → Begins before r.lines behind rest
+first_lines {before} {ys} {feed} r behind rest e = record {
+  cut = r.cut ∙ ap (λ b. flat_map written r.lines ++ b) e ∙ sym (append_assoc (flat_map written r.lines) behind rest);
+  more = (left feed ys).lines;
+  first = ap (λ (f : Fed). f.lines) r.fed;
+}
+
+no_further : {before ys : List ℕ} {feed : Stored} {n : ℕ} (r : HasRead before ys feed n) → length feed.held ≤ 65536 → ReadsNoFurther n before ys
+no_further {before} {ys} {feed} {n} r few = go feed.is_ended refl
+  where
+    go : (b : Bool) → feed.is_ended ≡ b → ReadsNoFurther n before ys
+    go true e = record { lines = r.lines; ahead = feed.held; rest = []; begins = first_lines r feed.held [] (rw e (sym (append-nil feed.held))); count = r.count; few = few; left = inr refl }
+    go false e = record { lines = r.lines; ahead = feed.held; rest = ys; begins = first_lines r feed.held ys (rw e refl); count = r.count; few = few; left = inl refl }
+
+pub up_to_here : (before ys zs : List ℕ) (feed later : Stored) (n : ℕ) (line : List ℕ) → HasRead before ys feed n → IsNextLine feed later ys zs line → GivesLine feed later line → ReadsNoFurther (n + 1) before zs
+up_to_here before ys zs feed later n line r i g = no_further (next_read r i g) g.ahead
+
+-- past the last line
+pub fewer_lines : {before ys : List ℕ} {feed : Stored} {n : ℕ} (r : HasRead before ys feed n) → left feed ys ≡ nothing → length (fed before).lines < n + 1
+fewer_lines {before} {ys} {feed} {n} r e =
+    let all : (fed before).lines ≡ bytes_of r.lines ++ [] = ap (λ (f : Fed). f.lines) (r.fed ∙ ap (lines_then (bytes_of r.lines)) e) in
+    let long : length (fed before).lines ≡ n = ap length (all ∙ append-nil (bytes_of r.lines)) ∙ as_many r.lines ∙ r.count in
+    omega (arith, long)
+  where
+    as_many : (ls : List Line) → length (bytes_of ls) ≡ length ls
+    as_many [] = refl
+    as_many (l ∷ ls) = omega (arith, as_many ls)
+
+pub held_no_fault : (before ys zs : List ℕ) (feed after_it : Stored) (n : ℕ) (s : Summary) (r : HasRead before ys feed n) → JudgesTo r.lines n s → feed.line_limit ≡ 67108864 → feed.stream_limit ≡ 1073741824
+    → not_given feed ys ≡ after_it.held ++ zs → ShowNothing feed.line_limit feed.stream_limit feed.given after_it.held → HoldNoFault before zs
+held_no_fault before ys zs feed after_it n s r h line stream e shows = record {
+  lines = r.lines;
+  held = after_it.held;
+  begins = first_lines r after_it.held zs e;
+  faultless = ap (λ ls. judged_of nothing_seen 1 ls (Some ReadFailed)) (sym (append-nil (bytes_of r.lines))) ∙ h [] (Some ReadFailed);
+  nothing = rw (r.long, ← line, ← stream) shows;
+}
+
+-- ---- sources that tell their bytes
+
+pub told_then : {P Q R : List ℕ → List ℕ → Type 0} (a b c : Option (List ℕ)) → WhereTold a b P → WhereTold b c Q → ((xs ys zs : List ℕ) → P xs ys → Q ys zs → R xs zs) → WhereTold a c R
+told_then None b c p q f = tt
+told_then (Some xs) None c p q f = absurd p
+told_then (Some xs) (Some ys) None p q f = absurd q
+told_then (Some xs) (Some ys) (Some zs) p q f = f xs ys zs p q
+
+pub told_first : {P : List ℕ → List ℕ → Type 0} {Q : List ℕ → Type 0} (a b : Option (List ℕ)) → WhereTold a b P → ((xs ys : List ℕ) → P xs ys → Q xs) → IfSome a Q
+told_first None b p f = tt
+told_first (Some xs) None p f = absurd p
+told_first (Some xs) (Some ys) p f = f xs ys p
+
+pub told_same : (P : List ℕ → List ℕ → Type 0) (a : Option (List ℕ)) → ((xs : List ℕ) → P xs xs) → WhereTold a a P
+told_same P None f = tt
+told_same P (Some xs) f = f xs

@@ -1,0 +1,21 @@
+use Rattle.std.proofs.Common.{◌≡◌, ◌≤◌, ◌+◌, ◌-◌, None}
+use Rattle.cm_envelope.specs.Feeds.{WhereTold}
+use Rattle.cm_audit.specs.Judging.{HasJudged}
+use Rattle.cm_audit.specs.State.{AreFewer, IsListed, summary_of}
+use Rattle.cm_audit.proofs.auditing.judge_lines.Given as goal
+
+abbrev pub invariant-lines : goal.invariant-lines
+invariant-lines g l = record {
+  open_still : l.feed.over ≡ None;
+  line_limit : l.feed.line_limit ≡ 67108864;
+  stream_limit : l.feed.stream_limit ≡ 1073741824;
+  counted : l.number ≤ l.feed.given;
+  few : l.feed.given ≤ 1073741824;
+  listed : IsListed l.state;
+  fewer : AreFewer (l.number + 1) l.state.counts;
+  judged : WhereTold (g.R.ByteSource.to_come l.fn.source) (g.R.ByteSource.to_come l.source) (λ xs ys. HasJudged xs ys l.feed l.number (summary_of l.state));
+  no_failure : g.R.ByteSource.failed_calls l.source ≡ g.R.ByteSource.failed_calls l.fn.source;
+}
+
+abbrev pub decreases-lines : goal.decreases-lines
+decreases-lines g l = 1073741824 - l.feed.given

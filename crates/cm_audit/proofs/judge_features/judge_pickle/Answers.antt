@@ -1,0 +1,66 @@
+use Rattle.std.proofs.Common.{◌≡◌, ◌∙◌, refl, ap, sym, subst, map, arith, ◌+◌}
+use Rattle.std.specs.Str.{bytes_eq}
+use Rattle.std.specs.String.{string_bytes}
+use Rattle.cm_refs.specs.Declarations.{Declarations, with_pickle}
+use Rattle.cm_envelope.specs.declared.envelope.Envelope.TheVariants.{Pickle}
+use Rattle.cm_summary.specs.Summary.{SourceRow, change_source, one_more}
+use Rattle.cm_audit.specs.Kept.{HasMoreAt, kept_rows}
+use Rattle.cm_audit.specs.State.{summary_of}
+use Rattle.cm_audit.specs.Stops.{refused_reference}
+use Rattle.cm_audit.specs.declared.stop.Stop.TheVariants.{Memory}
+use Rattle.cm_audit.proofs.Judged.{pickle_fits, pickle_told, stops}
+use Rattle.cm_audit.proofs.KeptRows.{changed_uris}
+use Rattle.cm_audit.proofs.judge_features.judge_pickle.Goals as goal
+
+pub returns-in_err-check_pickle : goal.returns-in_err-check_pickle
+returns-in_err-check_pickle c =
+    stops c.args.state.now (c.args.state.now) (Pickle c.args.pickle) c.from_residual.result c.in_err-check_pickle.field-0.0 c.from_residual.ensures.1
+    c.in_err-check_pickle.ensures.err
+
+pub returns-in_err-steps : goal.returns-in_err-steps
+returns-in_err-steps c =
+    stops c.args.state.now (c.args.state.now) (Pickle c.args.pickle) c.from_residual-in_err-steps.result Memory c.from_residual-in_err-steps.ensures.1 tt
+
+pub returns-in_err-declare_pickle : goal.returns-in_err-declare_pickle
+returns-in_err-declare_pickle c =
+    let fault = c.in_err-declare_pickle.field-0.0 in
+    let answer = rw c.as_str.ensures at c.in_err-declare_pickle.ensures.answer in
+    let same : map string_bytes c.as_slice.result.now ≡ map (λ s. s.id) c.args.pickle.steps = ap (map string_bytes) c.as_slice.ensures.value ∙ c.in_ok-steps.ensures in
+    stops c.args.state.now (record (c.args.state.now) { declared = c.declare_pickle.new.self }) (Pickle c.args.pickle)
+    c.from_residual-in_err-declare_pickle.result (refused_reference fault) c.from_residual-in_err-declare_pickle.ensures.1
+    (pickle_told (summary_of c.args.state.now) c.args.pickle c.in_ok-check_pickle.ensures.known c.in_ok-check_pickle.ensures.next (map string_bytes c.as_slice.result.now) same fault answer)
+
+pub count_pickle-requires : goal.count_pickle-requires
+count_pickle-requires c =
+    subst (λ t. HasMoreAt t (kept_rows c.args.state.now.sources.entries)) (sym c.as_str-2.ensures) c.in_ok-check_pickle.ensures.more
+
+pub overflow_add-state : goal.overflow_add-state
+overflow_add-state c = omega (arith, c.requires.few.pickles)
+
+pub overflow_add-state-2 : goal.overflow_add-state-2
+overflow_add-state-2 c = omega (arith, c.requires.few.unrun)
+
+pub returns : goal.returns
+returns c =
+    let old = c.args.state.now in
+    let uri = c.args.pickle.uri in
+    let rows = kept_rows old.sources.entries in
+    let steps = map string_bytes c.as_slice.result.now in
+    let same : map string_bytes c.as_slice.result.now ≡ map (λ s. s.id) c.args.pickle.steps = ap (map string_bytes) c.as_slice.ensures.value ∙ c.in_ok-steps.ensures in
+    let answer = rw c.as_str.ensures at c.in_ok-declare_pickle.ensures.answer in
+    let made : c.declare_pickle.new.self ≡ with_pickle c.args.pickle.id (map (λ s. s.id) c.args.pickle.steps) old.declared =
+    c.in_ok-declare_pickle.ensures.ok ∙ (λ i. with_pickle (c.as_str.ensures i) (same i) old.declared) in
+    let changed : kept_rows c.count_pickle.new.sources.entries ≡ change_source uri one_more rows =
+    c.count_pickle.ensures ∙ ap (λ t. change_source t one_more rows) c.as_str-2.ensures in (
+      pickle_fits (summary_of old) c.args.pickle c.in_ok-check_pickle.ensures.known c.in_ok-check_pickle.ensures.next steps same answer,
+      λ i. record (summary_of old) {
+        declared = made i;
+        sources = changed i;
+        counts = record old.counts { pickles = old.counts.pickles + 1; unrun = old.counts.unrun + 1 };
+      },
+      ap (map (λ (r : SourceRow). r.uri)) changed ∙ changed_uris (λ r. bytes_eq uri r.uri) one_more (λ r. refl) rows
+          ∙ c.requires.listed ∙ sym (ap (λ (d : Declarations). d.sources) made),
+    )
+
+pub check_pickle-requires : goal.check_pickle-requires
+check_pickle-requires c = record { listed = c.requires.listed }

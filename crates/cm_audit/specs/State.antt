@@ -1,0 +1,49 @@
+-- What an audit keeps, as a summary of the lines so far.
+use Rattle.std.specs.Prelude.{◌≡◌, ◌<◌, ℕ, ⊤, map, Result, Ok, Err, None}
+use Rattle.std.specs.String.{string_bytes}
+use Rattle.cm_envelope.specs.declared.envelope.Envelope.{Envelope}
+use Rattle.cm_stream.specs.declared.verdict.Counts.{Counts}
+use Rattle.cm_summary.specs.Summary.{Summary, after}
+use Rattle.cm_summary.specs.Findings.{finding, finding_inside}
+use Rattle.cm_audit.specs.Kept.{kept_rows}
+use Rattle.cm_audit.specs.Stops.{StopsFor}
+use Rattle.cm_audit.specs.declared.state.State.{State}
+use Rattle.cm_audit.specs.declared.stop.Stop.{Stop}
+
+abbrev pub summary_of : State → Summary
+summary_of s = record {
+  declared = s.declared;
+  table = s.track;
+  sources = kept_rows s.sources.entries;
+  named = map string_bytes s.named.keys;
+  run = s.run;
+  is_finished = s.is_finished;
+  counts = s.counts;
+}
+
+-- the sources that are kept are those that are declared
+abbrev pub IsListed : State → Type 0
+IsListed s = map (λ r. r.uri) (kept_rows s.sources.entries) ≡ s.declared.sources
+
+-- fewer than this number of each
+pub record AreFewer (n : ℕ) (c : Counts) : Type 0 where
+  pub sources : c.sources < n
+  pub pickles : c.pickles < n
+  pub cases : c.cases < n
+  pub attempts : c.attempts < n
+  pub unrun : c.unrun < n
+
+-- a line of which no check stands behind the end of the run has no finding, or it has the finding
+abbrev pub Checks : State → Envelope → Result ⊤ Stop → Type 0
+Checks s e (Ok done) = finding_inside (summary_of s) e ≡ None
+Checks s e (Err why) = StopsFor (finding_inside (summary_of s) e) why
+
+-- a line of which no check stands behind the end of the run was taken, or it has the finding
+abbrev pub Judges : (old new : State) → Envelope → Result ⊤ Stop → Type 0
+Judges old new e (Ok done) = (finding_inside (summary_of old) e ≡ None) × (summary_of new ≡ after (summary_of old) e) × IsListed new
+Judges old new e (Err why) = StopsFor (finding_inside (summary_of old) e) why
+
+-- a line was taken, or it has the finding
+abbrev pub Takes : (old new : State) → Envelope → Result ⊤ Stop → Type 0
+Takes old new e (Ok done) = (finding (summary_of old) e ≡ None) × (summary_of new ≡ after (summary_of old) e) × IsListed new
+Takes old new e (Err why) = StopsFor (finding (summary_of old) e) why

@@ -1,0 +1,64 @@
+//! One line of a stream.
+ghost use Rattle.std.specs.Prelude.{◌≡◌};
+ghost use Rattle.cm_stream.specs.Words.{is_judged};
+ghost use Rattle.cm_audit.specs.State.{AreFewer, IsListed, Judges, Takes};
+
+use crate::judge_cases::judge_case;
+use crate::judge_features::{
+    MOST, judge_definition, judge_document, judge_hook, judge_parse_error, judge_pickle,
+    judge_source,
+};
+use crate::judge_run::{
+    judge_attachment, judge_attempt_finished, judge_attempt_started, judge_run_finished,
+    judge_run_started, judge_step_finished, judge_step_started,
+};
+use crate::state::State;
+use crate::stop::Stop;
+use cm_envelope::Envelope;
+use cm_stream::{Bad, Reason};
+
+fn judge_inside(state: &mut State, envelope: Envelope) -> Result<(), Stop>
+    requires listed { IsListed state.old }
+    requires few { AreFewer MOST state.old.counts }
+    ensures { Judges state.old state.new envelope result }
+{
+    match envelope {
+        Envelope::Source(source) => judge_source(state, source),
+        Envelope::GherkinDocument(document) => judge_document(state, document),
+        Envelope::ParseError(error) => judge_parse_error(state, &error),
+        Envelope::Pickle(pickle) => judge_pickle(state, pickle),
+        Envelope::StepDefinition(definition) => judge_definition(state, &definition),
+        Envelope::Hook(hook) => judge_hook(state, &hook),
+        Envelope::TestCase(case) => judge_case(state, case),
+        Envelope::TestRunStarted(run) => judge_run_started(state, run),
+        Envelope::TestCaseStarted(started) => judge_attempt_started(state, &started),
+        Envelope::TestStepStarted(started) => judge_step_started(state, &started),
+        Envelope::TestStepFinished(finished) => judge_step_finished(state, &finished),
+        Envelope::TestCaseFinished(finished) => judge_attempt_finished(state, &finished),
+        Envelope::TestRunFinished(finished) => judge_run_finished(state, &finished),
+        Envelope::Attachment(attachment) => judge_attachment(state, &attachment),
+        Envelope::TestRunHookStarted | Envelope::TestRunHookFinished => {
+            Err(Stop::Unsupported(Reason::RunHook))
+        }
+        Envelope::Other => Ok(()),
+    }
+}
+
+/// Whether an envelope is of a kind that is judged.
+fn is_judged(envelope: &Envelope) -> bool
+    ensures { result ≡ is_judged envelope.now }
+{
+    !matches!(envelope, Envelope::Other)
+}
+
+/// Judges an envelope behind the lines so far, and takes it where it has no fault.
+pub(crate) fn judge(state: &mut State, envelope: Envelope) -> Result<(), Stop>
+    requires listed { IsListed state.old }
+    requires few { AreFewer MOST state.old.counts }
+    ensures { Takes state.old state.new envelope result }
+{
+    if state.is_finished && is_judged(&envelope) {
+        return Err(Stop::Bad(Bad::AfterRunFinished));
+    }
+    judge_inside(state, envelope)
+}

@@ -1,0 +1,200 @@
+//! The envelopes that say what a run is to execute: sources, documents, parse errors, pickles, definitions and hooks.
+ghost use Rattle.std.specs.Prelude.{◌≡◌, ◌&&◌, IfErr, IfOk, OnOk, false, map, true};
+ghost use Rattle.std.specs.String.{string_bytes};
+ghost use Rattle.cm_attempt.specs.Table.{has_repeat, has_text};
+ghost use Rattle.cm_envelope.specs.declared.envelope.Envelope.TheVariants as envelope;
+ghost use Rattle.cm_summary.specs.Findings.{finding_inside, is_next_by};
+ghost use Rattle.cm_summary.specs.Summary.{change_source, one_more, with_ids};
+ghost use Rattle.cm_audit.specs.Kept.{HasMoreAt, IsAcceptedAt, kept_rows};
+ghost use Rattle.cm_audit.specs.State.{AreFewer, Checks, IsListed, Judges, summary_of};
+ghost use Rattle.cm_audit.specs.Stops.{StopsFor};
+
+use crate::source::{Kept, read_source};
+use crate::state::{Sources, State, find_source};
+use crate::stop::Stop;
+use cm_envelope::{GherkinDocument, Hook, ParseError, Pickle, PickleStep, Source, StepDefinition};
+use cm_stream::{Bad, Reason};
+use gk_line::{Sequence, Text};
+use indexmap::IndexSet;
+use std::alloc::{AllocError, Global};
+
+/// The media type of plain Gherkin.
+const PLAIN: &str = "text/x.cucumber.gherkin+plain";
+
+/// The number that no count of an audit reaches.
+pub(crate) const MOST: u64 = 1_073_741_825;
+
+pub(crate) fn judge_source(state: &mut State, source: Source) -> Result<(), Stop>
+    requires listed { IsListed state.old }
+    requires few { AreFewer MOST state.old.counts }
+    ensures { Judges state.old state.new (envelope.Source source) result }
+{
+    let Source {
+        uri,
+        content,
+        media_type,
+    } = source;
+    if state.declared.has_source(uri.as_str()) {
+        return Err(Stop::Bad(Bad::DuplicateUri));
+    }
+    if media_type.as_str() != PLAIN {
+        return Err(Stop::Unsupported(Reason::MediaType));
+    }
+    let kept = read_source(state.alloc, content.as_str())?;
+    state.declared.declare_source(uri.as_str())?;
+    state.sources.insert(uri.into_string(), kept)?;
+    state.counts.sources += 1;
+    Ok(())
+}
+
+/// Whether two of the texts are equal.
+fn have_repeat(alloc: Global, texts: &[Text]) -> Result<bool, AllocError>
+    ensures { IfOk result (λ found. found ≡ has_repeat texts.now) }
+{
+    let mut set = IndexSet::new(alloc);
+    for text in texts {
+        if set.contains(text.as_str()) {
+            return Ok(true);
+        }
+        set.insert(text.as_str())?;
+    }
+    Ok(false)
+}
+
+/// The stream's document of an accepted source came, with these ids.
+fn set_ids(sources: &mut Sources, uri: &str, ids: Sequence<Text>)
+    requires { IsAcceptedAt uri.now (kept_rows sources.old.entries) }
+    ensures { kept_rows sources.new.entries ≡ change_source uri.now (with_ids ids) (kept_rows sources.old.entries) }
+{
+    if let Some(at) = sources.get_index_of(uri) {
+        let kept = &mut sources[at];
+        kept.set_ids(ids);
+    }
+}
+
+/// The next pickle of an accepted source came.
+fn count_pickle(sources: &mut Sources, uri: &str)
+    requires { HasMoreAt uri.now (kept_rows sources.old.entries) }
+    ensures { kept_rows sources.new.entries ≡ change_source uri.now one_more (kept_rows sources.old.entries) }
+{
+    if let Some(at) = sources.get_index_of(uri) {
+        let kept = &mut sources[at];
+        kept.count_pickle();
+    }
+}
+
+/// Whether the stream's document is the one of its source.
+fn check_document(state: &State, document: &GherkinDocument) -> Result<(), Stop>
+    requires listed { IsListed state.now }
+    ensures found { Checks state.now (envelope.GherkinDocument document.now) result }
+    ensures first { OnOk result (has_text document.now.uri state.now.declared.documents ≡ false) }
+    ensures accepted { OnOk result (IsAcceptedAt document.now.uri (kept_rows state.now.sources.entries)) }
+{
+    let uri = document.uri.as_str();
+    let kept = match find_source(&state.sources, uri) {
+        Some(kept) => kept,
+        None => return Err(Stop::Bad(Bad::UnknownReference)),
+    };
+    if state.declared.has_document(uri) {
+        return Err(Stop::Bad(Bad::DuplicateUri));
+    }
+    let accepted = match kept {
+        Kept::Accepted(accepted) => accepted,
+        Kept::Refused => return Err(Stop::Bad(Bad::DocumentOfRefusedSource)),
+    };
+    if !accepted.has_skeleton_of(&document.document) {
+        return Err(Stop::Bad(Bad::TreeDiffers));
+    }
+    if have_repeat(state.alloc, document.ids.as_slice())? {
+        return Err(Stop::Bad(Bad::DuplicateId));
+    }
+    Ok(())
+}
+
+pub(crate) fn judge_document(state: &mut State, document: GherkinDocument) -> Result<(), Stop>
+    requires listed { IsListed state.old }
+    ensures { Judges state.old state.new (envelope.GherkinDocument document) result }
+{
+    check_document(state, &document)?;
+    let GherkinDocument { uri, ids, .. } = document;
+    state.declared.declare_document(uri.as_str())?;
+    set_ids(&mut state.sources, uri.as_str(), ids);
+    Ok(())
+}
+
+pub(crate) fn judge_parse_error(state: &State, error: &ParseError) -> Result<(), Stop>
+    requires listed { IsListed state.now }
+    ensures { Judges state.now state.now (envelope.ParseError error.now) result }
+{
+    match find_source(&state.sources, error.source.uri.as_str()) {
+        None => Err(Stop::Bad(Bad::UnknownReference)),
+        Some(Kept::Accepted(_)) => Err(Stop::Bad(Bad::ParseErrorOfGoodSource)),
+        Some(Kept::Refused) => Ok(()),
+    }
+}
+
+/// The ids of the steps, without a copy.
+fn pickle_step_ids(alloc: Global, steps: Sequence<PickleStep>) -> Result<Vec<String>, AllocError>
+    ensures { IfOk result (λ ids. map string_bytes ids.items ≡ map (λ step. step.id) steps) }
+{
+    let mut ids = Vec::new(alloc);
+    for step in steps.into_vec() {
+        ids.push(step.id.into_string())?;
+    }
+    Ok(ids)
+}
+
+/// Whether the pickle is the next one of its source. Its ids aren't looked at.
+fn check_pickle(state: &State, pickle: &Pickle) -> Result<(), Stop>
+    requires listed { IsListed state.now }
+    ensures err { IfErr result (λ why. StopsFor (finding_inside (summary_of state.now) (envelope.Pickle pickle.now)) why) }
+    ensures known { OnOk result ((has_text pickle.now.uri state.now.declared.sources && has_text pickle.now.uri state.now.declared.documents) ≡ true) }
+    ensures next { OnOk result (is_next_by (summary_of state.now) pickle.now ≡ true) }
+    ensures more { OnOk result (HasMoreAt pickle.now.uri (kept_rows state.now.sources.entries)) }
+{
+    let uri = pickle.uri.as_str();
+    let kept = match find_source(&state.sources, uri) {
+        Some(kept) => kept,
+        None => return Err(Stop::Bad(Bad::UnknownReference)),
+    };
+    if !state.declared.has_document(uri) {
+        return Err(Stop::Bad(Bad::UnknownReference));
+    }
+    if !kept.is_next(pickle) {
+        return Err(Stop::Bad(Bad::PickleDiffers));
+    }
+    Ok(())
+}
+
+pub(crate) fn judge_pickle(state: &mut State, pickle: Pickle) -> Result<(), Stop>
+    requires listed { IsListed state.old }
+    requires few { AreFewer MOST state.old.counts }
+    ensures { Judges state.old state.new (envelope.Pickle pickle) result }
+{
+    check_pickle(state, &pickle)?;
+    let Pickle { id, uri, steps, .. } = pickle;
+    let steps = pickle_step_ids(state.alloc, steps)?;
+    state
+        .declared
+        .declare_pickle(id.as_str(), steps.as_slice())?;
+    count_pickle(&mut state.sources, uri.as_str());
+    state.counts.pickles += 1;
+    state.counts.unrun += 1;
+    Ok(())
+}
+
+pub(crate) fn judge_definition(state: &mut State, definition: &StepDefinition) -> Result<(), Stop>
+    requires listed { IsListed state.old }
+    ensures { Judges state.old state.new (envelope.StepDefinition definition.now) result }
+{
+    state.declared.declare_definition(definition.id.as_str())?;
+    Ok(())
+}
+
+pub(crate) fn judge_hook(state: &mut State, hook: &Hook) -> Result<(), Stop>
+    requires listed { IsListed state.old }
+    ensures { Judges state.old state.new (envelope.Hook hook.now) result }
+{
+    state.declared.declare_hook(hook.id.as_str())?;
+    Ok(())
+}

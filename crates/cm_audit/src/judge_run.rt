@@ -1,0 +1,175 @@
+//! The envelopes that tell what was run: the run, attempts and their steps, and attachments.
+ghost use Rattle.std.specs.Prelude.{◌≡◌, ◌&&◌, [], not};
+ghost use Rattle.std.specs.List.{list_all, list_any};
+ghost use Rattle.cm_envelope.specs.declared.envelope.Envelope.TheVariants as Envelope;
+ghost use Rattle.indexmap.specs.IndexMap.{values};
+ghost use Rattle.cm_stream.specs.Checks.{same_flag};
+ghost use Rattle.cm_stream.specs.Words.{is_accepted};
+ghost use Rattle.cm_summary.specs.Findings.{is_well, knows_place, lacks_by};
+ghost use Rattle.cm_audit.specs.Kept.{kept_row};
+ghost use Rattle.cm_audit.specs.State.{AreFewer, IsListed, Judges, summary_of};
+
+use crate::judge_cases::knows_run;
+use crate::judge_features::MOST;
+use crate::source::Kept;
+use crate::state::{Sources, State};
+use crate::status::kept_status;
+use crate::stop::Stop;
+use cm_attempt::Status;
+use cm_envelope::{
+    Attachment, TestCaseFinished, TestCaseStarted, TestRunFinished, TestRunStarted,
+    TestStepFinished, TestStepStarted,
+};
+use cm_stream::{Bad, Reason};
+
+pub(crate) fn judge_run_started(state: &mut State, run: TestRunStarted) -> Result<(), Stop>
+    requires listed { IsListed state.old }
+    ensures { Judges state.old state.new (Envelope.TestRunStarted run) result }
+{
+    if state.run.is_some() {
+        return Err(Stop::Bad(Bad::SecondRunStarted));
+    }
+    state.run = Some(run);
+    Ok(())
+}
+
+pub(crate) fn judge_attempt_started(
+    state: &mut State,
+    started: &TestCaseStarted,
+) -> Result<(), Stop>
+    requires listed { IsListed state.old }
+    requires few { AreFewer MOST state.old.counts }
+    ensures { Judges state.old state.new (Envelope.TestCaseStarted started.now) result }
+{
+    if state.run.is_none() {
+        return Err(Stop::Bad(Bad::OutsideRun));
+    }
+    let case = started.test_case_id.as_str();
+    state
+        .track
+        .start(started.id.as_str(), case, started.attempt)?;
+    state.counts.attempts += 1;
+    Ok(())
+}
+
+pub(crate) fn judge_step_started(state: &mut State, started: &TestStepStarted) -> Result<(), Stop>
+    requires listed { IsListed state.old }
+    ensures { Judges state.old state.new (Envelope.TestStepStarted started.now) result }
+{
+    let attempt = started.test_case_started_id.as_str();
+    state
+        .track
+        .step_started(attempt, started.test_step_id.as_str())?;
+    Ok(())
+}
+
+pub(crate) fn judge_step_finished(
+    state: &mut State,
+    finished: &TestStepFinished,
+) -> Result<(), Stop>
+    requires listed { IsListed state.old }
+    ensures { Judges state.old state.new (Envelope.TestStepFinished finished.now) result }
+{
+    let attempt = finished.test_case_started_id.as_str();
+    let step = finished.test_step_id.as_str();
+    let status = kept_status(finished.test_step_result.status);
+    state.track.step_finished(attempt, step, status)?;
+    if status == Status::Unknown {
+        return Err(Stop::Unsupported(Reason::UnknownStatus));
+    }
+    Ok(())
+}
+
+pub(crate) fn judge_attempt_finished(
+    state: &mut State,
+    finished: &TestCaseFinished,
+) -> Result<(), Stop>
+    requires listed { IsListed state.old }
+    ensures { Judges state.old state.new (Envelope.TestCaseFinished finished.now) result }
+{
+    let attempt = finished.test_case_started_id.as_str();
+    state.track.finish(attempt, finished.will_be_retried)?;
+    Ok(())
+}
+
+/// Whether no attempt is named, or one that was started, with no step or one of its case's.
+fn knows_place(state: &State, attachment: &Attachment) -> bool
+    ensures { result ≡ knows_place (summary_of state.now) attachment.now.test_case_started_id attachment.now.test_step_id }
+{
+    match (&attachment.test_case_started_id, &attachment.test_step_id) {
+        (None, _) => true,
+        (Some(attempt), None) => state.track.has_attempt(attempt.as_str()),
+        (Some(attempt), Some(step)) => state.track.has_step(attempt.as_str(), step.as_str()),
+    }
+}
+
+pub(crate) fn judge_attachment(state: &State, attachment: &Attachment) -> Result<(), Stop>
+    requires listed { IsListed state.now }
+    ensures { Judges state.now state.now (Envelope.Attachment attachment.now) result }
+{
+    if knows_place(state, attachment) {
+        Ok(())
+    } else {
+        Err(Stop::Bad(Bad::UnknownReference))
+    }
+}
+
+/// Whether one of the sources lacks its document or one of its pickles.
+fn lack_some(sources: &Sources) -> bool
+    ensures { result ≡ list_any (λ k. lacks_by (kept_row [] k).reading (kept_row [] k)) (values sources.now) }
+{
+    sources.values().any(|kept| kept.lacks_some())
+}
+
+/// Whether no source is refused.
+fn are_accepted(sources: &Sources) -> bool
+    ensures { result ≡ list_all (λ k. is_accepted (kept_row [] k).reading) (values sources.now) }
+{
+    sources
+        .values()
+        .all(|kept| matches!(kept, Kept::Accepted(_)))
+}
+
+/// Whether a document or a pickle of a source is still to come.
+fn is_incomplete(state: &State) -> bool
+    ensures { result ≡ list_any (λ r. lacks_by r.reading r) (summary_of state.now).sources }
+{
+    lack_some(&state.sources)
+}
+
+/// Whether each case has a final attempt that passed or was skipped, and no source is refused.
+fn is_well(state: &State) -> bool
+    ensures { result ≡ is_well (summary_of state.now) }
+{
+    state.track.all_good() && are_accepted(&state.sources)
+}
+
+/// Whether the run's end tells its success as it is.
+fn tells_success(state: &State, finished: &TestRunFinished) -> bool
+    ensures { result ≡ same_flag finished.now.success (is_well (summary_of state.now) && not finished.now.has_exception) }
+{
+    finished.success == (is_well(state) && !finished.has_exception)
+}
+
+pub(crate) fn judge_run_finished(state: &mut State, finished: &TestRunFinished) -> Result<(), Stop>
+    requires listed { IsListed state.old }
+    ensures { Judges state.old state.new (Envelope.TestRunFinished finished.now) result }
+{
+    if state.run.is_none() {
+        return Err(Stop::Bad(Bad::OutsideRun));
+    }
+    if !knows_run(state, &finished.test_run_started_id) {
+        return Err(Stop::Bad(Bad::UnknownReference));
+    }
+    if state.track.open_attempts() != 0 {
+        return Err(Stop::Bad(Bad::AttemptOpen));
+    }
+    if is_incomplete(state) {
+        return Err(Stop::Bad(Bad::SourceIncomplete));
+    }
+    if !tells_success(state, finished) {
+        return Err(Stop::Bad(Bad::SuccessDiffers));
+    }
+    state.is_finished = true;
+    Ok(())
+}

@@ -1,0 +1,65 @@
+//! What an audit keeps of the lines so far.
+ghost use Rattle.std.specs.Prelude.{◌≡◌, find, option_map};
+ghost use Rattle.std.specs.Str.{bytes_eq};
+ghost use Rattle.cm_summary.specs.Summary.{nothing_seen};
+ghost use Rattle.cm_audit.specs.Kept.{kept_row, kept_rows};
+ghost use Rattle.cm_audit.specs.State.{IsListed, summary_of};
+
+use crate::source::Kept;
+use cm_attempt::Track;
+use cm_envelope::TestRunStarted;
+use cm_refs::Declared;
+use cm_stream::Counts;
+use indexmap::{IndexMap, IndexSet};
+use std::alloc::Global;
+
+pub(crate) type Sources = IndexMap<String, Kept>;
+
+pub(crate) type Names = IndexSet<String>;
+
+/// What an audit keeps: what was declared, the record of attempts, each source by its uri, the pickles that cases name, and
+/// what the run's envelopes said.
+#[derive(Drop)]
+pub(crate) struct State {
+    pub(crate) declared: Declared,
+    pub(crate) track: Track,
+    pub(crate) sources: Sources,
+    pub(crate) named: Names,
+    pub(crate) run: Option<TestRunStarted>,
+    pub(crate) is_finished: bool,
+    pub(crate) counts: Counts,
+    pub(crate) alloc: Global,
+}
+
+impl State {
+    /// Nothing was seen yet. It takes no memory.
+    pub(crate) fn new(alloc: Global) -> State
+        ensures seen { summary_of result ≡ nothing_seen }
+        ensures listed { IsListed result }
+    {
+        State {
+            declared: Declared::new(alloc),
+            track: Track::new(alloc),
+            sources: IndexMap::new(alloc),
+            named: IndexSet::new(alloc),
+            run: None,
+            is_finished: false,
+            counts: Counts {
+                sources: 0,
+                pickles: 0,
+                cases: 0,
+                attempts: 0,
+                unrun: 0,
+            },
+            alloc,
+        }
+    }
+}
+
+/// What is kept of a source.
+pub(crate) fn find_source<'a>(sources: &'a Sources, uri: &str) -> Option<&'a Kept>
+    ensures { option_map (λ k. kept_row uri.now k.now) result
+        ≡ find (λ r. bytes_eq uri.now r.uri) (kept_rows sources.now.entries) }
+{
+    sources.get(uri)
+}

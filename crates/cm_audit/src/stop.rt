@@ -1,0 +1,87 @@
+//! Why an audit ends at a line.
+ghost use Rattle.cm_audit.specs.Stops.{refused_reference, refused_call, unread_line};
+
+use cm_attempt::TrackFault;
+use cm_envelope::ShapeFault;
+use cm_refs::RefFault;
+use cm_stream::{Bad, Reason};
+use std::alloc::{AllocError, AllocFailed};
+
+/// Why an audit ends at a line.
+#[derive(Clone, Copy, Debug)]
+pub(crate) enum Stop {
+    Bad(Bad),
+    Unsupported(Reason),
+    Memory,
+}
+
+impl From<AllocError> for Stop {
+    ghost use Rattle.std.specs.Prelude.{◌≡◌};
+    ghost use Rattle.cm_audit.specs.declared.stop.Stop.TheVariants.{Memory};
+
+    ghost from_gives = { λ _ e. e ≡ Memory };
+
+    fn from(_refused: AllocError) -> Stop {
+        Stop::Memory
+    }
+}
+
+impl<T: Drop> From<AllocFailed<T>> for Stop {
+    ghost use Rattle.std.specs.Prelude.{◌≡◌};
+    ghost use Rattle.cm_audit.specs.declared.stop.Stop.TheVariants.{Memory};
+
+    ghost from_gives = { λ _ e. e ≡ Memory };
+
+    fn from(_refused: AllocFailed<T>) -> Stop {
+        Stop::Memory
+    }
+}
+
+impl From<RefFault> for Stop {
+    ghost use Rattle.std.specs.Prelude.{◌≡◌};
+
+    ghost from_gives = { λ f e. e ≡ refused_reference f };
+
+    fn from(fault: RefFault) -> Stop {
+        match fault {
+            RefFault::DuplicateId => Stop::Bad(Bad::DuplicateId),
+            RefFault::DuplicateUri => Stop::Bad(Bad::DuplicateUri),
+            RefFault::Memory => Stop::Memory,
+        }
+    }
+}
+
+impl From<TrackFault> for Stop {
+    ghost use Rattle.std.specs.Prelude.{◌≡◌};
+
+    ghost from_gives = { λ f e. e ≡ refused_call f };
+
+    fn from(fault: TrackFault) -> Stop {
+        match fault {
+            TrackFault::UnknownCase | TrackFault::UnknownAttempt | TrackFault::UnknownStep => {
+                Stop::Bad(Bad::UnknownReference)
+            }
+            TrackFault::DuplicateId => Stop::Bad(Bad::DuplicateId),
+            TrackFault::AttemptNumber => Stop::Bad(Bad::AttemptNumber),
+            TrackFault::AttemptOverlap => Stop::Bad(Bad::AttemptOverlap),
+            TrackFault::StepOrder => Stop::Bad(Bad::StepOrder),
+            TrackFault::FinishedEarly => Stop::Bad(Bad::FinishedEarly),
+            TrackFault::Memory => Stop::Memory,
+        }
+    }
+}
+
+impl From<ShapeFault> for Stop {
+    ghost use Rattle.std.specs.Prelude.{◌≡◌};
+
+    ghost from_gives = { λ f e. e ≡ unread_line f };
+
+    fn from(fault: ShapeFault) -> Stop {
+        match fault {
+            ShapeFault::NotJson => Stop::Bad(Bad::NotJson),
+            ShapeFault::Shape => Stop::Bad(Bad::Shape),
+            ShapeFault::Field(kind, member) => Stop::Bad(Bad::Field(kind, member)),
+            ShapeFault::Memory => Stop::Memory,
+        }
+    }
+}

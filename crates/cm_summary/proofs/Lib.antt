@@ -1,0 +1,10 @@
+pub mod Judged
+pub mod Tests
+pub mod StepTests
+pub mod SourceTests
+pub mod AttemptTests
+pub mod Checked
+pub mod Behind
+pub mod Rows
+pub mod Unrun
+pub mod Steps
