@@ -17,6 +17,3 @@ pub use laws::{
 };
 pub use status::{Status, worst};
 pub use track::Track;
-
-#[cfg(test)]
-mod tests;

@@ -20,6 +20,3 @@ pub use compiled::write_compiled;
 pub use fault::CompileFault;
 pub use status::kept_status;
 pub use write::write_all;
-
-#[cfg(test)]
-mod tests;

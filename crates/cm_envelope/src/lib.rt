@@ -30,6 +30,3 @@ pub use pickle::{
     PickleTag, StepKind,
 };
 pub use reading::read_envelope;
-
-#[cfg(test)]
-mod tests;

@@ -9,6 +9,3 @@ mod pickles;
 
 pub use declared::Declared;
 pub use fault::RefFault;
-
-#[cfg(test)]
-mod tests;

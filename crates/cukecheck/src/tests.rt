@@ -3,6 +3,7 @@ mod audits;
 mod compiled;
 mod features;
 mod fronts;
+mod producers;
 mod retries;
 
 ghost use Rattle.std.specs.Prelude.{Some, string_bytes};

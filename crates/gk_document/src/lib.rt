@@ -9,6 +9,3 @@ pub use tree::{
     Argument, Background, Comment, DocString, Document, ExampleTable, Examples, Feature, Location,
     Row, Rule, Scenario, Step, Tag,
 };
-
-#[cfg(test)]
-mod tests;

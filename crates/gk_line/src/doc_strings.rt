@@ -1,5 +1,5 @@
 //! The lines inside a doc string.
-ghost use Rattle.std.specs.Prelude.{◌≡◌, ◌≤◌, ◌∷◌, [], drop, length, IfOk, IsTrue};
+ghost use Rattle.std.specs.Prelude.{◌≡◌, ◌≤◌, ◌∷◌, [], ◌++◌, drop, length, IfOk, OnOk, IsTrue};
 ghost use Rattle.std.specs.Char.{is_ascii};
 ghost use Rattle.std.specs.List.{list_all};
 ghost use Rattle.std.specs.Str.{chars};
@@ -22,7 +22,6 @@ use std::alloc::{AllocError, Global};
 /// Only where there is no memory for the text.
 ///
 /// Source: Gherkin reference, "Doc Strings".
-#[tactic(auto, unfolding(crate::specs::DocStrings::doc_line_of))]
 pub fn doc_line(
     alloc: Global,
     line: Line<'_>,
@@ -32,14 +31,34 @@ pub fn doc_line(
     requires { length line.text.now ≤ 16_777_216 }
     ensures { IfOk result (λ text. chars (string_bytes text) ≡ doc_line_of fence indent (line_chars line.entry)) }
 {
-    unescape_fences(alloc, outdent(line.text, indent), fence)
+    let mut text = String::new(alloc);
+    push_doc_line(&mut text, line, fence, indent)?;
+    Ok(text)
 }
 
-/// The text with a fence in place of each escaped one.
-fn unescape_fences(alloc: Global, text: &str, fence: Fence) -> Result<String, AllocError>
-    ensures { IfOk result (λ value. chars (string_bytes value) ≡ fences_unescaped (fence_mark fence) 0 (chars text.now)) }
+/// Adds what a line inside a doc string says, as [`doc_line`] tells it, to the end of a text.
+///
+/// # Errors
+/// Only where there is no memory for the text, which then may hold a part of the line.
+///
+/// Source: Gherkin reference, "Doc Strings".
+#[tactic(auto, unfolding(crate::specs::DocStrings::doc_line_of))]
+pub fn push_doc_line(
+    text: &mut String,
+    line: Line<'_>,
+    fence: Fence,
+    indent: u32,
+) -> Result<(), AllocError>
+    requires { length line.text.now ≤ 16_777_216 }
+    ensures { OnOk result (chars (string_bytes text.new) ≡ chars (string_bytes text.old) ++ doc_line_of fence indent (line_chars line.entry)) }
 {
-    let mut value = String::new(alloc);
+    push_unescaped(text, outdent(line.text, indent), fence)
+}
+
+/// Adds the text with a fence in place of each escaped one.
+fn push_unescaped(value: &mut String, text: &str, fence: Fence) -> Result<(), AllocError>
+    ensures { OnOk result (chars (string_bytes value.new) ≡ chars (string_bytes value.old) ++ fences_unescaped (fence_mark fence) 0 (chars text.now)) }
+{
     let mut rest = text;
     while let Some((front, next)) = cut(rest, b'\\') {
         value.push_str(front)?;
@@ -52,7 +71,7 @@ fn unescape_fences(alloc: Global, text: &str, fence: Fence) -> Result<String, Al
         }
     }
     value.push_str(rest)?;
-    Ok(value)
+    Ok(())
 }
 
 /// What follows the first backslash of a fence with a backslash before each character.

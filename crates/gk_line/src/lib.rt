@@ -15,7 +15,7 @@ mod titles;
 mod tokens;
 
 pub use cut_lines::lines;
-pub use doc_strings::doc_line;
+pub use doc_strings::{doc_line, push_doc_line};
 pub use kinds::{indent, is_blank, is_comment, is_row, is_tags};
 pub use laws::{columns_rise, kinds_exclude, lines_are_cut};
 pub use line_ends::Lines;
@@ -27,6 +27,3 @@ pub use titles::{fence, language, step, title};
 pub use tokens::{
     Block, Cell, Fence, FenceLine, KeywordType, Line, LineFault, StepLine, TagText, Title,
 };
-
-#[cfg(test)]
-mod tests;

@@ -16,6 +16,3 @@ pub use json::pickle_value;
 pub use laws::{alike_law, characters_law, counting_law, order_law, replacing_law};
 pub use pickle::{Pickle, PickleArgument, PickleDocString, PickleStep, PickleTag, StepType};
 pub use tree_json::{document_value, source_value};
-
-#[cfg(test)]
-mod tests;

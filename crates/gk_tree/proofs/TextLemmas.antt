@@ -2,8 +2,8 @@
 use Rattle.std.proofs.Common.{◌≡◌, ℕ, suc, ◌+◌, ◌<◌, Bool, true, false, cond, List, [], ◌∷◌, ◌++◌, length, take, get_or, Some, None, refl, sym, ap, subst, ◌∙◌, append_assoc, arith}
 use Rattle.std.specs.Prelude.{map, codes, ◌==◌}
 use Rattle.std.specs.List.{join_with_byte}
-use Rattle.std.specs.Str.{IsUtf8}
-use Rattle.std.proofs.lemmas.Str.{encodes-chars, chars-nil}
+use Rattle.std.specs.Str.{IsUtf8, chars, encode_utf8_all}
+use Rattle.std.proofs.lemmas.Str.{encodes-chars, encodes-append, chars-nil}
 use Rattle.std.proofs.lemmas.List.{take_more, map-append, length-map, length-take-le}
 use Rattle.std.proofs.lemmas.Bool.{false≢true}
 use Rattle.std.proofs.lemmas.Bool.Decides.{nat_tests}
@@ -32,6 +32,22 @@ media_some m t u h e = ap (λ (z : List ℕ). Some z) e ∙ sym (ap media_of (en
 
 pub text_same : (bs : List ℕ) → IsUtf8 bs → text_of bs ≡ bs
 text_same bs u = encodes-chars bs u
+
+-- a text that grew by these characters
+pub characters_added : (old new line : List ℕ) → IsUtf8 old → IsUtf8 new → chars new ≡ chars old ++ line → new ≡ old ++ encode_utf8_all line
+characters_added old new line u v h =
+    sym (encodes-chars new v)
+    ∙ ap (λ (z : List ℕ). encode_utf8_all z) h
+    ∙ encodes-append (chars old) line
+    ∙ ap (λ (z : List ℕ). z ++ encode_utf8_all line) (encodes-chars old u)
+
+pub first_line : (b : Bool) (old new line : List ℕ) → b ≡ true → new ≡ old ++ line → new ≡ cond b (old ++ line) ((old ++ 10 ∷ []) ++ line)
+first_line true old new line h e = e
+first_line false old new line h e = absurd (false≢true h)
+
+pub next_line : (b : Bool) (old mid new line : List ℕ) → b ≡ false → mid ≡ old ++ 10 ∷ [] → new ≡ mid ++ line → new ≡ cond b (old ++ line) ((old ++ 10 ∷ []) ++ line)
+next_line true old mid new line h m e = absurd (false≢true (sym h))
+next_line false old mid new line h m e = e ∙ ap (λ (z : List ℕ). z ++ line) m
 
 -- one more text
 pub join_more : (c : ℕ) (xs : List (List ℕ)) (y : List ℕ) → 0 < length xs → join_with_byte c (xs ++ y ∷ []) ≡ (join_with_byte c xs ++ c ∷ []) ++ y

@@ -26,8 +26,3 @@ pub use gk_document::{
 pub use gk_grammar::FaultKind;
 pub use one_pass::parse;
 pub use plain::{has_document, place};
-
-#[cfg(test)]
-mod plain_tests;
-#[cfg(test)]
-mod tests;

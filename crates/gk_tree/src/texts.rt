@@ -8,7 +8,7 @@ ghost use Rattle.gk_grammar.specs.Grammar.{media_of, description_of, from_text, 
 ghost use Rattle.gk_tree.specs.Views.{text_of, kept_line};
 
 use crate::token::IndentedLine;
-use gk_line::{Fence, Text, doc_line, is_blank, is_comment};
+use gk_line::{Fence, Text, is_blank, is_comment, push_doc_line};
 use std::alloc::{AllocError, Global};
 
 /// A text of its own with these characters.
@@ -111,6 +111,25 @@ fn joined(alloc: Global, lines: &[IndentedLine<'_>]) -> Result<Text, AllocError>
     Ok(Text::from(text))
 }
 
+/// Adds what a line says inside a doc string, behind a line feed if it isn't the first.
+fn push_content_line(
+    text: &mut String,
+    is_first: bool,
+    line: IndentedLine<'_>,
+    fence: Fence,
+    indent: u32,
+) -> Result<(), AllocError>
+    ensures { OnOk result (string_bytes text.new
+        ≡ (if is_first then string_bytes text.old ++ content_line fence indent (kept_line line)
+        else (string_bytes text.old ++ line_feed ∷ []) ++ content_line fence indent (kept_line line))) }
+{
+    if is_first {
+        return push_doc_line(text, line.line, fence, indent);
+    }
+    text.push('\n')?;
+    push_doc_line(text, line.line, fence, indent)
+}
+
 /// The content of a doc string of these lines.
 pub(crate) fn content(
     alloc: Global,
@@ -122,8 +141,7 @@ pub(crate) fn content(
 {
     let mut text = String::new(alloc);
     for (i, line) in lines.iter().enumerate() {
-        let line = doc_line(alloc, line.line, fence, indent)?;
-        push_line(&mut text, i == 0, line.as_str())?;
+        push_content_line(&mut text, i == 0, *line, fence, indent)?;
     }
     Ok(Text::from(text))
 }

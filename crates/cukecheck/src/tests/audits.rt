@@ -14,6 +14,11 @@ document_named = {"gherkinDocument":{"comments":[],"feature":{"children":[{"scen
 pickle = {"pickle":{"astNodeIds":["0"],"id":"3","language":"en","name":"s","steps":[{"astNodeIds":["1"],"id":"2","text":"a","type":"Context"}],"tags":[],"uri":"a.feature"}}
 pickle_named = {"pickle":{"astNodeIds":["x0"],"id":"3","language":"en","name":"s","steps":[{"astNodeIds":["x1"],"id":"2","text":"a","type":"Context"}],"tags":[],"uri":"a.feature"}}
 pickle_again = {"pickle":{"astNodeIds":["0"],"id":"4","language":"en","name":"s","steps":[{"astNodeIds":["1"],"id":"2","text":"a","type":"Context"}],"tags":[],"uri":"a.feature"}}
+source_b = {"source":{"data":"Feature: g\n\n  Scenario: t\n    Given b\n","mediaType":"text/x.cucumber.gherkin+plain","uri":"b.feature"}}
+document_b = {"gherkinDocument":{"comments":[],"feature":{"children":[{"scenario":{"description":"","examples":[],"id":"0","keyword":"Scenario","location":{"column":3,"line":3},"name":"t","steps":[{"id":"1","keyword":"Given ","keywordType":"Context","location":{"column":5,"line":4},"text":"b"}],"tags":[]}}],"description":"","keyword":"Feature","language":"en","location":{"column":1,"line":1},"name":"g","tags":[]},"uri":"b.feature"}}
+pickle_b = {"pickle":{"astNodeIds":["0"],"id":"7","language":"en","name":"t","steps":[{"astNodeIds":["1"],"id":"6","text":"b","type":"Context"}],"tags":[],"uri":"b.feature"}}
+pickle_c = {"pickle":{"astNodeIds":["0"],"id":"7","language":"en","name":"t","steps":[{"astNodeIds":["1"],"id":"6","text":"b","type":"Context"}],"tags":[],"uri":"a.feature"}}
+case_b = {"testCase":{"id":"c2","pickleId":"7","testSteps":[{"id":"t1","pickleStepId":"6"}]}}
 refused = {"source":{"data":"Given x","mediaType":"text/x.cucumber.gherkin+plain","uri":"b.feature"}}
 refused_document = {"gherkinDocument":{"uri":"b.feature"}}
 refused_error = {"parseError":{"source":{"uri":"b.feature"},"message":"m"}}
@@ -57,6 +62,11 @@ good sources=1 pickles=1 cases=1 attempts=2/ 0 = source document pickle run case
 bad line 14: 21 SuccessDiffers/ 1 = source document pickle run case:c1:t1 start:a1:c1:0 step:a1:t1 end:a1:t1:PENDING done:a1:true start:a2:c1:1 step:a2:t1 end:a2:t1:FAILED done:a2:false well
 good sources=1 pickles=1 cases=1 attempts=2/ 0 = source document pickle run case:c1:t1 start:a1:c1:0 step:a1:t1 end:a1:t1:PENDING done:a1:true start:a2:c1:1 step:a2:t1 end:a2:t1:FAILED done:a2:false unwell
 good sources=1 pickles=1 cases=2 attempts=2/ 0 = source document pickle run case:c1:t1 case:c2:t1 start:a1:c1:0 start:b1:c2:0 step:a1:t1 step:b1:t1 end:a1:t1:PASSED end:b1:t1:SKIPPED done:b1:false done:a1:false well
+good sources=2 pickles=2 cases=2 attempts=3/ 0 = source document pickle source_b document_b pickle_b run case:c1:t1 case_b start:a1:c1:0 start:b1:c2:0 step:b1:t1 step:a1:t1 end:b1:t1:FAILED end:a1:t1:PASSED done:b1:true start:b2:c2:1 done:a1:false step:b2:t1 end:b2:t1:PASSED done:b2:false well
+good sources=2 pickles=2 cases=2 attempts=2/ 0 = source source_b document_b document pickle_b pickle case_b case:c1:t1 run start:a1:c1:0 start:b1:c2:0 step:a1:t1 step:b1:t1 end:a1:t1:PASSED end:b1:t1:FAILED done:b1:false done:a1:false unwell
+bad line 15: 14 StepOrder/ 1 = source document pickle source_b document_b pickle_b run case:c1:t1 case_b start:a1:c1:0 start:b1:c2:0 step:a1:t1 end:a1:t1:PASSED done:a1:false end:b1:t1:PASSED
+bad line 7: 20 SourceIncomplete/ 1 = source document pickle source_b document_b run well
+bad line 5: 9 PickleDiffers/ 1 = source document source_b document_b pickle_c
 bad line 3: 6 UnknownReference/ 1 = source document case:c1:t1 pickle run unwell
 bad line 4: 9 PickleDiffers/ 1 = source document pickle pickle_again
 bad line 4: 20 SourceIncomplete/ 1 = source document run well

@@ -2,6 +2,7 @@
 use crate::tests::audits::audited_stream;
 use crate::tests::{Source, expect_told, whole};
 use std::alloc::Global;
+use std::process::Abort;
 use std::test::Fail;
 
 // A failed attempt, and one that passed.
@@ -88,4 +89,25 @@ fn a_thousand_cases(rt: HostRuntime) -> Result<(), Fail> {
     let told = "good sources=1 pickles=1 cases=1000 attempts=1000\n";
     expect_told(&rt, alloc, "audit", whole(stream.as_bytes()), told, 0);
     Ok(())
+}
+
+// What `audit` tells of a source with this text, whose characters are written as `unit`, so many times.
+fn expect_too_long(rt: &impl Abort, alloc: Global, unit: &str, times: u32) -> Result<(), Fail> {
+    let mut line = String::from_str(alloc, "{\"source\":{\"data\":\"")?;
+    for _ in 0..times {
+        line.push_str(unit)?;
+    }
+    line.push_str(
+        "\",\"mediaType\":\"text/x.cucumber.gherkin+plain\",\"uri\":\"l.feature\"}}\n[]\n",
+    )?;
+    let told = "unsupported line 1: 5 SourceTooLong\n";
+    expect_told(rt, alloc, "audit", whole(line.as_bytes()), told, 4);
+    Ok(())
+}
+
+#[test]
+fn sources_that_are_too_long(rt: HostRuntime) -> Result<(), Fail> {
+    let alloc = rt.alloc();
+    expect_too_long(&rt, alloc, " ", 16_777_217)?;
+    expect_too_long(&rt, alloc, "\\n", 1_000_001)
 }

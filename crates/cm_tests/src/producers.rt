@@ -1,5 +1,5 @@
 //! Lines as today's producers write them, with members that aren't judged.
-use crate::{Envelope, read_envelope};
+use cm_envelope::{Envelope, read_envelope};
 use std::test::Fail;
 
 fn kind_of(envelope: &Envelope) -> &'static str {

@@ -1,7 +1,7 @@
 //! Examples of the profile's rules, and each public call once.
 ghost use Rattle.std.specs.Prelude.{◌≤◌, length, IfOk};
 
-use crate::*;
+use gk_line::*;
 use std::alloc::Global;
 use std::test::Fail;
 

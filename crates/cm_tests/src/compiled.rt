@@ -1,22 +1,19 @@
 //! Feature files written to sinks in memory, some of which fail.
 ghost use Rattle.std.specs.Prelude.{Some};
 
-use crate::{CompileFault, write_compiled};
+use cm_audit::{CompileFault, write_compiled};
 use cm_envelope::{ByteSink, DeviceFailed};
 use gk_tree::{FaultKind, ParseFault};
 use std::alloc::Global;
 use std::process::Abort;
 use std::test::Fail;
 
-mod pickles;
-mod skeletons;
-
 const EMPTY_LINES: &str =
     r#"{"source":{"data":"","mediaType":"text/x.cucumber.gherkin+plain","uri":"e.feature"}}
 {"gherkinDocument":{"comments":[],"uri":"e.feature"}}
 "#;
 
-const PLAIN_TEXT: &str = "Feature: f\n\n  Scenario: s\n    Given a\n";
+pub(crate) const PLAIN_TEXT: &str = "Feature: f\n\n  Scenario: s\n    Given a\n";
 
 const PLAIN_LINES: &str =
     r#"{"source":{"data":"Feature: f\n\n  Scenario: s\n    Given a\n","mediaType":"text/x.cucumber.gherkin+plain","uri":"a.feature"}}

@@ -1,5 +1,5 @@
 //! The members of each kind: missing, null, and of a wrong type.
-use crate::tests::envelopes::fault_of;
+use crate::envelopes::fault_of;
 use std::alloc::Global;
 use std::process::Abort;
 use std::test::Fail;

@@ -1,5 +1,5 @@
 //! Bad members of the steps of pickles.
-use crate::tests::envelopes::refuses;
+use crate::envelopes::refuses;
 use std::test::Fail;
 
 const FRONT: &str =

@@ -1,5 +1,5 @@
 //! Documents of a stream beside the document of a text.
-use crate::tests::PLAIN_TEXT;
+use crate::compiled::PLAIN_TEXT;
 use cm_envelope::{Envelope, read_envelope};
 use gk_document::{Document, same_skeleton};
 use gk_tree::parse;

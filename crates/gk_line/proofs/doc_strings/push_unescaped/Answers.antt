@@ -1,16 +1,15 @@
 use Rattle.std.proofs.Common.{[], ◌∷◌, refl, ap, ◌∙◌, ◌++◌}
-use Rattle.std.proofs.lemmas.Str.{chars-nil, IsUtf8-string_bytes}
+use Rattle.std.proofs.lemmas.Str.{IsUtf8-string_bytes}
 use Rattle.std.specs.Str.{chars}
 use Rattle.std.specs.String.{string_bytes}
 use Rattle.gk_line.specs.Characters.{backslash}
-use Rattle.gk_line.specs.DocStrings.{fences_unescaped, fence_mark, fence_characters}
+use Rattle.gk_line.specs.DocStrings.{fence_mark, fence_characters}
 use Rattle.gk_line.proofs.TextLemmas.{grown_chars}
 use Rattle.gk_line.proofs.FenceLemmas.{turn, escaped_step, alone_step, fence_added, last}
-use Rattle.gk_line.proofs.doc_strings.unescape_fences.Goals as goal
+use Rattle.gk_line.proofs.doc_strings.push_unescaped.Goals as goal
 
 pub loop-front-init : goal.loop-front-init
-loop-front-init c =
-    (c.utf8.text, ap (λ q. q ++ fences_unescaped (fence_mark c.args.fence) 0 (chars c.args.text.now)) (ap chars c.new-value.ensures.bytes ∙ chars-nil))
+loop-front-init c = (c.utf8.text, refl)
 
 pub loop-front-preserved-in-Some-strip : goal.loop-front-preserved-in-Some-strip
 loop-front-preserved-in-Some-strip c =

@@ -1,5 +1,5 @@
 //! Readers and writers of std that fail.
-use crate::{ByteSink, ByteSource, DeviceFailed, Reader, Writer};
+use cm_envelope::{ByteSink, ByteSource, DeviceFailed, Reader, Writer};
 use std::io;
 
 // Every call fails.

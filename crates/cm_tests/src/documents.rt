@@ -1,5 +1,5 @@
 //! Bad members of gherkin documents, and the rules on children and tables.
-use crate::tests::envelopes::refuses;
+use crate::envelopes::refuses;
 use std::process::Abort;
 use std::test::Fail;
 

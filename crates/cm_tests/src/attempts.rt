@@ -1,4 +1,4 @@
-use crate::{Status, Track, TrackFault, worst};
+use cm_attempt::{Status, Track, TrackFault, worst};
 use std::alloc::{AllocError, Global};
 use std::test::Fail;
 

@@ -1,5 +1,5 @@
 //! The envelopes of single lines.
-use crate::{Envelope, ShapeFault, Status, TestCase, read_envelope};
+use cm_envelope::{Envelope, ShapeFault, Status, TestCase, read_envelope};
 use std::alloc::Global;
 use std::process::Abort;
 use std::test::Fail;

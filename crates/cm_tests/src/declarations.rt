@@ -1,4 +1,4 @@
-use crate::{Declared, RefFault};
+use cm_refs::{Declared, RefFault};
 use std::alloc::{AllocError, Global};
 use std::test::Fail;
 

@@ -1,7 +1,7 @@
 //! The lines that a feed answers, over sources in memory.
 ghost use Rattle.std.specs.Prelude.{Some, None};
 
-use crate::{ByteSource, DeviceFailed, Feed, Reader, Trouble, is_blank_line};
+use cm_envelope::{ByteSource, DeviceFailed, Feed, Reader, Trouble, is_blank_line};
 use std::process::Abort;
 use std::test::Fail;
 

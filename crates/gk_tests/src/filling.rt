@@ -1,6 +1,6 @@
 //! Outside examples of filling and of sources. Texts that are parsed are compiled in the tests of the crate above.
-use crate::{fill, source_value};
 use gk_line::{Cell, Text};
+use gk_pickle::{fill, source_value};
 use std::alloc::{AllocError, Global};
 use std::process::Abort;
 use std::test::Fail;

@@ -1,5 +1,5 @@
 //! The parser beside the plain program.
-use crate::{has_document, parse, place};
+use gk_tree::{has_document, parse, place};
 use std::alloc::Global;
 use std::test::Fail;
 

@@ -1,5 +1,5 @@
 // Skeletons of two small documents. Documents with all their parts are compared where they are read from a stream.
-use crate::{Document, Feature, Location, same_skeleton};
+use gk_document::{Document, Feature, Location, same_skeleton};
 use gk_line::{Sequence, Text};
 use std::alloc::{AllocError, Global};
 use std::test::Fail;

@@ -1,5 +1,5 @@
 //! Worked texts.
-use crate::*;
+use gk_tree::*;
 use std::alloc::Global;
 use std::test::Fail;
 

@@ -1,7 +1,0 @@
-mod devices;
-mod documents;
-mod envelopes;
-mod feeds;
-mod members;
-mod pickles;
-mod producers;

@@ -1,0 +1,11 @@
+use Rattle.std.proofs.Common.{ap, ◌∙◌, ◌++◌}
+use Rattle.std.specs.Str.{chars}
+use Rattle.std.proofs.lemmas.Str.{chars-nil}
+use Rattle.gk_line.specs.DocStrings.{doc_line_of}
+use Rattle.gk_line.specs.Views.{line_chars}
+use Rattle.gk_line.proofs.doc_strings.doc_line.Goals as goal
+
+pub returns : goal.returns
+returns c =
+    let empty = ap chars c.new-text.ensures.bytes ∙ chars-nil in
+    c.in_ok-push_doc_line.ensures ∙ ap (λ q. q ++ doc_line_of c.args.fence c.args.indent (line_chars c.args.line)) empty
