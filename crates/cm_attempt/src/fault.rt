@@ -8,7 +8,7 @@ use thiserror::Error;
 /// Why a call of a `Track` is refused. The track is then as it was.
 #[derive(Clone, Copy, Debug, PartialEq, Eq, Error)]
 pub enum TrackFault {
-    #[error("no test case has the id")]
+    #[error("no case has the id")]
     UnknownCase,
     #[error("no attempt has the id")]
     UnknownAttempt,
