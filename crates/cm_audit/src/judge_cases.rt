@@ -185,6 +185,7 @@ pub(crate) fn judge_case(state: &mut State, case: TestCase) -> Result<(), Stop>
         ..
     } = case;
     let steps = step_ids(state.alloc, test_steps)?;
+    state.named.reserve(1)?;
     state.track.add_case(id.as_str(), steps.as_slice())?;
     let is_first = add_name(&mut state.named, pickle_id.into_string())?;
     count_case(&mut state.counts, is_first);

@@ -41,6 +41,7 @@ pub(crate) fn judge_source(state: &mut State, source: Source) -> Result<(), Stop
         return Err(Stop::Unsupported(Reason::MediaType));
     }
     let kept = read_source(state.alloc, content.as_str())?;
+    state.sources.reserve(1)?;
     state.declared.declare_source(uri.as_str())?;
     state.sources.insert(uri.into_string(), kept)?;
     state.counts.sources += 1;

@@ -120,8 +120,8 @@ fn push_content_line(
     indent: u32,
 ) -> Result<(), AllocError>
     ensures { OnOk result (string_bytes text.new
-        ≡ (if is_first then string_bytes text.old ++ content_line fence indent (kept_line line)
-        else (string_bytes text.old ++ line_feed ∷ []) ++ content_line fence indent (kept_line line))) }
+        ≡ (if is_first then string_bytes text.old ++ content_line fence indent (kept_line line.entry)
+        else (string_bytes text.old ++ line_feed ∷ []) ++ content_line fence indent (kept_line line.entry))) }
 {
     if is_first {
         return push_doc_line(text, line.line, fence, indent);

@@ -1,4 +1,4 @@
-use Rattle.std.proofs.Common.{◌≡◌, ◌∙◌, refl, ap, sym, subst, false, true, not, ◌+◌, Err, Ok, [], ◌∷◌, ◌++◌, map, arith}
+use Rattle.std.proofs.Common.{◌≡◌, ◌∙◌, refl, ap, sym, subst, false, true, not, ◌+◌, Err, Ok, [], ◌∷◌, ◌++◌, List, map, arith}
 use Rattle.std.specs.Str.{bytes_eq}
 use Rattle.std.specs.String.{string_bytes}
 use Rattle.std.proofs.lemmas.List.{map-append}
@@ -41,13 +41,17 @@ returns-in_err-kept c =
     stops c.args.state.now (c.args.state.now) (Source c.args.source) c.from_residual.result why c.from_residual.ensures.1
     (source_unread (summary_of c.args.state.now) c.args.source new media why read)
 
+pub returns-in_err-reserve : goal.returns-in_err-reserve
+returns-in_err-reserve c =
+    stops c.args.state.now (record (c.args.state.now) { sources = c.reserve.new.self }) (Source c.args.source) c.from_residual-in_err-reserve.result Memory c.from_residual-in_err-reserve.ensures.1 tt
+
 pub returns-in_err-declare_source : goal.returns-in_err-declare_source
 returns-in_err-declare_source c =
     let fault = c.in_err-declare_source.field-0.0 in
     let answer = rw c.as_str-4.ensures at c.in_err-declare_source.ensures.answer in
     let new : has_text c.args.source.uri c.args.state.now.declared.sources ≡ false =
     ap (λ t. has_text t c.args.state.now.declared.sources) (sym c.as_str.ensures) ∙ sym c.has_source.ensures ∙ c.if-has_source.false in
-    stops c.args.state.now (record (c.args.state.now) { declared = c.declare_source.new.self }) (Source c.args.source) c.from_residual-in_err-declare_source.result (refused_reference fault) c.from_residual-in_err-declare_source.ensures.1
+    stops c.args.state.now (record (c.args.state.now) { declared = c.declare_source.new.self; sources = c.reserve.new.self }) (Source c.args.source) c.from_residual-in_err-declare_source.result (refused_reference fault) c.from_residual-in_err-declare_source.ensures.1
     (only_memory (has_text c.args.source.uri c.args.state.now.declared.sources) DuplicateUri fault (finding_inside (summary_of c.args.state.now) (Source c.args.source)) new answer)
 
 pub returns-in_err-insert : goal.returns-in_err-insert
@@ -68,12 +72,14 @@ returns c =
     let media : bytes_eq c.args.source.media_type plain ≡ true =
     yes_by (bytes_eq c.args.source.media_type plain) (ap (λ t. not (bytes_eq t plain)) (sym c.as_str-2.ensures) ∙ sym c.ne.ensures ∙ c.if-ne.false) in
     let read : ReadsAs (reads c.args.source.content) (Ok kept) = subst (λ t. ReadsAs (reads t) (Ok kept)) c.as_str-3.ensures c.in_ok-kept.ensures in
-    let absent = row_absent uri rows (ap (has_text uri) c.requires.listed ∙ new) in
+    let reserved : kept_rows c.reserve.new.self.entries ≡ rows = ap kept_rows c.reserve.ensures.entries in
+    let absent = row_absent uri (kept_rows c.reserve.new.self.entries) (ap (λ (rs : List SourceRow). has_text uri (map (λ (r : SourceRow). r.uri) rs)) reserved ∙ ap (has_text uri) c.requires.listed ∙ new) in
     let same : string_bytes c.into_string.result ≡ uri = c.into_string.ensures in
     let made : c.declare_source.new.self ≡ with_source uri old.declared = c.in_ok-declare_source.ensures.ok ∙ ap (λ t. with_source t old.declared) c.as_str-4.ensures in
     let entered : kept_rows c.insert.new.self.entries ≡ rows ++ kept_row uri kept ∷ [] =
     ap kept_rows c.in_ok-insert.ensures.entries
-    ∙ inserted_rows kept_row uri (λ r. bytes_eq uri r.uri) (row_says uri) c.into_string.result same old.sources kept absent in
+    ∙ inserted_rows kept_row uri (λ r. bytes_eq uri r.uri) (row_says uri) c.into_string.result same c.reserve.new.self kept absent
+    ∙ ap (λ (rs : List SourceRow). rs ++ kept_row uri kept ∷ []) reserved in
     let grown : kept_rows c.insert.new.self.entries ≡ rows ++ new_source c.args.source ∷ [] =
     entered ∙ ap (λ r. rows ++ r ∷ []) (kept_source c.args.source uri kept refl read) in (
       source_fits (summary_of old) c.args.source new media kept read,

@@ -1,4 +1,3 @@
-use Rattle.std.proofs.Common.{ap, ◌∙◌, sym, ◌++◌, ◌∷◌, []}
 use Rattle.std.specs.String.{string_bytes}
 use Rattle.std.proofs.lemmas.Result.{on_ok_weaker}
 use Rattle.std.proofs.lemmas.Str.{IsUtf8-string_bytes}
@@ -17,6 +16,7 @@ returns-then-is_first c =
     c.push_doc_line.ensures
 
 pub returns : goal.returns
+unfolding lib.Utf8.encode
 returns c =
     let mid = string_bytes c.push.new.self in
     let new = string_bytes c.push_doc_line-2.new.text in
