@@ -164,6 +164,15 @@ fn lines_of_a_doc_string(rt: HostRuntime) -> Result<(), Fail> {
 }
 
 #[test]
+fn lines_of_a_doc_string_are_added_at_the_end(rt: HostRuntime) -> Result<(), Fail> {
+    let mut text = String::new(rt.alloc());
+    push_doc_line(&mut text, line("    y \\\"\\\"\\\" z")?, Fence::Quotes, 4)?;
+    push_doc_line(&mut text, line("  é")?, Fence::Quotes, 1)?;
+    assert_eq!(rt; text.as_str(), "y \"\"\" z é");
+    Ok(())
+}
+
+#[test]
 fn lines_that_open_a_doc_string(rt: HostRuntime) -> Result<(), Fail> {
     let quotes = fence(line("    \"\"\" json ")?).ok_or("no fence")?;
     assert!(rt; quotes.fence == Fence::Quotes);
