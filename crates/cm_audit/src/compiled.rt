@@ -6,6 +6,7 @@ ghost use Rattle.gk_tree.specs.declared.fault.ParseFault.{ParseFault};
 ghost use Rattle.gk_tree.specs.Views.{too_long};
 ghost use Rattle.serde_json.specs.View.{view};
 ghost use Rattle.serde_json.specs.Written.{has_float};
+ghost use Rattle.gk_pickle.specs.Pickles.{pickles};
 ghost use Rattle.gk_pickle.specs.Json.{pickle_data};
 ghost use Rattle.gk_pickle.specs.TreeJson.{source_data, document_data};
 ghost use Rattle.cm_envelope.specs.Device.{count_up};
@@ -79,6 +80,24 @@ fn add_pickle_lines(
     Ok(())
 }
 
+/// All lines of a feature file whose document is read.
+fn lines_of_document(
+    alloc: Global,
+    uri: &str,
+    text: &str,
+    document: &Document,
+) -> Result<Vec<Text>, AllocError>
+    requires { document.now.nodes + sum_by id_count (pickles document.now) < 2 ^ 64 }
+    ensures { IfOk result (λ lines. lines.items ≡ compiled_lines uri.now text.now document.now) }
+{
+    let pickles = compile(alloc, document)?;
+    let mut lines = Vec::new(alloc);
+    lines.push(source_line(alloc, uri, text)?)?;
+    lines.push(document_line(alloc, uri, document)?)?;
+    add_pickle_lines(alloc, uri, pickles.as_slice(), document.nodes, &mut lines)?;
+    Ok(lines)
+}
+
 /// All lines of a feature file.
 fn lines_of(alloc: Global, uri: &str, text: &str) -> Result<Vec<Text>, CompileFault>
     ensures ok { IfOk result (λ lines. HasLines uri.now text.now lines.items) }
@@ -87,12 +106,7 @@ fn lines_of(alloc: Global, uri: &str, text: &str) -> Result<Vec<Text>, CompileFa
     ensures nothing_written { result ≢ Err WriteFailed }
 {
     let document = parse(alloc, text)?;
-    let pickles = compile(alloc, &document)?;
-    let mut lines = Vec::new(alloc);
-    lines.push(source_line(alloc, uri, text)?)?;
-    lines.push(document_line(alloc, uri, &document)?)?;
-    add_pickle_lines(alloc, uri, pickles.as_slice(), document.nodes, &mut lines)?;
-    Ok(lines)
+    Ok(lines_of_document(alloc, uri, text, &document)?)
 }
 
 /// Writes the lines of a feature file as Cucumber Messages: its source, its document and its pickles in order, each

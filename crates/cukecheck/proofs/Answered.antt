@@ -7,18 +7,15 @@ use Rattle.cm_envelope.specs.Lines.{is_blank}
 use Rattle.cm_envelope.specs.Member.{◌>>=◌}
 use Rattle.cm_envelope.specs.Reading.{envelope_of_line, Fault as ReadingFault, not_json, shape, field}
 use Rattle.cm_envelope.specs.declared.envelope.Envelope.{Envelope}
-use Rattle.cm_envelope.specs.declared.envelope.Envelope.TheVariants as envelope
-use Rattle.cm_envelope.specs.declared.envelope.Status.{Status as LineStatus}
-use Rattle.cm_envelope.specs.declared.envelope.Status.TheVariants as line
 use Rattle.cm_envelope.specs.declared.feed.Trouble.{Trouble}
-use Rattle.cm_attempt.specs.Table.{Table, empty_table, change_attempt, step_done, reported_of}
+use Rattle.cm_attempt.specs.Table.{Table, empty_table, reported_of}
 use Rattle.cm_attempt.specs.Calls.{table_after}
 use Rattle.cm_attempt.specs.declared.fault.TrackFault.{TrackFault}
 use Rattle.cm_attempt.specs.declared.fault.TrackFault.TheVariants as track
 use Rattle.cm_stream.specs.Findings.{Finding, IsBad, fault_of_line}
 use Rattle.cm_stream.specs.Refusals as stream
-use Rattle.cm_stream.specs.Seen as seen
-use Rattle.cm_stream.specs.Statuses.{kept_status}
+use Rattle.cm_stream.specs.Refusals.{refused}
+use Rattle.cm_stream.specs.Seen.{changed}
 use Rattle.cm_stream.specs.Stream.{Told, At, NoFault, Troubled, at_line as at_told, fed}
 use Rattle.cm_results.specs.Joining.{calls_of}
 use Rattle.cm_results.specs.FirstFault.{fault, told_line, told_of, told}
@@ -26,37 +23,11 @@ use Rattle.cm_results.proofs.Joined.{tables_have_results}
 use Rattle.cm_results.proofs.Faults.{refused_for_checks}
 use Rattle.cm_results.proofs.Changes.{tables_change}
 use Rattle.cukecheck.specs.Faults.{Fault, refusal_fault, unread_fault}
-use Rattle.cukecheck.specs.Statuses.{kept}
-use Rattle.cukecheck.specs.Outcome.{refusal, changed, unless_fault, after_envelope, after_line, at_line, after_lines, Outcome, outcome_at, outcome_of, case_text, text_of, status_of}
+use Rattle.cukecheck.specs.Outcome.{unless_fault, after_envelope, after_line, at_line, after_lines, Outcome, outcome_at, outcome_of, case_text, text_of, status_of}
 use Rattle.cukecheck.specs.Run.{Tells, TellsOrNoMemory}
 use Rattle.cukecheck.specs.Answer.{Answer, results, bad_line, trouble, finding_of, IsAnswer, result_text, answer_text, answer_status, AnswersOrNoMemory}
 
 -- ---- the same words
-
-kept_is : (s : LineStatus) → kept s ≡ kept_status s
-kept_is line.Unknown = refl
-kept_is line.Passed = refl
-kept_is line.Skipped = refl
-kept_is line.Pending = refl
-kept_is line.Undefined = refl
-kept_is line.Ambiguous = refl
-kept_is line.Failed = refl
-
-refusal_is : (t : Table) (e : Envelope) → refusal t e ≡ stream.refused t e
-refusal_is t (envelope.TestCase e) = refl
-refusal_is t (envelope.TestCaseStarted e) = refl
-refusal_is t (envelope.TestStepStarted e) = refl
-refusal_is t (envelope.TestStepFinished e) = refl
-refusal_is t (envelope.TestCaseFinished e) = refl
-refusal_is t _ = refl
-
-changed_is : (t : Table) (e : Envelope) → changed t e ≡ seen.changed t e
-changed_is t (envelope.TestCase e) = refl
-changed_is t (envelope.TestCaseStarted e) = refl
-changed_is t (envelope.TestStepStarted e) = refl
-changed_is t (envelope.TestStepFinished e) = ap (λ s. change_attempt e.test_case_started_id (step_done s) t) (kept_is e.test_step_result.status)
-changed_is t (envelope.TestCaseFinished e) = refl
-changed_is t _ = refl
 
 told_is : (o : Option TrackFault) → option_map finding_of (option_and_then refusal_fault o) ≡ option_and_then stream.told_refusal o
 told_is None = refl
@@ -101,24 +72,24 @@ shown before n t [] (Some reason) taken = record { answer = trouble reason; is =
 shown before n t [] None taken = at_end before t taken
 shown before n t (l ∷ ls) end taken = go (is_blank l) refl (shown before (n + 1) t ls end taken) (λ e u. shown (before ++ e ∷ []) (n + 1) u ls end)
   where
-    on_fault : (e : Envelope) → (o : Option Fault) → option_and_then refusal_fault (refusal t e) ≡ o
+    on_fault : (e : Envelope) → (o : Option Fault) → option_and_then refusal_fault (refused t e) ≡ o
         → ((u : Table) → table_after (calls_of (before ++ e ∷ [])) ≡ Some u → Shown (told_of (before ++ e ∷ []) (n + 1 + 1) ls end) (outcome_at (after_lines (n + 1) u ls) end))
         → Shown (at_told (n + 1) (fault before e) (told_of (before ++ e ∷ []) (n + 1 + 1) ls end)) (outcome_at (at_line (n + 1) (unless_fault o (changed t e)) >>= λ next. after_lines (n + 1) next ls) end)
     on_fault e o k rec = by o k
       where
-        failed : (o : Option Fault) → option_and_then refusal_fault (refusal t e) ≡ o → fault before e ≡ option_map finding_of o
-        failed o k = sym (refused_for_checks before t taken e) ∙ ap (option_and_then stream.told_refusal) (sym (refusal_is t e)) ∙ sym (told_is (refusal t e)) ∙ ap (option_map finding_of) k
+        failed : (o : Option Fault) → option_and_then refusal_fault (refused t e) ≡ o → fault before e ≡ option_map finding_of o
+        failed o k = sym (refused_for_checks before t taken e) ∙ sym (told_is (refused t e)) ∙ ap (option_map finding_of) k
 
-        by : (o : Option Fault) → option_and_then refusal_fault (refusal t e) ≡ o
+        by : (o : Option Fault) → option_and_then refusal_fault (refused t e) ≡ o
             → Shown (at_told (n + 1) (fault before e) (told_of (before ++ e ∷ []) (n + 1 + 1) ls end)) (outcome_at (at_line (n + 1) (unless_fault o (changed t e)) >>= λ next. after_lines (n + 1) next ls) end)
         by (Some f) k = rw (failed (Some f) k) (record { answer = bad_line (n + 1) f; is = (refl, refl); text = refl; status = refl })
-        by None k = rw (failed None k) (rec (changed t e) (tables_change before t taken e (failed None k) ∙ ap Some (sym (changed_is t e))))
+        by None k = rw (failed None k) (rec (changed t e) (tables_change before t taken e (failed None k)))
 
     on_read : (r : Result Envelope ReadingFault)
         → ((e : Envelope) (u : Table) → table_after (calls_of (before ++ e ∷ [])) ≡ Some u → Shown (told_of (before ++ e ∷ []) (n + 1 + 1) ls end) (outcome_at (after_lines (n + 1) u ls) end))
         → Shown (told_line before (n + 1) (Some r) (λ (now : List Envelope). told_of now (n + 1 + 1) ls end)) (outcome_at (at_line (n + 1) (after_envelope t r) >>= λ next. after_lines (n + 1) next ls) end)
     on_read (Err b) rec = record { answer = bad_line (n + 1) (unread_fault b); is = (refl, unread_is b); text = refl; status = refl }
-    on_read (Ok e) rec = on_fault e (option_and_then refusal_fault (refusal t e)) refl (rec e)
+    on_read (Ok e) rec = on_fault e (option_and_then refusal_fault (refused t e)) refl (rec e)
 
     go : (b : Bool) → is_blank l ≡ b → Shown (told_of before (n + 1 + 1) ls end) (outcome_at (after_lines (n + 1) t ls) end)
         → ((e : Envelope) (u : Table) → table_after (calls_of (before ++ e ∷ [])) ≡ Some u → Shown (told_of (before ++ e ∷ []) (n + 1 + 1) ls end) (outcome_at (after_lines (n + 1) u ls) end))

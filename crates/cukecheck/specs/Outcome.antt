@@ -5,35 +5,16 @@ use Rattle.cm_envelope.specs.Lines.{feed, is_blank, line_feed}
 use Rattle.cm_envelope.specs.Member.{◌>>=◌}
 use Rattle.cm_envelope.specs.Reading.{envelope_of_line, Fault as ReadingFault}
 use Rattle.cm_envelope.specs.declared.envelope.Envelope.{Envelope}
-use Rattle.cm_envelope.specs.declared.envelope.Envelope.TheVariants as envelope
 use Rattle.cm_envelope.specs.declared.feed.Trouble.{Trouble}
 use Rattle.cm_envelope.specs.declared.feed.Trouble.TheVariants.{ReadFailed, LineTooLong, StreamTooLong, Memory}
 use Rattle.cm_envelope.specs.declared.feed.TheConstants.{LINE_LIMIT, STREAM_LIMIT}
-use Rattle.cm_attempt.specs.Table.{Table, empty_table, add_case_fault, start_fault, step_start_fault, step_finish_fault, finish_fault}
-use Rattle.cm_attempt.specs.Table.{with_case, started, change_attempt, running, step_done, finished, reported_of}
-use Rattle.cm_attempt.specs.declared.fault.TrackFault.{TrackFault}
+use Rattle.cm_attempt.specs.Table.{Table, empty_table, reported_of}
 use Rattle.cukecheck.specs.Faults.{Fault, label, refusal_fault, unread_fault}
-use Rattle.cukecheck.specs.Statuses.{kept, reported_word}
+use Rattle.cm_stream.specs.Refusals.{refused}
+use Rattle.cm_stream.specs.Seen.{changed}
+use Rattle.cukecheck.specs.Statuses.{reported_word}
 
 -- ---- a line
-
--- why the table refuses an envelope, the first reason in order
-abbrev pub refusal : Table → Envelope → Option TrackFault
-refusal t (envelope.TestCase e) = add_case_fault t e.id (map (λ step. step.id) e.test_steps)
-refusal t (envelope.TestCaseStarted e) = start_fault t e.id e.test_case_id e.attempt
-refusal t (envelope.TestStepStarted e) = step_start_fault t e.test_case_started_id e.test_step_id
-refusal t (envelope.TestStepFinished e) = step_finish_fault t e.test_case_started_id e.test_step_id
-refusal t (envelope.TestCaseFinished e) = finish_fault t e.test_case_started_id
-refusal t _ = None
-
--- the table after an envelope that it doesn't refuse
-abbrev pub changed : Table → Envelope → Table
-changed t (envelope.TestCase e) = with_case e.id (map (λ step. step.id) e.test_steps) t
-changed t (envelope.TestCaseStarted e) = started e.id e.test_case_id t
-changed t (envelope.TestStepStarted e) = change_attempt e.test_case_started_id running t
-changed t (envelope.TestStepFinished e) = change_attempt e.test_case_started_id (step_done (kept e.test_step_result.status)) t
-changed t (envelope.TestCaseFinished e) = finished e.test_case_started_id e.will_be_retried t
-changed t _ = t
 
 abbrev pub unless_fault : Option Fault → Table → Result Table Fault
 unless_fault (Some fault) t = Err fault
@@ -41,7 +22,7 @@ unless_fault None t = Ok t
 
 -- the table after an envelope, or the fault of its line
 abbrev pub after_envelope : Table → Result Envelope ReadingFault → Result Table Fault
-after_envelope t (Ok e) = unless_fault (option_and_then refusal_fault (refusal t e)) (changed t e)
+after_envelope t (Ok e) = unless_fault (option_and_then refusal_fault (refused t e)) (changed t e)
 after_envelope t (Err fault) = Err (unread_fault fault)
 
 -- the table after a line, or the line's fault; a blank line changes nothing

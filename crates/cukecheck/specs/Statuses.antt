@@ -1,19 +1,7 @@
--- The statuses of steps: what a line says, what a table keeps, and the words of both.
+-- The words of the statuses of steps.
 use Rattle.std.specs.Prelude.{ℕ, List, Option, Some, None, codes}
 use Rattle.cm_attempt.specs.declared.status.Status.{Status}
 use Rattle.cm_attempt.specs.declared.status.Status.TheVariants.{Unknown, Passed, Skipped, Pending, Undefined, Ambiguous, Failed}
-use Rattle.cm_envelope.specs.declared.envelope.Status.{Status as LineStatus}
-use Rattle.cm_envelope.specs.declared.envelope.Status.TheVariants as line
-
--- the status that a table keeps of a line's status
-abbrev pub kept : LineStatus → Status
-kept line.Unknown = Unknown
-kept line.Passed = Passed
-kept line.Skipped = Skipped
-kept line.Pending = Pending
-kept line.Undefined = Undefined
-kept line.Ambiguous = Ambiguous
-kept line.Failed = Failed
 
 -- the word of a status, as `testStepResult` of the Cucumber Messages schemas has it
 abbrev pub status_word : Status → List ℕ

@@ -7,8 +7,8 @@ ghost use Rattle.cukecheck.specs.Outcome.{after_envelope, after_line, outcome_of
 ghost use Rattle.cukecheck.specs.Reading.{HasOutcome, IsListed, LeavesCases, is_failed_read};
 
 use crate::fault::Fault;
-use crate::status::kept_status;
 use cm_attempt::{Track, TrackFault};
+use cm_audit::kept_status;
 use cm_envelope::{
     ByteSource, Envelope, Feed, ShapeFault, TestCase, TestStep, Trouble, is_blank_line,
     read_envelope,

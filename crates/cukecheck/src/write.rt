@@ -4,6 +4,7 @@ ghost use Rattle.std.specs.Io.KnownBytes.{Appends};
 ghost use Rattle.cm_envelope.specs.Device.{count_up, greatest_count};
 ghost use Rattle.cukecheck.specs.Run.{NoneFailed};
 
+use cm_audit::write_all;
 use cm_envelope::{ByteSink, DeviceFailed};
 
 /// The status where something outside the words and the stream failed.
@@ -11,23 +12,6 @@ pub const TROUBLE_STATUS: u8 = 3;
 
 /// What is told where memory was refused.
 pub const NO_MEMORY: &str = "trouble Memory\n";
-
-/// Writes all the bytes. No write is repeated, and one that takes nothing has failed.
-fn write_all<W: ByteSink>(sink: &mut W, bytes: &[u8]) -> Result<(), DeviceFailed>
-    ensures taken { OnOk result (Appends (W.taken sink.old) (W.taken sink.new) bytes.now) }
-    ensures ok { OnOk result (W.failed_calls sink.new ≡ W.failed_calls sink.old) }
-    ensures err { OnErr result (W.failed_calls sink.new ≡ count_up (W.failed_calls sink.old)) }
-{
-    let mut rest = bytes;
-    'writes: while !rest.is_empty() {
-        let taken = sink.write_some(rest)?;
-        if taken == 0 {
-            return Err(DeviceFailed);
-        }
-        rest = &rest[taken..];
-    }
-    Ok(())
-}
 
 /// Tries to write `trouble WriteFailed`, as far as the sink takes it.
 pub fn tell_write_failed<W: ByteSink>(sink: &mut W) -> u8

@@ -42,6 +42,32 @@ pub(crate) fn add_text(
     put(members, alloc, name, Value::try_from_str(alloc, text)?)
 }
 
+/// Adds a member.
+pub(crate) fn add<T: WriteJson>(
+    members: &mut Map<String, Value>,
+    alloc: Global,
+    name: &str,
+    value: &T,
+) -> Result<(), AllocError>
+    ensures { OnOk result (members_view members.new.entries
+        ≡ with_member name.now (T.json value.now) (members_view members.old.entries)) }
+{
+    put(members, alloc, name, value.to_json(alloc)?)
+}
+
+/// Adds a member that holds a list.
+pub(crate) fn add_list<T: WriteJson>(
+    members: &mut Map<String, Value>,
+    alloc: Global,
+    name: &str,
+    items: &[T],
+) -> Result<(), AllocError>
+    ensures { OnOk result (members_view members.new.entries
+        ≡ with_member name.now (list_data T.json items.now) (members_view members.old.entries)) }
+{
+    put(members, alloc, name, list_value(alloc, items)?)
+}
+
 /// Adds the media type of a doc string, where there is one that isn't empty.
 pub(crate) fn add_media(
     members: &mut Map<String, Value>,
@@ -110,8 +136,10 @@ impl WriteJson for PickleTag {
     ghost json = { pickle_tag_data };
 
     fn to_json(&self, alloc: Global) -> Result<Value, AllocError> {
-        let id = self.node.to_json(alloc)?;
-        json!(in alloc; {"astNodeId": id, "name": self.name.as_str()})
+        let mut members = Map::new(alloc);
+        add(&mut members, alloc, "astNodeId", &self.node)?;
+        add_text(&mut members, alloc, "name", self.name.as_str())?;
+        Ok(Value::Object(members))
     }
 }
 
@@ -186,11 +214,9 @@ fn type_name(kind: StepType) -> &'static str
 fn step_value(alloc: Global, step: &PickleStep, id: u64) -> Result<Value, AllocError>
     ensures { IfOk result (λ v. view v ≡ pickle_step_data id step.now) }
 {
-    let nodes = list_value(alloc, step.nodes.as_slice())?;
-    let id = id.to_json(alloc)?;
     let mut members = Map::new(alloc);
-    put(&mut members, alloc, "astNodeIds", nodes)?;
-    put(&mut members, alloc, "id", id)?;
+    add_list(&mut members, alloc, "astNodeIds", step.nodes.as_slice())?;
+    add(&mut members, alloc, "id", &id)?;
     add_text(&mut members, alloc, "text", step.text.as_str())?;
     add_text(&mut members, alloc, "type", type_name(step.kind))?;
     add_optional(&mut members, alloc, "argument", &step.argument)?;
@@ -228,12 +254,16 @@ pub fn pickle_value(
     requires { first_id + length pickle.now.steps < 2 ^ 64 }
     ensures { IfOk result (λ v. view v ≡ pickle_data uri.now first_id pickle.now) }
 {
-    let id = (first_id + pickle.steps.len() as u64).to_json(alloc)?;
-    let nodes = list_value(alloc, pickle.nodes.as_slice())?;
+    let id = first_id + pickle.steps.len() as u64;
+    let mut members = Map::new(alloc);
+    add_list(&mut members, alloc, "astNodeIds", pickle.nodes.as_slice())?;
+    add(&mut members, alloc, "id", &id)?;
+    add_text(&mut members, alloc, "language", "en")?;
+    add_text(&mut members, alloc, "name", pickle.name.as_str())?;
     let steps = steps_value(alloc, pickle.steps.as_slice(), first_id)?;
-    let tags = list_value(alloc, pickle.tags.as_slice())?;
-    json!(in alloc; {"pickle": {
-        "astNodeIds": nodes, "id": id, "language": "en", "name": pickle.name.as_str(),
-        "steps": steps, "tags": tags, "uri": uri
-    }})
+    put(&mut members, alloc, "steps", steps)?;
+    add_list(&mut members, alloc, "tags", pickle.tags.as_slice())?;
+    add_text(&mut members, alloc, "uri", uri)?;
+    let members = Value::Object(members);
+    json!(in alloc; {"pickle": members})
 }

@@ -5,7 +5,9 @@ ghost use Rattle.serde_json.specs.View.{view, members_view};
 ghost use Rattle.gk_pickle.specs.Json.{object_of, list_data, put_some};
 ghost use Rattle.gk_pickle.specs.TreeJson.{location_data, cell_data, row_data, tag_data, comment_data, delimiter, doc_string_data, table_place, table_data, keyword_word, table_of, doc_string_of, step_data, background_data, body_of, block_members, examples_data, scenario_data, background_child as background_child_data, scenario_child as scenario_child_data, rule_child as rule_child_data, children_data, rule_data, feature_data, document_data, source_data};
 
-use crate::json::{WriteJson, add_media, add_optional, add_text, list_value, with_optional};
+use crate::json::{
+    WriteJson, add, add_list, add_media, add_optional, add_text, list_value, with_optional,
+};
 use gk_document::{
     Argument, Background, Comment, DocString, Document, ExampleTable, Examples, Feature, Location,
     Row, Rule, Scenario, Step, Tag,
@@ -51,9 +53,11 @@ impl WriteJson for Row {
 
     fn to_json(&self, alloc: Global) -> Result<Value, AllocError> {
         let cells = cells_value(alloc, self.cells.as_slice(), self.location.line)?;
-        let id = self.node.to_json(alloc)?;
-        let location = self.location.to_json(alloc)?;
-        json!(in alloc; {"cells": cells, "id": id, "location": location})
+        let mut members = Map::new(alloc);
+        put(&mut members, alloc, "cells", cells)?;
+        add(&mut members, alloc, "id", &self.node)?;
+        add(&mut members, alloc, "location", &self.location)?;
+        Ok(Value::Object(members))
     }
 }
 
@@ -61,9 +65,11 @@ impl WriteJson for Tag {
     ghost json = { tag_data };
 
     fn to_json(&self, alloc: Global) -> Result<Value, AllocError> {
-        let id = self.node.to_json(alloc)?;
-        let location = self.location.to_json(alloc)?;
-        json!(in alloc; {"id": id, "location": location, "name": self.name.as_str()})
+        let mut members = Map::new(alloc);
+        add(&mut members, alloc, "id", &self.node)?;
+        add(&mut members, alloc, "location", &self.location)?;
+        add_text(&mut members, alloc, "name", self.name.as_str())?;
+        Ok(Value::Object(members))
     }
 }
 
@@ -90,11 +96,10 @@ impl WriteJson for DocString {
     ghost json = { doc_string_data };
 
     fn to_json(&self, alloc: Global) -> Result<Value, AllocError> {
-        let location = self.location.to_json(alloc)?;
         let mut members = Map::new(alloc);
         add_text(&mut members, alloc, "content", self.content.as_str())?;
         add_text(&mut members, alloc, "delimiter", fence_text(self.fence))?;
-        put(&mut members, alloc, "location", location)?;
+        add(&mut members, alloc, "location", &self.location)?;
         add_media(&mut members, alloc, &self.media)?;
         Ok(Value::Object(members))
     }
@@ -160,13 +165,11 @@ impl WriteJson for Step {
     ghost json = { step_data };
 
     fn to_json(&self, alloc: Global) -> Result<Value, AllocError> {
-        let id = self.node.to_json(alloc)?;
-        let location = self.location.to_json(alloc)?;
         let mut members = Map::new(alloc);
-        put(&mut members, alloc, "id", id)?;
+        add(&mut members, alloc, "id", &self.node)?;
         add_text(&mut members, alloc, "keyword", self.keyword.as_str())?;
         add_text(&mut members, alloc, "keywordType", type_name(self.kind))?;
-        put(&mut members, alloc, "location", location)?;
+        add(&mut members, alloc, "location", &self.location)?;
         add_text(&mut members, alloc, "text", self.text.as_str())?;
         add_argument(&mut members, alloc, self.location, &self.argument)?;
         Ok(Value::Object(members))
@@ -177,13 +180,19 @@ impl WriteJson for Background {
     ghost json = { background_data };
 
     fn to_json(&self, alloc: Global) -> Result<Value, AllocError> {
-        let id = self.node.to_json(alloc)?;
-        let location = self.location.to_json(alloc)?;
-        let steps = list_value(alloc, self.steps.as_slice())?;
-        json!(in alloc; {
-            "description": self.description.as_str(), "id": id, "keyword": self.keyword.as_str(),
-            "location": location, "name": self.name.as_str(), "steps": steps
-        })
+        let mut members = Map::new(alloc);
+        add_text(
+            &mut members,
+            alloc,
+            "description",
+            self.description.as_str(),
+        )?;
+        add(&mut members, alloc, "id", &self.node)?;
+        add_text(&mut members, alloc, "keyword", self.keyword.as_str())?;
+        add(&mut members, alloc, "location", &self.location)?;
+        add_text(&mut members, alloc, "name", self.name.as_str())?;
+        add_list(&mut members, alloc, "steps", self.steps.as_slice())?;
+        Ok(Value::Object(members))
     }
 }
 
@@ -209,14 +218,25 @@ fn body_value(alloc: Global, table: &Option<ExampleTable>) -> Result<Value, Allo
 fn block_value(alloc: Global, block: &Examples) -> Result<Value, AllocError>
     ensures { IfOk result (λ v. view v ≡ object_of (block_members block.now)) }
 {
-    let id = block.node.to_json(alloc)?;
-    let location = block.location.to_json(alloc)?;
-    let body = body_value(alloc, &block.table)?;
-    let tags = list_value(alloc, block.tags.as_slice())?;
-    json!(in alloc; {
-        "description": block.description.as_str(), "id": id, "keyword": block.keyword.as_str(),
-        "location": location, "name": block.name.as_str(), "tableBody": body, "tags": tags
-    })
+    let mut members = Map::new(alloc);
+    add_text(
+        &mut members,
+        alloc,
+        "description",
+        block.description.as_str(),
+    )?;
+    add(&mut members, alloc, "id", &block.node)?;
+    add_text(&mut members, alloc, "keyword", block.keyword.as_str())?;
+    add(&mut members, alloc, "location", &block.location)?;
+    add_text(&mut members, alloc, "name", block.name.as_str())?;
+    put(
+        &mut members,
+        alloc,
+        "tableBody",
+        body_value(alloc, &block.table)?,
+    )?;
+    add_list(&mut members, alloc, "tags", block.tags.as_slice())?;
+    Ok(Value::Object(members))
 }
 
 impl WriteJson for Examples {
@@ -232,16 +252,21 @@ impl WriteJson for Scenario {
     ghost json = { scenario_data };
 
     fn to_json(&self, alloc: Global) -> Result<Value, AllocError> {
-        let id = self.node.to_json(alloc)?;
-        let location = self.location.to_json(alloc)?;
-        let examples = list_value(alloc, self.examples.as_slice())?;
-        let steps = list_value(alloc, self.steps.as_slice())?;
-        let tags = list_value(alloc, self.tags.as_slice())?;
-        json!(in alloc; {
-            "description": self.description.as_str(), "examples": examples, "id": id,
-            "keyword": self.keyword.as_str(), "location": location, "name": self.name.as_str(),
-            "steps": steps, "tags": tags
-        })
+        let mut members = Map::new(alloc);
+        add_text(
+            &mut members,
+            alloc,
+            "description",
+            self.description.as_str(),
+        )?;
+        add_list(&mut members, alloc, "examples", self.examples.as_slice())?;
+        add(&mut members, alloc, "id", &self.node)?;
+        add_text(&mut members, alloc, "keyword", self.keyword.as_str())?;
+        add(&mut members, alloc, "location", &self.location)?;
+        add_text(&mut members, alloc, "name", self.name.as_str())?;
+        add_list(&mut members, alloc, "steps", self.steps.as_slice())?;
+        add_list(&mut members, alloc, "tags", self.tags.as_slice())?;
+        Ok(Value::Object(members))
     }
 }
 
@@ -294,15 +319,20 @@ impl WriteJson for Rule {
 
     fn to_json(&self, alloc: Global) -> Result<Value, AllocError> {
         let values = children(alloc, &self.background, self.scenarios.as_slice())?;
-        let children = Value::Array(values);
-        let id = self.node.to_json(alloc)?;
-        let location = self.location.to_json(alloc)?;
-        let tags = list_value(alloc, self.tags.as_slice())?;
-        json!(in alloc; {
-            "children": children, "description": self.description.as_str(), "id": id,
-            "keyword": self.keyword.as_str(), "location": location, "name": self.name.as_str(),
-            "tags": tags
-        })
+        let mut members = Map::new(alloc);
+        put(&mut members, alloc, "children", Value::Array(values))?;
+        add_text(
+            &mut members,
+            alloc,
+            "description",
+            self.description.as_str(),
+        )?;
+        add(&mut members, alloc, "id", &self.node)?;
+        add_text(&mut members, alloc, "keyword", self.keyword.as_str())?;
+        add(&mut members, alloc, "location", &self.location)?;
+        add_text(&mut members, alloc, "name", self.name.as_str())?;
+        add_list(&mut members, alloc, "tags", self.tags.as_slice())?;
+        Ok(Value::Object(members))
     }
 }
 
@@ -324,14 +354,20 @@ impl WriteJson for Feature {
     fn to_json(&self, alloc: Global) -> Result<Value, AllocError> {
         let mut values = children(alloc, &self.background, self.scenarios.as_slice())?;
         add_rules(alloc, self.rules.as_slice(), &mut values)?;
-        let children = Value::Array(values);
-        let location = self.location.to_json(alloc)?;
-        let tags = list_value(alloc, self.tags.as_slice())?;
-        json!(in alloc; {
-            "children": children, "description": self.description.as_str(),
-            "keyword": self.keyword.as_str(), "language": self.language.as_str(),
-            "location": location, "name": self.name.as_str(), "tags": tags
-        })
+        let mut members = Map::new(alloc);
+        put(&mut members, alloc, "children", Value::Array(values))?;
+        add_text(
+            &mut members,
+            alloc,
+            "description",
+            self.description.as_str(),
+        )?;
+        add_text(&mut members, alloc, "keyword", self.keyword.as_str())?;
+        add_text(&mut members, alloc, "language", self.language.as_str())?;
+        add(&mut members, alloc, "location", &self.location)?;
+        add_text(&mut members, alloc, "name", self.name.as_str())?;
+        add_list(&mut members, alloc, "tags", self.tags.as_slice())?;
+        Ok(Value::Object(members))
     }
 }
 
@@ -345,9 +381,13 @@ impl WriteJson for Feature {
 pub fn document_value(alloc: Global, uri: &str, document: &Document) -> Result<Value, AllocError>
     ensures { IfOk result (λ v. view v ≡ document_data uri.now document.now) }
 {
-    let comments = list_value(alloc, document.comments.as_slice())?;
     let mut members = Map::new(alloc);
-    put(&mut members, alloc, "comments", comments)?;
+    add_list(
+        &mut members,
+        alloc,
+        "comments",
+        document.comments.as_slice(),
+    )?;
     add_text(&mut members, alloc, "uri", uri)?;
     add_optional(&mut members, alloc, "feature", &document.feature)?;
     let members = Value::Object(members);

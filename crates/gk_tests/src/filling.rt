@@ -1,5 +1,5 @@
 //! Outside examples of filling and of sources. Texts that are parsed are compiled in the tests of the crate above.
-use gk_line::{Cell, Text};
+use crate::lines::cells_of;
 use gk_pickle::{fill, source_value};
 use std::alloc::{AllocError, Global};
 use std::process::Abort;
@@ -13,57 +13,58 @@ const PLAIN_TEXT: &str = "Feature: f\n\n  Scenario: s\n    Given a\n";
 const PLAIN_SOURCE: &str =
     r#"{"source":{"data":"Feature: f\n\n  Scenario: s\n    Given a\n","mediaType":"text/x.cucumber.gherkin+plain","uri":"a.feature"}}"#;
 
-fn cell(alloc: Global, value: &str, column: u32) -> Result<Cell, AllocError> {
-    let value = Text::copy_of(alloc, value)?;
-    Ok(Cell { value, column })
+/// Fills a text by the cells of two rows.
+fn filled(alloc: Global, text: &str, header: &str, row: &str) -> Result<String, Fail> {
+    let header = cells_of(alloc, header)?;
+    let row = cells_of(alloc, row)?;
+    Ok(fill(alloc, text, header.as_slice(), row.as_slice())?)
 }
 
-fn cells(alloc: Global, values: &[&str], column: u32) -> Result<Vec<Cell>, AllocError> {
-    let mut cells = Vec::new(alloc);
-    for value in values {
-        cells.push(cell(alloc, *value, column)?)?;
-    }
-    Ok(cells)
-}
-
-/// A row whose cells stand two columns after its bar.
-fn check_fill(
-    rt: &impl Abort,
-    alloc: Global,
-    text: &str,
-    columns: (&[&str], &[&str]),
-    wanted: &str,
-) -> Result<(), AllocError> {
-    let header = cells(alloc, columns.0, 1)?;
-    let row = cells(alloc, columns.1, 1)?;
-    let filled = fill(alloc, text, header.as_slice(), row.as_slice())?;
+fn check_fill(rt: &impl Abort, alloc: Global, rows: &str, wanted: &str) -> Result<(), Fail> {
+    let (text, rows) = rows.split_once(' ').unwrap_or((rows, ""));
+    let (header, row) = rows.split_once(' ').unwrap_or((rows, ""));
+    let filled = filled(alloc, text, header, row)?;
     assert_eq!(rt; filled.as_str(), wanted);
     Ok(())
 }
 
+// A text, the header row, the row, and the text that is filled.
+const FILLINGS: &str = "<a><b> |a|b| |<b>|1| = 11
+<<a>> |a|b| |b|1| = 1
+<> || |x| = x
+é<é>é<é> |é| |ü| = éüéü
+<<a> |a|<a| |y|z| = <y
+<a><a><a> |a><a| |x| = x<a>
+<a><b> |a|b| |1| = 1<b>
+<a> | | = <a>";
+
 #[test]
 fn texts_are_filled_column_by_column(rt: HostRuntime) -> Result<(), Fail> {
-    let alloc = rt.alloc();
-    check_fill(&rt, alloc, "<a><b>", (&["a", "b"], &["<b>", "1"]), "11")?;
-    check_fill(&rt, alloc, "<<a>>", (&["a", "b"], &["b", "1"]), "1")?;
-    check_fill(&rt, alloc, "<>", (&[""], &["x"]), "x")?;
-    check_fill(&rt, alloc, "é<é>é<é>", (&["é"], &["ü"]), "éüéü")?;
-    check_fill(&rt, alloc, "<<a>", (&["a", "<a"], &["y", "z"]), "<y")?;
-    check_fill(&rt, alloc, "<a><a><a>", (&["a><a"], &["x"]), "x<a>")?;
-    check_fill(&rt, alloc, "<a><b>", (&["a", "b"], &["1"]), "1<b>")?;
-    check_fill(&rt, alloc, "<a>", (&[], &[]), "<a>")?;
+    for told in FILLINGS.lines() {
+        let (rows, wanted) = told.split_once(" = ").unwrap_or((told, ""));
+        check_fill(&rt, rt.alloc(), rows, wanted)?;
+    }
+    Ok(())
+}
+
+fn source_line(alloc: Global, uri: &str, text: &str) -> Result<String, AllocError> {
+    source_value(alloc, uri, text)?.to_string(alloc)
+}
+
+fn check_source(
+    rt: &impl Abort,
+    alloc: Global,
+    uri: &str,
+    text: &str,
+    wanted: &str,
+) -> Result<(), AllocError> {
+    let line = source_line(alloc, uri, text)?;
+    assert_eq!(rt; line.as_str(), wanted);
     Ok(())
 }
 
 #[test]
-fn sources_are_lines(rt: HostRuntime) -> Result<(), Fail> {
-    let alloc = rt.alloc();
-    for (uri, text, wanted) in [
-        ("e.feature", "", EMPTY_SOURCE),
-        ("a.feature", PLAIN_TEXT, PLAIN_SOURCE),
-    ] {
-        let line = source_value(alloc, uri, text)?.to_string(alloc)?;
-        assert_eq!(rt; line.as_str(), wanted);
-    }
-    Ok(())
+fn sources_are_lines(rt: HostRuntime) -> Result<(), AllocError> {
+    check_source(&rt, rt.alloc(), "e.feature", "", EMPTY_SOURCE)?;
+    check_source(&rt, rt.alloc(), "a.feature", PLAIN_TEXT, PLAIN_SOURCE)
 }

@@ -1,6 +1,6 @@
 //! The pickles of texts that are parsed, as lines.
-use gk_pickle::{compile, pickle_value};
-use gk_tree::parse;
+use gk_pickle::{Pickle, compile, pickle_value};
+use gk_tree::{Document, parse};
 use std::alloc::Global;
 use std::process::Abort;
 use std::test::Fail;
@@ -14,51 +14,71 @@ const MIXED_TEXT: &str =
     "Feature: f\n  Scenario: s\n    * x\n    And y\n  Scenario: h\n    Examples:\n      | a |\n    Examples:\n  Scenario: q\n    Given d\n      ```<m>\n      <n>\n      ```\n    And <n>\n      | <n> | é |\n    Examples:\n      | m | n |\n      |  | ü |\n# \u{1}\u{1F600}";
 
 const STEPLESS_PICKLE: &str =
-    r#"{"pickle":{"astNodeIds":["3"],"id":"4","language":"en","name":"s","steps":[],"tags":[],"uri":"u"}}"#;
+    r#"{"pickle":{"astNodeIds":["3"],"id":"4","language":"en","name":"s","steps":[],"tags":[],"uri":"u"}}
+"#;
 
 const RULED_PICKLE: &str =
-    r#"{"pickle":{"astNodeIds":["6","11"],"id":"14","language":"en","name":"1 o","steps":[{"astNodeIds":["3"],"id":"12","text":"b","type":"Context"},{"astNodeIds":["7","11"],"id":"13","text":"c","type":"Context"}],"tags":[{"astNodeId":"0","name":"@f"},{"astNodeId":"4","name":"@s"},{"astNodeId":"5","name":"@s"},{"astNodeId":"8","name":"@e"}],"uri":"r.feature"}}"#;
+    r#"{"pickle":{"astNodeIds":["6","11"],"id":"14","language":"en","name":"1 o","steps":[{"astNodeIds":["3"],"id":"12","text":"b","type":"Context"},{"astNodeIds":["7","11"],"id":"13","text":"c","type":"Context"}],"tags":[{"astNodeId":"0","name":"@f"},{"astNodeId":"4","name":"@s"},{"astNodeId":"5","name":"@s"},{"astNodeId":"8","name":"@e"}],"uri":"r.feature"}}
+"#;
 
-const UNKNOWN_PICKLE: &str =
-    r#"{"pickle":{"astNodeIds":["0"],"id":"16","language":"en","name":"s","steps":[{"astNodeIds":["1"],"id":"14","text":"x","type":"Unknown"},{"astNodeIds":["2"],"id":"15","text":"y","type":"Unknown"}],"tags":[],"uri":"u"}}"#;
+const MIXED_PICKLES: &str =
+    r#"{"pickle":{"astNodeIds":["0"],"id":"16","language":"en","name":"s","steps":[{"astNodeIds":["1"],"id":"14","text":"x","type":"Unknown"},{"astNodeIds":["2"],"id":"15","text":"y","type":"Unknown"}],"tags":[],"uri":"u"}}
+{"pickle":{"astNodeIds":["7","13"],"id":"19","language":"en","name":"q","steps":[{"argument":{"docString":{"content":"ü"}},"astNodeIds":["8","13"],"id":"17","text":"d","type":"Context"},{"argument":{"dataTable":{"rows":[{"cells":[{"value":"ü"},{"value":"é"}]}]}},"astNodeIds":["9","13"],"id":"18","text":"ü","type":"Context"}],"tags":[],"uri":"u"}}
+"#;
 
-const FILLED_PICKLE: &str =
-    r#"{"pickle":{"astNodeIds":["7","13"],"id":"19","language":"en","name":"q","steps":[{"argument":{"docString":{"content":"ü"}},"astNodeIds":["8","13"],"id":"17","text":"d","type":"Context"},{"argument":{"dataTable":{"rows":[{"cells":[{"value":"ü"},{"value":"é"}]}]}},"astNodeIds":["9","13"],"id":"18","text":"ü","type":"Context"}],"tags":[],"uri":"u"}}"#;
+/// The pickles as lines, each with the ids that follow those before it.
+fn told(alloc: Global, uri: &str, pickles: &[Pickle], first_id: u64) -> Result<String, Fail> {
+    let mut told = String::new(alloc);
+    let mut id = first_id;
+    for pickle in pickles {
+        let steps = pickle.steps.len() as u64;
+        if id >= 100 || steps >= 100 {
+            return Err(Fail::from("many steps"));
+        }
+        let line = pickle_value(alloc, uri, pickle, id)?.to_string(alloc)?;
+        told.push_str(line.as_str())?;
+        told.push('\n')?;
+        id = id + steps + 1;
+    }
+    Ok(told)
+}
 
-/// Compares the pickles of a text, with the ids that follow those of its nodes.
+/// The pickles of a document as lines, with the ids that follow those of its nodes.
+fn told_pickles(alloc: Global, uri: &str, document: &Document) -> Result<String, Fail> {
+    let pickles = compile(alloc, document)?;
+    told(alloc, uri, pickles.as_slice(), document.nodes)
+}
+
+fn told_text(alloc: Global, uri: &str, text: &str) -> Result<String, Fail> {
+    match parse(alloc, text) {
+        Ok(document) => told_pickles(alloc, uri, &document),
+        Err(_) => Err(Fail::from("refused")),
+    }
+}
+
 fn check_pickles(
     rt: &impl Abort,
     alloc: Global,
     uri: &str,
     text: &str,
-    lines: &[&str],
+    wanted: &str,
 ) -> Result<(), Fail> {
-    let document = parse(alloc, text)?;
-    let pickles = compile(alloc, &document)?;
-    assert_eq!(rt; pickles.len(), lines.len());
-    let mut id = document.nodes;
-    for (pickle, wanted) in pickles.iter().zip(lines) {
-        let steps = pickle.steps.len() as u64;
-        assert!(rt; id < 100 && steps < 100);
-        let line = pickle_value(alloc, uri, pickle, id)?.to_string(alloc)?;
-        assert_eq!(rt; line.as_str(), *wanted);
-        id = id + steps + 1;
-    }
+    let told = told_text(alloc, uri, text)?;
+    assert_eq!(rt; told.as_str(), wanted);
     Ok(())
 }
 
 #[test]
 fn a_scenario_without_steps_has_no_background(rt: HostRuntime) -> Result<(), Fail> {
-    check_pickles(&rt, rt.alloc(), "u", STEPLESS_TEXT, &[STEPLESS_PICKLE])
+    check_pickles(&rt, rt.alloc(), "u", STEPLESS_TEXT, STEPLESS_PICKLE)
 }
 
 #[test]
 fn an_outline_in_a_rule(rt: HostRuntime) -> Result<(), Fail> {
-    check_pickles(&rt, rt.alloc(), "r.feature", RULED_TEXT, &[RULED_PICKLE])
+    check_pickles(&rt, rt.alloc(), "r.feature", RULED_TEXT, RULED_PICKLE)
 }
 
 #[test]
 fn types_tables_and_doc_strings(rt: HostRuntime) -> Result<(), Fail> {
-    let lines = [UNKNOWN_PICKLE, FILLED_PICKLE];
-    check_pickles(&rt, rt.alloc(), "u", MIXED_TEXT, &lines)
+    check_pickles(&rt, rt.alloc(), "u", MIXED_TEXT, MIXED_PICKLES)
 }

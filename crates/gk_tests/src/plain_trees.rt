@@ -35,17 +35,22 @@ const OTHER_LINES: [&str; 12] = [
     "Background:",
 ];
 
+/// The line of the parser's fault.
+fn fault_line(alloc: Global, text: &str) -> Option<usize> {
+    match parse(alloc, text) {
+        Ok(_) => None,
+        Err(fault) => Some(fault.line as usize),
+    }
+}
+
 /// Whether the parser and the plain program say the same of the text: whether it has a document, and where its fault is.
 fn agree(alloc: Global, text: &str) -> Result<bool, Fail> {
     if text.len() > 1_000 {
         return Err(Fail::from("a long text"));
     }
-    let has_document = has_document(alloc, text)?;
-    let place = place(alloc, text)?;
-    match parse(alloc, text) {
-        Ok(_) => Ok(has_document && place.is_none()),
-        Err(fault) => Ok(!has_document && place == Some(fault.line as usize)),
-    }
+    let line = fault_line(alloc, text);
+    let same_document = has_document(alloc, text)? == line.is_none();
+    Ok(same_document && place(alloc, text)? == line)
 }
 
 /// The lines behind the head whose numbers are the digits of the number in base 12, the lowest first.
@@ -128,19 +133,35 @@ fn texts_of_other_lines(rt: HostRuntime) -> Result<(), Fail> {
     Ok(())
 }
 
+const HEADS: &str = "Feature: f
+Scenario: s
+Given x
+---
+Feature: f
+Scenario: s
+Given x
+| a |
+---
+Feature: f
+Scenario: s
+Given x
+\"\"\"
+---
+Feature: f
+Scenario: s
+Examples:
+| a |
+---
+Feature: f
+Rule: r
+Background:
+Given x
+";
+
 #[test]
 fn lines_behind_steps_and_tables(rt: HostRuntime) -> Result<(), Fail> {
-    let lines = &OTHER_LINES;
-    let a = rt.alloc();
-    let steps = "Feature: f\nScenario: s\nGiven x\n";
-    assert!(rt; agree_below(a, steps, lines, 144, 2)?);
-    let table = "Feature: f\nScenario: s\nGiven x\n| a |\n";
-    assert!(rt; agree_below(a, table, lines, 144, 2)?);
-    let quotes = "Feature: f\nScenario: s\nGiven x\n\"\"\"\n";
-    assert!(rt; agree_below(a, quotes, lines, 144, 2)?);
-    let examples = "Feature: f\nScenario: s\nExamples:\n| a |\n";
-    assert!(rt; agree_below(a, examples, lines, 144, 2)?);
-    let background = "Feature: f\nRule: r\nBackground:\nGiven x\n";
-    assert!(rt; agree_below(a, background, lines, 144, 2)?);
+    for head in HEADS.split("---\n") {
+        assert!(rt; agree_below(rt.alloc(), head, &OTHER_LINES, 144, 2)?);
+    }
     Ok(())
 }

@@ -1,32 +1,27 @@
 // Skeletons of two small documents. Documents with all their parts are compared where they are read from a stream.
-use gk_document::{Document, Feature, Location, same_skeleton};
-use gk_line::{Sequence, Text};
-use std::alloc::{AllocError, Global};
-use std::test::Fail;
+use gk_document::{Document, same_skeleton};
+use gk_tree::parse;
+use std::alloc::Global;
 
-fn document(alloc: Global, line: u32, column: u32) -> Result<Document, AllocError> {
-    let feature = Feature {
-        location: Location { line, column },
-        tags: Sequence::new(alloc),
-        language: Text::copy_of(alloc, "en")?,
-        keyword: Text::copy_of(alloc, "Feature")?,
-        name: Text::copy_of(alloc, "f")?,
-        description: Text::copy_of(alloc, "")?,
-        background: None,
-        scenarios: Sequence::new(alloc),
-        rules: Sequence::new(alloc),
-    };
-    Ok(Document {
-        feature: Some(feature),
-        comments: Sequence::new(alloc),
-        nodes: 0,
-    })
+/// Whether the document has the skeleton of a text's document.
+fn is_alike(alloc: Global, document: &Document, text: &str) -> Option<bool> {
+    match parse(alloc, text) {
+        Ok(other) => Some(same_skeleton(document, &other)),
+        Err(_) => None,
+    }
+}
+
+/// Whether the documents of two texts have one skeleton.
+fn are_alike(alloc: Global, first: &str, second: &str) -> Option<bool> {
+    match parse(alloc, first) {
+        Ok(document) => is_alike(alloc, &document, second),
+        Err(_) => None,
+    }
 }
 
 #[test]
-fn lines_are_compared_and_columns_are_not(rt: HostRuntime) -> Result<(), Fail> {
-    let first = document(rt.alloc(), 1, 1)?;
-    assert!(rt; same_skeleton(&first, &document(rt.alloc(), 1, 9)?));
-    assert!(rt; !same_skeleton(&first, &document(rt.alloc(), 2, 1)?));
-    Ok(())
+fn lines_are_compared_and_columns_are_not(rt: HostRuntime) {
+    let text = "Feature: f";
+    assert!(rt; are_alike(rt.alloc(), text, "        Feature: f") == Some(true));
+    assert!(rt; are_alike(rt.alloc(), text, "\nFeature: f") == Some(false));
 }

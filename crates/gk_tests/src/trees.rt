@@ -1,327 +1,202 @@
 //! Worked texts.
+use gk_pickle::document_value;
 use gk_tree::*;
-use std::alloc::Global;
+use std::alloc::{AllocError, Global};
+use std::process::Abort;
 use std::test::Fail;
 
-/// The fault of a text.
-fn refused(alloc: Global, text: &str) -> Option<ParseFault> {
-    parse(alloc, text).err()
+/// How many nodes and comments a document has.
+fn counts(alloc: Global, document: &Document) -> Result<String, AllocError> {
+    let nodes = document.nodes;
+    let comments = document.comments.len();
+    format!(in alloc; "{nodes} nodes, {comments} comments")
 }
 
-fn fault(kind: FaultKind, line: u32, column: u32) -> Option<ParseFault> {
-    Some(ParseFault { kind, line, column })
+/// What is told of a text: the counts of its document, or its fault.
+fn told(alloc: Global, text: &str) -> Result<String, AllocError> {
+    match parse(alloc, text) {
+        Ok(document) => counts(alloc, &document),
+        Err(fault) => fault.to_string(alloc),
+    }
 }
 
-/// How many nodes and comments the document of a text has.
-fn counts(alloc: Global, text: &str) -> Option<(u64, usize)> {
-    let document = parse(alloc, text).ok()?;
-    Some((document.nodes, document.comments.len()))
+fn check_told(rt: &impl Abort, alloc: Global, text: &str, wanted: &str) -> Result<(), AllocError> {
+    let told = told(alloc, text)?;
+    assert_eq!(rt; told.as_str(), wanted);
+    Ok(())
 }
 
-fn feature(alloc: Global, text: &str) -> Result<Feature, &'static str> {
-    let document = parse(alloc, text).ok().ok_or("refused")?;
-    document.feature.ok_or("no feature")
+/// Checks what is told of texts. A line has what is wanted, a semicolon, and the text with a slash for each line feed.
+fn check_cases(rt: &impl Abort, alloc: Global, cases: &str) -> Result<(), Fail> {
+    for case in cases.lines() {
+        let (wanted, lines) = case.split_once(';').unwrap_or((case, ""));
+        let text = lines.replace(alloc, "/", "\n")?;
+        check_told(rt, alloc, text.as_str(), wanted)?;
+    }
+    Ok(())
 }
+
+/// The tree of a document as JSON.
+fn tree(alloc: Global, document: &Document) -> Result<String, AllocError> {
+    document_value(alloc, "u", document)?.to_string(alloc)
+}
+
+/// The tree of a text as JSON, or its fault.
+fn tree_of(alloc: Global, text: &str) -> Result<String, AllocError> {
+    match parse(alloc, text) {
+        Ok(document) => tree(alloc, &document),
+        Err(fault) => fault.to_string(alloc),
+    }
+}
+
+fn check_tree(rt: &impl Abort, alloc: Global, text: &str, wanted: &str) -> Result<(), AllocError> {
+    let tree = tree_of(alloc, text)?;
+    assert_eq!(rt; tree.as_str(), wanted);
+    Ok(())
+}
+
+const FEATURELESS: &str = "0 nodes, 0 comments;
+0 nodes, 2 comments;/ # a/\t/#b\r/";
+
+const COMMENT_TREE: &str =
+    r##"{"gherkinDocument":{"comments":[{"location":{"column":1,"line":2},"text":"  # a "}],"uri":"u"}}"##;
 
 #[test]
 fn texts_without_a_feature(rt: HostRuntime) -> Result<(), Fail> {
-    assert_eq!(rt; counts(rt.alloc(), ""), Some((0, 0)));
-    assert_eq!(rt; counts(rt.alloc(), "\n # a\n\t\n#b\r\n"), Some((0, 2)));
-    let document = parse(rt.alloc(), "\n  # a \r\n")?;
-    assert!(rt; document.feature.is_none());
-    let comments = document.comments.as_slice();
-    assert_eq!(rt; comments.len(), 1);
-    assert_eq!(rt; comments[0].text.as_str(), "  # a ");
-    assert_eq!(rt; comments[0].location, Location { line: 2, column: 1 });
-    Ok(())
+    check_cases(&rt, rt.alloc(), FEATURELESS)?;
+    Ok(check_tree(&rt, rt.alloc(), "\n  # a \r\n", COMMENT_TREE)?)
 }
 
-#[test]
-fn a_description_that_looks_like_steps_and_rows(rt: HostRuntime) -> Result<(), Fail> {
-    let found = feature(rt.alloc(), "Feature: f\n\n  Given x\n # c\n  | a |\n\t\n")?;
-    assert_eq!(rt; found.name.as_str(), "f");
-    assert_eq!(rt; found.keyword.as_str(), "Feature");
-    assert_eq!(rt; found.language.as_str(), "en");
-    assert_eq!(rt; found.description.as_str(), "  Given x\n  | a |");
-    assert_eq!(rt;
-        counts(rt.alloc(), "Feature: f\n  Given x\n # c\n  | a |"),
-        Some((0, 1))
-    );
-    Ok(())
-}
+const DESCRIBED_TREE: &str =
+    r##"{"gherkinDocument":{"comments":[{"location":{"column":1,"line":4},"text":" # c"}],"feature":{"children":[],"description":"  Given x\n  | a |","keyword":"Feature","language":"en","location":{"column":1,"line":1},"name":"f","tags":[]},"uri":"u"}}"##;
 
 #[test]
-fn numbers_with_a_background(rt: HostRuntime) -> Result<(), Fail> {
+fn a_description_that_looks_like_steps_and_rows(rt: HostRuntime) -> Result<(), AllocError> {
+    let text = "Feature: f\n\n  Given x\n # c\n  | a |\n\t\n";
+    check_tree(&rt, rt.alloc(), text, DESCRIBED_TREE)?;
+    let text = "Feature: f\n  Given x\n # c\n  | a |";
+    check_told(&rt, rt.alloc(), text, "0 nodes, 1 comments")
+}
+
+const BACKGROUND_TREE: &str =
+    r#"{"gherkinDocument":{"comments":[],"feature":{"children":[{"background":{"description":"","id":"0","keyword":"Background","location":{"column":3,"line":2},"name":"","steps":[{"id":"1","keyword":"Given ","keywordType":"Context","location":{"column":5,"line":3},"text":"a"},{"id":"2","keyword":"And ","keywordType":"Conjunction","location":{"column":5,"line":4},"text":"b"}]}},{"scenario":{"description":"","examples":[],"id":"3","keyword":"Scenario","location":{"column":3,"line":5},"name":"s","steps":[],"tags":[]}}],"description":"","keyword":"Feature","language":"en","location":{"column":1,"line":1},"name":"f","tags":[]},"uri":"u"}}"#;
+
+#[test]
+fn numbers_with_a_background(rt: HostRuntime) -> Result<(), AllocError> {
     let text = "Feature: f\n  Background:\n    Given a\n    And b\n  Scenario: s";
-    assert_eq!(rt; counts(rt.alloc(), text), Some((4, 0)));
-    let found = feature(rt.alloc(), text)?;
-    let background = found.background.ok_or("no background")?;
-    assert_eq!(rt; background.node, 0);
-    let steps = background.steps.as_slice();
-    assert_eq!(rt; steps.len(), 2);
-    assert_eq!(rt; steps[0].node, 1);
-    assert_eq!(rt; steps[1].node, 2);
-    assert_eq!(rt; steps[1].keyword.as_str(), "And ");
-    assert_eq!(rt; steps[1].text.as_str(), "b");
-    assert_eq!(rt; steps[1].location, Location { line: 4, column: 5 });
-    let scenarios = found.scenarios.as_slice();
-    assert_eq!(rt; scenarios.len(), 1);
-    assert_eq!(rt; scenarios[0].node, 3);
-    assert_eq!(rt; scenarios[0].location, Location { line: 5, column: 3 });
-    Ok(())
+    check_told(&rt, rt.alloc(), text, "4 nodes, 0 comments")?;
+    check_tree(&rt, rt.alloc(), text, BACKGROUND_TREE)
 }
 
+const QUOTED_TREE: &str =
+    r#"{"gherkinDocument":{"comments":[],"feature":{"children":[{"scenario":{"description":"","examples":[],"id":"0","keyword":"Scenario","location":{"column":3,"line":2},"name":"s","steps":[{"docString":{"content":"x\ny \"\"\" z\n  w","delimiter":"\"\"\"","location":{"column":5,"line":4},"mediaType":"json"},"id":"1","keyword":"Given ","keywordType":"Context","location":{"column":5,"line":3},"text":"d"}],"tags":[]}}],"description":"","keyword":"Feature","language":"en","location":{"column":1,"line":1},"name":"f","tags":[]},"uri":"u"}}"#;
+
 #[test]
-fn the_content_of_a_doc_string(rt: HostRuntime) -> Result<(), Fail> {
+fn the_content_of_a_doc_string(rt: HostRuntime) -> Result<(), AllocError> {
     let text =
         "Feature: f\n  Scenario: s\n    Given d\n    \"\"\"json\n  x\n    y \\\"\\\"\\\" z\n      w\n    \"\"\"";
-    let found = feature(rt.alloc(), text)?;
-    let scenarios = found.scenarios.as_slice();
-    assert_eq!(rt; scenarios.len(), 1);
-    let steps = scenarios[0].steps.as_slice();
-    assert_eq!(rt; steps.len(), 1);
-    let Some(Argument::Text(quoted)) = &steps[0].argument else {
-        return Err(Fail::from("no doc string"));
-    };
-    assert_eq!(rt; quoted.content.as_str(), "x\ny \"\"\" z\n  w");
-    assert_eq!(rt; quoted.location, Location { line: 4, column: 5 });
-    let Some(media) = &quoted.media else {
-        return Err(Fail::from("no media type"));
-    };
-    assert_eq!(rt; media.as_str(), "json");
-    Ok(())
+    check_tree(&rt, rt.alloc(), text, QUOTED_TREE)
 }
 
+const RULE_TREE: &str =
+    r#"{"gherkinDocument":{"comments":[],"feature":{"children":[{"rule":{"children":[{"background":{"description":"","id":"2","keyword":"Background","location":{"column":5,"line":4},"name":"","steps":[{"id":"3","keyword":"Given ","keywordType":"Context","location":{"column":7,"line":5},"text":"b"}]}},{"scenario":{"description":"","examples":[{"description":"","id":"9","keyword":"Examples","location":{"column":7,"line":10},"name":"","tableBody":[{"cells":[{"location":{"column":11,"line":12},"value":"1"}],"id":"11","location":{"column":9,"line":12}}],"tableHeader":{"cells":[{"location":{"column":11,"line":11},"value":"n"}],"id":"10","location":{"column":9,"line":11}},"tags":[{"id":"8","location":{"column":7,"line":9},"name":"@e"}]}],"id":"6","keyword":"Scenario Outline","location":{"column":5,"line":7},"name":"<n> o","steps":[{"id":"7","keyword":"And ","keywordType":"Conjunction","location":{"column":7,"line":8},"text":"c"}],"tags":[{"id":"4","location":{"column":5,"line":6},"name":"@s"},{"id":"5","location":{"column":8,"line":6},"name":"@s"}]}}],"description":"","id":"1","keyword":"Rule","location":{"column":3,"line":3},"name":"r","tags":[]}}],"description":"","keyword":"Feature","language":"en","location":{"column":1,"line":2},"name":"f","tags":[{"id":"0","location":{"column":1,"line":1},"name":"@f"}]},"uri":"u"}}"#;
+
 #[test]
-fn a_rule_with_an_outline(rt: HostRuntime) -> Result<(), Fail> {
+fn a_rule_with_an_outline(rt: HostRuntime) -> Result<(), AllocError> {
     let text =
         "@f\nFeature: f\n  Rule: r\n    Background:\n      Given b\n    @s @s\n    Scenario Outline: <n> o\n      And c\n      @e\n      Examples:\n        | n |\n        | 1 |";
-    assert_eq!(rt; counts(rt.alloc(), text), Some((12, 0)));
-    let found = feature(rt.alloc(), text)?;
-    let rules = found.rules.as_slice();
-    assert_eq!(rt; rules.len(), 1);
-    assert_eq!(rt; rules[0].node, 1);
-    let scenarios = rules[0].scenarios.as_slice();
-    assert_eq!(rt; scenarios.len(), 1);
-    assert_eq!(rt; scenarios[0].node, 6);
-    let tags = scenarios[0].tags.as_slice();
-    assert_eq!(rt; tags.len(), 2);
-    assert_eq!(rt; tags[1].node, 5);
-    assert_eq!(rt; tags[1].name.as_str(), "@s");
-    assert_eq!(rt; tags[1].location, Location { line: 6, column: 8 });
-    let blocks = scenarios[0].examples.as_slice();
-    assert_eq!(rt; blocks.len(), 1);
-    assert_eq!(rt; blocks[0].node, 9);
-    let Some(table) = &blocks[0].table else {
-        return Err(Fail::from("no table"));
-    };
-    assert_eq!(rt; table.header.node, 10);
-    let rows = table.body.as_slice();
-    assert_eq!(rt; rows.len(), 1);
-    assert_eq!(rt; rows[0].node, 11);
-    assert_eq!(rt;
-        rows[0].location,
-        Location {
-            line: 12,
-            column: 9
-        }
-    );
-    Ok(())
+    check_told(&rt, rt.alloc(), text, "12 nodes, 0 comments")?;
+    check_tree(&rt, rt.alloc(), text, RULE_TREE)
 }
 
 #[test]
-fn comments_everywhere(rt: HostRuntime) -> Result<(), Fail> {
+fn comments_everywhere(rt: HostRuntime) -> Result<(), AllocError> {
     let text =
         "#1\n# language: en\n#2\n@t\n#3\nFeature: f\n#4\n  Scenario: s\n#5\n    Given d\n#6\n    | a |\n#7\n    | b |\n    And e\n    \"\"\"\n#no\n    \"\"\"\n#8\n  Examples:\n#9\n  | n |\n#10";
-    assert_eq!(rt; counts(rt.alloc(), text), Some((8, 10)));
-    Ok(())
+    check_told(&rt, rt.alloc(), text, "8 nodes, 10 comments")
 }
+
+const BEHIND_TAGS: &str = "Unexpected at line 2, column 3;@t/  Background:
+Unexpected at line 2, column 2;@t/ Given x
+Unexpected at line 2, column 1;@t/| x |
+Unexpected at line 2, column 1;@t/```
+Unexpected at line 2, column 1;@t/text
+Unexpected at line 3, column 1;Feature: f/@t/Feature: g
+Unexpected at line 3, column 1;Feature: f/@t/Examples:
+Unexpected at line 3, column 1;Feature: f/@t/Background:
+UnexpectedEnd at line 4, column 1;Feature: f/Scenario: s/@t
+3 nodes, 1 comments;Feature: f/@t/#c//@u/Rule: r
+4 nodes, 0 comments;Feature: f/Background:/Given a/@t/Scenario: s";
 
 #[test]
 fn lines_behind_tags(rt: HostRuntime) -> Result<(), Fail> {
-    let unexpected = FaultKind::Unexpected;
-    let a = rt.alloc();
-    assert_eq!(rt; refused(a, "@t\n  Background:"), fault(unexpected, 2, 3));
-    assert_eq!(rt; refused(a, "@t\n Given x"), fault(unexpected, 2, 2));
-    assert_eq!(rt; refused(a, "@t\n| x |"), fault(unexpected, 2, 1));
-    assert_eq!(rt; refused(a, "@t\n```"), fault(unexpected, 2, 1));
-    assert_eq!(rt; refused(a, "@t\ntext"), fault(unexpected, 2, 1));
-    assert_eq!(rt;
-        refused(a, "Feature: f\n@t\nFeature: g"),
-        fault(unexpected, 3, 1)
-    );
-    assert_eq!(rt;
-        refused(a, "Feature: f\n@t\nExamples:"),
-        fault(unexpected, 3, 1)
-    );
-    assert_eq!(rt;
-        refused(a, "Feature: f\n@t\nBackground:"),
-        fault(unexpected, 3, 1)
-    );
-    assert_eq!(rt;
-        refused(a, "Feature: f\nScenario: s\n@t"),
-        fault(FaultKind::UnexpectedEnd, 4, 1)
-    );
-    assert_eq!(rt;
-        counts(a, "Feature: f\n@t\n#c\n\n@u\nRule: r"),
-        Some((3, 1))
-    );
-    assert_eq!(rt;
-        counts(a, "Feature: f\nBackground:\nGiven a\n@t\nScenario: s"),
-        Some((4, 0))
-    );
-    Ok(())
+    check_cases(&rt, rt.alloc(), BEHIND_TAGS)
 }
+
+const BEHIND_A_BACKGROUND: &str =
+    "Unexpected at line 4, column 1;Feature: f/Background:/@t/Examples:
+Unexpected at line 5, column 1;Feature: f/Background:/Given a/@t/Examples:
+Unexpected at line 4, column 1;Feature: f/Background:/Given a/Examples:
+1 nodes, 0 comments;Feature: f/Background:/Examples:
+1 nodes, 0 comments;Feature: f/Scenario: s/Background:
+Unexpected at line 4, column 3;Feature: f/  Scenario: s/    Given a/  Background:
+1 nodes, 0 comments;Feature: f/@/Scenario: s
+Unexpected at line 3, column 1;Feature: f/@/Background:";
 
 #[test]
 fn lines_behind_a_background(rt: HostRuntime) -> Result<(), Fail> {
-    let unexpected = FaultKind::Unexpected;
-    let a = rt.alloc();
-    assert_eq!(rt;
-        refused(a, "Feature: f\nBackground:\n@t\nExamples:"),
-        fault(unexpected, 4, 1)
-    );
-    assert_eq!(rt;
-        refused(a, "Feature: f\nBackground:\nGiven a\n@t\nExamples:"),
-        fault(unexpected, 5, 1)
-    );
-    assert_eq!(rt;
-        refused(a, "Feature: f\nBackground:\nGiven a\nExamples:"),
-        fault(unexpected, 4, 1)
-    );
-    assert_eq!(rt;
-        counts(a, "Feature: f\nBackground:\nExamples:"),
-        Some((1, 0))
-    );
-    assert_eq!(rt;
-        counts(a, "Feature: f\nScenario: s\nBackground:"),
-        Some((1, 0))
-    );
-    assert_eq!(rt;
-        refused(a, "Feature: f\n  Scenario: s\n    Given a\n  Background:"),
-        fault(unexpected, 4, 3)
-    );
-    assert_eq!(rt; counts(a, "Feature: f\n@\nScenario: s"), Some((1, 0)));
-    assert_eq!(rt;
-        refused(a, "Feature: f\n@\nBackground:"),
-        fault(unexpected, 3, 1)
-    );
-    Ok(())
+    check_cases(&rt, rt.alloc(), BEHIND_A_BACKGROUND)
 }
+
+const SPACED_TAGS: &str = "TagSpace at line 1, column 3;  @a b/Feature: f
+TagSpace at line 2, column 5;Feature: f/ @a @b c
+TagSpace at line 4, column 1;Feature: f/Scenario: s/Given x/@a b
+2 nodes, 0 comments;Feature: f/Scenario: s/Given x/```/@a b/```";
 
 #[test]
 fn tags_with_white_space(rt: HostRuntime) -> Result<(), Fail> {
-    let spaced = FaultKind::TagSpace;
-    let a = rt.alloc();
-    assert_eq!(rt; refused(a, "  @a b\nFeature: f"), fault(spaced, 1, 3));
-    assert_eq!(rt; refused(a, "Feature: f\n @a @b c"), fault(spaced, 2, 5));
-    assert_eq!(rt;
-        refused(a, "Feature: f\nScenario: s\nGiven x\n@a b"),
-        fault(spaced, 4, 1)
-    );
-    assert_eq!(rt;
-        counts(a, "Feature: f\nScenario: s\nGiven x\n```\n@a b\n```"),
-        Some((2, 0))
-    );
-    Ok(())
+    check_cases(&rt, rt.alloc(), SPACED_TAGS)
 }
+
+const ARGUMENTS: &str = r#"4 nodes, 1 comments;Feature: f/Scenario: s/Given x/|a|/#c//|b|
+CellCount at line 5, column 7;Feature: f/  Scenario: s/    Given t/      | a | b |/      | a | b | c |
+4 nodes, 0 comments;Feature: f/Scenario: s/Examples:/|a|/ ||
+CellCount at line 5, column 2;Feature: f/Scenario: s/Examples:/|a|/ |
+Unexpected at line 6, column 1;Feature: f/Scenario: s/Given x/```/```/|a|
+Unexpected at line 6, column 1;Feature: f/Scenario: s/Given x/```/```/```
+Unexpected at line 5, column 5;Feature: f/  Scenario: s/    Given a/    | x |/    """
+UnexpectedEnd at line 8, column 1;Feature: f/Scenario: s/Given x/```/"""/@t/# language: fr"#;
 
 #[test]
 fn tables_and_doc_strings(rt: HostRuntime) -> Result<(), Fail> {
-    let unexpected = FaultKind::Unexpected;
-    let a = rt.alloc();
-    assert_eq!(rt;
-        counts(a, "Feature: f\nScenario: s\nGiven x\n|a|\n#c\n\n|b|"),
-        Some((4, 1))
-    );
-    assert_eq!(rt;
-        refused(
-            a,
-            "Feature: f\n  Scenario: s\n    Given t\n      | a | b |\n      | a | b | c |"
-        ),
-        fault(FaultKind::CellCount, 5, 7)
-    );
-    assert_eq!(rt;
-        refused(a, "Feature: f\nScenario: s\nExamples:\n|a|\n ||"),
-        None
-    );
-    assert_eq!(rt;
-        refused(a, "Feature: f\nScenario: s\nExamples:\n|a|\n |"),
-        fault(FaultKind::CellCount, 5, 2)
-    );
-    assert_eq!(rt;
-        refused(a, "Feature: f\nScenario: s\nGiven x\n```\n```\n|a|"),
-        fault(unexpected, 6, 1)
-    );
-    assert_eq!(rt;
-        refused(a, "Feature: f\nScenario: s\nGiven x\n```\n```\n```"),
-        fault(unexpected, 6, 1)
-    );
-    assert_eq!(rt;
-        refused(
-            a,
-            "Feature: f\n  Scenario: s\n    Given a\n    | x |\n    \"\"\""
-        ),
-        fault(unexpected, 5, 5)
-    );
-    assert_eq!(rt;
-        refused(
-            a,
-            "Feature: f\nScenario: s\nGiven x\n```\n\"\"\"\n@t\n# language: fr"
-        ),
-        fault(FaultKind::UnexpectedEnd, 8, 1)
-    );
-    Ok(())
+    check_cases(&rt, rt.alloc(), ARGUMENTS)
 }
+
+const SECOND_FEATURES: &str = "0 nodes, 0 comments;Feature: f/Feature: g
+1 nodes, 0 comments;Feature: f/Scenario: s/Feature: g
+Unexpected at line 4, column 1;Feature: f/Scenario: s/Given x/Feature: g
+Unexpected at line 5, column 1;Feature: f/Scenario: s/Examples:/|a|/Feature: g
+Unexpected at line 1, column 1;Given x/Feature: f";
 
 #[test]
 fn a_second_feature(rt: HostRuntime) -> Result<(), Fail> {
-    let unexpected = FaultKind::Unexpected;
-    let a = rt.alloc();
-    assert_eq!(rt; counts(a, "Feature: f\nFeature: g"), Some((0, 0)));
-    assert_eq!(rt;
-        counts(a, "Feature: f\nScenario: s\nFeature: g"),
-        Some((1, 0))
-    );
-    assert_eq!(rt;
-        refused(a, "Feature: f\nScenario: s\nGiven x\nFeature: g"),
-        fault(unexpected, 4, 1)
-    );
-    assert_eq!(rt;
-        refused(a, "Feature: f\nScenario: s\nExamples:\n|a|\nFeature: g"),
-        fault(unexpected, 5, 1)
-    );
-    assert_eq!(rt; refused(a, "Given x\nFeature: f"), fault(unexpected, 1, 1));
-    Ok(())
+    check_cases(&rt, rt.alloc(), SECOND_FEATURES)
 }
+
+const LANGUAGES: &str = "UnsupportedLanguage at line 1, column 1;# language: fr/Feature: x
+UnsupportedLanguage at line 3, column 3;#c//  #language:fr
+0 nodes, 1 comments;Feature: x/# language: fr
+1 nodes, 1 comments;@t/# language: fr/Feature: f
+0 nodes, 1 comments;# language: en/# language: fr/Feature: f
+UnexpectedEnd at line 2, column 1;# language: en";
 
 #[test]
 fn language_lines(rt: HostRuntime) -> Result<(), Fail> {
-    let unsupported = FaultKind::UnsupportedLanguage;
-    let a = rt.alloc();
-    assert_eq!(rt;
-        refused(a, "# language: fr\nFeature: x"),
-        fault(unsupported, 1, 1)
-    );
-    assert_eq!(rt;
-        refused(a, "#c\n\n  #language:fr"),
-        fault(unsupported, 3, 3)
-    );
-    assert_eq!(rt; counts(a, "Feature: x\n# language: fr"), Some((0, 1)));
-    assert_eq!(rt; counts(a, "@t\n# language: fr\nFeature: f"), Some((1, 1)));
-    assert_eq!(rt;
-        counts(a, "# language: en\n# language: fr\nFeature: f"),
-        Some((0, 1))
-    );
-    assert_eq!(rt;
-        refused(a, "# language: en"),
-        fault(FaultKind::UnexpectedEnd, 2, 1)
-    );
-    Ok(())
+    check_cases(&rt, rt.alloc(), LANGUAGES)
 }
 
 /// The text so many times.
-fn repeated(alloc: Global, text: &str, times: u32) -> Result<String, Fail> {
+fn repeated(alloc: Global, text: &str, times: u32) -> Result<String, AllocError> {
     let mut all = String::new(alloc);
     for _ in 0..times {
         all.push_str(text)?;
@@ -329,18 +204,24 @@ fn repeated(alloc: Global, text: &str, times: u32) -> Result<String, Fail> {
     Ok(all)
 }
 
+/// Checks a text at a limit, which is too long with one more character.
+fn check_limit(
+    rt: &impl Abort,
+    alloc: Global,
+    text: &mut String,
+    more: &str,
+) -> Result<(), AllocError> {
+    check_told(rt, alloc, text.as_str(), "0 nodes, 0 comments")?;
+    text.push_str(more)?;
+    check_told(rt, alloc, text.as_str(), "TooLong at line 0, column 0")
+}
+
 #[test]
-fn texts_at_the_limits(rt: HostRuntime) -> Result<(), Fail> {
-    let long = FaultKind::TooLong;
-    let a = rt.alloc();
-    let block = repeated(a, " ", 65_536)?;
-    let mut spaces = repeated(a, block.as_str(), 256)?;
-    assert_eq!(rt; refused(a, spaces.as_str()), None);
-    spaces.push(' ')?;
-    assert_eq!(rt; refused(a, spaces.as_str()), fault(long, 0, 0));
-    let mut feeds = repeated(a, "\n\n\n\n\n\n\n\n", 125_000)?;
-    assert_eq!(rt; refused(a, feeds.as_str()), None);
-    feeds.push('\n')?;
-    assert_eq!(rt; refused(a, feeds.as_str()), fault(long, 0, 0));
-    Ok(())
+fn texts_at_the_limits(rt: HostRuntime) -> Result<(), AllocError> {
+    let alloc = rt.alloc();
+    let block = repeated(alloc, " ", 65_536)?;
+    let mut spaces = repeated(alloc, block.as_str(), 256)?;
+    check_limit(&rt, alloc, &mut spaces, " ")?;
+    let mut feeds = repeated(alloc, "\n\n\n\n\n\n\n\n", 125_000)?;
+    check_limit(&rt, alloc, &mut feeds, "\n")
 }

@@ -1,14 +1,8 @@
-use Rattle.std.proofs.Common.{◌<◌, ◌+◌, ◌∙◌, List, sym, subst}
-use Rattle.std.specs.List.{sum_by}
-use Rattle.gk_pickle.specs.declared.pickle.Pickle.{Pickle}
-use Rattle.cm_good.specs.Compiled.{id_count}
 use Rattle.cm_good.proofs.Ids.{ids_fit}
 use Rattle.cm_audit.proofs.Limits.{within_limit}
 use Rattle.cm_audit.proofs.compiled.lines_of.Goals as goal
 
-pub add_pickle_lines-requires : goal.add_pickle_lines-requires
-add_pickle_lines-requires c =
+pub lines_of_document-requires : goal.lines_of_document-requires
+lines_of_document-requires c =
     let d = c.in_ok-document.document in
-    let P : List Pickle → Type 0 = λ ps. d.nodes + sum_by id_count ps < 18446744073709551616 in
-    subst P (sym (c.as_slice.ensures.value ∙ c.in_ok-pickles.ensures))
-    (ids_fit c.args.text.now d c.utf8.text c.in_ok-document.ensures.ok (within_limit c.args.text.now d c.in_ok-document.ensures.too_long))
+    ids_fit c.args.text.now d c.utf8.text c.in_ok-document.ensures.ok (within_limit c.args.text.now d c.in_ok-document.ensures.too_long)
