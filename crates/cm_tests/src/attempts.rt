@@ -1,141 +1,212 @@
 use cm_attempt::{Status, Track, TrackFault, worst};
 use std::alloc::{AllocError, Global};
+use std::process::Abort;
 use std::test::Fail;
 
-#[derive(Clone, Copy)]
-enum Call<'a> {
-    AddCase(&'a str, &'a [&'a str]),
-    Start(&'a str, &'a str, u64),
-    StepStarted(&'a str, &'a str),
-    StepFinished(&'a str, &'a str, Status),
-    Finish(&'a str, bool),
-}
-
-fn texts(alloc: Global, words: &[&str]) -> Result<Vec<String>, AllocError> {
+pub(crate) fn texts(alloc: Global, words: &str) -> Result<Vec<String>, AllocError> {
     let mut owned = Vec::new(alloc);
-    for word in words {
+    for word in words.split_whitespace() {
         owned.push(String::from_str(alloc, word)?)?;
     }
     Ok(owned)
 }
 
-fn answer(track: &mut Track, alloc: Global, call: Call) -> Result<(), TrackFault> {
+// The first word, and what follows it.
+pub(crate) fn cut(text: &str) -> (&str, &str) {
+    text.split_once(' ').unwrap_or((text, ""))
+}
+
+fn name_of(status: Status) -> &'static str {
+    match status {
+        Status::Unknown => "Unknown",
+        Status::Passed => "Passed",
+        Status::Skipped => "Skipped",
+        Status::Pending => "Pending",
+        Status::Undefined => "Undefined",
+        Status::Ambiguous => "Ambiguous",
+        Status::Failed => "Failed",
+    }
+}
+
+fn status_of(word: &str) -> Option<Status> {
+    match word {
+        "Unknown" => Some(Status::Unknown),
+        "Passed" => Some(Status::Passed),
+        "Skipped" => Some(Status::Skipped),
+        "Failed" => Some(Status::Failed),
+        _ => None,
+    }
+}
+
+fn add_case(track: &mut Track, alloc: Global, id: &str, steps: &str) -> Result<(), TrackFault> {
+    let steps = texts(alloc, steps)?;
+    track.add_case(id, steps.as_slice())
+}
+
+fn start(track: &mut Track, id: &str, case: &str, number: &str) -> Result<(), TrackFault> {
+    match number.parse::<u64>() {
+        Ok(number) => track.start(id, case, number),
+        Err(_) => Err(TrackFault::Memory),
+    }
+}
+
+fn finish_step(
+    track: &mut Track,
+    attempt: &str,
+    step: &str,
+    status: &str,
+) -> Result<(), TrackFault> {
+    match status_of(status) {
+        Some(status) => track.step_finished(attempt, step, status),
+        None => Err(TrackFault::Memory),
+    }
+}
+
+// The answer to the call that a line tells; a line with no call gives `Memory`, which no table wants.
+fn answer(track: &mut Track, alloc: Global, told: &str) -> Result<(), TrackFault> {
+    let (call, rest) = cut(told);
+    let (id, steps) = cut(rest);
+    let (step, end) = cut(steps);
     match call {
-        Call::AddCase(id, steps) => {
-            let steps = texts(alloc, steps)?;
-            track.add_case(id, steps.as_slice())
-        }
-        Call::Start(id, case, number) => track.start(id, case, number),
-        Call::StepStarted(attempt, step) => track.step_started(attempt, step),
-        Call::StepFinished(attempt, step, status) => track.step_finished(attempt, step, status),
-        Call::Finish(attempt, will_be_retried) => track.finish(attempt, will_be_retried),
+        "case" => add_case(track, alloc, id, steps),
+        "start" => start(track, id, step, end),
+        "step" => track.step_started(id, step),
+        "stepped" => finish_step(track, id, step, end),
+        "final" => track.finish(id, false),
+        "retried" => track.finish(id, true),
+        _ => Err(TrackFault::Memory),
+    }
+}
+
+fn answer_name(answer: Result<(), TrackFault>) -> &'static str {
+    match answer {
+        Ok(()) => "ok",
+        Err(TrackFault::UnknownCase) => "UnknownCase",
+        Err(TrackFault::UnknownAttempt) => "UnknownAttempt",
+        Err(TrackFault::AttemptNumber) => "AttemptNumber",
+        Err(TrackFault::AttemptOverlap) => "AttemptOverlap",
+        Err(TrackFault::StepOrder) => "StepOrder",
+        Err(TrackFault::FinishedEarly) => "FinishedEarly",
+        Err(TrackFault::DuplicateId) => "DuplicateId",
+        Err(TrackFault::Memory) => "Memory",
+        Err(TrackFault::UnknownStep) => "UnknownStep",
+    }
+}
+
+// Each line: the answer that is wanted, and a call.
+fn expect_answers(rt: &impl Abort, track: &mut Track, alloc: Global, table: &str) {
+    for told in table.lines() {
+        let (wanted, call) = cut(told);
+        assert!(rt; answer_name(answer(track, alloc, call)) == wanted);
+    }
+}
+
+// What is reported of a case, or `none`.
+fn reported(track: &Track, case: &str) -> &'static str {
+    match track.reported(case) {
+        Some(status) => name_of(status),
+        None => "none",
     }
 }
 
 #[test]
 fn picks_the_worst(rt: HostRuntime) {
-    assert_eq!(rt; worst(&[]), Status::Passed);
-    assert_eq!(rt; worst(&[Status::Unknown, Status::Passed]), Status::Passed);
-    assert_eq!(rt; worst(&[Status::Failed, Status::Ambiguous]), Status::Failed);
-    assert_eq!(rt; worst(&[Status::Unknown]), Status::Unknown);
+    assert!(rt; worst(&[]) == Status::Passed);
+    assert!(rt; worst(&[Status::Unknown, Status::Passed]) == Status::Passed);
+    assert!(rt; worst(&[Status::Failed, Status::Ambiguous]) == Status::Failed);
+    assert!(rt; worst(&[Status::Unknown]) == Status::Unknown);
 }
+
+const REFUSED: &str = "DuplicateId case c t u t
+UnknownCase start a c 0
+ok case c
+DuplicateId case c
+AttemptNumber start a c 1
+ok start a c 0
+DuplicateId start a c 1
+AttemptOverlap start b c 1
+UnknownAttempt step b t
+UnknownStep step a t
+UnknownAttempt final b
+ok final a
+StepOrder final a
+AttemptOverlap start b c 1";
 
 #[test]
 fn refuses_duplicates_and_unknown_ids(rt: HostRuntime) {
     let alloc = rt.alloc();
     let mut track = Track::new(alloc);
-    for (call, want) in [
-        (
-            Call::AddCase("c", &["t", "u", "t"]),
-            Err(TrackFault::DuplicateId),
-        ),
-        (Call::Start("a", "c", 0), Err(TrackFault::UnknownCase)),
-        (Call::AddCase("c", &[]), Ok(())),
-        (Call::AddCase("c", &[]), Err(TrackFault::DuplicateId)),
-        (Call::Start("a", "c", 1), Err(TrackFault::AttemptNumber)),
-        (Call::Start("a", "c", 0), Ok(())),
-        (Call::Start("a", "c", 1), Err(TrackFault::DuplicateId)),
-        (Call::Start("b", "c", 1), Err(TrackFault::AttemptOverlap)),
-        (Call::StepStarted("b", "t"), Err(TrackFault::UnknownAttempt)),
-        (Call::StepStarted("a", "t"), Err(TrackFault::UnknownStep)),
-        (Call::Finish("b", false), Err(TrackFault::UnknownAttempt)),
-        (Call::Finish("a", false), Ok(())),
-        (Call::Finish("a", false), Err(TrackFault::StepOrder)),
-        (Call::Start("b", "c", 1), Err(TrackFault::AttemptOverlap)),
-    ] {
-        assert_eq!(rt; answer(&mut track, alloc, call), want);
-    }
-    assert_eq!(rt; track.reported("c"), Some(Status::Passed));
+    expect_answers(&rt, &mut track, alloc, REFUSED);
+    assert!(rt; reported(&track, "c") == "Passed");
     assert!(rt; track.all_good());
     assert!(rt; track.has_attempt("a") && !track.has_attempt("b"));
 }
+
+const ONCE: &str = "ok case c t u
+ok start a c 0
+ok step a t
+ok stepped a t Passed
+StepOrder step a t
+StepOrder stepped a t Passed
+FinishedEarly final a";
 
 #[test]
 fn a_step_finishes_once(rt: HostRuntime) {
     let alloc = rt.alloc();
     let mut track = Track::new(alloc);
-    for (call, want) in [
-        (Call::AddCase("c", &["t", "u"]), Ok(())),
-        (Call::Start("a", "c", 0), Ok(())),
-        (Call::StepStarted("a", "t"), Ok(())),
-        (Call::StepFinished("a", "t", Status::Passed), Ok(())),
-        (Call::StepStarted("a", "t"), Err(TrackFault::StepOrder)),
-        (
-            Call::StepFinished("a", "t", Status::Passed),
-            Err(TrackFault::StepOrder),
-        ),
-        (Call::Finish("a", false), Err(TrackFault::FinishedEarly)),
-    ] {
-        assert_eq!(rt; answer(&mut track, alloc, call), want);
-    }
-    assert_eq!(rt; track.open_attempts(), 1);
-    assert_eq!(rt; track.reported("c"), None);
+    expect_answers(&rt, &mut track, alloc, ONCE);
+    assert!(rt; track.open_attempts() == 1);
+    assert!(rt; reported(&track, "c") == "none");
     assert!(rt; track.has_step("a", "u") && !track.has_step("a", "v"));
     assert!(rt; !track.all_good());
+}
+
+// What is reported of the case after each call.
+const RETRIED: &str = "none case c s
+none start a c 0
+none step a s
+none stepped a s Passed
+none retried a
+none start b c 1
+none step b s
+none stepped b s Unknown
+Unknown final b";
+
+fn expect_reports(rt: &impl Abort, track: &mut Track, alloc: Global, table: &str) {
+    for told in table.lines() {
+        let (wanted, call) = cut(told);
+        assert!(rt; answer_name(answer(track, alloc, call)) == "ok");
+        assert!(rt; reported(track, "c") == wanted);
+    }
 }
 
 #[test]
 fn a_retried_attempt_alone_reports_none(rt: HostRuntime) {
     let alloc = rt.alloc();
     let mut track = Track::new(alloc);
-    for (call, want) in [
-        (Call::AddCase("c", &["s"]), None),
-        (Call::Start("a", "c", 0), None),
-        (Call::StepStarted("a", "s"), None),
-        (Call::StepFinished("a", "s", Status::Passed), None),
-        (Call::Finish("a", true), None),
-        (Call::Start("b", "c", 1), None),
-        (Call::StepStarted("b", "s"), None),
-        (Call::StepFinished("b", "s", Status::Unknown), None),
-        (Call::Finish("b", false), Some(Status::Unknown)),
-    ] {
-        assert_eq!(rt; answer(&mut track, alloc, call), Ok(()));
-        assert_eq!(rt; track.reported("c"), want);
-    }
+    expect_reports(&rt, &mut track, alloc, RETRIED);
     assert!(rt; !track.all_good());
 }
+
+const INTERLEAVED: &str = "ok case c s t
+ok case d s t
+ok start a c 0
+ok start b d 0
+ok step a s
+StepOrder step b t
+ok step b s
+ok stepped b s Failed
+ok step b t
+ok stepped a s Passed
+ok stepped b t Skipped
+ok final b";
 
 #[test]
 fn attempts_of_two_cases_interleave(rt: HostRuntime) {
     let alloc = rt.alloc();
     let mut track = Track::new(alloc);
-    for (call, want) in [
-        (Call::AddCase("c", &["s", "t"]), Ok(())),
-        (Call::AddCase("d", &["s", "t"]), Ok(())),
-        (Call::Start("a", "c", 0), Ok(())),
-        (Call::Start("b", "d", 0), Ok(())),
-        (Call::StepStarted("a", "s"), Ok(())),
-        (Call::StepStarted("b", "t"), Err(TrackFault::StepOrder)),
-        (Call::StepStarted("b", "s"), Ok(())),
-        (Call::StepFinished("b", "s", Status::Failed), Ok(())),
-        (Call::StepStarted("b", "t"), Ok(())),
-        (Call::StepFinished("a", "s", Status::Passed), Ok(())),
-        (Call::StepFinished("b", "t", Status::Skipped), Ok(())),
-        (Call::Finish("b", false), Ok(())),
-    ] {
-        assert_eq!(rt; answer(&mut track, alloc, call), want);
-    }
-    assert_eq!(rt; track.reported("d"), Some(Status::Failed));
-    assert_eq!(rt; track.reported("c"), None);
-    assert_eq!(rt; track.open_attempts(), 1);
+    expect_answers(&rt, &mut track, alloc, INTERLEAVED);
+    assert!(rt; reported(&track, "d") == "Failed");
+    assert!(rt; reported(&track, "c") == "none");
+    assert!(rt; track.open_attempts() == 1);
 }

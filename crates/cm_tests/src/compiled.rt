@@ -1,7 +1,7 @@
 //! Feature files written to sinks in memory, some of which fail.
 ghost use Rattle.std.specs.Prelude.{Some};
 
-use cm_audit::{CompileFault, write_compiled};
+use cm_audit::{CompileFault, write_all, write_compiled};
 use cm_envelope::{ByteSink, DeviceFailed};
 use gk_tree::{FaultKind, ParseFault};
 use std::alloc::Global;
@@ -194,4 +194,15 @@ fn each_write_may_fail(rt: HostRuntime) -> Result<(), Fail> {
     let done = write_compiled(alloc, "a.feature", PLAIN_TEXT, &mut whole);
     assert_eq!(rt; done, Ok(()));
     Ok(())
+}
+
+#[test]
+fn all_bytes_are_written_in_turn(rt: HostRuntime) {
+    let mut sink = sink_with(rt.alloc(), 3, 2, false);
+    assert_eq!(rt; write_all(&mut sink, b"abc"), Ok(()));
+    assert!(rt; sink.taken.as_slice() == b"abc".as_slice());
+    assert_eq!(rt; sink.calls, 2);
+    assert_eq!(rt; write_all(&mut sink, b"d"), Err(DeviceFailed));
+    assert!(rt; sink.taken.as_slice() == b"abc".as_slice());
+    assert_eq!(rt; sink.failed_calls, 1);
 }

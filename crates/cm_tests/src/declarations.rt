@@ -1,77 +1,107 @@
+use crate::attempts::{cut, texts};
 use cm_refs::{Declared, RefFault};
-use std::alloc::{AllocError, Global};
-use std::test::Fail;
+use std::alloc::Global;
+use std::process::Abort;
 
-#[derive(Clone, Copy, Debug, PartialEq, Eq)]
-enum Kind {
-    Source,
-    Document,
-    Definition,
-    Hook,
-}
-
-fn declare(declared: &mut Declared, kind: Kind, name: &str) -> Result<(), RefFault> {
+// A line with no kind gives `Memory`, which no table wants.
+fn declare(declared: &mut Declared, kind: &str, name: &str) -> Result<(), RefFault> {
     match kind {
-        Kind::Source => declared.declare_source(name),
-        Kind::Document => declared.declare_document(name),
-        Kind::Definition => declared.declare_definition(name),
-        Kind::Hook => declared.declare_hook(name),
+        "source" => declared.declare_source(name),
+        "document" => declared.declare_document(name),
+        "definition" => declared.declare_definition(name),
+        "hook" => declared.declare_hook(name),
+        _ => Err(RefFault::Memory),
     }
 }
 
-fn has(declared: &Declared, kind: Kind, name: &str) -> bool {
+fn has(declared: &Declared, kind: &str, name: &str) -> bool {
     match kind {
-        Kind::Source => declared.has_source(name),
-        Kind::Document => declared.has_document(name),
-        Kind::Definition => declared.has_definition(name),
-        Kind::Hook => declared.has_hook(name),
+        "source" => declared.has_source(name),
+        "document" => declared.has_document(name),
+        "definition" => declared.has_definition(name),
+        _ => declared.has_hook(name),
     }
 }
 
-fn texts(alloc: Global, words: &[&str]) -> Result<Vec<String>, AllocError> {
-    let mut owned = Vec::new(alloc);
-    for word in words {
-        owned.push(String::from_str(alloc, word)?)?;
+fn answer_name(answer: Result<(), RefFault>) -> &'static str {
+    match answer {
+        Ok(()) => "ok",
+        Err(RefFault::DuplicateId) => "DuplicateId",
+        Err(RefFault::DuplicateUri) => "DuplicateUri",
+        Err(RefFault::Memory) => "Memory",
     }
-    Ok(owned)
+}
+
+// Each line: the answer that is wanted, a kind and a name.
+const KINDS: &str = "ok hook h
+DuplicateId hook h
+ok source u
+DuplicateUri source u
+ok document u
+DuplicateUri document u
+ok definition d
+DuplicateId definition d";
+
+fn expect_declared(rt: &impl Abort, declared: &mut Declared, wanted: &str, kind: &str, name: &str) {
+    let is_new = !has(declared, kind, name);
+    assert!(rt; is_new == (wanted == "ok"));
+    assert!(rt; answer_name(declare(declared, kind, name)) == wanted);
+    assert!(rt; has(declared, kind, name));
+}
+
+fn expect_kinds(rt: &impl Abort, declared: &mut Declared, table: &str) {
+    for told in table.lines() {
+        let (wanted, rest) = cut(told);
+        let (kind, name) = cut(rest);
+        expect_declared(rt, declared, wanted, kind, name);
+    }
 }
 
 #[test]
 fn a_kind_has_each_name_once(rt: HostRuntime) {
     let mut declared = Declared::new(rt.alloc());
-    for (kind, name, want) in [
-        (Kind::Hook, "h", Ok(())),
-        (Kind::Hook, "h", Err(RefFault::DuplicateId)),
-        (Kind::Source, "u", Ok(())),
-        (Kind::Source, "u", Err(RefFault::DuplicateUri)),
-        (Kind::Document, "u", Ok(())),
-        (Kind::Document, "u", Err(RefFault::DuplicateUri)),
-        (Kind::Definition, "d", Ok(())),
-        (Kind::Definition, "d", Err(RefFault::DuplicateId)),
-    ] {
-        let is_new = !has(&declared, kind, name);
-        assert_eq!(rt; is_new, want.is_ok());
-        assert_eq!(rt; declare(&mut declared, kind, name), want);
-        assert!(rt; has(&declared, kind, name));
+    expect_kinds(&rt, &mut declared, KINDS);
+}
+
+fn declare_pickle(
+    declared: &mut Declared,
+    alloc: Global,
+    id: &str,
+    steps: &str,
+) -> Result<(), RefFault> {
+    let steps = texts(alloc, steps)?;
+    declared.declare_pickle(id, steps.as_slice())
+}
+
+// The first of the steps is the one that is told, or `-` tells that there is none.
+fn expect_first(rt: &impl Abort, steps: Option<&[String]>, told: &str) {
+    match steps {
+        Some([first, ..]) => assert!(rt; first.as_str() == told),
+        _ => assert!(rt; told == "-"),
+    }
+}
+
+// Each line: the answer that is wanted, the first step that is then known, a pickle and its steps.
+const PICKLES: &str = "ok s p s
+DuplicateId - q s s
+DuplicateId s p t";
+
+fn expect_pickles(rt: &impl Abort, declared: &mut Declared, alloc: Global, table: &str) {
+    for told in table.lines() {
+        let (wanted, rest) = cut(told);
+        let (known, rest) = cut(rest);
+        let (id, steps) = cut(rest);
+        assert!(rt; answer_name(declare_pickle(declared, alloc, id, steps)) == wanted);
+        expect_first(rt, declared.pickle(id), known);
     }
 }
 
 #[test]
-fn a_pickle_has_distinct_steps(rt: HostRuntime) -> Result<(), Fail> {
+fn a_pickle_has_distinct_steps(rt: HostRuntime) {
     let alloc = rt.alloc();
     let mut declared = Declared::new(alloc);
-    for (id, steps, want, known) in [
-        ("p", &["s"][..], Ok(()), Some("s")),
-        ("q", &["s", "s"][..], Err(RefFault::DuplicateId), None),
-        ("p", &["t"][..], Err(RefFault::DuplicateId), Some("s")),
-    ] {
-        let steps = texts(alloc, steps)?;
-        assert_eq!(rt; declared.declare_pickle(id, steps.as_slice()), want);
-        let first = declared.pickle(id).and_then(|steps| steps.first());
-        assert_eq!(rt; first.map(|step| step.as_str()), known);
-    }
+    expect_pickles(&rt, &mut declared, alloc, PICKLES);
     assert!(rt; declared.has_step("p", "s"));
     assert!(rt; !declared.has_step("p", "t"));
     assert!(rt; !declared.has_step("q", "s"));
-    Ok(())
 }

@@ -1,28 +1,80 @@
 //! The envelopes of single lines.
 use cm_envelope::{Envelope, ShapeFault, Status, TestCase, read_envelope};
-use std::alloc::Global;
+use std::alloc::{AllocError, Global};
 use std::process::Abort;
 use std::test::Fail;
 
-// The names of a fault, or none.
-pub(crate) fn fault_of(alloc: Global, line: &[u8]) -> Option<(&'static str, &'static str)> {
-    match read_envelope(alloc, line) {
-        Ok(_) => None,
-        Err(ShapeFault::NotJson) => Some(("NotJson", "")),
-        Err(ShapeFault::Shape) => Some(("Shape", "")),
-        Err(ShapeFault::Field(kind, field)) => Some((kind, field)),
-        Err(ShapeFault::Memory) => Some(("Memory", "")),
+// The names of a fault and of its field.
+fn names_of(fault: &ShapeFault) -> (&'static str, &'static str) {
+    match fault {
+        ShapeFault::NotJson => ("NotJson", ""),
+        ShapeFault::Shape => ("Shape", ""),
+        ShapeFault::Field(kind, field) => (kind, field),
+        ShapeFault::Memory => ("Memory", ""),
     }
 }
 
-pub(crate) fn refuses(rt: &impl Abort, alloc: Global, line: &[u8], kind: &str, field: &str) {
-    match fault_of(alloc, line) {
-        Some((found_kind, found_field)) => {
+fn expect_fault(rt: &impl Abort, read: &Result<Envelope, ShapeFault>, kind: &str, field: &str) {
+    match read {
+        Err(fault) => {
+            let (found_kind, found_field) = names_of(fault);
             assert!(rt; found_kind == kind);
             assert!(rt; found_field == field);
         }
-        None => assert!(rt; false, "no fault"),
+        Ok(_) => assert!(rt; false, "no fault"),
     }
+}
+
+// What a line is to give.
+#[derive(Clone, Copy)]
+enum Wanted<'a> {
+    Fault(&'a str, &'a str),
+    Good,
+    Other,
+    Attempt(&'a str),
+    Case,
+    Status(&'a str),
+}
+
+fn expect_read(rt: &impl Abort, read: &Result<Envelope, ShapeFault>, wanted: Wanted<'_>) {
+    match wanted {
+        Wanted::Fault(kind, field) => expect_fault(rt, read, kind, field),
+        Wanted::Good => assert!(rt; read.is_ok()),
+        Wanted::Other => assert!(rt; matches!(read, Ok(Envelope::Other))),
+        Wanted::Attempt(number) => expect_attempt(rt, read, number),
+        Wanted::Case => expect_case_read(rt, read),
+        Wanted::Status(word) => expect_status(rt, read, word),
+    }
+}
+
+// The one function that holds an envelope by value, since its proof is long.
+fn expect(rt: &impl Abort, alloc: Global, line: &[u8], wanted: Wanted<'_>) {
+    expect_read(rt, &read_envelope(alloc, line), wanted);
+}
+
+pub(crate) fn refuses(rt: &impl Abort, alloc: Global, line: &[u8], kind: &str, field: &str) {
+    expect(rt, alloc, line, Wanted::Fault(kind, field));
+}
+
+pub(crate) fn accepts(rt: &impl Abort, alloc: Global, line: &[u8]) {
+    expect(rt, alloc, line, Wanted::Good);
+}
+
+// Each line of the table is a field, and the text between front and end for which the field is at fault.
+pub(crate) fn refuses_each(
+    rt: &impl Abort,
+    alloc: Global,
+    kind: &str,
+    front: &str,
+    table: &str,
+    end: &str,
+) -> Result<(), Fail> {
+    for told in table.lines() {
+        let (field, members) = told.split_once(' ').ok_or("no field")?;
+        let line = format!(in alloc; "{front}{members}{end}")?;
+        refuses(rt, alloc, line.as_bytes(), kind, field);
+    }
+    Ok(())
 }
 
 // The kind and the field of each fault (`-` for none), and the line that has it.
@@ -40,40 +92,37 @@ testStepFinished testStepResult {"testStepFinished":{"testCaseStartedId":"a","te
 testStepFinished status {"testStepFinished":{"testCaseStartedId":"a","testStepId":"t","testStepResult":{"status":"passed"}}}"#;
 
 #[test]
-fn faults_of_lines(rt: HostRuntime) {
+fn faults_of_lines(rt: HostRuntime) -> Result<(), Fail> {
     let alloc = rt.alloc();
     for told in FAULTS.lines() {
-        let Some((kind, rest)) = told.split_once(' ') else {
-            assert!(rt; false, "no kind");
-            return;
-        };
-        let Some((field, line)) = rest.split_once(' ') else {
-            assert!(rt; false, "no field");
-            return;
-        };
+        let (kind, rest) = told.split_once(' ').ok_or("no kind")?;
+        let (field, line) = rest.split_once(' ').ok_or("no field")?;
         let field = if field == "-" { "" } else { field };
         refuses(&rt, alloc, line.as_bytes(), kind, field);
     }
+    Ok(())
 }
 
 #[test]
 fn lines_without_a_value(rt: HostRuntime) {
     let alloc = rt.alloc();
-    for line in [b"".as_slice(), b"\xff", b"\xef\xbb\xbf{}"] {
-        refuses(&rt, alloc, line, "NotJson", "");
-    }
-}
-
-fn is_other(alloc: Global, line: &[u8]) -> bool {
-    matches!(read_envelope(alloc, line), Ok(Envelope::Other))
+    refuses(&rt, alloc, b"", "NotJson", "");
+    refuses(&rt, alloc, b"\xff", "NotJson", "");
+    refuses(&rt, alloc, b"\xef\xbb\xbf{}", "NotJson", "");
 }
 
 #[test]
 fn white_space_around_a_value(rt: HostRuntime) {
     let alloc = rt.alloc();
-    for line in [b"{\"meta\":{}}\r".as_slice(), b" \t{ \"meta\" : {} }\r"] {
-        assert!(rt; is_other(alloc, line));
+    expect(&rt, alloc, b"{\"meta\":{}}\r", Wanted::Other);
+    expect(&rt, alloc, b" \t{ \"meta\" : {} }\r", Wanted::Other);
+}
+
+fn push_times(line: &mut Vec<u8>, byte: u8, times: usize) -> Result<(), AllocError> {
+    for _ in 0..times {
+        line.push(byte)?;
     }
+    Ok(())
 }
 
 #[test]
@@ -82,93 +131,105 @@ fn nesting(rt: HostRuntime) -> Result<(), Fail> {
     let mut line = Vec::new(alloc);
     for depth in 1..201 {
         line.clear();
-        for _ in 0..depth {
-            line.push(b'[')?;
-        }
-        for _ in 0..depth {
-            line.push(b']')?;
-        }
+        push_times(&mut line, b'[', depth)?;
+        push_times(&mut line, b']', depth)?;
         let expected = if depth <= 127 { "Shape" } else { "NotJson" };
         refuses(&rt, alloc, line.as_slice(), expected, "");
     }
     Ok(())
 }
 
+// The text of the member, and the number that is read, or `-` where the line is refused.
+const ATTEMPTS: &str = r#"0 0
+18446744073709551615 18446744073709551615
+null 0
+-1 -
+"0" -
+1.0 -
+1e2 -
+-0 -
+18446744073709551616 -"#;
+
+fn expect_attempt(rt: &impl Abort, read: &Result<Envelope, ShapeFault>, wanted: &str) {
+    match read {
+        Ok(Envelope::TestCaseStarted(started)) => {
+            assert!(rt; wanted.parse::<u64>() == Ok(started.attempt));
+            assert!(rt; started.id.as_str() == "a1");
+        }
+        Ok(_) => assert!(rt; false, "another kind"),
+        Err(_) => {
+            assert!(rt; wanted == "-");
+            expect_fault(rt, read, "testCaseStarted", "attempt");
+        }
+    }
+}
+
 #[test]
 fn attempts(rt: HostRuntime) -> Result<(), Fail> {
     let alloc = rt.alloc();
-    let cases = [
-        ("0", Some(0u64)),
-        ("18446744073709551615", Some(18446744073709551615)),
-        ("null", Some(0)),
-        ("-1", None),
-        ("\"0\"", None),
-        ("1.0", None),
-        ("1e2", None),
-        ("-0", None),
-        ("18446744073709551616", None),
-    ];
-    for (text, expected) in cases {
+    for told in ATTEMPTS.lines() {
+        let (text, wanted) = told.split_once(' ').ok_or("no number")?;
         let line = format!(in alloc;
             "{{\"testCaseStarted\":{{\"id\":\"a1\",\"testCaseId\":\"c1\",\"attempt\":{text}}}}}"
         )?;
-        match (read_envelope(alloc, line.as_bytes()), expected) {
-            (Ok(Envelope::TestCaseStarted(started)), Some(n)) => {
-                assert_eq!(rt; started.attempt, n);
-                assert!(rt; started.id.as_str() == "a1");
-            }
-            (Err(ShapeFault::Field(kind, field)), None) => {
-                assert!(rt; kind == "testCaseStarted" && field == "attempt");
-            }
-            _ => assert!(rt; false, "{text}"),
-        }
+        expect(&rt, alloc, line.as_bytes(), Wanted::Attempt(wanted));
     }
     Ok(())
 }
 
-fn test_case(alloc: Global, line: &str) -> Result<TestCase, &'static str> {
-    match read_envelope(alloc, line.as_bytes()) {
-        Ok(Envelope::TestCase(case)) => Ok(case),
-        _ => Err("no test case"),
-    }
-}
-
-#[test]
-fn a_test_case(rt: HostRuntime) -> Result<(), Fail> {
-    let line =
-        r#"{"testCase":{"id":"c1","pickleId":"3","testSteps":[{"id":"t1","pickleStepId":"2"}]}}"#;
-    let case = test_case(rt.alloc(), line)?;
+fn expect_case(rt: &impl Abort, case: &TestCase) {
     assert!(rt; case.id.as_str() == "c1" && case.pickle_id.as_str() == "3");
     let steps = case.test_steps.as_slice();
     assert_eq!(rt; steps.len(), 1);
     assert!(rt; steps[0].id.as_str() == "t1");
     assert!(rt; steps[0].hook_id.is_none());
-    Ok(())
 }
 
-fn finished_status(alloc: Global, line: &str) -> Option<Status> {
-    match read_envelope(alloc, line.as_bytes()) {
-        Ok(Envelope::TestStepFinished(step)) => Some(step.test_step_result.status),
-        _ => None,
+fn expect_case_read(rt: &impl Abort, read: &Result<Envelope, ShapeFault>) {
+    match read {
+        Ok(Envelope::TestCase(case)) => expect_case(rt, case),
+        _ => assert!(rt; false, "no test case"),
     }
 }
 
 #[test]
+fn a_test_case(rt: HostRuntime) {
+    let line =
+        r#"{"testCase":{"id":"c1","pickleId":"3","testSteps":[{"id":"t1","pickleStepId":"2"}]}}"#;
+    expect(&rt, rt.alloc(), line.as_bytes(), Wanted::Case);
+}
+
+fn word_of(status: Status) -> &'static str {
+    match status {
+        Status::Unknown => "UNKNOWN",
+        Status::Passed => "PASSED",
+        Status::Skipped => "SKIPPED",
+        Status::Pending => "PENDING",
+        Status::Undefined => "UNDEFINED",
+        Status::Ambiguous => "AMBIGUOUS",
+        Status::Failed => "FAILED",
+    }
+}
+
+fn expect_status(rt: &impl Abort, read: &Result<Envelope, ShapeFault>, word: &str) {
+    match read {
+        Ok(Envelope::TestStepFinished(step)) => {
+            assert!(rt; word_of(step.test_step_result.status) == word);
+        }
+        _ => assert!(rt; false, "no finished step"),
+    }
+}
+
+const STATUSES: &str = "UNKNOWN\nPASSED\nSKIPPED\nPENDING\nUNDEFINED\nAMBIGUOUS\nFAILED";
+
+#[test]
 fn each_status(rt: HostRuntime) -> Result<(), Fail> {
     let alloc = rt.alloc();
-    for (word, status) in [
-        ("UNKNOWN", Status::Unknown),
-        ("PASSED", Status::Passed),
-        ("SKIPPED", Status::Skipped),
-        ("PENDING", Status::Pending),
-        ("UNDEFINED", Status::Undefined),
-        ("AMBIGUOUS", Status::Ambiguous),
-        ("FAILED", Status::Failed),
-    ] {
+    for word in STATUSES.lines() {
         let line = format!(in alloc;
             "{{\"testStepFinished\":{{\"testCaseStartedId\":\"a\",\"testStepId\":\"t\",\"testStepResult\":{{\"status\":\"{word}\"}}}}}}"
         )?;
-        assert_eq!(rt; finished_status(alloc, line.as_str()), Some(status));
+        expect(&rt, alloc, line.as_bytes(), Wanted::Status(word));
     }
     Ok(())
 }
@@ -177,14 +238,15 @@ fn each_status(rt: HostRuntime) -> Result<(), Fail> {
 fn values_that_are_not_json(rt: HostRuntime) {
     let alloc = rt.alloc();
     // A lone surrogate, a number past every float, a control character, a leading zero.
-    for line in [
-        b"{\"a\":\"\\ud800\"}".as_slice(),
-        b"{\"a\":1e999}",
-        b"{\"a\":\"\x01\"}",
-        b"{\"a\":01}",
-    ] {
-        refuses(&rt, alloc, line, "NotJson", "");
-    }
+    refuses(&rt, alloc, b"{\"a\":\"\\ud800\"}", "NotJson", "");
+    refuses(&rt, alloc, b"{\"a\":1e999}", "NotJson", "");
+    refuses(&rt, alloc, b"{\"a\":\"\x01\"}", "NotJson", "");
+    refuses(&rt, alloc, b"{\"a\":01}", "NotJson", "");
     // The last of repeated members stands.
-    assert!(rt; is_other(alloc, b"{\"testCase\":{},\"testCase\":null}"));
+    expect(
+        &rt,
+        alloc,
+        b"{\"testCase\":{},\"testCase\":null}",
+        Wanted::Other,
+    );
 }

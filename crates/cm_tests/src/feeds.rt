@@ -2,8 +2,8 @@
 ghost use Rattle.std.specs.Prelude.{Some, None};
 
 use cm_envelope::{ByteSource, DeviceFailed, Feed, Reader, Trouble, is_blank_line};
+use std::alloc::Global;
 use std::process::Abort;
-use std::test::Fail;
 
 // Bytes, in pieces of at most `most`, up to a read that fails.
 #[derive(Drop)]
@@ -57,127 +57,101 @@ impl ByteSource for Endless {
     }
 }
 
-type Answer<'a> = Result<Option<&'a [u8]>, Trouble>;
-
-fn expect_answers<S: ByteSource>(
-    rt: &impl Abort,
-    feed: &mut Feed,
-    source: &mut S,
-    answers: &[Answer<'_>],
-) {
-    for answer in answers {
-        assert_eq!(rt; feed.next_line(source), *answer);
+// The answer is the one that is told: `=` and the line, `end`, or the trouble.
+fn expect_answer(rt: &impl Abort, answer: &Result<Option<&[u8]>, Trouble>, told: &str) {
+    match answer {
+        Ok(Some(line)) => match told.strip_prefix('=') {
+            Some(wanted) => assert!(rt; *line == wanted.as_bytes()),
+            None => assert!(rt; false, "a line"),
+        },
+        Ok(None) => assert!(rt; told == "end"),
+        Err(Trouble::ReadFailed) => assert!(rt; told == "ReadFailed"),
+        Err(Trouble::LineTooLong) => assert!(rt; told == "LineTooLong"),
+        Err(Trouble::StreamTooLong) => assert!(rt; told == "StreamTooLong"),
+        Err(Trouble::Memory) => assert!(rt; false, "out of memory"),
     }
+}
+
+fn expect_answers<S: ByteSource>(rt: &impl Abort, feed: &mut Feed, source: &mut S, answers: &str) {
+    for told in answers.lines() {
+        expect_answer(rt, &feed.next_line(source), told);
+    }
+}
+
+// A feed of these bytes, with a line of four bytes at most in a stream of ten.
+fn expect_small(rt: &impl Abort, alloc: Global, bytes: &[u8], most: usize, answers: &str) {
+    let mut feed = Feed::with_limits(alloc, 4, 10);
+    expect_answers(rt, &mut feed, &mut whole(bytes, most), answers);
+}
+
+const LONG_LINE: &str = "=ab\n=\nLineTooLong\nLineTooLong";
+
+const LONG_STREAM: &str = "=ab\n=abcd\nStreamTooLong\nStreamTooLong";
+
+const WITHIN: &str = "=ab\n=abcd\n=ab\nend\nend";
+
+fn expect_limits(rt: &impl Abort, alloc: Global, most: usize) {
+    expect_small(rt, alloc, b"ab\n\nabcde", most, LONG_LINE);
+    expect_small(rt, alloc, b"ab\nabcd\nabc\n", most, LONG_STREAM);
+    expect_small(rt, alloc, b"ab\nabcd\nab", most, WITHIN);
 }
 
 #[test]
 fn lines_within_small_limits(rt: HostRuntime) {
-    for most in [1, 3, 100] {
-        let mut feed = Feed::with_limits(rt.alloc(), 4, 10);
-        expect_answers(
-            &rt,
-            &mut feed,
-            &mut whole(b"ab\n\nabcde", most),
-            &[
-                Ok(Some(b"ab")),
-                Ok(Some(b"")),
-                Err(Trouble::LineTooLong),
-                Err(Trouble::LineTooLong),
-            ],
-        );
-        let mut feed = Feed::with_limits(rt.alloc(), 4, 10);
-        expect_answers(
-            &rt,
-            &mut feed,
-            &mut whole(b"ab\nabcd\nabc\n", most),
-            &[
-                Ok(Some(b"ab")),
-                Ok(Some(b"abcd")),
-                Err(Trouble::StreamTooLong),
-                Err(Trouble::StreamTooLong),
-            ],
-        );
-        let mut feed = Feed::with_limits(rt.alloc(), 4, 10);
-        expect_answers(
-            &rt,
-            &mut feed,
-            &mut whole(b"ab\nabcd\nab", most),
-            &[
-                Ok(Some(b"ab")),
-                Ok(Some(b"abcd")),
-                Ok(Some(b"ab")),
-                Ok(None),
-                Ok(None),
-            ],
-        );
-    }
+    let alloc = rt.alloc();
+    expect_limits(&rt, alloc, 1);
+    expect_limits(&rt, alloc, 3);
+    expect_limits(&rt, alloc, 100);
+}
+
+fn expect_endless(rt: &impl Abort, alloc: Global, byte: u8, answers: &str) {
+    let mut feed = Feed::with_limits(alloc, 4, 10);
+    expect_answers(rt, &mut feed, &mut Endless(byte), answers);
 }
 
 #[test]
 fn endless_bytes(rt: HostRuntime) {
-    let mut feed = Feed::with_limits(rt.alloc(), 4, 10);
-    expect_answers(
-        &rt,
-        &mut feed,
-        &mut Endless(b'a'),
-        &[Err(Trouble::LineTooLong), Err(Trouble::LineTooLong)],
-    );
-    let mut feed = Feed::with_limits(rt.alloc(), 4, 10);
-    for _ in 0..10 {
-        expect_answers(&rt, &mut feed, &mut Endless(b'\n'), &[Ok(Some(b""))]);
-    }
-    expect_answers(
-        &rt,
-        &mut feed,
-        &mut Endless(b'\n'),
-        &[Err(Trouble::StreamTooLong), Err(Trouble::StreamTooLong)],
-    );
+    let alloc = rt.alloc();
+    expect_endless(&rt, alloc, b'a', "LineTooLong\nLineTooLong");
+    let ten_lines = "=\n=\n=\n=\n=\n=\n=\n=\n=\n=\nStreamTooLong\nStreamTooLong";
+    expect_endless(&rt, alloc, b'\n', ten_lines);
+}
+
+fn expect_failed(rt: &impl Abort, alloc: Global, most: usize, good_reads: u64) {
+    let mut source = Pieces {
+        bytes: b"ab\ncd",
+        most,
+        good_reads,
+        failed_calls: 0,
+    };
+    let mut feed = Feed::new(alloc);
+    expect_answers(rt, &mut feed, &mut source, "=ab\nReadFailed\nReadFailed");
 }
 
 #[test]
-fn a_failed_read(rt: HostRuntime) -> Result<(), Fail> {
-    for (most, good_reads) in [(100, 1), (1, 5)] {
-        let mut source = Pieces {
-            bytes: b"ab\ncd",
-            most,
-            good_reads,
-            failed_calls: 0,
-        };
-        let mut feed = Feed::new(rt.alloc());
-        expect_answers(
-            &rt,
-            &mut feed,
-            &mut source,
-            &[
-                Ok(Some(b"ab")),
-                Err(Trouble::ReadFailed),
-                Err(Trouble::ReadFailed),
-            ],
-        );
-    }
-    Ok(())
+fn a_failed_read(rt: HostRuntime) {
+    expect_failed(&rt, rt.alloc(), 100, 1);
+    expect_failed(&rt, rt.alloc(), 1, 5);
 }
 
 #[test]
-fn a_reader_of_std(rt: HostRuntime) -> Result<(), Fail> {
+fn a_reader_of_std(rt: HostRuntime) {
     let mut bytes = b"ab\ncd".as_slice();
     let mut source = Reader::new(&mut bytes);
     let mut feed = Feed::new(rt.alloc());
-    expect_answers(
-        &rt,
-        &mut feed,
-        &mut source,
-        &[Ok(Some(b"ab")), Ok(Some(b"cd")), Ok(None)],
-    );
-    Ok(())
+    expect_answers(&rt, &mut feed, &mut source, "=ab\n=cd\nend");
 }
 
 #[test]
 fn blank_lines(rt: HostRuntime) {
-    for line in [b"".as_slice(), b" ", b"\t", b"\r", b" \t\r "] {
-        assert!(rt; is_blank_line(line));
-    }
-    for line in [b"{}".as_slice(), b" {", b"\x0b", b"\x0c", b"\xc2\xa0"] {
-        assert!(rt; !is_blank_line(line));
-    }
+    assert!(rt; is_blank_line(b""));
+    assert!(rt; is_blank_line(b" "));
+    assert!(rt; is_blank_line(b"\t"));
+    assert!(rt; is_blank_line(b"\r"));
+    assert!(rt; is_blank_line(b" \t\r "));
+    assert!(rt; !is_blank_line(b"{}"));
+    assert!(rt; !is_blank_line(b" {"));
+    assert!(rt; !is_blank_line(b"\x0b"));
+    assert!(rt; !is_blank_line(b"\x0c"));
+    assert!(rt; !is_blank_line(b"\xc2\xa0"));
 }

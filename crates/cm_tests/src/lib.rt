@@ -24,3 +24,5 @@ mod pickles;
 mod producers;
 #[cfg(test)]
 mod skeletons;
+#[cfg(test)]
+mod statuses;

@@ -1,5 +1,7 @@
 //! Lines as today's producers write them, with members that aren't judged.
-use cm_envelope::{Envelope, read_envelope};
+use cm_envelope::{Envelope, ShapeFault, read_envelope};
+use std::alloc::{AllocError, Global};
+use std::process::Abort;
 use std::test::Fail;
 
 fn kind_of(envelope: &Envelope) -> &'static str {
@@ -46,24 +48,40 @@ testStepFinished {"testStepFinished":{"testCaseStartedId":"11","testStepId":"9",
 testCaseFinished {"testCaseFinished":{"testCaseStartedId":"11","willBeRetried":false,"timestamp":{"seconds":0,"nanos":6}}}
 testRunFinished {"testRunFinished":{"testRunStartedId":"6","success":false,"exception":{"type":"Error"},"timestamp":{"seconds":0,"nanos":7}}}"#;
 
+fn expect_clone(rt: &impl Abort, copy: &Result<Envelope, AllocError>, envelope: &Envelope) {
+    match copy {
+        Ok(copy) => assert!(rt; *copy == *envelope),
+        Err(_) => assert!(rt; false, "out of memory"),
+    }
+}
+
+// A line read twice gives one envelope, and its clone is the same.
+fn expect_kind(
+    rt: &impl Abort,
+    read: &Result<Envelope, ShapeFault>,
+    again: &Result<Envelope, ShapeFault>,
+    kind: &str,
+) {
+    match (read, again) {
+        (Ok(one), Ok(other)) => {
+            assert!(rt; kind_of(one) == kind);
+            assert!(rt; *one == *other);
+            expect_clone(rt, &one.clone(), other);
+        }
+        _ => assert!(rt; false, "no envelope"),
+    }
+}
+
+fn expect_line(rt: &impl Abort, alloc: Global, line: &[u8], kind: &str) {
+    let read = read_envelope(alloc, line);
+    expect_kind(rt, &read, &read_envelope(alloc, line), kind);
+}
+
 #[test]
 fn lines_of_producers(rt: HostRuntime) -> Result<(), Fail> {
-    let alloc = rt.alloc();
     for told in LINES.lines() {
-        let Some((kind, line)) = told.split_once(' ') else {
-            assert!(rt; false, "no kind");
-            return Ok(());
-        };
-        match (
-            read_envelope(alloc, line.as_bytes()),
-            read_envelope(alloc, line.as_bytes()),
-        ) {
-            (Ok(one), Ok(other)) => {
-                assert!(rt; kind_of(&one) == kind);
-                assert!(rt; one == other && one.clone()? == other);
-            }
-            _ => assert!(rt; false, "no envelope"),
-        }
+        let (kind, line) = told.split_once(' ').ok_or("no kind")?;
+        expect_line(&rt, rt.alloc(), line.as_bytes(), kind);
     }
     Ok(())
 }

@@ -1,20 +1,14 @@
 //! Documents of a stream beside the document of a text.
 use crate::compiled::PLAIN_TEXT;
-use cm_envelope::{Envelope, read_envelope};
+use cm_envelope::{Envelope, ShapeFault, read_envelope};
 use gk_document::{Document, same_skeleton};
 use gk_tree::parse;
 use std::alloc::Global;
+use std::process::Abort;
 use std::test::Fail;
 
 fn parsed(alloc: Global, text: &str) -> Result<Document, Fail> {
     Ok(parse(alloc, text)?)
-}
-
-fn read_document(alloc: Global, line: &str) -> Option<Document> {
-    match read_envelope(alloc, line.as_bytes()) {
-        Ok(Envelope::GherkinDocument(read)) => Some(read.document),
-        _ => None,
-    }
 }
 
 // Whether the two have the same skeleton, and lines of a document of the plain text.
@@ -27,20 +21,30 @@ no {"gherkinDocument":{"comments":[],"feature":{"children":[{"scenario":{"descri
 no {"gherkinDocument":{"comments":[],"feature":{"children":[{"scenario":{"description":"","examples":[],"id":"0","keyword":"Example","location":{"column":3,"line":3},"name":"s","steps":[{"id":"1","keyword":"Given ","keywordType":"Context","location":{"column":5,"line":4},"text":"a"}],"tags":[]}}],"description":"","keyword":"Feature","language":"en","location":{"column":1,"line":1},"name":"f","tags":[]},"uri":"a.feature"}}
 no {"gherkinDocument":{"comments":[],"feature":{"children":[{"scenario":{"description":"","examples":[{"id":"2","keyword":"Examples","location":{"line":5},"name":""}],"id":"0","keyword":"Scenario","location":{"column":3,"line":3},"name":"s","steps":[{"id":"1","keyword":"Given ","keywordType":"Context","location":{"column":5,"line":4},"text":"a"}],"tags":[]}}],"description":"","keyword":"Feature","language":"en","location":{"column":1,"line":1},"name":"f","tags":[]},"uri":"a.feature"}}"#;
 
-// Whether the line has a document with the skeleton of this one.
+// Whether a document was read with the skeleton of this one.
+fn is_alike(read: &Result<Envelope, ShapeFault>, document: &Document) -> Option<bool> {
+    match read {
+        Ok(Envelope::GherkinDocument(read)) => Some(same_skeleton(document, &read.document)),
+        _ => None,
+    }
+}
+
 fn has_skeleton(alloc: Global, document: &Document, line: &str) -> Option<bool> {
-    let read = read_document(alloc, line)?;
-    Some(same_skeleton(document, &read))
+    is_alike(&read_envelope(alloc, line.as_bytes()), document)
+}
+
+fn expect_skeletons(rt: &impl Abort, alloc: Global, document: &Document) -> Result<(), Fail> {
+    for told in DOCUMENTS.lines() {
+        let (word, line) = told.split_once(' ').ok_or("no word")?;
+        let is_same = has_skeleton(alloc, document, line);
+        assert!(rt; is_same == Some(word == "yes"));
+    }
+    Ok(())
 }
 
 #[test]
 fn skeletons_of_documents(rt: HostRuntime) -> Result<(), Fail> {
     let alloc = rt.alloc();
     let document = parsed(alloc, PLAIN_TEXT)?;
-    for told in DOCUMENTS.lines() {
-        let (word, line) = told.split_once(' ').ok_or("no word")?;
-        let is_same = has_skeleton(alloc, &document, line);
-        assert_eq!(rt; is_same, Some(word == "yes"));
-    }
-    Ok(())
+    expect_skeletons(&rt, alloc, &document)
 }

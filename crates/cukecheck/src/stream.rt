@@ -10,8 +10,8 @@ use crate::fault::Fault;
 use cm_attempt::{Track, TrackFault};
 use cm_audit::kept_status;
 use cm_envelope::{
-    ByteSource, Envelope, Feed, ShapeFault, TestCase, TestStep, Trouble, is_blank_line,
-    read_envelope,
+    ByteSource, Envelope, Feed, ShapeFault, TestCase, TestCaseFinished, TestCaseStarted, TestStep,
+    TestStepFinished, TestStepStarted, Trouble, is_blank_line, read_envelope,
 };
 use gk_line::{Sequence, Text};
 use std::alloc::{AllocError, AllocFailed, Global};
@@ -130,39 +130,62 @@ fn add_case(alloc: Global, cases: &mut Cases, case: TestCase) -> Result<(), Line
     Ok(())
 }
 
-#[tactic(auto, using(crate::proofs::Calls::ids_of_started, crate::proofs::Calls::ids_of_finished))]
+#[tactic(auto, using(crate::proofs::Calls::ids_of_started))]
+fn start_attempt(cases: &mut Cases, started: &TestCaseStarted) -> Result<(), LineStop>
+    requires { IsListed cases.old }
+    ensures { LeavesCases (after_envelope cases.old.track (Ok (Envelope.TestCaseStarted started.now))) cases.new result }
+{
+    let case = started.test_case_id.as_str();
+    cases
+        .track
+        .start(started.id.as_str(), case, started.attempt)?;
+    Ok(())
+}
+
+#[tactic(auto, using(crate::proofs::Calls::ids_of_started))]
+fn start_step(cases: &mut Cases, started: &TestStepStarted) -> Result<(), LineStop>
+    requires { IsListed cases.old }
+    ensures { LeavesCases (after_envelope cases.old.track (Ok (Envelope.TestStepStarted started.now))) cases.new result }
+{
+    let attempt = started.test_case_started_id.as_str();
+    cases
+        .track
+        .step_started(attempt, started.test_step_id.as_str())?;
+    Ok(())
+}
+
+#[tactic(auto, using(crate::proofs::Calls::ids_of_started))]
+fn finish_step(cases: &mut Cases, finished: &TestStepFinished) -> Result<(), LineStop>
+    requires { IsListed cases.old }
+    ensures { LeavesCases (after_envelope cases.old.track (Ok (Envelope.TestStepFinished finished.now))) cases.new result }
+{
+    let attempt = finished.test_case_started_id.as_str();
+    let step = finished.test_step_id.as_str();
+    let status = kept_status(finished.test_step_result.status);
+    cases.track.step_finished(attempt, step, status)?;
+    Ok(())
+}
+
+#[tactic(auto, using(crate::proofs::Calls::ids_of_finished))]
+fn finish_attempt(cases: &mut Cases, finished: &TestCaseFinished) -> Result<(), LineStop>
+    requires { IsListed cases.old }
+    ensures { LeavesCases (after_envelope cases.old.track (Ok (Envelope.TestCaseFinished finished.now))) cases.new result }
+{
+    let attempt = finished.test_case_started_id.as_str();
+    cases.track.finish(attempt, finished.will_be_retried)?;
+    Ok(())
+}
+
 fn take_envelope(alloc: Global, cases: &mut Cases, envelope: Envelope) -> Result<(), LineStop>
     requires { IsListed cases.old }
     ensures { LeavesCases (after_envelope cases.old.track (Ok envelope)) cases.new result }
 {
     match envelope {
         Envelope::TestCase(case) => add_case(alloc, cases, case),
-        Envelope::TestCaseStarted(started) => {
-            let case = started.test_case_id.as_str();
-            cases
-                .track
-                .start(started.id.as_str(), case, started.attempt)?;
-            Ok(())
-        }
-        Envelope::TestStepStarted(started) => {
-            let attempt = started.test_case_started_id.as_str();
-            cases
-                .track
-                .step_started(attempt, started.test_step_id.as_str())?;
-            Ok(())
-        }
-        Envelope::TestStepFinished(finished) => {
-            let attempt = finished.test_case_started_id.as_str();
-            let step = finished.test_step_id.as_str();
-            let status = kept_status(finished.test_step_result.status);
-            cases.track.step_finished(attempt, step, status)?;
-            Ok(())
-        }
-        Envelope::TestCaseFinished(finished) => {
-            let attempt = finished.test_case_started_id.as_str();
-            cases.track.finish(attempt, finished.will_be_retried)?;
-            Ok(())
-        }
+        Envelope::TestCaseStarted(started) => start_attempt(cases, &started),
+        Envelope::TestStepStarted(started) => start_step(cases, &started),
+        Envelope::TestStepFinished(finished) => finish_step(cases, &finished),
+        Envelope::TestCaseFinished(finished) => finish_attempt(cases, &finished),
         // Of all other envelopes the shape alone is judged.
         _ => Ok(()),
     }
