@@ -47,7 +47,7 @@ fn expect_read(rt: &impl Abort, read: &Result<Envelope, ShapeFault>, wanted: Wan
     }
 }
 
-// The one function that holds an envelope by value, since its proof is long.
+// Reads a line: the one function of this module that holds an envelope by value, since the proof of one that does is long.
 fn expect(rt: &impl Abort, alloc: Global, line: &[u8], wanted: Wanted<'_>) {
     expect_read(rt, &read_envelope(alloc, line), wanted);
 }
