@@ -106,5 +106,7 @@ pub fn audit<R: ByteSource>(alloc: Global, source: &mut R) -> Result<Verdict, Tr
     ensures ahead { WhereTold (R.to_come source.old) (R.to_come source.new) (ReadsUpTo result) }
 {
     let mut state = State::new(alloc);
-    judge_lines(alloc, &mut state, source)
+    let verdict = judge_lines(alloc, &mut state, source);
+    drop(state);
+    verdict
 }

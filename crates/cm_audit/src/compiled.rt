@@ -106,7 +106,9 @@ fn lines_of(alloc: Global, uri: &str, text: &str) -> Result<Vec<Text>, CompileFa
     ensures nothing_written { result ≢ Err WriteFailed }
 {
     let document = parse(alloc, text)?;
-    Ok(lines_of_document(alloc, uri, text, &document)?)
+    let lines = lines_of_document(alloc, uri, text, &document);
+    drop(document);
+    Ok(lines?)
 }
 
 /// Writes the lines of a feature file as Cucumber Messages: its source, its document and its pickles in order, each

@@ -58,6 +58,7 @@ pub(crate) fn judge(state: &mut State, envelope: Envelope) -> Result<(), Stop>
     ensures { Takes state.old state.new envelope result }
 {
     if state.is_finished && is_judged(&envelope) {
+        drop(envelope);
         return Err(Stop::Bad(Bad::AfterRunFinished));
     }
     judge_inside(state, envelope)

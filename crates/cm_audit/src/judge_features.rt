@@ -116,8 +116,11 @@ pub(crate) fn judge_document(state: &mut State, document: GherkinDocument) -> Re
     requires listed { IsListed state.old }
     ensures { Judges state.old state.new (envelope.GherkinDocument document) result }
 {
-    check_document(state, &document)?;
-    let GherkinDocument { uri, ids, .. } = document;
+    let checked = check_document(state, &document);
+    // The tree isn't kept, whatever was found.
+    let GherkinDocument { uri, document, ids } = document;
+    drop(document);
+    checked?;
     state.declared.declare_document(uri.as_str())?;
     set_ids(&mut state.sources, uri.as_str(), ids);
     Ok(())

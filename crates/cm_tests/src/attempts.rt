@@ -140,6 +140,7 @@ fn refuses_duplicates_and_unknown_ids(rt: HostRuntime) {
     assert!(rt; reported(&track, "c") == "Passed");
     assert!(rt; track.all_good());
     assert!(rt; track.has_attempt("a") && !track.has_attempt("b"));
+    drop(track);
 }
 
 const ONCE: &str = "ok case c t u
@@ -159,6 +160,7 @@ fn a_step_finishes_once(rt: HostRuntime) {
     assert!(rt; reported(&track, "c") == "none");
     assert!(rt; track.has_step("a", "u") && !track.has_step("a", "v"));
     assert!(rt; !track.all_good());
+    drop(track);
 }
 
 // What is reported of the case after each call.
@@ -186,6 +188,7 @@ fn a_retried_attempt_alone_reports_none(rt: HostRuntime) {
     let mut track = Track::new(alloc);
     expect_reports(&rt, &mut track, alloc, RETRIED);
     assert!(rt; !track.all_good());
+    drop(track);
 }
 
 const INTERLEAVED: &str = "ok case c s t
@@ -209,4 +212,5 @@ fn attempts_of_two_cases_interleave(rt: HostRuntime) {
     assert!(rt; reported(&track, "d") == "Failed");
     assert!(rt; reported(&track, "c") == "none");
     assert!(rt; track.open_attempts() == 1);
+    drop(track);
 }

@@ -61,6 +61,7 @@ fn expect_kinds(rt: &impl Abort, declared: &mut Declared, table: &str) {
 fn a_kind_has_each_name_once(rt: HostRuntime) {
     let mut declared = Declared::new(rt.alloc());
     expect_kinds(&rt, &mut declared, KINDS);
+    drop(declared);
 }
 
 fn declare_pickle(
@@ -104,4 +105,5 @@ fn a_pickle_has_distinct_steps(rt: HostRuntime) {
     assert!(rt; declared.has_step("p", "s"));
     assert!(rt; !declared.has_step("p", "t"));
     assert!(rt; !declared.has_step("q", "s"));
+    drop(declared);
 }

@@ -47,9 +47,11 @@ fn expect_read(rt: &impl Abort, read: &Result<Envelope, ShapeFault>, wanted: Wan
     }
 }
 
-// Reads a line: the one function of this module that holds an envelope by value, since the proof of one that does is long.
+// A line gives what is wanted.
 fn expect(rt: &impl Abort, alloc: Global, line: &[u8], wanted: Wanted<'_>) {
-    expect_read(rt, &read_envelope(alloc, line), wanted);
+    let read = read_envelope(alloc, line);
+    expect_read(rt, &read, wanted);
+    drop(read);
 }
 
 pub(crate) fn refuses(rt: &impl Abort, alloc: Global, line: &[u8], kind: &str, field: &str) {

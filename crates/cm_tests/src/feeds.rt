@@ -57,6 +57,15 @@ impl ByteSource for Endless {
     }
 }
 
+fn name_of(trouble: Trouble) -> &'static str {
+    match trouble {
+        Trouble::ReadFailed => "ReadFailed",
+        Trouble::LineTooLong => "LineTooLong",
+        Trouble::StreamTooLong => "StreamTooLong",
+        Trouble::Memory => "Memory",
+    }
+}
+
 // The answer is the one that is told: `=` and the line, `end`, or the trouble.
 fn expect_answer(rt: &impl Abort, answer: &Result<Option<&[u8]>, Trouble>, told: &str) {
     match answer {
@@ -65,10 +74,7 @@ fn expect_answer(rt: &impl Abort, answer: &Result<Option<&[u8]>, Trouble>, told:
             None => assert!(rt; false, "a line"),
         },
         Ok(None) => assert!(rt; told == "end"),
-        Err(Trouble::ReadFailed) => assert!(rt; told == "ReadFailed"),
-        Err(Trouble::LineTooLong) => assert!(rt; told == "LineTooLong"),
-        Err(Trouble::StreamTooLong) => assert!(rt; told == "StreamTooLong"),
-        Err(Trouble::Memory) => assert!(rt; false, "out of memory"),
+        Err(trouble) => assert!(rt; told == name_of(*trouble)),
     }
 }
 

@@ -66,7 +66,9 @@ fn expect_kind(
         (Ok(one), Ok(other)) => {
             assert!(rt; kind_of(one) == kind);
             assert!(rt; *one == *other);
-            expect_clone(rt, &one.clone(), other);
+            let copy: Result<Envelope, AllocError> = one.clone();
+            expect_clone(rt, &copy, other);
+            drop(copy);
         }
         _ => assert!(rt; false, "no envelope"),
     }
@@ -74,7 +76,10 @@ fn expect_kind(
 
 fn expect_line(rt: &impl Abort, alloc: Global, line: &[u8], kind: &str) {
     let read = read_envelope(alloc, line);
-    expect_kind(rt, &read, &read_envelope(alloc, line), kind);
+    let again = read_envelope(alloc, line);
+    expect_kind(rt, &read, &again, kind);
+    drop(read);
+    drop(again);
 }
 
 #[test]

@@ -30,7 +30,10 @@ fn is_alike(read: &Result<Envelope, ShapeFault>, document: &Document) -> Option<
 }
 
 fn has_skeleton(alloc: Global, document: &Document, line: &str) -> Option<bool> {
-    is_alike(&read_envelope(alloc, line.as_bytes()), document)
+    let read = read_envelope(alloc, line.as_bytes());
+    let is_alike = is_alike(&read, document);
+    drop(read);
+    is_alike
 }
 
 fn expect_skeletons(rt: &impl Abort, alloc: Global, document: &Document) -> Result<(), Fail> {
@@ -46,5 +49,7 @@ fn expect_skeletons(rt: &impl Abort, alloc: Global, document: &Document) -> Resu
 fn skeletons_of_documents(rt: HostRuntime) -> Result<(), Fail> {
     let alloc = rt.alloc();
     let document = parsed(alloc, PLAIN_TEXT)?;
-    expect_skeletons(&rt, alloc, &document)
+    let done = expect_skeletons(&rt, alloc, &document);
+    drop(document);
+    done
 }

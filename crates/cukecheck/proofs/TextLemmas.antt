@@ -1,13 +1,7 @@
 -- What was read of a source.
-use Rattle.std.proofs.Common.{◌≡◌, ◌∙◌, ◌++◌, ◌≤◌, ℕ, List, Option, Some, None, length, take, drop, sym, ap, subst, IsUtf8}
+use Rattle.std.proofs.Common.{◌≡◌, ◌∙◌, ◌≤◌, ℕ, List, Option, Some, None, length, subst, IsUtf8}
 use Rattle.std.specs.Prelude.{IfSome}
-use lib.Seq.{take-append_seam}
 use Rattle.cukecheck.specs.Texts.{IsTextOf}
-
--- a piece that was filled anew
-pub written_back : (k : ℕ) (piece old : List ℕ) → length piece ≡ k → take k (piece ++ drop (length piece) old) ≡ piece
-written_back k piece old len =
-    ap (λ n. take n (piece ++ drop (length piece) old)) (sym len) ∙ take-append_seam piece (drop (length piece) old)
 
 -- all bytes, as a text
 pub text_of_all : (a : Option (List ℕ)) (text bytes : List ℕ) → IsUtf8 text → text ≡ bytes → length bytes ≤ 16777216

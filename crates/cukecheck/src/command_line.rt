@@ -1,7 +1,7 @@
 //! The command line: what the words after the program's name ask for.
-ghost use Rattle.std.specs.Prelude.{◌≡◌, IfOk, map, option_map};
-ghost use Rattle.clap.specs.Words.{app_of, kind_of, subcommand_rows_of};
-ghost use Rattle.cukecheck.specs.CommandLine.{Chooses, asked, command_app, command_of, named};
+ghost use Rattle.std.specs.Prelude.{◌≡◌, IfOk, false, map, option_map};
+ghost use Rattle.clap.specs.Words.{app_of, kind_of, rule_of, subcommand_rows_of};
+ghost use Rattle.cukecheck.specs.CommandLine.{Chooses, asked, command_app, command_of, named, uri_rule};
 
 use clap::error::ErrorKind;
 use clap::{Arg, ArgAction, ArgMatches, Command, Error};
@@ -31,20 +31,26 @@ pub enum Refusal {
     Memory,
 }
 
+// The argument `--uri URI`, which must be given.
+fn uri_argument<'a>(alloc: Global) -> Arg<'a>
+    ensures rule { rule_of result ≡ uri_rule }
+    ensures local { result.global ≡ false }
+{
+    Arg::new(alloc, "uri")
+        .long("uri")
+        .required(true)
+        .action(ArgAction::Set)
+}
+
 fn command<'a>(alloc: Global) -> Result<Command<'a>, AllocError>
     ensures { IfOk result (λ c. app_of c ≡ command_app) }
 {
     let bare = Command::new(alloc, "cukecheck").subcommand_required(true);
     let with_parse = bare.subcommand(Command::new(alloc, "parse"))?;
-    let uri = Arg::new(alloc, "uri")
-        .long("uri")
-        .required(true)
-        .action(ArgAction::Set);
-    let compile = Command::new(alloc, "compile").arg(uri)?;
+    let compile = Command::new(alloc, "compile").arg(uri_argument(alloc))?;
     let with_compile = with_parse.subcommand(compile)?;
     let with_audit = with_compile.subcommand(Command::new(alloc, "audit"))?;
-    let with_results = with_audit.subcommand(Command::new(alloc, "results"))?;
-    Ok(with_results)
+    with_audit.subcommand(Command::new(alloc, "results"))
 }
 
 fn refusal_of(alloc: Global, error: &Error) -> Refusal

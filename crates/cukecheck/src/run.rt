@@ -43,7 +43,9 @@ fn results<R: ByteSource, W: ByteSink>(alloc: Global, source: &mut R, sink: &mut
     ensures unread { result ≡ 0 → R.failed_calls source.new ≡ R.failed_calls source.old }
 {
     let read = read_stream(alloc, source);
-    match report_of(alloc, &read) {
+    let report = report_of(alloc, &read);
+    drop(read);
+    match report {
         Ok(report) => write_text(sink, report.text.as_str(), report.status),
         Err(AllocError) => write_text(sink, NO_MEMORY, TROUBLE_STATUS),
     }
@@ -57,7 +59,9 @@ fn parse<R: ByteSource, W: ByteSink>(alloc: Global, source: &mut R, sink: &mut W
     ensures unread { result ≡ 0 → R.failed_calls source.new ≡ R.failed_calls source.old }
 {
     let read = read_document(alloc, source);
-    match parse_report(alloc, &read) {
+    let report = parse_report(alloc, &read);
+    drop(read);
+    match report {
         Ok(report) => write_text(sink, report.text.as_str(), report.status),
         Err(AllocError) => write_text(sink, NO_MEMORY, TROUBLE_STATUS),
     }

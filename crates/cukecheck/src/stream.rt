@@ -1,5 +1,5 @@
 //! The test cases of a message stream, read line by line.
-ghost use Rattle.std.specs.Prelude.{◌≡◌, IfOk, IfSome, Ok, map, string_bytes};
+ghost use Rattle.std.specs.Prelude.{◌≡◌, ◌≢◌, IfOk, IfSome, Ok, map, string_bytes};
 ghost use Rattle.cm_envelope.specs.Device.{Counts};
 ghost use Rattle.cm_attempt.specs.declared.fault.TrackFault.TheVariants as track;
 ghost use Rattle.cukecheck.specs.Faults.{refusal_fault, unread_fault};
@@ -176,18 +176,33 @@ fn finish_attempt(cases: &mut Cases, finished: &TestCaseFinished) -> Result<(), 
     Ok(())
 }
 
+// Takes an envelope that declares no case.
+fn take_attempt(cases: &mut Cases, envelope: &Envelope) -> Result<(), LineStop>
+    requires listed { IsListed cases.old }
+    requires other { (case : TestCase) → envelope.now ≢ Envelope.TestCase case }
+    ensures { LeavesCases (after_envelope cases.old.track (Ok envelope.now)) cases.new result }
+{
+    match envelope {
+        Envelope::TestCaseStarted(started) => start_attempt(cases, started),
+        Envelope::TestStepStarted(started) => start_step(cases, started),
+        Envelope::TestStepFinished(finished) => finish_step(cases, finished),
+        Envelope::TestCaseFinished(finished) => finish_attempt(cases, finished),
+        // Of all other envelopes the shape alone is judged.
+        _ => Ok(()),
+    }
+}
+
 fn take_envelope(alloc: Global, cases: &mut Cases, envelope: Envelope) -> Result<(), LineStop>
     requires { IsListed cases.old }
     ensures { LeavesCases (after_envelope cases.old.track (Ok envelope)) cases.new result }
 {
     match envelope {
         Envelope::TestCase(case) => add_case(alloc, cases, case),
-        Envelope::TestCaseStarted(started) => start_attempt(cases, &started),
-        Envelope::TestStepStarted(started) => start_step(cases, &started),
-        Envelope::TestStepFinished(finished) => finish_step(cases, &finished),
-        Envelope::TestCaseFinished(finished) => finish_attempt(cases, &finished),
-        // Of all other envelopes the shape alone is judged.
-        _ => Ok(()),
+        other => {
+            let taken = take_attempt(cases, &other);
+            drop(other);
+            taken
+        }
     }
 }
 

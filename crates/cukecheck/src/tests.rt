@@ -153,6 +153,20 @@ fn stream(alloc: Global, lines: &[&str]) -> Result<String, AllocError> {
     Ok(text)
 }
 
+// A run ends with this status, and the sink has taken this text.
+fn expect_run(
+    rt: &impl Abort,
+    alloc: Global,
+    words: &[&str],
+    source: &mut Source<'_>,
+    sink: &mut Sink,
+    text: &str,
+    status: u8,
+) {
+    assert_eq!(rt; run(alloc, words, source, sink), status);
+    assert_eq!(rt; sink.taken.as_slice(), text.as_bytes());
+}
+
 fn expect_told(
     rt: &impl Abort,
     alloc: Global,
@@ -163,8 +177,7 @@ fn expect_told(
 ) {
     let mut source = source;
     let mut sink = taking(alloc, 7);
-    assert_eq!(rt; run(alloc, &[word], &mut source, &mut sink), status);
-    assert_eq!(rt; sink.taken.as_slice(), text.as_bytes());
+    expect_run(rt, alloc, &[word], &mut source, &mut sink, text, status);
 }
 
 fn expect_results(rt: &impl Abort, alloc: Global, bytes: &[u8], text: &str, status: u8) {
@@ -307,8 +320,16 @@ fn a_read_that_fails_after_20_bytes(rt: HostRuntime) {
         failed_calls: 0,
     };
     let mut sink = taking(rt.alloc(), 7);
-    assert_eq!(rt; run(rt.alloc(), &["results"], &mut source, &mut sink), 3);
-    assert_eq!(rt; sink.taken.as_slice(), b"trouble ReadFailed\n".as_slice());
+    let told = "trouble ReadFailed\n";
+    expect_run(
+        &rt,
+        rt.alloc(),
+        &["results"],
+        &mut source,
+        &mut sink,
+        told,
+        3,
+    );
     assert_eq!(rt; source.failed_calls, 1);
 }
 
@@ -321,10 +342,15 @@ fn writes_that_fail_or_take_nothing(rt: HostRuntime) {
             takes_none,
             ..taking(rt.alloc(), 3)
         };
-        assert_eq!(rt; run(rt.alloc(), &["results"], &mut source, &mut sink), 3);
-        assert_eq!(rt;
-            sink.taken.as_slice(),
-            b"c1 trouble WriteFailed\n".as_slice()
+        let told = "c1 trouble WriteFailed\n";
+        expect_run(
+            &rt,
+            rt.alloc(),
+            &["results"],
+            &mut source,
+            &mut sink,
+            told,
+            3,
         );
         assert_eq!(rt; sink.failed_calls, 1);
     }
@@ -337,8 +363,15 @@ fn a_flush_that_fails(rt: HostRuntime) {
         flush_fails: true,
         ..taking(rt.alloc(), 3)
     };
-    assert_eq!(rt; run(rt.alloc(), &["results"], &mut source, &mut sink), 3);
-    assert_eq!(rt; sink.taken.as_slice(), b"c1 NONE\n".as_slice());
+    expect_run(
+        &rt,
+        rt.alloc(),
+        &["results"],
+        &mut source,
+        &mut sink,
+        "c1 NONE\n",
+        3,
+    );
 }
 
 #[test]

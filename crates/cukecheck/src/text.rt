@@ -1,5 +1,5 @@
 //! A text, read whole from a source.
-ghost use Rattle.std.specs.Prelude.{◌≡◌, ◌+◌, ◌≤◌, ℕ, List, length, string_bytes, IfOk, IfErr, IfSome};
+ghost use Rattle.std.specs.Prelude.{◌≡◌, ◌+◌, ◌≤◌, ℕ, List, [], length, string_bytes, IfOk, IfErr, IfSome, OnOk};
 ghost use Rattle.std.specs.Io.KnownBytes.{Consumes};
 ghost use Rattle.cm_envelope.specs.Device.{Counts};
 ghost use Rattle.cukecheck.specs.Texts.{HasBytesFault, HasTextFault, IsTextOf, is_read_failed};
@@ -51,6 +51,29 @@ impl From<AllocError> for TextFault {
     }
 }
 
+// Puts all bytes of the source into `bytes`, at most the limit. A read takes at most the length of `piece`.
+fn gather<R: ByteSource>(
+    source: &mut R,
+    piece: &mut [u8],
+    bytes: &mut Vec<u8>,
+) -> Result<(), TextFault>
+    requires room { length piece.old ≡ PIECE }
+    requires none { bytes.old.items ≡ [] }
+    ensures few { (read : List ℕ) × Consumes (R.to_come source.old) (R.to_come source.new) read × (length read ≤ TEXT_LIMIT + PIECE) }
+    ensures ok { OnOk result ((length bytes.new.items ≤ TEXT_LIMIT) × IfSome (R.to_come source.old) (λ all. bytes.new.items ≡ all)) }
+    ensures err { IfErr result (λ fault. IfSome (R.to_come source.old) (λ all. HasBytesFault all fault)) }
+    ensures failures { Counts (is_read_failed result) (R.failed_calls source.old) (R.failed_calls source.new) }
+{
+    'pieces: while bytes.len() <= TEXT_LIMIT {
+        let count = source.read_some(piece)?;
+        if count == 0 {
+            return Ok(());
+        }
+        bytes.extend_from_slice(&piece[..count])?;
+    }
+    Err(TextFault::TooLong)
+}
+
 // All bytes of the source, at most the limit.
 fn read_bytes<R: ByteSource>(alloc: Global, source: &mut R) -> Result<Vec<u8>, TextFault>
     ensures few { (read : List ℕ) × Consumes (R.to_come source.old) (R.to_come source.new) read × (length read ≤ TEXT_LIMIT + PIECE) }
@@ -61,14 +84,8 @@ fn read_bytes<R: ByteSource>(alloc: Global, source: &mut R) -> Result<Vec<u8>, T
     let mut piece = Vec::new(alloc);
     piece.resize(PIECE, 0)?;
     let mut bytes = Vec::new(alloc);
-    'pieces: while bytes.len() <= TEXT_LIMIT {
-        let count = source.read_some(piece.as_mut_slice())?;
-        if count == 0 {
-            return Ok(bytes);
-        }
-        bytes.extend_from_slice(&piece[..count])?;
-    }
-    Err(TextFault::TooLong)
+    gather(source, piece.as_mut_slice(), &mut bytes)?;
+    Ok(bytes)
 }
 
 /// Reads a source to its end, as UTF-8. It reads at most 65,536 bytes at a time and as many past the limit, and repeats

@@ -1,26 +1,23 @@
 -- A scenario without placeholders compiles alike for each row.
-use Rattle.std.proofs.Common.{◌≡◌, ℕ, ◌<◌, List, [], ◌∷◌, ◌++◌, map, Option, Some, None, refl, sym, ap, ◌∙◌, arith, option_map, option_and_then}
+use Rattle.std.proofs.Common.{◌≡◌, ℕ, List, [], ◌∷◌, ◌++◌, map, Option, Some, None, refl, sym, ap, ◌∙◌, arith, option_map, option_and_then}
 use Rattle.std.specs.List.{flat_map, AllByRecursion}
 use Rattle.std.specs.Option.{option_to_list}
 use Rattle.std.proofs.lemmas.List.{map-append}
 use Rattle.gk_line.specs.declared.tokens.Cell.{Cell}
 use Rattle.gk_line.specs.declared.tokens.KeywordType.{KeywordType}
-use Rattle.gk_document.specs.declared.tree.Tag.{Tag}
 use Rattle.gk_document.specs.declared.tree.Row.{Row}
-use Rattle.gk_document.specs.declared.tree.DocString.{DocString}
 use Rattle.gk_document.specs.declared.tree.Argument.{Argument}
 use Rattle.gk_document.specs.declared.tree.Argument.TheVariants as argument
 use Rattle.gk_document.specs.declared.tree.Step.{Step}
-use Rattle.gk_document.specs.declared.tree.Scenario.{Scenario}
 use Rattle.gk_pickle.specs.declared.pickle.StepType.{StepType}
 use Rattle.gk_pickle.specs.declared.pickle.PickleArgument.{PickleArgument}
 use Rattle.gk_pickle.specs.declared.pickle.PickleArgument.TheVariants as value
 use Rattle.gk_pickle.specs.declared.pickle.PickleStep.{PickleStep}
-use Rattle.gk_pickle.specs.Around.{Around, Filling, unfilled}
-use Rattle.gk_pickle.specs.Fill.{placeholder, replaced, filled}
-use Rattle.gk_pickle.specs.Steps.{type_of, filled_by, media_type, filled_row, filled_argument, filled_step, steps_after, keywords, pickle_steps}
-use Rattle.gk_pickle.specs.Pickles.{pickle_of, row_filling}
-use Rattle.gk_pickle.specs.Alike.{argument_texts, step_texts, scenario_texts, HasNoPlaceholder, content, IsAlike, RowsCompileAlike}
+use Rattle.gk_pickle.specs.Around.{Filling, unfilled}
+use Rattle.gk_pickle.specs.Fill.{placeholder, filled}
+use Rattle.gk_pickle.specs.Steps.{type_of, filled_by, media_type, filled_row, filled_argument, steps_after, keywords, pickle_steps}
+use Rattle.gk_pickle.specs.Pickles.{row_filling}
+use Rattle.gk_pickle.specs.Alike.{argument_texts, step_texts, HasNoPlaceholder, content, RowsCompileAlike}
 use Rattle.gk_pickle.proofs.Cutting.{joined_is_replaced}
 
 same_text : (text : List ℕ) (header cells : List Cell) → HasNoPlaceholder header text → filled text header cells ≡ text

@@ -1,15 +1,14 @@
 -- Filling by bytes is filling by characters.
-use Rattle.std.proofs.Common.{◌≡◌, ℕ, ◌+◌, ◌<◌, ◌≤◌, List, [], ◌∷◌, ◌++◌, length, take, drop, get_or, map, refl, sym, ap, ◌∙◌, ⊎_elim, subst, arith, length-append, length-drop, take-append-drop}
+use Rattle.std.proofs.Common.{◌≡◌, ℕ, ◌<◌, ◌≤◌, List, [], ◌∷◌, ◌++◌, length, take, drop, get_or, map, refl, sym, ap, ◌∙◌, ⊎_elim, subst, arith, length-append, length-drop, take-append-drop}
 use Rattle.std.specs.List.{AllByRecursion}
-use Rattle.std.specs.Str.{IsUtf8, IsCharBoundary, chars}
+use Rattle.std.specs.Str.{IsUtf8, chars}
 use Rattle.std.proofs.lemmas.Bool.{cases_lt}
 use Rattle.std.proofs.lemmas.List.{get_or_at, take_at, drop_at, take-take}
 use Rattle.std.proofs.lemmas.Str.{IsUtf8-append, IsUtf8-take, IsUtf8-drop, IsCharBoundary-before_ascii, IsCharBoundary-from_take, encodes-append, encodes-chars, chars-append, length-le-encodes}
 use lib.Utf8.{encode, encodes}
-use Rattle.gk_line.specs.declared.tokens.Cell.{Cell}
 use Rattle.gk_pickle.specs.Fill.{placeholder, replaced, filled}
 use Rattle.gk_pickle.specs.Cut.{Lacks, IsFirst, IsCut, joined}
-use Rattle.gk_pickle.specs.Characters.{by_characters, HoldUtf8, FillsCharacters}
+use Rattle.gk_pickle.specs.Characters.{by_characters, FillsCharacters}
 use Rattle.gk_pickle.proofs.Cutting.{replaced_is_joined, joined_is_replaced}
 
 opening : IsUtf8 (60 ∷ [])

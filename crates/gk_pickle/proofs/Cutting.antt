@@ -12,7 +12,7 @@ use Rattle.gk_pickle.proofs.Replacing.{nowhere, first, later, earlier, starts, o
 
 module _ (p : List ℕ) where
   -- an occurrence at a place, as a split of the text
-  split_at : (t : List ℕ) (k : ℕ) → OccursAt t p k → t ≡ take k t ++ (p ++ drop (k + length p) t)
+  pub split_at : (t : List ℕ) (k : ℕ) → OccursAt t p k → t ≡ take k t ++ (p ++ drop (k + length p) t)
   split_at t k h = sym (take-append-drop k t) ∙ ap (λ x. take k t ++ x) (OccursAt-split t p k h)
 
   before_at : (t : List ℕ) (k : ℕ) → OccursAt t p k → length (take k t) ≡ k
@@ -23,7 +23,7 @@ module _ (p : List ℕ) where
   take_front (b ∷ x) y = ap (λ z. b ∷ z) (take_front x y)
 
   -- a split of the text, as an occurrence
-  place_of : (t x r : List ℕ) → t ≡ x ++ (p ++ r) → OccursAt t p (length x)
+  pub place_of : (t x r : List ℕ) → t ≡ x ++ (p ++ r) → OccursAt t p (length x)
   place_of t x r e =
       let long : length t ≡ length x + (length p + length r) = ap length e ∙ length-append x (p ++ r) ∙ ap (λ n. length x + n) (length-append p r) in
       OccursAt-from_part t p (length x) (omega arith) (ap (take (length p)) (front_rest t x (p ++ r) e) ∙ take_front p r)

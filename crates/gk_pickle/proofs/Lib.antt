@@ -1,6 +1,10 @@
 pub mod Replacing
 pub mod Types
 pub mod After
+pub mod Named
+pub mod Plain
+pub mod Opens
+pub mod Reading
 pub mod Written
 pub mod Cutting
 pub mod Alike

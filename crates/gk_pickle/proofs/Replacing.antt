@@ -45,7 +45,7 @@ module _ (p cell : List ℕ) where
   unfolding replaced_after
   at_front b bs h = cond-true _ _ _ (starts (b ∷ bs) p h) ∙ ap (λ x. cell ++ x) (covered (length p - 1) bs)
 
-  not_at_front : (b : ℕ) (bs : List ℕ) → (OccursAt (b ∷ bs) p 0 → ⊥) → replaced p cell (b ∷ bs) ≡ b ∷ replaced p cell bs
+  pub not_at_front : (b : ℕ) (bs : List ℕ) → (OccursAt (b ∷ bs) p 0 → ⊥) → replaced p cell (b ∷ bs) ≡ b ∷ replaced p cell bs
   unfolding replaced_after
   not_at_front b bs h = cond-false _ _ _ (false_from_ne_true _ (λ e. h (occurs (b ∷ bs) p (fits_of p (b ∷ bs) e) e)))
 

@@ -1,5 +1,5 @@
 -- How many pickles a scenario gives, and which nodes they name.
-use Rattle.std.specs.Prelude.{◌≡◌, ◌≢◌, ℕ, List, [], ◌∷◌, length, map, sum_by}
+use Rattle.std.specs.Prelude.{◌≡◌, ◌≢◌, List, [], ◌∷◌, length, map, sum_by}
 use Rattle.std.specs.List.{flat_map}
 use Rattle.gk_document.specs.declared.tree.Row.{Row}
 use Rattle.gk_document.specs.declared.tree.Examples.{Examples}

@@ -1,4 +1,6 @@
 pub mod Fill
+pub mod OneReading
+pub mod Columns
 pub mod Around
 pub mod Steps
 pub mod Pickles

@@ -1,12 +1,12 @@
 //! What a scenario's pickles take from around it.
-ghost use Rattle.std.specs.Prelude.{◌≡◌, ◌∷◌, IfOk};
+ghost use Rattle.std.specs.Prelude.{◌≡◌, ◌∷◌, [], IfOk};
 ghost use Rattle.gk_pickle.specs.Around.{unfilled};
-ghost use Rattle.gk_pickle.specs.Pickles.{row_filling};
 ghost use Rattle.gk_pickle.specs.Steps.{filled_by};
 
-use crate::filling::fill;
+use crate::columns::Columns;
+use crate::filling::RowFilling;
 use gk_document::{Row, Step, Tag};
-use gk_line::{Cell, Sequence, Text};
+use gk_line::{Sequence, Text};
 use std::alloc::{AllocError, Global};
 use std::marker::Model;
 
@@ -28,43 +28,45 @@ impl<'a> Model for Around<'a> {
     ghost view = { λ a. record { tags = a.feature_tags.now ++ a.rule_tags.now; steps = a.feature_steps.now ++ a.rule_steps.now } };
 }
 
-/// What fills a text: the header and the cells of a row, and the row's node.
+/// What fills a text: a row under its header, and the row's node.
 #[derive(Drop)]
-pub(crate) struct Filling<'a> {
-    pub header: &'a [Cell],
-    pub cells: &'a [Cell],
-    pub row: Option<u64>,
+pub(crate) struct Filling<'c, 'h, 'r> {
+    row: Option<RowFilling<'c, 'h, 'r>>,
+    node: Option<u64>,
 }
 
-impl<'a> Model for Filling<'a> {
-    ghost use Rattle.std.specs.Option.{option_to_list};
+impl<'c, 'h, 'r> Model for Filling<'c, 'h, 'r> {
+    ghost use Rattle.std.specs.Prelude.{[]};
+    ghost use Rattle.std.specs.Option.{option_map_or, option_to_list};
     ghost use Rattle.gk_pickle.specs.Around.{Filling as Filled};
 
     ghost Value = { Filled };
 
-    ghost view = { λ f. record { header = f.header.now; cells = f.cells.now; rows = option_to_list f.row } };
+    ghost view = { λ f. record {
+      header = option_map_or (λ r. r.0) f.row [];
+      cells = option_map_or (λ r. r.1) f.row [];
+      rows = option_to_list f.node;
+    } };
 }
 
-impl<'a> Filling<'a> {
+impl<'c, 'h, 'r> Filling<'c, 'h, 'r> {
     /// Where there are no examples.
-    pub fn none() -> Filling<'static>
+    pub fn none() -> Filling<'static, 'static, 'static>
         ensures { result ≡ unfilled }
     {
         Filling {
-            header: &[],
-            cells: &[],
             row: None,
+            node: None,
         }
     }
 
-    /// Of one body row under its header.
-    pub fn of_row(header: &'a Row, row: &'a Row) -> Filling<'a>
-        ensures { result ≡ row_filling header.now row.now }
+    /// Of one body row under its header's columns.
+    pub fn of_row(columns: &'c Columns<'h>, row: &'r Row) -> Filling<'c, 'h, 'r>
+        ensures { result ≡ record { header = columns.now; cells = row.now.cells; rows = row.now.node ∷ [] } }
     {
         Filling {
-            header: header.cells.as_slice(),
-            cells: row.cells.as_slice(),
-            row: Some(row.node),
+            row: Some(RowFilling::of(columns, row.cells.as_slice())),
+            node: Some(row.node),
         }
     }
 
@@ -72,7 +74,10 @@ impl<'a> Filling<'a> {
     pub fn text(&self, alloc: Global, text: &str) -> Result<Text, AllocError>
         ensures { IfOk result (λ t. t ≡ filled_by self.now text.now) }
     {
-        Ok(Text::from(fill(alloc, text, self.header, self.cells)?))
+        match &self.row {
+            Some(row) => Ok(Text::from(row.fill(alloc, text)?)),
+            None => Ok(Text::copy_of(alloc, text)?),
+        }
     }
 
     /// A node, and the row's where there is one.
@@ -81,7 +86,7 @@ impl<'a> Filling<'a> {
     {
         let mut nodes = Sequence::new(alloc);
         nodes.push(node)?;
-        if let Some(row) = self.row {
+        if let Some(row) = self.node {
             nodes.push(row)?;
         }
         Ok(nodes)

@@ -1,9 +1,10 @@
 //! The pickles of a document.
-ghost use Rattle.std.specs.Prelude.{◌≡◌, ◌++◌, map, IfOk, OnOk};
+ghost use Rattle.std.specs.Prelude.{◌≡◌, ◌++◌, Some, map, IfOk, OnOk};
 ghost use Rattle.std.specs.List.{flat_map};
 ghost use Rattle.gk_pickle.specs.Pickles.{pickle_tag, pickle_of, table_pickles, examples_pickles, scenario_pickles, background_steps, rule_pickles, feature_pickles, pickles};
 
 use crate::around::{Around, Filling};
+use crate::columns::Columns;
 use crate::pickle::{Pickle, PickleTag};
 use crate::steps::all_steps;
 use gk_document::{Background, Document, ExampleTable, Feature, Rule, Scenario, Step, Tag};
@@ -30,7 +31,7 @@ fn pickle(
     around: &Around<'_>,
     scenario: &Scenario,
     tags: &[Tag],
-    filling: &Filling<'_>,
+    filling: &Filling<'_, '_, '_>,
 ) -> Result<Pickle, AllocError>
     ensures { IfOk result (λ p. p ≡ pickle_of around.now scenario.now tags.now filling.now) }
 {
@@ -56,7 +57,27 @@ fn pickle(
     })
 }
 
-/// Adds a pickle for each body row of a block's table.
+/// Adds a pickle for each body row of a table.
+fn add_rows(
+    alloc: Global,
+    around: &Around<'_>,
+    scenario: &Scenario,
+    tags: &[Tag],
+    table: &ExampleTable,
+    made: &mut Vec<Pickle>,
+) -> Result<(), AllocError>
+    ensures { OnOk result (made.new.items ≡ made.old.items ++ table_pickles around.now scenario.now tags.now (Some table.now)) }
+{
+    let columns = Columns::of(alloc, table.header.cells.as_slice())?;
+    for row in table.body.as_slice() {
+        let filling = Filling::of_row(&columns, row);
+        let pickle = pickle(alloc, around, scenario, tags, &filling)?;
+        made.push(pickle)?;
+    }
+    Ok(())
+}
+
+/// Adds the pickles of a block's table.
 fn add_table(
     alloc: Global,
     around: &Around<'_>,
@@ -67,15 +88,10 @@ fn add_table(
 ) -> Result<(), AllocError>
     ensures { OnOk result (made.new.items ≡ made.old.items ++ table_pickles around.now scenario.now tags.now table.now) }
 {
-    let Some(table) = table else {
-        return Ok(());
-    };
-    for row in table.body.as_slice() {
-        let filling = Filling::of_row(&table.header, row);
-        let pickle = pickle(alloc, around, scenario, tags, &filling)?;
-        made.push(pickle)?;
+    match table {
+        Some(table) => add_rows(alloc, around, scenario, tags, table, made),
+        None => Ok(()),
     }
-    Ok(())
 }
 
 /// Adds a scenario's pickles.

@@ -2,10 +2,12 @@
 #![tactic(auto)]
 
 mod around;
+mod columns;
 mod compiling;
 mod filling;
 mod json;
 mod laws;
+mod one_reading;
 mod pickle;
 mod steps;
 mod tree_json;

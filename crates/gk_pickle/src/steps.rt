@@ -26,7 +26,7 @@ fn type_after(keyword: KeywordType, before: StepType) -> StepType
 /// The values of a row's cells, filled.
 fn filled_cells(
     alloc: Global,
-    filling: &Filling<'_>,
+    filling: &Filling<'_, '_, '_>,
     row: &Row,
 ) -> Result<Sequence<Text>, AllocError>
     ensures { IfOk result (λ texts. texts ≡ filled_row filling.now row.now) }
@@ -42,7 +42,7 @@ fn filled_cells(
 /// The rows of a table, filled.
 fn filled_rows(
     alloc: Global,
-    filling: &Filling<'_>,
+    filling: &Filling<'_, '_, '_>,
     rows: &[Row],
 ) -> Result<Sequence<Sequence<Text>>, AllocError>
     ensures { IfOk result (λ table. table ≡ map (filled_row filling.now) rows.now) }
@@ -58,7 +58,7 @@ fn filled_rows(
 /// A media type, filled, where one is left.
 fn filled_media(
     alloc: Global,
-    filling: &Filling<'_>,
+    filling: &Filling<'_, '_, '_>,
     media: &Option<Text>,
 ) -> Result<Option<Text>, AllocError>
     ensures { IfOk result (λ o. o ≡ option_and_then (λ m. media_type (filled_by filling.now m)) media.now) }
@@ -78,7 +78,7 @@ fn filled_media(
 /// A doc string, filled.
 fn filled_doc_string(
     alloc: Global,
-    filling: &Filling<'_>,
+    filling: &Filling<'_, '_, '_>,
     doc_string: &DocString,
 ) -> Result<PickleArgument, AllocError>
     ensures { IfOk result (λ a. a ≡ filled_argument filling.now (Argument.Text doc_string.now)) }
@@ -91,7 +91,7 @@ fn filled_doc_string(
 /// What stands below a step, filled.
 fn argument(
     alloc: Global,
-    filling: &Filling<'_>,
+    filling: &Filling<'_, '_, '_>,
     argument: &Option<Argument>,
 ) -> Result<Option<PickleArgument>, AllocError>
     ensures { IfOk result (λ o. o ≡ option_map (filled_argument filling.now) argument.now) }
@@ -111,7 +111,7 @@ fn argument(
 /// A step of a pickle.
 fn pickle_step(
     alloc: Global,
-    filling: &Filling<'_>,
+    filling: &Filling<'_, '_, '_>,
     kind: StepType,
     step: &Step,
 ) -> Result<PickleStep, AllocError>
@@ -131,7 +131,7 @@ fn pickle_step(
 /// Adds steps that stand after one of type `before`. Answers the type of the last one.
 fn add_steps(
     alloc: Global,
-    filling: &Filling<'_>,
+    filling: &Filling<'_, '_, '_>,
     before: StepType,
     steps: &[Step],
     made: &mut Vec<PickleStep>,
@@ -155,7 +155,7 @@ pub(crate) fn all_steps(
     alloc: Global,
     feature_steps: &[Step],
     rule_steps: &[Step],
-    filling: &Filling<'_>,
+    filling: &Filling<'_, '_, '_>,
     steps: &[Step],
 ) -> Result<Sequence<PickleStep>, AllocError>
     ensures { IfOk result (λ made. made ≡ pickle_steps (feature_steps.now ++ rule_steps.now) filling.now steps.now) }

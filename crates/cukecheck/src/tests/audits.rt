@@ -91,23 +91,27 @@ bad line 2: 7 DocumentOfRefusedSource/ 1 = refused refused_document
 bad line 2: 4 DuplicateId/ 1 = hook hook
 bad line 1: 2 Shape/ 1 = array";
 
+fn expect_verdict(rt: &impl Abort, alloc: Global, row: &str) -> Result<(), Fail> {
+    let (told, words) = row.split_once(" = ").ok_or("no verdict")?;
+    let (text, status) = told.split_once("/ ").ok_or("no status")?;
+    let stream = audited_stream(alloc, words)?;
+    let line = format!(in alloc; "{text}\n")?;
+    let status: u8 = status.parse().map_err(|_| "no status")?;
+    expect_told(
+        rt,
+        alloc,
+        "audit",
+        whole(stream.as_bytes()),
+        line.as_str(),
+        status,
+    );
+    Ok(())
+}
+
 #[test]
 fn verdicts(rt: HostRuntime) -> Result<(), Fail> {
-    let alloc = rt.alloc();
     for row in VERDICTS.lines() {
-        let (told, words) = row.split_once(" = ").ok_or("no verdict")?;
-        let (text, status) = told.split_once("/ ").ok_or("no status")?;
-        let stream = audited_stream(alloc, words)?;
-        let line = format!(in alloc; "{text}\n")?;
-        let status: u8 = status.parse().map_err(|_| "no status")?;
-        expect_told(
-            &rt,
-            alloc,
-            "audit",
-            whole(stream.as_bytes()),
-            line.as_str(),
-            status,
-        );
+        expect_verdict(&rt, rt.alloc(), row)?;
     }
     Ok(())
 }

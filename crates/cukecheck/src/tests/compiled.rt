@@ -1,5 +1,5 @@
 // Feature files by the command `compile`.
-use super::{Sink, Source, taking, whole};
+use super::{Sink, Source, expect_run, taking, whole};
 use crate::run::run;
 use std::alloc::Global;
 use std::process::Abort;
@@ -27,8 +27,7 @@ fn expect_lines(
 ) {
     let mut source = whole(text.as_bytes());
     let mut sink = taking(alloc, 7);
-    assert_eq!(rt; run(alloc, words, &mut source, &mut sink), status);
-    assert_eq!(rt; sink.taken.as_slice(), told.as_bytes());
+    expect_run(rt, alloc, words, &mut source, &mut sink, told, status);
 }
 
 #[test]
@@ -73,14 +72,9 @@ fn a_read_that_fails_before_any_line(rt: HostRuntime) {
         ..whole(b"Feature: f\n  Scenari")
     };
     let mut sink = taking(rt.alloc(), 7);
-    let status = run(
-        rt.alloc(),
-        &["compile", "--uri", "u"],
-        &mut source,
-        &mut sink,
-    );
-    assert_eq!(rt; status, 3);
-    assert_eq!(rt; sink.taken.as_slice(), b"trouble ReadFailed\n".as_slice());
+    let words = ["compile", "--uri", "u"];
+    let told = "trouble ReadFailed\n";
+    expect_run(&rt, rt.alloc(), &words, &mut source, &mut sink, told, 3);
 }
 
 #[test]
@@ -110,8 +104,7 @@ fn lines_whose_flush_fails(rt: HostRuntime) {
         ..taking(rt.alloc(), 7)
     };
     let words = ["compile", "--uri", "a.feature"];
-    assert_eq!(rt; run(rt.alloc(), &words, &mut source, &mut sink), 3);
-    assert_eq!(rt; sink.taken.as_slice(), LINES.as_bytes());
+    expect_run(&rt, rt.alloc(), &words, &mut source, &mut sink, LINES, 3);
 }
 
 // Words that `clap` takes and words that it refuses, with the status.

@@ -1,7 +1,7 @@
 // Feature files by the command `parse`.
 ghost use Rattle.std.specs.Prelude.{None};
 
-use super::{Sink, Source, taking, whole};
+use super::{Sink, Source, expect_run, taking, whole};
 use crate::run::run;
 use crate::text::{PIECE, TEXT_LIMIT, TextFault, read_text};
 use cm_envelope::{ByteSource, DeviceFailed};
@@ -70,11 +70,8 @@ fn bytes_that_are_no_text(rt: HostRuntime) {
 fn the_output_is_one_line(rt: HostRuntime) {
     let mut source = whole(b"");
     let mut sink = taking(rt.alloc(), 7);
-    assert_eq!(rt; run(rt.alloc(), &["parse"], &mut source, &mut sink), 0);
-    assert_eq!(rt;
-        sink.taken.as_slice(),
-        b"ok nodes=0 comments=0\n".as_slice()
-    );
+    let told = "ok nodes=0 comments=0\n";
+    expect_run(&rt, rt.alloc(), &["parse"], &mut source, &mut sink, told, 0);
 }
 
 #[test]
@@ -84,8 +81,8 @@ fn a_text_whose_read_fails_after_20_bytes(rt: HostRuntime) {
         ..whole(b"Feature: f\n  Scenari")
     };
     let mut sink = taking(rt.alloc(), 7);
-    assert_eq!(rt; run(rt.alloc(), &["parse"], &mut source, &mut sink), 3);
-    assert_eq!(rt; sink.taken.as_slice(), b"trouble ReadFailed\n".as_slice());
+    let told = "trouble ReadFailed\n";
+    expect_run(&rt, rt.alloc(), &["parse"], &mut source, &mut sink, told, 3);
     assert_eq!(rt; source.failed_calls, 1);
 }
 

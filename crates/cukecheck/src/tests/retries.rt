@@ -82,7 +82,15 @@ fn table_of(alloc: Global, told: &str) -> Result<String, Fail> {
     Ok(told.replace(alloc, "/", "\n")?)
 }
 
-// What `results` prints, and the stream.
+// A row is what `results` prints, and the stream.
+fn expect_row(rt: &impl Abort, alloc: Global, row: &str, status: u8) -> Result<(), Fail> {
+    let (told, words) = row.split_once(" = ").ok_or("no result")?;
+    let stream = stream_of(alloc, words)?;
+    let table = table_of(alloc, told)?;
+    expect_results(rt, alloc, stream.as_bytes(), table.as_str(), status);
+    Ok(())
+}
+
 const TABLES: &str =
     "c1 PASSED/c2 SKIPPED/ = case:c1:t1 case:c2:t1 start:a1:c1:0 start:b1:c2:0 step:a1:t1 step:b1:t1 end:a1:t1:PASSED end:b1:t1:SKIPPED done:b1:false done:a1:false
 c1 PASSED/ = - - - - case:c1:t1 start:a1:c1:0 step:a1:t1 end:a1:t1:FAILED done:a1:true start:a2:c1:1 step:a2:t1 end:a2:t1:PASSED done:a2:false -
@@ -95,15 +103,11 @@ c1 NONE/ = case:c1:t1 start:a1:c1:0 step:a1:t1 end:a1:t1:PASSED";
 fn tables_of_retried_and_interleaved_attempts(rt: HostRuntime) -> Result<(), Fail> {
     let alloc = rt.alloc();
     for row in TABLES.lines() {
-        let (told, words) = row.split_once(" = ").ok_or("no table")?;
-        let stream = stream_of(alloc, words)?;
-        let table = table_of(alloc, told)?;
-        expect_results(&rt, alloc, stream.as_bytes(), table.as_str(), 0);
+        expect_row(&rt, alloc, row, 0)?;
     }
     Ok(())
 }
 
-// The bad line, and the stream.
 const FAULTS: &str =
     "bad line 10: 12 AttemptNumber/ = - - - - case:c1:t1 start:a1:c1:0 step:a1:t1 end:a1:t1:FAILED done:a1:true start:a2:c1:2 step:a2:t1 end:a2:t1:PASSED done:a2:false -
 bad line 7: 13 AttemptOverlap/ = - - - - case:c1:t1 start:a1:c1:0 start:a2:c1:1 step:a1:t1 end:a1:t1:FAILED done:a1:true
@@ -118,10 +122,7 @@ bad line 7: 6 UnknownReference/ = - - - - case:c1:t1 start:a1:c1:0 step:a1:t9";
 fn attempts_that_come_otherwise(rt: HostRuntime) -> Result<(), Fail> {
     let alloc = rt.alloc();
     for row in FAULTS.lines() {
-        let (told, words) = row.split_once(" = ").ok_or("no fault")?;
-        let stream = stream_of(alloc, words)?;
-        let fault = table_of(alloc, told)?;
-        expect_results(&rt, alloc, stream.as_bytes(), fault.as_str(), 1);
+        expect_row(&rt, alloc, row, 1)?;
     }
     Ok(())
 }

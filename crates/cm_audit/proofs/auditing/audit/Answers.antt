@@ -2,13 +2,13 @@ use Rattle.cm_audit.proofs.Verdicts.{good_only, none_good, told_of_judged, no_fa
 use Rattle.cm_audit.proofs.auditing.audit.Goals as goal
 
 pub returns-clause-good : goal.returns-clause-good
-returns-clause-good g c = good_only (g.R.ByteSource.to_come c.args.source.now) c.judge_lines.result c.judge_lines.ensures.judged
+returns-clause-good g c = good_only (g.R.ByteSource.to_come c.args.source.now) c.judge_lines-verdict.result c.judge_lines-verdict.ensures.judged
 
 pub returns-clause-bad : goal.returns-clause-bad
-returns-clause-bad g c = none_good (g.R.ByteSource.to_come c.args.source.now) c.judge_lines.result c.judge_lines.ensures.judged
+returns-clause-bad g c = none_good (g.R.ByteSource.to_come c.args.source.now) c.judge_lines-verdict.result c.judge_lines-verdict.ensures.judged
 
 pub returns-clause-told : goal.returns-clause-told
-returns-clause-told g c = told_of_judged (g.R.ByteSource.to_come c.args.source.now) c.judge_lines.result c.judge_lines.ensures.judged
+returns-clause-told g c = told_of_judged (g.R.ByteSource.to_come c.args.source.now) c.judge_lines-verdict.result c.judge_lines-verdict.ensures.judged
 
 pub returns-clause-read_failed : goal.returns-clause-read_failed
-returns-clause-read_failed g c = λ failed. no_fault_shown (g.R.ByteSource.to_come c.args.source.now) _ (c.judge_lines.ensures.read_failed failed)
+returns-clause-read_failed g c = λ failed. no_fault_shown (g.R.ByteSource.to_come c.args.source.now) _ (c.judge_lines-verdict.ensures.read_failed failed)

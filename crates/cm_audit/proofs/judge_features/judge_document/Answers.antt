@@ -13,10 +13,10 @@ use Rattle.cm_audit.proofs.Judged.{only_memory, stops}
 use Rattle.cm_audit.proofs.KeptRows.{changed_uris}
 use Rattle.cm_audit.proofs.judge_features.judge_document.Goals as goal
 
-pub returns-in_err-check_document : goal.returns-in_err-check_document
-returns-in_err-check_document c =
-    stops c.args.state.now (c.args.state.now) (GherkinDocument c.args.document) c.from_residual.result c.in_err-check_document.field-0.0 c.from_residual.ensures.1
-    c.in_err-check_document.ensures.found
+pub returns-in_err-checked : goal.returns-in_err-checked
+returns-in_err-checked c =
+    stops c.args.state.now (c.args.state.now) (GherkinDocument c.args.document) c.from_residual.result c.in_err-checked.field-0.0 c.from_residual.ensures.1
+    c.in_err-checked.ensures.found
 
 pub returns-in_err-declare_document : goal.returns-in_err-declare_document
 returns-in_err-declare_document c =
@@ -25,11 +25,11 @@ returns-in_err-declare_document c =
     stops c.args.state.now (record (c.args.state.now) { declared = c.declare_document.new.self }) (GherkinDocument c.args.document)
     c.from_residual-in_err-declare_document.result (refused_reference fault) c.from_residual-in_err-declare_document.ensures.1
     (only_memory (has_text c.args.document.uri c.args.state.now.declared.documents) DuplicateUri fault (finding_inside (summary_of c.args.state.now) (GherkinDocument c.args.document))
-    c.in_ok-check_document.ensures.first answer)
+    c.in_ok-checked.ensures.first answer)
 
 pub set_ids-requires : goal.set_ids-requires
 set_ids-requires c =
-    subst (λ t. IsAcceptedAt t (kept_rows c.args.state.now.sources.entries)) (sym c.as_str-2.ensures) c.in_ok-check_document.ensures.accepted
+    subst (λ t. IsAcceptedAt t (kept_rows c.args.state.now.sources.entries)) (sym c.as_str-2.ensures) c.in_ok-checked.ensures.accepted
 
 pub returns : goal.returns
 returns c =
@@ -41,11 +41,11 @@ returns c =
     c.in_ok-declare_document.ensures.ok ∙ ap (λ t. with_document t old.declared) c.as_str.ensures in
     let changed : kept_rows c.set_ids.new.sources.entries ≡ change_source uri (with_ids ids) rows =
     c.set_ids.ensures ∙ ap (λ t. change_source t (with_ids ids) rows) c.as_str-2.ensures in (
-      c.in_ok-check_document.ensures.found,
+      c.in_ok-checked.ensures.found,
       λ i. record (summary_of old) { declared = made i; sources = changed i },
       ap (map (λ (r : SourceRow). r.uri)) changed ∙ changed_uris (λ r. bytes_eq uri r.uri) (with_ids ids) (λ r. refl) rows
           ∙ c.requires.listed ∙ sym (ap (λ (d : Declarations). d.sources) made),
     )
 
-pub check_document-requires : goal.check_document-requires
-check_document-requires c = record { listed = c.requires.listed }
+pub check_document-checked-requires : goal.check_document-checked-requires
+check_document-checked-requires c = record { listed = c.requires.listed }

@@ -1,11 +1,11 @@
 use Rattle.std.proofs.Common.{◌≡◌, ◌≤◌, ◌-◌, length}
 use Rattle.std.specs.Io.KnownBytes.{Consumes}
-use Rattle.cukecheck.proofs.text.read_bytes.Given as goal
+use Rattle.cukecheck.proofs.text.gather.Given as goal
 
 abbrev pub invariant-pieces : goal.invariant-pieces
 invariant-pieces g l = record {
   read : Consumes (g.R.ByteSource.to_come l.fn.source) (g.R.ByteSource.to_come l.source) l.bytes.items;
-  room : length l.piece.items ≡ 65536;
+  room : length l.piece ≡ 65536;
   few : length l.bytes.items ≤ 16842752;
   failures : g.R.ByteSource.failed_calls l.source ≡ g.R.ByteSource.failed_calls l.fn.source;
 }

@@ -1,7 +1,7 @@
 use Rattle.std.proofs.Common.{◌≡◌, ◌++◌, map, drop}
 use Rattle.gk_pickle.specs.Pickles.{pickle_of, row_filling}
 use Rattle.gk_document.specs.declared.tree.Row.{Row}
-use Rattle.gk_pickle.proofs.compiling.add_table.Given as goal
+use Rattle.gk_pickle.proofs.compiling.add_rows.Given as goal
 
 abbrev pub invariant-loop-row : goal.invariant-loop-row
 invariant-loop-row l =
