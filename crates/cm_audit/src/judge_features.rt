@@ -40,10 +40,13 @@ pub(crate) fn judge_source(state: &mut State, source: Source) -> Result<(), Stop
     if media_type.as_str() != PLAIN {
         return Err(Stop::Unsupported(Reason::MediaType));
     }
-    let kept = read_source(state.alloc, content.as_str())?;
     state.sources.reserve(1)?;
-    state.declared.declare_source(uri.as_str())?;
-    state.sources.insert(uri.into_string(), kept)?;
+    let kept = read_source(state.alloc, content.as_str())?;
+    if let Err(fault) = state.declared.declare_source(uri.as_str()) {
+        drop(kept);
+        return Err(Stop::from(fault));
+    }
+    drop(state.sources.insert(uri.into_string(), kept)?);
     state.counts.sources += 1;
     Ok(())
 }

@@ -46,12 +46,18 @@ fn told(alloc: Global, uri: &str, pickles: &[Pickle], first_id: u64) -> Result<S
 /// The pickles of a document as lines, with the ids that follow those of its nodes.
 fn told_pickles(alloc: Global, uri: &str, document: &Document) -> Result<String, Fail> {
     let pickles = compile(alloc, document)?;
-    told(alloc, uri, pickles.as_slice(), document.nodes)
+    let told = told(alloc, uri, pickles.as_slice(), document.nodes);
+    drop(pickles);
+    told
 }
 
 fn told_text(alloc: Global, uri: &str, text: &str) -> Result<String, Fail> {
     match parse(alloc, text) {
-        Ok(document) => told_pickles(alloc, uri, &document),
+        Ok(document) => {
+            let told = told_pickles(alloc, uri, &document);
+            drop(document);
+            told
+        }
         Err(_) => Err(Fail::from("refused")),
     }
 }

@@ -38,7 +38,10 @@ const OTHER_LINES: [&str; 12] = [
 /// The line of the parser's fault.
 fn fault_line(alloc: Global, text: &str) -> Option<usize> {
     match parse(alloc, text) {
-        Ok(_) => None,
+        Ok(document) => {
+            drop(document);
+            None
+        }
         Err(fault) => Some(fault.line as usize),
     }
 }

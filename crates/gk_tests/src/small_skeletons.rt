@@ -6,7 +6,11 @@ use std::alloc::Global;
 /// Whether the document has the skeleton of a text's document.
 fn is_alike(alloc: Global, document: &Document, text: &str) -> Option<bool> {
     match parse(alloc, text) {
-        Ok(other) => Some(same_skeleton(document, &other)),
+        Ok(other) => {
+            let same = same_skeleton(document, &other);
+            drop(other);
+            Some(same)
+        }
         Err(_) => None,
     }
 }
@@ -14,7 +18,11 @@ fn is_alike(alloc: Global, document: &Document, text: &str) -> Option<bool> {
 /// Whether the documents of two texts have one skeleton.
 fn are_alike(alloc: Global, first: &str, second: &str) -> Option<bool> {
     match parse(alloc, first) {
-        Ok(document) => is_alike(alloc, &document, second),
+        Ok(document) => {
+            let alike = is_alike(alloc, &document, second);
+            drop(document);
+            alike
+        }
         Err(_) => None,
     }
 }

@@ -15,7 +15,11 @@ fn counts(alloc: Global, document: &Document) -> Result<String, AllocError> {
 /// What is told of a text: the counts of its document, or its fault.
 fn told(alloc: Global, text: &str) -> Result<String, AllocError> {
     match parse(alloc, text) {
-        Ok(document) => counts(alloc, &document),
+        Ok(document) => {
+            let counts = counts(alloc, &document);
+            drop(document);
+            counts
+        }
         Err(fault) => fault.to_string(alloc),
     }
 }
@@ -44,7 +48,11 @@ fn tree(alloc: Global, document: &Document) -> Result<String, AllocError> {
 /// The tree of a text as JSON, or its fault.
 fn tree_of(alloc: Global, text: &str) -> Result<String, AllocError> {
     match parse(alloc, text) {
-        Ok(document) => tree(alloc, &document),
+        Ok(document) => {
+            let tree = tree(alloc, &document);
+            drop(document);
+            tree
+        }
         Err(fault) => fault.to_string(alloc),
     }
 }

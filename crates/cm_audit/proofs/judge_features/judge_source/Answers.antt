@@ -5,17 +5,14 @@ use Rattle.std.proofs.lemmas.List.{map-append}
 use Rattle.cm_attempt.specs.Table.{has_text}
 use Rattle.cm_attempt.proofs.EntryLemmas.{inserted_rows}
 use Rattle.cm_refs.specs.Declarations.{Declarations, with_source}
-use Rattle.cm_refs.specs.declared.fault.RefFault.TheVariants.{DuplicateUri}
 use Rattle.cm_envelope.specs.declared.envelope.Envelope.TheVariants.{Source}
 use Rattle.cm_stream.specs.OnePass.{reads}
 use Rattle.cm_stream.specs.Sources.{plain}
-use Rattle.cm_summary.specs.Findings.{finding_inside}
 use Rattle.cm_summary.specs.Summary.{SourceRow, new_source}
 use Rattle.cm_audit.specs.Kept.{ReadsAs, kept_row, kept_rows}
 use Rattle.cm_audit.specs.State.{summary_of}
-use Rattle.cm_audit.specs.Stops.{refused_reference}
 use Rattle.cm_audit.specs.declared.stop.Stop.TheVariants.{Memory}
-use Rattle.cm_audit.proofs.Judged.{kept_source, no_by, only_memory, source_again, source_fits, source_of_other_media, source_unread, stops, yes_by}
+use Rattle.cm_audit.proofs.Judged.{kept_source, no_by, source_again, source_fits, source_of_other_media, source_unread, stops, yes_by}
 use Rattle.cm_audit.proofs.KeptRows.{row_absent, row_says}
 use Rattle.cm_audit.proofs.judge_features.judge_source.Goals as goal
 
@@ -38,21 +35,12 @@ returns-in_err-kept c =
     let media : bytes_eq c.args.source.media_type plain ≡ true =
     yes_by (bytes_eq c.args.source.media_type plain) (ap (λ t. not (bytes_eq t plain)) (sym c.as_str-2.ensures) ∙ sym c.ne.ensures ∙ c.if-ne.false) in
     let read : ReadsAs (reads c.args.source.content) (Err why) = subst (λ t. ReadsAs (reads t) (Err why)) c.as_str-3.ensures c.in_err-kept.ensures in
-    stops c.args.state.now (c.args.state.now) (Source c.args.source) c.from_residual.result why c.from_residual.ensures.1
+    stops c.args.state.now (record (c.args.state.now) { sources = c.reserve.new.self }) (Source c.args.source) c.from_residual-in_err-kept.result why c.from_residual-in_err-kept.ensures.1
     (source_unread (summary_of c.args.state.now) c.args.source new media why read)
 
 pub returns-in_err-reserve : goal.returns-in_err-reserve
 returns-in_err-reserve c =
-    stops c.args.state.now (record (c.args.state.now) { sources = c.reserve.new.self }) (Source c.args.source) c.from_residual-in_err-reserve.result Memory c.from_residual-in_err-reserve.ensures.1 tt
-
-pub returns-in_err-declare_source : goal.returns-in_err-declare_source
-returns-in_err-declare_source c =
-    let fault = c.in_err-declare_source.field-0.0 in
-    let answer = rw c.as_str-4.ensures at c.in_err-declare_source.ensures.answer in
-    let new : has_text c.args.source.uri c.args.state.now.declared.sources ≡ false =
-    ap (λ t. has_text t c.args.state.now.declared.sources) (sym c.as_str.ensures) ∙ sym c.has_source.ensures ∙ c.if-has_source.false in
-    stops c.args.state.now (record (c.args.state.now) { declared = c.declare_source.new.self; sources = c.reserve.new.self }) (Source c.args.source) c.from_residual-in_err-declare_source.result (refused_reference fault) c.from_residual-in_err-declare_source.ensures.1
-    (only_memory (has_text c.args.source.uri c.args.state.now.declared.sources) DuplicateUri fault (finding_inside (summary_of c.args.state.now) (Source c.args.source)) new answer)
+    stops c.args.state.now (record (c.args.state.now) { sources = c.reserve.new.self }) (Source c.args.source) c.from_residual.result Memory c.from_residual.ensures.1 tt
 
 pub returns-in_err-insert : goal.returns-in_err-insert
 returns-in_err-insert c =
@@ -75,7 +63,7 @@ returns c =
     let reserved : kept_rows c.reserve.new.self.entries ≡ rows = ap kept_rows c.reserve.ensures.entries in
     let absent = row_absent uri (kept_rows c.reserve.new.self.entries) (ap (λ (rs : List SourceRow). has_text uri (map (λ (r : SourceRow). r.uri) rs)) reserved ∙ ap (has_text uri) c.requires.listed ∙ new) in
     let same : string_bytes c.into_string.result ≡ uri = c.into_string.ensures in
-    let made : c.declare_source.new.self ≡ with_source uri old.declared = c.in_ok-declare_source.ensures.ok ∙ ap (λ t. with_source t old.declared) c.as_str-4.ensures in
+    let made : c.declare_source.new.self ≡ with_source uri old.declared = c.in_default.ensures.ok ∙ ap (λ t. with_source t old.declared) c.as_str-4.ensures in
     let entered : kept_rows c.insert.new.self.entries ≡ rows ++ kept_row uri kept ∷ [] =
     ap kept_rows c.in_ok-insert.ensures.entries
     ∙ inserted_rows kept_row uri (λ r. bytes_eq uri r.uri) (row_says uri) c.into_string.result same c.reserve.new.self kept absent
