@@ -6,7 +6,7 @@ ghost use Rattle.gk_tree.specs.Views.{text_of, line_at, phase_of, state_at, stat
 
 use crate::blocks::follows;
 use crate::fault::ParseFault;
-use crate::header::{fault, location, opened, spaced_tag, tagged, unexpected, with_comment};
+use crate::header::{commented, fault, location, opened, spaced_tag, tagged, unexpected};
 use crate::state::{Parser, Phase, Progress};
 use crate::token::{IndentedLine, Token};
 use gk_document::Tag;
@@ -26,32 +26,34 @@ fn beginning<'a>(
     ensures { Gives state_of result (machine.beginning (state_at progress machine.Before) (phase_of phase.entry) (line_at at.entry token.entry)) }
 {
     match token {
-        Token::Blank => Ok(Parser {
-            progress,
-            phase: phase,
-        }),
-        Token::Comment => {
-            let progress = with_comment(alloc, progress, at)?;
-            Ok(Parser {
-                progress,
-                phase: phase,
-            })
-        }
+        Token::Blank => Ok(Parser { progress, phase }),
+        Token::Comment => commented(alloc, progress, phase, at),
         Token::Tags(words) => {
-            Ok(tagged(alloc, progress, None, Sequence::new(alloc), at, words)?)
+            drop(phase);
+            tagged(alloc, progress, None, Sequence::new(alloc), at, words)
         }
-        Token::SpacedTag(column) => Err(spaced_tag(at, column)),
+        Token::SpacedTag(column) => {
+            drop(phase);
+            drop(progress);
+            Err(spaced_tag(at, column))
+        }
         Token::Title(Block::Feature, title) => {
-            Ok(opened(
+            drop(phase);
+            opened(
                 alloc,
                 progress,
                 Block::Feature,
                 Sequence::new(alloc),
                 at,
                 title,
-            )?)
+            )
         }
-        _ => Err(unexpected(at)),
+        token => {
+            drop(token);
+            drop(phase);
+            drop(progress);
+            Err(unexpected(at))
+        }
     }
 }
 
@@ -94,11 +96,7 @@ pub(crate) fn spoken<'a>(
     ensures { Gives state_of result (machine.spoken (state_at progress machine.Before) (line_at at.entry token.entry)) }
 {
     if let Token::Language(_) = token {
-        let progress = with_comment(alloc, progress, at)?;
-        return Ok(Parser {
-            progress,
-            phase: Phase::Spoken,
-        });
+        return commented(alloc, progress, Phase::Spoken, at);
     }
     beginning(alloc, progress, Phase::Spoken, at, token)
 }
@@ -121,21 +119,28 @@ pub(crate) fn behind_tags<'a>(
             phase: Phase::Tagged(before, tags),
         }),
         Token::Comment | Token::Language(_) => {
-            let progress = with_comment(alloc, progress, at)?;
-            Ok(Parser {
-                progress,
-                phase: Phase::Tagged(before, tags),
-            })
+            commented(alloc, progress, Phase::Tagged(before, tags), at)
         }
-        Token::Tags(words) => Ok(tagged(alloc, progress, before, tags, at, words)?),
-        Token::SpacedTag(column) => Err(spaced_tag(at, column)),
+        Token::Tags(words) => tagged(alloc, progress, before, tags, at, words),
+        Token::SpacedTag(column) => {
+            drop(tags);
+            drop(progress);
+            Err(spaced_tag(at, column))
+        }
         Token::Title(block, title) => {
             if follows(before, block) && block != Block::Background {
-                Ok(opened(alloc, progress, block, tags, at, title)?)
+                opened(alloc, progress, block, tags, at, title)
             } else {
+                drop(tags);
+                drop(progress);
                 Err(unexpected(at))
             }
         }
-        _ => Err(unexpected(at)),
+        token => {
+            drop(token);
+            drop(tags);
+            drop(progress);
+            Err(unexpected(at))
+        }
     }
 }

@@ -1,5 +1,6 @@
 //! The lines in a description, and those behind a block.
-ghost use Rattle.std.specs.Prelude.{◌≡◌, ◌<◌, ◌^◌, ℕ, List, map, IfOk};
+ghost use Rattle.std.specs.Prelude.{◌≡◌, ◌<◌, ◌^◌, ◌∷◌, ◌++◌, [], ℕ, List, map, IfOk};
+ghost use Rattle.gk_line.specs.Views.{line_chars, step_text};
 ghost use Rattle.gk_grammar.specs.Token as read;
 ghost use Rattle.gk_grammar.specs.Grammar as grammar;
 ghost use Rattle.gk_grammar.specs.Machine as machine;
@@ -8,13 +9,13 @@ ghost use Rattle.gk_tree.specs.Read.{IsRead};
 
 use crate::chunk::{Body, Chunk};
 use crate::fault::ParseFault;
-use crate::header::{location, opened, pass, spaced_tag, tagged, unexpected, with_comment};
+use crate::header::{commented, location, opened, pass, spaced_tag, tagged, unexpected};
 use crate::state::{Parser, Phase, Progress, Stepped};
 use crate::steps::{counted, row_at, single_row, step_at, with_row};
 use crate::texts::description;
 use crate::token::{IndentedLine, Token};
 use gk_document::Row;
-use gk_line::{Block, Sequence};
+use gk_line::{Block, Cell, Sequence, StepLine};
 use std::alloc::{AllocError, Global};
 
 /// Whether the block may stand behind the other one, or be the first.
@@ -48,7 +49,7 @@ fn stops(block: Block, token: &Token<'_>) -> bool
 /// A line behind a whole block, which isn't part of it.
 pub(crate) fn leaving<'a>(
     alloc: Global,
-    mut progress: Progress,
+    progress: Progress,
     chunk: Chunk,
     at: IndentedLine<'a>,
     token: Token<'a>,
@@ -57,28 +58,50 @@ pub(crate) fn leaving<'a>(
     ensures { Gives state_of result (machine.leaving (state_at progress machine.Before) (chunk_of chunk) (line_at at.entry token.entry)) }
 {
     let block = chunk.block;
-    progress.chunks.push(chunk)?;
+    let progress = match with_chunk(progress, chunk) {
+        Ok(progress) => progress,
+        Err(error) => {
+            drop(token);
+            return Err(ParseFault::from(error));
+        }
+    };
     match token {
         Token::Tags(words) => {
-            Ok(tagged(
+            tagged(
                 alloc,
                 progress,
                 Some(block),
                 Sequence::new(alloc),
                 at,
                 words,
-            )?)
+            )
         }
-        Token::SpacedTag(column) => Err(spaced_tag(at, column)),
+        Token::SpacedTag(column) => {
+            drop(progress);
+            Err(spaced_tag(at, column))
+        }
         Token::Title(next, title) => {
             if follows(Some(block), next) {
-                Ok(opened(alloc, progress, next, Sequence::new(alloc), at, title)?)
+                opened(alloc, progress, next, Sequence::new(alloc), at, title)
             } else {
+                drop(progress);
                 Err(unexpected(at))
             }
         }
-        _ => Err(unexpected(at)),
+        token => {
+            drop(token);
+            drop(progress);
+            Err(unexpected(at))
+        }
     }
+}
+
+/// With one whole block more.
+fn with_chunk(mut progress: Progress, chunk: Chunk) -> Result<Progress, AllocError>
+    ensures { IfOk result (λ p. p ≡ record progress { chunks = progress.chunks ++ chunk ∷ [] }) }
+{
+    progress.chunks.push(chunk)?;
+    Ok(progress)
 }
 
 /// The block with the text of its description.
@@ -93,6 +116,60 @@ pub(crate) fn described(
     Ok(chunk)
 }
 
+/// The first step of a block.
+fn first_step<'a>(
+    alloc: Global,
+    progress: Progress,
+    chunk: Chunk,
+    at: IndentedLine<'a>,
+    line: StepLine<'a>,
+) -> Result<Parser<'a>, ParseFault>
+    requires room { progress.nodes < 2 ^ 63 }
+    ensures { Gives state_of result (machine.entering (state_at progress machine.Before) (chunk_of chunk)
+        (read.line at.entry.line.number (line_chars at.entry.line) at.entry.indent (read.step_token (step_text line.entry)))) }
+{
+    match step_at(alloc, progress.nodes, at, line) {
+        Ok(last) => Ok(Parser {
+            progress: counted(progress),
+            phase: Phase::Stepping(Stepped {
+                chunk,
+                before: Sequence::new(alloc),
+                last,
+            }),
+        }),
+        Err(error) => {
+            drop(chunk);
+            drop(progress);
+            Err(ParseFault::from(error))
+        }
+    }
+}
+
+/// The first row of an examples table.
+fn first_row<'a>(
+    alloc: Global,
+    progress: Progress,
+    chunk: Chunk,
+    at: IndentedLine<'a>,
+    cells: Sequence<Cell>,
+) -> Result<Parser<'a>, ParseFault>
+    requires room { progress.nodes < 2 ^ 63 }
+    ensures { Gives state_of result (machine.entering (state_at progress machine.Before) (chunk_of chunk)
+        (read.line at.entry.line.number (line_chars at.entry.line) at.entry.indent (read.Row cells))) }
+{
+    match single_row(alloc, row_at(progress.nodes, at, cells)) {
+        Ok(rows) => Ok(Parser {
+            progress: counted(progress),
+            phase: Phase::Listing(chunk, rows),
+        }),
+        Err(error) => {
+            drop(chunk);
+            drop(progress);
+            Err(ParseFault::from(error))
+        }
+    }
+}
+
 /// The first line behind a description.
 fn entering<'a>(
     alloc: Global,
@@ -105,25 +182,8 @@ fn entering<'a>(
     ensures { Gives state_of result (machine.entering (state_at progress machine.Before) (chunk_of chunk) (line_at at.entry token.entry)) }
 {
     match token {
-        Token::Step(line) => {
-            let last = step_at(alloc, progress.nodes, at, line)?;
-            let before = Sequence::new(alloc);
-            Ok(Parser {
-                progress: counted(progress),
-                phase: Phase::Stepping(Stepped {
-                    chunk,
-                    before,
-                    last,
-                }),
-            })
-        }
-        Token::Row(cells) => {
-            let rows = single_row(alloc, row_at(progress.nodes, at, cells))?;
-            Ok(Parser {
-                progress: counted(progress),
-                phase: Phase::Listing(chunk, rows),
-            })
-        }
+        Token::Step(line) => first_step(alloc, progress, chunk, at, line),
+        Token::Row(cells) => first_row(alloc, progress, chunk, at, cells),
         token => leaving(alloc, progress, chunk, at, token),
     }
 }
@@ -143,15 +203,35 @@ pub(crate) fn describing<'a>(
         (machine.Described (chunk_of chunk) (map kept_line lines.entry.items)) (line_at at.entry token.entry)) }
 {
     if stops(chunk.block, &token) {
-        let chunk = described(alloc, chunk, &lines)?;
-        return entering(alloc, progress, chunk, at, token);
+        return match described(alloc, chunk, &lines) {
+            Ok(chunk) => entering(alloc, progress, chunk, at, token),
+            Err(error) => {
+                drop(token);
+                drop(progress);
+                Err(ParseFault::from(error))
+            }
+        };
     }
-    let progress = pass(alloc, progress, at, &token)?;
-    lines.push(at)?;
-    Ok(Parser {
-        progress,
-        phase: Phase::Described(chunk, lines),
-    })
+    let passed = pass(alloc, progress, at, &token);
+    drop(token);
+    let progress = match passed {
+        Ok(progress) => progress,
+        Err(error) => {
+            drop(chunk);
+            return Err(ParseFault::from(error));
+        }
+    };
+    match lines.push(at) {
+        Ok(()) => Ok(Parser {
+            progress,
+            phase: Phase::Described(chunk, lines),
+        }),
+        Err(error) => {
+            drop(chunk);
+            drop(progress);
+            Err(ParseFault::from(error))
+        }
+    }
 }
 
 /// A line behind rows of an examples table.
@@ -168,22 +248,24 @@ pub(crate) fn listing<'a>(
 {
     match token {
         Token::Row(cells) => {
-            let rows = with_row(rows, row_at(progress.nodes, at, cells))?;
-            Ok(Parser {
-                progress: counted(progress),
-                phase: Phase::Listing(chunk, rows),
-            })
+            match with_row(rows, row_at(progress.nodes, at, cells)) {
+                Ok(rows) => Ok(Parser {
+                    progress: counted(progress),
+                    phase: Phase::Listing(chunk, rows),
+                }),
+                Err(fault) => {
+                    drop(chunk);
+                    drop(progress);
+                    Err(fault)
+                }
+            }
         }
         Token::Blank => Ok(Parser {
             progress,
             phase: Phase::Listing(chunk, rows),
         }),
         Token::Comment | Token::Language(_) => {
-            let progress = with_comment(alloc, progress, at)?;
-            Ok(Parser {
-                progress,
-                phase: Phase::Listing(chunk, rows),
-            })
+            commented(alloc, progress, Phase::Listing(chunk, rows), at)
         }
         token => leaving(alloc, progress, with_rows(chunk, rows), at, token),
     }

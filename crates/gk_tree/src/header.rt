@@ -1,11 +1,11 @@
 //! Comments, tag lines and title lines.
-ghost use Rattle.std.specs.Prelude.{◌≡◌, ◌<◌, ◌≤◌, ◌^◌, ◌+◌, ◌∷◌, ◌++◌, [], ℕ, List, map, length, IfOk};
+ghost use Rattle.std.specs.Prelude.{◌≡◌, ◌<◌, ◌≤◌, ◌^◌, ◌+◌, ◌∷◌, ◌++◌, [], ℕ, List, map, length, Ok, IfOk};
 ghost use Rattle.gk_grammar.specs.declared.fault.FaultKind.TheVariants as kinds;
 ghost use Rattle.gk_grammar.specs.Token as read;
 ghost use Rattle.gk_line.specs.Views.{line_chars};
 ghost use Rattle.gk_grammar.specs.Grammar.{comment_of, comments_of};
 ghost use Rattle.gk_grammar.specs.Machine as machine;
-ghost use Rattle.gk_tree.specs.Views.{text_of, word_of, token_view, line_at, body_of, state_at, state_of};
+ghost use Rattle.gk_tree.specs.Views.{text_of, word_of, token_view, line_at, body_of, chunk_of, phase_of, state_at, state_of, Gives};
 
 use crate::chunk::{Body, Chunk};
 use crate::fault::ParseFault;
@@ -73,7 +73,7 @@ pub(crate) fn pass(
 }
 
 /// Keeps the line, which is a comment.
-pub(crate) fn with_comment(
+fn with_comment(
     alloc: Global,
     mut progress: Progress,
     at: IndentedLine<'_>,
@@ -92,6 +92,25 @@ pub(crate) fn with_comment(
     };
     progress.comments.push(comment)?;
     Ok(progress)
+}
+
+/// Keeps the line, which is a comment, and stays in the phase.
+pub(crate) fn commented<'a>(
+    alloc: Global,
+    progress: Progress,
+    phase: Phase<'a>,
+    at: IndentedLine<'a>,
+) -> Result<Parser<'a>, ParseFault>
+    ensures { Gives state_of result (Ok (machine.passing (state_at progress machine.Before) (phase_of phase.entry)
+        (read.line at.entry.line.number (line_chars at.entry.line) at.entry.indent read.Comment))) }
+{
+    match with_comment(alloc, progress, at) {
+        Ok(progress) => Ok(Parser { progress, phase }),
+        Err(error) => {
+            drop(phase);
+            Err(ParseFault::from(error))
+        }
+    }
 }
 
 /// Whether the line is a comment, also a language line.
@@ -141,68 +160,80 @@ fn with_tags(
 /// A tag line behind these tags.
 pub(crate) fn tagged<'a>(
     alloc: Global,
-    progress: Progress,
+    mut progress: Progress,
     before: Option<Block>,
     tags: Sequence<Tag>,
     at: IndentedLine<'a>,
     words: TagWords<'a>,
-) -> Result<Parser<'a>, AllocError>
+) -> Result<Parser<'a>, ParseFault>
     requires room { progress.nodes < 2 ^ 63 }
-    ensures { IfOk result (λ p. state_of p
-        ≡ machine.tagged (state_at progress machine.Before) before tags at.entry.line.number (map word_of words.entry.words.items)) }
+    ensures { Gives state_of result
+        (Ok (machine.tagged (state_at progress machine.Before) before tags at.entry.line.number (map word_of words.entry.words.items))) }
 {
-    let Progress {
-        comments,
-        nodes,
-        chunks,
-    } = progress;
-    let count = words.words.len() as u64;
-    let tags = with_tags(alloc, tags, nodes, at.line.number, &words.words)?;
-    Ok(Parser {
-        progress: Progress {
-            comments,
-            nodes: nodes + count,
-            chunks,
-        },
-        phase: Phase::Tagged(before, tags),
-    })
+    match with_tags(alloc, tags, progress.nodes, at.line.number, &words.words) {
+        Ok(tags) => {
+            progress.nodes += words.words.len() as u64;
+            Ok(Parser {
+                progress,
+                phase: Phase::Tagged(before, tags),
+            })
+        }
+        Err(error) => {
+            drop(progress);
+            Err(ParseFault::from(error))
+        }
+    }
 }
 
 /// A title line behind these tags.
 pub(crate) fn opened<'a>(
     alloc: Global,
-    progress: Progress,
+    mut progress: Progress,
     block: Block,
     tags: Sequence<Tag>,
     at: IndentedLine<'a>,
     title: Title<'a>,
-) -> Result<Parser<'a>, AllocError>
+) -> Result<Parser<'a>, ParseFault>
     requires room { progress.nodes < 2 ^ 63 }
-    ensures { IfOk result (λ p. state_of p
-        ≡ machine.opened (state_at progress machine.Before) block tags at.entry.line.number at.entry.indent (text_of title.entry.keyword.now) (text_of title.entry.name.now)) }
+    ensures { Gives state_of result
+        (Ok (machine.opened (state_at progress machine.Before) block tags at.entry.line.number at.entry.indent (text_of title.entry.keyword.now) (text_of title.entry.name.now))) }
 {
-    let Progress {
-        comments,
-        nodes,
-        chunks,
-    } = progress;
-    let chunk = Chunk {
+    match started(alloc, progress.nodes, block, tags, at, title) {
+        Ok(chunk) => {
+            progress.nodes += own_node(block);
+            Ok(Parser {
+                progress,
+                phase: Phase::Described(chunk, Vec::new(alloc)),
+            })
+        }
+        Err(error) => {
+            drop(progress);
+            Err(ParseFault::from(error))
+        }
+    }
+}
+
+/// The block of a title line, without its description and what is below it.
+fn started(
+    alloc: Global,
+    node: u64,
+    block: Block,
+    tags: Sequence<Tag>,
+    at: IndentedLine<'_>,
+    title: Title<'_>,
+) -> Result<Chunk, AllocError>
+    ensures { IfOk result (λ c. chunk_of c
+        ≡ machine.started node block tags at.entry.line.number at.entry.indent (text_of title.entry.keyword.now) (text_of title.entry.name.now)) }
+{
+    Ok(Chunk {
         block,
-        node: nodes,
+        node,
         location: location(at),
         tags,
         keyword: copied(alloc, title.keyword)?,
         name: copied(alloc, title.name)?,
         description: Text::from(String::new(alloc)),
         body: empty_body(alloc, block),
-    };
-    Ok(Parser {
-        progress: Progress {
-            comments,
-            nodes: nodes + own_node(block),
-            chunks,
-        },
-        phase: Phase::Described(chunk, Vec::new(alloc)),
     })
 }
 

@@ -5,7 +5,8 @@ ghost use Rattle.gk_grammar.specs.declared.fault.FaultKind.TheVariants as kind;
 ghost use Rattle.gk_grammar.specs.Documents.{lines_read, IsDocumentOf, HasFault, IsTooLong, byte_limit, line_limit};
 ghost use Rattle.gk_grammar.specs.Token.{line_of};
 ghost use Rattle.gk_grammar.specs.Machine as machine;
-ghost use Rattle.gk_tree.specs.Views.{state_of, phase_of, Gives, out_of_memory, too_long};
+ghost use Rattle.gk_tree.specs.Views.{line_at, state_of, phase_of, Gives, out_of_memory, too_long};
+ghost use Rattle.gk_tree.specs.Read.{IsRead};
 ghost use Rattle.gk_tree.specs.Ends.{ended, document_at, Answers};
 ghost use Rattle.gk_tree.specs.EndViews.{last_of};
 
@@ -17,6 +18,7 @@ use crate::fault::ParseFault;
 use crate::read::{indented, token};
 use crate::state::{Parser, Phase, Progress};
 use crate::steps::{quoting, stepping, with_steps};
+use crate::token::{IndentedLine, Token};
 use gk_document::Document;
 use gk_grammar::FaultKind;
 use gk_line::{Line, Sequence, lines};
@@ -107,9 +109,28 @@ fn take<'a>(alloc: Global, parser: Parser<'a>, line: Line<'a>) -> Result<Parser<
     requires room { parser.progress.nodes < 2 ^ 63 }
     ensures { Gives state_of result (machine.next (state_of parser.entry) (line_of (numbered_line line.entry))) }
 {
-    let Parser { progress, phase } = parser;
     let at = indented(line);
-    let token = token(alloc, line)?;
+    match token(alloc, line) {
+        Ok(token) => take_token(alloc, parser, at, token),
+        Err(error) => {
+            drop(parser);
+            Err(ParseFault::from(error))
+        }
+    }
+}
+
+/// One line, read as this token.
+fn take_token<'a>(
+    alloc: Global,
+    parser: Parser<'a>,
+    at: IndentedLine<'a>,
+    token: Token<'a>,
+) -> Result<Parser<'a>, ParseFault>
+    requires room { parser.progress.nodes < 2 ^ 63 }
+    requires read { IsRead at token }
+    ensures { Gives state_of result (machine.next (state_of parser.entry) (line_at at.entry token.entry)) }
+{
+    let Parser { progress, phase } = parser;
     match phase {
         Phase::Before => before_feature(alloc, progress, at, token),
         Phase::Spoken => spoken(alloc, progress, at, token),

@@ -1,6 +1,7 @@
 //! Steps, the rows of tables, and doc strings.
-ghost use Rattle.std.specs.Prelude.{◌≡◌, ◌<◌, ◌^◌, ◌+◌, ◌∷◌, ◌++◌, [], ℕ, List, map, None, Ok, IfOk};
+ghost use Rattle.std.specs.Prelude.{◌≡◌, ◌<◌, ◌^◌, ◌+◌, ◌∷◌, ◌++◌, [], ℕ, List, map, None, Some, Ok, IfOk};
 ghost use Rattle.gk_line.specs.Views.{line_chars, step_text};
+ghost use Rattle.gk_document.specs.declared.tree.Argument.TheVariants.{Text as Quoted};
 ghost use Rattle.gk_grammar.specs.Token as read;
 ghost use Rattle.gk_grammar.specs.Grammar as grammar;
 ghost use Rattle.gk_grammar.specs.Machine as machine;
@@ -11,7 +12,7 @@ ghost use Rattle.gk_tree.specs.Read.{IsRead};
 use crate::blocks::leaving;
 use crate::chunk::{Body, Chunk};
 use crate::fault::ParseFault;
-use crate::header::{fault, location, unexpected, with_comment};
+use crate::header::{commented, fault, location, unexpected};
 use crate::state::{Parser, Phase, Progress, Quote, Stepped};
 use crate::texts::{content, copied, media_type};
 use crate::token::{IndentedLine, Token};
@@ -215,15 +216,22 @@ pub(crate) fn stepping<'a>(
                 before,
                 last,
             } = stepped;
-            let last = step_row(alloc, last, row)?;
-            Ok(Parser {
-                progress: counted(progress),
-                phase: Phase::Stepping(Stepped {
-                    chunk,
-                    before,
-                    last,
+            match step_row(alloc, last, row) {
+                Ok(last) => Ok(Parser {
+                    progress: counted(progress),
+                    phase: Phase::Stepping(Stepped {
+                        chunk,
+                        before,
+                        last,
+                    }),
                 }),
-            })
+                Err(fault) => {
+                    drop(chunk);
+                    drop(before);
+                    drop(progress);
+                    Err(fault)
+                }
+            }
         }
         Token::Fenced(line) => step_fence(alloc, progress, stepped, at, line),
         Token::Blank => Ok(Parser {
@@ -231,11 +239,7 @@ pub(crate) fn stepping<'a>(
             phase: Phase::Stepping(stepped),
         }),
         Token::Comment | Token::Language(_) => {
-            let progress = with_comment(alloc, progress, at)?;
-            Ok(Parser {
-                progress,
-                phase: Phase::Stepping(stepped),
-            })
+            commented(alloc, progress, Phase::Stepping(stepped), at)
         }
         token => leaving_steps(alloc, progress, stepped, at, token),
     }
@@ -250,14 +254,40 @@ fn quoted(
 ) -> Result<Stepped, AllocError>
     ensures { IfOk result (λ s. s ≡ record stepped { last = machine.quoted stepped.last (quote_of quote.entry) (map kept_line lines.now) }) }
 {
-    let text = DocString {
+    match doc_string(alloc, quote, lines) {
+        Ok(text) => {
+            stepped.last = with_text(stepped.last, text);
+            Ok(stepped)
+        }
+        Err(error) => {
+            drop(stepped);
+            Err(error)
+        }
+    }
+}
+
+/// The step with the doc string below it.
+fn with_text(mut step: Step, text: DocString) -> Step
+    ensures { result ≡ record step { argument = Some (Quoted text) } }
+{
+    step.argument = Some(Argument::Text(text));
+    step
+}
+
+/// The doc string of these lines.
+fn doc_string(
+    alloc: Global,
+    quote: Quote<'_>,
+    lines: &[IndentedLine<'_>],
+) -> Result<DocString, AllocError>
+    ensures { IfOk result (λ d. d ≡ machine.doc_string (quote_of quote.entry) (map kept_line lines.now)) }
+{
+    Ok(DocString {
         location: quote.location,
         media: media_type(alloc, quote.media)?,
         content: content(alloc, lines, quote.fence, quote.indent)?,
         fence: quote.fence,
-    };
-    stepped.last.argument = Some(Argument::Text(text));
-    Ok(stepped)
+    })
 }
 
 /// A line in a doc string, or the one that closes it.
@@ -274,17 +304,31 @@ pub(crate) fn quoting<'a>(
     ensures { Gives state_of result (machine.at_phase (state_at progress machine.Before)
         (machine.Quoting (chunk_of stepped.chunk) stepped.before stepped.last (quote_of quote.entry) (map kept_line lines.entry.items)) (line_at at.entry token.entry)) }
 {
-    if is_fence(quote, &token) {
-        return Ok(Parser {
-            progress,
-            phase: Phase::Stepping(quoted(alloc, stepped, quote, &lines)?),
-        });
+    let closes = is_fence(quote, &token);
+    drop(token);
+    if closes {
+        return match quoted(alloc, stepped, quote, &lines) {
+            Ok(stepped) => Ok(Parser {
+                progress,
+                phase: Phase::Stepping(stepped),
+            }),
+            Err(error) => {
+                drop(progress);
+                Err(ParseFault::from(error))
+            }
+        };
     }
-    lines.push(at)?;
-    Ok(Parser {
-        progress,
-        phase: Phase::Quoting(stepped, quote, lines),
-    })
+    match lines.push(at) {
+        Ok(()) => Ok(Parser {
+            progress,
+            phase: Phase::Quoting(stepped, quote, lines),
+        }),
+        Err(error) => {
+            drop(stepped);
+            drop(progress);
+            Err(ParseFault::from(error))
+        }
+    }
 }
 
 /// Whether the line closes the doc string.
