@@ -5,6 +5,7 @@ pub mod Named
 pub mod Plain
 pub mod Opens
 pub mod Reading
+pub mod Parts
 pub mod Written
 pub mod Cutting
 pub mod Alike

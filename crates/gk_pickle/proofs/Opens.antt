@@ -1,6 +1,6 @@
 -- The `<` that may open a placeholder, in what is written.
-use Rattle.std.proofs.Common.{◌≡◌, ℕ, ◌+◌, ◌-◌, ◌<◌, List, [], ◌∷◌, ◌++◌, length, take, get_or, set, max, reverse, length-take-le, refl, sym, ap, ◌∙◌, subst, arith, length-append}
-use Rattle.std.proofs.lemmas.List.{take_more, take_all, set_at, reverse-append, take_at, get_or_at, get_or_append_left, take-append-le}
+use Rattle.std.proofs.Common.{◌≡◌, ℕ, ◌+◌, ◌-◌, ◌<◌, List, [], ◌∷◌, ◌++◌, length, take, get_or, set, max, reverse, length-take-le, sym, ap, ◌∙◌, subst, arith, length-append}
+use Rattle.std.proofs.lemmas.List.{take_more, take_all, set_at, reverse-append, get_or_append_left, take-append-le}
 use Rattle.std.proofs.lemmas.Str.{IsCharBoundary-after_ascii}
 use Rattle.std.specs.Str.{IsUtf8, IsCharBoundary}
 use Rattle.gk_pickle.specs.declared.one_reading.Open.{Open}
@@ -34,27 +34,9 @@ stand_added old new more os e h = rw e (stand_more old more os h)
 pub stand_kept : (old new more : List ℕ) (items all : List Open) → new ≡ old ++ more → all ≡ items → StandIn old (reverse items) → StandIn new (reverse all)
 stand_kept old new more items all e a h = rw (e, a) (stand_more old more (reverse items) h)
 
-pub stand_raised : (out : List ℕ) (done : ℕ) (os : List Open) → StandIn out os → StandIn out (raised done os)
-stand_raised out done [] h = tt
-stand_raised out done (o ∷ os) h = h
-
 -- the last one, taken off
 pub popped : (out : List ℕ) (items rest : List Open) (o : Open) → items ≡ rest ++ o ∷ [] → StandIn out (reverse items) → StandIn out (o ∷ reverse rest)
 popped out items rest o e h = let P : List Open → Type 0 = StandIn out in subst P (ap reverse e ∙ reverse-append rest (o ∷ [])) h
-
--- the last one filled
-pub stand_filled : (out cut new cell : List ℕ) (o : Open) (done : ℕ) (os all : List Open) → cut ≡ take o.start out → new ≡ cut ++ cell → all ≡ raised done os
-    → StandIn out (o ∷ os) → StandIn new all
-stand_filled out cut new cell o done os all t n a h = rw (n, t, a) (stand_more _ cell _ (stand_raised _ done os h.2))
-
--- one more
-pub pushed : (out new : List ℕ) (items all : List Open) → new ≡ out ++ 60 ∷ [] → all ≡ items ++ record { start = length out; done = 0 } ∷ []
-    → StandIn out (reverse items) → StandIn new (reverse all)
-pushed out new items all n a h =
-    let long = length-append out (60 ∷ []) in
-    let P : List ℕ → Type 0 = λ t. StandIn t (reverse items) in
-    rw (n, a, reverse-append items (record { start = length out; done = 0 } ∷ []))
-    (omega arith, get_or_at out 60 [] 0 (length out) refl, subst P (sym (take_at out (60 ∷ []) (length out) refl)) h)
 
 -- what stands behind a `<` is cut off at a character
 pub cut_behind : (out text : List ℕ) (o : Open) (os : List Open) → text ≡ out → IsUtf8 text → StandIn out (o ∷ os) → IsCharBoundary text (o.start + 1)

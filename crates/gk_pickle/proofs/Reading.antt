@@ -1,36 +1,51 @@
 -- Filling a text in one reading is filling it column by column.
-use Rattle.std.proofs.Common.{◌≡◌, ℕ, zero, suc, ◌+◌, ◌-◌, ◌≤◌, Bool, true, false, Option, None, Some, List, [], ◌∷◌, ◌++◌, length, take, drop, map, max, refl, sym, ap, ◌∙◌, ⊎_elim, subst, arith, append_assoc, append-nil, length-append, length-drop, le_refl, eq-eqb}
+use Rattle.std.proofs.Common.{◌≡◌, ℕ, zero, suc, ◌+◌, ◌-◌, ◌<◌, ◌≤◌, Bool, true, false, Option, None, Some, List, [], ◌∷◌, ◌++◌, length, take, drop, map, max, refl, sym, ap, ◌∙◌, ⊎_elim, subst, arith, append_assoc, append-nil, length-append, length-drop, le_refl}
 use Rattle.std.specs.Prelude.{find, nat_eq, nat_le, slice_get, option_map, option_and_then, bytes_eq, ◌==◌, ⊤}
 use Rattle.std.specs.Bool.{OnTrue}
 use Rattle.std.specs.List.{starts_with}
-use Rattle.std.proofs.lemmas.Bool.{cases_Bool, cond-true, cond-false, eqb-true, or_cases, or_parts, le-leb, lt-leb, leb-true, leb-false, false_from_ne_true, false≢true, both_ways}
+use Rattle.std.proofs.lemmas.Bool.{cases_Bool, cond-true, cond-false, eqb-true, or_parts, le-leb, lt-leb, leb-true, leb-false, false_from_ne_true, false≢true, both_ways}
 use Rattle.std.proofs.lemmas.List.{drop_at, take_at, drop-append-le}
 use Rattle.std.proofs.lemmas.Slice.Eq.{bytes_eq-Decides}
 use Rattle.gk_line.specs.declared.tokens.Cell.{Cell}
 use Rattle.gk_pickle.specs.declared.one_reading.Open.{Open}
 use Rattle.gk_pickle.specs.Fill.{placeholder, replaced, filled}
-use Rattle.gk_pickle.specs.OneReading.{is_bracket, HasNoBracket, HaveNoBracket, columns_named, replacement, Reading, nothing_read, added, opened, raised, closed, closed_by, closed_in, step, read, filled_in_one_reading}
+use Rattle.gk_pickle.specs.OneReading.{is_bracket, HasNoBracket, HaveNoBracket, columns_named, replacement, Reading, nothing_read, added, opened, raised, closed_by, closed_in, brought, step, read_by, read_to, filled_in_one_reading}
+use Rattle.std.proofs.lemmas.Option.{slice_get_cases}
 use Rattle.gk_pickle.proofs.Replacing.{nowhere, starts, occurs, fits_of, first, not_at_front, length-placeholder}
 use Rattle.gk_pickle.proofs.Cutting.{split_at, place_of}
 
-module _ (header row : List Cell) where
-  step_plain : (b : ℕ) (r : Reading) → is_bracket b ≡ false → step header row b r ≡ added (b ∷ []) r
+-- how a cell is read that a placeholder brings, where a number of columns is done
+abbrev pub Reads : Type 0
+Reads = ℕ → List ℕ → Reading → Reading
+
+module _ (reads : Reads) (header row : List Cell) (done : ℕ) where
+  abbrev go : List ℕ → Reading → Reading
+  go text r = read_by reads header row done text r
+
+  step_plain : (b : ℕ) (r : Reading) → is_bracket b ≡ false → step reads header row done b r ≡ added (b ∷ []) r
   step_plain b r h = let parts = or_parts (b == 60) (b == 62) h in cond-false _ _ _ parts.0 ∙ cond-false _ _ _ parts.1
 
   -- bytes that are no brackets are only added
-  pub read_plain : (before rest : List ℕ) (r : Reading) → HasNoBracket before → read header row (before ++ rest) r ≡ read header row rest (added before r)
-  read_plain [] rest r h = ap (λ o. read header row rest (record r { out = o })) (sym (append-nil r.out))
+  pub read_plain : (before rest : List ℕ) (r : Reading) → HasNoBracket before → go (before ++ rest) r ≡ go rest (added before r)
+  read_plain [] rest r h = ap (λ o. go rest (record r { out = o })) (sym (append-nil r.out))
   read_plain (b ∷ bs) rest r h =
-      ap (read header row (bs ++ rest)) (step_plain b r h.0) ∙ read_plain bs rest (added (b ∷ []) r) h.1
-      ∙ ap (λ o. read header row rest (record r { out = o })) (append_assoc r.out (b ∷ []) bs)
+      ap (go (bs ++ rest)) (step_plain b r h.0) ∙ read_plain bs rest (added (b ∷ []) r) h.1
+      ∙ ap (λ o. go rest (record r { out = o })) (append_assoc r.out (b ∷ []) bs)
+
+  read_both : (front back : List ℕ) (r : Reading) → go (front ++ back) r ≡ go back (go front r)
+  read_both [] back r = refl
+  read_both (b ∷ bs) back r = read_both bs back (step reads header row done b r)
 
   -- where no name is replaced, the text stays
-  module _ (none : (done : ℕ) (name : List ℕ) → replacement header row done name ≡ None) where
-    out_closed : (out : List ℕ) (opens : List Open) → (closed_in header row out opens).out ≡ out ++ 62 ∷ []
-    out_closed out [] = refl
-    out_closed out (o ∷ os) = ap (λ f. (closed_by f out o.start os).out) (none o.done (drop (o.start + 1) out))
+  module _ (none : (from : ℕ) (name : List ℕ) → replacement header row from name ≡ None) where
+    abbrev after_close : (Option (ℕ × List ℕ) × Reading) → Reading
+    after_close c = brought reads c.0 c.1
 
-    out_step : (b : ℕ) (r : Reading) → (step header row b r).out ≡ r.out ++ b ∷ []
+    out_closed : (out : List ℕ) (opens : List Open) → (after_close (closed_in header row done out opens)).out ≡ out ++ 62 ∷ []
+    out_closed out [] = refl
+    out_closed out (o ∷ os) = ap (λ f. (after_close (f, closed_by f out o.start os)).out) (none (max o.done done) (drop (o.start + 1) out))
+
+    out_step : (b : ℕ) (r : Reading) → (step reads header row done b r).out ≡ r.out ++ b ∷ []
     out_step b r =
         ⊎_elim (λ yes. ap (λ (s : Reading). s.out) (cond-true _ _ _ yes) ∙ ap (λ x. r.out ++ x ∷ []) (sym (eqb-true b 60 yes)))
         (λ no.
@@ -39,14 +54,14 @@ module _ (header row : List Cell) where
         (λ other. ap (λ (s : Reading). s.out) (cond-false _ _ _ other)) (cases_Bool (b == 62)))
         (cases_Bool (b == 60))
 
-    out_read : (text : List ℕ) (r : Reading) → (read header row text r).out ≡ r.out ++ text
+    out_read : (text : List ℕ) (r : Reading) → (go text r).out ≡ r.out ++ text
     out_read [] r = sym (append-nil r.out)
-    out_read (b ∷ bs) r = out_read bs (step header row b r) ∙ ap (λ o. o ++ bs) (out_step b r) ∙ append_assoc r.out (b ∷ []) bs
+    out_read (b ∷ bs) r = out_read bs (step reads header row done b r) ∙ ap (λ o. o ++ bs) (out_step b r) ∙ append_assoc r.out (b ∷ []) bs
 
-abbrev Found : Type 0
+abbrev pub Found : Type 0
 Found = ℕ × List ℕ
 
-abbrev at_column : List Cell → ℕ → Option Found
+abbrev pub at_column : List Cell → ℕ → Option Found
 at_column row column = option_map (λ cell. (column, cell.value)) (slice_get row column)
 
 no_header : (row : List Cell) (done : ℕ) (name : List ℕ) → replacement [] row done name ≡ None
@@ -58,6 +73,71 @@ no_cell (Some k) = refl
 
 no_row : (header : List Cell) (done : ℕ) (name : List ℕ) → replacement header [] done name ≡ None
 no_row header done name = no_cell (find (λ column. nat_le done column) (columns_named name header))
+
+-- what replaces a name is of a column from the one asked for on, and within the row
+abbrev pub From : ℕ → Option ℕ → Type 0
+From from None = ⊤
+From from (Some k) = from ≤ k
+
+pub find_from : (from : ℕ) (xs : List ℕ) → From from (find (λ x. nat_le from x) xs)
+find_from from [] = tt
+find_from from (x ∷ xs) =
+    let P : Option ℕ → Type 0 = From from in
+    ⊎_elim (λ yes. subst P (sym (cond-true _ _ _ yes)) (leb-true from x yes))
+    (λ no. subst P (sym (cond-false _ _ _ no)) (find_from from xs)) (cases_Bool (nat_le from x))
+
+abbrev Within : List Cell → ℕ → Option Found → Type 0
+Within row from None = ⊤
+Within row from (Some f) = (from ≤ f.0) × (f.0 < length row)
+
+cell_within : (row : List Cell) (from : ℕ) (found : Option ℕ) → From from found → Within row from (option_and_then (at_column row) found)
+cell_within row from None h = tt
+cell_within row from (Some k) h =
+    let P : Option Cell → Type 0 = λ o. Within row from (option_map {U = Found} (λ (c : Cell). (k, c.value)) o) in
+    ⊎_elim (λ p. subst P (sym p.2) (h, p.1)) (λ p. subst P (sym p.1) tt) (slice_get_cases row k).1
+
+later_from : (row : List Cell) (m from : ℕ) (found : Option Found) → m ≤ from → Within row from found → Within row m found
+later_from row m from None le h = tt
+later_from row m from (Some f) le h = let low = h.0 in (omega arith, h.1)
+
+replaced_within : (header row : List Cell) (m from : ℕ) (name : List ℕ) → m ≤ from → Within row m (replacement header row from name)
+replaced_within header row m from name le = later_from row m from _ le (cell_within row from _ (find_from from (columns_named name header)))
+
+-- Cells in cells are of later columns: a reading that goes deeper than that is the same.
+module _ (header row : List Cell) where
+  module _ (reads others : Reads) (done : ℕ)
+      (alike : (column : ℕ) (text : List ℕ) (r : Reading) → done ≤ column → column < length row → reads (column + 1) text r ≡ others (column + 1) text r) where
+    brought_alike : (found : Option Found) (r : Reading) → Within row done found → brought reads found r ≡ brought others found r
+    brought_alike None r h = refl
+    brought_alike (Some f) r h = alike f.0 f.1 r h.0 h.1
+
+    closed_alike : (out : List ℕ) (opens : List Open)
+        → brought reads (closed_in header row done out opens).0 (closed_in header row done out opens).1
+        ≡ brought others (closed_in header row done out opens).0 (closed_in header row done out opens).1
+    closed_alike out [] = refl
+    closed_alike out (o ∷ os) = brought_alike _ _ (replaced_within header row done (max o.done done) (drop (o.start + 1) out) (omega arith))
+
+    step_alike : (b : ℕ) (r : Reading) → step reads header row done b r ≡ step others header row done b r
+    step_alike b r =
+        ⊎_elim (λ yes. cond-true _ _ _ yes ∙ sym (cond-true _ _ _ yes))
+        (λ no.
+        cond-false _ _ _ no
+        ∙ ⊎_elim (λ yes. cond-true _ _ _ yes ∙ closed_alike r.out r.opens ∙ sym (cond-true _ _ _ yes))
+        (λ other. cond-false _ _ _ other ∙ sym (cond-false _ _ _ other)) (cases_Bool (b == 62))
+        ∙ sym (cond-false _ _ _ no))
+        (cases_Bool (b == 60))
+
+    read_alike : (text : List ℕ) (r : Reading) → read_by reads header row done text r ≡ read_by others header row done text r
+    read_alike [] r = refl
+    read_alike (b ∷ bs) r = ap (read_by reads header row done bs) (step_alike b r) ∙ read_alike bs (step others header row done b r)
+
+  pub deeper : (i j done : ℕ) → done ≤ length row → length row < i + done → length row < j + done
+      → (text : List ℕ) (r : Reading) → read_to i header row done text r ≡ read_to j header row done text r
+  deeper zero j done le li lj text r = absurd (omega arith)
+  deeper (suc i) zero done le li lj text r = absurd (omega arith)
+  deeper (suc i) (suc j) done le li lj text r =
+      read_alike (read_to i header row) (read_to j header row) done
+      (λ column more s from within. deeper i j (column + 1) (omega arith) (omega arith) (omega arith) more s) text r
 
 -- the columns behind the first
 found_later : (xs : List ℕ) (done : ℕ) → find (λ x. nat_le done x) (map suc xs) ≡ option_map suc (find (λ x. nat_le (done - 1) x) xs)
@@ -121,67 +201,143 @@ module _ (n : Cell) (ns : List Cell) (c : Cell) (cs : List Cell) where
       let same : max o.done 1 - 1 ≡ o.done - 1 = omega arith in
       ap (λ d. record { start = o.start; done = d } ∷ map less os) same
 
-  -- what stands behind the innermost `<` is no placeholder of the first column
-  abbrev Other : List ℕ → List Open → List ℕ → Type 0
-  Other out [] text = ⊤
-  Other out (o ∷ os) text = o.done ≡ 0 → (o.start + 1 ≤ length out) × ((rest : List ℕ) → drop (o.start + 1) out ++ text ≡ n.value ++ 62 ∷ rest → ⊥)
-
-  other_raised : (out text : List ℕ) (k : ℕ) (os : List Open) → Other out (raised (k + 1) os) text
-  other_raised out text k [] = tt
-  other_raised out text k (o ∷ os) = λ z. absurd (omega arith)
-
-  shifted_by : (found : Option Found) (out : List ℕ) (start : ℕ) (os : List Open)
+  closed_less : (found : Option Found) (out : List ℕ) (start : ℕ) (os : List Open)
       → shifted (closed_by (option_map later found) out start os) ≡ closed_by found out start (map less os)
-  shifted_by None out start os = refl
-  shifted_by (Some f) out start os = ap (λ opens. record { out = take start out ++ f.1; opens = opens }) (raised_less f.0 os)
+  closed_less None out start os = refl
+  closed_less (Some f) out start os = ap (λ opens. record { out = take start out; opens = opens }) (raised_less f.0 os)
 
-  other_by : (found : Option Found) (out : List ℕ) (start : ℕ) (os : List Open) (text : List ℕ)
-      → Other (closed_by found out start os).out (closed_by found out start os).opens text
-  other_by None out start os text = tt
-  other_by (Some f) out start os text = other_raised _ text f.0 os
+  -- where the first column is not done, what stands behind the innermost `<` isn't its name
+  abbrev Other : ℕ → List ℕ → List Open → Type 0
+  Other done out [] = ⊤
+  Other done out (o ∷ os) = max o.done done ≡ 0 → bytes_eq (drop (o.start + 1) out) n.value ≡ false
 
-  shifted_closed : (out : List ℕ) (opens : List Open) (bs : List ℕ) → Other out opens (62 ∷ bs)
-      → shifted (closed_in (n ∷ ns) (c ∷ cs) out opens) ≡ closed_in ns cs out (map less opens)
-  shifted_closed out [] bs h = refl
-  shifted_closed out (o ∷ os) bs h =
+  -- One step is the same by the columns behind the first, where reading what a later cell brings is.
+  module _ (reads others : Reads) (done less_done : ℕ) (one : done - 1 ≡ less_done)
+      (agree : (k : ℕ) (text : List ℕ) (r : Reading) → k < length cs → shifted (reads (suc k + 1) text r) ≡ others (k + 1) text (shifted r)) where
+    brought_less : (found : Option Found) (r : Reading) → Within cs 0 found → shifted (brought reads (option_map later found) r) ≡ brought others found (shifted r)
+    brought_less None r h = refl
+    brought_less (Some f) r h = agree f.0 f.1 r h.1
+
+    close_less : (out : List ℕ) (opens : List Open) → Other done out opens
+        → shifted (brought reads (closed_in (n ∷ ns) (c ∷ cs) done out opens).0 (closed_in (n ∷ ns) (c ∷ cs) done out opens).1)
+        ≡ brought others (closed_in ns cs less_done out (map less opens)).0 (closed_in ns cs less_done out (map less opens)).1
+    close_less out [] h = refl
+    close_less out (o ∷ os) h =
+        let name : List ℕ = drop (o.start + 1) out in
+        let from : max o.done done - 1 ≡ max (o.done - 1) less_done = omega (arith, one) in
+        let found : Option Found = replacement ns cs (max (o.done - 1) less_done) name in
+        ap (λ f. shifted (brought reads f (closed_by f out o.start os)))
+        (replaced_later (max o.done done) name h ∙ ap (λ m. option_map later (replacement ns cs m name)) from)
+        ∙ brought_less found (closed_by (option_map later found) out o.start os) (replaced_within ns cs 0 (max (o.done - 1) less_done) name (omega arith))
+        ∙ ap (brought others found) (closed_less found out o.start os)
+
+    step_less : (b : ℕ) (r : Reading) → (b ≡ 62 → Other done r.out r.opens)
+        → shifted (step reads (n ∷ ns) (c ∷ cs) done b r) ≡ step others ns cs less_done b (shifted r)
+    step_less b r h =
+        ⊎_elim
+        (λ yes.
+        ap shifted (cond-true _ _ _ yes)
+        ∙ ap (λ d. record { out = r.out ++ 60 ∷ []; opens = record { start = length r.out; done = d } ∷ map less r.opens }) one
+        ∙ sym (cond-true _ _ _ yes))
+        (λ no.
+        ap shifted (cond-false _ _ _ no)
+        ∙ ⊎_elim
+        (λ yes. ap shifted (cond-true _ _ _ yes) ∙ close_less r.out r.opens (h (eqb-true b 62 yes)) ∙ sym (cond-true _ _ _ yes))
+        (λ other. ap shifted (cond-false _ _ _ other) ∙ sym (cond-false _ _ _ other)) (cases_Bool (b == 62))
+        ∙ sym (cond-false _ _ _ no))
+        (cases_Bool (b == 60))
+
+  -- where the first column is done, all is the same
+  other_done : (k : ℕ) (out : List ℕ) (opens : List Open) → Other (suc k) out opens
+  other_done k out [] = tt
+  other_done k out (o ∷ os) = λ z. absurd (omega arith)
+
+  done_by : (reads others : Reads) (k : ℕ)
+      → ((j : ℕ) (text : List ℕ) (r : Reading) → j < length cs → shifted (reads (suc j + 1) text r) ≡ others (j + 1) text (shifted r))
+      → (text : List ℕ) (r : Reading) → shifted (read_by reads (n ∷ ns) (c ∷ cs) (suc k) text r) ≡ read_by others ns cs k text (shifted r)
+  done_by reads others k agree [] r = refl
+  done_by reads others k agree (b ∷ bs) r =
+      done_by reads others k agree bs (step reads (n ∷ ns) (c ∷ cs) (suc k) b r)
+      ∙ ap (read_by others ns cs k bs) (step_less reads others (suc k) k (omega arith) agree b r (λ is. other_done k r.out r.opens))
+
+  done_alike : (depth k : ℕ) (text : List ℕ) (r : Reading) → shifted (read_to depth (n ∷ ns) (c ∷ cs) (suc k) text r) ≡ read_to depth ns cs k text (shifted r)
+  done_alike zero k text r = refl
+  done_alike (suc depth) k text r =
+      done_by (read_to depth (n ∷ ns) (c ∷ cs)) (read_to depth ns cs) k
+      (λ j more s l.
+      let next : suc j + 1 ≡ suc (j + 1) = omega arith in
+      ap (λ m. shifted (read_to depth (n ∷ ns) (c ∷ cs) m more s)) next ∙ done_alike depth (j + 1) more s)
+      text r
+
+  -- and the first column is done at the innermost `<`
+  abbrev Done : List Open → Type 0
+  Done [] = ⊤
+  Done (o ∷ os) = 1 ≤ o.done
+
+  done_raised : (k : ℕ) (os : List Open) → Done (raised (k + 1) os)
+  done_raised k [] = tt
+  done_raised k (o ∷ os) = omega arith
+
+  module _ (reads : Reads) (kept : (k : ℕ) (text : List ℕ) (r : Reading) → Done r.opens → Done (reads (k + 1) text r).opens) where
+    done_brought : (found : Option Found) (out : List ℕ) (start : ℕ) (os : List Open) → Done (brought reads found (closed_by found out start os)).opens
+    done_brought None out start os = tt
+    done_brought (Some f) out start os = kept f.0 f.1 _ (done_raised f.0 os)
+
+    done_closed : (done : ℕ) (out : List ℕ) (opens : List Open)
+        → Done (brought reads (closed_in (n ∷ ns) (c ∷ cs) done out opens).0 (closed_in (n ∷ ns) (c ∷ cs) done out opens).1).opens
+    done_closed done out [] = tt
+    done_closed done out (o ∷ os) = done_brought (replacement (n ∷ ns) (c ∷ cs) (max o.done done) (drop (o.start + 1) out)) out o.start os
+
+    done_step : (k b : ℕ) (r : Reading) → Done r.opens → Done (step reads (n ∷ ns) (c ∷ cs) (k + 1) b r).opens
+    done_step k b r h =
+        let P : Reading → Type 0 = λ s. Done s.opens in
+        let more : 1 ≤ k + 1 = omega arith in
+        ⊎_elim (λ yes. subst P (sym (cond-true _ _ _ yes)) more)
+        (λ no.
+        subst P (sym (cond-false _ _ _ no))
+        (⊎_elim (λ yes. subst P (sym (cond-true _ _ _ yes)) (done_closed (k + 1) r.out r.opens))
+        (λ other. subst P (sym (cond-false _ _ _ other)) h) (cases_Bool (b == 62))))
+        (cases_Bool (b == 60))
+
+    done_read : (k : ℕ) (text : List ℕ) (r : Reading) → Done r.opens → Done (read_by reads (n ∷ ns) (c ∷ cs) (k + 1) text r).opens
+    done_read k [] r h = h
+    done_read k (b ∷ bs) r h = done_read k bs (step reads (n ∷ ns) (c ∷ cs) (k + 1) b r) (done_step k b r h)
+
+  done_kept : (depth k : ℕ) (text : List ℕ) (r : Reading) → Done r.opens → Done (read_to depth (n ∷ ns) (c ∷ cs) (k + 1) text r).opens
+  done_kept zero k text r h = h
+  done_kept (suc depth) k text r h = done_read (read_to depth (n ∷ ns) (c ∷ cs)) (done_kept depth) k text r h
+
+  -- what stands behind the innermost `<` is no placeholder of the first column, where that isn't done
+  abbrev NotFirst : List ℕ → List Open → List ℕ → Type 0
+  NotFirst out [] text = ⊤
+  NotFirst out (o ∷ os) text = o.done ≡ 0 → (o.start + 1 ≤ length out) × ((rest : List ℕ) → drop (o.start + 1) out ++ text ≡ n.value ++ 62 ∷ rest → ⊥)
+
+  abbrev NotFirstIn : Reading → List ℕ → Type 0
+  NotFirstIn r text = NotFirst r.out r.opens text
+
+  done_not_first : (out : List ℕ) (opens : List Open) (text : List ℕ) → Done opens → NotFirst out opens text
+  done_not_first out [] text h = tt
+  done_not_first out (o ∷ os) text h = λ z. absurd (omega arith)
+
+  not_first_other : (out : List ℕ) (opens : List Open) (bs : List ℕ) → NotFirst out opens (62 ∷ bs) → Other 0 out opens
+  not_first_other out [] bs h = tt
+  not_first_other out (o ∷ os) bs h = λ z.
       let name : List ℕ = drop (o.start + 1) out in
-      ap (λ f. shifted (closed_by f out o.start os))
-      (replaced_later o.done name (λ z. false_from_ne_true _ (λ t. (h z).1 bs (ap (λ x. x ++ 62 ∷ bs) ((bytes_eq-Decides name n.value).0 t)))))
-      ∙ shifted_by (replacement ns cs (o.done - 1) name) out o.start os
+      let here = h (omega arith) in
+      false_from_ne_true _ (λ t. here.1 bs (ap (λ x. x ++ 62 ∷ bs) ((bytes_eq-Decides name n.value).0 t)))
 
-  other_closed : (out : List ℕ) (opens : List Open) (bs : List ℕ)
-      → Other (closed_in (n ∷ ns) (c ∷ cs) out opens).out (closed_in (n ∷ ns) (c ∷ cs) out opens).opens bs
-  other_closed out [] bs = tt
-  other_closed out (o ∷ os) bs = other_by (replacement (n ∷ ns) (c ∷ cs) o.done (drop (o.start + 1) out)) out o.start os bs
-
-  abbrev OtherIn : Reading → List ℕ → Type 0
-  OtherIn r text = Other r.out r.opens text
-
-  shifted_step : (b : ℕ) (bs : List ℕ) (r : Reading) → OtherIn r (b ∷ bs) → shifted (step (n ∷ ns) (c ∷ cs) b r) ≡ step ns cs b (shifted r)
-  shifted_step b bs r h =
-      ⊎_elim (λ yes. ap shifted (cond-true _ _ _ yes) ∙ sym (cond-true _ _ _ yes))
-      (λ no.
-      ap shifted (cond-false _ _ _ no)
-      ∙ ⊎_elim
-      (λ yes.
-      let Q : ℕ → Type 0 = λ x. OtherIn r (x ∷ bs) in
-      ap shifted (cond-true _ _ _ yes) ∙ shifted_closed r.out r.opens bs (subst Q (eqb-true b 62 yes) h) ∙ sym (cond-true _ _ _ yes))
-      (λ other. ap shifted (cond-false _ _ _ other) ∙ sym (cond-false _ _ _ other)) (cases_Bool (b == 62))
-      ∙ sym (cond-false _ _ _ no))
-      (cases_Bool (b == 60))
-
-  other_added : (b : ℕ) (bs out : List ℕ) (opens : List Open) → Other out opens (b ∷ bs) → Other (out ++ b ∷ []) opens bs
-  other_added b bs out [] h = tt
-  other_added b bs out (o ∷ os) h = λ z.
+  not_first_added : (b : ℕ) (bs out : List ℕ) (opens : List Open) → NotFirst out opens (b ∷ bs) → NotFirst (out ++ b ∷ []) opens bs
+  not_first_added b bs out [] h = tt
+  not_first_added b bs out (o ∷ os) h = λ z.
       let here = h z in
       let low = here.0 in (
         omega (arith, length-append out (b ∷ [])),
         λ rest e. here.1 rest (sym (append_assoc (drop (o.start + 1) out) (b ∷ []) bs) ∙ ap (λ x. x ++ bs) (sym (drop-append-le (o.start + 1) out (b ∷ []) low)) ∙ e),
       )
 
-  opened_other : (bs out : List ℕ) (os : List Open) → starts_with nat_eq (60 ∷ bs) (placeholder n.value) ≡ false
-      → Other (out ++ 60 ∷ []) (record { start = length out; done = 0 } ∷ os) bs
-  opened_other bs out os miss = λ z.
+  not_first_opened : (bs out : List ℕ) (os : List Open) → starts_with nat_eq (60 ∷ bs) (placeholder n.value) ≡ false
+      → NotFirst (out ++ 60 ∷ []) (record { start = length out; done = 0 } ∷ os) bs
+  not_first_opened bs out os miss = λ z.
       let long = length-append out (60 ∷ []) in
       let none : drop (length out + 1) (out ++ 60 ∷ []) ≡ [] =
       ap (drop (length out + 1)) (sym (append-nil (out ++ 60 ∷ []))) ∙ drop_at (out ++ 60 ∷ []) [] (length out + 1) (omega arith) in (
@@ -192,42 +348,69 @@ module _ (n : Cell) (ns : List Cell) (c : Cell) (cs : List Cell) where
             both_ways _ miss (starts (60 ∷ bs) (placeholder n.value) (place_of (placeholder n.value) (60 ∷ bs) [] rest all)),
       )
 
-  other_step : (b : ℕ) (bs : List ℕ) (r : Reading) → starts_with nat_eq (b ∷ bs) (placeholder n.value) ≡ false → OtherIn r (b ∷ bs)
-      → OtherIn (step (n ∷ ns) (c ∷ cs) b r) bs
-  other_step b bs r miss h =
-      let P : Reading → Type 0 = λ s. OtherIn s bs in
-      ⊎_elim
-      (λ yes.
+  -- what cells bring is read by all columns, and by those behind the first
+  abbrev by_all : Reads
+  by_all = read_to (suc (length cs)) (n ∷ ns) (c ∷ cs)
+
+  abbrev by_others : Reads
+  by_others = read_to (length cs) ns cs
+
+  agreed : (k : ℕ) (text : List ℕ) (r : Reading) → k < length cs → shifted (by_all (suc k + 1) text r) ≡ by_others (k + 1) text (shifted r)
+  agreed k text r l =
+      let next : suc k + 1 ≡ suc (k + 1) = omega arith in
+      ap (λ m. shifted (by_all m text r)) next ∙ done_alike (suc (length cs)) (k + 1) text r
+      ∙ deeper ns cs (suc (length cs)) (length cs) (k + 1) (omega arith) (omega arith) (omega arith) text (shifted r)
+
+  shifted_step : (b : ℕ) (bs : List ℕ) (r : Reading) → NotFirstIn r (b ∷ bs)
+      → shifted (step by_all (n ∷ ns) (c ∷ cs) 0 b r) ≡ step by_others ns cs 0 b (shifted r)
+  shifted_step b bs r h =
+      let Q : ℕ → Type 0 = λ x. NotFirstIn r (x ∷ bs) in
+      step_less by_all by_others 0 0 (omega arith) agreed b r (λ is. not_first_other r.out r.opens bs (subst Q is h))
+
+  not_first_step : (b : ℕ) (bs : List ℕ) (r : Reading) → starts_with nat_eq (b ∷ bs) (placeholder n.value) ≡ false → NotFirstIn r (b ∷ bs)
+      → NotFirstIn (step by_all (n ∷ ns) (c ∷ cs) 0 b r) bs
+  not_first_step b bs r miss h =
+      let P : Reading → Type 0 = λ s. NotFirstIn s bs in
       let Q : ℕ → Type 0 = λ x. starts_with nat_eq (x ∷ bs) (placeholder n.value) ≡ false in
-      subst P (sym (cond-true _ _ _ yes)) (opened_other bs r.out r.opens (subst Q (eqb-true b 60 yes) miss)))
+      ⊎_elim (λ yes. subst P (sym (cond-true _ _ _ yes)) (not_first_opened bs r.out r.opens (subst Q (eqb-true b 60 yes) miss)))
       (λ no.
       subst P (sym (cond-false _ _ _ no))
-      (⊎_elim (λ yes. subst P (sym (cond-true _ _ _ yes)) (other_closed r.out r.opens bs))
-      (λ other. subst P (sym (cond-false _ _ _ other)) (other_added b bs r.out r.opens h)) (cases_Bool (b == 62))))
+      (⊎_elim
+      (λ yes. subst P (sym (cond-true _ _ _ yes)) (done_not_first _ _ bs (done_closed by_all (done_kept (suc (length cs))) 0 r.out r.opens)))
+      (λ other. subst P (sym (cond-false _ _ _ other)) (not_first_added b bs r.out r.opens h)) (cases_Bool (b == 62))))
       (cases_Bool (b == 60))
 
   -- a placeholder of the first column
+  abbrev first_done : Reading → Reading
+  first_done r = record { out = r.out; opens = raised 1 r.opens }
+
   one_filled : (rest : List ℕ) (r : Reading) → HasNoBracket n.value
-      → read (n ∷ ns) (c ∷ cs) (60 ∷ (n.value ++ 62 ∷ rest)) r ≡ read (n ∷ ns) (c ∷ cs) rest (record { out = r.out ++ c.value; opens = raised 1 r.opens })
+      → read_by by_all (n ∷ ns) (c ∷ cs) 0 (60 ∷ (n.value ++ 62 ∷ rest)) r ≡ read_by by_all (n ∷ ns) (c ∷ cs) 0 rest (by_all 1 c.value (first_done r))
   one_filled rest r plain =
       let out : List ℕ = (r.out ++ 60 ∷ []) ++ n.value in
+      let go : Reading → Reading = read_by by_all (n ∷ ns) (c ∷ cs) 0 rest in
       let long = length-append r.out (60 ∷ []) in
       let name : drop (length r.out + 1) out ≡ n.value = drop_at (r.out ++ 60 ∷ []) n.value (length r.out + 1) (omega arith) in
       let front : take (length r.out) out ≡ r.out =
       ap (take (length r.out)) (append_assoc r.out (60 ∷ []) n.value) ∙ take_at r.out (60 ∷ n.value) (length r.out) refl in
-      read_plain (n ∷ ns) (c ∷ cs) n.value (62 ∷ rest) (opened r) plain
-      ∙ ap (λ f. read (n ∷ ns) (c ∷ cs) rest (closed_by f out (length r.out) r.opens)) (ap (replacement (n ∷ ns) (c ∷ cs) 0) name ∙ replaced_first)
-      ∙ ap (λ o. read (n ∷ ns) (c ∷ cs) rest (record { out = o ++ c.value; opens = raised 1 r.opens })) front
+      read_plain by_all (n ∷ ns) (c ∷ cs) 0 n.value (62 ∷ rest) (opened 0 r) plain
+      ∙ ap (λ f. go (brought by_all f (closed_by f out (length r.out) r.opens))) (ap (replacement (n ∷ ns) (c ∷ cs) 0) name ∙ replaced_first)
+      ∙ ap (λ o. go (by_all 1 c.value (record { out = o; opens = raised 1 r.opens }))) front
 
-  module _ (name_plain : HasNoBracket n.value) (cell_plain : HasNoBracket c.value) where
+  first_read : (r : Reading) → shifted (by_all 1 c.value (first_done r)) ≡ read_by by_others ns cs 0 c.value (shifted r)
+  first_read r =
+      done_alike (suc (length cs)) 0 c.value (first_done r)
+      ∙ ap (λ opens. read_by by_others ns cs 0 c.value (record { out = r.out; opens = opens })) (raised_first r.opens)
+
+  module _ (name_plain : HasNoBracket n.value) where
     abbrev p : List ℕ
     p = placeholder n.value
 
-    without_first : (size : ℕ) (text : List ℕ) (r : Reading) → length text ≤ size → OtherIn r text
-        → (read (n ∷ ns) (c ∷ cs) text r).out ≡ (read ns cs (replaced p c.value text) (shifted r)).out
+    without_first : (size : ℕ) (text : List ℕ) (r : Reading) → length text ≤ size → NotFirstIn r text
+        → (read_by by_all (n ∷ ns) (c ∷ cs) 0 text r).out ≡ (read_by by_others ns cs 0 (replaced p c.value text) (shifted r)).out
     without_first size [] r le h =
         let long = length-placeholder n.value in
-        ap (λ t. (read ns cs t (shifted r)).out) (sym (nowhere p c.value [] (λ k o. let fits = o.fits in absurd (omega arith))))
+        ap (λ t. (read_by by_others ns cs 0 t (shifted r)).out) (sym (nowhere p c.value [] (λ k o. let fits = o.fits in absurd (omega arith))))
     without_first zero (b ∷ bs) r le h = absurd (omega arith)
     without_first (suc size) (b ∷ bs) r le h =
         ⊎_elim
@@ -236,50 +419,28 @@ module _ (n : Cell) (ns : List Cell) (c : Cell) (cs : List Cell) where
         let rest : List ℕ = drop (0 + length p) (b ∷ bs) in
         let long = length-placeholder n.value in
         let text : b ∷ bs ≡ 60 ∷ (n.value ++ 62 ∷ rest) = split_at p (b ∷ bs) 0 here ∙ ap (λ x. 60 ∷ x) (append_assoc n.value (62 ∷ []) rest) in
-        let after : Reading = record { out = r.out ++ c.value; opens = raised 1 r.opens } in
-        ap (λ t. (read (n ∷ ns) (c ∷ cs) t r).out) text ∙ ap (λ (s : Reading). s.out) (one_filled rest r name_plain)
-        ∙ without_first size rest after (omega (arith, length-drop (0 + length p) (b ∷ bs))) (other_raised after.out rest 0 r.opens)
-        ∙ ap (λ opens. (read ns cs (replaced p c.value rest) (record { out = r.out ++ c.value; opens = opens })).out) (raised_first r.opens)
-        ∙ ap (λ (s : Reading). s.out) (sym (read_plain ns cs c.value (replaced p c.value rest) (shifted r) cell_plain))
-        ∙ ap (λ t. (read ns cs t (shifted r)).out) (sym (first p c.value (b ∷ bs) 0 (omega arith) here (λ j l o. absurd (omega arith)))))
+        let after : Reading = by_all 1 c.value (first_done r) in
+        let done : Done after.opens = done_kept (suc (length cs)) 0 c.value (first_done r) (done_raised 0 r.opens) in
+        ap (λ t. (read_by by_all (n ∷ ns) (c ∷ cs) 0 t r).out) text ∙ ap (λ (s : Reading). s.out) (one_filled rest r name_plain)
+        ∙ without_first size rest after (omega (arith, length-drop (0 + length p) (b ∷ bs))) (done_not_first after.out after.opens rest done)
+        ∙ ap (λ s. (read_by by_others ns cs 0 (replaced p c.value rest) s).out) (first_read r)
+        ∙ ap (λ (s : Reading). s.out) (sym (read_both by_others ns cs 0 c.value (replaced p c.value rest) (shifted r)))
+        ∙ ap (λ t. (read_by by_others ns cs 0 t (shifted r)).out) (sym (first p c.value (b ∷ bs) 0 (omega arith) here (λ j l o. absurd (omega arith)))))
         (λ miss.
-        without_first size bs (step (n ∷ ns) (c ∷ cs) b r) (omega arith) (other_step b bs r miss h)
-        ∙ ap (λ s. (read ns cs (replaced p c.value bs) s).out) (shifted_step b bs r h)
-        ∙ ap (λ t. (read ns cs t (shifted r)).out) (sym (not_at_front p c.value b bs (λ o. both_ways _ miss (starts (b ∷ bs) p o)))))
+        without_first size bs (step by_all (n ∷ ns) (c ∷ cs) 0 b r) (omega arith) (not_first_step b bs r miss h)
+        ∙ ap (λ s. (read_by by_others ns cs 0 (replaced p c.value bs) s).out) (shifted_step b bs r h)
+        ∙ ap (λ t. (read_by by_others ns cs 0 t (shifted r)).out) (sym (not_at_front p c.value b bs (λ o. both_ways _ miss (starts (b ∷ bs) p o)))))
         (cases_Bool (starts_with nat_eq (b ∷ bs) p))
 
-pub one_reading_fills : (text : List ℕ) (header row : List Cell) → HaveNoBracket header → HaveNoBracket row → filled_in_one_reading text header row ≡ filled text header row
-one_reading_fills text [] row h r = out_read [] row (no_header row) text nothing_read
-one_reading_fills text (n ∷ ns) [] h r = out_read (n ∷ ns) [] (no_row (n ∷ ns)) text nothing_read
-one_reading_fills text (n ∷ ns) (c ∷ cs) h r =
-    without_first n ns c cs h.0 r.0 (length text) text nothing_read (le_refl (length text)) tt
-    ∙ one_reading_fills (replaced (placeholder n.value) c.value text) ns cs h.1 r.1
+pub one_reading_fills : (text : List ℕ) (header row : List Cell) → HaveNoBracket header → filled_in_one_reading text header row ≡ filled text header row
+one_reading_fills text [] row h = out_read (read_to (length row) [] row) [] row 0 (no_header row) text nothing_read
+one_reading_fills text (n ∷ ns) [] h = out_read (read_to 0 (n ∷ ns) []) (n ∷ ns) [] 0 (no_row (n ∷ ns)) text nothing_read
+one_reading_fills text (n ∷ ns) (c ∷ cs) h =
+    without_first n ns c cs h.0 (length text) text nothing_read (le_refl (length text)) tt
+    ∙ one_reading_fills (replaced (placeholder n.value) c.value text) ns cs h.1
 
--- one bracket more is read
-pub one_read : (header row : List Cell) (rest before after : List ℕ) (b : ℕ) (r new whole : Reading) → rest ≡ before ++ b ∷ after → HasNoBracket before
-    → new ≡ step header row b (added before r) → read header row rest r ≡ whole → read header row after new ≡ whole
-one_read header row rest before after b r new whole e plain n same =
-    ap (read header row after) n ∙ sym (read_plain header row before (b ∷ after) r plain) ∙ ap (λ t. read header row t r) (sym e) ∙ same
-
-pub stepped_open : (header row : List Cell) (before : List ℕ) (b : ℕ) (r more new : Reading) → b ≡ 60 → more ≡ added before r → new ≡ opened more
-    → new ≡ step header row b (added before r)
-stepped_open header row before b r more new is m n = n ∙ ap opened m ∙ sym (cond-true _ _ _ (eq-eqb b 60 is))
-
-pub stepped_close : (header row : List Cell) (before : List ℕ) (b : ℕ) (r more new : Reading) → is_bracket b ≡ true → (b ≡ 60 → ⊥) → more ≡ added before r
-    → new ≡ closed header row more → new ≡ step header row b (added before r)
-stepped_close header row before b r more new bracket other m n =
-    let is : b == 62 ≡ true = ⊎_elim (λ y. absurd (other (eqb-true b 60 y))) (λ y. y) (or_cases (b == 60) (b == 62) bracket) in
-    n ∙ ap (closed header row) m ∙ sym (cond-false _ _ _ (false_from_ne_true _ (λ t. other (eqb-true b 60 t))) ∙ cond-true _ _ _ is)
-
--- all is read
-pub all_read : (header row : List Cell) (text rest : List ℕ) (r new inside : Reading) → HasNoBracket rest → new ≡ added rest r
-    → read header row rest r ≡ read header row text nothing_read → inside ≡ new → inside.out ≡ filled_in_one_reading text header row
-all_read header row text rest r new inside plain n same i =
-    let whole : read header row rest r ≡ added rest r = ap (λ t. read header row t r) (sym (append-nil rest)) ∙ read_plain header row rest [] r plain in
-    ap (λ (s : Reading). s.out) (i ∙ n ∙ sym whole ∙ same)
-
--- as a row that has no bracket fills
-pub row_fills : (has_none : Bool) (text : List ℕ) (header row : List Cell) → has_none ≡ true → OnTrue has_none (HaveNoBracket header × HaveNoBracket row)
+-- as columns fill whose names have no bracket
+pub row_fills : (has_none : Bool) (text : List ℕ) (header row : List Cell) → has_none ≡ true → OnTrue has_none (HaveNoBracket header)
     → filled_in_one_reading text header row ≡ filled text header row
-row_fills true text header row is plain = one_reading_fills text header row plain.0 plain.1
+row_fills true text header row is plain = one_reading_fills text header row plain
 row_fills false text header row is plain = absurd (false≢true is)

@@ -4,9 +4,9 @@ ghost use Rattle.gk_pickle.specs.Around.{unfilled};
 ghost use Rattle.gk_pickle.specs.Steps.{filled_by};
 
 use crate::columns::Columns;
-use crate::filling::RowFilling;
+use crate::filling::fill_from;
 use gk_document::{Row, Step, Tag};
-use gk_line::{Sequence, Text};
+use gk_line::{Cell, Sequence, Text};
 use std::alloc::{AllocError, Global};
 use std::marker::Model;
 
@@ -31,7 +31,7 @@ impl<'a> Model for Around<'a> {
 /// What fills a text: a row under its header, and the row's node.
 #[derive(Drop)]
 pub(crate) struct Filling<'c, 'h, 'r> {
-    row: Option<RowFilling<'c, 'h, 'r>>,
+    row: Option<(&'c Columns<'h>, &'r [Cell])>,
     node: Option<u64>,
 }
 
@@ -43,8 +43,8 @@ impl<'c, 'h, 'r> Model for Filling<'c, 'h, 'r> {
     ghost Value = { Filled };
 
     ghost view = { λ f. record {
-      header = option_map_or (λ r. r.0) f.row [];
-      cells = option_map_or (λ r. r.1) f.row [];
+      header = option_map_or (λ r. r.0.now) f.row [];
+      cells = option_map_or (λ r. r.1.now) f.row [];
       rows = option_to_list f.node;
     } };
 }
@@ -65,7 +65,7 @@ impl<'c, 'h, 'r> Filling<'c, 'h, 'r> {
         ensures { result ≡ record { header = columns.now; cells = row.now.cells; rows = row.now.node ∷ [] } }
     {
         Filling {
-            row: Some(RowFilling::of(columns, row.cells.as_slice())),
+            row: Some((columns, row.cells.as_slice())),
             node: Some(row.node),
         }
     }
@@ -75,7 +75,7 @@ impl<'c, 'h, 'r> Filling<'c, 'h, 'r> {
         ensures { IfOk result (λ t. t ≡ filled_by self.now text.now) }
     {
         match &self.row {
-            Some(row) => Ok(Text::from(row.fill(alloc, text)?)),
+            Some((columns, row)) => Ok(Text::from(fill_from(alloc, text, columns, row)?)),
             None => Ok(Text::copy_of(alloc, text)?),
         }
     }

@@ -4,13 +4,12 @@ ghost use Rattle.std.specs.Bool.{OnTrue};
 ghost use Rattle.gk_line.specs.declared.tokens.Cell.{Cell};
 ghost use Rattle.gk_pickle.specs.Fill.{placeholder, replaced, filled};
 
-use crate::columns::{Columns, have_no_bracket};
+use crate::columns::Columns;
 use crate::one_reading::fill_in_one_reading;
 use gk_line::Cell;
 use memchr::memchr;
 use memchr::memmem::Finder;
 use std::alloc::{AllocError, Global};
-use std::marker::Model;
 
 /// What stands before and after the first `<name>` of a text.
 fn cut_at_first<'t>(finder: &Finder<'_>, name: &str, text: &'t str) -> Option<(&'t str, &'t str)>
@@ -73,51 +72,22 @@ fn fill_columns(
     Ok(filled)
 }
 
-/// A row under its header, as it fills texts.
-#[derive(Drop)]
-pub(crate) struct RowFilling<'c, 'h, 'r> {
-    columns: &'c Columns<'h>,
-    row: &'r [Cell],
-    /// Whether the names and the cells have no bracket, and so a text is filled in one reading.
-    has_no_bracket: bool,
-}
-
-impl<'c, 'h, 'r> Model for RowFilling<'c, 'h, 'r> {
-    ghost use Rattle.std.specs.Prelude.{List};
-    ghost use Rattle.std.specs.Bool.{OnTrue};
-    ghost use Rattle.gk_line.specs.declared.tokens.Cell.{Cell as RowCell};
-    ghost use Rattle.gk_pickle.specs.OneReading.{HaveNoBracket};
-
-    ghost Value = { List RowCell × List RowCell };
-
-    ghost view = { λ f. (f.columns.now, f.row.now) };
-
-    ghost invariant = { λ f. OnTrue f.has_no_bracket (HaveNoBracket f.columns.now × HaveNoBracket f.row.now) };
-}
-
-impl<'c, 'h, 'r> RowFilling<'c, 'h, 'r> {
-    pub fn of(columns: &'c Columns<'h>, row: &'r [Cell]) -> RowFilling<'c, 'h, 'r>
-        ensures { result ≡ (columns.now, row.now) }
-    {
-        RowFilling {
-            columns,
-            row,
-            has_no_bracket: columns.has_no_bracket() && have_no_bracket(row),
-        }
+/// The text, filled from a row under its header's columns.
+pub(crate) fn fill_from(
+    alloc: Global,
+    text: &str,
+    columns: &Columns<'_>,
+    row: &[Cell],
+) -> Result<String, AllocError>
+    ensures { IfOk result (λ s. string_bytes s ≡ filled text.now columns.now row.now) }
+{
+    if has_no_placeholder(text) {
+        return Ok(String::from_str(alloc, text)?);
     }
-
-    /// The text, filled.
-    pub fn fill(&self, alloc: Global, text: &str) -> Result<String, AllocError>
-        ensures { IfOk result (λ s. string_bytes s ≡ filled text.now self.now.0 self.now.1) }
-    {
-        if has_no_placeholder(text) {
-            return Ok(String::from_str(alloc, text)?);
-        }
-        if self.has_no_bracket {
-            return fill_in_one_reading(alloc, text, self.columns, self.row);
-        }
-        fill_columns(alloc, text, self.columns.header(), self.row)
+    if columns.has_no_bracket() {
+        return fill_in_one_reading(alloc, text, columns, row);
     }
+    fill_columns(alloc, text, columns.header(), row)
 }
 
 /// The text with its placeholders filled, column by column: for each name of the header in order, every `<name>` in the
@@ -125,7 +95,8 @@ impl<'c, 'h, 'r> RowFilling<'c, 'h, 'r> {
 /// placeholders of the columns after it, and each such column may double the text. A column that only the header or only
 /// the row has fills nothing.
 ///
-/// Where no name and no cell has a `<` or `>`, the text is read once, whatever the columns; else once for each column.
+/// Where no name has a `<` or `>`, the text is read once, whatever the columns, and what cells bring likewise; else the
+/// text is read once for each column.
 ///
 /// Source: Cucumber's Gherkin reference, "Scenario Outline".
 ///
@@ -135,5 +106,5 @@ pub fn fill(alloc: Global, text: &str, header: &[Cell], row: &[Cell]) -> Result<
     ensures { IfOk result (λ s. string_bytes s ≡ filled text.now header.now row.now) }
 {
     let columns = Columns::of(alloc, header)?;
-    RowFilling::of(&columns, row).fill(alloc, text)
+    fill_from(alloc, text, &columns, row)
 }

@@ -1,6 +1,6 @@
 //! Filling a text in one reading.
-ghost use Rattle.std.specs.Prelude.{◌≡◌, ◌++◌, ◌∷◌, ◌<◌, [], ℕ, List, length, reverse, string_bytes, true, IfNone, IfOk, IfSome, OnOk};
-ghost use Rattle.gk_pickle.specs.OneReading.{HasNoBracket, added, closed, filled_in_one_reading, is_bracket, nothing_read, opened, raised};
+ghost use Rattle.std.specs.Prelude.{◌≡◌, ◌++◌, ◌∷◌, ◌<◌, [], ℕ, List, length, reverse, string_bytes, true, IfNone, IfOk, IfSome, OnOk, option_map};
+ghost use Rattle.gk_pickle.specs.OneReading.{AreWithin, HasNoBracket, added, closed, filled_in_one_reading, is_bracket, nothing_read, opened, raised, read_parts, work};
 
 use crate::columns::Columns;
 use gk_line::Cell;
@@ -14,6 +14,14 @@ pub(crate) struct Open {
     /// The bytes before it.
     pub start: usize,
     /// As many columns are done in what stands behind it.
+    pub done: usize,
+}
+
+/// A text that is still to be read.
+#[derive(Clone, Copy, Debug, PartialEq, Eq)]
+pub(crate) struct Part<'t> {
+    pub text: &'t str,
+    /// As many columns are done in it.
     pub done: usize,
 }
 
@@ -62,31 +70,71 @@ impl Reading {
         Ok(())
     }
 
-    /// Adds a `<`.
-    fn open(&mut self) -> Result<(), AllocError>
-        ensures { OnOk result (self.new ≡ opened self.old) }
+    /// Adds a `<`, in whose place `done` columns are done.
+    fn open(&mut self, done: usize) -> Result<(), AllocError>
+        ensures { OnOk result (self.new ≡ opened done self.old) }
     {
         let start = self.out.len();
         self.out.push_str("<")?;
-        self.opens.push(Open { start, done: 0 })?;
+        self.opens.push(Open { start, done })?;
         Ok(())
     }
 
-    /// Fills the placeholder that a `>` closes, or adds the `>`.
-    fn close(&mut self, columns: &Columns<'_>, row: &[Cell]) -> Result<(), AllocError>
-        ensures { OnOk result (self.new ≡ closed columns.now row.now self.old) }
+    /// Takes off the placeholder that a `>` closes and gives its column and cell, or adds the `>`.
+    fn close<'r>(
+        &mut self,
+        columns: &Columns<'_>,
+        row: &'r [Cell],
+        done: usize,
+    ) -> Result<Option<(usize, &'r str)>, AllocError>
+        ensures found { IfOk result (λ found. option_map (λ f. (f.0, f.1.now)) found ≡ (closed columns.now row.now done self.old).0) }
+        ensures left { IfOk result (λ _. self.new ≡ (closed columns.now row.now done self.old).1) }
+        ensures within { IfOk result (λ found. IfSome found (λ f. f.0 < length row.now)) }
     {
         if let Some(open) = self.opens.pop() {
             let name = &self.out.as_str()[open.start + 1..];
-            if let Some((column, cell)) = columns.replacement(row, open.done, name) {
+            if let Some((column, cell)) = columns.replacement(row, open.done.max(done), name) {
                 self.out.truncate(open.start);
-                self.out.push_str(cell)?;
                 raise(&mut self.opens, column + 1);
-                return Ok(());
+                return Ok(Some((column, cell)));
             }
             self.opens.clear();
         }
         self.out.push_str(">")?;
+        Ok(None)
+    }
+
+    /// Reads a part up to its first bracket. What is left of it, and what a cell brings, are further parts.
+    fn read_part<'t>(
+        &mut self,
+        part: Part<'t>,
+        parts: &mut Vec<Part<'t>>,
+        columns: &Columns<'_>,
+        row: &'t [Cell],
+    ) -> Result<(), AllocError>
+        requires { AreWithin row.now (part ∷ parts.old.items) }
+        ensures read { OnOk result (read_parts columns.now row.now (reverse parts.new.items) self.new
+            ≡ read_parts columns.now row.now (part.entry ∷ reverse parts.old.items) self.old) }
+        ensures within { OnOk result (AreWithin row.now parts.new.items) }
+        ensures less { OnOk result (work row.now parts.new.items < work row.now (part.entry ∷ parts.old.items)) }
+    {
+        let Some((before, bracket, after)) = cut_at_bracket(part.text) else {
+            return self.add(part.text);
+        };
+        self.add(before)?;
+        parts.push(Part {
+            text: after,
+            done: part.done,
+        })?;
+        if bracket == b'<' {
+            return self.open(part.done);
+        }
+        if let Some((column, text)) = self.close(columns, row, part.done)? {
+            parts.push(Part {
+                text,
+                done: column + 1,
+            })?;
+        }
         Ok(())
     }
 }
@@ -112,16 +160,10 @@ pub(crate) fn fill_in_one_reading(
     ensures { IfOk result (λ s. string_bytes s ≡ filled_in_one_reading text.now columns.now row.now) }
 {
     let mut reading = Reading::new(alloc);
-    let mut rest = text;
-    while let Some((before, bracket, after)) = cut_at_bracket(rest) {
-        reading.add(before)?;
-        if bracket == b'<' {
-            reading.open()?;
-        } else {
-            reading.close(columns, row)?;
-        }
-        rest = after;
+    let mut parts = Vec::new(alloc);
+    parts.push(Part { text, done: 0 })?;
+    while let Some(part) = parts.pop() {
+        reading.read_part(part, &mut parts, columns, row)?;
     }
-    reading.add(rest)?;
     Ok(reading.out)
 }

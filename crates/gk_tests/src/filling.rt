@@ -45,7 +45,23 @@ const FILLINGS: &str = "<a><b> |a|b| |<b>|1| = 11
 <a |a| |1| = <a
 a><a>> |a| |1| = a>1>
 <ä><<ä>> |ä|é| |é|ü| = éü
-<a> | | = <a>";
+<a> | | = <a>
+<a>b> |a|b| |<|y| = y
+<a>b> |b|a| |1|<| = <b>
+<a>c> |a|b|c| |x<b>|<|y| = xy
+<b<a> |a|b| |>|2| = 2
+<b<a> |b|a| |2|>| = <b>
+<a>> |a|b| |x<b|y| = xy
+<a> |a|b| |<b><b>|1| = 11
+<a> |a|b|c| |<b><b>|<c><c>|1| = 1111
+<b> |a|b| |1|<a>| = <a>
+<a> |a|a| |<a>|1| = 1
+<<a>> |a|b| |b>|1| = 1>
+<<a>> |b|a| |1|<b| = <<b>
+<<a>c> |a|b|c| |b><|1|2| = 12
+<a>é |a|é| |é<é>|ü| = éüé
+<a><c> |a>b|c| |x|<a>| = <a><a>
+<a>b> |a>b|c| |<c>|1| = 1";
 
 #[test]
 fn texts_are_filled_column_by_column(rt: HostRuntime) -> Result<(), Fail> {
