@@ -9,7 +9,7 @@ use std::alloc::{AllocError, Global};
 use std::marker::Model;
 
 /// A `<` of a text that may open a placeholder.
-#[derive(Clone, Copy, Debug, PartialEq, Eq)]
+#[derive(Clone, Copy)]
 pub(crate) struct Open {
     /// The bytes before it.
     pub start: usize,
@@ -18,7 +18,7 @@ pub(crate) struct Open {
 }
 
 /// A text that is still to be read.
-#[derive(Clone, Copy, Debug, PartialEq, Eq)]
+#[derive(Clone, Copy)]
 pub(crate) struct Part<'t> {
     pub text: &'t str,
     /// As many columns are done in it.

@@ -3,7 +3,7 @@ use gk_document::{Location, Row, Step, Tag};
 use gk_line::{Block, Sequence, Text};
 
 /// What stands below the description of a block.
-#[derive(Debug, Drop)]
+#[derive(Drop)]
 pub(crate) enum Body {
     Bare,
     Steps(Sequence<Step>),
@@ -11,7 +11,7 @@ pub(crate) enum Body {
 }
 
 /// A block without the blocks below it. A feature has the number of the next node.
-#[derive(Debug, Drop)]
+#[derive(Drop)]
 pub(crate) struct Chunk {
     pub block: Block,
     pub node: u64,
