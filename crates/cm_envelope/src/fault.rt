@@ -20,7 +20,7 @@ pub enum ShapeFault {
 }
 
 /// Why an object could not be read: the name of its first bad member, or want of memory.
-#[derive(Debug, Drop)]
+#[derive(Drop)]
 pub(crate) enum MemberFault {
     Bad(&'static str),
     Memory,

@@ -39,14 +39,14 @@ pub enum Trouble {
 }
 
 // What a feed answers for good.
-#[derive(Clone, Copy, PartialEq, Eq)]
+#[derive(Clone, Copy)]
 pub enum Over {
     Ended,
     Failed(Trouble),
 }
 
 // A line of this length that a LF ends, or that the end of the bytes ends, or no line.
-#[derive(Clone, Copy, PartialEq, Eq)]
+#[derive(Clone, Copy)]
 enum Found {
     Whole(usize),
     Last(usize),

@@ -1,5 +1,5 @@
 /// The judged kinds of envelope.
-#[derive(Clone, Copy, Debug, Drop, PartialEq, Eq)]
+#[derive(Clone, Copy)]
 pub(crate) enum Kind {
     Source,
     GherkinDocument,
