@@ -1,9 +1,8 @@
 -- Filling a text in one reading is filling it column by column.
 use Rattle.std.proofs.Common.{◌≡◌, ℕ, zero, suc, ◌+◌, ◌-◌, ◌<◌, ◌≤◌, Bool, true, false, Option, None, Some, List, [], ◌∷◌, ◌++◌, length, take, drop, map, max, refl, sym, ap, ◌∙◌, ⊎_elim, subst, arith, append_assoc, append-nil, length-append, length-drop, le_refl}
-use Rattle.std.specs.Prelude.{find, nat_eq, nat_le, slice_get, option_map, option_and_then, bytes_eq, ◌==◌, ⊤}
-use Rattle.std.specs.Bool.{OnTrue}
+use Rattle.std.specs.Prelude.{Decides, find, nat_eq, nat_le, slice_get, option_map, option_and_then, bytes_eq, ◌==◌, ⊤}
 use Rattle.std.specs.List.{starts_with}
-use Rattle.std.proofs.lemmas.Bool.{cases_Bool, cond-true, cond-false, eqb-true, or_parts, le-leb, lt-leb, leb-true, leb-false, false_from_ne_true, false≢true, both_ways}
+use Rattle.std.proofs.lemmas.Bool.{cases_Bool, cond-true, cond-false, eqb-true, or_parts, le-leb, lt-leb, leb-true, leb-false, false_from_ne_true, both_ways}
 use Rattle.std.proofs.lemmas.List.{drop_at, take_at, drop-append-le}
 use Rattle.std.proofs.lemmas.Slice.Eq.{bytes_eq-Decides}
 use Rattle.gk_line.specs.declared.tokens.Cell.{Cell}
@@ -440,7 +439,6 @@ one_reading_fills text (n ∷ ns) (c ∷ cs) h =
     ∙ one_reading_fills (replaced (placeholder n.value) c.value text) ns cs h.1
 
 -- as columns fill whose names have no bracket
-pub row_fills : (has_none : Bool) (text : List ℕ) (header row : List Cell) → has_none ≡ true → OnTrue has_none (HaveNoBracket header)
+pub row_fills : (has_none : Bool) (text : List ℕ) (header row : List Cell) → has_none ≡ true → Decides has_none (HaveNoBracket header)
     → filled_in_one_reading text header row ≡ filled text header row
-row_fills true text header row is plain = one_reading_fills text header row plain
-row_fills false text header row is plain = absurd (false≢true is)
+row_fills has_none text header row is plain = one_reading_fills text header row (plain.0 is)

@@ -2,7 +2,7 @@
 ghost use Rattle.std.specs.Prelude.{◌≡◌, ◌++◌, ◌∷◌, [], ℕ, List, ◌<◌, length, IfOk, IfSome, OnOk, find, nat_le, if◌then◌else◌, option_map};
 ghost use Rattle.std.specs.List.Sorted.{IsNonDecreasing};
 ghost use Rattle.std.specs.Str.{bytes_eq};
-ghost use Rattle.std.specs.Bool.{OnTrue};
+ghost use Rattle.std.specs.Prelude.{Decides};
 ghost use Rattle.gk_pickle.specs.OneReading.{HaveNoBracket, columns_named, replacement};
 ghost use Rattle.gk_pickle.specs.Columns.{columns_at};
 
@@ -53,7 +53,7 @@ fn first_from(columns: &[usize], done: usize) -> Option<usize>
 
 /// Whether no cell has a bracket.
 pub(crate) fn have_no_bracket(cells: &[Cell]) -> bool
-    ensures { OnTrue result (HaveNoBracket cells.now) }
+    ensures { Decides result (HaveNoBracket cells.now) }
 {
     for cell in cells {
         if memchr2(b'<', b'>', cell.value.as_str().as_bytes()).is_some() {
@@ -73,7 +73,7 @@ pub(crate) struct Columns<'a> {
 
 impl<'a> Model for Columns<'a> {
     ghost use Rattle.std.specs.Prelude.{◌≡◌, ℕ, List};
-    ghost use Rattle.std.specs.Bool.{OnTrue};
+    ghost use Rattle.std.specs.Prelude.{Decides};
     ghost use Rattle.gk_line.specs.declared.tokens.Cell.{Cell as HeaderCell};
     ghost use Rattle.gk_pickle.specs.OneReading.{HaveNoBracket, columns_named};
     ghost use Rattle.gk_pickle.specs.Columns.{columns_at};
@@ -83,7 +83,7 @@ impl<'a> Model for Columns<'a> {
     ghost view = { λ c. c.header.now };
 
     ghost invariant = { λ c. ((name : List ℕ) → columns_at c.named name ≡ columns_named name c.header.now)
-        × OnTrue c.has_no_bracket (HaveNoBracket c.header.now) };
+        × Decides c.has_no_bracket (HaveNoBracket c.header.now) };
 }
 
 impl<'a> Columns<'a> {
@@ -108,7 +108,7 @@ impl<'a> Columns<'a> {
 
     /// Whether no name has a bracket.
     pub fn has_no_bracket(&self) -> bool
-        ensures { OnTrue result (HaveNoBracket self.now) }
+        ensures { Decides result (HaveNoBracket self.now) }
     {
         self.has_no_bracket
     }
