@@ -1,6 +1,6 @@
 -- Filling a text in one reading is filling it column by column.
-use Rattle.std.proofs.Common.{◌≡◌, ℕ, zero, suc, ◌+◌, ◌-◌, ◌<◌, ◌≤◌, Bool, true, false, Option, None, Some, List, [], ◌∷◌, ◌++◌, length, take, drop, map, max, refl, sym, ap, ◌∙◌, ⊎_elim, subst, arith, append_assoc, append-nil, length-append, length-drop, le_refl}
-use Rattle.std.specs.Prelude.{Decides, find, nat_eq, nat_le, slice_get, option_map, option_and_then, bytes_eq, ◌==◌, ⊤}
+use Rattle.std.proofs.Common.{◌≡◌, ℕ, zero, suc, ◌+◌, ◌-◌, ◌<◌, ◌≤◌, false, Option, None, Some, List, [], ◌∷◌, ◌++◌, length, take, drop, map, max, refl, sym, ap, ◌∙◌, ⊎_elim, subst, arith, append_assoc, append-nil, length-append, length-drop, le_refl}
+use Rattle.std.specs.Prelude.{find, nat_eq, nat_le, slice_get, option_map, option_and_then, bytes_eq, ◌==◌, ⊤}
 use Rattle.std.specs.List.{starts_with}
 use Rattle.std.proofs.lemmas.Bool.{cases_Bool, cond-true, cond-false, eqb-true, or_parts, le-leb, lt-leb, leb-true, leb-false, false_from_ne_true, both_ways}
 use Rattle.std.proofs.lemmas.List.{drop_at, take_at, drop-append-le}
@@ -8,7 +8,7 @@ use Rattle.std.proofs.lemmas.Slice.Eq.{bytes_eq-Decides}
 use Rattle.gk_line.specs.declared.tokens.Cell.{Cell}
 use Rattle.gk_pickle.specs.declared.one_reading.Open.{Open}
 use Rattle.gk_pickle.specs.Fill.{placeholder, replaced, filled}
-use Rattle.gk_pickle.specs.OneReading.{is_bracket, HasNoBracket, HaveNoBracket, columns_named, replacement, Reading, nothing_read, added, opened, raised, closed_by, closed_in, brought, step, read_by, read_to, filled_in_one_reading}
+use Rattle.gk_pickle.specs.OneReading.{is_bracket, HasNoBracket, HaveNoBracket, columns_named, replacement, Reading, nothing_read, added, opened, raised, closed_by, closed_in, brought, step, read_by, read_to, read}
 use Rattle.std.proofs.lemmas.Option.{slice_get_cases}
 use Rattle.gk_pickle.proofs.Replacing.{nowhere, starts, occurs, fits_of, first, not_at_front, length-placeholder}
 use Rattle.gk_pickle.proofs.Cutting.{split_at, place_of}
@@ -431,14 +431,9 @@ module _ (n : Cell) (ns : List Cell) (c : Cell) (cs : List Cell) where
         ∙ ap (λ t. (read_by by_others ns cs 0 t (shifted r)).out) (sym (not_at_front p c.value b bs (λ o. both_ways _ miss (starts (b ∷ bs) p o)))))
         (cases_Bool (starts_with nat_eq (b ∷ bs) p))
 
-pub one_reading_fills : (text : List ℕ) (header row : List Cell) → HaveNoBracket header → filled_in_one_reading text header row ≡ filled text header row
-one_reading_fills text [] row h = out_read (read_to (length row) [] row) [] row 0 (no_header row) text nothing_read
-one_reading_fills text (n ∷ ns) [] h = out_read (read_to 0 (n ∷ ns) []) (n ∷ ns) [] 0 (no_row (n ∷ ns)) text nothing_read
+pub one_reading_fills : (text : List ℕ) (header row : List Cell) → HaveNoBracket header → (read header row zero text nothing_read).out ≡ filled text header row
+one_reading_fills text [] row h = out_read (read_to (length row) [] row) [] row zero (no_header row) text nothing_read
+one_reading_fills text (n ∷ ns) [] h = out_read (read_to zero (n ∷ ns) []) (n ∷ ns) [] zero (no_row (n ∷ ns)) text nothing_read
 one_reading_fills text (n ∷ ns) (c ∷ cs) h =
     without_first n ns c cs h.0 (length text) text nothing_read (le_refl (length text)) tt
     ∙ one_reading_fills (replaced (placeholder n.value) c.value text) ns cs h.1
-
--- as columns fill whose names have no bracket
-pub row_fills : (has_none : Bool) (text : List ℕ) (header row : List Cell) → has_none ≡ true → Decides has_none (HaveNoBracket header)
-    → filled_in_one_reading text header row ≡ filled text header row
-row_fills has_none text header row is plain = one_reading_fills text header row (plain.0 is)

@@ -1,5 +1,6 @@
--- Filling a text in one reading: each `>` closes the innermost `<` that is open, and where a column has the name that stands
--- between them, its cell is read in their place, and only the columns after it fill what it brings.
+-- What one reading of a text has read and does, in the contracts of `src/one_reading` and of `src/columns`; no public contract needs it.
+-- Each `>` closes the innermost `<` that is open, and where a column has the name that stands between them, its cell is read in their
+-- place, and only the columns after it fill what it brings.
 use Rattle.std.specs.Prelude.{◌≡◌, ℕ, zero, suc, ◌+◌, ◌<◌, ◌≤◌, ⊤, get_or, Bool, false, ◌||◌, max, nat_le, ◌==◌, Option, None, Some, option_map, option_and_then, List, [], ◌∷◌, ◌++◌, map, length, take, drop, find, slice_get, if◌then◌else◌}
 use Rattle.std.specs.List.{AllByRecursion}
 use Rattle.std.specs.Str.{IsUtf8, bytes_eq}
@@ -85,9 +86,6 @@ read_to (suc depth) header row done text r = read_by (read_to depth header row) 
 -- each cell in a cell is of a later column
 abbrev pub read : List Cell → List Cell → ℕ → List ℕ → Reading → Reading
 read header row done text r = read_to (suc (length row)) header row done text r
-
-abbrev pub filled_in_one_reading : List ℕ → List Cell → List Cell → List ℕ
-filled_in_one_reading text header row = (read header row 0 text nothing_read).out
 
 -- texts that are still to be read, each where as many columns are done
 abbrev pub read_parts : List Cell → List Cell → List Part → Reading → Reading

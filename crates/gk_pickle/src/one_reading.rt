@@ -1,6 +1,7 @@
 //! Filling a text in one reading.
 ghost use Rattle.std.specs.Prelude.{◌≡◌, ◌++◌, ◌∷◌, ◌<◌, [], ℕ, List, length, reverse, string_bytes, true, IfNone, IfOk, IfSome, OnOk, option_map};
-ghost use Rattle.gk_pickle.specs.OneReading.{AreWithin, HasNoBracket, added, closed, filled_in_one_reading, is_bracket, nothing_read, opened, raised, read_parts, work};
+ghost use Rattle.gk_pickle.specs.Fill.{filled};
+ghost use Rattle.gk_pickle.specs.OneReading.{AreWithin, HasNoBracket, HaveNoBracket, added, closed, is_bracket, nothing_read, opened, raised, read_parts, work};
 
 use crate::columns::Columns;
 use gk_line::Cell;
@@ -150,14 +151,15 @@ fn cut_at_bracket(text: &str) -> Option<(&str, u8, &str)>
     Some((&text[..at], text.as_bytes()[at], &text[at + 1..]))
 }
 
-/// The text filled in one reading.
+/// The text, filled in one reading from a row under a header whose names have no bracket.
 pub(crate) fn fill_in_one_reading(
     alloc: Global,
     text: &str,
     columns: &Columns<'_>,
     row: &[Cell],
 ) -> Result<String, AllocError>
-    ensures { IfOk result (λ s. string_bytes s ≡ filled_in_one_reading text.now columns.now row.now) }
+    requires { HaveNoBracket columns.now }
+    ensures { IfOk result (λ s. string_bytes s ≡ filled text.now columns.now row.now) }
 {
     let mut reading = Reading::new(alloc);
     let mut parts = Vec::new(alloc);

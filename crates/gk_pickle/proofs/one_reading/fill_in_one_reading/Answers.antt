@@ -1,4 +1,5 @@
-use Rattle.std.proofs.Common.{arith}
+use Rattle.std.proofs.Common.{arith, rules}
+use Rattle.gk_pickle.proofs.Reading.{one_reading_fills}
 use Rattle.gk_pickle.proofs.Parts.{popped_within, popped_work}
 use Rattle.gk_pickle.proofs.one_reading.fill_in_one_reading.Goals as goal
 
@@ -7,3 +8,6 @@ read_part-requires c = popped_within c.args.row.now _ _ c.in-Some.part c.in-Some
 
 pub loop-part-smaller : goal.loop-part-smaller
 loop-part-smaller c = omega (arith, c.in_ok-read_part.ensures.less, popped_work c.args.row.now _ _ c.in-Some.part c.in-Some.ensures.items)
+
+pub returns : goal.returns
+returns c = rw (← one_reading_fills c.args.text.now c.args.columns.now c.args.row.now c.requires) search rules
