@@ -1,25 +1,11 @@
 //! `cukecheck`: reads Cucumber Messages or a feature file from standard input, and tells of them on standard output.
 #![tactic(auto)]
 
-mod audited;
-mod command_line;
-mod compiled;
-mod fault;
-mod feature;
-mod parsed;
-mod report;
-mod run;
-mod status;
-mod stream;
-mod text;
-mod write;
-
+use ck_commands::{TROUBLE_STATUS, run};
 use cm_envelope::{Reader, Writer};
-use run::run;
 use std::alloc::{AllocError, Global};
 use std::env;
 use std::process::ExitCode;
-use write::TROUBLE_STATUS;
 
 fn words_after_first(alloc: Global, given: &Vec<String>) -> Result<Vec<&str>, AllocError> {
     let mut words = Vec::new(alloc);
@@ -41,6 +27,3 @@ fn status_of(rt: &HostRuntime) -> Option<u8> {
 fn main(rt: HostRuntime) -> ExitCode {
     ExitCode::from(status_of(&rt).unwrap_or(TROUBLE_STATUS))
 }
-
-#[cfg(test)]
-mod tests;

@@ -1,0 +1,107 @@
+-- What the bytes of a source are as a feature file, and how that is told.
+use Rattle.std.specs.Prelude.{◌≡◌, ◌<◌, ◌≤◌, ◌⊎◌, ⊤, ℕ, List, [], ◌∷◌, ◌++◌, length, Bool, true, false, Result, Ok, Err, codes, decimal}
+use Rattle.std.specs.Str.{IsUtf8}
+use Rattle.cm_envelope.specs.Lines.{line_feed}
+use Rattle.gk_grammar.specs.Documents.{IsDocumentOf, HasFault, IsTooLong, byte_limit}
+use Rattle.gk_grammar.specs.Tree.{Document}
+use Rattle.gk_grammar.specs.declared.fault.FaultKind.{FaultKind}
+use Rattle.gk_grammar.specs.declared.fault.FaultKind.TheVariants as kind
+use Rattle.gk_tree.specs.Views.{too_long}
+use Rattle.gk_tree.specs.declared.fault.ParseFault.{ParseFault}
+use Rattle.ck_commands.specs.declared.text.TextFault.{TextFault}
+use Rattle.ck_commands.specs.declared.text.TextFault.TheVariants as text
+use Rattle.ck_commands.specs.declared.feature.FeatureFault.{FeatureFault}
+use Rattle.ck_commands.specs.declared.feature.FeatureFault.TheVariants.{Refused, ReadFailed, NotUtf8, Memory}
+
+-- ---- what the bytes are
+
+-- a text that isn't too long
+pub record IsReadable (bytes : List ℕ) : Type 0 where
+  pub utf8 : IsUtf8 bytes
+  pub short : IsTooLong bytes → ⊥
+
+-- more bytes than a text may have, or a text that is too long
+abbrev pub HasTooMany : List ℕ → Type 0
+HasTooMany bytes = (byte_limit < length bytes) ⊎ (IsUtf8 bytes × IsTooLong bytes)
+
+-- few enough, but no text
+abbrev pub IsNoText : List ℕ → Type 0
+IsNoText bytes = (length bytes ≤ byte_limit) × (IsUtf8 bytes → ⊥)
+
+-- why a feature file is refused: it is too long, or its text has the fault
+abbrev pub IsRefused : List ℕ → ParseFault → Type 0
+IsRefused bytes f = (HasTooMany bytes × (f ≡ too_long)) ⊎ (IsReadable bytes × HasFault bytes f.kind f.line f.column)
+
+-- Why the bytes give no document, where they could all be read. Memory may be refused of any.
+abbrev pub IsFaultOf : List ℕ → FeatureFault → Type 0
+IsFaultOf bytes (Refused f) = IsRefused bytes f
+IsFaultOf bytes NotUtf8 = IsNoText bytes
+IsFaultOf bytes ReadFailed = ⊥
+IsFaultOf bytes Memory = ⊤
+
+-- what the bytes are, where they could all be read
+abbrev pub IsAnswer : List ℕ → Result Document FeatureFault → Type 0
+IsAnswer bytes (Ok d) = IsReadable bytes × IsDocumentOf bytes d
+IsAnswer bytes (Err fault) = IsFaultOf bytes fault
+
+-- ---- how it is told
+
+-- the number and the name of a fault's kind
+abbrev pub kind_label : FaultKind → List ℕ
+kind_label kind.Unexpected = codes "1 Unexpected"
+kind_label kind.TagSpace = codes "2 TagSpace"
+kind_label kind.CellCount = codes "3 CellCount"
+kind_label kind.UnsupportedLanguage = codes "4 UnsupportedLanguage"
+kind_label kind.UnexpectedEnd = codes "5 UnexpectedEnd"
+kind_label kind.TooLong = codes "6 TooLong"
+kind_label kind.Memory = codes "7 Memory"
+
+-- `refused L:C N Name`
+abbrev pub refused_text : ParseFault → List ℕ
+refused_text f =
+    codes "refused " ++ decimal f.line ++ codes ":" ++ decimal f.column ++ codes " " ++ kind_label f.kind ++ line_feed ∷ []
+
+-- `ok nodes=N comments=C`
+abbrev pub document_text : Document → List ℕ
+document_text d = codes "ok nodes=" ++ decimal d.nodes ++ codes " comments=" ++ decimal (length d.comments) ++ line_feed ∷ []
+
+abbrev pub fault_text : FeatureFault → List ℕ
+fault_text (Refused f) = refused_text f
+fault_text ReadFailed = codes "trouble ReadFailed" ++ line_feed ∷ []
+fault_text NotUtf8 = codes "trouble NotUtf8" ++ line_feed ∷ []
+fault_text Memory = codes "trouble Memory" ++ line_feed ∷ []
+
+abbrev pub fault_status : FeatureFault → ℕ
+fault_status (Refused f) = 1
+fault_status ReadFailed = 3
+fault_status NotUtf8 = 3
+fault_status Memory = 3
+
+-- what the command `parse` writes, and its status
+abbrev pub answer_text : Result Document FeatureFault → List ℕ
+answer_text (Ok d) = document_text d
+answer_text (Err fault) = fault_text fault
+
+abbrev pub answer_status : Result Document FeatureFault → ℕ
+answer_status (Ok d) = 0
+answer_status (Err fault) = fault_status fault
+
+-- ---- how the code's faults become one
+
+abbrev pub of_text : TextFault → FeatureFault
+of_text text.ReadFailed = ReadFailed
+of_text text.TooLong = Refused too_long
+of_text text.NotUtf8 = NotUtf8
+of_text text.Memory = Memory
+
+abbrev pub of_kind : FaultKind → ParseFault → FeatureFault
+of_kind kind.Memory f = Memory
+of_kind _ f = Refused f
+
+abbrev pub of_parse : ParseFault → FeatureFault
+of_parse f = of_kind f.kind f
+
+-- a read failed
+abbrev pub has_no_bytes : {A : Type 0} → Result A FeatureFault → Bool
+has_no_bytes (Err ReadFailed) = true
+has_no_bytes _ = false

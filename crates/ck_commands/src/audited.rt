@@ -1,0 +1,171 @@
+//! The command `audit`: the verdict on a stream.
+ghost use Rattle.std.specs.Prelude.{◌≡◌, ◌≢◌, IfOk, IfSome, string_bytes};
+ghost use Rattle.cm_stream.specs.Findings.{named};
+ghost use Rattle.cm_stream.specs.Stream.{answer_for, answered, told};
+ghost use Rattle.ck_commands.specs.Audited.{IsGoodSomehow, TellsVerdict, counts_text, fault_label, plain_counts_text};
+ghost use Rattle.ck_commands.specs.Audited.{reason_label};
+ghost use Rattle.cm_stream.specs.Findings as bad;
+ghost use Rattle.ck_commands.specs.Audited.{unrun_text, verdict_status, verdict_text};
+ghost use Rattle.ck_commands.specs.Run.{NoneFailed};
+
+use crate::report::{BAD_LINE_STATUS, Report, name_of};
+use crate::write::{NO_MEMORY, TROUBLE_STATUS, write_text};
+use cm_audit::audit;
+use cm_envelope::{ByteSink, ByteSource, Trouble};
+use cm_stream::{Bad, Counts, Reason, Verdict};
+use std::alloc::{AllocError, Global};
+
+/// The status where a stream is not judged.
+const UNSUPPORTED_STATUS: u8 = 4;
+
+fn field_text(alloc: Global, kind: &str, member: &str) -> Result<String, AllocError>
+    ensures { IfOk result (λ text. string_bytes text ≡ fault_label (bad.Field kind.now member.now)) }
+{
+    let text = format!(in alloc; "3 Field {kind}.{member}")?;
+    Ok(text)
+}
+
+// The number and the name of a fault, and for a bad member its kind of envelope and its name.
+fn fault_text(alloc: Global, fault: Bad) -> Result<String, AllocError>
+    ensures { IfOk result (λ text. string_bytes text ≡ fault_label (named fault)) }
+{
+    let label = match fault {
+        Bad::NotJson => "1 NotJson",
+        Bad::Shape => "2 Shape",
+        Bad::Field(kind, member) => return field_text(alloc, kind, member),
+        Bad::DuplicateId => "4 DuplicateId",
+        Bad::DuplicateUri => "5 DuplicateUri",
+        Bad::UnknownReference => "6 UnknownReference",
+        Bad::DocumentOfRefusedSource => "7 DocumentOfRefusedSource",
+        Bad::TreeDiffers => "8 TreeDiffers",
+        Bad::PickleDiffers => "9 PickleDiffers",
+        Bad::ParseErrorOfGoodSource => "10 ParseErrorOfGoodSource",
+        Bad::CaseStepsDiffer => "11 CaseStepsDiffer",
+        Bad::AttemptNumber => "12 AttemptNumber",
+        Bad::AttemptOverlap => "13 AttemptOverlap",
+        Bad::StepOrder => "14 StepOrder",
+        Bad::FinishedEarly => "15 FinishedEarly",
+        Bad::SecondRunStarted => "16 SecondRunStarted",
+        Bad::OutsideRun => "17 OutsideRun",
+        Bad::AfterRunFinished => "18 AfterRunFinished",
+        Bad::AttemptOpen => "19 AttemptOpen",
+        Bad::SourceIncomplete => "20 SourceIncomplete",
+        Bad::SuccessDiffers => "21 SuccessDiffers",
+        Bad::NoRunFinished => "22 NoRunFinished",
+    };
+    Ok(String::from_str(alloc, label)?)
+}
+
+fn reason_text(alloc: Global, reason: Reason) -> Result<String, AllocError>
+    ensures { IfOk result (λ text. string_bytes text ≡ reason_label reason) }
+{
+    let label = match reason {
+        Reason::Language => "1 Language",
+        Reason::MediaType => "2 MediaType",
+        Reason::UnknownStatus => "3 UnknownStatus",
+        Reason::RunHook => "4 RunHook",
+        Reason::SourceTooLong => "5 SourceTooLong",
+    };
+    Ok(String::from_str(alloc, label)?)
+}
+
+fn plain_text(alloc: Global, counts: Counts) -> Result<String, AllocError>
+    ensures { IfOk result (λ text. string_bytes text ≡ plain_counts_text counts) }
+{
+    let Counts {
+        sources,
+        pickles,
+        cases,
+        attempts,
+        ..
+    } = counts;
+    let text = format!(in alloc;
+        "good sources={sources} pickles={pickles} cases={cases} attempts={attempts}"
+    )?;
+    Ok(text)
+}
+
+// The pickles that no case names, where there are any.
+fn unrun_part(alloc: Global, unrun: u64) -> Result<String, AllocError>
+    ensures { IfOk result (λ text. string_bytes text ≡ unrun_text unrun) }
+{
+    if unrun == 0 {
+        return Ok(String::new(alloc));
+    }
+    let text = format!(in alloc; " unrun={unrun}")?;
+    Ok(text)
+}
+
+fn good_text(alloc: Global, counts: Counts) -> Result<String, AllocError>
+    ensures { IfOk result (λ text. string_bytes text ≡ counts_text counts) }
+{
+    let mut text = plain_text(alloc, counts)?;
+    text.push_str(unrun_part(alloc, counts.unrun)?.as_str())?;
+    text.push_str("\n")?;
+    Ok(text)
+}
+
+fn bad_text(alloc: Global, line: u64, fault: Bad) -> Result<String, AllocError>
+    ensures { IfOk result (λ text. string_bytes text ≡ verdict_text (answered (Ok (Verdict.Bad line fault)))) }
+{
+    let label = fault_text(alloc, fault)?;
+    let text = format!(in alloc; "bad line {line}: {label}\n")?;
+    Ok(text)
+}
+
+fn unsupported_text(alloc: Global, line: u64, reason: Reason) -> Result<String, AllocError>
+    ensures { IfOk result (λ text. string_bytes text ≡ verdict_text (answered (Ok (Verdict.Unsupported line reason)))) }
+{
+    let label = reason_text(alloc, reason)?;
+    let text = format!(in alloc; "unsupported line {line}: {label}\n")?;
+    Ok(text)
+}
+
+/// The report of what an audit answered.
+fn verdict_report(alloc: Global, answer: &Result<Verdict, Trouble>) -> Result<Report, AllocError>
+    ensures text { IfOk result (λ report. string_bytes report.text ≡ verdict_text (answered answer.now)) }
+    ensures status { IfOk result (λ report. report.status ≡ verdict_status (answered answer.now)) }
+{
+    match answer {
+        Ok(Verdict::Good(counts)) => Ok(Report {
+            text: good_text(alloc, *counts)?,
+            status: 0,
+        }),
+        Ok(Verdict::Bad { line, fault }) => Ok(Report {
+            text: bad_text(alloc, *line, *fault)?,
+            status: BAD_LINE_STATUS,
+        }),
+        Ok(Verdict::Unsupported { line, reason }) => Ok(Report {
+            text: unsupported_text(alloc, *line, *reason)?,
+            status: UNSUPPORTED_STATUS,
+        }),
+        Err(trouble) => {
+            let name = name_of(*trouble);
+            Ok(Report {
+                text: format!(in alloc; "trouble {name}\n")?,
+                status: TROUBLE_STATUS,
+            })
+        }
+    }
+}
+
+/// Audits the source and tells the verdict, and gives the status.
+pub(crate) fn audit_stream<R: ByteSource, W: ByteSink>(
+    alloc: Global,
+    source: &mut R,
+    sink: &mut W,
+) -> u8
+    ensures told { NoneFailed (R.failed_calls source.old) (R.failed_calls source.new)
+        → NoneFailed (W.failed_calls sink.old) (W.failed_calls sink.new)
+        → IfSome (R.to_come source.old) (λ bytes.
+        TellsVerdict (answer_for (told bytes)) result (W.taken sink.old) (W.taken sink.new)) }
+    ensures good { result ≡ 0 → IfSome (R.to_come source.old) IsGoodSomehow }
+    ensures unwritten { W.failed_calls sink.new ≢ W.failed_calls sink.old → result ≡ TROUBLE_STATUS }
+    ensures unread { result ≡ 0 → R.failed_calls source.new ≡ R.failed_calls source.old }
+{
+    let answer = audit(alloc, source);
+    match verdict_report(alloc, &answer) {
+        Ok(report) => write_text(sink, report.text.as_str(), report.status),
+        Err(AllocError) => write_text(sink, NO_MEMORY, TROUBLE_STATUS),
+    }
+}

@@ -1,0 +1,128 @@
+//! Feature files by the command `compile`.
+use crate::runs::{Sink, Source, expect_run, taking, whole};
+use ck_commands::run;
+use std::alloc::Global;
+use std::process::Abort;
+
+const NO_LINES: &str =
+    r#"{"source":{"data":"","mediaType":"text/x.cucumber.gherkin+plain","uri":"e.feature"}}
+{"gherkinDocument":{"comments":[],"uri":"e.feature"}}
+"#;
+
+const TEXT: &str = "Feature: f\n\n  Scenario: s\n    Given a\n";
+
+const LINES: &str =
+    r#"{"source":{"data":"Feature: f\n\n  Scenario: s\n    Given a\n","mediaType":"text/x.cucumber.gherkin+plain","uri":"a.feature"}}
+{"gherkinDocument":{"comments":[],"feature":{"children":[{"scenario":{"description":"","examples":[],"id":"0","keyword":"Scenario","location":{"column":3,"line":3},"name":"s","steps":[{"id":"1","keyword":"Given ","keywordType":"Context","location":{"column":5,"line":4},"text":"a"}],"tags":[]}}],"description":"","keyword":"Feature","language":"en","location":{"column":1,"line":1},"name":"f","tags":[]},"uri":"a.feature"}}
+{"pickle":{"astNodeIds":["0"],"id":"3","language":"en","name":"s","steps":[{"astNodeIds":["1"],"id":"2","text":"a","type":"Context"}],"tags":[],"uri":"a.feature"}}
+"#;
+
+fn expect_lines(
+    rt: &impl Abort,
+    alloc: Global,
+    words: &[&str],
+    text: &str,
+    told: &str,
+    status: u8,
+) {
+    let mut source = whole(text.as_bytes());
+    let mut sink = taking(alloc, 7);
+    expect_run(rt, alloc, words, &mut source, &mut sink, told, status);
+}
+
+#[test]
+fn the_lines_of_features(rt: HostRuntime) {
+    let alloc = rt.alloc();
+    expect_lines(
+        &rt,
+        alloc,
+        &["compile", "--uri", "e.feature"],
+        "",
+        NO_LINES,
+        0,
+    );
+    expect_lines(&rt, alloc, &["compile", "--uri=a.feature"], TEXT, LINES, 0);
+}
+
+#[test]
+fn nothing_else_of_a_refused_text(rt: HostRuntime) {
+    let words = ["compile", "--uri", "u"];
+    expect_lines(
+        &rt,
+        rt.alloc(),
+        &words,
+        "Given x\nFeature: f",
+        "refused 1:1 1 Unexpected\n",
+        1,
+    );
+    expect_lines(
+        &rt,
+        rt.alloc(),
+        &words,
+        "# language: en",
+        "refused 2:1 5 UnexpectedEnd\n",
+        1,
+    );
+}
+
+#[test]
+fn a_read_that_fails_before_any_line(rt: HostRuntime) {
+    let mut source = Source {
+        fails: true,
+        ..whole(b"Feature: f\n  Scenari")
+    };
+    let mut sink = taking(rt.alloc(), 7);
+    let words = ["compile", "--uri", "u"];
+    let told = "trouble ReadFailed\n";
+    expect_run(&rt, rt.alloc(), &words, &mut source, &mut sink, told, 3);
+}
+
+#[test]
+fn a_write_that_fails_after_100_bytes(rt: HostRuntime) {
+    for takes_none in [false, true] {
+        let mut source = whole(TEXT.as_bytes());
+        let mut sink = Sink {
+            fails_at: 2,
+            takes_none,
+            ..taking(rt.alloc(), 100)
+        };
+        let words = ["compile", "--uri", "a.feature"];
+        assert_eq!(rt; run(rt.alloc(), &words, &mut source, &mut sink), 3);
+        assert_eq!(rt; sink.failed_calls, 1);
+        let taken = sink.taken.as_slice();
+        assert!(rt; taken.starts_with(&LINES.as_bytes()[..100]));
+        assert!(rt; taken.ends_with(b"trouble WriteFailed\n"));
+        assert_eq!(rt; taken.len(), 120);
+    }
+}
+
+#[test]
+fn lines_whose_flush_fails(rt: HostRuntime) {
+    let mut source = whole(TEXT.as_bytes());
+    let mut sink = Sink {
+        flush_fails: true,
+        ..taking(rt.alloc(), 7)
+    };
+    let words = ["compile", "--uri", "a.feature"];
+    expect_run(&rt, rt.alloc(), &words, &mut source, &mut sink, LINES, 3);
+}
+
+// Words that `clap` takes and words that it refuses, with the status.
+#[test]
+fn the_words_of_a_uri(rt: HostRuntime) {
+    let cases: [(&[&str], u8); 7] = [
+        (&["compile"], 2),
+        (&["compile", "--uri"], 2),
+        (&["compile", "--uri", "-x"], 2),
+        (&["compile", "--uri", "u", "--uri", "v"], 2),
+        (&["compile", "--uri="], 0),
+        (&["compile", "--uri=-x"], 0),
+        (&["compile", "--help"], 0),
+    ];
+    for (words, status) in cases {
+        let mut source = whole(b"");
+        let mut sink = taking(rt.alloc(), 7);
+        assert_eq!(rt; run(rt.alloc(), words, &mut source, &mut sink), status);
+        assert!(rt; !sink.taken.is_empty());
+    }
+}

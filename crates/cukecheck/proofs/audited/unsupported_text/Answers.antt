@@ -1,5 +1,0 @@
-use Rattle.std.proofs.Common.{◌∙◌, sym, refl, append_assoc}
-use Rattle.cukecheck.proofs.audited.unsupported_text.Goals as goal
-
-pub returns : goal.returns
-returns c = c.in_ok-text.ensures.ok ∙ sym (simp (append_assoc, c.in_ok-label.ensures) refl)
