@@ -4,7 +4,7 @@ use gk_document::Document;
 use gk_line::{Sequence, Text};
 
 /// What a line of a stream says, as the schema `Envelope` of the Cucumber Messages has it.
-#[derive(Clone, Debug, PartialEq, Eq, Drop)]
+#[derive(Debug, PartialEq, Eq, Drop)]
 pub enum Envelope {
     Source(Source),
     GherkinDocument(GherkinDocument),
@@ -27,7 +27,7 @@ pub enum Envelope {
 }
 
 /// The text of a feature file.
-#[derive(Clone, Debug, PartialEq, Eq, Drop)]
+#[derive(Debug, PartialEq, Eq, Drop)]
 pub struct Source {
     pub uri: Text,
     /// The member `data`.
@@ -37,7 +37,7 @@ pub struct Source {
 
 /// The tree of a feature file. Only what is judged of it is read: columns are 0, descriptions empty, comments none, fences
 /// `Quotes` and keyword types `Unknown`.
-#[derive(Clone, Debug, PartialEq, Eq, Drop)]
+#[derive(Debug, PartialEq, Eq, Drop)]
 pub struct GherkinDocument {
     pub uri: Text,
     pub document: Document,
@@ -46,31 +46,31 @@ pub struct GherkinDocument {
 }
 
 /// A feature file that the producer could not parse.
-#[derive(Clone, Debug, PartialEq, Eq, Drop)]
+#[derive(Debug, PartialEq, Eq, Drop)]
 pub struct ParseError {
     pub source: SourceReference,
 }
 
 /// Where a parse error stands.
-#[derive(Clone, Debug, PartialEq, Eq, Drop)]
+#[derive(Debug, PartialEq, Eq, Drop)]
 pub struct SourceReference {
     pub uri: Text,
 }
 
 /// Code that a step may run.
-#[derive(Clone, Debug, PartialEq, Eq, Drop)]
+#[derive(Debug, PartialEq, Eq, Drop)]
 pub struct StepDefinition {
     pub id: Text,
 }
 
 /// Code that runs around steps, cases or the run.
-#[derive(Clone, Debug, PartialEq, Eq, Drop)]
+#[derive(Debug, PartialEq, Eq, Drop)]
 pub struct Hook {
     pub id: Text,
 }
 
 /// A pickle that is prepared to be run.
-#[derive(Clone, Debug, PartialEq, Eq, Drop)]
+#[derive(Debug, PartialEq, Eq, Drop)]
 pub struct TestCase {
     pub id: Text,
     pub pickle_id: Text,
@@ -79,7 +79,7 @@ pub struct TestCase {
 }
 
 /// A step of a test case. It has exactly one of `hook_id` and `pickle_step_id`.
-#[derive(Clone, Debug, PartialEq, Eq, Drop)]
+#[derive(Debug, PartialEq, Eq, Drop)]
 pub struct TestStep {
     pub id: Text,
     pub hook_id: Option<Text>,
@@ -88,13 +88,13 @@ pub struct TestStep {
 }
 
 /// The start of the run.
-#[derive(Clone, Debug, PartialEq, Eq, Drop)]
+#[derive(Debug, PartialEq, Eq, Drop)]
 pub struct TestRunStarted {
     pub id: Option<Text>,
 }
 
 /// The start of an attempt at a test case.
-#[derive(Clone, Debug, PartialEq, Eq, Drop)]
+#[derive(Debug, PartialEq, Eq, Drop)]
 pub struct TestCaseStarted {
     pub id: Text,
     pub test_case_id: Text,
@@ -103,14 +103,14 @@ pub struct TestCaseStarted {
 }
 
 /// The start of a test step in an attempt.
-#[derive(Clone, Debug, PartialEq, Eq, Drop)]
+#[derive(Debug, PartialEq, Eq, Drop)]
 pub struct TestStepStarted {
     pub test_case_started_id: Text,
     pub test_step_id: Text,
 }
 
 /// The end of a test step in an attempt.
-#[derive(Clone, Debug, PartialEq, Eq, Drop)]
+#[derive(Debug, PartialEq, Eq, Drop)]
 pub struct TestStepFinished {
     pub test_case_started_id: Text,
     pub test_step_id: Text,
@@ -124,14 +124,14 @@ pub struct TestStepResult {
 }
 
 /// The end of an attempt at a test case.
-#[derive(Clone, Debug, PartialEq, Eq, Drop)]
+#[derive(Debug, PartialEq, Eq, Drop)]
 pub struct TestCaseFinished {
     pub test_case_started_id: Text,
     pub will_be_retried: bool,
 }
 
 /// The end of the run.
-#[derive(Clone, Debug, PartialEq, Eq, Drop)]
+#[derive(Debug, PartialEq, Eq, Drop)]
 pub struct TestRunFinished {
     pub test_run_started_id: Option<Text>,
     pub success: bool,
@@ -140,7 +140,7 @@ pub struct TestRunFinished {
 }
 
 /// Data that a test step, an attempt or the run leaves.
-#[derive(Clone, Debug, PartialEq, Eq, Drop)]
+#[derive(Debug, PartialEq, Eq, Drop)]
 pub struct Attachment {
     pub test_case_started_id: Option<Text>,
     pub test_step_id: Option<Text>,

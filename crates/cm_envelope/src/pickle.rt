@@ -2,7 +2,7 @@
 use gk_line::{Sequence, Text};
 
 /// A scenario that is ready to be run.
-#[derive(Clone, Debug, PartialEq, Eq, Drop)]
+#[derive(Debug, PartialEq, Eq, Drop)]
 pub struct Pickle {
     pub id: Text,
     pub uri: Text,
@@ -15,14 +15,14 @@ pub struct Pickle {
 }
 
 /// A tag of a pickle, its name with the `@`.
-#[derive(Clone, Debug, PartialEq, Eq, Drop)]
+#[derive(Debug, PartialEq, Eq, Drop)]
 pub struct PickleTag {
     pub name: Text,
     pub ast_node_id: Text,
 }
 
 /// A step of a pickle.
-#[derive(Clone, Debug, PartialEq, Eq, Drop)]
+#[derive(Debug, PartialEq, Eq, Drop)]
 pub struct PickleStep {
     pub id: Text,
     pub text: Text,
@@ -42,29 +42,29 @@ pub enum StepKind {
 }
 
 /// What stands below a step.
-#[derive(Clone, Debug, PartialEq, Eq, Drop)]
+#[derive(Debug, PartialEq, Eq, Drop)]
 pub enum PickleArgument {
     Table(PickleTable),
     Text(PickleDocString),
 }
 
-#[derive(Clone, Debug, PartialEq, Eq, Drop)]
+#[derive(Debug, PartialEq, Eq, Drop)]
 pub struct PickleTable {
     pub rows: Sequence<PickleRow>,
 }
 
-#[derive(Clone, Debug, PartialEq, Eq, Drop)]
+#[derive(Debug, PartialEq, Eq, Drop)]
 pub struct PickleRow {
     pub cells: Sequence<PickleCell>,
 }
 
-#[derive(Clone, Debug, PartialEq, Eq, Drop)]
+#[derive(Debug, PartialEq, Eq, Drop)]
 pub struct PickleCell {
     pub value: Text,
 }
 
 /// A doc string. An empty media type is none.
-#[derive(Clone, Debug, PartialEq, Eq, Drop)]
+#[derive(Debug, PartialEq, Eq, Drop)]
 pub struct PickleDocString {
     pub content: Text,
     pub media_type: Option<Text>,

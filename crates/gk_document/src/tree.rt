@@ -9,7 +9,7 @@ pub struct Location {
 }
 
 /// A tag, its name with the `@`.
-#[derive(Clone, Debug, PartialEq, Eq, Drop)]
+#[derive(Debug, PartialEq, Eq, Drop)]
 pub struct Tag {
     pub node: u64,
     pub location: Location,
@@ -17,7 +17,7 @@ pub struct Tag {
 }
 
 /// A row of a data table or of an examples table.
-#[derive(Clone, Debug, PartialEq, Eq, Drop)]
+#[derive(Debug, PartialEq, Eq, Drop)]
 pub struct Row {
     pub node: u64,
     pub location: Location,
@@ -25,7 +25,7 @@ pub struct Row {
 }
 
 /// A doc string. An empty media type is none.
-#[derive(Clone, Debug, PartialEq, Eq, Drop)]
+#[derive(Debug, PartialEq, Eq, Drop)]
 pub struct DocString {
     pub location: Location,
     pub media: Option<Text>,
@@ -34,14 +34,14 @@ pub struct DocString {
 }
 
 /// What stands below a step.
-#[derive(Clone, Debug, PartialEq, Eq, Drop)]
+#[derive(Debug, PartialEq, Eq, Drop)]
 pub enum Argument {
     Table(Sequence<Row>),
     Text(DocString),
 }
 
 /// A step, its keyword with the space that ends it.
-#[derive(Clone, Debug, PartialEq, Eq, Drop)]
+#[derive(Debug, PartialEq, Eq, Drop)]
 pub struct Step {
     pub node: u64,
     pub location: Location,
@@ -52,7 +52,7 @@ pub struct Step {
 }
 
 /// Steps that stand before those of each scenario.
-#[derive(Clone, Debug, PartialEq, Eq, Drop)]
+#[derive(Debug, PartialEq, Eq, Drop)]
 pub struct Background {
     pub node: u64,
     pub location: Location,
@@ -63,14 +63,14 @@ pub struct Background {
 }
 
 /// The table of an examples block.
-#[derive(Clone, Debug, PartialEq, Eq, Drop)]
+#[derive(Debug, PartialEq, Eq, Drop)]
 pub struct ExampleTable {
     pub header: Row,
     pub body: Sequence<Row>,
 }
 
 /// An examples block of a scenario.
-#[derive(Clone, Debug, PartialEq, Eq, Drop)]
+#[derive(Debug, PartialEq, Eq, Drop)]
 pub struct Examples {
     pub node: u64,
     pub location: Location,
@@ -82,7 +82,7 @@ pub struct Examples {
 }
 
 /// A scenario, or a scenario outline where it has examples blocks.
-#[derive(Clone, Debug, PartialEq, Eq, Drop)]
+#[derive(Debug, PartialEq, Eq, Drop)]
 pub struct Scenario {
     pub node: u64,
     pub location: Location,
@@ -95,7 +95,7 @@ pub struct Scenario {
 }
 
 /// A rule with its background and scenarios.
-#[derive(Clone, Debug, PartialEq, Eq, Drop)]
+#[derive(Debug, PartialEq, Eq, Drop)]
 pub struct Rule {
     pub node: u64,
     pub location: Location,
@@ -108,7 +108,7 @@ pub struct Rule {
 }
 
 /// The feature of a document.
-#[derive(Clone, Debug, PartialEq, Eq, Drop)]
+#[derive(Debug, PartialEq, Eq, Drop)]
 pub struct Feature {
     pub location: Location,
     pub tags: Sequence<Tag>,
@@ -122,14 +122,14 @@ pub struct Feature {
 }
 
 /// A comment line: the whole line with its indent, at column 1.
-#[derive(Clone, Debug, PartialEq, Eq, Drop)]
+#[derive(Debug, PartialEq, Eq, Drop)]
 pub struct Comment {
     pub location: Location,
     pub text: Text,
 }
 
 /// The tree of a feature file.
-#[derive(Clone, Debug, PartialEq, Eq, Drop)]
+#[derive(Debug, PartialEq, Eq, Drop)]
 pub struct Document {
     /// None where the file has only comments and blank lines.
     pub feature: Option<Feature>,

@@ -11,28 +11,28 @@ pub enum StepType {
 }
 
 /// A tag that a pickle takes from the document, its name with the `@`, and the tag's node.
-#[derive(Clone, Debug, PartialEq, Eq, Drop)]
+#[derive(Debug, PartialEq, Eq, Drop)]
 pub struct PickleTag {
     pub name: Text,
     pub node: u64,
 }
 
 /// A doc string after filling. An empty media type is none.
-#[derive(Clone, Debug, PartialEq, Eq, Drop)]
+#[derive(Debug, PartialEq, Eq, Drop)]
 pub struct PickleDocString {
     pub media: Option<Text>,
     pub content: Text,
 }
 
 /// What stands below a step, after filling: the rows of a table with the values of their cells, or a doc string.
-#[derive(Clone, Debug, PartialEq, Eq, Drop)]
+#[derive(Debug, PartialEq, Eq, Drop)]
 pub enum PickleArgument {
     Table(Sequence<Sequence<Text>>),
     Text(PickleDocString),
 }
 
 /// A step of a pickle. It names its step, and the row that fills it where it is an outline's own.
-#[derive(Clone, Debug, PartialEq, Eq, Drop)]
+#[derive(Debug, PartialEq, Eq, Drop)]
 pub struct PickleStep {
     pub text: Text,
     pub kind: StepType,
@@ -41,7 +41,7 @@ pub struct PickleStep {
 }
 
 /// One scenario to run. It names the scenario, and the row that fills it where it is of an outline.
-#[derive(Clone, Debug, PartialEq, Eq, Drop)]
+#[derive(Debug, PartialEq, Eq, Drop)]
 pub struct Pickle {
     pub name: Text,
     pub nodes: Sequence<u64>,
