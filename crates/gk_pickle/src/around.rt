@@ -51,7 +51,7 @@ impl<'c, 'h, 'r> Model for Filling<'c, 'h, 'r> {
 
 impl<'c, 'h, 'r> Filling<'c, 'h, 'r> {
     /// Where there are no examples.
-    pub fn none() -> Filling<'static, 'static, 'static>
+    pub(crate) fn none() -> Filling<'static, 'static, 'static>
         ensures { result ≡ unfilled }
     {
         Filling {
@@ -61,7 +61,7 @@ impl<'c, 'h, 'r> Filling<'c, 'h, 'r> {
     }
 
     /// Of one body row under its header's columns.
-    pub fn of_row(columns: &'c Columns<'h>, row: &'r Row) -> Filling<'c, 'h, 'r>
+    pub(crate) fn of_row(columns: &'c Columns<'h>, row: &'r Row) -> Filling<'c, 'h, 'r>
         ensures { result ≡ record { header = columns.now; cells = row.now.cells; rows = row.now.node ∷ [] } }
     {
         Filling {
@@ -71,7 +71,7 @@ impl<'c, 'h, 'r> Filling<'c, 'h, 'r> {
     }
 
     /// The text, filled.
-    pub fn text(&self, alloc: Global, text: &str) -> Result<Text, AllocError>
+    pub(crate) fn text(&self, alloc: Global, text: &str) -> Result<Text, AllocError>
         ensures { IfOk result (λ t. t ≡ filled_by self.now text.now) }
     {
         match &self.row {
@@ -81,7 +81,7 @@ impl<'c, 'h, 'r> Filling<'c, 'h, 'r> {
     }
 
     /// A node, and the row's where there is one.
-    pub fn nodes(&self, alloc: Global, node: u64) -> Result<Sequence<u64>, AllocError>
+    pub(crate) fn nodes(&self, alloc: Global, node: u64) -> Result<Sequence<u64>, AllocError>
         ensures { IfOk result (λ nodes. nodes ≡ node ∷ self.now.rows) }
     {
         let mut nodes = Sequence::new(alloc);

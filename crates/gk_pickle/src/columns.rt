@@ -88,7 +88,7 @@ impl<'a> Model for Columns<'a> {
 
 impl<'a> Columns<'a> {
     /// Of a header.
-    pub fn of(alloc: Global, header: &'a [Cell]) -> Result<Columns<'a>, AllocError>
+    pub(crate) fn of(alloc: Global, header: &'a [Cell]) -> Result<Columns<'a>, AllocError>
         ensures { IfOk result (λ columns. columns ≡ header.now) }
     {
         let named = named(alloc, header)?;
@@ -100,21 +100,21 @@ impl<'a> Columns<'a> {
         })
     }
 
-    pub fn header(&self) -> &'a [Cell]
+    pub(crate) fn header(&self) -> &'a [Cell]
         ensures { result.now ≡ self.now }
     {
         self.header
     }
 
     /// Whether no name has a bracket.
-    pub fn has_no_bracket(&self) -> bool
+    pub(crate) fn has_no_bracket(&self) -> bool
         ensures { Decides result (HaveNoBracket self.now) }
     {
         self.has_no_bracket
     }
 
     /// The first column from `done` on that has the name, with its cell, where the row has one.
-    pub fn replacement<'r>(
+    pub(crate) fn replacement<'r>(
         &self,
         row: &'r [Cell],
         done: usize,
