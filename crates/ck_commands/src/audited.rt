@@ -8,7 +8,7 @@ ghost use Rattle.cm_stream.specs.Findings as bad;
 ghost use Rattle.ck_commands.specs.Audited.{unrun_text, verdict_status, verdict_text};
 ghost use Rattle.ck_commands.specs.Run.{NoneFailed};
 
-use crate::report::{BAD_LINE_STATUS, Report, name_of};
+use crate::report::{BAD_LINE_STATUS, Report, trouble_text};
 use crate::write::{NO_MEMORY, TROUBLE_STATUS, write_text};
 use cm_audit::audit;
 use cm_envelope::{ByteSink, ByteSource, Trouble};
@@ -56,17 +56,16 @@ fn fault_text(alloc: Global, fault: Bad) -> Result<String, AllocError>
     Ok(String::from_str(alloc, label)?)
 }
 
-fn reason_text(alloc: Global, reason: Reason) -> Result<String, AllocError>
-    ensures { IfOk result (λ text. string_bytes text ≡ reason_label reason) }
+fn reason_name(reason: Reason) -> &'static str
+    ensures { result.now ≡ reason_label reason }
 {
-    let label = match reason {
+    match reason {
         Reason::Language => "1 Language",
         Reason::MediaType => "2 MediaType",
         Reason::UnknownStatus => "3 UnknownStatus",
         Reason::RunHook => "4 RunHook",
         Reason::SourceTooLong => "5 SourceTooLong",
-    };
-    Ok(String::from_str(alloc, label)?)
+    }
 }
 
 fn plain_text(alloc: Global, counts: Counts) -> Result<String, AllocError>
@@ -116,9 +115,33 @@ fn bad_text(alloc: Global, line: u64, fault: Bad) -> Result<String, AllocError>
 fn unsupported_text(alloc: Global, line: u64, reason: Reason) -> Result<String, AllocError>
     ensures { IfOk result (λ text. string_bytes text ≡ verdict_text (answered (Ok (Verdict.Unsupported line reason)))) }
 {
-    let label = reason_text(alloc, reason)?;
+    let label = reason_name(reason);
     let text = format!(in alloc; "unsupported line {line}: {label}\n")?;
     Ok(text)
+}
+
+/// The text that tells what an audit answered.
+fn verdict_words(alloc: Global, answer: &Result<Verdict, Trouble>) -> Result<String, AllocError>
+    ensures { IfOk result (λ text. string_bytes text ≡ verdict_text (answered answer.now)) }
+{
+    match answer {
+        Ok(Verdict::Good(counts)) => good_text(alloc, *counts),
+        Ok(Verdict::Bad { line, fault }) => bad_text(alloc, *line, *fault),
+        Ok(Verdict::Unsupported { line, reason }) => unsupported_text(alloc, *line, *reason),
+        Err(trouble) => trouble_text(alloc, *trouble),
+    }
+}
+
+/// The status of what an audit answered.
+fn verdict_code(answer: &Result<Verdict, Trouble>) -> u8
+    ensures { result ≡ verdict_status (answered answer.now) }
+{
+    match answer {
+        Ok(Verdict::Good(_)) => 0,
+        Ok(Verdict::Bad { .. }) => BAD_LINE_STATUS,
+        Ok(Verdict::Unsupported { .. }) => UNSUPPORTED_STATUS,
+        Err(_) => TROUBLE_STATUS,
+    }
 }
 
 /// The report of what an audit answered.
@@ -126,27 +149,9 @@ fn verdict_report(alloc: Global, answer: &Result<Verdict, Trouble>) -> Result<Re
     ensures text { IfOk result (λ report. string_bytes report.text ≡ verdict_text (answered answer.now)) }
     ensures status { IfOk result (λ report. report.status ≡ verdict_status (answered answer.now)) }
 {
-    match answer {
-        Ok(Verdict::Good(counts)) => Ok(Report {
-            text: good_text(alloc, *counts)?,
-            status: 0,
-        }),
-        Ok(Verdict::Bad { line, fault }) => Ok(Report {
-            text: bad_text(alloc, *line, *fault)?,
-            status: BAD_LINE_STATUS,
-        }),
-        Ok(Verdict::Unsupported { line, reason }) => Ok(Report {
-            text: unsupported_text(alloc, *line, *reason)?,
-            status: UNSUPPORTED_STATUS,
-        }),
-        Err(trouble) => {
-            let name = name_of(*trouble);
-            Ok(Report {
-                text: format!(in alloc; "trouble {name}\n")?,
-                status: TROUBLE_STATUS,
-            })
-        }
-    }
+    let status = verdict_code(answer);
+    let text = verdict_words(alloc, answer)?;
+    Ok(Report { text, status })
 }
 
 /// Audits the source and tells the verdict, and gives the status.

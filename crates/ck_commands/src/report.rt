@@ -1,6 +1,6 @@
 //! The text and the status that a run ends with.
 ghost use Rattle.std.specs.Prelude.{◌≡◌, IfOk, string_bytes};
-ghost use Rattle.ck_commands.specs.Outcome.{bad_line, status_of, table_text, text_of, trouble_name};
+ghost use Rattle.ck_commands.specs.Outcome.{bad_line, status_of, table_text, text_of, trouble, trouble_name};
 ghost use Rattle.ck_commands.specs.Faults.{seen};
 ghost use Rattle.ck_commands.specs.Reading.{IsListed, held_outcome};
 
@@ -21,8 +21,7 @@ pub(crate) struct Report {
     pub status: u8,
 }
 
-/// The name of a trouble.
-pub(crate) fn name_of(trouble: Trouble) -> &'static str
+fn name_of(trouble: Trouble) -> &'static str
     ensures { result.now ≡ trouble_name trouble }
 {
     match trouble {
@@ -55,6 +54,15 @@ fn bad_line_text(alloc: Global, number: u64, fault: Fault) -> Result<String, All
     Ok(text)
 }
 
+/// The text that tells why no further line could be read.
+pub(crate) fn trouble_text(alloc: Global, reason: Trouble) -> Result<String, AllocError>
+    ensures { IfOk result (λ text. string_bytes text ≡ text_of (trouble reason)) }
+{
+    let name = name_of(reason);
+    let text = format!(in alloc; "trouble {name}\n")?;
+    Ok(text)
+}
+
 /// The report of a stream that was read.
 pub(crate) fn report_of(alloc: Global, read: &Result<Cases, Stop>) -> Result<Report, AllocError>
     requires { IfOk read.now IsListed }
@@ -70,12 +78,9 @@ pub(crate) fn report_of(alloc: Global, read: &Result<Cases, Stop>) -> Result<Rep
             text: bad_line_text(alloc, *number, *fault)?,
             status: BAD_LINE_STATUS,
         }),
-        Err(Stop::Trouble(trouble)) => {
-            let name = name_of(*trouble);
-            Ok(Report {
-                text: format!(in alloc; "trouble {name}\n")?,
-                status: TROUBLE_STATUS,
-            })
-        }
+        Err(Stop::Trouble(reason)) => Ok(Report {
+            text: trouble_text(alloc, *reason)?,
+            status: TROUBLE_STATUS,
+        }),
     }
 }

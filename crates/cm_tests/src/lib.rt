@@ -1,5 +1,5 @@
-//! Tests of declarations, attempts, statuses, skeletons and written features by the public calls of their crates. They stand in a crate of
-//! their own since a crate with tests is proved twice.
+//! Tests of devices, feeds, envelopes, declarations, attempts, statuses, skeletons and written features by the public calls of their crates.
+//! They stand in a crate of their own since a crate with tests is proved twice.
 #![tactic(auto)]
 
 #[cfg(test)]
@@ -8,6 +8,20 @@ mod attempts;
 mod compiled;
 #[cfg(test)]
 mod declarations;
+#[cfg(test)]
+mod devices;
+#[cfg(test)]
+mod documents;
+#[cfg(test)]
+mod envelopes;
+#[cfg(test)]
+mod feeds;
+#[cfg(test)]
+mod members;
+#[cfg(test)]
+mod pickles;
+#[cfg(test)]
+mod producers;
 #[cfg(test)]
 mod skeletons;
 #[cfg(test)]

@@ -25,6 +25,23 @@ fn add_tags(alloc: Global, tags: &[Tag], made: &mut Vec<PickleTag>) -> Result<()
     Ok(())
 }
 
+/// What a pickle takes of the tags of its feature, rule, scenario and examples block.
+fn pickle_tags(
+    alloc: Global,
+    around: &Around<'_>,
+    scenario_tags: &[Tag],
+    block_tags: &[Tag],
+) -> Result<Sequence<PickleTag>, AllocError>
+    ensures { IfOk result (λ made. made ≡ map pickle_tag (around.now.tags ++ scenario_tags.now ++ block_tags.now)) }
+{
+    let mut made = Vec::new(alloc);
+    add_tags(alloc, around.feature_tags, &mut made)?;
+    add_tags(alloc, around.rule_tags, &mut made)?;
+    add_tags(alloc, scenario_tags, &mut made)?;
+    add_tags(alloc, block_tags, &mut made)?;
+    Ok(Sequence::from(made))
+}
+
 /// A scenario's pickle, with the tags of its examples and what fills it.
 fn pickle(
     alloc: Global,
@@ -37,11 +54,7 @@ fn pickle(
 {
     let name = filling.text(alloc, scenario.name.as_str())?;
     let nodes = filling.nodes(alloc, scenario.node)?;
-    let mut made = Vec::new(alloc);
-    add_tags(alloc, around.feature_tags, &mut made)?;
-    add_tags(alloc, around.rule_tags, &mut made)?;
-    add_tags(alloc, scenario.tags.as_slice(), &mut made)?;
-    add_tags(alloc, tags, &mut made)?;
+    let tags = pickle_tags(alloc, around, scenario.tags.as_slice(), tags)?;
     let steps = all_steps(
         alloc,
         around.feature_steps,
@@ -52,7 +65,7 @@ fn pickle(
     Ok(Pickle {
         name,
         nodes,
-        tags: Sequence::from(made),
+        tags,
         steps,
     })
 }

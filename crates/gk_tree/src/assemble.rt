@@ -1,8 +1,8 @@
 //! The tree of a list of blocks.
-ghost use Rattle.std.specs.Prelude.{◌≡◌, map, reverse, IfOk};
+ghost use Rattle.std.specs.Prelude.{◌≡◌, ◌∷◌, map, reverse, IfOk};
 ghost use Rattle.gk_line.specs.declared.tokens.Block.TheVariants as block;
 ghost use Rattle.gk_grammar.specs.Assembly as assembly;
-ghost use Rattle.gk_grammar.specs.Assembly.{with_block, feature_at, steps_of, rows_of, table_of};
+ghost use Rattle.gk_grammar.specs.Assembly.{no_parts, with_block, feature_at, rule_at, scenario_at, examples_at, steps_of, rows_of, table_of};
 ghost use Rattle.gk_tree.specs.Views.{chunk_of, body_of};
 ghost use Rattle.gk_tree.specs.Assembling.{parts_view};
 
@@ -27,6 +27,14 @@ fn in_order<T>(mut items: Vec<T>) -> Sequence<T>
 {
     items.as_mut_slice().reverse();
     Sequence::from(items)
+}
+
+/// The items with one before them; both lists are back to front.
+fn with_item<T: Drop>(mut items: Vec<T>, item: T) -> Result<Vec<T>, AllocError>
+    ensures { IfOk result (λ all. reverse all.items ≡ item ∷ reverse items.items) }
+{
+    items.push(item)?;
+    Ok(items)
 }
 
 /// The feature whose blocks these are, itself the first.
@@ -64,17 +72,25 @@ fn parts_of(alloc: Global, mut chunks: Vec<Chunk>) -> Result<Parts, AllocError>
 fn feature(alloc: Global, chunk: Chunk, parts: Parts) -> Result<Feature, AllocError>
     ensures { IfOk result (λ f. f ≡ feature_at (chunk_of chunk) (parts_view parts)) }
 {
-    Ok(Feature {
+    let language = Text::copy_of(alloc, "en")?;
+    Ok(feature_in(language, chunk, parts))
+}
+
+/// The feature in this language.
+fn feature_in(language: Text, chunk: Chunk, parts: Parts) -> Feature
+    ensures { result ≡ record (feature_at (chunk_of chunk) (parts_view parts)) { language = language } }
+{
+    Feature {
         location: chunk.location,
         tags: chunk.tags,
-        language: Text::copy_of(alloc, "en")?,
+        language,
         keyword: chunk.keyword,
         name: chunk.name,
         description: chunk.description,
         background: parts.background,
         scenarios: in_order(parts.scenarios),
         rules: in_order(parts.rules),
-    })
+    }
 }
 
 /// The parts with one block before them.
@@ -97,9 +113,22 @@ fn with_rule(alloc: Global, parts: Parts, chunk: Chunk) -> Result<Parts, AllocEr
         examples,
         background,
         scenarios,
-        mut rules,
+        rules,
     } = parts;
-    rules.push(Rule {
+    let rules = with_item(rules, rule(chunk, background, scenarios))?;
+    Ok(Parts {
+        examples,
+        background: None,
+        scenarios: Vec::new(alloc),
+        rules,
+    })
+}
+
+/// The rule with this background and these scenarios, which are back to front.
+fn rule(chunk: Chunk, background: Option<Background>, scenarios: Vec<Scenario>) -> Rule
+    ensures { result ≡ rule_at (chunk_of chunk) (record no_parts { background = background; scenarios = reverse scenarios.items }) }
+{
+    Rule {
         node: chunk.node,
         location: chunk.location,
         tags: chunk.tags,
@@ -108,13 +137,7 @@ fn with_rule(alloc: Global, parts: Parts, chunk: Chunk) -> Result<Parts, AllocEr
         description: chunk.description,
         background,
         scenarios: in_order(scenarios),
-    })?;
-    Ok(Parts {
-        examples,
-        background: None,
-        scenarios: Vec::new(alloc),
-        rules,
-    })
+    }
 }
 
 fn with_background(alloc: Global, mut parts: Parts, chunk: Chunk) -> Parts
@@ -137,19 +160,10 @@ fn with_scenario(alloc: Global, parts: Parts, chunk: Chunk) -> Result<Parts, All
     let Parts {
         examples,
         background,
-        mut scenarios,
+        scenarios,
         rules,
     } = parts;
-    scenarios.push(Scenario {
-        node: chunk.node,
-        location: chunk.location,
-        tags: chunk.tags,
-        keyword: chunk.keyword,
-        name: chunk.name,
-        description: chunk.description,
-        steps: steps(alloc, chunk.body),
-        examples: in_order(examples),
-    })?;
+    let scenarios = with_item(scenarios, scenario(alloc, chunk, examples))?;
     Ok(Parts {
         examples: Vec::new(alloc),
         background,
@@ -158,10 +172,33 @@ fn with_scenario(alloc: Global, parts: Parts, chunk: Chunk) -> Result<Parts, All
     })
 }
 
+/// The scenario with these examples, which are back to front.
+fn scenario(alloc: Global, chunk: Chunk, examples: Vec<Examples>) -> Scenario
+    ensures { result ≡ scenario_at (chunk_of chunk) (record no_parts { examples = reverse examples.items }) }
+{
+    Scenario {
+        node: chunk.node,
+        location: chunk.location,
+        tags: chunk.tags,
+        keyword: chunk.keyword,
+        name: chunk.name,
+        description: chunk.description,
+        steps: steps(alloc, chunk.body),
+        examples: in_order(examples),
+    }
+}
+
 fn with_examples(mut parts: Parts, chunk: Chunk) -> Result<Parts, AllocError>
     ensures { IfOk result (λ p. parts_view p ≡ with_block block.Examples (chunk_of chunk) (parts_view parts)) }
 {
-    parts.examples.push(Examples {
+    parts.examples.push(examples_block(chunk))?;
+    Ok(parts)
+}
+
+fn examples_block(chunk: Chunk) -> Examples
+    ensures { result ≡ examples_at (chunk_of chunk) }
+{
+    Examples {
         node: chunk.node,
         location: chunk.location,
         tags: chunk.tags,
@@ -169,8 +206,7 @@ fn with_examples(mut parts: Parts, chunk: Chunk) -> Result<Parts, AllocError>
         name: chunk.name,
         description: chunk.description,
         table: table(chunk.body),
-    })?;
-    Ok(parts)
+    }
 }
 
 /// The steps of a background or a scenario.

@@ -4,7 +4,7 @@ ghost use Rattle.gk_grammar.specs.Grammar.{english};
 ghost use Rattle.gk_grammar.specs.Machine as machine;
 ghost use Rattle.gk_tree.specs.Views.{text_of, line_at, phase_of, state_at, state_of, Gives};
 
-use crate::blocks::follows;
+use crate::blocks::{follows, next_title};
 use crate::fault::ParseFault;
 use crate::header::{commented, fault, location, opened, spaced_tag, tagged, unexpected};
 use crate::state::{Parser, Phase, Progress};
@@ -37,16 +37,9 @@ fn beginning<'a>(
             drop(progress);
             Err(spaced_tag(at, column))
         }
-        Token::Title(Block::Feature, title) => {
+        Token::Title(block, title) => {
             drop(phase);
-            opened(
-                alloc,
-                progress,
-                Block::Feature,
-                Sequence::new(alloc),
-                at,
-                title,
-            )
+            next_title(alloc, progress, None, block, at, title)
         }
         token => {
             drop(token);

@@ -1,10 +1,11 @@
 //! The lines in a description, and those behind a block.
-ghost use Rattle.std.specs.Prelude.{◌≡◌, ◌<◌, ◌^◌, ◌∷◌, ◌++◌, [], ℕ, List, map, IfOk};
+ghost use Rattle.std.specs.Prelude.{◌≡◌, ◌<◌, ◌+◌, ◌^◌, ◌∷◌, ◌++◌, [], ℕ, List, map, cond, Ok, Err, IfOk};
 ghost use Rattle.gk_line.specs.Views.{line_chars, step_text};
+ghost use Rattle.gk_grammar.specs.declared.fault.FaultKind.TheVariants as kinds;
 ghost use Rattle.gk_grammar.specs.Token as read;
 ghost use Rattle.gk_grammar.specs.Grammar as grammar;
 ghost use Rattle.gk_grammar.specs.Machine as machine;
-ghost use Rattle.gk_tree.specs.Views.{token_view, line_at, chunk_of, kept_line, state_at, state_of, Gives};
+ghost use Rattle.gk_tree.specs.Views.{text_of, token_view, line_at, chunk_of, kept_line, state_at, state_of, Gives};
 ghost use Rattle.gk_tree.specs.Read.{IsRead};
 
 use crate::chunk::{Body, Chunk};
@@ -15,7 +16,7 @@ use crate::steps::{counted, row_at, single_row, step_at, with_row};
 use crate::texts::description;
 use crate::token::{IndentedLine, Token};
 use gk_document::Row;
-use gk_line::{Block, Cell, Sequence, StepLine};
+use gk_line::{Block, Cell, Sequence, StepLine, Title};
 use std::alloc::{AllocError, Global};
 
 /// Whether the block may stand behind the other one, or be the first.
@@ -80,19 +81,34 @@ pub(crate) fn leaving<'a>(
             drop(progress);
             Err(spaced_tag(at, column))
         }
-        Token::Title(next, title) => {
-            if follows(Some(block), next) {
-                opened(alloc, progress, next, Sequence::new(alloc), at, title)
-            } else {
-                drop(progress);
-                Err(unexpected(at))
-            }
-        }
+        Token::Title(next, title) => next_title(alloc, progress, Some(block), next, at, title),
         token => {
             drop(token);
             drop(progress);
             Err(unexpected(at))
         }
+    }
+}
+
+/// A title line behind a block or before all, without tags.
+pub(crate) fn next_title<'a>(
+    alloc: Global,
+    progress: Progress,
+    before: Option<Block>,
+    next: Block,
+    at: IndentedLine<'a>,
+    title: Title<'a>,
+) -> Result<Parser<'a>, ParseFault>
+    requires room { progress.nodes < 2 ^ 63 }
+    ensures { Gives state_of result (cond (machine.follows before next)
+        (Ok (machine.opened (state_at progress machine.Before) next [] at.entry.line.number at.entry.indent (text_of title.entry.keyword.now) (text_of title.entry.name.now)))
+        (Err (record { kind = kinds.Unexpected; line = at.entry.line.number; column = at.entry.indent + 1 }))) }
+{
+    if follows(before, next) {
+        opened(alloc, progress, next, Sequence::new(alloc), at, title)
+    } else {
+        drop(progress);
+        Err(unexpected(at))
     }
 }
 
@@ -193,7 +209,7 @@ pub(crate) fn describing<'a>(
     alloc: Global,
     progress: Progress,
     chunk: Chunk,
-    mut lines: Vec<IndentedLine<'a>>,
+    lines: Vec<IndentedLine<'a>>,
     at: IndentedLine<'a>,
     token: Token<'a>,
 ) -> Result<Parser<'a>, ParseFault>
@@ -214,13 +230,24 @@ pub(crate) fn describing<'a>(
     }
     let passed = pass(alloc, progress, at, &token);
     drop(token);
-    let progress = match passed {
-        Ok(progress) => progress,
+    match passed {
+        Ok(progress) => describing_on(progress, chunk, lines, at),
         Err(error) => {
             drop(chunk);
-            return Err(ParseFault::from(error));
+            Err(ParseFault::from(error))
         }
-    };
+    }
+}
+
+/// Behind one line more of a description.
+fn describing_on<'a>(
+    progress: Progress,
+    chunk: Chunk,
+    mut lines: Vec<IndentedLine<'a>>,
+    at: IndentedLine<'a>,
+) -> Result<Parser<'a>, ParseFault>
+    ensures { Gives state_of result (Ok (state_at progress (machine.Described (chunk_of chunk) (map kept_line lines.entry.items ++ kept_line at.entry ∷ [])))) }
+{
     match lines.push(at) {
         Ok(()) => Ok(Parser {
             progress,

@@ -1,11 +1,11 @@
 //! The one pass over the lines of a text.
-ghost use Rattle.std.specs.Prelude.{◌≡◌, ◌≢◌, ◌≤◌, ◌<◌, ◌+◌, ◌^◌, ◌↔◌, None, Err, length, IfOk, IfErr, IfSome};
+ghost use Rattle.std.specs.Prelude.{◌≡◌, ◌≢◌, ◌≤◌, ◌<◌, ◌+◌, ◌^◌, ◌↔◌, ◌∷◌, ◌++◌, [], None, Ok, Err, length, map, IfOk, IfErr, IfSome};
 ghost use Rattle.gk_line.specs.Views.{numbered_line};
 ghost use Rattle.gk_grammar.specs.declared.fault.FaultKind.TheVariants as kind;
 ghost use Rattle.gk_grammar.specs.Documents.{lines_read, IsDocumentOf, HasFault, IsTooLong, byte_limit, line_limit};
 ghost use Rattle.gk_grammar.specs.Token.{line_of};
 ghost use Rattle.gk_grammar.specs.Machine as machine;
-ghost use Rattle.gk_tree.specs.Views.{line_at, state_of, phase_of, Gives, out_of_memory, too_long};
+ghost use Rattle.gk_tree.specs.Views.{line_at, state_of, phase_of, chunk_of, kept_line, Gives, out_of_memory, too_long};
 ghost use Rattle.gk_tree.specs.Read.{IsRead};
 ghost use Rattle.gk_tree.specs.Ends.{ended, document_at, Answers};
 ghost use Rattle.gk_tree.specs.EndViews.{last_of};
@@ -16,7 +16,7 @@ use crate::blocks::{described, describing, listing, with_rows};
 use crate::chunk::Chunk;
 use crate::fault::ParseFault;
 use crate::read::{indented, token};
-use crate::state::{Parser, Phase, Progress};
+use crate::state::{Parser, Phase, Progress, Stepped};
 use crate::steps::{quoting, stepping, with_steps};
 use crate::token::{IndentedLine, Token};
 use gk_document::Document;
@@ -150,15 +150,45 @@ fn closed(alloc: Global, phase: Phase<'_>, behind: u32) -> Result<Option<Chunk>,
 {
     match phase {
         Phase::Before => Ok(None),
-        Phase::Described(chunk, lines) => Ok(Some(described(alloc, chunk, &lines)?)),
-        Phase::Stepping(stepped) => Ok(Some(with_steps(stepped)?)),
+        Phase::Described(chunk, lines) => last_description(alloc, chunk, lines),
+        Phase::Stepping(stepped) => last_steps(stepped),
         Phase::Listing(chunk, rows) => Ok(Some(with_rows(chunk, rows))),
-        Phase::Spoken | Phase::Tagged(_, _) | Phase::Quoting(_, _, _) => Err(ParseFault {
-            kind: FaultKind::UnexpectedEnd,
-            line: behind,
-            column: 1,
-        }),
+        phase => {
+            drop(phase);
+            Err(early_end(behind))
+        }
     }
+}
+
+/// The fault of a text that ends where it may not, told at the line behind the last one.
+fn early_end(behind: u32) -> ParseFault
+    ensures { result ≡ record { kind = kind.UnexpectedEnd; line = behind; column = 1 } }
+{
+    ParseFault {
+        kind: FaultKind::UnexpectedEnd,
+        line: behind,
+        column: 1,
+    }
+}
+
+/// The last block, where the text ends in its description.
+fn last_description(
+    alloc: Global,
+    chunk: Chunk,
+    lines: Vec<IndentedLine<'_>>,
+) -> Result<Option<Chunk>, ParseFault>
+    ensures { Gives last_of result (Ok (machine.described (chunk_of chunk) (map kept_line lines.entry.items) ∷ [])) }
+{
+    let chunk = described(alloc, chunk, &lines)?;
+    Ok(Some(chunk))
+}
+
+/// The last block, where the text ends behind its steps.
+fn last_steps(stepped: Stepped) -> Result<Option<Chunk>, ParseFault>
+    ensures { Gives last_of result (Ok (machine.with_steps (chunk_of stepped.chunk) (stepped.before ++ stepped.last ∷ []) ∷ [])) }
+{
+    let chunk = with_steps(stepped)?;
+    Ok(Some(chunk))
 }
 
 /// The document, where the text may end.

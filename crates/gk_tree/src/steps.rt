@@ -165,6 +165,8 @@ fn step_fence<'a>(
         stepped.last.argument at.entry.line.number at.entry.indent line.entry.fence (text_of line.entry.media.now)) }
 {
     if stepped.last.argument.is_some() {
+        drop(stepped);
+        drop(progress);
         return Err(unexpected(at));
     }
     let quote = Quote {
