@@ -7,6 +7,8 @@ mod fault;
 mod laws;
 mod rows;
 mod status;
+#[cfg(test)]
+mod tests;
 mod track;
 
 pub use fault::TrackFault;

@@ -167,6 +167,7 @@ fn count_case(counts: &mut Counts, is_first: bool)
     }
 }
 
+/// A test case names what is declared, and has the steps of its pickle in order.
 pub(crate) fn judge_case(state: &mut State, case: TestCase) -> Result<(), Stop>
     requires listed { IsListed state.old }
     requires few { AreFewer MOST state.old.counts }

@@ -24,6 +24,7 @@ const PLAIN: &str = "text/x.cucumber.gherkin+plain";
 /// The number that no count of an audit reaches.
 pub(crate) const MOST: u64 = 1_073_741_825;
 
+/// A source has a uri of its own and holds plain Gherkin, and what its text is read as is kept.
 pub(crate) fn judge_source(state: &mut State, source: Source) -> Result<(), Stop>
     requires listed { IsListed state.old }
     requires few { AreFewer MOST state.old.counts }
@@ -115,6 +116,7 @@ fn check_document(state: &State, document: &GherkinDocument) -> Result<(), Stop>
     Ok(())
 }
 
+/// A document is the first of an accepted source, has its skeleton, and its ids are all different.
 pub(crate) fn judge_document(state: &mut State, document: GherkinDocument) -> Result<(), Stop>
     requires listed { IsListed state.old }
     ensures { Judges state.old state.new (envelope.GherkinDocument document) result }
@@ -129,6 +131,7 @@ pub(crate) fn judge_document(state: &mut State, document: GherkinDocument) -> Re
     Ok(())
 }
 
+/// A parse error is told of a source that is refused.
 pub(crate) fn judge_parse_error(state: &State, error: &ParseError) -> Result<(), Stop>
     requires listed { IsListed state.now }
     ensures { Judges state.now state.now (envelope.ParseError error.now) result }
@@ -173,6 +176,7 @@ fn check_pickle(state: &State, pickle: &Pickle) -> Result<(), Stop>
     Ok(())
 }
 
+/// A pickle is the next one of its source, behind the document, and its ids are new.
 pub(crate) fn judge_pickle(state: &mut State, pickle: Pickle) -> Result<(), Stop>
     requires listed { IsListed state.old }
     requires few { AreFewer MOST state.old.counts }
@@ -190,6 +194,7 @@ pub(crate) fn judge_pickle(state: &mut State, pickle: Pickle) -> Result<(), Stop
     Ok(())
 }
 
+/// The id of a step definition is new.
 pub(crate) fn judge_definition(state: &mut State, definition: &StepDefinition) -> Result<(), Stop>
     requires listed { IsListed state.old }
     ensures { Judges state.old state.new (envelope.StepDefinition definition.now) result }
@@ -198,6 +203,7 @@ pub(crate) fn judge_definition(state: &mut State, definition: &StepDefinition) -
     Ok(())
 }
 
+/// The id of a hook is new.
 pub(crate) fn judge_hook(state: &mut State, hook: &Hook) -> Result<(), Stop>
     requires listed { IsListed state.old }
     ensures { Judges state.old state.new (envelope.Hook hook.now) result }

@@ -22,6 +22,7 @@ use cm_envelope::{
 };
 use cm_stream::{Bad, Reason};
 
+/// A run starts once.
 pub(crate) fn judge_run_started(state: &mut State, run: TestRunStarted) -> Result<(), Stop>
     requires listed { IsListed state.old }
     ensures { Judges state.old state.new (Envelope.TestRunStarted run) result }
@@ -33,6 +34,7 @@ pub(crate) fn judge_run_started(state: &mut State, run: TestRunStarted) -> Resul
     Ok(())
 }
 
+/// An attempt starts within the run, as the record of attempts lets it.
 pub(crate) fn judge_attempt_started(
     state: &mut State,
     started: &TestCaseStarted,
@@ -52,6 +54,7 @@ pub(crate) fn judge_attempt_started(
     Ok(())
 }
 
+/// A step starts as the record of attempts lets it.
 pub(crate) fn judge_step_started(state: &mut State, started: &TestStepStarted) -> Result<(), Stop>
     requires listed { IsListed state.old }
     ensures { Judges state.old state.new (Envelope.TestStepStarted started.now) result }
@@ -63,6 +66,7 @@ pub(crate) fn judge_step_started(state: &mut State, started: &TestStepStarted) -
     Ok(())
 }
 
+/// A step finishes as the record of attempts lets it, and with a status that is judged.
 pub(crate) fn judge_step_finished(
     state: &mut State,
     finished: &TestStepFinished,
@@ -80,6 +84,7 @@ pub(crate) fn judge_step_finished(
     Ok(())
 }
 
+/// An attempt finishes as the record of attempts lets it.
 pub(crate) fn judge_attempt_finished(
     state: &mut State,
     finished: &TestCaseFinished,
@@ -103,6 +108,7 @@ fn knows_place(state: &State, attachment: &Attachment) -> bool
     }
 }
 
+/// An attachment names a place that is known.
 pub(crate) fn judge_attachment(state: &State, attachment: &Attachment) -> Result<(), Stop>
     requires listed { IsListed state.now }
     ensures { Judges state.now state.now (Envelope.Attachment attachment.now) result }
@@ -151,6 +157,7 @@ fn tells_success(state: &State, finished: &TestRunFinished) -> bool
     finished.success == (is_well(state) && !finished.has_exception)
 }
 
+/// A run that started finishes with nothing open or lacking, and tells its success as it is.
 pub(crate) fn judge_run_finished(state: &mut State, finished: &TestRunFinished) -> Result<(), Stop>
     requires listed { IsListed state.old }
     ensures { Judges state.old state.new (Envelope.TestRunFinished finished.now) result }

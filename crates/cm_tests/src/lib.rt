@@ -1,9 +1,7 @@
-//! Tests of devices, feeds, envelopes, declarations, attempts, statuses, skeletons and written features by the public calls of their crates.
+//! Tests of devices, feeds, envelopes, declarations, statuses, skeletons and written features by the public calls of their crates.
 //! They stand in a crate of their own since a crate with tests is proved twice.
 #![tactic(auto)]
 
-#[cfg(test)]
-mod attempts;
 #[cfg(test)]
 mod compiled;
 #[cfg(test)]

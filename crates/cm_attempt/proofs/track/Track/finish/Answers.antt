@@ -23,3 +23,6 @@ invariant_of-self c = (
         c.set_ended.ensures.rows c.self.invariant.1.of_attempts;
   },
 )
+
+pub returns-clause-ok : goal.returns-clause-ok
+returns-clause-ok c = search rules

@@ -15,3 +15,6 @@ invariant_of-self-2 c = (
         c.in_ok-add_attempt.ensures.ok (search rules) c.self.invariant.1.of_attempts;
   },
 )
+
+pub returns-in_err-check_new-clause-answer : goal.returns-in_err-check_new-clause-answer
+returns-in_err-check_new-clause-answer c = search rules

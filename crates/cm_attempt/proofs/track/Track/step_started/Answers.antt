@@ -20,3 +20,6 @@ invariant_of-self c = (
         c.set_running.ensures.rows c.self.invariant.1.of_attempts;
   },
 )
+
+pub returns-in_err-check_start-clause-answer : goal.returns-in_err-check_start-clause-answer
+returns-in_err-check_start-clause-answer c = search rules

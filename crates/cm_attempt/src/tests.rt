@@ -1,9 +1,9 @@
-use cm_attempt::{Status, Track, TrackFault, worst};
+use crate::{Status, Track, TrackFault, worst};
 use std::alloc::{AllocError, Global};
 use std::process::Abort;
 use std::test::Fail;
 
-pub(crate) fn texts(alloc: Global, words: &str) -> Result<Vec<String>, AllocError> {
+fn texts(alloc: Global, words: &str) -> Result<Vec<String>, AllocError> {
     let mut owned = Vec::new(alloc);
     for word in words.split_whitespace() {
         owned.push(String::from_str(alloc, word)?)?;
@@ -12,7 +12,7 @@ pub(crate) fn texts(alloc: Global, words: &str) -> Result<Vec<String>, AllocErro
 }
 
 // The first word, and what follows it.
-pub(crate) fn cut(text: &str) -> (&str, &str) {
+fn cut(text: &str) -> (&str, &str) {
     text.split_once(' ').unwrap_or((text, ""))
 }
 
