@@ -1,27 +1,19 @@
 -- Look-ups and changes of a map with text keys, through a row for each entry.
-use Rattle.std.proofs.Common.{◌≡◌, ◌∙◌, ap, sym, refl, subst, ℕ, ◌<◌, suc, zero, Bool, true, false, List, [], ◌∷◌, ◌++◌, ◌||◌, map, Option, None, Some, get_or, arith, All, String, Bor}
-use Rattle.std.specs.Prelude.{find, position, option_map, slice_get, unwrap_or}
-use Rattle.std.specs.List.{list_all, list_any}
-use Rattle.std.specs.Option.{option_copied}
+use Rattle.std.proofs.Common.{◌≡◌, ◌∙◌, ap, refl, subst, ℕ, ◌<◌, suc, zero, Bool, true, false, List, [], ◌∷◌, map, None, Some, get_or, arith, All}
+use Rattle.std.specs.Prelude.{find, position, slice_get, unwrap_or}
+use Rattle.std.specs.List.{list_all}
 use Rattle.std.specs.Map.{keys_of, values_of, lookup}
 use Rattle.std.specs.Str.{bytes_eq}
 use Rattle.std.specs.String.{string_bytes}
-use Rattle.std.specs.declared.alloc.Global.{Global}
 use Rattle.std.proofs.lemmas.List.Elements.{All-cons, All-head, All-tail, All-nil}
 use Rattle.std.proofs.lemmas.List.Quantifiers.{position-Some}
-use Rattle.std.proofs.lemmas.Slice.Eq.{bytes_eq-Decides}
 use Rattle.std.specs.String.{string_eq}
 use Rattle.std.proofs.lemmas.List.{map-append}
 use Rattle.std.proofs.lemmas.List.Elements.{All-push}
 use Rattle.indexmap.specs.IndexMap.{IndexMap, insert_entry, set_value_at}
 use Rattle.indexmap.proofs.CallerLemmas.{insert_entry-new}
+use Rattle.cm_refs.proofs.EntryLemmas.{Key, absent_get, is_key}
 use Rattle.cm_attempt.specs.Table.{Text, change_first}
-
-abbrev pub Key : Type 0
-Key = String Global
-
-abbrev pub is_key : Text → Key → Bool
-is_key id k = bytes_eq id (string_bytes k)
 
 module _ {V Y : Type 0} (row : Text → V → Y) where
   abbrev pub rows : List (Key × V) → List Y
@@ -61,20 +53,6 @@ module _ {V Y : Type 0} (row : Text → V → Y) where
     first_entry es i v h at =
         entry_at es i v (λ d. (position-Some (is_key id) (keys_of es) i d h).1) (λ k d lt. (position-Some (is_key id) (keys_of es) i d h).2 k lt) at
 
-    find_entry : (es : List (Key × V)) → find p (rows es) ≡ option_map (row id) (lookup (is_key id) es)
-    find_entry [] = refl
-    find_entry (e ∷ es) = go (is_key id e.0) refl (find_entry es)
-      where
-        go : (b : Bool) → is_key id e.0 ≡ b → find p (rows es) ≡ option_map (row id) (lookup (is_key id) es)
-            → find p (rows (e ∷ es)) ≡ option_map (row id) (lookup (is_key id) (e ∷ es))
-        go true h rec =
-            let same : id ≡ string_bytes e.0 = (bytes_eq-Decides _ _).0 h in
-            rw (says (string_bytes e.0) e.1, h, same) refl
-        go false h rec = rw (says (string_bytes e.0) e.1, h) rec
-
-    pub found_entry : (es : List (Key × V)) → option_map (row id) (lookup (is_key id) es) ≡ find p (rows es)
-    found_entry es = sym (find_entry es)
-
     absent_entry : (es : List (Key × V)) → lookup (is_key id) es ≡ None → (g : Y → Y) → change_first p g (rows es) ≡ rows es
     absent_entry [] h g = refl
     absent_entry (e ∷ es) h g = go (is_key id e.0) refl (λ r. absent_entry es r g)
@@ -89,26 +67,10 @@ module _ {V Y : Type 0} (row : Text → V → Y) where
     pub no_entry : (es : List (Key × V)) → lookup (is_key id) es ≡ None → (g : Y → Y) → change_first p g (rows es) ≡ rows es
     no_entry = absent_entry
 
-    pub absent_key : (es : List (Key × V)) → find p (rows es) ≡ None → lookup (is_key id) es ≡ None
-    absent_key es h = go (lookup (is_key id) es) (found_entry es ∙ h)
-      where
-        go : (o : Option V) → option_map (row id) o ≡ None → o ≡ None
-        go None e = refl
-        go (Some v) e = cc
-
-    pub absent_get : (k : Key) → string_bytes k ≡ id → (es : List (Key × V)) → find p (rows es) ≡ None → lookup (string_eq k) es ≡ None
-    absent_get k same es h = subst (λ t. lookup (is_key t) es ≡ None) (sym same) (absent_key es h)
-
-    pub inserted_rows : {S : Type 0} (k : Key) → string_bytes k ≡ id → (m : IndexMap Key V S) (v : V) → find p (rows m.entries) ≡ None
-        → rows (insert_entry string_eq m.entries k v) ≡ rows m.entries ++ row id v ∷ []
-    inserted_rows k same m v h =
-        ap rows (insert_entry-new string_eq m k v (absent_get k same m.entries h))
-        ∙ subst (λ t. rows (m.entries ++ (k, v) ∷ []) ≡ rows m.entries ++ row t v ∷ []) same (map-append _ m.entries _)
-
     pub few_inserted : {S : Type 0} (k : Key) → string_bytes k ≡ id → (m : IndexMap Key V S) (v : V) → find p (rows m.entries) ≡ None
         → (P : V → Type 0) → All P (values_of m.entries) → P v → All P (values_of (insert_entry string_eq m.entries k v))
     few_inserted k same m v h P all one =
-        rw (insert_entry-new string_eq m k v (absent_get k same m.entries h), map-append) (All-push P (values_of m.entries) v all one)
+        rw (insert_entry-new string_eq m k v (absent_get row id p says k same m.entries h), map-append) (All-push P (values_of m.entries) v all one)
 
   -- a test that the key doesn't change
   pub list_all-rows : (p : Y → Bool) → ((t : Text) (v : V) → p (row t v) ≡ p (row [] v)) → (es : List (Key × V))
@@ -126,11 +88,3 @@ few_after P Q weaker (e ∷ es) zero v w all at here =
 few_after P Q weaker (e ∷ es) (suc i) v w all at here =
     All-cons Q e.1 (values_of (set_value_at es i w)) (weaker e.1 (All-head P e.1 (values_of es) all))
     (few_after P Q weaker es i v w (All-tail P e.1 (values_of es) all) at here)
-
-pub copied_map : {V Y : Type 0} (f : V → Y) (o : Option (Bor V)) → option_map (λ x. f x.now) o ≡ option_map f (option_copied o)
-copied_map f None = refl
-copied_map f (Some x) = refl
-
-pub list_any-map : {X Y : Type 0} (p : Y → Bool) (f : X → Y) (xs : List X) → list_any p (map f xs) ≡ list_any (λ x. p (f x)) xs
-list_any-map p f [] = refl
-list_any-map p f (x ∷ xs) = ap (λ b. p (f x) || b) (list_any-map p f xs)

@@ -4,7 +4,7 @@ use Rattle.std.specs.Prelude.{find}
 use Rattle.std.specs.Str.{bytes_eq}
 use Rattle.std.proofs.lemmas.List.{map_push}
 use Rattle.cm_attempt.specs.Table.{Text, change_first, has_repeat, has_text}
-use Rattle.cm_attempt.proofs.RepeatLemmas.{has_repeat-push}
+use Rattle.cm_refs.proofs.RepeatLemmas.{has_repeat-push}
 
 module _ {X : Type 0} (id : X → Text) where
   -- a change that keeps the id of its row keeps all

@@ -3,9 +3,9 @@
 use Rattle.std.specs.Prelude.{◌≡◌, ◌+◌, ◌==◌, ◌&&◌, ◌||◌, ℕ, Bool, true, false, not, List, [], ◌∷◌, ◌++◌}
 use Rattle.std.specs.Prelude.{length, map, Option, None, Some, is_some, if◌then◌else◌, find, slice_get}
 use Rattle.std.specs.Prelude.{unwrap_or, count_by, option_map}
-use Rattle.std.specs.List.{list_any}
 use Rattle.std.specs.Option.{option_map_or, option_and_then}
 use Rattle.std.specs.Str.{bytes_eq}
+pub use Rattle.cm_refs.specs.Declarations.{Text, has_repeat, has_text}
 use Rattle.cm_attempt.specs.Worst.{with_status}
 use Rattle.cm_attempt.specs.declared.status.Status.{Status}
 use Rattle.cm_attempt.specs.declared.status.Status.TheVariants.{Passed, Skipped}
@@ -14,9 +14,6 @@ use Rattle.cm_attempt.specs.declared.rows.Last.{Last}
 use Rattle.cm_attempt.specs.declared.rows.Last.TheVariants as last
 use Rattle.cm_attempt.specs.declared.fault.TrackFault.{TrackFault}
 use Rattle.cm_attempt.specs.declared.fault.TrackFault.TheVariants as fault
-
-abbrev pub Text : Type 0
-Text = List ℕ
 
 -- a test case, with the number of its attempts and the state of the last one
 pub record CaseRow : Type 0 where
@@ -41,14 +38,6 @@ abbrev pub empty_table : Table
 empty_table = record { cases = []; attempts = [] }
 
 -- ---- look-ups
-
-abbrev pub has_text : Text → List Text → Bool
-has_text text = list_any (bytes_eq text)
-
--- two of the texts are equal
-abbrev pub has_repeat : List Text → Bool
-has_repeat [] = false
-has_repeat (text ∷ rest) = has_text text rest || has_repeat rest
 
 -- no two cases and no two attempts have one id
 pub record HasDistinctIds (t : Table) : Type 0 where

@@ -1,17 +1,16 @@
 //! What a track keeps of a case and of an attempt, and the look-ups in it.
-ghost use Rattle.std.specs.Prelude.{◌≡◌, IfOk, IfSome, [], ℕ, List, count_by, false, find, is_none, is_some, map, option_map};
+ghost use Rattle.std.specs.Prelude.{◌≡◌, [], ℕ, List, count_by, false, find, is_some, map, option_map};
 ghost use Rattle.std.specs.Option.{option_map_or};
 ghost use Rattle.std.specs.List.{list_all};
 ghost use Rattle.std.specs.Str.{bytes_eq};
 ghost use Rattle.std.specs.String.{string_bytes};
 ghost use Rattle.indexmap.specs.IndexMap.{values};
 ghost use Rattle.cm_attempt.specs.Rows.{attempt_row, attempt_rows, case_row, case_rows, table_of};
-ghost use Rattle.cm_attempt.specs.Table.{has_repeat, has_step, has_text, is_good_case as is_good, is_good_status};
+ghost use Rattle.cm_attempt.specs.Table.{has_step, has_text, is_good_case as is_good, is_good_status};
 ghost use Rattle.cm_attempt.specs.Table.{outcome as specs_outcome, status_of_last, steps_of as steps_in};
 
 use crate::status::Status;
 use indexmap::{IndexMap, IndexSet};
-use std::alloc::{AllocError, Global};
 
 /// The state of the last attempt of a case.
 #[derive(Clone, Copy, Debug, PartialEq, Eq)]
@@ -63,22 +62,6 @@ pub(crate) fn find_attempt<'a>(attempts: &'a Attempts, id: &str) -> Option<&'a A
         ≡ find (λ a. bytes_eq id.now a.id) (attempt_rows attempts.now.entries) }
 {
     attempts.get(id)
-}
-
-/// The texts as a set in their order, and none where two of them are equal.
-pub(crate) fn distinct_texts(alloc: Global, texts: &[String]) -> Result<Option<Steps>, AllocError>
-    ensures repeated { IfOk result (λ set. is_none set ≡ has_repeat (map string_bytes texts.now)) }
-    ensures same { IfOk result (λ set. IfSome set
-        (λ s. map string_bytes s.keys ≡ map string_bytes texts.now)) }
-{
-    let mut set = IndexSet::new(alloc);
-    for text in texts {
-        if set.contains(text.as_str()) {
-            return Ok(None);
-        }
-        set.insert(text.clone()?)?;
-    }
-    Ok(Some(set))
 }
 
 /// The steps of the case, and none of an unknown case.

@@ -14,10 +14,11 @@ use crate::changes::{
 use crate::checks::{check_end, check_finish, check_new, check_start};
 use crate::fault::TrackFault;
 use crate::rows::{
-    Attempts, Cases, are_good, attempt_has_step, count_open, distinct_texts, final_status,
-    find_attempt, find_case, outcome,
+    Attempts, Cases, are_good, attempt_has_step, count_open, final_status, find_attempt, find_case,
+    outcome,
 };
 use crate::status::Status;
+use cm_refs::distinct_texts;
 use indexmap::IndexMap;
 use std::alloc::Global;
 use std::marker::Model;

@@ -5,7 +5,7 @@ use Rattle.std.specs.Str.{bytes_eq}
 use Rattle.std.proofs.lemmas.List.{map-append, take_more}
 use Rattle.indexmap.specs.IndexSet.{insert_key}
 use Rattle.cm_attempt.specs.Table.{Text, has_text}
-use Rattle.cm_attempt.proofs.EntryLemmas.{list_any-map}
+use Rattle.cm_refs.proofs.EntryLemmas.{list_any-map}
 
 abbrev now : Bor Text → Text
 now k = k.now

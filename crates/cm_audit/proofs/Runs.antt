@@ -5,7 +5,8 @@ use Rattle.std.specs.Map.{values_of}
 use Rattle.std.specs.String.{string_bytes}
 use Rattle.cm_stream.specs.Texts.{Text}
 use Rattle.cm_stream.specs.Words.{is_accepted}
-use Rattle.cm_attempt.proofs.EntryLemmas.{Key, list_all-rows}
+use Rattle.cm_refs.proofs.EntryLemmas.{Key}
+use Rattle.cm_attempt.proofs.EntryLemmas.{list_all-rows}
 use Rattle.cm_summary.specs.Summary.{SourceRow}
 use Rattle.cm_summary.specs.Findings.{lacks_by}
 use Rattle.cm_audit.specs.Kept.{kept_row, kept_rows}

@@ -9,3 +9,4 @@ mod pickles;
 
 pub use declared::Declared;
 pub use fault::RefFault;
+pub use names::distinct_texts;

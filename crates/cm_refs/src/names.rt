@@ -47,8 +47,15 @@ pub(crate) fn declare(
     Ok(())
 }
 
-/// The texts as a set in their order, and none where two of them are equal.
-pub(crate) fn distinct_texts(alloc: Global, texts: &[String]) -> Result<Option<Names>, AllocError>
+/// The texts as a set in their order, and none where two of them are equal: what Cucumber Messages
+/// ask of the step ids of a `pickle` and of a `testCase`.
+///
+/// # Errors
+/// Only where there is no memory for the set or a copy.
+pub fn distinct_texts(
+    alloc: Global,
+    texts: &[String],
+) -> Result<Option<IndexSet<String>>, AllocError>
     ensures repeated { IfOk result (λ set. is_none set ≡ has_repeat (map string_bytes texts.now)) }
     ensures same { IfOk result (λ set. IfSome set
         (λ s. map string_bytes s.keys ≡ map string_bytes texts.now)) }

@@ -1,4 +1,4 @@
-use cm_refs::{Declared, RefFault};
+use cm_refs::{Declared, RefFault, distinct_texts};
 use std::alloc::{AllocError, Global};
 use std::process::Abort;
 
@@ -118,4 +118,24 @@ fn a_pickle_has_distinct_steps(rt: HostRuntime) {
     assert!(rt; !declared.has_step("p", "t"));
     assert!(rt; !declared.has_step("q", "s"));
     drop(declared);
+}
+
+// How many texts the set has, and the first of them; `-` tells that there is none.
+fn expect_set(rt: &impl Abort, alloc: Global, words: &str, len: usize, first: &str) {
+    let Ok(words) = texts(alloc, words) else {
+        return assert!(rt; false);
+    };
+    match distinct_texts(alloc, words.as_slice()) {
+        Ok(Some(set)) => {
+            assert!(rt; set.len() == len);
+            expect_first(rt, Some(set.as_slice()), first);
+        }
+        answer => assert!(rt; answer.is_ok() && first == "-"),
+    }
+}
+
+#[test]
+fn distinct_texts_keep_their_order(rt: HostRuntime) {
+    expect_set(&rt, rt.alloc(), "b a c", 3, "b");
+    expect_set(&rt, rt.alloc(), "b a b", 0, "-");
 }

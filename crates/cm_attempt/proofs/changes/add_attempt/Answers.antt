@@ -1,7 +1,7 @@
 use Rattle.std.proofs.Common.{ap, ◌∙◌, refl}
 use Rattle.std.specs.Str.{bytes_eq}
 use Rattle.cm_attempt.specs.Rows.{attempt_row, attempt_rows}
-use Rattle.cm_attempt.proofs.EntryLemmas.{absent_get, inserted_rows}
+use Rattle.cm_refs.proofs.EntryLemmas.{absent_get, inserted_rows}
 use Rattle.cm_attempt.proofs.changes.add_attempt.Goals as goal
 
 pub returns-clause-ok : goal.returns-clause-ok

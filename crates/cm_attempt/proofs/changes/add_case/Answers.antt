@@ -1,7 +1,8 @@
 use Rattle.std.proofs.Common.{arith, ap, ◌∙◌, ◌≤◌, refl}
 use Rattle.std.specs.Str.{bytes_eq}
 use Rattle.cm_attempt.specs.Rows.{case_row, case_rows}
-use Rattle.cm_attempt.proofs.EntryLemmas.{few_inserted, inserted_rows}
+use Rattle.cm_refs.proofs.EntryLemmas.{inserted_rows}
+use Rattle.cm_attempt.proofs.EntryLemmas.{few_inserted}
 use Rattle.cm_attempt.proofs.changes.add_case.Goals as goal
 
 pub returns-clause-ok : goal.returns-clause-ok

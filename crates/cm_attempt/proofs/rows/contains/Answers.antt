@@ -1,4 +1,4 @@
-use Rattle.cm_attempt.proofs.EntryLemmas.{list_any-map}
+use Rattle.cm_refs.proofs.EntryLemmas.{list_any-map}
 use Rattle.cm_attempt.proofs.rows.contains.Goals as goal
 
 pub returns : goal.returns

@@ -2,7 +2,7 @@ use Rattle.std.proofs.Common.{◌∙◌, ap, refl}
 use Rattle.std.specs.Prelude.{option_map}
 use Rattle.std.specs.Str.{bytes_eq}
 use Rattle.cm_attempt.specs.Rows.{case_row}
-use Rattle.cm_attempt.proofs.EntryLemmas.{copied_map, found_entry}
+use Rattle.cm_refs.proofs.EntryLemmas.{copied_map, found_entry}
 use Rattle.cm_attempt.proofs.rows.find_case.Goals as goal
 
 pub returns : goal.returns

@@ -1,6 +1,6 @@
 use Rattle.std.proofs.Common.{◌≡◌, ◌∙◌, ap, sym, false, true, get_or, map, take, Bor}
 use Rattle.cm_attempt.specs.Table.{Text, has_text}
-use Rattle.cm_attempt.proofs.RepeatLemmas.{no_repeat_at, repeat_at}
+use Rattle.cm_refs.proofs.RepeatLemmas.{no_repeat_at, repeat_at}
 use Rattle.cm_audit.proofs.Repeats.{has_text_before, inserted_texts}
 use Rattle.cm_audit.proofs.judge_features.have_repeat.Goals as goal
 

@@ -3,7 +3,7 @@ use Rattle.std.specs.Str.{bytes_eq}
 use Rattle.std.specs.String.{string_bytes}
 use Rattle.std.proofs.lemmas.List.{map-append}
 use Rattle.cm_attempt.specs.Table.{has_text}
-use Rattle.cm_attempt.proofs.EntryLemmas.{inserted_rows}
+use Rattle.cm_refs.proofs.EntryLemmas.{inserted_rows}
 use Rattle.cm_refs.specs.Declarations.{Declarations, with_source}
 use Rattle.cm_envelope.specs.declared.envelope.Envelope.TheVariants.{Source}
 use Rattle.cm_stream.specs.OnePass.{reads}

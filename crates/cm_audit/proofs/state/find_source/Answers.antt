@@ -1,7 +1,7 @@
 use Rattle.std.proofs.Common.{◌∙◌, ap}
 use Rattle.std.specs.Prelude.{option_map}
 use Rattle.std.specs.Str.{bytes_eq}
-use Rattle.cm_attempt.proofs.EntryLemmas.{copied_map, found_entry}
+use Rattle.cm_refs.proofs.EntryLemmas.{copied_map, found_entry}
 use Rattle.cm_audit.specs.Kept.{kept_row}
 use Rattle.cm_audit.proofs.KeptRows.{row_says}
 use Rattle.cm_audit.proofs.state.find_source.Goals as goal
