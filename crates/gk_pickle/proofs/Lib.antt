@@ -6,6 +6,7 @@ pub mod Plain
 pub mod Opens
 pub mod Reading
 pub mod Parts
+pub mod Made
 pub mod Written
 pub mod Cutting
 pub mod Alike

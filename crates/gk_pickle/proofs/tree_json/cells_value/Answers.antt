@@ -1,7 +1,16 @@
+use Rattle.std.proofs.Common.{◌∙◌, ap, map, refl}
+use Rattle.serde_json.specs.Data.{array}
+use Rattle.serde_json.specs.View.{items_of}
+use Rattle.serde_json.proofs.Views.{view-Array}
 use Rattle.gk_pickle.specs.TreeJson.{cell_data}
-use Rattle.gk_pickle.proofs.Written.{one_written}
+use Rattle.gk_pickle.proofs.Written.{all_written, one_written}
 use Rattle.gk_pickle.proofs.tree_json.cells_value.Goals as goal
 
 pub loop-cell-preserved : goal.loop-cell-preserved
 loop-cell-preserved c =
     one_written (cell_data c.args.line) _ _ _ _ _ _ _ c.in_ok-push.ensures.items c.in_ok-value.ensures c.loop-cell-test.true c.cell-item.is c.loop-cell.invariant
+
+pub returns : goal.returns
+returns c =
+    view-Array c.loop-cell.values
+    ∙ ap (λ ds. array (items_of ds)) (all_written (map (cell_data c.args.line)) c.loop-cell.values.items c.args.cells.now c.loop-cell.cell-index _ refl c.loop-cell-test.false c.loop-cell.invariant)
