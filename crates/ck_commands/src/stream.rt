@@ -13,7 +13,7 @@ use cm_envelope::{
     ByteSource, Envelope, Feed, ShapeFault, TestCase, TestCaseFinished, TestCaseStarted, TestStep,
     TestStepFinished, TestStepStarted, Trouble, is_blank_line, read_envelope,
 };
-use gk_line::{Sequence, Text};
+use gk_document::{Sequence, Text};
 use std::alloc::{AllocError, AllocFailed, Global};
 
 /// The test cases of a stream, and their ids in order of declaration.

@@ -7,7 +7,7 @@ ghost use Rattle.cm_audit.specs.Due.{has_value, is_id};
 use cm_envelope::{
     Pickle, PickleArgument, PickleCell, PickleDocString, PickleRow, PickleStep, PickleTag, StepKind,
 };
-use gk_line::{Sequence, Text};
+use gk_document::{Sequence, Text};
 use gk_pickle::{
     Pickle as DuePickle, PickleArgument as DueArgument, PickleDocString as DueDocString,
     PickleStep as DueStep, PickleTag as DueTag, StepType,

@@ -19,7 +19,7 @@ use crate::stop::Stop;
 use cm_envelope::{TestCase, TestStep};
 use cm_refs::Declared;
 use cm_stream::{Bad, Counts};
-use gk_line::{Sequence, Text};
+use gk_document::{Sequence, Text};
 use std::alloc::{AllocError, AllocFailed, Global};
 
 /// Whether no run is named, or the one that started.

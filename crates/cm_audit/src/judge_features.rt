@@ -14,7 +14,7 @@ use crate::state::{Sources, State, find_source};
 use crate::stop::Stop;
 use cm_envelope::{GherkinDocument, Hook, ParseError, Pickle, PickleStep, Source, StepDefinition};
 use cm_stream::{Bad, Reason};
-use gk_line::{Sequence, Text};
+use gk_document::{Sequence, Text};
 use indexmap::IndexSet;
 use std::alloc::{AllocError, Global};
 

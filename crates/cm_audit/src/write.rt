@@ -6,7 +6,7 @@ ghost use Rattle.cm_envelope.specs.Device.{count_up};
 ghost use Rattle.cm_audit.specs.Writing.{AppendsFront};
 
 use cm_envelope::{ByteSink, DeviceFailed};
-use gk_line::Text;
+use gk_document::Text;
 
 /// Writes all the bytes. No write is repeated, and one that takes nothing has failed.
 ///

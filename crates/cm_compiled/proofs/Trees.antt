@@ -7,7 +7,7 @@ use Rattle.std.specs.Prelude.{option_map}
 use Rattle.std.specs.List.{AllByRecursion, range_with_len}
 use Rattle.serde_json.specs.Data.{number, unsigned}
 use Rattle.serde_json.specs.View.{items_of}
-use Rattle.gk_line.specs.declared.tokens.Cell.{Cell}
+use Rattle.gk_document.specs.declared.tree.Cell.{Cell}
 use Rattle.gk_document.specs.declared.tree.Location.{Location}
 use Rattle.gk_document.specs.declared.tree.Tag.{Tag}
 use Rattle.gk_document.specs.declared.tree.Row.{Row}

@@ -2,8 +2,8 @@
 -- (`Quotes`), keyword types (`Unknown`) and empty media types (none). Its nodes have the decimal texts of their numbers as ids.
 use Rattle.std.specs.Prelude.{◌≡◌, ℕ, ◌^◌, ◌<◌, List, [], Option, Some, None, map, option_map, option_and_then, decimal, ⊤}
 use Rattle.std.specs.List.{AllByRecursion, range_with_len}
-use Rattle.gk_line.specs.declared.tokens.Fence.TheVariants.{Quotes}
-use Rattle.gk_line.specs.declared.tokens.KeywordType.TheVariants.{Unknown}
+use Rattle.gk_document.specs.declared.tree.Fence.TheVariants.{Quotes}
+use Rattle.gk_document.specs.declared.tree.KeywordType.TheVariants.{Unknown}
 use Rattle.gk_document.specs.declared.tree.Location.{Location}
 use Rattle.gk_document.specs.declared.tree.Tag.{Tag}
 use Rattle.gk_document.specs.declared.tree.Row.{Row}

@@ -10,10 +10,9 @@ use crate::fault::MemberFault;
 use crate::member::{has_both, media_type, present, text};
 use crate::object::{ReadObject, items, list_of, nested, optional_nested};
 use gk_document::{
-    Argument, Background, DocString, Document, ExampleTable, Examples, Feature, Location, Row,
-    Rule, Scenario, Step, Tag,
+    Argument, Background, Cell, DocString, Document, ExampleTable, Examples, Feature, Fence,
+    KeywordType, Location, Row, Rule, Scenario, Sequence, Step, Tag, Text,
 };
-use gk_line::{Cell, Fence, KeywordType, Sequence, Text};
 use serde_json::Value;
 use std::alloc::Global;
 

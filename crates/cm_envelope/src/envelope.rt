@@ -1,7 +1,6 @@
 //! The envelopes of a stream of Cucumber Messages, with the members that are judged.
 use crate::pickle::Pickle;
-use gk_document::Document;
-use gk_line::{Sequence, Text};
+use gk_document::{Document, Sequence, Text};
 
 /// What a line of a stream says, as the schema `Envelope` of the Cucumber Messages has it.
 #[derive(Debug, PartialEq, Eq, Drop)]

@@ -5,7 +5,7 @@ ghost use Rattle.serde_json.specs.View.{view};
 ghost use Rattle.cm_envelope.specs.Member.{Gives, present as present_member, required, optional, optional_or, as_whole_number, has_both as has_both_members, media_type as media_type_member, unless_empty};
 
 use crate::fault::MemberFault;
-use gk_line::Text;
+use gk_document::Text;
 use serde_json::Value;
 use std::alloc::Global;
 

@@ -7,7 +7,7 @@ ghost use Rattle.cm_envelope.specs.Member.{Gives, nested as nested_member, optio
 
 use crate::fault::MemberFault;
 use crate::member::present;
-use gk_line::{Sequence, Text};
+use gk_document::{Sequence, Text};
 use serde_json::Value;
 use std::alloc::Global;
 

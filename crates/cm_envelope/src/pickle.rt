@@ -1,5 +1,5 @@
 //! A pickle of the stream (Messages: Pickle and its parts).
-use gk_line::{Sequence, Text};
+use gk_document::{Sequence, Text};
 
 /// A scenario that is ready to be run.
 #[derive(Debug, PartialEq, Eq, Drop)]

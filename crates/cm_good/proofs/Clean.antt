@@ -6,8 +6,8 @@ use Rattle.std.specs.List.{AllByRecursion, filter, join_with_byte}
 use Rattle.std.proofs.lemmas.Str.{IsUtf8-append, IsUtf8-nil}
 use Rattle.json.proofs.Printed.Utf8.{IsUtf8-are_ascii}
 use Rattle.gk_line.specs.declared.tokens.Block.{Block}
-use Rattle.gk_line.specs.declared.tokens.Cell.{Cell}
-use Rattle.gk_line.specs.declared.tokens.Fence.{Fence}
+use Rattle.gk_document.specs.declared.tree.Cell.{Cell}
+use Rattle.gk_document.specs.declared.tree.Fence.{Fence}
 use Rattle.gk_document.specs.declared.tree.Argument.TheVariants.{Table, Text as Quoted}
 use Rattle.gk_grammar.specs.Token.{Text, TagText, Tags, Title, Step, Row, Fenced, Line, line, bytes, is_blank, is_comment}
 use Rattle.gk_grammar.specs.Tree as tree

@@ -2,8 +2,8 @@
 use Rattle.std.proofs.Common.{ℕ, List, [], ◌∷◌, ◌++◌, Option, Some, None, map}
 use Rattle.std.specs.List.{AllByRecursion, flat_map}
 use Rattle.std.specs.Option.{option_map, option_and_then}
-use Rattle.gk_line.specs.declared.tokens.Cell.{Cell}
-use Rattle.gk_line.specs.declared.tokens.KeywordType.{KeywordType}
+use Rattle.gk_document.specs.declared.tree.Cell.{Cell}
+use Rattle.gk_document.specs.declared.tree.KeywordType.{KeywordType}
 use Rattle.gk_document.specs.declared.tree.Tag.{Tag}
 use Rattle.gk_document.specs.declared.tree.Row.{Row}
 use Rattle.gk_document.specs.declared.tree.Argument.{Argument}

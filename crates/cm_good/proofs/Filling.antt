@@ -2,7 +2,7 @@
 use Rattle.std.proofs.Common.{◌≡◌, ℕ, suc, ◌+◌, ◌<◌, List, [], ◌∷◌, ◌++◌, length, take, drop, get_or, IsUtf8, refl, sym, ap, ◌∙◌, subst, arith, append_assoc, length-append}
 use Rattle.std.specs.List.{AllByRecursion}
 use Rattle.std.proofs.lemmas.Str.{IsUtf8-append, IsUtf8-take, IsUtf8-drop, IsCharBoundary-before_ascii, IsCharBoundary-after_ascii}
-use Rattle.gk_line.specs.declared.tokens.Cell.{Cell}
+use Rattle.gk_document.specs.declared.tree.Cell.{Cell}
 use Rattle.gk_pickle.specs.Cut.{IsCut, joined}
 use Rattle.gk_pickle.specs.Fill.{placeholder, replaced, filled}
 use Rattle.gk_pickle.proofs.Cutting.{replaced_is_joined}

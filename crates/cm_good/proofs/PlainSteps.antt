@@ -3,11 +3,11 @@ use Rattle.std.proofs.Common.{ℕ, List, [], ◌∷◌, map, Option, Some, None,
 use Rattle.std.specs.List.{AllByRecursion}
 use Rattle.json.proofs.Printed.Utf8.{IsUtf8-are_ascii}
 use Rattle.serde_json.specs.View.{items_of}
-use Rattle.gk_line.specs.declared.tokens.Cell.{Cell}
-use Rattle.gk_line.specs.declared.tokens.Fence.{Fence}
-use Rattle.gk_line.specs.declared.tokens.Fence.TheVariants as fence
-use Rattle.gk_line.specs.declared.tokens.KeywordType.{KeywordType}
-use Rattle.gk_line.specs.declared.tokens.KeywordType.TheVariants as keyword
+use Rattle.gk_document.specs.declared.tree.Cell.{Cell}
+use Rattle.gk_document.specs.declared.tree.Fence.{Fence}
+use Rattle.gk_document.specs.declared.tree.Fence.TheVariants as fence
+use Rattle.gk_document.specs.declared.tree.KeywordType.{KeywordType}
+use Rattle.gk_document.specs.declared.tree.KeywordType.TheVariants as keyword
 use Rattle.gk_document.specs.declared.tree.Location.{Location}
 use Rattle.gk_document.specs.declared.tree.Tag.{Tag}
 use Rattle.gk_document.specs.declared.tree.Row.{Row}

@@ -12,8 +12,8 @@ use Rattle.gk_line.specs.Lines.{without_mark}
 use Rattle.gk_line.specs.Characters.{byte_order_mark}
 use Rattle.gk_line.specs.DocStrings.{outdented, fences_unescaped, escaped_mark, fence_mark, doc_line_of}
 use Rattle.gk_line.specs.Tokens.{indent_of}
-use Rattle.gk_line.specs.declared.tokens.Fence.{Fence}
-use Rattle.gk_line.specs.declared.tokens.Fence.TheVariants.{Quotes, Backticks}
+use Rattle.gk_document.specs.declared.tree.Fence.{Fence}
+use Rattle.gk_document.specs.declared.tree.Fence.TheVariants.{Quotes, Backticks}
 use Rattle.cm_stream.proofs.Lists.{and_true}
 
 abbrev pub Scalars : List ℕ → Type 0

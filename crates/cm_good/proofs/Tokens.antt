@@ -11,8 +11,8 @@ use Rattle.gk_line.specs.Tags.{TagWord, tags_of, spaced_piece}
 use Rattle.gk_line.specs.Cells.{CellText, cells_of}
 use Rattle.gk_line.specs.Places.{StandsAt, RiseWithin}
 use Rattle.gk_line.specs.declared.tokens.Block.{Block}
-use Rattle.gk_line.specs.declared.tokens.Cell.{Cell}
-use Rattle.gk_line.specs.declared.tokens.Fence.{Fence}
+use Rattle.gk_document.specs.declared.tree.Cell.{Cell}
+use Rattle.gk_document.specs.declared.tree.Fence.{Fence}
 use Rattle.gk_line.proofs.ColumnLemmas.{tags-stand, tag_columns_rise, cell_columns_rise}
 use Rattle.gk_line.proofs.PlaceLemmas.{stands-read, title-stands, step-stands}
 use Rattle.gk_grammar.specs.Token.{TagText, Token, Blank, Tags, Title, Step, Row, Fenced, Line, line, line_of, token_of, tag_text, tag_list, comment_token, word_token, token_or_other, title_token, step_token, fence_token, blocks, cell}

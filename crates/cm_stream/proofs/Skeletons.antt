@@ -3,9 +3,9 @@ use Rattle.std.proofs.Common.{◌≡◌, ℕ, refl, sym, ap, ◌∙◌, List, []
 use Rattle.std.specs.Prelude.{option_map}
 use Rattle.std.specs.Str.{bytes_eq}
 use Rattle.std.proofs.lemmas.Bool.Decides.{nat_tests}
-use Rattle.gk_line.specs.declared.tokens.Cell.{Cell}
-use Rattle.gk_line.specs.declared.tokens.Fence.TheVariants.{Quotes}
-use Rattle.gk_line.specs.declared.tokens.KeywordType.TheVariants.{Unknown}
+use Rattle.gk_document.specs.declared.tree.Cell.{Cell}
+use Rattle.gk_document.specs.declared.tree.Fence.TheVariants.{Quotes}
+use Rattle.gk_document.specs.declared.tree.KeywordType.TheVariants.{Unknown}
 use Rattle.gk_document.specs.declared.tree.Location.{Location}
 use Rattle.gk_document.specs.declared.tree.Tag.{Tag}
 use Rattle.gk_document.specs.declared.tree.Row.{Row}

@@ -2,9 +2,9 @@
 -- nodes by ids of its own, and its producers differ in columns, descriptions and comments; a fence
 -- and a keyword's type follow from the text. What is left when these are dropped is the skeleton.
 use Rattle.std.specs.Prelude.{[], map, option_map}
-use Rattle.gk_line.specs.declared.tokens.Cell.{Cell}
-use Rattle.gk_line.specs.declared.tokens.Fence.TheVariants.{Quotes}
-use Rattle.gk_line.specs.declared.tokens.KeywordType.TheVariants.{Unknown}
+use Rattle.gk_document.specs.declared.tree.Cell.{Cell}
+use Rattle.gk_document.specs.declared.tree.Fence.TheVariants.{Quotes}
+use Rattle.gk_document.specs.declared.tree.KeywordType.TheVariants.{Unknown}
 use Rattle.gk_document.specs.declared.tree.Location.{Location}
 use Rattle.gk_document.specs.declared.tree.Tag.{Tag}
 use Rattle.gk_document.specs.declared.tree.Row.{Row}

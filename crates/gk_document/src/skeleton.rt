@@ -5,10 +5,9 @@ ghost use Rattle.gk_document.specs.Skeleton.{bare_examples, bare_feature, bare_r
 ghost use Rattle.gk_document.specs.Skeleton.{bare_step, bare_table, bare_tag, skeleton};
 
 use crate::tree::{
-    Argument, Background, DocString, Document, ExampleTable, Examples, Feature, Row, Rule,
+    Argument, Background, Cell, DocString, Document, ExampleTable, Examples, Feature, Row, Rule,
     Scenario, Step, Tag,
 };
-use gk_line::Cell;
 
 /// A part of a document, of which some of its data is not compared.
 trait Bare {

@@ -1,5 +1,6 @@
 //! The tree of a feature file, as `gherkin.berp` and the Messages' `gherkinDocument` have it.
-use gk_line::{Cell, Fence, KeywordType, Sequence, Text};
+use crate::sequence::Sequence;
+use crate::text::Text;
 
 /// Where a node begins: its line from 1, and the column of its keyword, `@`, `|` or fence in Unicode scalar values from 1.
 #[derive(Clone, Copy, Debug, PartialEq, Eq)]
@@ -16,12 +17,30 @@ pub struct Tag {
     pub name: Text,
 }
 
+/// A cell of a table row.
+#[derive(Clone, Debug, PartialEq, Eq, Drop)]
+pub struct Cell {
+    /// The cell's text, in which escapes stand for their characters.
+    pub value: Text,
+    /// Where the cell's text begins, or its closing bar where that is empty.
+    pub column: u32,
+}
+
 /// A row of a data table or of an examples table.
 #[derive(Debug, PartialEq, Eq, Drop)]
 pub struct Row {
     pub node: u64,
     pub location: Location,
     pub cells: Sequence<Cell>,
+}
+
+/// What encloses a doc string.
+#[derive(Clone, Copy, PartialEq, Eq, Debug)]
+pub enum Fence {
+    /// `"""`.
+    Quotes,
+    /// Three backticks.
+    Backticks,
 }
 
 /// A doc string. An empty media type is none.
@@ -38,6 +57,23 @@ pub struct DocString {
 pub enum Argument {
     Table(Sequence<Row>),
     Text(DocString),
+}
+
+/// What a step keyword says of its step.
+///
+/// Source: Cucumber Messages, `StepKeywordType`.
+#[derive(Clone, Copy, PartialEq, Eq, Debug)]
+pub enum KeywordType {
+    /// `*`.
+    Unknown,
+    /// `Given`.
+    Context,
+    /// `When`.
+    Action,
+    /// `Then`.
+    Outcome,
+    /// `And`, `But`.
+    Conjunction,
 }
 
 /// A step, its keyword with the space that ends it.

@@ -3,10 +3,10 @@ use Rattle.std.proofs.Common.{◌≡◌, ℕ, suc, ◌+◌, Bool, List, [], ◌�
 use Rattle.std.proofs.lemmas.Bool.{eq-eqb}
 use Rattle.std.specs.Prelude.{IsTrue, IsFalse, cond}
 use Rattle.std.specs.List.{AllByRecursion, flat_map}
-use Rattle.gk_line.specs.declared.tokens.Cell.{Cell}
+use Rattle.gk_document.specs.declared.tree.Cell.{Cell}
 use Rattle.gk_line.specs.declared.tokens.Block.{Block}
 use Rattle.gk_grammar.specs.declared.fault.FaultKind.TheVariants as kind
-use Rattle.gk_line.specs.declared.tokens.KeywordType.{KeywordType}
+use Rattle.gk_document.specs.declared.tree.KeywordType.{KeywordType}
 use Rattle.gk_grammar.specs.Token.{Text, Blank, Comment, Language, Step, Row, Fenced, Line, line, is_gap}
 use Rattle.gk_grammar.specs.Tree as tree
 use Rattle.gk_grammar.specs.Tree.{Tag, Location, Argument, DocString}

@@ -4,7 +4,7 @@ use Rattle.std.specs.Prelude.{codes}
 use Rattle.gk_line.specs.Tokens as tokens
 use Rattle.gk_line.specs.Texts as texts
 use Rattle.gk_line.specs.declared.tokens.Block.TheVariants as block
-use Rattle.gk_line.specs.declared.tokens.Fence.TheVariants as fence
+use Rattle.gk_document.specs.declared.tree.Fence.TheVariants as fence
 use Rattle.gk_grammar.specs.Token.{line, token_of, Title, Fenced}
 use Rattle.gk_grammar.specs.Place.{ByFeature, ByScenario, ByQuotes, ByBackticks, completing}
 

@@ -1,14 +1,14 @@
 -- Small texts, computed: what the grammar says in situations that are easy to get wrong.
 use Rattle.std.proofs.Common.{◌≡◌, ℕ, List, [], ◌∷◌, ◌++◌, Option, Some, None, Result, Ok, Err, refl}
 use Rattle.std.specs.Prelude.{map}
-use Rattle.gk_line.specs.declared.tokens.Cell.{Cell}
+use Rattle.gk_document.specs.declared.tree.Cell.{Cell}
 use Rattle.gk_line.specs.declared.tokens.Block.{Block}
 use Rattle.gk_line.specs.declared.tokens.Block.TheVariants as block
-use Rattle.gk_line.specs.declared.tokens.Fence.TheVariants as fence
-use Rattle.gk_line.specs.declared.tokens.Fence.{Fence}
+use Rattle.gk_document.specs.declared.tree.Fence.TheVariants as fence
+use Rattle.gk_document.specs.declared.tree.Fence.{Fence}
 use Rattle.gk_grammar.specs.declared.fault.FaultKind.{FaultKind}
 use Rattle.gk_grammar.specs.declared.fault.FaultKind.TheVariants as kind
-use Rattle.gk_line.specs.declared.tokens.KeywordType.TheVariants as keyword_type
+use Rattle.gk_document.specs.declared.tree.KeywordType.TheVariants as keyword_type
 use Rattle.gk_grammar.specs.Token.{Text, TagText, Blank, Comment, Language, Tags, Title, Step, Row, Fenced, Line, line}
 use Rattle.gk_grammar.specs.Machine.{Chunk, State, Bad, run, closed, initial}
 

@@ -3,10 +3,10 @@ use Rattle.std.proofs.Common.{◌≡◌, ℕ, suc, ◌+◌, Bool, true, List, []
 use Rattle.std.proofs.lemmas.List.{map-append}
 use Rattle.std.specs.Prelude.{IsFalse, map, cond, codes}
 use Rattle.std.specs.List.{AllByRecursion, flat_map}
-use Rattle.gk_line.specs.declared.tokens.Cell.{Cell}
+use Rattle.gk_document.specs.declared.tree.Cell.{Cell}
 use Rattle.gk_line.specs.declared.tokens.Block.{Block}
 use Rattle.gk_line.specs.declared.tokens.Block.TheVariants as block
-use Rattle.gk_line.specs.declared.tokens.KeywordType.{KeywordType}
+use Rattle.gk_document.specs.declared.tree.KeywordType.{KeywordType}
 use Rattle.gk_grammar.specs.Token.{Text, TagText, Blank, Tags, Title, Step, Row, Line, line}
 use Rattle.gk_grammar.specs.Tree as tree
 use Rattle.gk_grammar.specs.Tree.{Tag, Location}

@@ -1,7 +1,7 @@
 -- Where a list of lines stops being the front of a text, and which fault stands there.
 use Rattle.std.specs.Prelude.{◌≡◌, ◌≢◌, ℕ, ◌+◌, ◌≤◌, ◌<◌, Bool, true, List, [], ◌∷◌, ◌++◌, length, take, codes, Err, IsTrue, ◌⊎◌}
 use Rattle.std.specs.List.{AllByRecursion}
-use Rattle.gk_line.specs.declared.tokens.Cell.{Cell}
+use Rattle.gk_document.specs.declared.tree.Cell.{Cell}
 use Rattle.gk_grammar.specs.declared.fault.FaultKind.{FaultKind}
 use Rattle.gk_grammar.specs.declared.fault.FaultKind.TheVariants as kind
 use Rattle.gk_grammar.specs.Token.{Language, Tags, Row, Line, line, line_of, is_gap}

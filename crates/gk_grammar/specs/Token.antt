@@ -9,9 +9,9 @@ use Rattle.gk_line.specs.Tags.{TagWord, tags_of, spaced_piece}
 use Rattle.gk_line.specs.Cells.{CellText, cells_of}
 use Rattle.gk_line.specs.declared.tokens.Block.{Block}
 use Rattle.gk_line.specs.declared.tokens.Block.TheVariants as block
-use Rattle.gk_line.specs.declared.tokens.Cell.{Cell}
-use Rattle.gk_line.specs.declared.tokens.KeywordType.{KeywordType}
-use Rattle.gk_line.specs.declared.tokens.Fence.{Fence}
+use Rattle.gk_document.specs.declared.tree.Cell.{Cell}
+use Rattle.gk_document.specs.declared.tree.KeywordType.{KeywordType}
+use Rattle.gk_document.specs.declared.tree.Fence.{Fence}
 
 -- a text, by its bytes
 abbrev pub Text : Type 0

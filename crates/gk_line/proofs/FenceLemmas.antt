@@ -7,8 +7,8 @@ use Rattle.std.proofs.lemmas.Str.{chars-append, chars-IsAscii}
 use Rattle.gk_line.specs.Characters.{backslash}
 use Rattle.gk_line.specs.Texts.{after, IsCutAt}
 use Rattle.gk_line.specs.DocStrings.{fences_unescaped, fence_mark, fence_characters, escaped_mark}
-use Rattle.gk_line.specs.declared.tokens.Fence.{Fence}
-use Rattle.gk_line.specs.declared.tokens.Fence.TheVariants.{Quotes, Backticks}
+use Rattle.gk_document.specs.declared.tree.Fence.{Fence}
+use Rattle.gk_document.specs.declared.tree.Fence.TheVariants.{Quotes, Backticks}
 use Rattle.gk_line.proofs.TextLemmas.{after-some, ascii_bytes}
 
 fence_step : (fence : Fence) (rest : List ℕ) → fences_unescaped (fence_mark fence) 0 (escaped_mark (fence_mark fence) ++ rest) ≡ fence_characters fence ++ fences_unescaped (fence_mark fence) 0 rest

@@ -9,7 +9,7 @@ use Rattle.gk_line.specs.Texts.{body_of, trimmed, IsCutAt}
 use Rattle.gk_line.specs.Tokens.{TitleText, StepText, title_of, step_of, keywords, step_words, indent_of}
 use Rattle.gk_line.specs.declared.tokens.Block.{Block}
 use Rattle.gk_line.specs.declared.tokens.Block.TheVariants.{Feature, Rule, Background, Scenario, Examples}
-use Rattle.gk_line.specs.declared.tokens.KeywordType.{KeywordType}
+use Rattle.gk_document.specs.declared.tree.KeywordType.{KeywordType}
 use Rattle.std.proofs.Common.{subst}
 use Rattle.std.proofs.lemmas.Slice.Eq.{bytes_eq-Decides}
 use Rattle.std.proofs.Common.{length, ◌<◌, get_or, length-append, append_assoc, take, arith}

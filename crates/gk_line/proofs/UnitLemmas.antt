@@ -12,7 +12,7 @@ use Rattle.gk_line.specs.Tokens.{indent_of}
 use Rattle.std.specs.Prelude.{codes}
 use Rattle.std.proofs.lemmas.List.Splits.{length-slice_split}
 use Rattle.gk_line.specs.Views.{cell_text}
-use Rattle.gk_line.specs.declared.tokens.Cell.{Cell}
+use Rattle.gk_document.specs.declared.tree.Cell.{Cell}
 use Rattle.gk_line.specs.Tokens.{begins_by}
 use Rattle.std.specs.Prelude.{is_some}
 use Rattle.gk_line.proofs.TextLemmas.{after-some}

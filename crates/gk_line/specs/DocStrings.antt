@@ -2,8 +2,8 @@
 use Rattle.std.specs.Prelude.{ℕ, List, [], ◌∷◌, drop, if◌then◌else◌, nat_lt, zero, suc, is_some}
 use Rattle.gk_line.specs.Texts.{body_of, after}
 use Rattle.gk_line.specs.Tokens.{indent_of}
-use Rattle.gk_line.specs.declared.tokens.Fence.{Fence}
-use Rattle.gk_line.specs.declared.tokens.Fence.TheVariants.{Quotes, Backticks}
+use Rattle.gk_document.specs.declared.tree.Fence.{Fence}
+use Rattle.gk_document.specs.declared.tree.Fence.TheVariants.{Quotes, Backticks}
 use Rattle.gk_line.specs.Characters.{backslash, backtick, quotation_mark}
 
 -- the line without as many leading characters as the opening line's indent has, or without its own indent where that is less

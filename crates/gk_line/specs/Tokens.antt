@@ -6,10 +6,10 @@ use Rattle.std.specs.Option.{option_map, option_and_then, is_some}
 use Rattle.gk_line.specs.Texts.{body_of, trimmed, after, first_some}
 use Rattle.gk_line.specs.declared.tokens.Block.{Block}
 use Rattle.gk_line.specs.declared.tokens.Block.TheVariants.{Feature, Rule, Background, Scenario, Examples}
-use Rattle.gk_line.specs.declared.tokens.KeywordType.{KeywordType}
-use Rattle.gk_line.specs.declared.tokens.KeywordType.TheVariants.{Unknown, Context, Action, Outcome, Conjunction}
-use Rattle.gk_line.specs.declared.tokens.Fence.{Fence}
-use Rattle.gk_line.specs.declared.tokens.Fence.TheVariants.{Quotes, Backticks}
+use Rattle.gk_document.specs.declared.tree.KeywordType.{KeywordType}
+use Rattle.gk_document.specs.declared.tree.KeywordType.TheVariants.{Unknown, Context, Action, Outcome, Conjunction}
+use Rattle.gk_document.specs.declared.tree.Fence.{Fence}
+use Rattle.gk_document.specs.declared.tree.Fence.TheVariants.{Quotes, Backticks}
 use Rattle.gk_line.specs.Characters.{backtick, hyphen, quotation_mark, underscore}
 
 -- how many white space characters the line begins with

@@ -6,7 +6,7 @@ use Rattle.gk_line.specs.declared.tokens.LineFault.TheVariants.{TagSpace, Memory
 use Rattle.std.specs.Str.{chars}
 use Rattle.gk_line.specs.Cells.{CellText}
 use Rattle.gk_line.specs.Tags.{TagWord}
-use Rattle.gk_line.specs.declared.tokens.Cell.{Cell}
+use Rattle.gk_document.specs.declared.tree.Cell.{Cell}
 use Rattle.gk_line.specs.declared.tokens.TagText.{TagText}
 use Rattle.gk_line.specs.Tokens.{TitleText, StepText, FenceText}
 use Rattle.gk_line.specs.declared.tokens.Line.{Line}

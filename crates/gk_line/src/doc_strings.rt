@@ -9,7 +9,8 @@ ghost use Rattle.gk_line.specs.Characters.{backslash};
 ghost use Rattle.gk_line.specs.Views.{line_chars};
 
 use crate::texts::{after_first, cut, leading_space, strip, trim_start};
-use crate::tokens::{Fence, Line};
+use crate::tokens::Line;
+use gk_document::Fence;
 use std::alloc::{AllocError, Global};
 
 /// What a line inside a doc string says, where the opening line has this fence and this indent (in characters).

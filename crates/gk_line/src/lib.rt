@@ -7,23 +7,18 @@ mod kinds;
 mod laws;
 mod line_ends;
 mod rows;
-mod sequence;
 mod tag_lines;
-mod text;
 mod texts;
 mod titles;
 mod tokens;
 
 pub use cut_lines::lines;
 pub use doc_strings::{doc_line, push_doc_line};
+pub use gk_document::{Cell, Fence, KeywordType, Sequence, Text};
 pub use kinds::{indent, is_blank, is_comment, is_row, is_tags};
 pub use laws::{columns_rise, kinds_exclude, lines_are_cut};
 pub use line_ends::Lines;
 pub use rows::cells;
-pub use sequence::Sequence;
 pub use tag_lines::tags;
-pub use text::Text;
 pub use titles::{fence, language, step, title};
-pub use tokens::{
-    Block, Cell, Fence, FenceLine, KeywordType, Line, LineFault, StepLine, TagText, Title,
-};
+pub use tokens::{Block, FenceLine, Line, LineFault, StepLine, TagText, Title};

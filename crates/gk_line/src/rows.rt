@@ -10,9 +10,9 @@ ghost use Rattle.gk_line.specs.Tokens.{begins_by};
 ghost use Rattle.gk_line.specs.Views.{line_chars, cell_text};
 
 use crate::kinds::column;
-use crate::text::Text;
 use crate::texts::{after_first, count, leading_space, strip, trim, trim_start};
-use crate::tokens::{Cell, Line};
+use crate::tokens::Line;
+use gk_document::{Cell, Text};
 use memchr::memchr2;
 use std::alloc::{AllocError, Global};
 

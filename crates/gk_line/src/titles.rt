@@ -10,7 +10,8 @@ ghost use Rattle.gk_line.specs.Views.{line_chars, title_text, step_text, fence_t
 
 use crate::kinds::column;
 use crate::texts::{cut, strip, trim, trim_start};
-use crate::tokens::{Block, Fence, FenceLine, KeywordType, Line, StepLine, Title};
+use crate::tokens::{Block, FenceLine, Line, StepLine, Title};
+use gk_document::{Fence, KeywordType};
 
 /// The title of this block that the line reads as: after its indent one of the block's keywords, at once a colon, and
 /// the name.

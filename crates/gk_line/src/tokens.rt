@@ -1,7 +1,7 @@
 //! The types of lines and of what they read as. Columns count Unicode scalar values from 1.
 ghost use Rattle.std.specs.Prelude.{◌≡◌};
 
-use crate::text::Text;
+use gk_document::{Fence, KeywordType};
 use std::alloc::AllocError;
 use thiserror::Error;
 
@@ -42,23 +42,6 @@ pub struct Title<'a> {
     pub column: u32,
 }
 
-/// What a step keyword says of its step.
-///
-/// Source: Cucumber Messages, `StepKeywordType`.
-#[derive(Clone, Copy, PartialEq, Eq, Debug)]
-pub enum KeywordType {
-    /// `*`.
-    Unknown,
-    /// `Given`.
-    Context,
-    /// `When`.
-    Action,
-    /// `Then`.
-    Outcome,
-    /// `And`, `But`.
-    Conjunction,
-}
-
 /// The line of a step.
 #[derive(Clone, Copy, Debug, PartialEq, Eq)]
 pub struct StepLine<'a> {
@@ -71,15 +54,6 @@ pub struct StepLine<'a> {
     pub column: u32,
 }
 
-/// What encloses a doc string.
-#[derive(Clone, Copy, PartialEq, Eq, Debug)]
-pub enum Fence {
-    /// `"""`.
-    Quotes,
-    /// Three backticks.
-    Backticks,
-}
-
 /// A line that may open or close a doc string.
 #[derive(Clone, Copy, Debug, PartialEq, Eq)]
 pub struct FenceLine<'a> {
@@ -87,15 +61,6 @@ pub struct FenceLine<'a> {
     /// The media type, without white space at both ends; it may be empty.
     pub media: &'a str,
     /// Where the fence begins.
-    pub column: u32,
-}
-
-/// A cell of a table row.
-#[derive(Clone, Debug, PartialEq, Eq, Drop)]
-pub struct Cell {
-    /// The cell's text, in which escapes stand for their characters.
-    pub value: Text,
-    /// Where the cell's text begins, or its closing bar where that is empty.
     pub column: u32,
 }
 

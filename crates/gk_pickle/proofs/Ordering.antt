@@ -2,7 +2,7 @@
 use Rattle.std.proofs.Common.{◌≡◌, ℕ, List, [], ◌∷◌, ◌++◌, map, Option, Some, None, refl, sym, ap, ◌∙◌, subst, append_assoc}
 use Rattle.std.specs.List.{flat_map, AllByRecursion}
 use Rattle.std.proofs.lemmas.List.{map-append}
-use Rattle.gk_line.specs.declared.tokens.KeywordType.{KeywordType}
+use Rattle.gk_document.specs.declared.tree.KeywordType.{KeywordType}
 use Rattle.gk_document.specs.declared.tree.Tag.{Tag}
 use Rattle.gk_document.specs.declared.tree.Step.{Step}
 use Rattle.gk_document.specs.declared.tree.Row.{Row}

@@ -4,7 +4,7 @@ use Rattle.std.specs.Prelude.{IfSome, OnOk, Result, Ok, Err, option_map, option_
 use Rattle.std.proofs.lemmas.Bool.{cond-true, cond-false, eqb-true, or_cases, false_from_ne_true}
 use Rattle.std.proofs.lemmas.List.{reverse-append}
 use Rattle.std.proofs.lemmas.Option.{IfSome_then}
-use Rattle.gk_line.specs.declared.tokens.Cell.{Cell}
+use Rattle.gk_document.specs.declared.tree.Cell.{Cell}
 use Rattle.gk_pickle.specs.declared.one_reading.Open.{Open}
 use Rattle.gk_pickle.specs.declared.one_reading.Part.{Part}
 use Rattle.gk_pickle.specs.OneReading.{is_bracket, HasNoBracket, columns_named, Reading, added, opened, closed, closed_in, brought, step, read_to, read, read_parts, AreWithin, weight, byte_weight, work}

@@ -6,7 +6,7 @@ use Rattle.std.proofs.lemmas.Str.{IsCharBoundary-after_ascii}
 use Rattle.std.proofs.lemmas.Bool.{eqb-true, or_cases, false_from_ne_true, false≢true}
 use Rattle.std.proofs.lemmas.List.{drop_more}
 use Rattle.memchr.specs.Find.{Nowhere, NoneBefore, Passes, IsFirstByte, is_byte2}
-use Rattle.gk_line.specs.declared.tokens.Cell.{Cell}
+use Rattle.gk_document.specs.declared.tree.Cell.{Cell}
 use Rattle.gk_pickle.specs.OneReading.{is_bracket, HasNoBracket, HaveNoBracket}
 
 -- none of the first bytes is a bracket

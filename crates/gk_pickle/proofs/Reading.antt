@@ -5,7 +5,7 @@ use Rattle.std.specs.List.{starts_with}
 use Rattle.std.proofs.lemmas.Bool.{cases_Bool, cond-true, cond-false, eqb-true, or_parts, le-leb, lt-leb, leb-true, leb-false, false_from_ne_true, both_ways}
 use Rattle.std.proofs.lemmas.List.{drop_at, take_at, drop-append-le}
 use Rattle.std.proofs.lemmas.Slice.Eq.{bytes_eq-Decides}
-use Rattle.gk_line.specs.declared.tokens.Cell.{Cell}
+use Rattle.gk_document.specs.declared.tree.Cell.{Cell}
 use Rattle.gk_pickle.specs.declared.one_reading.Open.{Open}
 use Rattle.gk_pickle.specs.Fill.{placeholder, replaced, filled}
 use Rattle.gk_pickle.specs.OneReading.{is_bracket, HasNoBracket, HaveNoBracket, columns_named, replacement, Reading, nothing_read, added, opened, raised, closed_by, closed_in, brought, step, read_by, read_to, read}

@@ -10,7 +10,7 @@ use Rattle.std.specs.Str.{IsUtf8, IsCharBoundary}
 use Rattle.std.specs.Prelude.{nat_eq}
 use Rattle.memchr.specs.Find.{OccursAt, Nowhere, NoneBefore, Passes, IsFirstByte, is_byte}
 use Rattle.memchr.proofs.lemmas.MatchLemmas.{OccursAt-part, OccursAt-from_part}
-use Rattle.gk_line.specs.declared.tokens.Cell.{Cell}
+use Rattle.gk_document.specs.declared.tree.Cell.{Cell}
 use Rattle.gk_pickle.specs.Fill.{replaced_after, replaced, placeholder, filled}
 
 -- a pattern that occurs at the front is what the text starts with

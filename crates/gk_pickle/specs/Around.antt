@@ -1,6 +1,6 @@
 -- What a scenario's pickles take from around it.
 use Rattle.std.specs.Prelude.{ℕ, List, []}
-use Rattle.gk_line.specs.declared.tokens.Cell.{Cell}
+use Rattle.gk_document.specs.declared.tree.Cell.{Cell}
 use Rattle.gk_document.specs.declared.tree.Tag.{Tag}
 use Rattle.gk_document.specs.declared.tree.Step.{Step}
 

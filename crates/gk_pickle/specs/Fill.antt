@@ -1,7 +1,7 @@
 -- Filling a text from a row of examples.
 use Rattle.std.specs.Prelude.{ℕ, zero, suc, ◌-◌, List, [], ◌∷◌, ◌++◌, length, nat_eq, if◌then◌else◌, codes}
 use Rattle.std.specs.List.{starts_with}
-use Rattle.gk_line.specs.declared.tokens.Cell.{Cell}
+use Rattle.gk_document.specs.declared.tree.Cell.{Cell}
 
 -- what a header cell's value stands as in a text: `<value>`
 abbrev pub placeholder : List ℕ → List ℕ

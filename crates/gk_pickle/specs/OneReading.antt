@@ -4,7 +4,7 @@
 use Rattle.std.specs.Prelude.{◌≡◌, ℕ, zero, suc, ◌+◌, ◌<◌, ◌≤◌, ⊤, get_or, Bool, false, ◌||◌, max, nat_le, ◌==◌, Option, None, Some, option_map, option_and_then, List, [], ◌∷◌, ◌++◌, map, length, take, drop, find, slice_get, if◌then◌else◌}
 use Rattle.std.specs.List.{AllByRecursion}
 use Rattle.std.specs.Str.{IsUtf8, bytes_eq}
-use Rattle.gk_line.specs.declared.tokens.Cell.{Cell}
+use Rattle.gk_document.specs.declared.tree.Cell.{Cell}
 use Rattle.gk_pickle.specs.declared.one_reading.Open.{Open}
 use Rattle.gk_pickle.specs.declared.one_reading.Part.{Part}
 

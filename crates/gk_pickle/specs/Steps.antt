@@ -1,8 +1,8 @@
 -- The steps of a pickle (Cucumber Messages, `Pickle.json`, `PickleStep`).
 use Rattle.std.specs.Prelude.{ℕ, List, [], ◌∷◌, ◌++◌, map, Option, Some, None, option_map, option_and_then}
 use Rattle.std.specs.List.{filter_map}
-use Rattle.gk_line.specs.declared.tokens.KeywordType.{KeywordType}
-use Rattle.gk_line.specs.declared.tokens.KeywordType.TheVariants as keyword
+use Rattle.gk_document.specs.declared.tree.KeywordType.{KeywordType}
+use Rattle.gk_document.specs.declared.tree.KeywordType.TheVariants as keyword
 use Rattle.gk_document.specs.declared.tree.Argument.{Argument}
 use Rattle.gk_document.specs.declared.tree.Argument.TheVariants as argument
 use Rattle.gk_document.specs.declared.tree.Row.{Row}

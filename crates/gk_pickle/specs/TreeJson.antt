@@ -3,12 +3,12 @@ use Rattle.std.specs.Prelude.{ℕ, List, [], ◌∷◌, ◌++◌, map, Option, S
 use Rattle.std.specs.Option.{option_to_list}
 use Rattle.serde_json.specs.Data.{Data, string, number, unsigned, array}
 use Rattle.serde_json.specs.View.{items_of}
-use Rattle.gk_line.specs.declared.tokens.KeywordType.{KeywordType}
-use Rattle.gk_line.specs.declared.tokens.KeywordType.TheVariants as keyword
-use Rattle.gk_line.specs.declared.tokens.Fence.{Fence}
-use Rattle.gk_line.specs.declared.tokens.Fence.TheVariants as fence
+use Rattle.gk_document.specs.declared.tree.KeywordType.{KeywordType}
+use Rattle.gk_document.specs.declared.tree.KeywordType.TheVariants as keyword
+use Rattle.gk_document.specs.declared.tree.Fence.{Fence}
+use Rattle.gk_document.specs.declared.tree.Fence.TheVariants as fence
 use Rattle.gk_document.specs.declared.tree.Location.{Location}
-use Rattle.gk_line.specs.declared.tokens.Cell.{Cell}
+use Rattle.gk_document.specs.declared.tree.Cell.{Cell}
 use Rattle.gk_document.specs.declared.tree.Tag.{Tag}
 use Rattle.gk_document.specs.declared.tree.Row.{Row}
 use Rattle.gk_document.specs.declared.tree.DocString.{DocString}

@@ -5,8 +5,7 @@ ghost use Rattle.gk_pickle.specs.Steps.{filled_by};
 
 use crate::columns::Columns;
 use crate::filling::fill_from;
-use gk_document::{Row, Step, Tag};
-use gk_line::{Cell, Sequence, Text};
+use gk_document::{Cell, Row, Sequence, Step, Tag, Text};
 use std::alloc::{AllocError, Global};
 use std::marker::Model;
 

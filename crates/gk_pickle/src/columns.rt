@@ -6,7 +6,7 @@ ghost use Rattle.std.specs.Prelude.{Decides};
 ghost use Rattle.gk_pickle.specs.OneReading.{HaveNoBracket, columns_named, replacement};
 ghost use Rattle.gk_pickle.specs.Columns.{columns_at};
 
-use gk_line::Cell;
+use gk_document::Cell;
 use indexmap::IndexMap;
 use memchr::memchr2;
 use std::alloc::{AllocError, Global};
@@ -74,7 +74,7 @@ pub(crate) struct Columns<'a> {
 impl<'a> Model for Columns<'a> {
     ghost use Rattle.std.specs.Prelude.{◌≡◌, ℕ, List};
     ghost use Rattle.std.specs.Prelude.{Decides};
-    ghost use Rattle.gk_line.specs.declared.tokens.Cell.{Cell as HeaderCell};
+    ghost use Rattle.gk_document.specs.declared.tree.Cell.{Cell as HeaderCell};
     ghost use Rattle.gk_pickle.specs.OneReading.{HaveNoBracket, columns_named};
     ghost use Rattle.gk_pickle.specs.Columns.{columns_at};
 

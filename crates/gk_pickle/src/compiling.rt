@@ -7,8 +7,9 @@ use crate::around::{Around, Filling};
 use crate::columns::Columns;
 use crate::pickle::{Pickle, PickleTag};
 use crate::steps::all_steps;
-use gk_document::{Background, Document, ExampleTable, Feature, Rule, Scenario, Step, Tag};
-use gk_line::{Sequence, Text};
+use gk_document::{
+    Background, Document, ExampleTable, Feature, Rule, Scenario, Sequence, Step, Tag, Text,
+};
 use std::alloc::{AllocError, Global};
 
 /// Adds what pickles take of tags.

@@ -1,12 +1,12 @@
 //! Filling placeholders from a row of examples.
 ghost use Rattle.std.specs.Prelude.{◌≡◌, ◌<◌, ◌++◌, List, ℕ, length, IfOk, IfSome, IfNone, string_bytes};
 ghost use Rattle.std.specs.Bool.{OnTrue};
-ghost use Rattle.gk_line.specs.declared.tokens.Cell.{Cell};
+ghost use Rattle.gk_document.specs.declared.tree.Cell.{Cell};
 ghost use Rattle.gk_pickle.specs.Fill.{placeholder, replaced, filled};
 
 use crate::columns::Columns;
 use crate::one_reading::fill_in_one_reading;
-use gk_line::Cell;
+use gk_document::Cell;
 use memchr::memchr;
 use memchr::memmem::Finder;
 use std::alloc::{AllocError, Global};

@@ -5,7 +5,7 @@ ghost use Rattle.serde_json.specs.View.{view, members_view, items_of};
 ghost use Rattle.gk_pickle.specs.Json.{object_of, put_some, with_some, media_data, id_data, list_data, type_word, pickle_tag_data, pickle_cell_data, pickle_row_data, pickle_doc_string_data, argument_data, pickle_step_data, pickle_steps_data, pickle_data};
 
 use crate::pickle::{Pickle, PickleArgument, PickleDocString, PickleStep, PickleTag, StepType};
-use gk_line::{Sequence, Text};
+use gk_document::{Sequence, Text};
 use serde_json::{Map, Value, json, put};
 use std::alloc::{AllocError, Global};
 

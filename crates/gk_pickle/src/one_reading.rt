@@ -4,7 +4,7 @@ ghost use Rattle.gk_pickle.specs.Fill.{filled};
 ghost use Rattle.gk_pickle.specs.OneReading.{AreWithin, HasNoBracket, HaveNoBracket, added, closed, is_bracket, nothing_read, opened, raised, read_parts, work};
 
 use crate::columns::Columns;
-use gk_line::Cell;
+use gk_document::Cell;
 use memchr::memchr2;
 use std::alloc::{AllocError, Global};
 use std::marker::Model;

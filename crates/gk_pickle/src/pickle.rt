@@ -1,5 +1,5 @@
 //! What is run of a feature file, as the Messages' `pickle` has it.
-use gk_line::{Sequence, Text};
+use gk_document::{Sequence, Text};
 
 /// The type of a pickle's step. A conjunction has taken that of the step before it.
 #[derive(Clone, Copy, Debug, PartialEq, Eq)]

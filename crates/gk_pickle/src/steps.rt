@@ -1,13 +1,12 @@
 //! The steps of a pickle.
 ghost use Rattle.std.specs.Prelude.{◌≡◌, ◌++◌, ◌∷◌, [], List, map, option_map, option_and_then, IfOk, OnOk};
-ghost use Rattle.gk_line.specs.declared.tokens.KeywordType.{KeywordType};
+ghost use Rattle.gk_document.specs.declared.tree.KeywordType.{KeywordType};
 ghost use Rattle.gk_pickle.specs.Around.{unfilled};
 ghost use Rattle.gk_pickle.specs.Steps.{own_type, type_of, filled_by, media_type, filled_row, filled_argument, filled_step, steps_after, keywords, pickle_steps};
 
 use crate::around::Filling;
 use crate::pickle::{PickleArgument, PickleDocString, PickleStep, StepType};
-use gk_document::{Argument, DocString, Row, Step};
-use gk_line::{KeywordType, Sequence, Text};
+use gk_document::{Argument, DocString, KeywordType, Row, Sequence, Step, Text};
 use std::alloc::{AllocError, Global};
 
 /// The type of a step with this keyword, after a step of type `before`.

@@ -9,10 +9,9 @@ use crate::json::{
     WriteJson, add, add_list, add_media, add_optional, add_text, list_value, with_optional,
 };
 use gk_document::{
-    Argument, Background, Comment, DocString, Document, ExampleTable, Examples, Feature, Location,
-    Row, Rule, Scenario, Step, Tag,
+    Argument, Background, Cell, Comment, DocString, Document, ExampleTable, Examples, Feature,
+    Fence, KeywordType, Location, Row, Rule, Scenario, Step, Tag,
 };
-use gk_line::{Cell, Fence, KeywordType};
 use serde_json::{Map, Value, json, put};
 use std::alloc::{AllocError, Global};
 

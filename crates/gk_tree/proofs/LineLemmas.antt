@@ -17,7 +17,7 @@ use Rattle.gk_line.specs.Tags.{spaced_piece, tags_of}
 use Rattle.gk_line.specs.Cells.{cells_of}
 use Rattle.gk_line.specs.declared.tokens.Block.{Block}
 use Rattle.gk_line.specs.declared.tokens.Block.TheVariants as block
-use Rattle.gk_line.specs.declared.tokens.Cell.{Cell}
+use Rattle.gk_document.specs.declared.tree.Cell.{Cell}
 use Rattle.gk_grammar.specs.Token.{Token, Blank, Tags, Row, TagText, Line, line, line_of, is_comment, is_blank, token_of, comment_token, title_token, step_token, fence_token, word_token, token_or_other, tag_list, cell}
 
 skip_blank : (cs : List ℕ) → list_all is_whitespace cs ≡ true → skip_leading_whitespace cs ≡ []

@@ -8,8 +8,8 @@ use Rattle.gk_line.specs.Texts.{or_else, first_some}
 use Rattle.gk_line.specs.Tokens.{is_blank_line, begins_by, language_of, title_of, TitleText, step_of, StepText, fence_of, FenceText, indent_of}
 use Rattle.gk_line.specs.Tags.{TagWord, spaced_piece, tags_of}
 use Rattle.gk_line.specs.Cells.{cells_of}
-use Rattle.gk_line.specs.declared.tokens.Cell.{Cell}
-use Rattle.gk_line.specs.declared.tokens.Fence.{Fence}
+use Rattle.gk_document.specs.declared.tree.Cell.{Cell}
+use Rattle.gk_document.specs.declared.tree.Fence.{Fence}
 use Rattle.gk_line.specs.declared.tokens.Block.{Block}
 use Rattle.gk_line.specs.declared.tokens.Block.TheVariants as block
 use Rattle.gk_document.specs.declared.tree.Argument.TheVariants.{Table, Text as Quoted}

@@ -4,7 +4,7 @@ use Rattle.std.specs.Prelude.{IsTrue}
 use Rattle.std.proofs.lemmas.Bool.{ltb-true, ltb-false}
 use Rattle.std.proofs.lemmas.List.{map-append, take-map, length-map}
 use Rattle.gk_line.specs.declared.tokens.Block.TheVariants as block
-use Rattle.gk_line.specs.declared.tokens.Fence.TheVariants as fence
+use Rattle.gk_document.specs.declared.tree.Fence.TheVariants as fence
 use Rattle.gk_grammar.specs.Token.{Line}
 use Rattle.gk_grammar.specs.Place.{IsText, IsFront, Completion, ByNothing, ByFeature, ByScenario, ByQuotes, ByBackticks, completing, IsFirstBad}
 use Rattle.gk_grammar.proofs.Completing.{by_feature, by_scenario, by_quotes, by_backticks}

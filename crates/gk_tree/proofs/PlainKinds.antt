@@ -5,9 +5,9 @@ use Rattle.std.proofs.lemmas.Bool.{eqb-true, eq-eqb}
 use Rattle.std.specs.List.{AllByRecursion, list_all, join_with_byte}
 use Rattle.gk_line.specs.declared.tokens.Block.{Block}
 use Rattle.gk_line.specs.declared.tokens.Block.TheVariants as block
-use Rattle.gk_line.specs.declared.tokens.Cell.{Cell}
-use Rattle.gk_line.specs.declared.tokens.Fence.{Fence}
-use Rattle.gk_line.specs.declared.tokens.Fence.TheVariants as fence
+use Rattle.gk_document.specs.declared.tree.Cell.{Cell}
+use Rattle.gk_document.specs.declared.tree.Fence.{Fence}
+use Rattle.gk_document.specs.declared.tree.Fence.TheVariants as fence
 use Rattle.gk_grammar.specs.Token.{Text, TagText, Blank, Comment, Language, Tags, Title, Step, Row, Fenced, Other, Line, line}
 use Rattle.gk_grammar.specs.Token as read
 use Rattle.gk_grammar.specs.Tree as tree

@@ -7,7 +7,7 @@ use Rattle.gk_grammar.specs.Token as read
 use Rattle.gk_grammar.specs.Token.{Text, line, line_of, tag_text, title_token, step_token, fence_token}
 use Rattle.gk_grammar.specs.Machine as machine
 use Rattle.gk_grammar.specs.Machine.{State, Bad}
-use Rattle.gk_line.specs.declared.tokens.Cell.{Cell}
+use Rattle.gk_document.specs.declared.tree.Cell.{Cell}
 use Rattle.gk_line.specs.declared.tokens.TagText.{TagText}
 use Rattle.gk_tree.specs.declared.fault.ParseFault.{ParseFault}
 use Rattle.gk_tree.specs.declared.token.IndentedLine.{IndentedLine}

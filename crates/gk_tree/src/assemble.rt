@@ -7,8 +7,10 @@ ghost use Rattle.gk_tree.specs.Views.{chunk_of, body_of};
 ghost use Rattle.gk_tree.specs.Assembling.{parts_view};
 
 use crate::chunk::{Body, Chunk};
-use gk_document::{Background, ExampleTable, Examples, Feature, Row, Rule, Scenario, Step};
-use gk_line::{Block, Sequence, Text};
+use gk_document::{
+    Background, ExampleTable, Examples, Feature, Row, Rule, Scenario, Sequence, Step, Text,
+};
+use gk_line::Block;
 use std::alloc::{AllocError, Global};
 
 /// What stands behind a block: the examples of a scenario, a background and scenarios of a feature or rule, and

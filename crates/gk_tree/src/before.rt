@@ -9,9 +9,9 @@ use crate::fault::ParseFault;
 use crate::header::{commented, fault, location, opened, spaced_tag, tagged, unexpected};
 use crate::state::{Parser, Phase, Progress};
 use crate::token::{IndentedLine, Token};
-use gk_document::Tag;
+use gk_document::{Sequence, Tag};
 use gk_grammar::FaultKind;
-use gk_line::{Block, Sequence};
+use gk_line::Block;
 use std::alloc::Global;
 
 /// A line before the first tag line or feature line.

@@ -15,8 +15,8 @@ use crate::state::{Parser, Phase, Progress, Stepped};
 use crate::steps::{counted, row_at, single_row, step_at, with_row};
 use crate::texts::description;
 use crate::token::{IndentedLine, Token};
-use gk_document::Row;
-use gk_line::{Block, Cell, Sequence, StepLine, Title};
+use gk_document::{Cell, Row, Sequence};
+use gk_line::{Block, StepLine, Title};
 use std::alloc::{AllocError, Global};
 
 /// Whether the block may stand behind the other one, or be the first.

@@ -1,6 +1,6 @@
 //! Blocks without the blocks below them.
-use gk_document::{Location, Row, Step, Tag};
-use gk_line::{Block, Sequence, Text};
+use gk_document::{Location, Row, Sequence, Step, Tag, Text};
+use gk_line::Block;
 
 /// What stands below the description of a block.
 #[derive(Drop)]

@@ -12,9 +12,9 @@ use crate::fault::ParseFault;
 use crate::state::{Parser, Phase, Progress};
 use crate::texts::{copied, tag_name};
 use crate::token::{IndentedLine, TagWords, Token};
-use gk_document::{Comment, Location, Tag};
+use gk_document::{Comment, Location, Sequence, Tag, Text};
 use gk_grammar::FaultKind;
-use gk_line::{Block, Sequence, TagText, Text, Title};
+use gk_line::{Block, TagText, Title};
 use std::alloc::{AllocError, Global};
 
 /// The place of a line's first character behind its indent.

@@ -9,7 +9,8 @@ ghost use Rattle.gk_tree.specs.Plain.{kind_of};
 use crate::before::is_english;
 use crate::read::token;
 use crate::token::Token;
-use gk_line::{Block, Fence, Line, lines};
+use gk_document::Fence;
+use gk_line::{Block, Line, lines};
 use std::alloc::{AllocError, Global};
 
 /// What a line is.

@@ -19,9 +19,9 @@ use crate::read::{indented, token};
 use crate::state::{Parser, Phase, Progress, Stepped};
 use crate::steps::{quoting, stepping, with_steps};
 use crate::token::{IndentedLine, Token};
-use gk_document::Document;
+use gk_document::{Document, Sequence};
 use gk_grammar::FaultKind;
-use gk_line::{Line, Sequence, lines};
+use gk_line::{Line, lines};
 use std::alloc::Global;
 
 /// The most bytes of a text.

@@ -11,7 +11,8 @@ ghost use Rattle.gk_tree.specs.PlainLines as spec;
 
 use crate::kinds::{Kind, kinds};
 use crate::parts::{Part, Rule, rule_of};
-use gk_line::{Block, Fence};
+use gk_document::Fence;
+use gk_line::Block;
 use std::alloc::{AllocError, Global};
 
 /// Whether the line is a comment or blank.

@@ -11,9 +11,10 @@ ghost use Rattle.gk_grammar.specs.Token.{token_of, comment_token as comment_or_l
 ghost use Rattle.gk_tree.specs.Views.{token_view, retold};
 
 use crate::token::{IndentedLine, TagWords, Token};
+use gk_document::{Cell, Sequence};
 use gk_line::{
-    Block, Cell, Line, LineFault, Sequence, cells, fence, indent, is_blank, is_comment, is_row,
-    is_tags, language, step, tags, title,
+    Block, Line, LineFault, cells, fence, indent, is_blank, is_comment, is_row, is_tags, language,
+    step, tags, title,
 };
 use std::alloc::{AllocError, Global};
 

@@ -1,8 +1,8 @@
 //! The state of the one pass over the lines.
 use crate::chunk::Chunk;
 use crate::token::IndentedLine;
-use gk_document::{Comment, Location, Row, Step, Tag};
-use gk_line::{Block, Fence, Sequence};
+use gk_document::{Comment, Fence, Location, Row, Sequence, Step, Tag};
+use gk_line::Block;
 
 /// What was made of the lines so far.
 #[derive(Drop)]

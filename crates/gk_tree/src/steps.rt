@@ -16,9 +16,9 @@ use crate::header::{commented, fault, location, unexpected};
 use crate::state::{Parser, Phase, Progress, Quote, Stepped};
 use crate::texts::{content, copied, media_type};
 use crate::token::{IndentedLine, Token};
-use gk_document::{Argument, DocString, Row, Step};
+use gk_document::{Argument, Cell, DocString, Row, Sequence, Step};
 use gk_grammar::FaultKind;
-use gk_line::{Cell, FenceLine, Sequence, StepLine};
+use gk_line::{FenceLine, StepLine};
 use std::alloc::{AllocError, Global};
 
 /// With one node more.

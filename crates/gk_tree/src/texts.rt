@@ -8,7 +8,8 @@ ghost use Rattle.gk_grammar.specs.Grammar.{media_of, description_of, from_text, 
 ghost use Rattle.gk_tree.specs.Views.{text_of, kept_line};
 
 use crate::token::IndentedLine;
-use gk_line::{Fence, Text, is_blank, is_comment, push_doc_line};
+use gk_document::{Fence, Text};
+use gk_line::{is_blank, is_comment, push_doc_line};
 use std::alloc::{AllocError, Global};
 
 /// A text of its own with these characters.

@@ -1,7 +1,8 @@
 //! What the grammar asks of a line.
 ghost use Rattle.std.specs.Prelude.{◌≡◌, ◌≤◌, vec_len, length};
 
-use gk_line::{Block, Cell, FenceLine, Line, Sequence, StepLine, TagText, Title};
+use gk_document::{Cell, Sequence};
+use gk_line::{Block, FenceLine, Line, StepLine, TagText, Title};
 
 /// A line with its indent.
 #[derive(Clone, Copy)]

@@ -1,6 +1,6 @@
 use Rattle.std.specs.Str.{chars}
 use Rattle.gk_line.specs.DocStrings.{fence_characters}
-use Rattle.gk_line.specs.declared.tokens.Fence.TheVariants.{Quotes, Backticks}
+use Rattle.gk_document.specs.declared.tree.Fence.TheVariants.{Quotes, Backticks}
 use Rattle.gk_line.proofs.PlaceLemmas.{stands-read}
 use Rattle.gk_line.proofs.titles.fence.Goals as goal
 

@@ -1,5 +1,5 @@
 use Rattle.std.proofs.Common.{◌≡◌, List, ◌++◌, take, drop}
-use Rattle.gk_line.specs.declared.tokens.KeywordType.{KeywordType}
+use Rattle.gk_document.specs.declared.tree.KeywordType.{KeywordType}
 use Rattle.gk_pickle.specs.Steps.{type_of, keywords, steps_after}
 use Rattle.gk_pickle.proofs.steps.add_steps.Given as goal
 

@@ -2,7 +2,7 @@ use Rattle.std.proofs.Common.{◌∙◌, ◌≡◌, subst, List}
 use Rattle.std.specs.Prelude.{map}
 use Rattle.gk_line.specs.Cells.{cells_of}
 use Rattle.gk_line.specs.Views.{line_chars}
-use Rattle.gk_line.specs.declared.tokens.Cell.{Cell}
+use Rattle.gk_document.specs.declared.tree.Cell.{Cell}
 use Rattle.gk_tree.specs.Views.{retold}
 use Rattle.gk_tree.proofs.TokenLemmas.{cells_same}
 use Rattle.gk_tree.proofs.read.row_cells.Goals as goal

@@ -1,0 +1,5 @@
+use Rattle.std.proofs.Common.{rules}
+use Rattle.gk_document.proofs.sequence.SequenceFromVec.from.Goals as goal
+
+pub returns : goal.returns
+returns c = search rules
