@@ -1,5 +1,5 @@
 -- What the parser's values are in the machine's terms.
-use Rattle.std.specs.Prelude.{◌≡◌, ℕ, List, map, Result, Ok, Err, ◌⊎◌}
+use Rattle.std.specs.Prelude.{◌≡◌, ℕ, Bool, true, false, List, map, Result, Ok, Err, ◌⊎◌}
 use Rattle.std.specs.Str.{chars, encode_utf8_all}
 use Rattle.gk_line.specs.Views.{line_chars, numbered_line, tag_word, title_text, step_text, fence_text}
 use Rattle.gk_grammar.specs.declared.fault.FaultKind.TheVariants as kind
@@ -73,11 +73,19 @@ phase_of (phase.Stepping s) = machine.Stepping (chunk_of s.chunk) s.before s.las
 phase_of (phase.Quoting s quote lines) = machine.Quoting (chunk_of s.chunk) s.before s.last (quote_of quote) (map kept_line lines.items)
 phase_of (phase.Listing chunk rows) = machine.Listing (chunk_of chunk) rows
 
+-- before the first block, behind the language line or not
+abbrev pub head_of : Bool → machine.Phase
+head_of true = machine.Spoken
+head_of false = machine.Before
+
 abbrev pub state_at : Progress → machine.Phase → State
 state_at p phase = record { comments = p.comments; nodes = p.nodes; chunks = map chunk_of p.chunks; phase = phase }
 
+abbrev pub state_in : Progress → Phase → State
+state_in p phase = state_at p (phase_of phase)
+
 abbrev pub state_of : Parser → State
-state_of p = state_at p.progress (phase_of p.phase)
+state_of p = state_in p.progress p.phase
 
 abbrev pub bad_of : ParseFault → Bad
 bad_of f = record { kind = f.kind; line = f.line; column = f.column }

@@ -5,14 +5,14 @@ ghost use Rattle.gk_grammar.specs.declared.fault.FaultKind.TheVariants as kinds;
 ghost use Rattle.gk_grammar.specs.Token as read;
 ghost use Rattle.gk_grammar.specs.Grammar as grammar;
 ghost use Rattle.gk_grammar.specs.Machine as machine;
-ghost use Rattle.gk_tree.specs.Views.{text_of, token_view, line_at, chunk_of, kept_line, state_at, state_of, Gives};
+ghost use Rattle.gk_tree.specs.Views.{text_of, token_view, line_at, chunk_of, kept_line, state_at, state_in, Gives};
 ghost use Rattle.gk_tree.specs.Read.{IsRead};
 
 use crate::chunk::{Body, Chunk};
 use crate::fault::ParseFault;
 use crate::header::{commented, location, opened, pass, spaced_tag, tagged, unexpected};
-use crate::state::{Parser, Phase, Progress, Stepped};
-use crate::steps::{counted, row_at, single_row, step_at, with_row};
+use crate::state::{Phase, Progress, Stepped};
+use crate::steps::{row_at, single_row, step_at, with_row};
 use crate::texts::description;
 use crate::token::{IndentedLine, Token};
 use gk_document::{Cell, Row, Sequence};
@@ -50,22 +50,16 @@ fn stops(block: Block, token: &Token<'_>) -> bool
 /// A line behind a whole block, which isn't part of it.
 pub(crate) fn leaving<'a>(
     alloc: Global,
-    progress: Progress,
+    progress: &mut Progress,
     chunk: Chunk,
     at: IndentedLine<'a>,
     token: Token<'a>,
-) -> Result<Parser<'a>, ParseFault>
-    requires room { progress.nodes < 2 ^ 63 }
-    ensures { Gives state_of result (machine.leaving (state_at progress machine.Before) (chunk_of chunk) (line_at at.entry token.entry)) }
+) -> Result<Phase<'a>, ParseFault>
+    requires room { progress.old.nodes < 2 ^ 63 }
+    ensures { Gives (state_in progress.new) result (machine.leaving (state_at progress.old machine.Before) (chunk_of chunk) (line_at at.entry token.entry)) }
 {
     let block = chunk.block;
-    let progress = match with_chunk(progress, chunk) {
-        Ok(progress) => progress,
-        Err(error) => {
-            drop(token);
-            return Err(ParseFault::from(error));
-        }
-    };
+    progress.chunks.push(chunk)?;
     match token {
         Token::Tags(words) => {
             tagged(
@@ -77,47 +71,31 @@ pub(crate) fn leaving<'a>(
                 words,
             )
         }
-        Token::SpacedTag(column) => {
-            drop(progress);
-            Err(spaced_tag(at, column))
-        }
+        Token::SpacedTag(column) => Err(spaced_tag(at, column)),
         Token::Title(next, title) => next_title(alloc, progress, Some(block), next, at, title),
-        token => {
-            drop(token);
-            drop(progress);
-            Err(unexpected(at))
-        }
+        _ => Err(unexpected(at)),
     }
 }
 
 /// A title line behind a block or before all, without tags.
 pub(crate) fn next_title<'a>(
     alloc: Global,
-    progress: Progress,
+    progress: &mut Progress,
     before: Option<Block>,
     next: Block,
     at: IndentedLine<'a>,
     title: Title<'a>,
-) -> Result<Parser<'a>, ParseFault>
-    requires room { progress.nodes < 2 ^ 63 }
-    ensures { Gives state_of result (cond (machine.follows before next)
-        (Ok (machine.opened (state_at progress machine.Before) next [] at.entry.line.number at.entry.indent (text_of title.entry.keyword.now) (text_of title.entry.name.now)))
+) -> Result<Phase<'a>, ParseFault>
+    requires room { progress.old.nodes < 2 ^ 63 }
+    ensures { Gives (state_in progress.new) result (cond (machine.follows before next)
+        (Ok (machine.opened (state_at progress.old machine.Before) next [] at.entry.line.number at.entry.indent (text_of title.entry.keyword.now) (text_of title.entry.name.now)))
         (Err (record { kind = kinds.Unexpected; line = at.entry.line.number; column = at.entry.indent + 1 }))) }
 {
     if follows(before, next) {
         opened(alloc, progress, next, Sequence::new(alloc), at, title)
     } else {
-        drop(progress);
         Err(unexpected(at))
     }
-}
-
-/// With one whole block more.
-fn with_chunk(mut progress: Progress, chunk: Chunk) -> Result<Progress, AllocError>
-    ensures { IfOk result (λ p. p ≡ record progress { chunks = progress.chunks ++ chunk ∷ [] }) }
-{
-    progress.chunks.push(chunk)?;
-    Ok(progress)
 }
 
 /// The block with the text of its description.
@@ -135,67 +113,51 @@ pub(crate) fn described(
 /// The first step of a block.
 fn first_step<'a>(
     alloc: Global,
-    progress: Progress,
+    progress: &mut Progress,
     chunk: Chunk,
     at: IndentedLine<'a>,
     line: StepLine<'a>,
-) -> Result<Parser<'a>, ParseFault>
-    requires room { progress.nodes < 2 ^ 63 }
-    ensures { Gives state_of result (machine.entering (state_at progress machine.Before) (chunk_of chunk)
+) -> Result<Phase<'a>, ParseFault>
+    requires room { progress.old.nodes < 2 ^ 63 }
+    ensures { Gives (state_in progress.new) result (machine.entering (state_at progress.old machine.Before) (chunk_of chunk)
         (read.line at.entry.line.number (line_chars at.entry.line) at.entry.indent (read.step_token (step_text line.entry)))) }
 {
-    match step_at(alloc, progress.nodes, at, line) {
-        Ok(last) => Ok(Parser {
-            progress: counted(progress),
-            phase: Phase::Stepping(Stepped {
-                chunk,
-                before: Sequence::new(alloc),
-                last,
-            }),
-        }),
-        Err(error) => {
-            drop(chunk);
-            drop(progress);
-            Err(ParseFault::from(error))
-        }
-    }
+    let last = step_at(alloc, progress.nodes, at, line)?;
+    progress.nodes += 1;
+    Ok(Phase::Stepping(Stepped {
+        chunk,
+        before: Sequence::new(alloc),
+        last,
+    }))
 }
 
 /// The first row of an examples table.
 fn first_row<'a>(
     alloc: Global,
-    progress: Progress,
+    progress: &mut Progress,
     chunk: Chunk,
     at: IndentedLine<'a>,
     cells: Sequence<Cell>,
-) -> Result<Parser<'a>, ParseFault>
-    requires room { progress.nodes < 2 ^ 63 }
-    ensures { Gives state_of result (machine.entering (state_at progress machine.Before) (chunk_of chunk)
+) -> Result<Phase<'a>, ParseFault>
+    requires room { progress.old.nodes < 2 ^ 63 }
+    ensures { Gives (state_in progress.new) result (machine.entering (state_at progress.old machine.Before) (chunk_of chunk)
         (read.line at.entry.line.number (line_chars at.entry.line) at.entry.indent (read.Row cells))) }
 {
-    match single_row(alloc, row_at(progress.nodes, at, cells)) {
-        Ok(rows) => Ok(Parser {
-            progress: counted(progress),
-            phase: Phase::Listing(chunk, rows),
-        }),
-        Err(error) => {
-            drop(chunk);
-            drop(progress);
-            Err(ParseFault::from(error))
-        }
-    }
+    let rows = single_row(alloc, row_at(progress.nodes, at, cells))?;
+    progress.nodes += 1;
+    Ok(Phase::Listing(chunk, rows))
 }
 
 /// The first line behind a description.
 fn entering<'a>(
     alloc: Global,
-    progress: Progress,
+    progress: &mut Progress,
     chunk: Chunk,
     at: IndentedLine<'a>,
     token: Token<'a>,
-) -> Result<Parser<'a>, ParseFault>
-    requires room { progress.nodes < 2 ^ 63 }
-    ensures { Gives state_of result (machine.entering (state_at progress machine.Before) (chunk_of chunk) (line_at at.entry token.entry)) }
+) -> Result<Phase<'a>, ParseFault>
+    requires room { progress.old.nodes < 2 ^ 63 }
+    ensures { Gives (state_in progress.new) result (machine.entering (state_at progress.old machine.Before) (chunk_of chunk) (line_at at.entry token.entry)) }
 {
     match token {
         Token::Step(line) => first_step(alloc, progress, chunk, at, line),
@@ -207,90 +169,45 @@ fn entering<'a>(
 /// A line in or behind a description.
 pub(crate) fn describing<'a>(
     alloc: Global,
-    progress: Progress,
-    chunk: Chunk,
-    lines: Vec<IndentedLine<'a>>,
-    at: IndentedLine<'a>,
-    token: Token<'a>,
-) -> Result<Parser<'a>, ParseFault>
-    requires room { progress.nodes < 2 ^ 63 }
-    requires read { IsRead at token }
-    ensures { Gives state_of result (machine.at_phase (state_at progress machine.Before)
-        (machine.Described (chunk_of chunk) (map kept_line lines.entry.items)) (line_at at.entry token.entry)) }
-{
-    if stops(chunk.block, &token) {
-        return match described(alloc, chunk, &lines) {
-            Ok(chunk) => entering(alloc, progress, chunk, at, token),
-            Err(error) => {
-                drop(token);
-                drop(progress);
-                Err(ParseFault::from(error))
-            }
-        };
-    }
-    let passed = pass(alloc, progress, at, &token);
-    drop(token);
-    match passed {
-        Ok(progress) => describing_on(progress, chunk, lines, at),
-        Err(error) => {
-            drop(chunk);
-            Err(ParseFault::from(error))
-        }
-    }
-}
-
-/// Behind one line more of a description.
-fn describing_on<'a>(
-    progress: Progress,
+    progress: &mut Progress,
     chunk: Chunk,
     mut lines: Vec<IndentedLine<'a>>,
     at: IndentedLine<'a>,
-) -> Result<Parser<'a>, ParseFault>
-    ensures { Gives state_of result (Ok (state_at progress (machine.Described (chunk_of chunk) (map kept_line lines.entry.items ++ kept_line at.entry ∷ [])))) }
+    token: Token<'a>,
+) -> Result<Phase<'a>, ParseFault>
+    requires room { progress.old.nodes < 2 ^ 63 }
+    requires read { IsRead at token }
+    ensures { Gives (state_in progress.new) result (machine.at_phase (state_at progress.old machine.Before)
+        (machine.Described (chunk_of chunk) (map kept_line lines.entry.items)) (line_at at.entry token.entry)) }
 {
-    match lines.push(at) {
-        Ok(()) => Ok(Parser {
-            progress,
-            phase: Phase::Described(chunk, lines),
-        }),
-        Err(error) => {
-            drop(chunk);
-            drop(progress);
-            Err(ParseFault::from(error))
-        }
+    if stops(chunk.block, &token) {
+        let chunk = described(alloc, chunk, &lines)?;
+        return entering(alloc, progress, chunk, at, token);
     }
+    pass(alloc, progress, at, &token)?;
+    lines.push(at)?;
+    Ok(Phase::Described(chunk, lines))
 }
 
 /// A line behind rows of an examples table.
 pub(crate) fn listing<'a>(
     alloc: Global,
-    progress: Progress,
+    progress: &mut Progress,
     chunk: Chunk,
     rows: Sequence<Row>,
     at: IndentedLine<'a>,
     token: Token<'a>,
-) -> Result<Parser<'a>, ParseFault>
-    requires room { progress.nodes < 2 ^ 63 }
-    ensures { Gives state_of result (machine.listing (state_at progress machine.Before) (chunk_of chunk) rows (line_at at.entry token.entry)) }
+) -> Result<Phase<'a>, ParseFault>
+    requires room { progress.old.nodes < 2 ^ 63 }
+    ensures { Gives (state_in progress.new) result (machine.listing (state_at progress.old machine.Before) (chunk_of chunk) rows (line_at at.entry token.entry)) }
 {
     match token {
         Token::Row(cells) => {
-            match with_row(rows, row_at(progress.nodes, at, cells)) {
-                Ok(rows) => Ok(Parser {
-                    progress: counted(progress),
-                    phase: Phase::Listing(chunk, rows),
-                }),
-                Err(fault) => {
-                    drop(chunk);
-                    drop(progress);
-                    Err(fault)
-                }
-            }
+            let rows = with_row(rows, row_at(progress.nodes, at, cells))?;
+            progress.nodes += 1;
+            Ok(Phase::Listing(chunk, rows))
         }
-        Token::Blank => Ok(Parser {
-            progress,
-            phase: Phase::Listing(chunk, rows),
-        }),
+        Token::Blank => Ok(Phase::Listing(chunk, rows)),
         Token::Comment | Token::Language(_) => {
             commented(alloc, progress, Phase::Listing(chunk, rows), at)
         }

@@ -1,15 +1,15 @@
 //! Comments, tag lines and title lines.
-ghost use Rattle.std.specs.Prelude.{◌≡◌, ◌<◌, ◌≤◌, ◌^◌, ◌+◌, ◌∷◌, ◌++◌, [], ℕ, List, map, length, Ok, IfOk};
+ghost use Rattle.std.specs.Prelude.{◌≡◌, ◌<◌, ◌≤◌, ◌^◌, ◌+◌, ◌∷◌, ◌++◌, [], ℕ, List, map, length, Ok, IfOk, OnOk};
 ghost use Rattle.gk_grammar.specs.declared.fault.FaultKind.TheVariants as kinds;
 ghost use Rattle.gk_grammar.specs.Token as read;
 ghost use Rattle.gk_line.specs.Views.{line_chars};
 ghost use Rattle.gk_grammar.specs.Grammar.{comment_of, comments_of};
 ghost use Rattle.gk_grammar.specs.Machine as machine;
-ghost use Rattle.gk_tree.specs.Views.{text_of, word_of, token_view, line_at, body_of, chunk_of, phase_of, state_at, state_of, Gives};
+ghost use Rattle.gk_tree.specs.Views.{text_of, word_of, token_view, line_at, body_of, chunk_of, phase_of, state_at, state_in, Gives};
 
 use crate::chunk::{Body, Chunk};
 use crate::fault::ParseFault;
-use crate::state::{Parser, Phase, Progress};
+use crate::state::{Phase, Progress};
 use crate::texts::{copied, tag_name};
 use crate::token::{IndentedLine, TagWords, Token};
 use gk_document::{Comment, Location, Sequence, Tag, Text};
@@ -59,28 +59,27 @@ pub(crate) fn spaced_tag(at: IndentedLine<'_>, column: u32) -> ParseFault
 /// Keeps the line if it is a comment.
 pub(crate) fn pass(
     alloc: Global,
-    progress: Progress,
+    progress: &mut Progress,
     at: IndentedLine<'_>,
     token: &Token<'_>,
-) -> Result<Progress, AllocError>
-    ensures { IfOk result (λ p. p ≡ record progress { comments = progress.comments ++ comments_of (line_at at.entry token.now ∷ []) }) }
+) -> Result<(), AllocError>
+    ensures { OnOk result (progress.new ≡ record progress.old { comments = progress.old.comments ++ comments_of (line_at at.entry token.now ∷ []) }) }
 {
-    if is_comment_token(token) {
-        let kept = with_comment(alloc, progress, at)?;
-        return Ok(kept);
+    if !is_comment_token(token) {
+        return Ok(());
     }
-    Ok(progress)
+    keep_comment(alloc, progress, at)
 }
 
 /// Keeps the line, which is a comment.
-fn with_comment(
+fn keep_comment(
     alloc: Global,
-    mut progress: Progress,
+    progress: &mut Progress,
     at: IndentedLine<'_>,
-) -> Result<Progress, AllocError>
-    ensures { IfOk result (λ p. p ≡ record progress {
+) -> Result<(), AllocError>
+    ensures { OnOk result (progress.new ≡ record progress.old {
       comments
-          = progress.comments ++ comment_of (read.line at.entry.line.number (line_chars at.entry.line) at.entry.indent read.Comment) ∷ [];
+          = progress.old.comments ++ comment_of (read.line at.entry.line.number (line_chars at.entry.line) at.entry.indent read.Comment) ∷ [];
     }) }
 {
     let comment = Comment {
@@ -90,27 +89,21 @@ fn with_comment(
         },
         text: copied(alloc, at.line.text)?,
     };
-    progress.comments.push(comment)?;
-    Ok(progress)
+    progress.comments.push(comment)
 }
 
 /// Keeps the line, which is a comment, and stays in the phase.
 pub(crate) fn commented<'a>(
     alloc: Global,
-    progress: Progress,
+    progress: &mut Progress,
     phase: Phase<'a>,
     at: IndentedLine<'a>,
-) -> Result<Parser<'a>, ParseFault>
-    ensures { Gives state_of result (Ok (machine.passing (state_at progress machine.Before) (phase_of phase.entry)
+) -> Result<Phase<'a>, ParseFault>
+    ensures { Gives (state_in progress.new) result (Ok (machine.passing (state_at progress.old machine.Before) (phase_of phase.entry)
         (read.line at.entry.line.number (line_chars at.entry.line) at.entry.indent read.Comment))) }
 {
-    match with_comment(alloc, progress, at) {
-        Ok(progress) => Ok(Parser { progress, phase }),
-        Err(error) => {
-            drop(phase);
-            Err(ParseFault::from(error))
-        }
-    }
+    keep_comment(alloc, progress, at)?;
+    Ok(phase)
 }
 
 /// Whether the line is a comment, also a language line.
@@ -160,57 +153,37 @@ fn with_tags(
 /// A tag line behind these tags.
 pub(crate) fn tagged<'a>(
     alloc: Global,
-    mut progress: Progress,
+    progress: &mut Progress,
     before: Option<Block>,
     tags: Sequence<Tag>,
     at: IndentedLine<'a>,
     words: TagWords<'a>,
-) -> Result<Parser<'a>, ParseFault>
-    requires room { progress.nodes < 2 ^ 63 }
-    ensures { Gives state_of result
-        (Ok (machine.tagged (state_at progress machine.Before) before tags at.entry.line.number (map word_of words.entry.words.items))) }
+) -> Result<Phase<'a>, ParseFault>
+    requires room { progress.old.nodes < 2 ^ 63 }
+    ensures { Gives (state_in progress.new) result
+        (Ok (machine.tagged (state_at progress.old machine.Before) before tags at.entry.line.number (map word_of words.entry.words.items))) }
 {
-    match with_tags(alloc, tags, progress.nodes, at.line.number, &words.words) {
-        Ok(tags) => {
-            progress.nodes += words.words.len() as u64;
-            Ok(Parser {
-                progress,
-                phase: Phase::Tagged(before, tags),
-            })
-        }
-        Err(error) => {
-            drop(progress);
-            Err(ParseFault::from(error))
-        }
-    }
+    let tags = with_tags(alloc, tags, progress.nodes, at.line.number, &words.words)?;
+    progress.nodes += words.words.len() as u64;
+    Ok(Phase::Tagged(before, tags))
 }
 
 /// A title line behind these tags.
 pub(crate) fn opened<'a>(
     alloc: Global,
-    mut progress: Progress,
+    progress: &mut Progress,
     block: Block,
     tags: Sequence<Tag>,
     at: IndentedLine<'a>,
     title: Title<'a>,
-) -> Result<Parser<'a>, ParseFault>
-    requires room { progress.nodes < 2 ^ 63 }
-    ensures { Gives state_of result
-        (Ok (machine.opened (state_at progress machine.Before) block tags at.entry.line.number at.entry.indent (text_of title.entry.keyword.now) (text_of title.entry.name.now))) }
+) -> Result<Phase<'a>, ParseFault>
+    requires room { progress.old.nodes < 2 ^ 63 }
+    ensures { Gives (state_in progress.new) result
+        (Ok (machine.opened (state_at progress.old machine.Before) block tags at.entry.line.number at.entry.indent (text_of title.entry.keyword.now) (text_of title.entry.name.now))) }
 {
-    match started(alloc, progress.nodes, block, tags, at, title) {
-        Ok(chunk) => {
-            progress.nodes += own_node(block);
-            Ok(Parser {
-                progress,
-                phase: Phase::Described(chunk, Vec::new(alloc)),
-            })
-        }
-        Err(error) => {
-            drop(progress);
-            Err(ParseFault::from(error))
-        }
-    }
+    let chunk = started(alloc, progress.nodes, block, tags, at, title)?;
+    progress.nodes += own_node(block);
+    Ok(Phase::Described(chunk, Vec::new(alloc)))
 }
 
 /// The block of a title line, without its description and what is below it.

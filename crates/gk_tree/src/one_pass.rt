@@ -5,7 +5,7 @@ ghost use Rattle.gk_grammar.specs.declared.fault.FaultKind.TheVariants as kind;
 ghost use Rattle.gk_grammar.specs.Documents.{lines_read, IsDocumentOf, HasFault, IsTooLong, byte_limit, line_limit};
 ghost use Rattle.gk_grammar.specs.Token.{line_of};
 ghost use Rattle.gk_grammar.specs.Machine as machine;
-ghost use Rattle.gk_tree.specs.Views.{line_at, state_of, phase_of, chunk_of, kept_line, Gives, out_of_memory, too_long};
+ghost use Rattle.gk_tree.specs.Views.{line_at, state_of, state_in, phase_of, chunk_of, kept_line, Gives, out_of_memory, too_long};
 ghost use Rattle.gk_tree.specs.Read.{IsRead};
 ghost use Rattle.gk_tree.specs.Ends.{ended, document_at, Answers};
 ghost use Rattle.gk_tree.specs.EndViews.{last_of};
@@ -89,57 +89,53 @@ fn taken<'a>(alloc: Global, text: &'a str) -> Result<Parser<'a>, ParseFault>
     requires few { length (lines_read text.now) ≤ line_limit }
     ensures { Gives state_of result (machine.run machine.initial (lines_read text.now)) }
 {
-    let mut parser = Parser {
-        progress: Progress {
-            comments: Sequence::new(alloc),
-            nodes: 0,
-            chunks: Sequence::new(alloc),
-        },
-        phase: Phase::Before,
+    let mut progress = Progress {
+        comments: Sequence::new(alloc),
+        nodes: 0,
+        chunks: Sequence::new(alloc),
     };
+    let mut phase = Phase::Before;
     for line in lines(text) {
-        parser = take(alloc, parser, line)?;
+        phase = take(alloc, &mut progress, phase, line)?;
     }
-    Ok(parser)
+    Ok(Parser { progress, phase })
 }
 
-/// One line.
-fn take<'a>(alloc: Global, parser: Parser<'a>, line: Line<'a>) -> Result<Parser<'a>, ParseFault>
+/// One line: the phase behind it.
+fn take<'a>(
+    alloc: Global,
+    progress: &mut Progress,
+    phase: Phase<'a>,
+    line: Line<'a>,
+) -> Result<Phase<'a>, ParseFault>
     requires short { length line.text.now ≤ 16_777_216 }
-    requires room { parser.progress.nodes < 2 ^ 63 }
-    ensures { Gives state_of result (machine.next (state_of parser.entry) (line_of (numbered_line line.entry))) }
+    requires room { progress.old.nodes < 2 ^ 63 }
+    ensures { Gives (state_in progress.new) result (machine.next (state_in progress.old phase.entry) (line_of (numbered_line line.entry))) }
 {
     let at = indented(line);
-    match token(alloc, line) {
-        Ok(token) => take_token(alloc, parser, at, token),
-        Err(error) => {
-            drop(parser);
-            Err(ParseFault::from(error))
-        }
-    }
+    let token = token(alloc, line)?;
+    take_token(alloc, progress, phase, at, token)
 }
 
 /// One line, read as this token.
 fn take_token<'a>(
     alloc: Global,
-    parser: Parser<'a>,
+    progress: &mut Progress,
+    phase: Phase<'a>,
     at: IndentedLine<'a>,
     token: Token<'a>,
-) -> Result<Parser<'a>, ParseFault>
-    requires room { parser.progress.nodes < 2 ^ 63 }
+) -> Result<Phase<'a>, ParseFault>
+    requires room { progress.old.nodes < 2 ^ 63 }
     requires read { IsRead at token }
-    ensures { Gives state_of result (machine.next (state_of parser.entry) (line_at at.entry token.entry)) }
+    ensures { Gives (state_in progress.new) result (machine.next (state_in progress.old phase.entry) (line_at at.entry token.entry)) }
 {
-    let Parser { progress, phase } = parser;
     match phase {
         Phase::Before => before_feature(alloc, progress, at, token),
         Phase::Spoken => spoken(alloc, progress, at, token),
         Phase::Tagged(before, tags) => behind_tags(alloc, progress, before, tags, at, token),
         Phase::Described(chunk, lines) => describing(alloc, progress, chunk, lines, at, token),
         Phase::Stepping(stepped) => stepping(alloc, progress, stepped, at, token),
-        Phase::Quoting(stepped, quote, lines) => {
-            quoting(alloc, progress, stepped, quote, lines, at, token)
-        }
+        Phase::Quoting(stepped, quote, lines) => quoting(alloc, stepped, quote, lines, at, &token),
         Phase::Listing(chunk, rows) => listing(alloc, progress, chunk, rows, at, token),
     }
 }
@@ -153,10 +149,7 @@ fn closed(alloc: Global, phase: Phase<'_>, behind: u32) -> Result<Option<Chunk>,
         Phase::Described(chunk, lines) => last_description(alloc, chunk, lines),
         Phase::Stepping(stepped) => last_steps(stepped),
         Phase::Listing(chunk, rows) => Ok(Some(with_rows(chunk, rows))),
-        phase => {
-            drop(phase);
-            Err(early_end(behind))
-        }
+        _ => Err(early_end(behind)),
     }
 }
 

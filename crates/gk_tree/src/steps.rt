@@ -5,30 +5,22 @@ ghost use Rattle.gk_document.specs.declared.tree.Argument.TheVariants.{Text as Q
 ghost use Rattle.gk_grammar.specs.Token as read;
 ghost use Rattle.gk_grammar.specs.Grammar as grammar;
 ghost use Rattle.gk_grammar.specs.Machine as machine;
-ghost use Rattle.gk_tree.specs.Views.{text_of, token_view, line_at, chunk_of, quote_of, kept_line, state_at, state_of, Gives};
+ghost use Rattle.gk_tree.specs.Views.{text_of, token_view, line_at, chunk_of, quote_of, kept_line, state_at, state_in, Gives};
 ghost use Rattle.gk_tree.specs.Rows.{rows_with, row_behind};
 ghost use Rattle.gk_tree.specs.Read.{IsRead};
+ghost use Rattle.gk_tree.specs.declared.state.Progress.{Progress};
 
 use crate::blocks::leaving;
 use crate::chunk::{Body, Chunk};
 use crate::fault::ParseFault;
 use crate::header::{commented, fault, location, unexpected};
-use crate::state::{Parser, Phase, Progress, Quote, Stepped};
+use crate::state::{Phase, Progress, Quote, Stepped};
 use crate::texts::{content, copied, media_type};
 use crate::token::{IndentedLine, Token};
 use gk_document::{Argument, Cell, DocString, Row, Sequence, Step};
 use gk_grammar::FaultKind;
 use gk_line::{FenceLine, StepLine};
 use std::alloc::{AllocError, Global};
-
-/// With one node more.
-pub(crate) fn counted(mut progress: Progress) -> Progress
-    requires room { progress.nodes < 2 ^ 63 }
-    ensures { result ≡ record progress { nodes = progress.nodes + 1 } }
-{
-    progress.nodes += 1;
-    progress
-}
 
 /// The row that the line is.
 pub(crate) fn row_at(node: u64, at: IndentedLine<'_>, cells: Sequence<Cell>) -> Row
@@ -114,14 +106,14 @@ pub(crate) fn with_steps(stepped: Stepped) -> Result<Chunk, AllocError>
 /// A step line behind steps.
 fn next_step<'a>(
     alloc: Global,
-    progress: Progress,
+    progress: &mut Progress,
     stepped: Stepped,
     at: IndentedLine<'a>,
     line: StepLine<'a>,
-) -> Result<Parser<'a>, AllocError>
-    requires room { progress.nodes < 2 ^ 63 }
-    ensures { IfOk result (λ p. machine.stepping (state_at progress machine.Before) (chunk_of stepped.chunk) stepped.before stepped.last
-        (read.line at.entry.line.number (line_chars at.entry.line) at.entry.indent (read.step_token (step_text line.entry))) ≡ Ok (state_of p)) }
+) -> Result<Phase<'a>, ParseFault>
+    requires room { progress.old.nodes < 2 ^ 63 }
+    ensures { Gives (state_in progress.new) result (machine.stepping (state_at progress.old machine.Before) (chunk_of stepped.chunk) stepped.before stepped.last
+        (read.line at.entry.line.number (line_chars at.entry.line) at.entry.indent (read.step_token (step_text line.entry)))) }
 {
     let Stepped {
         chunk,
@@ -130,14 +122,12 @@ fn next_step<'a>(
     } = stepped;
     before.push(last)?;
     let last = step_at(alloc, progress.nodes, at, line)?;
-    Ok(Parser {
-        progress: counted(progress),
-        phase: Phase::Stepping(Stepped {
-            chunk,
-            before,
-            last,
-        }),
-    })
+    progress.nodes += 1;
+    Ok(Phase::Stepping(Stepped {
+        chunk,
+        before,
+        last,
+    }))
 }
 
 /// A row behind a step.
@@ -153,20 +143,43 @@ fn step_row(alloc: Global, mut last: Step, row: Row) -> Result<Step, ParseFault>
     Ok(last)
 }
 
+/// A row line behind steps.
+fn next_row<'a>(
+    alloc: Global,
+    progress: &mut Progress,
+    stepped: Stepped,
+    at: IndentedLine<'a>,
+    cells: Sequence<Cell>,
+) -> Result<Phase<'a>, ParseFault>
+    requires room { progress.old.nodes < 2 ^ 63 }
+    ensures { Gives (state_in progress.new) result (machine.stepping (state_at progress.old machine.Before) (chunk_of stepped.chunk) stepped.before stepped.last
+        (read.line at.entry.line.number (line_chars at.entry.line) at.entry.indent (read.Row cells))) }
+{
+    let Stepped {
+        chunk,
+        before,
+        last,
+    } = stepped;
+    let last = step_row(alloc, last, row_at(progress.nodes, at, cells))?;
+    progress.nodes += 1;
+    Ok(Phase::Stepping(Stepped {
+        chunk,
+        before,
+        last,
+    }))
+}
+
 /// A fence behind a step.
 fn step_fence<'a>(
     alloc: Global,
-    progress: Progress,
     stepped: Stepped,
     at: IndentedLine<'a>,
     line: FenceLine<'a>,
-) -> Result<Parser<'a>, ParseFault>
-    ensures { Gives state_of result (machine.step_fence (state_at progress machine.Before) (chunk_of stepped.chunk) stepped.before stepped.last
+) -> Result<Phase<'a>, ParseFault>
+    ensures { (p : Progress) → Gives (state_in p) result (machine.step_fence (state_at p machine.Before) (chunk_of stepped.chunk) stepped.before stepped.last
         stepped.last.argument at.entry.line.number at.entry.indent line.entry.fence (text_of line.entry.media.now)) }
 {
     if stepped.last.argument.is_some() {
-        drop(stepped);
-        drop(progress);
         return Err(unexpected(at));
     }
     let quote = Quote {
@@ -175,22 +188,19 @@ fn step_fence<'a>(
         media: line.media,
         indent: at.indent,
     };
-    Ok(Parser {
-        progress,
-        phase: Phase::Quoting(stepped, quote, Vec::new(alloc)),
-    })
+    Ok(Phase::Quoting(stepped, quote, Vec::new(alloc)))
 }
 
 /// A line behind a whole block with steps, which isn't part of it.
 fn leaving_steps<'a>(
     alloc: Global,
-    progress: Progress,
+    progress: &mut Progress,
     stepped: Stepped,
     at: IndentedLine<'a>,
     token: Token<'a>,
-) -> Result<Parser<'a>, ParseFault>
-    requires room { progress.nodes < 2 ^ 63 }
-    ensures { Gives state_of result (machine.leaving (state_at progress machine.Before)
+) -> Result<Phase<'a>, ParseFault>
+    requires room { progress.old.nodes < 2 ^ 63 }
+    ensures { Gives (state_in progress.new) result (machine.leaving (state_at progress.old machine.Before)
         (machine.with_steps (chunk_of stepped.chunk) (stepped.before ++ stepped.last ∷ [])) (line_at at.entry token.entry)) }
 {
     let chunk = with_steps(stepped)?;
@@ -200,46 +210,20 @@ fn leaving_steps<'a>(
 /// A line behind steps.
 pub(crate) fn stepping<'a>(
     alloc: Global,
-    progress: Progress,
+    progress: &mut Progress,
     stepped: Stepped,
     at: IndentedLine<'a>,
     token: Token<'a>,
-) -> Result<Parser<'a>, ParseFault>
-    requires room { progress.nodes < 2 ^ 63 }
-    ensures { Gives state_of result (machine.stepping (state_at progress machine.Before) (chunk_of stepped.chunk) stepped.before stepped.last
+) -> Result<Phase<'a>, ParseFault>
+    requires room { progress.old.nodes < 2 ^ 63 }
+    ensures { Gives (state_in progress.new) result (machine.stepping (state_at progress.old machine.Before) (chunk_of stepped.chunk) stepped.before stepped.last
         (line_at at.entry token.entry)) }
 {
     match token {
-        Token::Step(line) => Ok(next_step(alloc, progress, stepped, at, line)?),
-        Token::Row(cells) => {
-            let row = row_at(progress.nodes, at, cells);
-            let Stepped {
-                chunk,
-                before,
-                last,
-            } = stepped;
-            match step_row(alloc, last, row) {
-                Ok(last) => Ok(Parser {
-                    progress: counted(progress),
-                    phase: Phase::Stepping(Stepped {
-                        chunk,
-                        before,
-                        last,
-                    }),
-                }),
-                Err(fault) => {
-                    drop(chunk);
-                    drop(before);
-                    drop(progress);
-                    Err(fault)
-                }
-            }
-        }
-        Token::Fenced(line) => step_fence(alloc, progress, stepped, at, line),
-        Token::Blank => Ok(Parser {
-            progress,
-            phase: Phase::Stepping(stepped),
-        }),
+        Token::Step(line) => next_step(alloc, progress, stepped, at, line),
+        Token::Row(cells) => next_row(alloc, progress, stepped, at, cells),
+        Token::Fenced(line) => step_fence(alloc, stepped, at, line),
+        Token::Blank => Ok(Phase::Stepping(stepped)),
         Token::Comment | Token::Language(_) => {
             commented(alloc, progress, Phase::Stepping(stepped), at)
         }
@@ -256,16 +240,9 @@ fn quoted(
 ) -> Result<Stepped, AllocError>
     ensures { IfOk result (λ s. s ≡ record stepped { last = machine.quoted stepped.last (quote_of quote.entry) (map kept_line lines.now) }) }
 {
-    match doc_string(alloc, quote, lines) {
-        Ok(text) => {
-            stepped.last = with_text(stepped.last, text);
-            Ok(stepped)
-        }
-        Err(error) => {
-            drop(stepped);
-            Err(error)
-        }
-    }
+    let text = doc_string(alloc, quote, lines)?;
+    stepped.last = with_text(stepped.last, text);
+    Ok(stepped)
 }
 
 /// The step with the doc string below it.
@@ -295,42 +272,21 @@ fn doc_string(
 /// A line in a doc string, or the one that closes it.
 pub(crate) fn quoting<'a>(
     alloc: Global,
-    progress: Progress,
     stepped: Stepped,
     quote: Quote<'a>,
     mut lines: Vec<IndentedLine<'a>>,
     at: IndentedLine<'a>,
-    token: Token<'a>,
-) -> Result<Parser<'a>, ParseFault>
-    requires { IsRead at token }
-    ensures { Gives state_of result (machine.at_phase (state_at progress machine.Before)
-        (machine.Quoting (chunk_of stepped.chunk) stepped.before stepped.last (quote_of quote.entry) (map kept_line lines.entry.items)) (line_at at.entry token.entry)) }
+    token: &Token<'a>,
+) -> Result<Phase<'a>, ParseFault>
+    requires { IsRead at token.now }
+    ensures { (p : Progress) → Gives (state_in p) result (machine.at_phase (state_at p machine.Before)
+        (machine.Quoting (chunk_of stepped.chunk) stepped.before stepped.last (quote_of quote.entry) (map kept_line lines.entry.items)) (line_at at.entry token.now)) }
 {
-    let closes = is_fence(quote, &token);
-    drop(token);
-    if closes {
-        return match quoted(alloc, stepped, quote, &lines) {
-            Ok(stepped) => Ok(Parser {
-                progress,
-                phase: Phase::Stepping(stepped),
-            }),
-            Err(error) => {
-                drop(progress);
-                Err(ParseFault::from(error))
-            }
-        };
+    if is_fence(quote, token) {
+        return Ok(Phase::Stepping(quoted(alloc, stepped, quote, &lines)?));
     }
-    match lines.push(at) {
-        Ok(()) => Ok(Parser {
-            progress,
-            phase: Phase::Quoting(stepped, quote, lines),
-        }),
-        Err(error) => {
-            drop(stepped);
-            drop(progress);
-            Err(ParseFault::from(error))
-        }
-    }
+    lines.push(at)?;
+    Ok(Phase::Quoting(stepped, quote, lines))
 }
 
 /// Whether the line closes the doc string.

@@ -1,4 +1,5 @@
-use Rattle.std.proofs.Common.{◌≡◌, ◌∙◌, sym, ap, List, true, false, ◌++◌, [], ◌∷◌, refl, append-nil}
+use Rattle.std.proofs.Common.{◌≡◌, ◌∙◌, sym, ap, subst, List, true, false, ◌++◌, [], ◌∷◌, refl, append-nil}
+use Rattle.std.specs.Prelude.{OnOk}
 use Rattle.gk_document.specs.declared.tree.Comment.{Comment}
 use Rattle.gk_grammar.specs.Token.{Line, is_comment}
 use Rattle.gk_grammar.specs.Grammar.{comments_of, comment_of}
@@ -12,19 +13,21 @@ kept l e = rw e refl
 passed : (l : Line) → is_comment l ≡ false → comments_of (l ∷ []) ≡ []
 passed l e = rw e refl
 
-pub returns-then-is_comment_token : goal.returns-then-is_comment_token
-returns-then-is_comment_token c =
+pub returns-then-not-is_comment_token : goal.returns-then-not-is_comment_token
+returns-then-not-is_comment_token c =
     let at = c.args.at in
     let l = line_at at c.args.token.now in
     let same = c.is_comment_token.ensures at.line.number (line_chars at.line) at.indent in
-    c.in_ok-kept.ensures
-    ∙ ap (λ (z : List Comment). record { comments = c.args.progress.comments ++ z; nodes = c.args.progress.nodes; chunks = c.args.progress.chunks })
-    (sym (kept l (sym same ∙ c.if-is_comment_token.true)))
+    let p = c.args.progress.now in
+    ap (λ (z : List Comment). record { comments = z; nodes = p.nodes; chunks = p.chunks })
+    (sym (append-nil p.comments) ∙ ap (λ (z : List Comment). p.comments ++ z) (sym (passed l (sym same ∙ c.if-not-is_comment_token.true))))
 
 pub returns : goal.returns
 returns c =
     let at = c.args.at in
     let l = line_at at c.args.token.now in
     let same = c.is_comment_token.ensures at.line.number (line_chars at.line) at.indent in
-    ap (λ (z : List Comment). record { comments = z; nodes = c.args.progress.nodes; chunks = c.args.progress.chunks })
-    (sym (append-nil c.args.progress.comments) ∙ ap (λ (z : List Comment). c.args.progress.comments ++ z) (sym (passed l (sym same ∙ c.if-is_comment_token.false))))
+    let p = c.args.progress.now in
+    subst (λ (z : List Comment). OnOk c.keep_comment.result (c.keep_comment.new.progress ≡ record { comments = p.comments ++ z; nodes = p.nodes; chunks = p.chunks }))
+    (sym (kept l (sym same ∙ c.if-not-is_comment_token.false)))
+    c.keep_comment.ensures

@@ -2,5 +2,5 @@ use Rattle.std.proofs.Common.{refl}
 use Rattle.std.proofs.lemmas.List.{length-map}
 use Rattle.gk_tree.proofs.header.tagged.Goals as goal
 
-pub returns-in-Ok : goal.returns-in-Ok
-returns-in-Ok c = rw (c.len.ensures, ← c.deref.ensures.len, c.in-Ok.ensures, c.deref.ensures.value, length-map) refl
+pub returns : goal.returns
+returns c = rw (c.len.ensures, ← c.deref.ensures.len, c.in_ok-tags.ensures, c.deref.ensures.value, length-map) refl
