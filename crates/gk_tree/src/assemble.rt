@@ -1,5 +1,5 @@
 //! The tree of a list of blocks.
-ghost use Rattle.std.specs.Prelude.{◌≡◌, ◌∷◌, map, reverse, IfOk};
+ghost use Rattle.std.specs.Prelude.{◌≡◌, ◌∷◌, map, reverse, IfOk, OnOk};
 ghost use Rattle.gk_line.specs.declared.tokens.Block.TheVariants as block;
 ghost use Rattle.gk_grammar.specs.Assembly as assembly;
 ghost use Rattle.gk_grammar.specs.Assembly.{no_parts, with_block, feature_at, rule_at, scenario_at, examples_at, steps_of, rows_of, table_of};
@@ -12,6 +12,7 @@ use gk_document::{
 };
 use gk_line::Block;
 use std::alloc::{AllocError, Global};
+use std::mem::replace;
 
 /// What stands behind a block: the examples of a scenario, a background and scenarios of a feature or rule, and
 /// further rules. The lists are back to front.
@@ -31,12 +32,11 @@ fn in_order<T>(mut items: Vec<T>) -> Sequence<T>
     Sequence::from(items)
 }
 
-/// The items with one before them; both lists are back to front.
-fn with_item<T: Drop>(mut items: Vec<T>, item: T) -> Result<Vec<T>, AllocError>
-    ensures { IfOk result (λ all. reverse all.items ≡ item ∷ reverse items.items) }
+/// Adds an item before the others, which are back to front.
+fn put_before<T: Drop>(items: &mut Vec<T>, item: T) -> Result<(), AllocError>
+    ensures { OnOk result (reverse items.new.items ≡ item ∷ reverse items.old.items) }
 {
-    items.push(item)?;
-    Ok(items)
+    Ok(items.push(item)?)
 }
 
 /// The feature whose blocks these are, itself the first.
@@ -66,7 +66,7 @@ fn parts_of(alloc: Global, mut chunks: Vec<Chunk>) -> Result<Parts, AllocError>
         rules: Vec::new(alloc),
     };
     while let Some(chunk) = chunks.pop() {
-        parts = with_chunk(alloc, parts, chunk)?;
+        add_chunk(alloc, &mut parts, chunk)?;
     }
     Ok(parts)
 }
@@ -95,35 +95,29 @@ fn feature_in(language: Text, chunk: Chunk, parts: Parts) -> Feature
     }
 }
 
-/// The parts with one block before them.
-fn with_chunk(alloc: Global, parts: Parts, chunk: Chunk) -> Result<Parts, AllocError>
-    ensures { IfOk result (λ p. parts_view p ≡ with_block chunk.block (chunk_of chunk) (parts_view parts)) }
+/// Adds one block before the parts.
+fn add_chunk(alloc: Global, parts: &mut Parts, chunk: Chunk) -> Result<(), AllocError>
+    ensures { OnOk result (parts_view parts.new ≡ with_block chunk.block (chunk_of chunk) (parts_view parts.old)) }
 {
     match chunk.block {
-        Block::Rule => with_rule(alloc, parts, chunk),
-        Block::Background => Ok(with_background(alloc, parts, chunk)),
-        Block::Scenario => with_scenario(alloc, parts, chunk),
-        Block::Examples => with_examples(parts, chunk),
-        Block::Feature => Ok(parts),
+        Block::Rule => add_rule(alloc, parts, chunk),
+        Block::Background => {
+            add_background(alloc, parts, chunk);
+            Ok(())
+        }
+        Block::Scenario => add_scenario(alloc, parts, chunk),
+        Block::Examples => put_before(&mut parts.examples, examples_block(chunk)),
+        Block::Feature => Ok(()),
     }
 }
 
-fn with_rule(alloc: Global, parts: Parts, chunk: Chunk) -> Result<Parts, AllocError>
-    ensures { IfOk result (λ p. parts_view p ≡ with_block block.Rule (chunk_of chunk) (parts_view parts)) }
+/// Adds a rule, which takes the background and the scenarios behind it.
+fn add_rule(alloc: Global, parts: &mut Parts, chunk: Chunk) -> Result<(), AllocError>
+    ensures { OnOk result (parts_view parts.new ≡ with_block block.Rule (chunk_of chunk) (parts_view parts.old)) }
 {
-    let Parts {
-        examples,
-        background,
-        scenarios,
-        rules,
-    } = parts;
-    let rules = with_item(rules, rule(chunk, background, scenarios))?;
-    Ok(Parts {
-        examples,
-        background: None,
-        scenarios: Vec::new(alloc),
-        rules,
-    })
+    let background = parts.background.take();
+    let scenarios = replace(&mut parts.scenarios, Vec::new(alloc));
+    put_before(&mut parts.rules, rule(chunk, background, scenarios))
 }
 
 /// The rule with this background and these scenarios, which are back to front.
@@ -142,8 +136,8 @@ fn rule(chunk: Chunk, background: Option<Background>, scenarios: Vec<Scenario>) 
     }
 }
 
-fn with_background(alloc: Global, mut parts: Parts, chunk: Chunk) -> Parts
-    ensures { parts_view result ≡ with_block block.Background (chunk_of chunk) (parts_view parts) }
+fn add_background(alloc: Global, parts: &mut Parts, chunk: Chunk)
+    ensures { parts_view parts.new ≡ with_block block.Background (chunk_of chunk) (parts_view parts.old) }
 {
     parts.background = Some(Background {
         node: chunk.node,
@@ -153,25 +147,14 @@ fn with_background(alloc: Global, mut parts: Parts, chunk: Chunk) -> Parts
         description: chunk.description,
         steps: steps(alloc, chunk.body),
     });
-    parts
 }
 
-fn with_scenario(alloc: Global, parts: Parts, chunk: Chunk) -> Result<Parts, AllocError>
-    ensures { IfOk result (λ p. parts_view p ≡ with_block block.Scenario (chunk_of chunk) (parts_view parts)) }
+/// Adds a scenario, which takes the examples behind it.
+fn add_scenario(alloc: Global, parts: &mut Parts, chunk: Chunk) -> Result<(), AllocError>
+    ensures { OnOk result (parts_view parts.new ≡ with_block block.Scenario (chunk_of chunk) (parts_view parts.old)) }
 {
-    let Parts {
-        examples,
-        background,
-        scenarios,
-        rules,
-    } = parts;
-    let scenarios = with_item(scenarios, scenario(alloc, chunk, examples))?;
-    Ok(Parts {
-        examples: Vec::new(alloc),
-        background,
-        scenarios,
-        rules,
-    })
+    let examples = replace(&mut parts.examples, Vec::new(alloc));
+    put_before(&mut parts.scenarios, scenario(alloc, chunk, examples))
 }
 
 /// The scenario with these examples, which are back to front.
@@ -188,13 +171,6 @@ fn scenario(alloc: Global, chunk: Chunk, examples: Vec<Examples>) -> Scenario
         steps: steps(alloc, chunk.body),
         examples: in_order(examples),
     }
-}
-
-fn with_examples(mut parts: Parts, chunk: Chunk) -> Result<Parts, AllocError>
-    ensures { IfOk result (λ p. parts_view p ≡ with_block block.Examples (chunk_of chunk) (parts_view parts)) }
-{
-    parts.examples.push(examples_block(chunk))?;
-    Ok(parts)
 }
 
 fn examples_block(chunk: Chunk) -> Examples

@@ -24,7 +24,7 @@ pub loop-chunk-preserved : goal.loop-chunk-preserved
 loop-chunk-preserved c =
     let rest = c.pop.new.self.items in
     let behind = parts_view c.loop-chunk.parts in
-    ap (λ (z : assembly.Parts). parts_behind (map chunk_of rest) z) c.in_ok-parts.ensures
+    ap (λ (z : assembly.Parts). parts_behind (map chunk_of rest) z) c.in_ok-add_chunk.ensures
     ∙ sym (one_before rest c.in-Some.chunk behind)
     ∙ ap (λ (z : List Chunk). parts_behind (map chunk_of z) behind) (sym c.in-Some.ensures.items)
     ∙ c.loop-chunk.invariant
