@@ -12,7 +12,7 @@ use crate::chunk::{Body, Chunk};
 use crate::fault::ParseFault;
 use crate::header::{commented, location, opened, pass, spaced_tag, tagged, unexpected};
 use crate::state::{Phase, Progress, Stepped};
-use crate::steps::{row_at, single_row, step_at, with_row};
+use crate::steps::{add_row, row_at, single_row, step_at};
 use crate::texts::description;
 use crate::token::{IndentedLine, Token};
 use gk_document::{Cell, Row, Sequence};
@@ -98,18 +98,6 @@ pub(crate) fn next_title<'a>(
     }
 }
 
-/// The block with the text of its description.
-pub(crate) fn described(
-    alloc: Global,
-    mut chunk: Chunk,
-    lines: &[IndentedLine<'_>],
-) -> Result<Chunk, AllocError>
-    ensures { IfOk result (λ c. chunk_of c ≡ machine.described (chunk_of chunk) (map kept_line lines.now)) }
-{
-    chunk.description = description(alloc, lines)?;
-    Ok(chunk)
-}
-
 /// The first step of a block.
 fn first_step<'a>(
     alloc: Global,
@@ -170,7 +158,7 @@ fn entering<'a>(
 pub(crate) fn describing<'a>(
     alloc: Global,
     progress: &mut Progress,
-    chunk: Chunk,
+    mut chunk: Chunk,
     mut lines: Vec<IndentedLine<'a>>,
     at: IndentedLine<'a>,
     token: Token<'a>,
@@ -181,7 +169,7 @@ pub(crate) fn describing<'a>(
         (machine.Described (chunk_of chunk) (map kept_line lines.entry.items)) (line_at at.entry token.entry)) }
 {
     if stops(chunk.block, &token) {
-        let chunk = described(alloc, chunk, &lines)?;
+        chunk.description = description(alloc, &lines)?;
         return entering(alloc, progress, chunk, at, token);
     }
     pass(alloc, progress, at, &token)?;
@@ -194,7 +182,7 @@ pub(crate) fn listing<'a>(
     alloc: Global,
     progress: &mut Progress,
     chunk: Chunk,
-    rows: Sequence<Row>,
+    mut rows: Sequence<Row>,
     at: IndentedLine<'a>,
     token: Token<'a>,
 ) -> Result<Phase<'a>, ParseFault>
@@ -203,7 +191,7 @@ pub(crate) fn listing<'a>(
 {
     match token {
         Token::Row(cells) => {
-            let rows = with_row(rows, row_at(progress.nodes, at, cells))?;
+            add_row(&mut rows, row_at(progress.nodes, at, cells))?;
             progress.nodes += 1;
             Ok(Phase::Listing(chunk, rows))
         }

@@ -12,12 +12,13 @@ ghost use Rattle.gk_tree.specs.EndViews.{last_of};
 
 use crate::assemble::assembled;
 use crate::before::{before_feature, behind_tags, spoken};
-use crate::blocks::{described, describing, listing, with_rows};
+use crate::blocks::{describing, listing, with_rows};
 use crate::chunk::Chunk;
 use crate::fault::ParseFault;
 use crate::read::{indented, token};
 use crate::state::{Parser, Phase, Progress, Stepped};
 use crate::steps::{quoting, stepping, with_steps};
+use crate::texts::description;
 use crate::token::{IndentedLine, Token};
 use gk_document::{Document, Sequence};
 use gk_grammar::FaultKind;
@@ -146,8 +147,11 @@ fn closed(alloc: Global, phase: Phase<'_>, behind: u32) -> Result<Option<Chunk>,
 {
     match phase {
         Phase::Before => Ok(None),
-        Phase::Described(chunk, lines) => last_description(alloc, chunk, lines),
-        Phase::Stepping(stepped) => last_steps(stepped),
+        Phase::Described(mut chunk, lines) => {
+            chunk.description = description(alloc, &lines)?;
+            Ok(Some(chunk))
+        }
+        Phase::Stepping(stepped) => Ok(Some(with_steps(stepped)?)),
         Phase::Listing(chunk, rows) => Ok(Some(with_rows(chunk, rows))),
         _ => Err(early_end(behind)),
     }
@@ -162,26 +166,6 @@ fn early_end(behind: u32) -> ParseFault
         line: behind,
         column: 1,
     }
-}
-
-/// The last block, where the text ends in its description.
-fn last_description(
-    alloc: Global,
-    chunk: Chunk,
-    lines: Vec<IndentedLine<'_>>,
-) -> Result<Option<Chunk>, ParseFault>
-    ensures { Gives last_of result (Ok (machine.described (chunk_of chunk) (map kept_line lines.entry.items) ∷ [])) }
-{
-    let chunk = described(alloc, chunk, &lines)?;
-    Ok(Some(chunk))
-}
-
-/// The last block, where the text ends behind its steps.
-fn last_steps(stepped: Stepped) -> Result<Option<Chunk>, ParseFault>
-    ensures { Gives last_of result (Ok (machine.with_steps (chunk_of stepped.chunk) (stepped.before ++ stepped.last ∷ []) ∷ [])) }
-{
-    let chunk = with_steps(stepped)?;
-    Ok(Some(chunk))
 }
 
 /// The document, where the text may end.

@@ -48,6 +48,7 @@ pub(crate) enum Phase<'a> {
     Listing(Chunk, Sequence<Row>),
 }
 
+/// Between two lines: what was made of those before, and where the pass stands.
 #[derive(Drop)]
 pub(crate) struct Parser<'a> {
     pub progress: Progress,

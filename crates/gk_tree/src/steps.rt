@@ -1,7 +1,6 @@
 //! Steps, the rows of tables, and doc strings.
 ghost use Rattle.std.specs.Prelude.{◌≡◌, ◌<◌, ◌^◌, ◌+◌, ◌∷◌, ◌++◌, [], ℕ, List, map, None, Some, Ok, IfOk};
 ghost use Rattle.gk_line.specs.Views.{line_chars, step_text};
-ghost use Rattle.gk_document.specs.declared.tree.Argument.TheVariants.{Text as Quoted};
 ghost use Rattle.gk_grammar.specs.Token as read;
 ghost use Rattle.gk_grammar.specs.Grammar as grammar;
 ghost use Rattle.gk_grammar.specs.Machine as machine;
@@ -21,6 +20,7 @@ use gk_document::{Argument, Cell, DocString, Row, Sequence, Step};
 use gk_grammar::FaultKind;
 use gk_line::{FenceLine, StepLine};
 use std::alloc::{AllocError, Global};
+use std::mem::replace;
 
 /// The row that the line is.
 pub(crate) fn row_at(node: u64, at: IndentedLine<'_>, cells: Sequence<Cell>) -> Row
@@ -68,15 +68,15 @@ pub(crate) fn single_row(alloc: Global, row: Row) -> Result<Sequence<Row>, Alloc
     Ok(rows)
 }
 
-/// One row more of a table.
-pub(crate) fn with_row(mut rows: Sequence<Row>, row: Row) -> Result<Sequence<Row>, ParseFault>
-    ensures { Gives (λ all. all) result (rows_with rows row) }
+/// Adds a row to a table.
+pub(crate) fn add_row(rows: &mut Sequence<Row>, row: Row) -> Result<(), ParseFault>
+    ensures { Gives (λ _. rows.new) result (rows_with rows.old row) }
 {
     if row.cells.len() != cell_count(rows.as_slice()) {
         return Err(fault(FaultKind::CellCount, row.location));
     }
     rows.push(row)?;
-    Ok(rows)
+    Ok(())
 }
 
 /// How many cells the first row has.
@@ -107,7 +107,7 @@ pub(crate) fn with_steps(stepped: Stepped) -> Result<Chunk, AllocError>
 fn next_step<'a>(
     alloc: Global,
     progress: &mut Progress,
-    stepped: Stepped,
+    mut stepped: Stepped,
     at: IndentedLine<'a>,
     line: StepLine<'a>,
 ) -> Result<Phase<'a>, ParseFault>
@@ -115,39 +115,34 @@ fn next_step<'a>(
     ensures { Gives (state_in progress.new) result (machine.stepping (state_at progress.old machine.Before) (chunk_of stepped.chunk) stepped.before stepped.last
         (read.line at.entry.line.number (line_chars at.entry.line) at.entry.indent (read.step_token (step_text line.entry)))) }
 {
-    let Stepped {
-        chunk,
-        mut before,
-        last,
-    } = stepped;
-    before.push(last)?;
-    let last = step_at(alloc, progress.nodes, at, line)?;
+    let step = step_at(alloc, progress.nodes, at, line)?;
+    let last = replace(&mut stepped.last, step);
+    stepped.before.push(last)?;
     progress.nodes += 1;
-    Ok(Phase::Stepping(Stepped {
-        chunk,
-        before,
-        last,
-    }))
+    Ok(Phase::Stepping(stepped))
 }
 
-/// A row behind a step.
-fn step_row(alloc: Global, mut last: Step, row: Row) -> Result<Step, ParseFault>
-    ensures { Gives (λ step. step) result (row_behind last last.argument row) }
+/// Adds a row to the table of a step, which may be its first row.
+fn add_step_row(alloc: Global, step: &mut Step, row: Row) -> Result<(), ParseFault>
+    ensures { Gives (λ _. step.new) result (row_behind step.old step.old.argument row) }
 {
-    let rows = match last.argument.take() {
+    let rows = match step.argument.take() {
         None => single_row(alloc, row)?,
-        Some(Argument::Table(rows)) => with_row(rows, row)?,
+        Some(Argument::Table(mut rows)) => {
+            add_row(&mut rows, row)?;
+            rows
+        }
         Some(Argument::Text(_)) => return Err(fault(FaultKind::Unexpected, row.location)),
     };
-    last.argument = Some(Argument::Table(rows));
-    Ok(last)
+    step.argument = Some(Argument::Table(rows));
+    Ok(())
 }
 
 /// A row line behind steps.
 fn next_row<'a>(
     alloc: Global,
     progress: &mut Progress,
-    stepped: Stepped,
+    mut stepped: Stepped,
     at: IndentedLine<'a>,
     cells: Sequence<Cell>,
 ) -> Result<Phase<'a>, ParseFault>
@@ -155,18 +150,10 @@ fn next_row<'a>(
     ensures { Gives (state_in progress.new) result (machine.stepping (state_at progress.old machine.Before) (chunk_of stepped.chunk) stepped.before stepped.last
         (read.line at.entry.line.number (line_chars at.entry.line) at.entry.indent (read.Row cells))) }
 {
-    let Stepped {
-        chunk,
-        before,
-        last,
-    } = stepped;
-    let last = step_row(alloc, last, row_at(progress.nodes, at, cells))?;
+    let row = row_at(progress.nodes, at, cells);
+    add_step_row(alloc, &mut stepped.last, row)?;
     progress.nodes += 1;
-    Ok(Phase::Stepping(Stepped {
-        chunk,
-        before,
-        last,
-    }))
+    Ok(Phase::Stepping(stepped))
 }
 
 /// A fence behind a step.
@@ -231,28 +218,6 @@ pub(crate) fn stepping<'a>(
     }
 }
 
-/// The steps with the doc string below the last one.
-fn quoted(
-    alloc: Global,
-    mut stepped: Stepped,
-    quote: Quote<'_>,
-    lines: &[IndentedLine<'_>],
-) -> Result<Stepped, AllocError>
-    ensures { IfOk result (λ s. s ≡ record stepped { last = machine.quoted stepped.last (quote_of quote.entry) (map kept_line lines.now) }) }
-{
-    let text = doc_string(alloc, quote, lines)?;
-    stepped.last = with_text(stepped.last, text);
-    Ok(stepped)
-}
-
-/// The step with the doc string below it.
-fn with_text(mut step: Step, text: DocString) -> Step
-    ensures { result ≡ record step { argument = Some (Quoted text) } }
-{
-    step.argument = Some(Argument::Text(text));
-    step
-}
-
 /// The doc string of these lines.
 fn doc_string(
     alloc: Global,
@@ -272,7 +237,7 @@ fn doc_string(
 /// A line in a doc string, or the one that closes it.
 pub(crate) fn quoting<'a>(
     alloc: Global,
-    stepped: Stepped,
+    mut stepped: Stepped,
     quote: Quote<'a>,
     mut lines: Vec<IndentedLine<'a>>,
     at: IndentedLine<'a>,
@@ -283,7 +248,9 @@ pub(crate) fn quoting<'a>(
         (machine.Quoting (chunk_of stepped.chunk) stepped.before stepped.last (quote_of quote.entry) (map kept_line lines.entry.items)) (line_at at.entry token.now)) }
 {
     if is_fence(quote, token) {
-        return Ok(Phase::Stepping(quoted(alloc, stepped, quote, &lines)?));
+        let text = doc_string(alloc, quote, &lines)?;
+        stepped.last.argument = Some(Argument::Text(text));
+        return Ok(Phase::Stepping(stepped));
     }
     lines.push(at)?;
     Ok(Phase::Quoting(stepped, quote, lines))
