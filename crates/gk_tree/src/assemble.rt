@@ -74,25 +74,17 @@ fn parts_of(alloc: Global, mut chunks: Vec<Chunk>) -> Result<Parts, AllocError>
 fn feature(alloc: Global, chunk: Chunk, parts: Parts) -> Result<Feature, AllocError>
     ensures { IfOk result (λ f. f ≡ feature_at (chunk_of chunk) (parts_view parts)) }
 {
-    let language = Text::copy_of(alloc, "en")?;
-    Ok(feature_in(language, chunk, parts))
-}
-
-/// The feature in this language.
-fn feature_in(language: Text, chunk: Chunk, parts: Parts) -> Feature
-    ensures { result ≡ record (feature_at (chunk_of chunk) (parts_view parts)) { language = language } }
-{
-    Feature {
+    Ok(Feature {
         location: chunk.location,
         tags: chunk.tags,
-        language,
+        language: Text::copy_of(alloc, "en")?,
         keyword: chunk.keyword,
         name: chunk.name,
         description: chunk.description,
         background: parts.background,
         scenarios: in_order(parts.scenarios),
         rules: in_order(parts.rules),
-    }
+    })
 }
 
 /// Adds one block before the parts.

@@ -198,41 +198,16 @@ fn started(
     ensures { IfOk result (λ c. chunk_of c
         ≡ machine.started node block tags at.entry.line.number at.entry.indent (text_of title.entry.keyword.now) (text_of title.entry.name.now)) }
 {
-    let (keyword, name) = title_texts(alloc, title)?;
-    Ok(titled(alloc, node, block, tags, at, keyword, name))
-}
-
-/// The block of these parts, without its description and what is below it.
-fn titled(
-    alloc: Global,
-    node: u64,
-    block: Block,
-    tags: Sequence<Tag>,
-    at: IndentedLine<'_>,
-    keyword: Text,
-    name: Text,
-) -> Chunk
-    ensures { chunk_of result ≡ machine.started node block tags at.entry.line.number at.entry.indent keyword name }
-{
-    Chunk {
+    Ok(Chunk {
         block,
         node,
         location: location(at),
         tags,
-        keyword,
-        name,
+        keyword: copied(alloc, title.keyword)?,
+        name: copied(alloc, title.name)?,
         description: Text::from(String::new(alloc)),
         body: empty_body(alloc, block),
-    }
-}
-
-/// The keyword and the name of a title line.
-fn title_texts(alloc: Global, title: Title<'_>) -> Result<(Text, Text), AllocError>
-    ensures { IfOk result (λ t. (t.0 ≡ text_of title.entry.keyword.now) × (t.1 ≡ text_of title.entry.name.now)) }
-{
-    let keyword = copied(alloc, title.keyword)?;
-    let name = copied(alloc, title.name)?;
-    Ok((keyword, name))
+    })
 }
 
 /// How many nodes the title line of a block is.
