@@ -1,5 +1,5 @@
 //! The lines in a description, and those behind a block.
-ghost use Rattle.std.specs.Prelude.{◌≡◌, ◌<◌, ◌+◌, ◌^◌, ◌∷◌, ◌++◌, [], ℕ, List, map, cond, Ok, Err, IfOk};
+ghost use Rattle.std.specs.Prelude.{◌≡◌, ◌<◌, ◌+◌, ◌^◌, [], ℕ, List, map, cond, Ok, Err};
 ghost use Rattle.gk_line.specs.Views.{line_chars, step_text};
 ghost use Rattle.gk_grammar.specs.declared.fault.FaultKind.TheVariants as kinds;
 ghost use Rattle.gk_grammar.specs.Token as read;
@@ -10,14 +10,14 @@ ghost use Rattle.gk_tree.specs.Read.{IsRead};
 
 use crate::chunk::{Body, Chunk};
 use crate::fault::ParseFault;
-use crate::header::{commented, location, opened, pass, spaced_tag, tagged, unexpected};
+use crate::header::{commented, opened, pass, spaced_tag, tagged, unexpected};
 use crate::state::{Phase, Progress, Stepped};
 use crate::steps::{add_row, row_at, single_row, step_at};
 use crate::texts::description;
 use crate::token::{IndentedLine, Token};
 use gk_document::{Cell, Row, Sequence};
 use gk_line::{Block, StepLine, Title};
-use std::alloc::{AllocError, Global};
+use std::alloc::Global;
 
 /// Whether the block may stand behind the other one, or be the first.
 pub(crate) fn follows(before: Option<Block>, block: Block) -> bool

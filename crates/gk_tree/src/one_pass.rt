@@ -1,11 +1,11 @@
 //! The one pass over the lines of a text.
-ghost use Rattle.std.specs.Prelude.{◌≡◌, ◌≢◌, ◌≤◌, ◌<◌, ◌+◌, ◌^◌, ◌↔◌, ◌∷◌, ◌++◌, [], None, Ok, Err, length, map, IfOk, IfErr, IfSome};
+ghost use Rattle.std.specs.Prelude.{◌≡◌, ◌≢◌, ◌≤◌, ◌<◌, ◌+◌, ◌^◌, ◌↔◌, None, Ok, Err, length, IfOk, IfErr, IfSome};
 ghost use Rattle.gk_line.specs.Views.{numbered_line};
 ghost use Rattle.gk_grammar.specs.declared.fault.FaultKind.TheVariants as kind;
 ghost use Rattle.gk_grammar.specs.Documents.{lines_read, IsDocumentOf, HasFault, IsTooLong, byte_limit, line_limit};
 ghost use Rattle.gk_grammar.specs.Token.{line_of};
 ghost use Rattle.gk_grammar.specs.Machine as machine;
-ghost use Rattle.gk_tree.specs.Views.{line_at, state_of, state_in, phase_of, chunk_of, kept_line, Gives, out_of_memory, too_long};
+ghost use Rattle.gk_tree.specs.Views.{line_at, state_of, state_in, phase_of, Gives, out_of_memory, too_long};
 ghost use Rattle.gk_tree.specs.Read.{IsRead};
 ghost use Rattle.gk_tree.specs.Ends.{ended, document_at, Answers};
 ghost use Rattle.gk_tree.specs.EndViews.{last_of};
@@ -16,7 +16,7 @@ use crate::blocks::{describing, listing, with_rows};
 use crate::chunk::Chunk;
 use crate::fault::ParseFault;
 use crate::read::{indented, token};
-use crate::state::{Parser, Phase, Progress, Stepped};
+use crate::state::{Parser, Phase, Progress};
 use crate::steps::{quoting, stepping, with_steps};
 use crate::texts::description;
 use crate::token::{IndentedLine, Token};

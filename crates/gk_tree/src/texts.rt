@@ -1,5 +1,5 @@
 //! Texts of the tree.
-ghost use Rattle.std.specs.Prelude.{◌≡◌, ◌++◌, map, reverse, filter, not, codes, length, IfOk, OnOk, if◌then◌else◌, [], ◌∷◌};
+ghost use Rattle.std.specs.Prelude.{◌≡◌, ◌++◌, map, reverse, filter, not, codes, IfOk, OnOk, if◌then◌else◌, [], ◌∷◌};
 ghost use Rattle.std.specs.String.{string_bytes};
 ghost use Rattle.std.specs.List.{join_with_byte};
 ghost use Rattle.gk_grammar.specs.Token.{bytes};

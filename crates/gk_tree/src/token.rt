@@ -1,5 +1,5 @@
 //! What the grammar asks of a line.
-ghost use Rattle.std.specs.Prelude.{◌≡◌, ◌≤◌, vec_len, length};
+ghost use Rattle.std.specs.Prelude.{◌≤◌, vec_len, length};
 
 use gk_document::{Cell, Sequence};
 use gk_line::{Block, FenceLine, Line, StepLine, TagText, Title};
