@@ -4,7 +4,8 @@ use Rattle.clap.specs.Words.{App, Row, HasMatchesOf, Kinds, HasKind, Text, fault
 use Rattle.clap.specs.declared.error.Error.{Error}
 use Rattle.clap.specs.declared.error.kind.ErrorKind.TheVariants.{OutOfMemory}
 use Rattle.clap.specs.declared.parser.matches.ArgMatches.{ArgMatches}
-use Rattle.ck_commands.specs.CommandLine.{Chooses, Command, ask_compile, asked, command_app, command_named, command_of, named, where_none}
+use Rattle.ck_commands.specs.CommandLine.{Chooses, Command, ask_audit, ask_compile, asked, policy_named, command_app, command_named, command_of, named, where_none}
+use Rattle.cm_attempt.specs.declared.policy.Policy.{Policy}
 use Rattle.ck_commands.specs.declared.command_line.Choice.{Choice}
 use Rattle.ck_commands.specs.declared.command_line.Refusal.{Refusal}
 use Rattle.ck_commands.specs.declared.command_line.Refusal.TheVariants.{Memory}
@@ -66,3 +67,9 @@ pub named_compile : (sub : Option (Text × List Row)) (name : Text) (rows : List
     → Some rows ≡ option_map (λ p. p.1) sub → bytes_eq name (codes "parse") ≡ false → bytes_eq name (codes "compile") ≡ true
     → first_of (codes "uri") rows ≡ uri → named sub ≡ option_map ask_compile uri
 named_compile sub name rows uri n r other is value = named_as sub name rows n r ∙ rw (other, is, value) refl
+
+-- `audit` is named, with this policy
+pub named_audit : (sub : Option (Text × List Row)) (name : Text) (rows : List Row) (policy : Policy) → Some name ≡ option_map (λ p. p.0) sub
+    → Some rows ≡ option_map (λ p. p.1) sub → bytes_eq name (codes "parse") ≡ false → bytes_eq name (codes "compile") ≡ false → bytes_eq name (codes "audit") ≡ true
+    → policy_named (first_of (codes "pending-passes") rows) ≡ policy → named sub ≡ Some (ask_audit policy)
+named_audit sub name rows policy n r not_parse not_compile is value = named_as sub name rows n r ∙ rw (not_parse, not_compile, is, value) refl

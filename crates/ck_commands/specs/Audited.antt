@@ -3,6 +3,7 @@ use Rattle.std.specs.Prelude.{◌≡◌, ◌⊎◌, ℕ, List, [], ◌∷◌, �
 use Rattle.std.specs.Io.KnownBytes.{Appends}
 use Rattle.cm_envelope.specs.Lines.{line_feed}
 use Rattle.cm_envelope.specs.declared.feed.Trouble.TheVariants.{Memory}
+use Rattle.cm_attempt.specs.declared.policy.Policy.{Policy}
 use Rattle.cm_stream.specs.Findings as bad
 use Rattle.cm_stream.specs.Findings.{Fault, Finding, IsBad, IsUnsupported}
 use Rattle.cm_stream.specs.Stream.{Answer, GoodWith, Found, Failed, IsGoodStream}
@@ -35,12 +36,13 @@ fault_label bad.AttemptOpen = codes "19 AttemptOpen"
 fault_label bad.SourceIncomplete = codes "20 SourceIncomplete"
 fault_label bad.SuccessDiffers = codes "21 SuccessDiffers"
 fault_label bad.NoRunFinished = codes "22 NoRunFinished"
+fault_label bad.RunHookOpen = codes "23 RunHookOpen"
+fault_label bad.RunHookTwice = codes "24 RunHookTwice"
 
 abbrev pub reason_label : Reason → List ℕ
 reason_label reason.Language = codes "1 Language"
 reason_label reason.MediaType = codes "2 MediaType"
 reason_label reason.UnknownStatus = codes "3 UnknownStatus"
-reason_label reason.RunHook = codes "4 RunHook"
 reason_label reason.SourceTooLong = codes "5 SourceTooLong"
 
 abbrev pub finding_text : ℕ → Finding → List ℕ
@@ -79,6 +81,6 @@ TellsAnswer a status old new = (status ≡ verdict_status a) × Appends old new 
 abbrev pub TellsVerdict : Answer → ℕ → Option (List ℕ) → Option (List ℕ) → Type 0
 TellsVerdict a status old new = TellsAnswer a status old new ⊎ TellsAnswer (Failed Memory) status old new
 
--- a good stream, whatever its counts
-abbrev pub IsGoodSomehow : List ℕ → Type 0
-IsGoodSomehow bytes = (counts : Counts) × IsGoodStream bytes counts
+-- a good stream by the policy, whatever its counts
+abbrev pub IsGoodSomehow : Policy → List ℕ → Type 0
+IsGoodSomehow policy bytes = (counts : Counts) × IsGoodStream policy bytes counts

@@ -10,7 +10,8 @@ ghost use Rattle.ck_commands.specs.Run.{NoneFailed};
 
 use crate::report::{BAD_LINE_STATUS, Report, trouble_text};
 use crate::write::{NO_MEMORY, TROUBLE_STATUS, write_text};
-use cm_audit::audit;
+use cm_attempt::Policy;
+use cm_audit::audit_with;
 use cm_envelope::{ByteSink, ByteSource, Trouble};
 use cm_stream::{Bad, Counts, Reason, Verdict};
 use std::alloc::{AllocError, Global};
@@ -52,6 +53,8 @@ fn fault_text(alloc: Global, fault: Bad) -> Result<String, AllocError>
         Bad::SourceIncomplete => "20 SourceIncomplete",
         Bad::SuccessDiffers => "21 SuccessDiffers",
         Bad::NoRunFinished => "22 NoRunFinished",
+        Bad::RunHookOpen => "23 RunHookOpen",
+        Bad::RunHookTwice => "24 RunHookTwice",
     };
     Ok(String::from_str(alloc, label)?)
 }
@@ -63,7 +66,6 @@ fn reason_name(reason: Reason) -> &'static str
         Reason::Language => "1 Language",
         Reason::MediaType => "2 MediaType",
         Reason::UnknownStatus => "3 UnknownStatus",
-        Reason::RunHook => "4 RunHook",
         Reason::SourceTooLong => "5 SourceTooLong",
     }
 }
@@ -154,21 +156,22 @@ fn verdict_report(alloc: Global, answer: &Result<Verdict, Trouble>) -> Result<Re
     Ok(Report { text, status })
 }
 
-/// Audits the source and tells the verdict, and gives the status.
+/// Audits the source by a policy of good statuses and tells the verdict, and gives the status.
 pub(crate) fn audit_stream<R: ByteSource, W: ByteSink>(
     alloc: Global,
+    policy: Policy,
     source: &mut R,
     sink: &mut W,
 ) -> u8
     ensures told { NoneFailed (R.failed_calls source.old) (R.failed_calls source.new)
         → NoneFailed (W.failed_calls sink.old) (W.failed_calls sink.new)
         → IfSome (R.to_come source.old) (λ bytes.
-        TellsVerdict (answer_for (told bytes)) result (W.taken sink.old) (W.taken sink.new)) }
-    ensures good { result ≡ 0 → IfSome (R.to_come source.old) IsGoodSomehow }
+        TellsVerdict (answer_for (told policy bytes)) result (W.taken sink.old) (W.taken sink.new)) }
+    ensures good { result ≡ 0 → IfSome (R.to_come source.old) (IsGoodSomehow policy) }
     ensures unwritten { W.failed_calls sink.new ≢ W.failed_calls sink.old → result ≡ TROUBLE_STATUS }
     ensures unread { result ≡ 0 → R.failed_calls source.new ≡ R.failed_calls source.old }
 {
-    let answer = audit(alloc, source);
+    let answer = audit_with(alloc, source, policy);
     match verdict_report(alloc, &answer) {
         Ok(report) => write_text(sink, report.text.as_str(), report.status),
         Err(AllocError) => write_text(sink, NO_MEMORY, TROUBLE_STATUS),

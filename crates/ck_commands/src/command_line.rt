@@ -1,10 +1,12 @@
 //! The command line: what the words after the program's name ask for.
-ghost use Rattle.std.specs.Prelude.{◌≡◌, IfOk, false, map, option_map};
-ghost use Rattle.clap.specs.Words.{app_of, kind_of, rule_of, subcommand_rows_of};
-ghost use Rattle.ck_commands.specs.CommandLine.{Chooses, asked, command_app, command_of, named, uri_rule};
+ghost use Rattle.std.specs.Prelude.{◌≡◌, IfOk, codes, false, map, option_map};
+ghost use Rattle.clap.specs.Words.{app_of, found_of, kind_of, rule_of, subcommand_rows_of};
+ghost use Rattle.clap.specs.Matches.{first_value};
+ghost use Rattle.ck_commands.specs.CommandLine.{Chooses, asked, command_app, command_of, named, pending_rule, policy_named, uri_rule};
 
 use clap::error::ErrorKind;
 use clap::{Arg, ArgAction, ArgMatches, Command, Error};
+use cm_attempt::Policy;
 use std::alloc::{AllocError, Global};
 
 /// What the words ask for.
@@ -14,8 +16,8 @@ pub(crate) enum Choice<'a> {
     Parse,
     /// The message lines of a feature file, with its uri.
     Compile(&'a str),
-    /// The verdict on a stream.
-    Audit,
+    /// The verdict on a stream, by a policy of good statuses.
+    Audit(Policy),
     /// The table of the test cases of a stream.
     Results,
 }
@@ -42,6 +44,30 @@ fn uri_argument<'a>(alloc: Global) -> Arg<'a>
         .action(ArgAction::Set)
 }
 
+// The flag `--pending-passes`.
+fn pending_argument<'a>(alloc: Global) -> Arg<'a>
+    ensures rule { rule_of result ≡ pending_rule }
+    ensures local { result.global ≡ false }
+{
+    Arg::new(alloc, "pending-passes")
+        .long("pending-passes")
+        .action(ArgAction::SetTrue)
+}
+
+// The policy that the values behind `audit` ask for.
+fn policy_of<'a>(values: &ArgMatches<'a>) -> Policy
+    ensures { result ≡ policy_named (first_value (found_of values.now) (codes "pending-passes")) }
+{
+    match values.get_str("pending-passes") {
+        Some(text) => if text == "true" {
+            Policy::PendingPasses
+        } else {
+            Policy::Strict
+        },
+        None => Policy::Strict,
+    }
+}
+
 fn command<'a>(alloc: Global) -> Result<Command<'a>, AllocError>
     ensures { IfOk result (λ c. app_of c ≡ command_app) }
 {
@@ -49,7 +75,8 @@ fn command<'a>(alloc: Global) -> Result<Command<'a>, AllocError>
     let with_parse = bare.subcommand(Command::new(alloc, "parse"))?;
     let compile = Command::new(alloc, "compile").arg(uri_argument(alloc))?;
     let with_compile = with_parse.subcommand(compile)?;
-    let with_audit = with_compile.subcommand(Command::new(alloc, "audit"))?;
+    let audit = Command::new(alloc, "audit").arg(pending_argument(alloc))?;
+    let with_audit = with_compile.subcommand(audit)?;
     with_audit.subcommand(Command::new(alloc, "results"))
 }
 
@@ -80,7 +107,7 @@ fn chosen<'a>(matches: &ArgMatches<'a>) -> Option<Choice<'a>>
         return Some(Choice::Compile(values.get_str("uri")?));
     }
     if name == "audit" {
-        return Some(Choice::Audit);
+        return Some(Choice::Audit(policy_of(values)));
     }
     if name == "results" {
         return Some(Choice::Results);

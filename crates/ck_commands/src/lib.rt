@@ -15,4 +15,5 @@ mod text;
 mod write;
 
 pub use running::run;
+pub use text::{TextFault, read_text};
 pub use write::TROUBLE_STATUS;

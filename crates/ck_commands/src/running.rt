@@ -1,5 +1,6 @@
 //! One command, from the words to the status.
 ghost use Rattle.std.specs.Prelude.{◌≡◌, ◌≢◌, ◌∷◌, ◌++◌, ℕ, List, IfOk, IfSome, None, Some, codes, map};
+ghost use Rattle.cm_attempt.specs.declared.policy.Policy.{Policy};
 ghost use Rattle.cm_results.specs.FirstFault.{told};
 ghost use Rattle.cm_stream.specs.Stream as stream;
 ghost use Rattle.cm_stream.specs.Stream.{answer_for};
@@ -96,14 +97,15 @@ pub fn run<R: ByteSource, W: ByteSink>(
         → IfSome (R.to_come source.old) (λ bytes.
         AnswersOrNoMemory (told bytes) result (W.taken sink.old) (W.taken sink.new)) }
 
-    // The verdict is that of the stream over all its lines, and status 0 is for good streams alone.
-    ensures audit { command_of (codes "cukecheck" ∷ map (λ w. w.now) words.now) ≡ Some ask_audit
+    // The verdict is that of the stream over all its lines by the policy that the words ask for, and status 0 is for good
+    // streams alone.
+    ensures audit { (policy : Policy) → command_of (codes "cukecheck" ∷ map (λ w. w.now) words.now) ≡ Some (ask_audit policy)
         → NoneFailed (R.failed_calls source.old) (R.failed_calls source.new)
         → NoneFailed (W.failed_calls sink.old) (W.failed_calls sink.new)
         → IfSome (R.to_come source.old) (λ bytes.
-        TellsVerdict (answer_for (stream.told bytes)) result (W.taken sink.old) (W.taken sink.new)) }
-    ensures good { command_of (codes "cukecheck" ∷ map (λ w. w.now) words.now) ≡ Some ask_audit
-        → result ≡ 0 → IfSome (R.to_come source.old) IsGoodSomehow }
+        TellsVerdict (answer_for (stream.told policy bytes)) result (W.taken sink.old) (W.taken sink.new)) }
+    ensures good { (policy : Policy) → command_of (codes "cukecheck" ∷ map (λ w. w.now) words.now) ≡ Some (ask_audit policy)
+        → result ≡ 0 → IfSome (R.to_come source.old) (IsGoodSomehow policy) }
 
     ensures parse { command_of (codes "cukecheck" ∷ map (λ w. w.now) words.now) ≡ Some ask_parse
         → NoneFailed (R.failed_calls source.old) (R.failed_calls source.new)
@@ -128,7 +130,7 @@ pub fn run<R: ByteSource, W: ByteSink>(
     match choose(alloc, all.as_slice()) {
         Ok(Choice::Parse) => parse(alloc, source, sink),
         Ok(Choice::Compile(uri)) => compile(alloc, uri, source, sink),
-        Ok(Choice::Audit) => audit_stream(alloc, source, sink),
+        Ok(Choice::Audit(policy)) => audit_stream(alloc, policy, source, sink),
         Ok(Choice::Results) => results(alloc, source, sink),
         Err(Refusal::Usage(text)) => write_text(sink, text.as_str(), USAGE_STATUS),
         Err(Refusal::Help(text)) => write_text(sink, text.as_str(), 0),

@@ -16,7 +16,7 @@ pub(crate) const PIECE: usize = 65_536;
 
 /// Why a source gives no text.
 #[derive(Clone, Copy, PartialEq, Eq, Debug, Error)]
-pub(crate) enum TextFault {
+pub enum TextFault {
     /// A read failed.
     #[error("a read failed")]
     ReadFailed,
@@ -93,7 +93,7 @@ fn read_bytes<R: ByteSource>(alloc: Global, source: &mut R) -> Result<Vec<u8>, T
 ///
 /// # Errors
 /// A read failed; or there are more than 16,777,216 bytes, else they aren't UTF-8; or memory was refused.
-pub(crate) fn read_text<R: ByteSource>(alloc: Global, source: &mut R) -> Result<String, TextFault>
+pub fn read_text<R: ByteSource>(alloc: Global, source: &mut R) -> Result<String, TextFault>
     ensures ok { IfOk result (λ text. IfSome (R.to_come source.old) (λ bytes. IsTextOf bytes (string_bytes text))) }
     ensures fault { IfErr result (λ fault. IfSome (R.to_come source.old) (λ bytes. HasTextFault bytes fault)) }
     ensures few { (read : List ℕ) × Consumes (R.to_come source.old) (R.to_come source.new) read × (length read ≤ TEXT_LIMIT + PIECE) }

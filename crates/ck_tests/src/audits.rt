@@ -1,6 +1,6 @@
 //! Verdicts on streams. A word stands for a line, as in the tests of attempts; further words are those of `OTHER_LINES`.
 use crate::retries::line_of;
-use crate::runs::{expect_told, whole};
+use crate::runs::{expect_words, whole};
 use std::alloc::Global;
 use std::process::Abort;
 use std::test::Fail;
@@ -26,6 +26,11 @@ error = {"parseError":{"source":{"uri":"a.feature"},"message":"m"}}
 french = {"source":{"data":"# language: fr\nFeature: x","mediaType":"text/x.cucumber.gherkin+plain","uri":"f.feature"}}
 markdown = {"source":{"data":"","mediaType":"text/x.cucumber.gherkin+markdown","uri":"m.feature"}}
 hook = {"hook":{"id":"h"}}
+hook_start = {"testRunHookStarted":{"id":"r1","hookId":"h"}}
+hook_passed = {"testRunHookFinished":{"testRunHookStartedId":"r1","result":{"status":"PASSED"}}}
+hook_failed = {"testRunHookFinished":{"testRunHookStartedId":"r1","result":{"status":"FAILED"}}}
+hook_pending = {"testRunHookFinished":{"testRunHookStartedId":"r1","result":{"status":"PENDING"}}}
+hook_unknown = {"testRunHookFinished":{"testRunHookStartedId":"r1","result":{"status":"UNKNOWN"}}}
 case_without_steps = {"testCase":{"id":"c1","pickleId":"3","testSteps":[]}}
 run = {"testRunStarted":{}}
 array = []
@@ -89,18 +94,34 @@ bad line 5: 11 CaseStepsDiffer/ 1 = source document pickle run case_without_step
 bad line 2: 8 TreeDiffers/ 1 = source document_moved
 bad line 2: 7 DocumentOfRefusedSource/ 1 = refused refused_document
 bad line 2: 4 DuplicateId/ 1 = hook hook
-bad line 1: 2 Shape/ 1 = array";
+bad line 1: 2 Shape/ 1 = array
+bad line 10: 21 SuccessDiffers/ 1 = source document pickle run case:c1:t1 start:a1:c1:0 step:a1:t1 end:a1:t1:PENDING done:a1:false well
+good sources=1 pickles=1 cases=1 attempts=1/ 0 = source document pickle run case:c1:t1 start:a1:c1:0 step:a1:t1 end:a1:t1:PENDING done:a1:false unwell
+bad line 10: 21 SuccessDiffers/ 1 = source document pickle run case:c1:t1 start:a1:c1:0 step:a1:t1 end:a1:t1:UNDEFINED done:a1:false well
+good sources=1 pickles=1 cases=0 attempts=0 unrun=1/ 0 = source document pickle hook run hook_start hook_passed well
+bad line 8: 21 SuccessDiffers/ 1 = source document pickle hook run hook_start hook_failed well
+good sources=1 pickles=1 cases=0 attempts=0 unrun=1/ 0 = source document pickle hook run hook_start hook_failed unwell
+bad line 8: 21 SuccessDiffers/ 1 = source document pickle hook run hook_start hook_pending well
+bad line 5: 6 UnknownReference/ 1 = source document pickle run hook_start hook_passed well
+bad line 5: 17 OutsideRun/ 1 = source document pickle hook hook_start run hook_passed well
+bad line 7: 4 DuplicateId/ 1 = source document pickle hook run hook_start hook_start hook_passed well
+bad line 8: 24 RunHookTwice/ 1 = source document pickle hook run hook_start hook_passed hook_passed well
+bad line 7: 23 RunHookOpen/ 1 = source document pickle hook run hook_start well
+unsupported line 7: 3 UnknownStatus/ 4 = source document pickle hook run hook_start hook_unknown well
+bad line 6: 23 RunHookOpen/ 1 = source document hook run hook_start well
+bad line 9: 19 AttemptOpen/ 1 = source document pickle run hook hook_start case:c1:t1 start:a1:c1:0 well
+bad line 9: 18 AfterRunFinished/ 1 = source document pickle hook run hook_start hook_passed well hook_start";
 
-fn expect_verdict(rt: &impl Abort, alloc: Global, row: &str) -> Result<(), Fail> {
-    let (told, words) = row.split_once(" = ").ok_or("no verdict")?;
+fn expect_verdict(rt: &impl Abort, alloc: Global, words: &[&str], row: &str) -> Result<(), Fail> {
+    let (told, lines) = row.split_once(" = ").ok_or("no verdict")?;
     let (text, status) = told.split_once("/ ").ok_or("no status")?;
-    let stream = audited_stream(alloc, words)?;
+    let stream = audited_stream(alloc, lines)?;
     let line = format!(in alloc; "{text}\n")?;
     let status: u8 = status.parse().map_err(|_| "no status")?;
-    expect_told(
+    expect_words(
         rt,
         alloc,
-        "audit",
+        words,
         whole(stream.as_bytes()),
         line.as_str(),
         status,
@@ -108,10 +129,26 @@ fn expect_verdict(rt: &impl Abort, alloc: Global, row: &str) -> Result<(), Fail>
     Ok(())
 }
 
+// By `--pending-passes`.
+const PENDING_VERDICTS: &str =
+    "good sources=1 pickles=1 cases=1 attempts=1/ 0 = source document pickle run case:c1:t1 start:a1:c1:0 step:a1:t1 end:a1:t1:PENDING done:a1:false well
+bad line 10: 21 SuccessDiffers/ 1 = source document pickle run case:c1:t1 start:a1:c1:0 step:a1:t1 end:a1:t1:PENDING done:a1:false unwell
+bad line 10: 21 SuccessDiffers/ 1 = source document pickle run case:c1:t1 start:a1:c1:0 step:a1:t1 end:a1:t1:UNDEFINED done:a1:false well
+good sources=1 pickles=1 cases=0 attempts=0 unrun=1/ 0 = source document pickle hook run hook_start hook_pending well
+bad line 14: 21 SuccessDiffers/ 1 = source document pickle run case:c1:t1 start:a1:c1:0 step:a1:t1 end:a1:t1:PENDING done:a1:true start:a2:c1:1 step:a2:t1 end:a2:t1:FAILED done:a2:false well";
+
+#[test]
+fn verdicts_where_pending_passes(rt: HostRuntime) -> Result<(), Fail> {
+    for row in PENDING_VERDICTS.lines() {
+        expect_verdict(&rt, rt.alloc(), &["audit", "--pending-passes"], row)?;
+    }
+    Ok(())
+}
+
 #[test]
 fn verdicts(rt: HostRuntime) -> Result<(), Fail> {
     for row in VERDICTS.lines() {
-        expect_verdict(&rt, rt.alloc(), row)?;
+        expect_verdict(&rt, rt.alloc(), &["audit"], row)?;
     }
     Ok(())
 }

@@ -160,6 +160,19 @@ pub(crate) fn expect_run(
     assert_eq!(rt; sink.taken.as_slice(), text.as_bytes());
 }
 
+pub(crate) fn expect_words(
+    rt: &impl Abort,
+    alloc: Global,
+    words: &[&str],
+    source: Source<'_>,
+    text: &str,
+    status: u8,
+) {
+    let mut source = source;
+    let mut sink = taking(alloc, 7);
+    expect_run(rt, alloc, words, &mut source, &mut sink, text, status);
+}
+
 pub(crate) fn expect_told(
     rt: &impl Abort,
     alloc: Global,
@@ -168,9 +181,7 @@ pub(crate) fn expect_told(
     text: &str,
     status: u8,
 ) {
-    let mut source = source;
-    let mut sink = taking(alloc, 7);
-    expect_run(rt, alloc, &[word], &mut source, &mut sink, text, status);
+    expect_words(rt, alloc, &[word], source, text, status);
 }
 
 pub(crate) fn expect_results(rt: &impl Abort, alloc: Global, bytes: &[u8], text: &str, status: u8) {

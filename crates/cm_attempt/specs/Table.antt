@@ -5,10 +5,12 @@ use Rattle.std.specs.Prelude.{length, map, Option, None, Some, is_some, if◌the
 use Rattle.std.specs.Prelude.{unwrap_or, count_by, option_map}
 use Rattle.std.specs.Option.{option_map_or, option_and_then}
 use Rattle.std.specs.Str.{bytes_eq}
-pub use Rattle.cm_refs.specs.Declarations.{Text, has_repeat, has_text}
+pub use Rattle.cm_refs.specs.Declarations.{Text, change_first, has_repeat, has_text}
 use Rattle.cm_attempt.specs.Worst.{with_status}
 use Rattle.cm_attempt.specs.declared.status.Status.{Status}
-use Rattle.cm_attempt.specs.declared.status.Status.TheVariants.{Passed, Skipped}
+use Rattle.cm_attempt.specs.declared.status.Status.TheVariants.{Passed, Skipped, Pending}
+use Rattle.cm_attempt.specs.declared.policy.Policy.{Policy}
+use Rattle.cm_attempt.specs.declared.policy.Policy.TheVariants.{Strict, PendingPasses}
 use Rattle.cm_attempt.specs.declared.rows.Cursor.{Cursor}
 use Rattle.cm_attempt.specs.declared.rows.Last.{Last}
 use Rattle.cm_attempt.specs.declared.rows.Last.TheVariants as last
@@ -66,14 +68,20 @@ status_of_last _ = None
 abbrev pub reported_of : Table → Text → Option Status
 reported_of t case_id = option_and_then (λ c. status_of_last c.last) (find_case t case_id)
 
-abbrev pub is_good_status : Status → Bool
-is_good_status Passed = true
-is_good_status Skipped = true
-is_good_status _ = false
+abbrev pub passes_pending : Policy → Bool
+passes_pending Strict = false
+passes_pending PendingPasses = true
 
--- the case has a final attempt that passed or was skipped
-abbrev pub is_good_case : CaseRow → Bool
-is_good_case c = option_map_or is_good_status (status_of_last c.last) false
+-- the status is one of the policy's good ones
+abbrev pub is_good_status : Policy → Status → Bool
+is_good_status policy Passed = true
+is_good_status policy Skipped = true
+is_good_status policy Pending = passes_pending policy
+is_good_status policy _ = false
+
+-- the case has a final attempt whose status is good
+abbrev pub is_good_case : Policy → CaseRow → Bool
+is_good_case policy c = option_map_or (is_good_status policy) (status_of_last c.last) false
 
 abbrev pub open_count : Table → ℕ
 open_count t = count_by (λ a. is_some a.cursor) t.attempts
@@ -143,11 +151,6 @@ abbrev pub finish_fault : Table → Text → Option TrackFault
 finish_fault t attempt = finish_fault_at t (find_attempt t attempt)
 
 -- ---- changes
-
--- the list with f at the first element that passes
-abbrev pub change_first : {X : Type 0} → (X → Bool) → (X → X) → List X → List X
-change_first p f [] = []
-change_first p f (x ∷ xs) = if p x then f x ∷ xs else (x ∷ change_first p f xs)
 
 abbrev pub change_case : Text → (CaseRow → CaseRow) → Table → Table
 change_case id f t = record t { cases = change_first (λ c. bytes_eq id c.id) f t.cases }

@@ -9,7 +9,7 @@ ghost use Rattle.cm_attempt.specs.Table.{step_done, with_last};
 ghost use Rattle.cm_attempt.specs.Table.{new_attempt as new_row, new_case};
 
 use crate::rows::{Attempt, Attempts, Case, Cases, Cursor, Last, Steps};
-use crate::status::{Status, joined};
+use crate::status::{Status, worst_with};
 use std::alloc::{AllocError, Global};
 
 /// Adds a case with its steps. The id is new.
@@ -137,6 +137,6 @@ pub(crate) fn note_status(attempts: &mut Attempts, id: &str, next: Cursor, statu
     if let Some(at) = attempts.get_index_of(id) {
         let attempt = &mut attempts[at];
         attempt.cursor = Some(next);
-        attempt.worst = Some(joined(attempt.worst, status));
+        attempt.worst = Some(worst_with(attempt.worst, status));
     }
 }

@@ -5,6 +5,7 @@ mod changes;
 mod checks;
 mod fault;
 mod laws;
+mod policy;
 mod rows;
 mod status;
 #[cfg(test)]
@@ -17,5 +18,6 @@ pub use laws::{
     calls_are_refused_for_faults, final_attempts_are_reported, finished_attempts_are_whole,
     open_attempts_are_counted, steps_come_in_order,
 };
-pub use status::{Status, worst};
+pub use policy::Policy;
+pub use status::{Status, worst, worst_with};
 pub use track::Track;

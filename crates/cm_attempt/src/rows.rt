@@ -9,6 +9,7 @@ ghost use Rattle.cm_attempt.specs.Rows.{attempt_row, attempt_rows, case_row, cas
 ghost use Rattle.cm_attempt.specs.Table.{has_step, has_text, is_good_case as is_good, is_good_status};
 ghost use Rattle.cm_attempt.specs.Table.{outcome as specs_outcome, status_of_last, steps_of as steps_in};
 
+use crate::policy::Policy;
 use crate::status::Status;
 use indexmap::{IndexMap, IndexSet};
 
@@ -101,11 +102,14 @@ pub(crate) fn final_status(last: Last) -> Option<Status>
     }
 }
 
-/// Whether the last attempt is a final one that passed or was skipped.
-pub(crate) fn is_good_last(last: Last) -> bool
-    ensures { result ≡ option_map_or is_good_status (status_of_last last) false }
+/// Whether the last attempt is a final one whose status is good.
+pub(crate) fn is_good_last(last: Last, policy: Policy) -> bool
+    ensures { result ≡ option_map_or (is_good_status policy) (status_of_last last) false }
 {
-    matches!(last, Last::Final(Status::Passed | Status::Skipped))
+    match last {
+        Last::Final(status) => policy.is_good(status),
+        _ => false,
+    }
 }
 
 /// How the attempt leaves its case.
@@ -120,11 +124,11 @@ pub(crate) fn outcome(attempt: &Attempt, will_be_retried: bool) -> Last
     }
 }
 
-/// Whether each case has a final attempt that passed or was skipped.
-pub(crate) fn are_good(cases: &Cases) -> bool
-    ensures { result ≡ list_all (λ c. is_good (case_row [] c)) (values cases.now) }
+/// Whether each case has a final attempt whose status is good.
+pub(crate) fn are_good(cases: &Cases, policy: Policy) -> bool
+    ensures { result ≡ list_all (λ c. is_good policy (case_row [] c)) (values cases.now) }
 {
-    cases.values().all(|case| is_good_last(case.last))
+    cases.values().all(|case| is_good_last(case.last, policy))
 }
 
 /// How many attempts have not ended.

@@ -22,7 +22,7 @@ pub(crate) fn later(a: Status, b: Status) -> Status
 }
 
 /// The worst status so far, after one more.
-pub(crate) fn joined(so_far: Option<Status>, next: Status) -> Status
+pub fn worst_with(so_far: Option<Status>, next: Status) -> Status
     ensures { Some result ≡ with_status so_far next }
 {
     match so_far {
@@ -37,7 +37,7 @@ pub(crate) fn worst_so_far(statuses: &[Status]) -> Option<Status>
 {
     let mut so_far = None;
     for status in statuses {
-        so_far = Some(joined(so_far, *status));
+        so_far = Some(worst_with(so_far, *status));
     }
     so_far
 }

@@ -13,6 +13,7 @@ use crate::changes::{
 };
 use crate::checks::{check_end, check_finish, check_new, check_start};
 use crate::fault::TrackFault;
+use crate::policy::Policy;
 use crate::rows::{
     Attempts, Cases, are_good, attempt_has_step, count_open, final_status, find_attempt, find_case,
     outcome,
@@ -204,10 +205,17 @@ impl Track {
         attempt_has_step(&self.cases, &self.attempts, attempt, step)
     }
 
+    /// Whether each case has a final attempt whose status is good by the policy.
+    pub fn all_good_with(&self, policy: Policy) -> bool
+        ensures { result ≡ list_all (is_good_case policy) self.now.cases }
+    {
+        are_good(&self.cases, policy)
+    }
+
     /// Whether each case has a final attempt that passed or was skipped.
     pub fn all_good(&self) -> bool
-        ensures { result ≡ list_all is_good_case self.now.cases }
+        ensures { result ≡ list_all (is_good_case Policy.Strict) self.now.cases }
     {
-        are_good(&self.cases)
+        self.all_good_with(Policy::Strict)
     }
 }

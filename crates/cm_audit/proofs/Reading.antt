@@ -8,6 +8,7 @@ use Rattle.cm_envelope.specs.Feeds.{Stored, ShowNothing, written, given_line, no
 use Rattle.cm_envelope.specs.declared.envelope.Envelope.{Envelope}
 use Rattle.cm_envelope.specs.declared.feed.Trouble.{Trouble}
 use Rattle.cm_envelope.specs.declared.feed.Trouble.TheVariants.{ReadFailed}
+use Rattle.cm_attempt.specs.declared.policy.Policy.{Policy}
 use Rattle.cm_stream.specs.Findings.{Finding, IsBad, IsUnsupported, named, fault_of_line}
 use Rattle.cm_stream.specs.Stream.{Answer, Found, Failed, answered, fed, shown}
 use Rattle.cm_stream.proofs.Lists.{length-both}
@@ -62,52 +63,59 @@ next_read {before} {ys} {zs} {old} {new} {n} {line} r i g =
 
 -- ---- what was judged
 
-judges_nothing : JudgesTo [] 0 nothing_seen
-judges_nothing more t = refl
+judges_nothing : (policy : Policy) → JudgesTo policy [] 0 nothing_seen
+judges_nothing policy more t = refl
 
-pub nothing_judged : (bytes : List ℕ) → HasJudged bytes bytes (new_feed 67108864 1073741824) 0 nothing_seen
+pub nothing_judged : (policy : Policy) (bytes : List ℕ) → HasJudged policy bytes bytes (new_feed 67108864 1073741824) 0 nothing_seen
 unfolding nothing_read
-nothing_judged bytes = record { read = nothing_read bytes; judges = judges_nothing }
+nothing_judged policy bytes = record { read = nothing_read bytes; judges = judges_nothing policy }
 
-taken : (old new : State) (n : ℕ) (r : Option (Result Envelope LineFault)) (more : Summary → Answer) → TakesLine old new r (Ok tt) → judged_line (summary_of old) n r more ≡ more (summary_of new)
-taken old new n None more k = ap more (sym k.0)
-taken old new n (Some (Err b)) more k = absurd k
-taken old new n (Some (Ok e)) more k = rw k.0 (ap more (sym k.1))
+taken : (policy : Policy) (old new : State) (n : ℕ) (r : Option (Result Envelope LineFault)) (more : Summary → Answer) → TakesLine policy old new r (Ok tt)
+    → judged_line policy (summary_of old) n r more ≡ more (summary_of new)
+taken policy old new n None more k = ap more (sym k.0)
+taken policy old new n (Some (Err b)) more k = absurd k
+taken policy old new n (Some (Ok e)) more k = rw k.0 (ap more (sym k.1))
 
-judges_next : (lines : List Line) (n : ℕ) (old new : State) (l : Line) → JudgesTo lines n (summary_of old) → TakesLine old new (shown l.bytes) (Ok tt) → JudgesTo (lines ++ l ∷ []) (n + 1) (summary_of new)
-judges_next lines n old new l h k more t =
-    ap (λ ls. judged_of nothing_seen 1 ls t) (one_more lines l more) ∙ h (l.bytes ∷ more) t ∙ taken old new (n + 1) (shown l.bytes) (λ (now : Summary). judged_of now (n + 1 + 1) more t) k
+judges_next : (policy : Policy) (lines : List Line) (n : ℕ) (old new : State) (l : Line) → JudgesTo policy lines n (summary_of old) → TakesLine policy old new (shown l.bytes) (Ok tt)
+    → JudgesTo policy (lines ++ l ∷ []) (n + 1) (summary_of new)
+judges_next policy lines n old new l h k more t =
+    ap (λ ls. judged_of policy nothing_seen 1 ls t) (one_more lines l more) ∙ h (l.bytes ∷ more) t
+    ∙ taken policy old new (n + 1) (shown l.bytes) (λ (now : Summary). judged_of policy now (n + 1 + 1) more t) k
 
-pub next_judged : (before ys zs : List ℕ) (feed later : Stored) (n : ℕ) (old new : State) (line : List ℕ) → HasJudged before ys feed n (summary_of old) → IsNextLine feed later ys zs line → GivesLine feed later line
-    → TakesLine old new (shown line) (Ok tt) → HasJudged before zs later (n + 1) (summary_of new)
+pub next_judged : (policy : Policy) (before ys zs : List ℕ) (feed later : Stored) (n : ℕ) (old new : State) (line : List ℕ) → HasJudged policy before ys feed n (summary_of old)
+    → IsNextLine feed later ys zs line → GivesLine feed later line → TakesLine policy old new (shown line) (Ok tt) → HasJudged policy before zs later (n + 1) (summary_of new)
 unfolding next_read
-next_judged before ys zs feed later n old new line h i g k = record { read = next_read h.read i g; judges = judges_next (h.read).lines n old new (given_line later line) h.judges k }
+next_judged policy before ys zs feed later n old new line h i g k = record { read = next_read h.read i g; judges = judges_next policy (h.read).lines n old new (given_line later line) h.judges k }
 
 -- ---- the answer
 
-found : (old new : State) (n : ℕ) (r : Option (Result Envelope LineFault)) (more : Summary → Answer) (why : Stop) → TakesLine old new r (Err why) → AnswersAs (judged_line (summary_of old) n r more) (verdict_at n why)
-found old new n None more why k = absurd k
-found old new n (Some (Err b)) more (stop.Bad f) k = let same : IsBad (fault_of_line b) ≡ IsBad (named f) = cc in ap (Found n) (sym same)
-found old new n (Some (Err b)) more (stop.Unsupported r) k = cc
-found old new n (Some (Err b)) more stop.Memory k = tt
-found old new n (Some (Ok e)) more (stop.Bad f) k = rw k refl
-found old new n (Some (Ok e)) more (stop.Unsupported r) k = rw k refl
-found old new n (Some (Ok e)) more stop.Memory k = tt
+found : (policy : Policy) (old new : State) (n : ℕ) (r : Option (Result Envelope LineFault)) (more : Summary → Answer) (why : Stop) → TakesLine policy old new r (Err why)
+    → AnswersAs (judged_line policy (summary_of old) n r more) (verdict_at n why)
+found policy old new n None more why k = absurd k
+found policy old new n (Some (Err b)) more (stop.Bad f) k = let same : IsBad (fault_of_line b) ≡ IsBad (named f) = cc in ap (Found n) (sym same)
+found policy old new n (Some (Err b)) more (stop.Unsupported r) k = cc
+found policy old new n (Some (Err b)) more stop.Memory k = tt
+found policy old new n (Some (Ok e)) more (stop.Bad f) k = rw k refl
+found policy old new n (Some (Ok e)) more (stop.Unsupported r) k = rw k refl
+found policy old new n (Some (Ok e)) more stop.Memory k = tt
 
 -- what is left decides
-pub judged_left : {before ys : List ℕ} {feed : Stored} {n : ℕ} {s : Summary} (r : HasRead before ys feed n) → JudgesTo r.lines n s → judged before ≡ judged_of s (n + 1) (left feed ys).lines (left feed ys).trouble
-judged_left {before} {ys} {feed} r h = ap (λ (f : Fed). judged_of nothing_seen 1 f.lines f.trouble) r.fed ∙ h (left feed ys).lines (left feed ys).trouble
+pub judged_left : {before ys : List ℕ} {feed : Stored} {n : ℕ} {s : Summary} (policy : Policy) (r : HasRead before ys feed n) → JudgesTo policy r.lines n s
+    → judged policy before ≡ judged_of policy s (n + 1) (left feed ys).lines (left feed ys).trouble
+judged_left {before} {ys} {feed} policy r h = ap (λ (f : Fed). judged_of policy nothing_seen 1 f.lines f.trouble) r.fed ∙ h (left feed ys).lines (left feed ys).trouble
 
-pub found_at : (before ys zs : List ℕ) (feed later : Stored) (n : ℕ) (old new : State) (line : List ℕ) (r : HasRead before ys feed n) → JudgesTo r.lines n (summary_of old) → IsNextLine feed later ys zs line
-    → (why : Stop) → TakesLine old new (shown line) (Err why) → AnswersAs (judged before) (verdict_at (n + 1) why)
-found_at before ys zs feed later n old new line r h i why k =
-    rw (judged_left r h, i.first) (found old new (n + 1) (shown line) (λ (now : Summary). judged_of now (n + 1 + 1) (left later zs).lines (left later zs).trouble) why k)
+pub found_at : (policy : Policy) (before ys zs : List ℕ) (feed later : Stored) (n : ℕ) (old new : State) (line : List ℕ) (r : HasRead before ys feed n) → JudgesTo policy r.lines n (summary_of old)
+    → IsNextLine feed later ys zs line → (why : Stop) → TakesLine policy old new (shown line) (Err why) → AnswersAs (judged policy before) (verdict_at (n + 1) why)
+found_at policy before ys zs feed later n old new line r h i why k =
+    rw (judged_left policy r h, i.first) (found policy old new (n + 1) (shown line) (λ (now : Summary). judged_of policy now (n + 1 + 1) (left later zs).lines (left later zs).trouble) why k)
 
-pub at_the_end : {before ys : List ℕ} {feed : Stored} {n : ℕ} {s : Summary} (r : HasRead before ys feed n) → JudgesTo r.lines n s → left feed ys ≡ nothing → judged before ≡ at_end (n + 1) s (finding_at_end s)
-at_the_end {n = n} {s = s} r h e = judged_left r h ∙ ap (λ (f : Fed). judged_of s (n + 1) f.lines f.trouble) e
+pub at_the_end : {before ys : List ℕ} {feed : Stored} {n : ℕ} {s : Summary} (policy : Policy) (r : HasRead before ys feed n) → JudgesTo policy r.lines n s → left feed ys ≡ nothing
+    → judged policy before ≡ at_end (n + 1) s (finding_at_end s)
+at_the_end {n = n} {s = s} policy r h e = judged_left policy r h ∙ ap (λ (f : Fed). judged_of policy s (n + 1) f.lines f.trouble) e
 
-pub at_trouble : {before ys : List ℕ} {feed : Stored} {n : ℕ} {s : Summary} (r : HasRead before ys feed n) → JudgesTo r.lines n s → (t : Trouble) → left feed ys ≡ trouble_alone t → judged before ≡ Failed t
-at_trouble {n = n} {s = s} r h t e = judged_left r h ∙ ap (λ (f : Fed). judged_of s (n + 1) f.lines f.trouble) e
+pub at_trouble : {before ys : List ℕ} {feed : Stored} {n : ℕ} {s : Summary} (policy : Policy) (r : HasRead before ys feed n) → JudgesTo policy r.lines n s → (t : Trouble)
+    → left feed ys ≡ trouble_alone t → judged policy before ≡ Failed t
+at_trouble {n = n} {s = s} policy r h t e = judged_left policy r h ∙ ap (λ (f : Fed). judged_of policy s (n + 1) f.lines f.trouble) e
 
 -- ---- how far it reads
 
@@ -139,13 +147,13 @@ fewer_lines {before} {ys} {feed} {n} r e =
     as_many [] = refl
     as_many (l ∷ ls) = omega (arith, as_many ls)
 
-pub held_no_fault : (before ys zs : List ℕ) (feed after_it : Stored) (n : ℕ) (s : Summary) (r : HasRead before ys feed n) → JudgesTo r.lines n s → feed.line_limit ≡ 67108864 → feed.stream_limit ≡ 1073741824
-    → not_given feed ys ≡ after_it.held ++ zs → ShowNothing feed.line_limit feed.stream_limit feed.given after_it.held → HoldNoFault before zs
-held_no_fault before ys zs feed after_it n s r h line stream e shows = record {
+pub held_no_fault : (policy : Policy) (before ys zs : List ℕ) (feed after_it : Stored) (n : ℕ) (s : Summary) (r : HasRead before ys feed n) → JudgesTo policy r.lines n s → feed.line_limit ≡ 67108864 → feed.stream_limit ≡ 1073741824
+    → not_given feed ys ≡ after_it.held ++ zs → ShowNothing feed.line_limit feed.stream_limit feed.given after_it.held → HoldNoFault policy before zs
+held_no_fault policy before ys zs feed after_it n s r h line stream e shows = record {
   lines = r.lines;
   held = after_it.held;
   begins = first_lines r after_it.held zs e;
-  faultless = ap (λ ls. judged_of nothing_seen 1 ls (Some ReadFailed)) (sym (append-nil (bytes_of r.lines))) ∙ h [] (Some ReadFailed);
+  faultless = ap (λ ls. judged_of policy nothing_seen 1 ls (Some ReadFailed)) (sym (append-nil (bytes_of r.lines))) ∙ h [] (Some ReadFailed);
   nothing = rw (r.long, ← line, ← stream) shows;
 }
 

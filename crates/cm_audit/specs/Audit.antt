@@ -7,7 +7,7 @@ use Rattle.cm_envelope.specs.Feeds.{ShowNothing, written}
 use Rattle.cm_envelope.specs.declared.envelope.Envelope.{Envelope}
 use Rattle.cm_envelope.specs.declared.feed.Trouble.{Trouble}
 use Rattle.cm_envelope.specs.declared.feed.Trouble.TheVariants.{ReadFailed, Memory}
-use Rattle.cm_stream.specs.Checks.{fault}
+use Rattle.cm_attempt.specs.declared.policy.Policy.{Policy}
 use Rattle.cm_stream.specs.Findings.{Finding, IsBad, IsUnsupported, fault_of_line}
 use Rattle.cm_stream.specs.Stream.{Answer, Told, Troubled, At, fed, told, told_of, answered, answer_for, line_limit, stream_limit}
 use Rattle.cm_stream.specs.declared.verdict.Verdict.{Verdict}
@@ -27,8 +27,8 @@ AnswersAs a (Err Memory) = ⊤
 AnswersAs a answer = answered answer ≡ a
 
 -- the answer is that for what is told of the bytes
-abbrev pub AnswersTold : List ℕ → Result Verdict Trouble → Type 0
-AnswersTold bytes answer = AnswersAs (answer_for (told bytes)) answer
+abbrev pub AnswersTold : Policy → List ℕ → Result Verdict Trouble → Type 0
+AnswersTold policy bytes answer = AnswersAs (answer_for (told policy bytes)) answer
 
 abbrev pub is_failed_read : Result Verdict Trouble → Bool
 is_failed_read (Err ReadFailed) = true
@@ -43,11 +43,11 @@ pub record Begins (bytes : List ℕ) (lines : List Line) (behind rest : List ℕ
   pub first : (fed bytes).lines ≡ map (λ l. l.bytes) lines ++ more
 
 -- Where a read failed, the bytes before are lines without a fault, and then bytes that are no whole line and pass no limit.
-pub record ShowNoFault (before after : List ℕ) : Type 0 where
+pub record ShowNoFault (policy : Policy) (before after : List ℕ) : Type 0 where
   pub lines : List Line
   pub held : List ℕ
   pub begins : Begins before lines held after
-  pub faultless : told_of [] 1 (map (λ l. l.bytes) lines) (Some ReadFailed) ≡ Troubled ReadFailed
+  pub faultless : told_of policy [] 1 (map (λ l. l.bytes) lines) (Some ReadFailed) ≡ Troubled ReadFailed
   pub nothing : ShowNothing line_limit stream_limit (length (flat_map written lines)) held
 
 -- At most 65,536 bytes behind the first n lines with their LFs were read, of these bytes to come before and after.
@@ -69,12 +69,12 @@ ReadsUpTo _ before after = ⊤
 -- ---- a line
 
 -- what a line that is read so leaves
-abbrev pub TakesLine : (old new : State) → Option (Result Envelope LineFault) → Result ⊤ Stop → Type 0
-TakesLine old new None (Ok done) = (summary_of new ≡ summary_of old) × IsListed new
-TakesLine old new None (Err why) = ⊥
-TakesLine old new (Some (Ok e)) answer = Takes old new e answer
-TakesLine old new (Some (Err b)) (Ok done) = ⊥
-TakesLine old new (Some (Err b)) (Err why) = StopsFor (Some (IsBad (fault_of_line b))) why
+abbrev pub TakesLine : Policy → (old new : State) → Option (Result Envelope LineFault) → Result ⊤ Stop → Type 0
+TakesLine policy old new None (Ok done) = (summary_of new ≡ summary_of old) × IsListed new
+TakesLine policy old new None (Err why) = ⊥
+TakesLine policy old new (Some (Ok e)) answer = Takes policy old new e answer
+TakesLine policy old new (Some (Err b)) (Ok done) = ⊥
+TakesLine policy old new (Some (Err b)) (Err why) = StopsFor (Some (IsBad (fault_of_line b))) why
 
 -- the verdict at a line
 abbrev pub verdict_at : ℕ → Stop → Result Verdict Trouble

@@ -4,7 +4,8 @@ use Rattle.std.specs.String.{string_bytes}
 use Rattle.cm_envelope.specs.declared.envelope.Envelope.{Envelope}
 use Rattle.cm_stream.specs.declared.verdict.Counts.{Counts}
 use Rattle.cm_summary.specs.Summary.{Summary, after}
-use Rattle.cm_summary.specs.Findings.{finding, finding_inside}
+use Rattle.cm_attempt.specs.declared.policy.Policy.{Policy}
+use Rattle.cm_summary.specs.Findings.{finding, finding_inside, plain_finding}
 use Rattle.cm_audit.specs.Kept.{kept_rows}
 use Rattle.cm_audit.specs.Stops.{StopsFor}
 use Rattle.cm_audit.specs.declared.state.State.{State}
@@ -18,6 +19,7 @@ summary_of s = record {
   named = map string_bytes s.named.keys;
   run = s.run;
   is_finished = s.is_finished;
+  hooks_worst = s.hooks_worst;
   counts = s.counts;
 }
 
@@ -33,17 +35,22 @@ pub record AreFewer (n : ℕ) (c : Counts) : Type 0 where
   pub attempts : c.attempts < n
   pub unrun : c.unrun < n
 
--- a line of which no check stands behind the end of the run has no finding, or it has the finding
+-- a line has no finding by the checks that are made whatever statuses are good, or it has the finding
 abbrev pub Checks : State → Envelope → Result ⊤ Stop → Type 0
-Checks s e (Ok done) = finding_inside (summary_of s) e ≡ None
-Checks s e (Err why) = StopsFor (finding_inside (summary_of s) e) why
+Checks s e (Ok done) = plain_finding (summary_of s) e ≡ None
+Checks s e (Err why) = StopsFor (plain_finding (summary_of s) e) why
+
+-- a line was taken by the checks that are made whatever statuses are good, or it has the finding
+abbrev pub Judges : (old new : State) → Envelope → Result ⊤ Stop → Type 0
+Judges old new e (Ok done) = (plain_finding (summary_of old) e ≡ None) × (summary_of new ≡ after (summary_of old) e) × IsListed new
+Judges old new e (Err why) = StopsFor (plain_finding (summary_of old) e) why
 
 -- a line of which no check stands behind the end of the run was taken, or it has the finding
-abbrev pub Judges : (old new : State) → Envelope → Result ⊤ Stop → Type 0
-Judges old new e (Ok done) = (finding_inside (summary_of old) e ≡ None) × (summary_of new ≡ after (summary_of old) e) × IsListed new
-Judges old new e (Err why) = StopsFor (finding_inside (summary_of old) e) why
+abbrev pub JudgesBy : Policy → (old new : State) → Envelope → Result ⊤ Stop → Type 0
+JudgesBy policy old new e (Ok done) = (finding_inside policy (summary_of old) e ≡ None) × (summary_of new ≡ after (summary_of old) e) × IsListed new
+JudgesBy policy old new e (Err why) = StopsFor (finding_inside policy (summary_of old) e) why
 
 -- a line was taken, or it has the finding
-abbrev pub Takes : (old new : State) → Envelope → Result ⊤ Stop → Type 0
-Takes old new e (Ok done) = (finding (summary_of old) e ≡ None) × (summary_of new ≡ after (summary_of old) e) × IsListed new
-Takes old new e (Err why) = StopsFor (finding (summary_of old) e) why
+abbrev pub Takes : Policy → (old new : State) → Envelope → Result ⊤ Stop → Type 0
+Takes policy old new e (Ok done) = (finding policy (summary_of old) e ≡ None) × (summary_of new ≡ after (summary_of old) e) × IsListed new
+Takes policy old new e (Err why) = StopsFor (finding policy (summary_of old) e) why

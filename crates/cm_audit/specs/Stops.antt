@@ -20,6 +20,8 @@ StopsFor f stop.Memory = Unit {0}
 abbrev pub refused_reference : RefFault → Stop
 refused_reference reference.DuplicateId = stop.Bad bad.DuplicateId
 refused_reference reference.DuplicateUri = stop.Bad bad.DuplicateUri
+refused_reference reference.UnknownRunHook = stop.Bad bad.UnknownReference
+refused_reference reference.RunHookTwice = stop.Bad bad.RunHookTwice
 refused_reference reference.Memory = stop.Memory
 
 abbrev pub refused_call : TrackFault → Stop

@@ -1,7 +1,7 @@
 //! One line of a stream.
 ghost use Rattle.std.specs.Prelude.{◌≡◌};
 ghost use Rattle.cm_stream.specs.Words.{is_judged};
-ghost use Rattle.cm_audit.specs.State.{AreFewer, IsListed, Judges, Takes};
+ghost use Rattle.cm_audit.specs.State.{AreFewer, IsListed, JudgesBy, Takes};
 
 use crate::judge_cases::judge_case;
 use crate::judge_features::{
@@ -10,17 +10,20 @@ use crate::judge_features::{
 };
 use crate::judge_run::{
     judge_attachment, judge_attempt_finished, judge_attempt_started, judge_run_finished,
-    judge_run_started, judge_step_finished, judge_step_started,
+    judge_run_hook_finished, judge_run_hook_started, judge_run_started, judge_step_finished,
+    judge_step_started,
 };
 use crate::state::State;
 use crate::stop::Stop;
+use cm_attempt::Policy;
 use cm_envelope::Envelope;
-use cm_stream::{Bad, Reason};
+use cm_stream::Bad;
 
-fn judge_inside(state: &mut State, envelope: Envelope) -> Result<(), Stop>
+/// Judges an envelope of which no check stands behind the end of the run, and takes it where it has no fault.
+fn judge_inside(state: &mut State, envelope: Envelope, policy: Policy) -> Result<(), Stop>
     requires listed { IsListed state.old }
     requires few { AreFewer MOST state.old.counts }
-    ensures { Judges state.old state.new envelope result }
+    ensures { JudgesBy policy state.old state.new envelope result }
 {
     match envelope {
         Envelope::Source(source) => judge_source(state, source),
@@ -35,11 +38,10 @@ fn judge_inside(state: &mut State, envelope: Envelope) -> Result<(), Stop>
         Envelope::TestStepStarted(started) => judge_step_started(state, &started),
         Envelope::TestStepFinished(finished) => judge_step_finished(state, &finished),
         Envelope::TestCaseFinished(finished) => judge_attempt_finished(state, &finished),
-        Envelope::TestRunFinished(finished) => judge_run_finished(state, &finished),
+        Envelope::TestRunFinished(finished) => judge_run_finished(state, &finished, policy),
         Envelope::Attachment(attachment) => judge_attachment(state, &attachment),
-        Envelope::TestRunHookStarted | Envelope::TestRunHookFinished => {
-            Err(Stop::Unsupported(Reason::RunHook))
-        }
+        Envelope::TestRunHookStarted(started) => judge_run_hook_started(state, &started),
+        Envelope::TestRunHookFinished(finished) => judge_run_hook_finished(state, &finished),
         Envelope::Other => Ok(()),
     }
 }
@@ -52,14 +54,14 @@ fn is_judged(envelope: &Envelope) -> bool
 }
 
 /// Judges an envelope behind the lines so far, and takes it where it has no fault.
-pub(crate) fn judge(state: &mut State, envelope: Envelope) -> Result<(), Stop>
+pub(crate) fn judge(state: &mut State, envelope: Envelope, policy: Policy) -> Result<(), Stop>
     requires listed { IsListed state.old }
     requires few { AreFewer MOST state.old.counts }
-    ensures { Takes state.old state.new envelope result }
+    ensures { Takes policy state.old state.new envelope result }
 {
     if state.is_finished && is_judged(&envelope) {
         drop(envelope);
         return Err(Stop::Bad(Bad::AfterRunFinished));
     }
-    judge_inside(state, envelope)
+    judge_inside(state, envelope, policy)
 }

@@ -3,7 +3,7 @@ ghost use Rattle.std.specs.Prelude.{◌≡◌, ◌&&◌, IfErr, IfOk, OnOk, fals
 ghost use Rattle.std.specs.String.{string_bytes};
 ghost use Rattle.cm_attempt.specs.Table.{has_repeat, has_text};
 ghost use Rattle.cm_envelope.specs.declared.envelope.Envelope.TheVariants as envelope;
-ghost use Rattle.cm_summary.specs.Findings.{finding_inside, is_next_by};
+ghost use Rattle.cm_summary.specs.Findings.{plain_finding, is_next_by};
 ghost use Rattle.cm_summary.specs.Summary.{change_source, one_more, with_ids};
 ghost use Rattle.cm_audit.specs.Kept.{HasMoreAt, IsAcceptedAt, kept_rows};
 ghost use Rattle.cm_audit.specs.State.{AreFewer, Checks, IsListed, Judges, summary_of};
@@ -157,7 +157,7 @@ fn pickle_step_ids(alloc: Global, steps: Sequence<PickleStep>) -> Result<Vec<Str
 /// Whether the pickle is the next one of its source. Its ids aren't looked at.
 fn check_pickle(state: &State, pickle: &Pickle) -> Result<(), Stop>
     requires listed { IsListed state.now }
-    ensures err { IfErr result (λ why. StopsFor (finding_inside (summary_of state.now) (envelope.Pickle pickle.now)) why) }
+    ensures err { IfErr result (λ why. StopsFor (plain_finding (summary_of state.now) (envelope.Pickle pickle.now)) why) }
     ensures known { OnOk result ((has_text pickle.now.uri state.now.declared.sources && has_text pickle.now.uri state.now.declared.documents) ≡ true) }
     ensures next { OnOk result (is_next_by (summary_of state.now) pickle.now ≡ true) }
     ensures more { OnOk result (HasMoreAt pickle.now.uri (kept_rows state.now.sources.entries)) }

@@ -1,13 +1,14 @@
-//! The envelopes that tell what was run: the run, attempts and their steps, and attachments.
-ghost use Rattle.std.specs.Prelude.{◌≡◌, ◌&&◌, [], not};
+//! The envelopes that tell what was run: the run, its hooks, attempts and their steps, and attachments.
+ghost use Rattle.std.specs.Prelude.{◌≡◌, ◌&&◌, [], not, unwrap_or};
 ghost use Rattle.std.specs.List.{list_all, list_any};
 ghost use Rattle.cm_envelope.specs.declared.envelope.Envelope.TheVariants as Envelope;
 ghost use Rattle.indexmap.specs.IndexMap.{values};
+ghost use Rattle.cm_attempt.specs.Table.{is_good_status};
 ghost use Rattle.cm_stream.specs.Checks.{same_flag};
 ghost use Rattle.cm_stream.specs.Words.{is_accepted};
-ghost use Rattle.cm_summary.specs.Findings.{is_well, knows_place, lacks_by};
+ghost use Rattle.cm_summary.specs.Findings.{is_well, knows_place, knows_run_hook, lacks_by};
 ghost use Rattle.cm_audit.specs.Kept.{kept_row};
-ghost use Rattle.cm_audit.specs.State.{AreFewer, IsListed, Judges, summary_of};
+ghost use Rattle.cm_audit.specs.State.{AreFewer, IsListed, Judges, JudgesBy, summary_of};
 
 use crate::judge_cases::knows_run;
 use crate::judge_features::MOST;
@@ -15,10 +16,10 @@ use crate::source::Kept;
 use crate::state::{Sources, State};
 use crate::status::kept_status;
 use crate::stop::Stop;
-use cm_attempt::Status;
+use cm_attempt::{Policy, Status, worst_with};
 use cm_envelope::{
-    Attachment, TestCaseFinished, TestCaseStarted, TestRunFinished, TestRunStarted,
-    TestStepFinished, TestStepStarted,
+    Attachment, TestCaseFinished, TestCaseStarted, TestRunFinished, TestRunHookFinished,
+    TestRunHookStarted, TestRunStarted, TestStepFinished, TestStepStarted,
 };
 use cm_stream::{Bad, Reason};
 
@@ -31,6 +32,51 @@ pub(crate) fn judge_run_started(state: &mut State, run: TestRunStarted) -> Resul
         return Err(Stop::Bad(Bad::SecondRunStarted));
     }
     state.run = Some(run);
+    Ok(())
+}
+
+/// Whether the hook is declared, and the run is the one that started, where one is named.
+fn knows_run_hook(state: &State, started: &TestRunHookStarted) -> bool
+    ensures { result ≡ knows_run_hook (summary_of state.now) started.now }
+{
+    knows_run(state, &started.test_run_started_id)
+        && state.declared.has_hook(started.hook_id.as_str())
+}
+
+/// A run hook starts within the run, of a declared hook, and its id is new.
+pub(crate) fn judge_run_hook_started(
+    state: &mut State,
+    started: &TestRunHookStarted,
+) -> Result<(), Stop>
+    requires listed { IsListed state.old }
+    ensures { Judges state.old state.new (Envelope.TestRunHookStarted started.now) result }
+{
+    if state.run.is_none() {
+        return Err(Stop::Bad(Bad::OutsideRun));
+    }
+    if !knows_run_hook(state, started) {
+        return Err(Stop::Bad(Bad::UnknownReference));
+    }
+    state.declared.start_run_hook(started.id.as_str())?;
+    Ok(())
+}
+
+/// A run hook that started finishes once, and with a status that is judged.
+pub(crate) fn judge_run_hook_finished(
+    state: &mut State,
+    finished: &TestRunHookFinished,
+) -> Result<(), Stop>
+    requires listed { IsListed state.old }
+    ensures { Judges state.old state.new (Envelope.TestRunHookFinished finished.now) result }
+{
+    let status = kept_status(finished.result.status);
+    state
+        .declared
+        .finish_run_hook(finished.test_run_hook_started_id.as_str())?;
+    if status == Status::Unknown {
+        return Err(Stop::Unsupported(Reason::UnknownStatus));
+    }
+    state.hooks_worst = Some(worst_with(state.hooks_worst, status));
     Ok(())
 }
 
@@ -143,24 +189,37 @@ fn is_incomplete(state: &State) -> bool
     lack_some(&state.sources)
 }
 
-/// Whether each case has a final attempt that passed or was skipped, and no source is refused.
-fn is_well(state: &State) -> bool
-    ensures { result ≡ is_well (summary_of state.now) }
+/// Whether the worst status of the run hooks, if any is finished, is good.
+fn are_hooks_good(worst: Option<Status>, policy: Policy) -> bool
+    ensures { result ≡ is_good_status policy (unwrap_or worst Status.Passed) }
 {
-    state.track.all_good() && are_accepted(&state.sources)
+    policy.is_good(worst.unwrap_or(Status::Passed))
+}
+
+/// Whether each case has a final attempt at worst of a good status, each run hook is at worst of one, and no source is refused.
+fn is_well(state: &State, policy: Policy) -> bool
+    ensures { result ≡ is_well policy (summary_of state.now) }
+{
+    state.track.all_good_with(policy)
+        && are_hooks_good(state.hooks_worst, policy)
+        && are_accepted(&state.sources)
 }
 
 /// Whether the run's end tells its success as it is.
-fn tells_success(state: &State, finished: &TestRunFinished) -> bool
-    ensures { result ≡ same_flag finished.now.success (is_well (summary_of state.now) && not finished.now.has_exception) }
+fn tells_success(state: &State, finished: &TestRunFinished, policy: Policy) -> bool
+    ensures { result ≡ same_flag finished.now.success (is_well policy (summary_of state.now) && not finished.now.has_exception) }
 {
-    finished.success == (is_well(state) && !finished.has_exception)
+    finished.success == (is_well(state, policy) && !finished.has_exception)
 }
 
 /// A run that started finishes with nothing open or lacking, and tells its success as it is.
-pub(crate) fn judge_run_finished(state: &mut State, finished: &TestRunFinished) -> Result<(), Stop>
+pub(crate) fn judge_run_finished(
+    state: &mut State,
+    finished: &TestRunFinished,
+    policy: Policy,
+) -> Result<(), Stop>
     requires listed { IsListed state.old }
-    ensures { Judges state.old state.new (Envelope.TestRunFinished finished.now) result }
+    ensures { JudgesBy policy state.old state.new (Envelope.TestRunFinished finished.now) result }
 {
     if state.run.is_none() {
         return Err(Stop::Bad(Bad::OutsideRun));
@@ -171,10 +230,13 @@ pub(crate) fn judge_run_finished(state: &mut State, finished: &TestRunFinished) 
     if state.track.open_attempts() != 0 {
         return Err(Stop::Bad(Bad::AttemptOpen));
     }
+    if state.declared.open_run_hooks() != 0 {
+        return Err(Stop::Bad(Bad::RunHookOpen));
+    }
     if is_incomplete(state) {
         return Err(Stop::Bad(Bad::SourceIncomplete));
     }
-    if !tells_success(state, finished) {
+    if !tells_success(state, finished, policy) {
         return Err(Stop::Bad(Bad::SuccessDiffers));
     }
     state.is_finished = true;

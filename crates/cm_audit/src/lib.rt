@@ -15,7 +15,8 @@ mod status;
 mod stop;
 mod write;
 
-pub use auditing::audit;
+pub use auditing::{audit, audit_with};
+pub use cm_stream::{Bad, Counts, Reason, Verdict};
 pub use compiled::write_compiled;
 pub use fault::CompileFault;
 pub use status::kept_status;

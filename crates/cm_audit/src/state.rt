@@ -6,7 +6,7 @@ ghost use Rattle.cm_audit.specs.Kept.{kept_row, kept_rows};
 ghost use Rattle.cm_audit.specs.State.{IsListed, summary_of};
 
 use crate::source::Kept;
-use cm_attempt::Track;
+use cm_attempt::{Status, Track};
 use cm_envelope::TestRunStarted;
 use cm_refs::Declared;
 use cm_stream::Counts;
@@ -17,8 +17,8 @@ pub(crate) type Sources = IndexMap<String, Kept>;
 
 pub(crate) type Names = IndexSet<String>;
 
-/// What an audit keeps: what was declared, the record of attempts, each source by its uri, the pickles that cases name, and
-/// what the run's envelopes said.
+/// What an audit keeps: what was declared, the record of attempts, each source by its uri, the pickles that cases name,
+/// what the run's envelopes said, and the worst status of its hooks.
 #[derive(Drop)]
 pub(crate) struct State {
     pub(crate) declared: Declared,
@@ -27,6 +27,7 @@ pub(crate) struct State {
     pub(crate) named: Names,
     pub(crate) run: Option<TestRunStarted>,
     pub(crate) is_finished: bool,
+    pub(crate) hooks_worst: Option<Status>,
     pub(crate) counts: Counts,
     pub(crate) alloc: Global,
 }
@@ -44,6 +45,7 @@ impl State {
             named: IndexSet::new(alloc),
             run: None,
             is_finished: false,
+            hooks_worst: None,
             counts: Counts {
                 sources: 0,
                 pickles: 0,

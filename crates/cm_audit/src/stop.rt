@@ -46,6 +46,8 @@ impl From<RefFault> for Stop {
         match fault {
             RefFault::DuplicateId => Stop::Bad(Bad::DuplicateId),
             RefFault::DuplicateUri => Stop::Bad(Bad::DuplicateUri),
+            RefFault::UnknownRunHook => Stop::Bad(Bad::UnknownReference),
+            RefFault::RunHookTwice => Stop::Bad(Bad::RunHookTwice),
             RefFault::Memory => Stop::Memory,
         }
     }

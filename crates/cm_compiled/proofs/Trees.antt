@@ -1,5 +1,5 @@
 -- Documents are read back.
-use Rattle.std.proofs.Common.{◌≡◌, ℕ, zero, suc, ◌+◌, List, [], ◌∷◌, ◌++◌, length, map, Option, Some, None, Ok, refl, sym, ap, ◌∙◌, codes, decimal, arith, append_assoc, append-nil, flat_map}
+use Rattle.std.proofs.Common.{◌≡◌, true, ℕ, zero, suc, ◌+◌, List, [], ◌∷◌, ◌++◌, length, map, Option, Some, None, Ok, refl, sym, ap, ◌∙◌, codes, decimal, arith, append_assoc, append-nil, flat_map}
 use Rattle.std.proofs.lemmas.List.{map-append}
 use Rattle.std.proofs.lemmas.List.FromFn.{length-map-range_with_len}
 use Rattle.std.proofs.lemmas.Bool.Decides.{nat_tests}
@@ -28,7 +28,7 @@ use Rattle.gk_grammar.proofs.Complete.{Counts}
 use Rattle.gk_pickle.specs.TreeJson.{cell_data, row_data, tag_data, doc_string_data, step_data, background_data, examples_data, scenario_data, rule_data, feature_data, document_data}
 use Rattle.cm_envelope.specs.declared.envelope.Envelope.TheVariants as envelope
 use Rattle.cm_envelope.specs.Reading.{envelope_of}
-use Rattle.cm_envelope.specs.Member.{each, object_in}
+use Rattle.cm_envelope.specs.Member.{all_items, each, object_in}
 use Rattle.cm_envelope.specs.Documents.{Ids, each_node, node_in, optional_node_in}
 use Rattle.cm_envelope.specs.Documents as read
 use Rattle.cm_compiled.specs.Documents.{tag_kept, row_kept, doc_string_kept, step_kept, background_kept, examples_kept, scenario_kept, rule_kept, feature_kept, HasLine, document_read}
@@ -92,6 +92,11 @@ background_is ids (Some b) h c =
 
 -- ---- examples, scenarios and rules
 
+-- each row is written as an object
+rows_objects : (rs : List Row) → all_items read.is_object (items_of (map row_data rs)) ≡ true
+rows_objects [] = refl
+rows_objects (r ∷ rs) = rows_objects rs
+
 examples_at : (ids : Ids) (e : Examples) (t : Option ExampleTable) → HasLine e.location → TagsHaveLines e.tags → TableHasLines t → Counts (length ids) (examples_nodes (record e { table = t })) →
     node_in (codes "examples") read.examples ids (examples_data (record e { table = t })) ≡ Ok (examples_kept (record e { table = t }), ids ++ names (examples_nodes (record e { table = t })))
 examples_at ids e None l g h c =
@@ -105,7 +110,7 @@ examples_at ids e (Some t) l g h c =
     let below = next_one own (decimal e.node) (row_nodes (t.header ∷ t.body)) parts.1.1 in
     let header = row_is (codes "tableHeader") (own ++ decimal e.node ∷ []) t.header h.0 (below.0, tt) in
     let body = rows_are (codes "tableBody") ((own ++ decimal e.node ∷ []) ++ decimal t.header.node ∷ []) t.body h.1 (next_one (own ++ decimal e.node ∷ []) (decimal t.header.node) (row_nodes t.body) below.1) in
-    rw (line_is e.location l, tags, header, body, ← parts.1.0) (ap (λ (i : Ids). Ok (examples_kept (record e { table = Some t }), i)) (simp (append_assoc, map-append)))
+    rw (line_is e.location l, tags, header, rows_objects t.body, body, ← parts.1.0) (ap (λ (i : Ids). Ok (examples_kept (record e { table = Some t }), i)) (simp (append_assoc, map-append)))
 
 examples_is : IsRead (node_in (codes "examples") read.examples) examples_data examples_nodes examples_kept ExamplesHaveLines
 examples_is ids e h c = examples_at ids e e.table h.0 h.1 h.2 c

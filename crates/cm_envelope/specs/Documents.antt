@@ -23,7 +23,7 @@ use Rattle.gk_document.specs.declared.tree.Feature.{Feature}
 use Rattle.cm_envelope.specs.declared.fault.MemberFault.{MemberFault}
 use Rattle.cm_envelope.specs.declared.envelope.GherkinDocument.{GherkinDocument}
 use Rattle.cm_envelope.specs.declared.documents.DataTable.{DataTable}
-use Rattle.cm_envelope.specs.Member.{◌>>=◌, Fails, good, required, nested, optional_nested, list_of, items_in, present, rule, has_both, media_type, as_whole_number}
+use Rattle.cm_envelope.specs.Member.{◌>>=◌, Fails, all_items, good, required, nested, optional_nested, list_of, items_in, present, rule, has_both, media_type, as_whole_number}
 
 abbrev pub Ids : Type 0
 Ids = List (List ℕ)
@@ -180,11 +180,15 @@ abbrev pub table_of : Option Row → List Row → Option ExampleTable
 table_of None body = None
 table_of (Some header) body = Some (record { header = header; body = body })
 
--- A body that isn't empty needs a header.
+abbrev pub is_object : Data → Bool
+is_object d = is_some (as_object d)
+
+-- Each element of the body is an object, and a body that isn't empty needs a header.
 abbrev pub example_table : Ids → Data → NodeRead (Option ExampleTable)
 example_table ids d = do
   header ← optional_node row (codes "tableHeader") ids d
   rows ← items_in (codes "tableBody") (present (codes "tableBody") d)
+  objects ← rule (codes "tableBody") (all_items is_object rows)
   checked ← rule (codes "tableBody") (is_some header.0 || is_empty rows)
   body ← each_node (node_in (codes "tableBody") row) header.1 rows
   Ok (table_of header.0 body.0, body.1)

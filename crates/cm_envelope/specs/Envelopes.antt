@@ -18,6 +18,8 @@ use Rattle.cm_envelope.specs.declared.envelope.TestStepStarted.{TestStepStarted}
 use Rattle.cm_envelope.specs.declared.envelope.TestStepResult.{TestStepResult}
 use Rattle.cm_envelope.specs.declared.envelope.TestStepFinished.{TestStepFinished}
 use Rattle.cm_envelope.specs.declared.envelope.TestCaseFinished.{TestCaseFinished}
+use Rattle.cm_envelope.specs.declared.envelope.TestRunHookStarted.{TestRunHookStarted}
+use Rattle.cm_envelope.specs.declared.envelope.TestRunHookFinished.{TestRunHookFinished}
 use Rattle.cm_envelope.specs.declared.envelope.Status.{Status}
 use Rattle.cm_envelope.specs.declared.envelope.Status.TheVariants.{Unknown, Passed, Skipped, Pending, Undefined, Ambiguous, Failed}
 use Rattle.cm_envelope.specs.Member.{◌>>=◌, present, required, optional, optional_or, nested, list_of, list_of_values, rule, each_item, has_one_of, as_whole_number}
@@ -127,3 +129,16 @@ test_case_finished d = do
   attempt ← required as_str (codes "testCaseStartedId") d
   retried ← optional_or false as_bool (codes "willBeRetried") d
   Ok (record { test_case_started_id = attempt; will_be_retried = retried })
+
+abbrev pub test_run_hook_started : Data → Result TestRunHookStarted (List ℕ)
+test_run_hook_started d = do
+  id ← required as_str (codes "id") d
+  run ← optional as_str (codes "testRunStartedId") d
+  hook ← required as_str (codes "hookId") d
+  Ok (record { id = id; test_run_started_id = run; hook_id = hook })
+
+abbrev pub test_run_hook_finished : Data → Result TestRunHookFinished (List ℕ)
+test_run_hook_finished d = do
+  start ← required as_str (codes "testRunHookStartedId") d
+  result ← nested test_step_result (codes "result") d
+  Ok (record { test_run_hook_started_id = start; result = result })

@@ -17,7 +17,7 @@ use Rattle.cm_envelope.specs.declared.fault.ShapeFault.TheVariants as faults
 use Rattle.cm_envelope.specs.Member.{◌>>=◌, present}
 use Rattle.cm_envelope.specs.Documents.{gherkin_document}
 use Rattle.cm_envelope.specs.Pickles.{pickle}
-use Rattle.cm_envelope.specs.Envelopes.{source, parse_error, step_definition, hook, test_case, test_run_started, test_case_started, test_step_started, test_step_finished, test_case_finished, test_run_finished, attachment}
+use Rattle.cm_envelope.specs.Envelopes.{source, parse_error, step_definition, hook, test_case, test_run_started, test_case_started, test_step_started, test_step_finished, test_case_finished, test_run_finished, attachment, test_run_hook_started, test_run_hook_finished}
 
 -- Why a line has no envelope: no JSON, no shape, or the kind and its first bad member.
 pub data Fault : Type 0 where
@@ -68,8 +68,8 @@ members TestStepFinished d = result_map envelope.TestStepFinished (test_step_fin
 members TestCaseFinished d = result_map envelope.TestCaseFinished (test_case_finished d)
 members TestRunFinished d = result_map envelope.TestRunFinished (test_run_finished d)
 members Attachment d = result_map envelope.Attachment (attachment d)
-members TestRunHookStarted d = Ok envelope.TestRunHookStarted
-members TestRunHookFinished d = Ok envelope.TestRunHookFinished
+members TestRunHookStarted d = result_map envelope.TestRunHookStarted (test_run_hook_started d)
+members TestRunHookFinished d = result_map envelope.TestRunHookFinished (test_run_hook_finished d)
 
 -- the judged kinds that the object has, each with its value
 abbrev pub judged_in : List Kind → Data → List (Kind × Data)

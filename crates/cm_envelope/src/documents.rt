@@ -2,8 +2,8 @@
 ghost use Rattle.std.specs.Prelude.{◌≡◌, [], codes};
 ghost use Rattle.serde_json.specs.Data.{Data};
 ghost use Rattle.serde_json.specs.View.{view, items_view};
-ghost use Rattle.cm_envelope.specs.Member.{Gives, GivesOf, required};
-ghost use Rattle.cm_envelope.specs.Documents.{GivesNode, NodeRead, Ids, node_in, optional_node_in, optional_node as optional_node_of, each_node, nodes_of as nodes_of_member, children_of, background_in, rank_of as rank_of_child, are_in_order as children_are_in_order, children_in as children_in_member, as_line, location, cell, doc_string, tag, row, data_table, argument_of, step, background, is_empty, table_of, example_table as example_table_of, examples, scenario, rule_node, feature, gherkin_document};
+ghost use Rattle.cm_envelope.specs.Member.{Gives, GivesOf, all_items, required};
+ghost use Rattle.cm_envelope.specs.Documents.{GivesNode, NodeRead, Ids, node_in, optional_node_in, optional_node as optional_node_of, each_node, nodes_of as nodes_of_member, children_of, background_in, rank_of as rank_of_child, are_in_order as children_are_in_order, children_in as children_in_member, as_line, location, cell, doc_string, tag, row, data_table, argument_of, step, background, is_empty, is_object, table_of, example_table as example_table_of, examples, scenario, rule_node, feature, gherkin_document};
 
 use crate::envelope::GherkinDocument;
 use crate::fault::MemberFault;
@@ -334,6 +334,17 @@ fn is_empty(values: &[Value]) -> bool
     }
 }
 
+fn are_objects(values: &[Value]) -> bool
+    ensures { result ≡ all_items is_object (items_view values.now) }
+{
+    for value in values {
+        if !value.is_object() {
+            return false;
+        }
+    }
+    true
+}
+
 fn table_of(header: Option<Row>, body: Sequence<Row>) -> Option<ExampleTable>
     ensures { result ≡ table_of header body }
 {
@@ -352,6 +363,9 @@ fn example_table(
 {
     let header = optional_node(alloc, object, "tableHeader", ids)?;
     let rows = items(object, "tableBody")?;
+    if !are_objects(rows) {
+        return Err(MemberFault::Bad("tableBody"));
+    }
     if header.is_none() && !is_empty(rows) {
         return Err(MemberFault::Bad("tableBody"));
     }

@@ -19,8 +19,8 @@ pub enum Envelope {
     TestCaseFinished(TestCaseFinished),
     TestRunFinished(TestRunFinished),
     Attachment(Attachment),
-    TestRunHookStarted,
-    TestRunHookFinished,
+    TestRunHookStarted(TestRunHookStarted),
+    TestRunHookFinished(TestRunHookFinished),
     /// An object without one of these kinds.
     Other,
 }
@@ -116,7 +116,7 @@ pub struct TestStepFinished {
     pub test_step_result: TestStepResult,
 }
 
-/// What came of a test step.
+/// What came of a test step, or of a run hook.
 #[derive(Clone, Copy, Debug, PartialEq, Eq, Drop)]
 pub struct TestStepResult {
     pub status: Status,
@@ -127,6 +127,21 @@ pub struct TestStepResult {
 pub struct TestCaseFinished {
     pub test_case_started_id: Text,
     pub will_be_retried: bool,
+}
+
+/// The start of a hook that runs around the run.
+#[derive(Debug, PartialEq, Eq, Drop)]
+pub struct TestRunHookStarted {
+    pub id: Text,
+    pub test_run_started_id: Option<Text>,
+    pub hook_id: Text,
+}
+
+/// The end of a hook that runs around the run.
+#[derive(Debug, PartialEq, Eq, Drop)]
+pub struct TestRunHookFinished {
+    pub test_run_hook_started_id: Text,
+    pub result: TestStepResult,
 }
 
 /// The end of the run.

@@ -3,12 +3,12 @@ ghost use Rattle.std.specs.Prelude.{◌≡◌, codes};
 ghost use Rattle.serde_json.specs.Find.{as_str};
 ghost use Rattle.serde_json.specs.View.{view, items_view};
 ghost use Rattle.cm_envelope.specs.Member.{Gives, required, has_one_of as has_one_member, each_item, all_items};
-ghost use Rattle.cm_envelope.specs.Envelopes.{source, source_reference, parse_error, step_definition, hook, test_run_started, test_run_finished, attachment, status_of, as_status, test_step, test_case, test_case_started, test_step_started, test_step_result, test_step_finished, test_case_finished};
+ghost use Rattle.cm_envelope.specs.Envelopes.{source, source_reference, parse_error, step_definition, hook, test_run_started, test_run_finished, attachment, status_of, as_status, test_step, test_case, test_case_started, test_step_started, test_step_result, test_step_finished, test_case_finished, test_run_hook_started, test_run_hook_finished};
 
 use crate::envelope::{
     Attachment, Hook, ParseError, Source, SourceReference, Status, StepDefinition, TestCase,
-    TestCaseFinished, TestCaseStarted, TestRunFinished, TestRunStarted, TestStep, TestStepFinished,
-    TestStepResult, TestStepStarted,
+    TestCaseFinished, TestCaseStarted, TestRunFinished, TestRunHookFinished, TestRunHookStarted,
+    TestRunStarted, TestStep, TestStepFinished, TestStepResult, TestStepStarted,
 };
 use crate::fault::MemberFault;
 use crate::member::{flag, flag_or, optional_text, present, text, whole_number_or};
@@ -240,6 +240,29 @@ impl ReadObject for TestCaseFinished {
         Ok(TestCaseFinished {
             test_case_started_id: text(alloc, object, "testCaseStartedId")?,
             will_be_retried: flag_or(false, object, "willBeRetried")?,
+        })
+    }
+}
+
+impl ReadObject for TestRunHookStarted {
+    ghost reads = { test_run_hook_started };
+
+    fn read(alloc: Global, object: &Value) -> Result<TestRunHookStarted, MemberFault> {
+        Ok(TestRunHookStarted {
+            id: text(alloc, object, "id")?,
+            test_run_started_id: optional_text(alloc, object, "testRunStartedId")?,
+            hook_id: text(alloc, object, "hookId")?,
+        })
+    }
+}
+
+impl ReadObject for TestRunHookFinished {
+    ghost reads = { test_run_hook_finished };
+
+    fn read(alloc: Global, object: &Value) -> Result<TestRunHookFinished, MemberFault> {
+        Ok(TestRunHookFinished {
+            test_run_hook_started_id: text(alloc, object, "testRunHookStartedId")?,
+            result: nested(alloc, object, "result")?,
         })
     }
 }

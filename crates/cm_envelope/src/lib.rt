@@ -20,8 +20,9 @@ pub use blank::is_blank_line;
 pub use device::{ByteSink, ByteSource, DeviceFailed, Reader, Writer};
 pub use envelope::{
     Attachment, Envelope, GherkinDocument, Hook, ParseError, Source, SourceReference, Status,
-    StepDefinition, TestCase, TestCaseFinished, TestCaseStarted, TestRunFinished, TestRunStarted,
-    TestStep, TestStepFinished, TestStepResult, TestStepStarted,
+    StepDefinition, TestCase, TestCaseFinished, TestCaseStarted, TestRunFinished,
+    TestRunHookFinished, TestRunHookStarted, TestRunStarted, TestStep, TestStepFinished,
+    TestStepResult, TestStepStarted,
 };
 pub use fault::ShapeFault;
 pub use feed::{Feed, LINE_LIMIT, STREAM_LIMIT, Trouble};

@@ -30,8 +30,12 @@ fn members_of(alloc: Global, kind: Kind, object: &Value) -> Result<Envelope, Mem
         Kind::TestCaseFinished => Ok(Envelope::TestCaseFinished(ReadObject::read(alloc, object)?)),
         Kind::TestRunFinished => Ok(Envelope::TestRunFinished(ReadObject::read(alloc, object)?)),
         Kind::Attachment => Ok(Envelope::Attachment(ReadObject::read(alloc, object)?)),
-        Kind::TestRunHookStarted => Ok(Envelope::TestRunHookStarted),
-        Kind::TestRunHookFinished => Ok(Envelope::TestRunHookFinished),
+        Kind::TestRunHookStarted => Ok(Envelope::TestRunHookStarted(ReadObject::read(
+            alloc, object,
+        )?)),
+        Kind::TestRunHookFinished => Ok(Envelope::TestRunHookFinished(ReadObject::read(
+            alloc, object,
+        )?)),
     }
 }
 

@@ -1,8 +1,9 @@
 -- What a stream has declared, and what each declaration makes of it.
 --
 -- The kinds are those of Cucumber Messages: `source` and `gherkinDocument` by their `uri`; `pickle`,
--- `stepDefinition` and `hook` by their `id`, a pickle with the ids of its steps.
-use Rattle.std.specs.Prelude.{◌||◌, ℕ, Bool, false, List, [], ◌∷◌, ◌++◌, Option, None, Some, is_some, if◌then◌else◌, find}
+-- `stepDefinition`, `hook` and `testRunHookStarted` by their `id`, a pickle with the ids of its steps, a run hook with whether its
+-- `testRunHookFinished` came.
+use Rattle.std.specs.Prelude.{◌||◌, ℕ, Bool, false, true, not, List, [], ◌∷◌, ◌++◌, Option, None, Some, is_some, if◌then◌else◌, find, count_by}
 use Rattle.std.specs.List.{list_any}
 use Rattle.std.specs.Option.{option_map_or}
 use Rattle.std.specs.Str.{bytes_eq}
@@ -17,6 +18,11 @@ pub record PickleRow : Type 0 where
   pub id : Text
   pub steps : List Text
 
+-- a run hook that was started, and whether it is finished
+pub record RunHookRow : Type 0 where
+  pub id : Text
+  pub is_finished : Bool
+
 -- one list a kind, in the order of declaration
 pub record Declarations : Type 0 where
   pub sources : List Text
@@ -24,6 +30,7 @@ pub record Declarations : Type 0 where
   pub pickles : List PickleRow
   pub definitions : List Text
   pub hooks : List Text
+  pub run_hooks : List RunHookRow
 
 abbrev pub no_declarations : Declarations
 no_declarations = record {
@@ -32,6 +39,7 @@ no_declarations = record {
   pickles = [];
   definitions = [];
   hooks = [];
+  run_hooks = [];
 }
 
 -- ---- look-ups
@@ -51,6 +59,13 @@ find_pickle d id = find (λ p. bytes_eq id p.id) d.pickles
 abbrev pub steps_of : Declarations → Text → List Text
 steps_of d id = option_map_or (λ p. p.steps) (find_pickle d id) []
 
+abbrev pub find_run_hook : Declarations → Text → Option RunHookRow
+find_run_hook d id = find (λ r. bytes_eq id r.id) d.run_hooks
+
+-- how many run hooks are started and not finished
+abbrev pub open_count : Declarations → ℕ
+open_count d = count_by (λ r. not r.is_finished) d.run_hooks
+
 -- ---- refusals
 
 -- a name that is in its kind's list is refused
@@ -61,6 +76,18 @@ name_fault taken name names = if has_text name names then Some taken else None
 abbrev pub pickle_fault : Declarations → Text → List Text → Option RefFault
 pickle_fault d id steps =
     if is_some (find_pickle d id) || has_repeat steps then Some fault.DuplicateId else None
+
+-- a run hook whose id is in the list doesn't start
+abbrev pub run_hook_fault : Declarations → Text → Option RefFault
+run_hook_fault d id = if is_some (find_run_hook d id) then Some fault.DuplicateId else None
+
+-- a run hook finishes once, and only where it was started
+abbrev pub finish_fault_at : Option RunHookRow → Option RefFault
+finish_fault_at None = Some fault.UnknownRunHook
+finish_fault_at (Some r) = if r.is_finished then Some fault.RunHookTwice else None
+
+abbrev pub finish_fault : Declarations → Text → Option RefFault
+finish_fault d id = finish_fault_at (find_run_hook d id)
 
 -- ---- declarations
 
@@ -78,3 +105,21 @@ with_definition id d = record d { definitions = d.definitions ++ id ∷ [] }
 
 abbrev pub with_hook : Text → Declarations → Declarations
 with_hook id d = record d { hooks = d.hooks ++ id ∷ [] }
+
+abbrev pub new_run_hook : Text → RunHookRow
+new_run_hook id = record { id = id; is_finished = false }
+
+abbrev pub with_run_hook : Text → Declarations → Declarations
+with_run_hook id d = record d { run_hooks = d.run_hooks ++ new_run_hook id ∷ [] }
+
+-- the list with f at the first element that passes
+abbrev pub change_first : {X : Type 0} → (X → Bool) → (X → X) → List X → List X
+change_first p f [] = []
+change_first p f (x ∷ xs) = if p x then f x ∷ xs else (x ∷ change_first p f xs)
+
+abbrev pub finished : RunHookRow → RunHookRow
+finished r = record r { is_finished = true }
+
+-- the run hook is finished; nothing else changes
+abbrev pub with_finished : Text → Declarations → Declarations
+with_finished id d = record d { run_hooks = change_first (λ r. bytes_eq id r.id) finished d.run_hooks }

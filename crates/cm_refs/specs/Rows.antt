@@ -1,9 +1,9 @@
--- The rows that the entries of the map of pickles stand for.
-use Rattle.std.specs.Prelude.{List, String, map}
+-- The rows that the entries of the maps of pickles and of run hooks stand for.
+use Rattle.std.specs.Prelude.{Bool, List, String, map}
 use Rattle.std.specs.String.{string_bytes}
 use Rattle.std.specs.declared.alloc.Global.{Global}
 use Rattle.indexmap.specs.IndexSet.{IndexSet}
-use Rattle.cm_refs.specs.Declarations.{PickleRow, Text}
+use Rattle.cm_refs.specs.Declarations.{PickleRow, RunHookRow, Text}
 
 module _ {S : Type 0} where
   abbrev pub pickle_row : Text → IndexSet (String Global) S → PickleRow
@@ -11,3 +11,9 @@ module _ {S : Type 0} where
 
   abbrev pub pickle_rows : List (String Global × IndexSet (String Global) S) → List PickleRow
   pickle_rows = map (λ e. pickle_row (string_bytes e.0) e.1)
+
+abbrev pub run_hook_row : Text → Bool → RunHookRow
+run_hook_row id is_finished = record { id = id; is_finished = is_finished }
+
+abbrev pub run_hook_rows : List (String Global × Bool) → List RunHookRow
+run_hook_rows = map (λ e. run_hook_row (string_bytes e.0) e.1)

@@ -1,12 +1,14 @@
 //! The declarations of a stream.
-ghost use Rattle.std.specs.Prelude.{◌≡◌, ◌⊎◌, IfSome, IsErrAnd, IsOkUnless, MatchOption, OnErr, OnOk, map, option_map};
+ghost use Rattle.std.specs.Prelude.{◌≡◌, ◌⊎◌, IfSome, IsErrAnd, IsOk, IsOkUnless, MatchOption, OnErr, OnOk, is_some, map, option_map};
 ghost use Rattle.std.specs.String.{string_bytes};
-ghost use Rattle.cm_refs.specs.Declarations.{find_pickle, has_text, name_fault, no_declarations, pickle_fault, steps_of as steps_in};
-ghost use Rattle.cm_refs.specs.Declarations.{with_definition, with_document, with_hook, with_pickle, with_source};
+ghost use Rattle.cm_refs.specs.Declarations.{find_pickle, find_run_hook, finish_fault, has_text, name_fault, no_declarations, pickle_fault, steps_of as steps_in};
+ghost use Rattle.cm_refs.specs.Declarations.{open_count, run_hook_fault, with_definition, with_document, with_finished};
+ghost use Rattle.cm_refs.specs.Declarations.{with_hook, with_pickle, with_run_hook, with_source};
 
 use crate::fault::RefFault;
 use crate::names::{Names, contains, declare, distinct_texts};
 use crate::pickles::{Pickles, append, has_step, steps_of};
+use crate::run_hooks::{RunHooks, append as append_run_hook, count_open, finish_of, set_finished};
 use indexmap::{IndexMap, IndexSet};
 use std::alloc::Global;
 use std::marker::Model;
@@ -22,6 +24,7 @@ pub struct Declared {
     pickles: Pickles,
     definitions: Names,
     hooks: Names,
+    run_hooks: RunHooks,
     alloc: Global,
 }
 
@@ -29,7 +32,7 @@ impl Model for Declared {
     ghost use Rattle.std.specs.Prelude.{map};
     ghost use Rattle.std.specs.String.{string_bytes};
     ghost use Rattle.cm_refs.specs.Declarations.{Declarations};
-    ghost use Rattle.cm_refs.specs.Rows.{pickle_rows};
+    ghost use Rattle.cm_refs.specs.Rows.{pickle_rows, run_hook_rows};
 
     ghost Value = { Declarations };
 
@@ -39,6 +42,7 @@ impl Model for Declared {
       pickles = pickle_rows d.pickles.entries;
       definitions = map string_bytes d.definitions.keys;
       hooks = map string_bytes d.hooks.keys;
+      run_hooks = run_hook_rows d.run_hooks.entries;
     } };
 }
 
@@ -53,6 +57,7 @@ impl Declared {
             pickles: IndexMap::new(alloc),
             definitions: IndexSet::new(alloc),
             hooks: IndexSet::new(alloc),
+            run_hooks: IndexMap::new(alloc),
             alloc,
         }
     }
@@ -134,6 +139,43 @@ impl Declared {
         declare(&mut self.hooks, self.alloc, id, RefFault::DuplicateId)
     }
 
+    /// Declares a run hook that starts.
+    ///
+    /// # Errors
+    /// `DuplicateId` where the id is that of a run hook, `Memory` where a growth is refused.
+    pub fn start_run_hook(&mut self, id: &str) -> Result<(), RefFault>
+        ensures answer { MatchOption (run_hook_fault self.old id.now)
+            (IsOkUnless result RefFault.Memory) (λ fault. result ≡ Err fault) }
+        ensures ok { OnOk result (self.new ≡ with_run_hook id.now self.old) }
+        ensures err { OnErr result (self.new ≡ self.old) }
+    {
+        if finish_of(&self.run_hooks, id).is_some() {
+            return Err(RefFault::DuplicateId);
+        }
+        append_run_hook(&mut self.run_hooks, self.alloc, id)?;
+        Ok(())
+    }
+
+    /// Marks a run hook as finished. It takes no memory.
+    ///
+    /// # Errors
+    /// `UnknownRunHook` where no run hook of the id was started, `RunHookTwice` where it is finished already.
+    pub fn finish_run_hook(&mut self, id: &str) -> Result<(), RefFault>
+        ensures answer { MatchOption (finish_fault self.old id.now)
+            (IsOk result) (λ fault. result ≡ Err fault) }
+        ensures ok { OnOk result (self.new ≡ with_finished id.now self.old) }
+        ensures err { OnErr result (self.new ≡ self.old) }
+    {
+        let Some(is_finished) = finish_of(&self.run_hooks, id) else {
+            return Err(RefFault::UnknownRunHook);
+        };
+        if *is_finished {
+            return Err(RefFault::RunHookTwice);
+        }
+        set_finished(&mut self.run_hooks, id);
+        Ok(())
+    }
+
     /// Whether the source of the uri is declared.
     pub fn has_source(&self, uri: &str) -> bool
         ensures { result ≡ has_text uri.now self.now.sources }
@@ -160,6 +202,20 @@ impl Declared {
         ensures { result ≡ has_text id.now self.now.hooks }
     {
         contains(&self.hooks, id)
+    }
+
+    /// Whether the run hook was started, finished or not.
+    pub fn has_run_hook(&self, id: &str) -> bool
+        ensures { result ≡ is_some (find_run_hook self.now id.now) }
+    {
+        finish_of(&self.run_hooks, id).is_some()
+    }
+
+    /// How many run hooks were started and aren't finished.
+    pub fn open_run_hooks(&self) -> u64
+        ensures { result ≡ open_count self.now }
+    {
+        count_open(&self.run_hooks)
     }
 
     /// The step ids of a declared pickle, in their order.

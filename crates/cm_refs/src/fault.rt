@@ -5,7 +5,7 @@ ghost use Rattle.cm_refs.specs.declared.fault.RefFault.TheVariants as fault;
 use std::alloc::AllocError;
 use thiserror::Error;
 
-/// Why a declaration is refused. `Declared` is then as it was.
+/// Why a declaration, or the finish of a run hook, is refused. `Declared` is then as it was.
 #[derive(Clone, Copy, Debug, PartialEq, Eq, Error)]
 pub enum RefFault {
     #[error("the id is declared already, or two steps of the pickle have one id")]
@@ -14,6 +14,10 @@ pub enum RefFault {
     DuplicateUri,
     #[error("out of memory")]
     Memory,
+    #[error("no run hook of this id was started")]
+    UnknownRunHook,
+    #[error("the run hook is finished already")]
+    RunHookTwice,
 }
 
 impl From<AllocError> for RefFault {

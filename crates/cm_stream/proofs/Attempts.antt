@@ -5,7 +5,7 @@ use Rattle.std.specs.List.{list_any, filter_map, flat_map}
 use Rattle.std.specs.Str.{bytes_eq}
 use Rattle.cm_stream.specs.Texts.{Text}
 use Rattle.cm_stream.specs.Words.{Case, Attempt, times_declared, as_case, as_start, find_case, steps_of, Move, Started, StepStarted, StepFinished, Ended, move_of, moves, whole, is_end, is_ended}
-use Rattle.cm_stream.specs.Good.{Good}
+use Rattle.cm_stream.specs.Good.{Sound}
 use Rattle.cm_stream.specs.Checks.{same_move, steps_of_attempt, is_next_move}
 use Rattle.cm_envelope.specs.declared.envelope.Envelope.{Envelope}
 use Rattle.cm_envelope.specs.declared.envelope.Envelope.TheVariants as envelope
@@ -22,7 +22,7 @@ pub record IsUnderWay (es before : List Envelope) (a : Text) : Type 0 where
   pub steps : steps_of_attempt a before ≡ steps_of_attempt a es
   pub goes : moves a es ≡ whole (steps_of_attempt a es)
 
-pub under_way : (es before : List Envelope) (e : Envelope) (after : List Envelope) → Good es → es ≡ before ++ e ∷ after → (a : Text) → times_declared (Attempt a) before ≡ 1 → IsUnderWay es before a
+pub under_way : (es before : List Envelope) (e : Envelope) (after : List Envelope) → Sound es → es ≡ before ++ e ∷ after → (a : Text) → times_declared (Attempt a) before ≡ 1 → IsUnderWay es before a
 under_way es before e after good cut a one =
     let at = declarer (Attempt a) as_start (λ x. bytes_eq a x.id) (declares_attempt a) before one in
     let start : at.here ≡ envelope.TestCaseStarted at.value = start_is at.here at.value at.is in
@@ -50,7 +50,7 @@ same_move_itself Ended = refl
 
 -- ---- StepOrder and FinishedEarly
 
-pub is_next : (es before : List Envelope) (e : Envelope) (after : List Envelope) → Good es → es ≡ before ++ e ∷ after → (a : Text) (m : Move) → move_of a e ≡ Some m → times_declared (Attempt a) before ≡ 1
+pub is_next : (es before : List Envelope) (e : Envelope) (after : List Envelope) → Sound es → es ≡ before ++ e ∷ after → (a : Text) (m : Move) → move_of a e ≡ Some m → times_declared (Attempt a) before ≡ 1
     → is_next_move m a before ≡ true
 is_next es before e after good cut a m moved one =
     let way = under_way es before e after good cut a one in
@@ -59,19 +59,19 @@ is_next es before e after good cut a m moved one =
     let next : slice_get (whole (steps_of_attempt a before)) (length (moves a before)) ≡ Some m = ap (λ ms. slice_get ms (length (moves a before))) parts ∙ at_length (moves a before) m (moves a after) in
     rw next (same_move_itself m)
 
-pub step_starts_next : (es before : List Envelope) (s : TestStepStarted) (after : List Envelope) → Good es → es ≡ before ++ envelope.TestStepStarted s ∷ after
+pub step_starts_next : (es before : List Envelope) (s : TestStepStarted) (after : List Envelope) → Sound es → es ≡ before ++ envelope.TestStepStarted s ∷ after
     → not (is_next_move (StepStarted s.test_step_id) s.test_case_started_id before) ≡ false
 step_starts_next es before s after good cut =
     ap not (is_next es before (envelope.TestStepStarted s) after good cut s.test_case_started_id (StepStarted s.test_step_id) (rw (bytes_same s.test_case_started_id) refl)
     (good.references before (envelope.TestStepStarted s) after cut).0)
 
-pub step_finishes_next : (es before : List Envelope) (s : TestStepFinished) (after : List Envelope) → Good es → es ≡ before ++ envelope.TestStepFinished s ∷ after
+pub step_finishes_next : (es before : List Envelope) (s : TestStepFinished) (after : List Envelope) → Sound es → es ≡ before ++ envelope.TestStepFinished s ∷ after
     → not (is_next_move (StepFinished s.test_step_id) s.test_case_started_id before) ≡ false
 step_finishes_next es before s after good cut =
     ap not (is_next es before (envelope.TestStepFinished s) after good cut s.test_case_started_id (StepFinished s.test_step_id) (rw (bytes_same s.test_case_started_id) refl)
     (good.references before (envelope.TestStepFinished s) after cut).0)
 
-pub not_early : (es before : List Envelope) (f : TestCaseFinished) (after : List Envelope) → Good es → es ≡ before ++ envelope.TestCaseFinished f ∷ after
+pub not_early : (es before : List Envelope) (f : TestCaseFinished) (after : List Envelope) → Sound es → es ≡ before ++ envelope.TestCaseFinished f ∷ after
     → not (is_next_move Ended f.test_case_started_id before) ≡ false
 not_early es before f after good cut =
     ap not (is_next es before (envelope.TestCaseFinished f) after good cut f.test_case_started_id Ended (rw (bytes_same f.test_case_started_id) refl)
@@ -104,7 +104,7 @@ ends_last (x ∷ xs) (m ∷ ms) ys none e =
     any_back_of (StepStarted s) xs h = h
     any_back_of (StepFinished s) xs h = h
 
-pub not_ended_yet : (es before : List Envelope) (f : TestCaseFinished) (after : List Envelope) → Good es → es ≡ before ++ envelope.TestCaseFinished f ∷ after
+pub not_ended_yet : (es before : List Envelope) (f : TestCaseFinished) (after : List Envelope) → Sound es → es ≡ before ++ envelope.TestCaseFinished f ∷ after
     → is_ended f.test_case_started_id before ≡ false
 not_ended_yet es before f after good cut =
     let a = f.test_case_started_id in

@@ -5,7 +5,7 @@ use Rattle.std.specs.List.{list_any}
 use Rattle.std.specs.Option.{option_map_or}
 use Rattle.std.specs.Str.{bytes_eq}
 use Rattle.cm_stream.specs.Texts.{Text}
-use Rattle.cm_stream.specs.Words.{Name, SourceOf, DocumentOf, PickleNamed, PickleStep, Case, Step, Run, Attempt, same_name, declares_it, times_declared, if_any, as_source, as_document, as_pickle, as_case, as_start}
+use Rattle.cm_stream.specs.Words.{Name, SourceOf, DocumentOf, PickleNamed, PickleStep, Case, Step, Run, Attempt, RunHook, same_name, declares_it, times_declared, if_any, as_source, as_document, as_pickle, as_case, as_start, as_run_hook}
 use Rattle.cm_envelope.specs.declared.envelope.Envelope.{Envelope}
 use Rattle.cm_envelope.specs.declared.envelope.Envelope.TheVariants as envelope
 use Rattle.cm_envelope.specs.declared.pickle.PickleStep as pickle_step
@@ -15,6 +15,7 @@ use Rattle.cm_envelope.specs.declared.envelope.GherkinDocument.{GherkinDocument}
 use Rattle.cm_envelope.specs.declared.pickle.Pickle.{Pickle}
 use Rattle.cm_envelope.specs.declared.envelope.TestCase.{TestCase}
 use Rattle.cm_envelope.specs.declared.envelope.TestCaseStarted.{TestCaseStarted}
+use Rattle.cm_envelope.specs.declared.envelope.TestRunHookStarted.{TestRunHookStarted}
 use Rattle.cm_stream.proofs.Lists.{none_counted}
 use Rattle.cm_stream.proofs.Found.{FoundAt, found_at}
 
@@ -60,6 +61,13 @@ declares_attempt id (envelope.TestRunStarted r) = none_of (Attempt id) Run (if_a
 declares_attempt id (envelope.TestCaseStarted x) = or_nothing (bytes_eq id x.id)
 declares_attempt id _ = refl
 
+pub declares_run_hook : (id : Text) (e : Envelope) → declares_it (RunHook id) e ≡ option_map_or (λ x. bytes_eq id x.id) (as_run_hook e) false
+declares_run_hook id (envelope.Pickle p) = none_of (RunHook id) (λ (s : pickle_step.PickleStep). PickleStep p.id s.id) p.steps (λ s. refl)
+declares_run_hook id (envelope.TestCase c) = none_of (RunHook id) (λ (s : TestStep). Step c.id s.id) c.test_steps (λ s. refl)
+declares_run_hook id (envelope.TestRunStarted r) = none_of (RunHook id) Run (if_any r.id) (λ s. refl)
+declares_run_hook id (envelope.TestRunHookStarted x) = or_nothing (bytes_eq id x.id)
+declares_run_hook id _ = refl
+
 -- what is declared once is declared by an envelope
 pub same_any : {X : Type 0} (p q : X → Bool) → ((x : X) → p x ≡ q x) → (xs : List X) → list_any p xs ≡ list_any q xs
 same_any p q h [] = refl
@@ -96,3 +104,7 @@ case_is _ x h = cc
 pub start_is : (e : Envelope) (x : TestCaseStarted) → as_start e ≡ Some x → e ≡ envelope.TestCaseStarted x
 start_is (envelope.TestCaseStarted y) x h = cc
 start_is _ x h = cc
+
+pub run_hook_is : (e : Envelope) (x : TestRunHookStarted) → as_run_hook e ≡ Some x → e ≡ envelope.TestRunHookStarted x
+run_hook_is (envelope.TestRunHookStarted y) x h = cc
+run_hook_is _ x h = cc

@@ -6,7 +6,7 @@ use Rattle.std.proofs.lemmas.List.Folds.{list_any-append}
 use Rattle.std.proofs.lemmas.List.Sums.{length-filter}
 use Rattle.std.proofs.lemmas.Bool.Decides.{nat_tests}
 use Rattle.cm_stream.specs.Texts.{Text}
-use Rattle.cm_stream.specs.Words.{Name, SourceOf, DocumentOf, PickleNamed, PickleStep, Definition, HookNamed, Case, Step, Run, Attempt, same_name, declares, declares_it, times_declared, refers, if_any, is_run_started, has_run_started}
+use Rattle.cm_stream.specs.Words.{Name, SourceOf, DocumentOf, PickleNamed, PickleStep, Definition, HookNamed, Case, Step, Run, Attempt, RunHook, same_name, declares, declares_it, times_declared, refers, if_any, is_run_started, has_run_started}
 use Rattle.cm_stream.specs.Good.{has_same_names, ReferencesGood}
 use Rattle.cm_stream.specs.Checks.{checks_of, declares_again}
 use Rattle.cm_envelope.specs.declared.envelope.Envelope.{Envelope}
@@ -41,6 +41,7 @@ names_are (Step c a) (Step d b) h =
     cc
 names_are (Run a) (Run b) h = ap Run (bytes_are a b h)
 names_are (Attempt a) (Attempt b) h = ap Attempt (bytes_are a b h)
+names_are (RunHook a) (RunHook b) h = ap RunHook (bytes_are a b h)
 names_are _ _ h = cc
 
 pub name_same : (a : Name) → same_name a a ≡ true
@@ -54,6 +55,7 @@ name_same (Case a) = bytes_same a
 name_same (Step c a) = rw (bytes_same c) (bytes_same a)
 name_same (Run a) = bytes_same a
 name_same (Attempt a) = bytes_same a
+name_same (RunHook a) = bytes_same a
 
 not_same_back : (a b : Name) → same_name a b ≡ false → same_name b a ≡ false
 not_same_back a b h = go (same_name b a) refl
@@ -145,8 +147,8 @@ new_here before (envelope.TestStepFinished s) h = nothing_new before (envelope.T
 new_here before (envelope.TestCaseFinished f) h = nothing_new before (envelope.TestCaseFinished f) refl
 new_here before (envelope.TestRunFinished f) h = nothing_new before (envelope.TestRunFinished f) refl
 new_here before (envelope.Attachment a) h = nothing_new before (envelope.Attachment a) refl
-new_here before envelope.TestRunHookStarted h = nothing_new before envelope.TestRunHookStarted refl
-new_here before envelope.TestRunHookFinished h = nothing_new before envelope.TestRunHookFinished refl
+new_here before (envelope.TestRunHookStarted s) h = is_new before (envelope.TestRunHookStarted s) ((h.1).1).0
+new_here before (envelope.TestRunHookFinished f) h = nothing_new before (envelope.TestRunHookFinished f) refl
 new_here before envelope.Other h = nothing_new before envelope.Other refl
 
 -- ---- all names are distinct

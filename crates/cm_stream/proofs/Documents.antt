@@ -12,7 +12,7 @@ use Rattle.cm_stream.specs.Readings.{Reading, Accepted, Refused, OtherLanguage, 
 use Rattle.cm_stream.specs.OnePass.{reads}
 use Rattle.cm_stream.specs.Sources.{is_due}
 use Rattle.cm_stream.specs.Words.{SourceOf, DocumentOf, PickleNamed, times_declared, as_source, as_document, as_pickle, sources, sources_of, documents_of, pickles_of, is_accepted, reading_of, find_pickle, pickle_step_ids}
-use Rattle.cm_stream.specs.Good.{Good, MeetsSource}
+use Rattle.cm_stream.specs.Good.{Sound, MeetsSource}
 use Rattle.cm_stream.specs.Checks.{is_uri_accepted, has_skeleton_of, first_ids, document_ids, is_next_pickle, has_steps_of_pickle}
 use Rattle.cm_envelope.specs.declared.envelope.Envelope.{Envelope}
 use Rattle.cm_envelope.specs.declared.envelope.Envelope.TheVariants as envelope
@@ -39,7 +39,7 @@ pub record HasSource (es before rest : List Envelope) (of : Text) : Type 0 where
   pub read : reading_of of before ≡ Some (reads source.content)
   pub meets : MeetsSource es front source (back ++ rest) (reads source.content)
 
-pub has_source : (es before : List Envelope) (e : Envelope) (after : List Envelope) → Good es → es ≡ before ++ e ∷ after → (uri : Text) → times_declared (SourceOf uri) before ≡ 1 → HasSource es before (e ∷ after) uri
+pub has_source : (es before : List Envelope) (e : Envelope) (after : List Envelope) → Sound es → es ≡ before ++ e ∷ after → (uri : Text) → times_declared (SourceOf uri) before ≡ 1 → HasSource es before (e ∷ after) uri
 has_source es before e after good cut uri one =
     let at = declarer (SourceOf uri) as_source (λ x. bytes_eq uri x.uri) (declares_source uri) before one in
     let is = source_is at.here at.value at.is in
@@ -91,7 +91,7 @@ pub record DocumentPasses (before : List Envelope) (d : GherkinDocument) : Type 
   pub skeleton : has_skeleton_of d.document (reading_of d.uri before) ≡ true
   pub distinct : has_repeat d.ids ≡ false
 
-pub document_passes : (es before : List Envelope) (d : GherkinDocument) (after : List Envelope) → Good es → es ≡ before ++ envelope.GherkinDocument d ∷ after → DocumentPasses before d
+pub document_passes : (es before : List Envelope) (d : GherkinDocument) (after : List Envelope) → Sound es → es ≡ before ++ envelope.GherkinDocument d ∷ after → DocumentPasses before d
 document_passes es before d after good cut =
     let s = has_source es before (envelope.GherkinDocument d) after good cut d.uri (good.references before (envelope.GherkinDocument d) after cut).0 in
     go s (reads s.source.content) s.read s.meets
@@ -130,7 +130,7 @@ in_sources uri (x ∷ xs) s found none = go (bytes_eq uri x.uri) refl (in_source
         ap (λ (y : Source). is_accepted (reads y.content)) (sym same) ∙ (or_false (is_accepted (reads x.content)) (list_any (λ x. is_accepted (reads x.content)) (filter (λ x. bytes_eq uri x.uri) xs)) all).0
     go false e rec = rec (rw e at found) (rw e at none)
 
-pub refused_indeed : (es before : List Envelope) (p : ParseError) (after : List Envelope) → Good es → es ≡ before ++ envelope.ParseError p ∷ after → is_uri_accepted p.source.uri before ≡ false
+pub refused_indeed : (es before : List Envelope) (p : ParseError) (after : List Envelope) → Sound es → es ≡ before ++ envelope.ParseError p ∷ after → is_uri_accepted p.source.uri before ≡ false
 refused_indeed es before p after good cut =
     let at = declarer (SourceOf p.source.uri) as_source (λ x. bytes_eq p.source.uri x.uri) (declares_source p.source.uri) before (good.references before (envelope.ParseError p) after cut).0 in
     let in_all : find (λ x. bytes_eq p.source.uri x.uri) (sources es) ≡ Some at.value = ap (λ xs. find (λ (x : Source). bytes_eq p.source.uri x.uri) (sources xs)) cut ∙ still_found as_source (λ x. bytes_eq p.source.uri x.uri) before (envelope.ParseError p ∷ after) at.value at.found in
@@ -145,7 +145,7 @@ same_list_at same [] x more (y ∷ ys) h = (and_true (same x y) (same_list same 
 same_list_at same (z ∷ xs) x more [] h = cc
 same_list_at same (z ∷ xs) x more (y ∷ ys) h = same_list_at same xs x more ys (and_true (same z y) (same_list same (xs ++ x ∷ more) ys) h).1
 
-pub pickle_is_next : (es before : List Envelope) (p : Pickle) (after : List Envelope) → Good es → es ≡ before ++ envelope.Pickle p ∷ after → is_next_pickle before p ≡ true
+pub pickle_is_next : (es before : List Envelope) (p : Pickle) (after : List Envelope) → Sound es → es ≡ before ++ envelope.Pickle p ∷ after → is_next_pickle before p ≡ true
 pickle_is_next es before p after good cut =
     let refs = good.references before (envelope.Pickle p) after cut in
     let s = has_source es before (envelope.Pickle p) after good cut p.uri refs.0 in
@@ -182,7 +182,7 @@ texts_same : (ts : List Text) → same_texts ts ts ≡ true
 texts_same [] = refl
 texts_same (t ∷ ts) = rw (bytes_same t, texts_same ts) refl
 
-pub steps_of_pickle : (es before : List Envelope) (c : TestCase) (after : List Envelope) → Good es → es ≡ before ++ envelope.TestCase c ∷ after → times_declared (PickleNamed c.pickle_id) before ≡ 1 → has_steps_of_pickle before c ≡ true
+pub steps_of_pickle : (es before : List Envelope) (c : TestCase) (after : List Envelope) → Sound es → es ≡ before ++ envelope.TestCase c ∷ after → times_declared (PickleNamed c.pickle_id) before ≡ 1 → has_steps_of_pickle before c ≡ true
 steps_of_pickle es before c after good cut one =
     let at = declarer (PickleNamed c.pickle_id) as_pickle (λ x. bytes_eq c.pickle_id x.id) (declares_pickle c.pickle_id) before one in
     let in_all : find_pickle c.pickle_id es ≡ Some at.value = ap (find_pickle c.pickle_id) cut ∙ still_found as_pickle (λ x. bytes_eq c.pickle_id x.id) before (envelope.TestCase c ∷ after) at.value at.found in

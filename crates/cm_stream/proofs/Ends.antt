@@ -1,5 +1,5 @@
 -- A good list has no fault at the end of its run.
-use Rattle.std.proofs.Common.{◌≡◌, ℕ, suc, ◌+◌, refl, sym, ap, ◌∙◌, List, [], ◌∷◌, ◌++◌, Option, Some, None, true, false, Bool, length, not, arith, append_assoc, append-nil, ◌&&◌}
+use Rattle.std.proofs.Common.{◌≡◌, ℕ, suc, ◌+◌, refl, sym, ap, ◌∙◌, List, [], ◌∷◌, ◌++◌, Option, Some, None, true, false, Bool, length, map, not, arith, append_assoc, append-nil, ◌&&◌}
 use Rattle.std.specs.Prelude.{nat_lt, count_by}
 use Rattle.std.specs.List.{list_any, list_all, filter, filter_map, flat_map}
 use Rattle.std.specs.Option.{option_map_or}
@@ -10,8 +10,9 @@ use Rattle.cm_stream.specs.Texts.{Text, same_list}
 use Rattle.cm_stream.specs.Readings.{Reading, Accepted, Refused, OtherLanguage, TooLong}
 use Rattle.cm_stream.specs.OnePass.{reads}
 use Rattle.cm_stream.specs.Sources.{is_due}
-use Rattle.cm_stream.specs.Words.{as_source, as_document, as_pickle, as_case, as_start, sources, cases, starts, starts_of, documents_of, pickles_of, is_run_started, is_judged, has_run_started, StepStarted, StepFinished, Ended, move_of, moves, whole, is_end, is_ended, retry_in, ends_of, status_in, statuses, ends_well, is_good_case, last_of, all_well, steps_of}
-use Rattle.cm_stream.specs.Good.{Good, MeetsSource}
+use Rattle.cm_stream.specs.Words.{as_source, as_document, as_pickle, as_case, as_start, as_run_hook_end, sources, cases, starts, hook_statuses, starts_of, documents_of, pickles_of, is_run_started, is_judged, has_run_started, StepStarted, StepFinished, Ended, move_of, moves, whole, is_end, is_ended, retry_in, ends_of, status_in, statuses, ends_well, is_good_case, last_of, all_well, steps_of}
+use Rattle.cm_stream.specs.Good.{Good, Sound, MeetsSource}
+use Rattle.cm_attempt.specs.declared.policy.Policy.{Policy}
 use Rattle.cm_stream.specs.Checks.{lacks, is_incomplete, same_flag}
 use Rattle.cm_envelope.specs.declared.envelope.Envelope.{Envelope}
 use Rattle.cm_envelope.specs.declared.envelope.Envelope.TheVariants as envelope
@@ -19,6 +20,8 @@ use Rattle.cm_envelope.specs.declared.envelope.Source.{Source}
 use Rattle.cm_envelope.specs.declared.envelope.TestCase.{TestCase}
 use Rattle.cm_envelope.specs.declared.envelope.TestCaseStarted.{TestCaseStarted}
 use Rattle.cm_envelope.specs.declared.envelope.TestRunFinished.{TestRunFinished}
+use Rattle.cm_envelope.specs.declared.envelope.TestRunHookFinished.{TestRunHookFinished}
+use Rattle.cm_stream.specs.Statuses.{kept_status}
 use Rattle.cm_stream.proofs.Readings.{source_meets, success_by}
 use Rattle.cm_stream.proofs.Lists.{and_true, none_any, all_true, or_false, none_counted, length-both}
 use Rattle.cm_stream.proofs.Found.{each_found}
@@ -49,7 +52,7 @@ module _ (es before : List Envelope) (f : TestRunFinished) (after : List Envelop
 
   -- ---- OutsideRun, of the end
 
-  pub end_inside : Good es → not (has_run_started before) ≡ false
+  pub end_inside : Sound es → not (has_run_started before) ≡ false
   end_inside good = go (has_run_started before) refl
     where
       unjudged_no_start : (xs : List Envelope) → list_any is_judged xs ≡ false → count_by is_run_started xs ≡ 0
@@ -79,7 +82,7 @@ module _ (es before : List Envelope) (f : TestRunFinished) (after : List Envelop
       go [] = refl
       go (s ∷ steps) = go steps
 
-  pub none_open : Good es → not (list_all (λ s. is_ended s.id before) (starts before)) ≡ false
+  pub none_open : Sound es → not (list_all (λ s. is_ended s.id before) (starts before)) ≡ false
   none_open good = ap not (all_true (λ s. is_ended s.id before) (starts before) (each_found as_start (λ (s : TestCaseStarted). is_ended s.id before ≡ true) before each))
     where
       each : (front : List Envelope) (here : Envelope) (back : List Envelope) (s : TestCaseStarted) → before ≡ front ++ here ∷ back → as_start here ≡ Some s → is_ended s.id before ≡ true
@@ -101,7 +104,7 @@ module _ (es before : List Envelope) (f : TestRunFinished) (after : List Envelop
   not_fewer : (m n : ℕ) → m ≡ n → nat_lt m n ≡ false
   not_fewer m n h = grind (arith, h)
 
-  pub none_lacks : Good es → list_any (is_incomplete before) (sources before) ≡ false
+  pub none_lacks : Sound es → list_any (is_incomplete before) (sources before) ≡ false
   none_lacks good = none_any (is_incomplete before) (sources before) (each_found as_source (λ (s : Source). is_incomplete before s ≡ false) before each)
     where
       go : (front back : List Envelope) (s : Source) → es ≡ front ++ envelope.Source s ∷ (back ++ envelope.TestRunFinished f ∷ after) → (r : Reading)
@@ -127,34 +130,35 @@ module _ (es before : List Envelope) (f : TestRunFinished) (after : List Envelop
 
   -- ---- SuccessDiffers
 
-  same_ends : (a : Text) → ends_well es a ≡ ends_well before a
-  same_ends a =
+  same_ends : (policy : Policy) (a : Text) → ends_well policy es a ≡ ends_well policy before a
+  same_ends policy a =
       let ends : ends_of a es ≡ ends_of a before = till_end (retry_in a) refl refl in
       let all : statuses a es ≡ statuses a before = till_end (status_in a) refl refl in
       rw (ends, all) refl
 
-  same_case : (c : TestCase) → is_good_case es c ≡ is_good_case before c
-  same_case c =
+  same_case : (policy : Policy) (c : TestCase) → is_good_case policy es c ≡ is_good_case policy before c
+  same_case policy c =
       let all : starts_of c.id es ≡ starts_of c.id before = ap (filter (λ s. bytes_eq c.id s.test_case_id)) (till_end as_start refl refl) in
       rw all (at (last_of (starts_of c.id before)))
     where
-      at : (o : Option TestCaseStarted) → option_map_or (λ s. ends_well es s.id) o false ≡ option_map_or (λ s. ends_well before s.id) o false
+      at : (o : Option TestCaseStarted) → option_map_or (λ s. ends_well policy es s.id) o false ≡ option_map_or (λ s. ends_well policy before s.id) o false
       at None = refl
-      at (Some s) = same_ends s.id
+      at (Some s) = same_ends policy s.id
 
   same_all : {X : Type 0} (p q : X → Bool) → ((x : X) → p x ≡ q x) → (xs : List X) → list_all p xs ≡ list_all q xs
   same_all p q h [] = refl
   same_all p q h (x ∷ xs) = rw (h x, same_all p q h xs) refl
 
-  pub same_well : all_well es ≡ all_well before
-  same_well =
+  pub same_well : (policy : Policy) → all_well policy es ≡ all_well policy before
+  same_well policy =
       let all : cases es ≡ cases before = till_end as_case refl refl in
       let every : sources es ≡ sources before = till_end as_source refl refl in
-      rw (all, every, same_all (is_good_case es) (is_good_case before) same_case (cases before)) refl
+      let hooks : hook_statuses es ≡ hook_statuses before = ap (map (λ (h : TestRunHookFinished). kept_status h.result.status)) (till_end as_run_hook_end refl refl) in
+      rw (all, every, hooks, same_all (is_good_case policy es) (is_good_case policy before) (same_case policy) (cases before)) refl
 
   same_flags : (a b : Bool) → a ≡ b → not (same_flag a b) ≡ false
   same_flags true b h = ap not (sym h)
   same_flags false b h = rw (← h) refl
 
-  pub success_right : Good es → not (same_flag f.success (all_well before && not f.has_exception)) ≡ false
-  success_right good = same_flags f.success (all_well before && not f.has_exception) (success_by es f (good.success before (envelope.TestRunFinished f) after run.cut) ∙ ap (λ b. b && not f.has_exception) same_well)
+  pub success_right : (policy : Policy) → Good policy es → not (same_flag f.success (all_well policy before && not f.has_exception)) ≡ false
+  success_right policy good = same_flags f.success (all_well policy before && not f.has_exception) (success_by policy es f (good.success before (envelope.TestRunFinished f) after run.cut) ∙ ap (λ b. b && not f.has_exception) (same_well policy))

@@ -29,3 +29,4 @@ pub mod Shapes
 pub mod Refuses
 pub mod Steps
 pub mod StepRefuses
+pub mod RunHooks

@@ -2,22 +2,22 @@
 use Rattle.std.proofs.Common.{◌≡◌, refl, ap, List, [], ◌∷◌, ◌++◌, None, false, map, not}
 use Rattle.std.specs.List.{AllByRecursion, flat_map}
 use Rattle.cm_stream.specs.Words.{Run, PickleNamed, times_declared, if_any, test_step_names}
-use Rattle.cm_stream.specs.Good.{Good}
-use Rattle.cm_stream.specs.Checks.{Check, checks_of, checks, first_failed}
+use Rattle.cm_stream.specs.Good.{Good, Sound}
+use Rattle.cm_attempt.specs.declared.policy.Policy.{Policy}
+use Rattle.cm_stream.specs.Checks.{Check, checks_of, success_check, plain_checks, checks, first_failed}
 use Rattle.cm_stream.specs.Laws.{GoodHaveNoFault}
 use Rattle.cm_envelope.specs.declared.envelope.Envelope.{Envelope}
 use Rattle.cm_envelope.specs.declared.envelope.Envelope.TheVariants as envelope
-use Rattle.cm_stream.proofs.Refuted.{no_unknown_reference, no_repeat, no_second_run, run_started, number_is_next, no_overlap, status_known, no_hook, not_after, run_finished, media_plain, is_supported}
+use Rattle.cm_stream.proofs.Lists.{all_here}
+use Rattle.cm_stream.proofs.Passing.{both_pass}
+use Rattle.cm_stream.proofs.Refuted.{no_unknown_reference, no_repeat, no_second_run, run_started, hook_inside, number_is_next, no_overlap, status_known, not_after, run_finished, media_plain, is_supported}
 use Rattle.cm_stream.proofs.Attempts.{step_starts_next, step_finishes_next, not_early, not_ended_yet}
 use Rattle.cm_stream.proofs.Ends.{EndsRun, end_inside, none_open, none_lacks, success_right}
+use Rattle.cm_stream.proofs.RunHooks.{not_finished_yet, none_hook_open}
 use Rattle.cm_stream.proofs.Documents.{document_passes, refused_indeed, pickle_is_next, steps_of_pickle}
 
-all_here : {X : Type 0} (P : X → Type 0) (xs : List X) (x : X) (ys : List X) → AllByRecursion P (xs ++ x ∷ ys) → P x
-all_here P [] x ys h = h.0
-all_here P (z ∷ xs) x ys h = all_here P xs x ys h.1
-
 -- each check of a line passes
-pub passes : (es before : List Envelope) (e : Envelope) (after : List Envelope) → Good es → es ≡ before ++ e ∷ after → AllByRecursion (λ (c : Check). c.fails ≡ false) (checks_of before e)
+pub passes : (es before : List Envelope) (e : Envelope) (after : List Envelope) → Sound es → es ≡ before ++ e ∷ after → AllByRecursion (λ (c : Check). c.fails ≡ false) (checks_of before e)
 passes es before (envelope.Source s) after good cut =
     let supported = is_supported es before s after good cut in
     (no_repeat es before (envelope.Source s) after good cut, (media_plain es before s after good cut, (supported.0, (supported.1, tt))))
@@ -50,18 +50,28 @@ passes es before (envelope.TestCaseFinished f) after good cut =
     (no_unknown_reference es before (envelope.TestCaseFinished f) after good cut, (not_ended_yet es before f after good cut, (not_early es before f after good cut, tt)))
 passes es before (envelope.TestRunFinished f) after good cut =
     let run : EndsRun es before f after = record { cut = cut; none = good.order.finish_last before (envelope.TestRunFinished f) after cut } in
-    (end_inside es before f after run good, (no_unknown_reference es before (envelope.TestRunFinished f) after good cut, (none_open es before f after run good, (none_lacks es before f after run good, (success_right es before f after run good, tt)))))
+    (end_inside es before f after run good, (no_unknown_reference es before (envelope.TestRunFinished f) after good cut, (none_open es before f after run good, (none_hook_open es before f after run good, (none_lacks es before f after run good, tt)))))
 passes es before (envelope.Attachment a) after good cut = (no_unknown_reference es before (envelope.Attachment a) after good cut, tt)
-passes es before envelope.TestRunHookStarted after good cut = (no_hook es before envelope.TestRunHookStarted after good cut, tt)
-passes es before envelope.TestRunHookFinished after good cut = (no_hook es before envelope.TestRunHookFinished after good cut, tt)
+passes es before (envelope.TestRunHookStarted s) after good cut =
+    (hook_inside es before s after good cut, (no_unknown_reference es before (envelope.TestRunHookStarted s) after good cut, (no_repeat es before (envelope.TestRunHookStarted s) after good cut, tt)))
+passes es before (envelope.TestRunHookFinished f) after good cut =
+    (no_unknown_reference es before (envelope.TestRunHookFinished f) after good cut, (not_finished_yet es before f after good cut, (status_known es before (envelope.TestRunHookFinished f) after good cut, tt)))
 passes es before envelope.Other after good cut = tt
+
+-- success is told as it is
+tells_success : (policy : Policy) (es before : List Envelope) (e : Envelope) (after : List Envelope) → Good policy es → es ≡ before ++ e ∷ after → AllByRecursion (λ (c : Check). c.fails ≡ false) (success_check policy before e)
+tells_success policy es before (envelope.TestRunFinished f) after good cut =
+    let run : EndsRun es before f after = record { cut = cut; none = good.sound.order.finish_last before (envelope.TestRunFinished f) after cut } in
+    (success_right es before f after run policy good, tt)
+tells_success policy es before _ after good cut = tt
 
 none_failed : (cs : List Check) → AllByRecursion (λ (c : Check). c.fails ≡ false) cs → first_failed cs ≡ None
 none_failed [] h = refl
 none_failed (c ∷ cs) h = rw (h.0) (none_failed cs h.1)
 
 pub good_have_no_fault : GoodHaveNoFault
-good_have_no_fault es good = record {
-  lines = λ before e after cut. none_failed (checks before e) (not_after es before e after good cut, passes es before e after good cut);
-  end = rw (run_finished es good) refl;
+good_have_no_fault policy es good = record {
+  lines = λ before e after cut. none_failed (checks policy before e)
+      (both_pass (plain_checks before e) (success_check policy before e) (not_after es before e after good.sound cut, passes es before e after good.sound cut) (tells_success policy es before e after good cut));
+  end = rw (run_finished es good.sound) refl;
 }

@@ -125,6 +125,7 @@ in_order es pass end = record {
 
     inside : (before : List Envelope) (e : Envelope) → Passes (checks_of before e) → StartsInside before e
     inside before (envelope.TestCaseStarted s) h = was_not (has_run_started before) h.0
+    inside before (envelope.TestRunHookStarted s) h = was_not (has_run_started before) h.0
     inside before _ h = tt
 
     last : (before : List Envelope) (e : Envelope) (after : List Envelope) → es ≡ before ++ e ∷ after → NothingBehind e after

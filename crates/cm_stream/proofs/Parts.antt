@@ -5,9 +5,10 @@ use Rattle.std.specs.Option.{option_map_or}
 use Rattle.std.specs.Str.{bytes_eq}
 use Rattle.std.proofs.lemmas.Bool.Decides.{nat_tests}
 use Rattle.cm_stream.specs.Texts.{Text, same_list, same_texts}
-use Rattle.cm_stream.specs.Words.{is_run_hook, is_retried, starts_of, all_well, find_pickle, pickle_step_ids, as_pickle}
+use Rattle.cm_stream.specs.Words.{is_retried, starts_of, all_well, find_pickle, pickle_step_ids, as_pickle}
 use Rattle.cm_stream.specs.Good.{CasesGood, CaseGood, RetriesGood, RetryGood, SuccessGood, SuccessOf, has_unknown_result}
-use Rattle.cm_stream.specs.Checks.{checks_of, same_flag}
+use Rattle.cm_stream.specs.Checks.{checks_of, success_check, same_flag}
+use Rattle.cm_attempt.specs.declared.policy.Policy.{Policy}
 use Rattle.cm_envelope.specs.declared.envelope.Envelope.{Envelope}
 use Rattle.cm_envelope.specs.declared.envelope.Envelope.TheVariants as envelope
 use Rattle.cm_envelope.specs.declared.pickle.Pickle.{Pickle}
@@ -16,7 +17,7 @@ use Rattle.cm_stream.proofs.Readings.{success_is}
 use Rattle.cm_stream.proofs.Lists.{and_true}
 use Rattle.cm_stream.proofs.Found.{bytes_are, still_found}
 use Rattle.cm_stream.proofs.Ends.{EndsRun, same_well}
-use Rattle.cm_stream.proofs.Passing.{Passes, AllPass, was_not}
+use Rattle.cm_stream.proofs.Passing.{Passes, AllPass, SuccessPasses, was_not}
 use Rattle.cm_stream.proofs.Order.{everywhere_none, behind_end}
 
 -- ---- cases
@@ -64,14 +65,7 @@ all_known es pass = everywhere_none has_unknown_result es (λ before e after cut
   where
     at : (before : List Envelope) (e : Envelope) → Passes (checks_of before e) → has_unknown_result e ≡ false
     at before (envelope.TestStepFinished s) h = ((h.1).1).0
-    at before _ h = refl
-
-pub all_unhooked : (es : List Envelope) → AllPass es → list_any is_run_hook es ≡ false
-all_unhooked es pass = everywhere_none is_run_hook es (λ before e after cut. at before e (pass before e after cut).1)
-  where
-    at : (before : List Envelope) (e : Envelope) → Passes (checks_of before e) → is_run_hook e ≡ false
-    at before envelope.TestRunHookStarted h = h.0
-    at before envelope.TestRunHookFinished h = h.0
+    at before (envelope.TestRunHookFinished f) h = ((h.1).1).0
     at before _ h = refl
 
 -- ---- success
@@ -82,11 +76,11 @@ flags_are true false h = cc
 flags_are false true h = cc
 flags_are false false h = refl
 
-pub success_said : (es : List Envelope) → AllPass es → SuccessGood es
-success_said es pass before e after cut = at e cut (pass before e after cut).1
+pub success_said : (policy : Policy) (es : List Envelope) → AllPass es → SuccessPasses policy es → SuccessGood policy es
+success_said policy es pass said before e after cut = at e cut (said before e after cut)
   where
-    at : (e : Envelope) → es ≡ before ++ e ∷ after → Passes (checks_of before e) → SuccessOf es e
+    at : (e : Envelope) → es ≡ before ++ e ∷ after → Passes (success_check policy before e) → SuccessOf policy es e
     at (envelope.TestRunFinished f) cut h =
         let run : EndsRun es before f after = record { cut = cut; none = behind_end es pass before f after cut } in
-        success_is es f (flags_are f.success (all_well before && not f.has_exception) ((((h.1).1).1).1).0 ∙ ap (λ b. b && not f.has_exception) (sym (same_well es before f after run)))
+        success_is policy es f (flags_are f.success (all_well policy before && not f.has_exception) h.0 ∙ ap (λ b. b && not f.has_exception) (sym (same_well es before f after run policy)))
     at _ cut h = tt

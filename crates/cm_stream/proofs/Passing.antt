@@ -1,7 +1,8 @@
 -- What it says of each line that it passes its checks.
 use Rattle.std.proofs.Common.{◌≡◌, refl, sym, ap, ◌∙◌, List, [], ◌∷◌, ◌++◌, Some, None, true, false, Bool, not, append_assoc, append-nil, subst}
 use Rattle.std.specs.List.{AllByRecursion}
-use Rattle.cm_stream.specs.Checks.{Check, checks_of, checks, first_failed, refers_to_unknown}
+use Rattle.cm_stream.specs.Checks.{Check, checks_of, success_check, plain_checks, checks, first_failed, refers_to_unknown}
+use Rattle.cm_attempt.specs.declared.policy.Policy.{Policy}
 use Rattle.cm_stream.specs.Laws.{HasNoFault}
 use Rattle.cm_envelope.specs.declared.envelope.Envelope.{Envelope}
 use Rattle.cm_envelope.specs.declared.envelope.Envelope.TheVariants as envelope
@@ -23,15 +24,35 @@ passed (c ∷ cs) h = go c.fails refl (passed cs)
 
 -- each line passes its checks
 abbrev pub AllPass : List Envelope → Type 0
-AllPass es = (before : List Envelope) (e : Envelope) (after : List Envelope) → es ≡ before ++ e ∷ after → Passes (checks before e)
+AllPass es = (before : List Envelope) (e : Envelope) (after : List Envelope) → es ≡ before ++ e ∷ after → Passes (plain_checks before e)
 
-pub all_pass : (es : List Envelope) → HasNoFault es → AllPass es
-all_pass es h before e after cut = passed (checks before e) (h.lines before e after cut)
+-- the checks before others, and those behind
+front_of : (cs ds : List Check) → Passes (cs ++ ds) → Passes cs
+front_of [] ds h = tt
+front_of (c ∷ cs) ds h = (h.0, front_of cs ds h.1)
+
+back_of : (cs ds : List Check) → Passes (cs ++ ds) → Passes ds
+back_of [] ds h = h
+back_of (c ∷ cs) ds h = back_of cs ds h.1
+
+pub both_pass : (cs ds : List Check) → Passes cs → Passes ds → Passes (cs ++ ds)
+both_pass [] ds h k = k
+both_pass (c ∷ cs) ds h k = (h.0, both_pass cs ds h.1 k)
+
+pub plain_passes : (policy : Policy) (es : List Envelope) → ((before : List Envelope) (e : Envelope) (after : List Envelope) → es ≡ before ++ e ∷ after → first_failed (checks policy before e) ≡ None) → AllPass es
+plain_passes policy es h before e after cut = front_of (plain_checks before e) (success_check policy before e) (passed (checks policy before e) (h before e after cut))
+
+-- each line passes the check on success
+abbrev pub SuccessPasses : Policy → List Envelope → Type 0
+SuccessPasses policy es = (before : List Envelope) (e : Envelope) (after : List Envelope) → es ≡ before ++ e ∷ after → Passes (success_check policy before e)
+
+pub success_passes : (policy : Policy) (es : List Envelope) → HasNoFault policy es → SuccessPasses policy es
+success_passes policy es h before e after cut = back_of (plain_checks before e) (success_check policy before e) (passed (checks policy before e) (h.lines before e after cut))
 
 pub front_passes : (xs ys : List Envelope) → AllPass (xs ++ ys) → AllPass xs
 front_passes xs ys h before e after cut = h before e (after ++ ys) (ap (λ zs. zs ++ ys) cut ∙ append_assoc before (e ∷ after) ys)
 
-pub last_passes : (xs : List Envelope) (e : Envelope) → AllPass (xs ++ e ∷ []) → Passes (checks xs e)
+pub last_passes : (xs : List Envelope) (e : Envelope) → AllPass (xs ++ e ∷ []) → Passes (plain_checks xs e)
 last_passes xs e h = h xs e [] refl
 
 -- what a line that passes leaves true holds of all
@@ -59,6 +80,6 @@ no_unknown before (envelope.TestStepFinished s) h = h.0
 no_unknown before (envelope.TestCaseFinished f) h = h.0
 no_unknown before (envelope.TestRunFinished f) h = (h.1).0
 no_unknown before (envelope.Attachment a) h = h.0
-no_unknown before envelope.TestRunHookStarted h = refl
-no_unknown before envelope.TestRunHookFinished h = refl
+no_unknown before (envelope.TestRunHookStarted s) h = (h.1).0
+no_unknown before (envelope.TestRunHookFinished f) h = h.0
 no_unknown before envelope.Other h = refl

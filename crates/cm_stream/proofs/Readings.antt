@@ -4,7 +4,9 @@ use Rattle.std.specs.Prelude.{◌↔◌}
 use Rattle.std.specs.List.{AllByRecursion, list_any, list_all}
 use Rattle.cm_stream.specs.Readings.{Reading, Accepted, Refused, OtherLanguage, TooLong, IsReading}
 use Rattle.cm_stream.specs.OnePass.{reads}
-use Rattle.cm_stream.specs.Words.{sources, cases, is_accepted, is_good_case, all_well}
+use Rattle.cm_stream.specs.Words.{sources, cases, hook_statuses, is_accepted, is_good_case, all_well}
+use Rattle.cm_attempt.specs.Table.{is_good_status}
+use Rattle.cm_attempt.specs.declared.policy.Policy.{Policy}
 use Rattle.cm_stream.specs.Good.{SourceGood, MeetsSource, IsAccepted, AllWell}
 use Rattle.cm_envelope.specs.declared.envelope.Envelope.{Envelope}
 use Rattle.cm_envelope.specs.declared.envelope.Envelope.TheVariants as envelope
@@ -58,27 +60,29 @@ not_false : (b : Bool) → not b ≡ true → b ≡ false
 not_false true h = cc
 not_false false h = refl
 
-well_is : (es : List Envelope) (f : TestRunFinished) → (all_well es && not f.has_exception) ≡ true → AllWell es f
-well_is es f h =
-    let both = and_true (all_well es) (not f.has_exception) h in
-    let parts = and_true (list_all (is_good_case es) (cases es)) (list_all (λ s. is_accepted (reads s.content)) (sources es)) both.0 in
+well_is : (policy : Policy) (es : List Envelope) (f : TestRunFinished) → (all_well policy es && not f.has_exception) ≡ true → AllWell policy es f
+well_is policy es f h =
+    let both = and_true (all_well policy es) (not f.has_exception) h in
+    let parts = and_true (list_all (is_good_case policy es) (cases es) && list_all (is_good_status policy) (hook_statuses es)) (list_all (λ s. is_accepted (reads s.content)) (sources es)) both.0 in
+    let ran = and_true (list_all (is_good_case policy es) (cases es)) (list_all (is_good_status policy) (hook_statuses es)) parts.0 in
     record {
-      each_case = each_true (is_good_case es) (cases es) parts.0;
+      each_case = each_true (is_good_case policy es) (cases es) ran.0;
+      each_hook = each_true (is_good_status policy) (hook_statuses es) ran.1;
       each_source = each_accepted (sources es) (each_true (λ s. is_accepted (reads s.content)) (sources es) parts.1);
       no_exception = not_false f.has_exception both.1;
     }
 
-is_well : (es : List Envelope) (f : TestRunFinished) → AllWell es f → (all_well es && not f.has_exception) ≡ true
-is_well es f w =
-    rw (all_true (is_good_case es) (cases es) w.each_case, all_true (λ s. is_accepted (reads s.content)) (sources es) (all_read (sources es) w.each_source), w.no_exception) refl
+is_well : (policy : Policy) (es : List Envelope) (f : TestRunFinished) → AllWell policy es f → (all_well policy es && not f.has_exception) ≡ true
+is_well policy es f w =
+    rw (all_true (is_good_case policy es) (cases es) w.each_case, all_true (is_good_status policy) (hook_statuses es) w.each_hook, all_true (λ s. is_accepted (reads s.content)) (sources es) (all_read (sources es) w.each_source), w.no_exception) refl
 
-pub success_is : (es : List Envelope) (f : TestRunFinished) → f.success ≡ (all_well es && not f.has_exception) → (f.success ≡ true) ↔ AllWell es f
-success_is es f e = (λ yes_too. well_is es f (sym e ∙ yes_too), λ w. e ∙ is_well es f w)
+pub success_is : (policy : Policy) (es : List Envelope) (f : TestRunFinished) → f.success ≡ (all_well policy es && not f.has_exception) → (f.success ≡ true) ↔ AllWell policy es f
+success_is policy es f e = (λ yes_too. well_is policy es f (sym e ∙ yes_too), λ w. e ∙ is_well policy es f w)
 
-pub success_by : (es : List Envelope) (f : TestRunFinished) → (f.success ≡ true) ↔ AllWell es f → f.success ≡ (all_well es && not f.has_exception)
-success_by es f h = go f.success refl (all_well es && not f.has_exception) refl
+pub success_by : (policy : Policy) (es : List Envelope) (f : TestRunFinished) → (f.success ≡ true) ↔ AllWell policy es f → f.success ≡ (all_well policy es && not f.has_exception)
+success_by policy es f h = go f.success refl (all_well policy es && not f.has_exception) refl
   where
-    go : (a : Bool) → f.success ≡ a → (b : Bool) → (all_well es && not f.has_exception) ≡ b → f.success ≡ (all_well es && not f.has_exception)
-    go true e b k = e ∙ sym (is_well es f (h.0 e))
+    go : (a : Bool) → f.success ≡ a → (b : Bool) → (all_well policy es && not f.has_exception) ≡ b → f.success ≡ (all_well policy es && not f.has_exception)
+    go true e b k = e ∙ sym (is_well policy es f (h.0 e))
     go false e false k = e ∙ sym k
-    go false e true k = let yes_too = h.1 (well_is es f k) in cc
+    go false e true k = let yes_too = h.1 (well_is policy es f k) in cc

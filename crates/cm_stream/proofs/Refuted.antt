@@ -7,14 +7,15 @@ use Rattle.cm_stream.specs.Readings.{Reading, Accepted, Refused, OtherLanguage, 
 use Rattle.cm_stream.specs.OnePass.{reads}
 use Rattle.cm_stream.specs.Sources.{plain}
 use Rattle.cm_stream.specs.Words
-use Rattle.cm_stream.specs.Words.{Name, same_name, declares, declares_it, times_declared, refers, is_run_started, is_run_finished, is_run_hook, is_judged, has_run_started, has_run_finished, starts_of}
-use Rattle.cm_stream.specs.Good.{Good, MeetsSource, has_same_names, has_unknown_result, NothingBehind}
+use Rattle.cm_stream.specs.Words.{Name, same_name, declares, declares_it, times_declared, refers, is_run_started, is_run_finished, is_judged, has_run_started, has_run_finished, starts_of}
+use Rattle.cm_stream.specs.Good.{Sound, MeetsSource, has_same_names, has_unknown_result, NothingBehind}
 use Rattle.cm_stream.specs.Checks.{refers_to_unknown, declares_again, is_too_long, is_other_language}
 use Rattle.cm_envelope.specs.declared.envelope.Envelope.{Envelope}
 use Rattle.cm_envelope.specs.declared.envelope.Envelope.TheVariants as envelope
 use Rattle.cm_envelope.specs.declared.envelope.Source.{Source}
 use Rattle.cm_envelope.specs.declared.envelope.TestRunStarted.{TestRunStarted}
 use Rattle.cm_envelope.specs.declared.envelope.TestCaseStarted.{TestCaseStarted}
+use Rattle.cm_envelope.specs.declared.envelope.TestRunHookStarted.{TestRunHookStarted}
 use Rattle.cm_stream.proofs.Readings.{source_meets}
 use Rattle.cm_stream.proofs.Lists.{or_false, any_front, any_back, any_here, count_none, none_counted, count_cut}
 
@@ -24,7 +25,7 @@ none_unknown : (before : List Envelope) (names : List Name) → AllByRecursion (
 none_unknown before [] h = refl
 none_unknown before (n ∷ ns) h = rw (h.0, none_unknown before ns h.1) refl
 
-pub no_unknown_reference : (es before : List Envelope) (e : Envelope) (after : List Envelope) → Good es → es ≡ before ++ e ∷ after → refers_to_unknown before e ≡ false
+pub no_unknown_reference : (es before : List Envelope) (e : Envelope) (after : List Envelope) → Sound es → es ≡ before ++ e ∷ after → refers_to_unknown before e ≡ false
 no_unknown_reference es before e after good cut = none_unknown before (refers before e) (good.references before e after cut)
 
 -- ---- DuplicateId and DuplicateUri
@@ -68,7 +69,7 @@ none_again before ms (n ∷ ns) more h =
     let rest : has_same_names (flat_map declares before ++ ((ms ++ n ∷ []) ++ (ns ++ more))) ≡ false = rw (append_assoc ms (n ∷ []) (ns ++ more)) h in
     rw (new, none_again before (ms ++ n ∷ []) ns more rest) refl
 
-pub no_repeat : (es before : List Envelope) (e : Envelope) (after : List Envelope) → Good es → es ≡ before ++ e ∷ after → declares_again before e ≡ false
+pub no_repeat : (es before : List Envelope) (e : Envelope) (after : List Envelope) → Sound es → es ≡ before ++ e ∷ after → declares_again before e ≡ false
 no_repeat es before e after good cut =
     let parts : flat_map declares es ≡ flat_map declares before ++ (declares e ++ flat_map declares after) = ap (flat_map declares) cut ∙ declared_append before (e ∷ after) in
     let distinct : has_same_names (flat_map declares before ++ (declares e ++ flat_map declares after)) ≡ false = ap has_same_names (sym parts) ∙ good.distinct in
@@ -77,37 +78,37 @@ no_repeat es before e after good cut =
 
 -- ---- SecondRunStarted
 
-pub no_second_run : (es before : List Envelope) (r : TestRunStarted) (after : List Envelope) → Good es → es ≡ before ++ envelope.TestRunStarted r ∷ after → has_run_started before ≡ false
+pub no_second_run : (es before : List Envelope) (r : TestRunStarted) (after : List Envelope) → Sound es → es ≡ before ++ envelope.TestRunStarted r ∷ after → has_run_started before ≡ false
 no_second_run es before r after good cut =
     let many = count_cut is_run_started before (envelope.TestRunStarted r) after refl in
     let one : count_by is_run_started (before ++ envelope.TestRunStarted r ∷ after) ≡ 1 = ap (count_by is_run_started) (sym cut) ∙ good.order.one_start in
     count_none is_run_started before (omega (arith, many, one))
 
--- ---- OutsideRun, of an attempt
+-- ---- OutsideRun, of an attempt and of a run hook
 
-pub run_started : (es before : List Envelope) (s : TestCaseStarted) (after : List Envelope) → Good es → es ≡ before ++ envelope.TestCaseStarted s ∷ after → not (has_run_started before) ≡ false
+pub run_started : (es before : List Envelope) (s : TestCaseStarted) (after : List Envelope) → Sound es → es ≡ before ++ envelope.TestCaseStarted s ∷ after → not (has_run_started before) ≡ false
 run_started es before s after good cut = ap not (good.order.starts_inside before (envelope.TestCaseStarted s) after cut)
+
+pub hook_inside : (es before : List Envelope) (s : TestRunHookStarted) (after : List Envelope) → Sound es → es ≡ before ++ envelope.TestRunHookStarted s ∷ after → not (has_run_started before) ≡ false
+hook_inside es before s after good cut = ap not (good.order.starts_inside before (envelope.TestRunHookStarted s) after cut)
 
 -- ---- AttemptNumber and AttemptOverlap
 
 same_number : (m n : ℕ) → m ≡ n → not (m == n) ≡ false
 same_number m n h = grind (arith, h)
 
-pub number_is_next : (es before : List Envelope) (s : TestCaseStarted) (after : List Envelope) → Good es → es ≡ before ++ envelope.TestCaseStarted s ∷ after
+pub number_is_next : (es before : List Envelope) (s : TestCaseStarted) (after : List Envelope) → Sound es → es ≡ before ++ envelope.TestCaseStarted s ∷ after
     → not (s.attempt == length (starts_of s.test_case_id before)) ≡ false
 number_is_next es before s after good cut = same_number s.attempt (length (starts_of s.test_case_id before)) (good.retries before (envelope.TestCaseStarted s) after cut).0
 
-pub no_overlap : (es before : List Envelope) (s : TestCaseStarted) (after : List Envelope) → Good es → es ≡ before ++ envelope.TestCaseStarted s ∷ after
+pub no_overlap : (es before : List Envelope) (s : TestCaseStarted) (after : List Envelope) → Sound es → es ≡ before ++ envelope.TestCaseStarted s ∷ after
     → not (list_all (λ x. Words.is_retried x.id before) (starts_of s.test_case_id before)) ≡ false
 no_overlap es before s after good cut = ap not (good.retries before (envelope.TestCaseStarted s) after cut).1
 
--- ---- UnknownStatus and RunHook
+-- ---- UnknownStatus
 
-pub status_known : (es before : List Envelope) (e : Envelope) (after : List Envelope) → Good es → es ≡ before ++ e ∷ after → has_unknown_result e ≡ false
+pub status_known : (es before : List Envelope) (e : Envelope) (after : List Envelope) → Sound es → es ≡ before ++ e ∷ after → has_unknown_result e ≡ false
 status_known es before e after good cut = any_here has_unknown_result before e after (ap (list_any has_unknown_result) (sym cut) ∙ good.known)
-
-pub no_hook : (es before : List Envelope) (e : Envelope) (after : List Envelope) → Good es → es ≡ before ++ e ∷ after → is_run_hook e ≡ false
-no_hook es before e after good cut = any_here is_run_hook before e after (ap (list_any is_run_hook) (sym cut) ∙ good.no_hooks)
 
 -- ---- AfterRunFinished
 
@@ -134,7 +135,7 @@ nothing_behind : (e : Envelope) (after : List Envelope) → is_run_finished e �
 nothing_behind (envelope.TestRunFinished f) after is h = h
 nothing_behind _ after is h = cc
 
-pub not_after : (es before : List Envelope) (e : Envelope) (after : List Envelope) → Good es → es ≡ before ++ e ∷ after → (is_judged e && has_run_finished before) ≡ false
+pub not_after : (es before : List Envelope) (e : Envelope) (after : List Envelope) → Sound es → es ≡ before ++ e ∷ after → (is_judged e && has_run_finished before) ≡ false
 not_after es before e after good cut = go (is_judged e) refl (has_run_finished before) refl
   where
     go : (j : Bool) → is_judged e ≡ j → (b : Bool) → has_run_finished before ≡ b → (is_judged e && has_run_finished before) ≡ false
@@ -149,7 +150,7 @@ not_after es before e after good cut = go (is_judged e) refl (has_run_finished b
 
 -- ---- NoRunFinished
 
-pub run_finished : (es : List Envelope) → Good es → has_run_finished es ≡ true
+pub run_finished : (es : List Envelope) → Sound es → has_run_finished es ≡ true
 run_finished es good = go (has_run_finished es) refl
   where
     go : (b : Bool) → has_run_finished es ≡ b → has_run_finished es ≡ true
@@ -158,7 +159,7 @@ run_finished es good = go (has_run_finished es) refl
 
 -- ---- MediaType, SourceTooLong and Language
 
-pub media_plain : (es before : List Envelope) (s : Source) (after : List Envelope) → Good es → es ≡ before ++ envelope.Source s ∷ after → not (bytes_eq s.media_type plain) ≡ false
+pub media_plain : (es before : List Envelope) (s : Source) (after : List Envelope) → Sound es → es ≡ before ++ envelope.Source s ∷ after → not (bytes_eq s.media_type plain) ≡ false
 media_plain es before s after good cut = ap not (good.sources before (envelope.Source s) after cut).0
 
 judged_reading : (es before : List Envelope) (s : Source) (after : List Envelope) (r : Reading) → MeetsSource es before s after r → (is_too_long r ≡ false) × (is_other_language r ≡ false)
@@ -167,5 +168,5 @@ judged_reading es before s after Refused h = (refl, refl)
 judged_reading es before s after OtherLanguage h = absurd h
 judged_reading es before s after TooLong h = absurd h
 
-pub is_supported : (es before : List Envelope) (s : Source) (after : List Envelope) → Good es → es ≡ before ++ envelope.Source s ∷ after → (is_too_long (reads s.content) ≡ false) × (is_other_language (reads s.content) ≡ false)
+pub is_supported : (es before : List Envelope) (s : Source) (after : List Envelope) → Sound es → es ≡ before ++ envelope.Source s ∷ after → (is_too_long (reads s.content) ≡ false) × (is_other_language (reads s.content) ≡ false)
 is_supported es before s after good cut = judged_reading es before s after (reads s.content) (source_meets es before s after (good.sources before (envelope.Source s) after cut))

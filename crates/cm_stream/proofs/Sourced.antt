@@ -315,7 +315,7 @@ module _ (es : List Envelope) (pass : AllPass es) where
         let run = end.run in
         let only = the_source before s after cut in
         let in_front : find (of_uri s.uri) (sources end.before) ≡ Some s = ap (find (of_uri s.uri)) (sym (till_end es end.before end.end end.after run as_source refl refl)) ∙ only in
-        let complete : is_incomplete end.before s ≡ false = find_fails (is_incomplete end.before) (of_uri s.uri) (sources end.before) s in_front ((((end.passes).1).1).1).0 in
+        let complete : is_incomplete end.before s ≡ false = find_fails (is_incomplete end.before) (of_uri s.uri) (sources end.before) s in_front (((((end.passes).1).1).1).1).0 in
         let parts = or_false (length (documents_of s.uri end.before) == 0) (nat_lt (length (pickles_of s.uri end.before)) (length (compiled d))) (ap (lacks end.before s.uri) (sym read) ∙ complete) in
         let same_documents : documents_of s.uri es ≡ documents_of s.uri end.before = ap (filter (λ x. bytes_eq s.uri x.uri)) (till_end es end.before end.end end.after run as_document refl refl) in
         let same_pickles : pickles_of s.uri es ≡ pickles_of s.uri end.before = ap (filter (λ x. bytes_eq s.uri x.uri)) (till_end es end.before end.end end.after run as_pickle refl refl) in

@@ -8,6 +8,8 @@ use Rattle.cm_stream.specs.Findings.{Finding}
 use Rattle.cm_stream.specs.Readings.{Reading, Accepted}
 use Rattle.cm_stream.specs.OnePass.{reads}
 use Rattle.cm_stream.specs.Sources.{plain, english}
+use Rattle.cm_attempt.specs.declared.policy.Policy.{Policy}
+use Rattle.cm_attempt.specs.declared.policy.Policy.TheVariants.{Strict}
 use Rattle.cm_stream.specs.Checks.{fault, fault_at_end}
 use Rattle.cm_stream.specs.Stream.{Told, At, NoFault, at_line, at_end, counts_of}
 use Rattle.cm_envelope.specs.declared.envelope.Envelope.{Envelope}
@@ -90,6 +92,12 @@ parse_error uri = envelope.ParseError (record { source = record { uri = uri } })
 abbrev pub hook : Envelope
 hook = envelope.Hook (record { id = codes "h" })
 
+abbrev pub hook_started : Text → Envelope
+hook_started id = envelope.TestRunHookStarted (record { id = id; test_run_started_id = None; hook_id = codes "h" })
+
+abbrev pub hook_finished : Text → Status → Envelope
+hook_finished id status = envelope.TestRunHookFinished (record { test_run_hook_started_id = id; result = record { status = status } })
+
 -- ---- the streams' fronts
 
 -- the source, the document and the pickle of the feature with one step, where the nodes have these ids
@@ -136,17 +144,20 @@ pub data Shown : Type 0 where
   Fault : ℕ → Finding → Shown
   Other : Shown
 
-abbrev pub told_from : List Envelope → ℕ → List Envelope → Told
-told_from before n [] = at_end n before (fault_at_end before)
-told_from before n (e ∷ es) = at_line n (fault before e) (told_from (before ++ e ∷ []) (suc n) es)
+abbrev pub told_from : Policy → List Envelope → ℕ → List Envelope → Told
+told_from policy before n [] = at_end n before (fault_at_end before)
+told_from policy before n (e ∷ es) = at_line n (fault policy before e) (told_from policy (before ++ e ∷ []) (suc n) es)
 
 abbrev pub show : Told → Shown
 show (NoFault es) = Good (counts_of es)
 show (At n f) = Fault n f
 show _ = Other
 
+abbrev pub shown_by : Policy → List Envelope → Shown
+shown_by policy es = show (told_from policy [] 1 es)
+
 abbrev pub shown : List Envelope → Shown
-shown es = show (told_from [] 1 es)
+shown = shown_by Strict
 
 abbrev pub good : (sources pickles cases attempts unrun : ℕ) → Shown
 good s p c a u = Good (record { sources = s; pickles = p; cases = c; attempts = a; unrun = u })

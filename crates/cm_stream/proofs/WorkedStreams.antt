@@ -17,8 +17,9 @@ use Rattle.cm_stream.specs.Findings.{IsBad, IsUnsupported}
 use Rattle.cm_stream.specs.Findings as fault
 use Rattle.cm_envelope.specs.declared.envelope.Status.TheVariants as status
 use Rattle.cm_stream.specs.declared.verdict.Reason.TheVariants as reason
+use Rattle.cm_attempt.specs.declared.policy.Policy.TheVariants.{Strict, PendingPasses}
 use Rattle.cm_envelope.specs.declared.envelope.Envelope.TheVariants as envelope
-use Rattle.cm_stream.proofs.Streaming.{one_step, french, source, document, pickle, parse_error, hook, one_step_as, one_pickle, outline_front, first_row, second_row, third_row, no_steps_front, empty_case, run_started, run_finished, case, started, step_started, step_finished, finished, Fault, shown, good}
+use Rattle.cm_stream.proofs.Streaming.{one_step, french, source, document, pickle, parse_error, hook, hook_started, hook_finished, one_step_as, one_pickle, outline_front, first_row, second_row, third_row, no_steps_front, empty_case, run_started, run_finished, case, started, step_started, step_finished, finished, Fault, shown, shown_by, good}
 
 -- A pickle without a case is counted as not run.
 never_run : shown (one_pickle ++ run_started ∷ run_finished true ∷ []) ≡ good 1 1 0 0 1
@@ -179,3 +180,73 @@ parse_error_of_a_good_source = refl
 exception_as_success : shown (one_pickle ++ run_started ∷ envelope.TestRunFinished (record { test_run_started_id = None; success = true; has_exception = true }) ∷ []) ≡ Fault 5 (IsBad fault.SuccessDiffers)
 unfolding reads lines_read lines_of numbered_lines without_mark chars after body_of first_some trimmed begins_by fence_of indent_of is_blank_line language_of step_of title_of token_of cells_of units pickles replaced_after same_skeleton encode
 exception_as_success = refl
+
+-- A run hook is started and finished.
+run_hook_passed : shown (one_pickle ++ hook ∷ run_started ∷ hook_started (codes "r1") ∷ hook_finished (codes "r1") status.Passed ∷ run_finished true ∷ []) ≡ good 1 1 0 0 1
+unfolding reads lines_read lines_of numbered_lines without_mark chars after body_of first_some trimmed begins_by fence_of indent_of is_blank_line language_of step_of title_of token_of cells_of units pickles replaced_after same_skeleton encode
+run_hook_passed = refl
+
+-- Success is said where a run hook failed.
+run_hook_failed_as_success : shown (one_pickle ++ hook ∷ run_started ∷ hook_started (codes "r1") ∷ hook_finished (codes "r1") status.Failed ∷ run_finished true ∷ []) ≡ Fault 8 (IsBad fault.SuccessDiffers)
+unfolding reads lines_read lines_of numbered_lines without_mark chars after body_of first_some trimmed begins_by fence_of indent_of is_blank_line language_of step_of title_of token_of cells_of units pickles replaced_after same_skeleton encode
+run_hook_failed_as_success = refl
+
+-- A run hook failed, and no success is said.
+run_hook_failed_and_said : shown (one_pickle ++ hook ∷ run_started ∷ hook_started (codes "r1") ∷ hook_finished (codes "r1") status.Failed ∷ run_finished false ∷ []) ≡ good 1 1 0 0 1
+unfolding reads lines_read lines_of numbered_lines without_mark chars after body_of first_some trimmed begins_by fence_of indent_of is_blank_line language_of step_of title_of token_of cells_of units pickles replaced_after same_skeleton encode
+run_hook_failed_and_said = refl
+
+-- A run hook is of no hook.
+run_hook_of_no_hook : shown (one_pickle ++ run_started ∷ hook_started (codes "r1") ∷ []) ≡ Fault 5 (IsBad fault.UnknownReference)
+unfolding reads lines_read lines_of numbered_lines without_mark chars after body_of first_some trimmed begins_by fence_of indent_of is_blank_line language_of step_of title_of token_of cells_of units pickles replaced_after same_skeleton encode
+run_hook_of_no_hook = refl
+
+-- A run hook starts outside the run.
+run_hook_outside_the_run : shown (one_pickle ++ hook ∷ hook_started (codes "r1") ∷ []) ≡ Fault 5 (IsBad fault.OutsideRun)
+unfolding reads lines_read lines_of numbered_lines without_mark chars after body_of first_some trimmed begins_by fence_of indent_of is_blank_line language_of step_of title_of token_of cells_of units pickles replaced_after same_skeleton encode
+run_hook_outside_the_run = refl
+
+-- A run hook starts twice.
+run_hook_starts_twice : shown (one_pickle ++ hook ∷ run_started ∷ hook_started (codes "r1") ∷ hook_started (codes "r1") ∷ []) ≡ Fault 7 (IsBad fault.DuplicateId)
+unfolding reads lines_read lines_of numbered_lines without_mark chars after body_of first_some trimmed begins_by fence_of indent_of is_blank_line language_of step_of title_of token_of cells_of units pickles replaced_after same_skeleton encode
+run_hook_starts_twice = refl
+
+-- A run hook is finished twice.
+run_hook_finished_twice : shown (one_pickle ++ hook ∷ run_started ∷ hook_started (codes "r1") ∷ hook_finished (codes "r1") status.Passed ∷ hook_finished (codes "r1") status.Passed ∷ []) ≡ Fault 8 (IsBad fault.RunHookTwice)
+unfolding reads lines_read lines_of numbered_lines without_mark chars after body_of first_some trimmed begins_by fence_of indent_of is_blank_line language_of step_of title_of token_of cells_of units pickles replaced_after same_skeleton encode
+run_hook_finished_twice = refl
+
+-- A run hook isn't finished.
+run_hook_not_finished : shown (one_pickle ++ hook ∷ run_started ∷ hook_started (codes "r1") ∷ run_finished true ∷ []) ≡ Fault 7 (IsBad fault.RunHookOpen)
+unfolding reads lines_read lines_of numbered_lines without_mark chars after body_of first_some trimmed begins_by fence_of indent_of is_blank_line language_of step_of title_of token_of cells_of units pickles replaced_after same_skeleton encode
+run_hook_not_finished = refl
+
+-- The result of a run hook isn't known.
+run_hook_of_unknown_status : shown (one_pickle ++ hook ∷ run_started ∷ hook_started (codes "r1") ∷ hook_finished (codes "r1") status.Unknown ∷ []) ≡ Fault 7 (IsUnsupported reason.UnknownStatus)
+unfolding reads lines_read lines_of numbered_lines without_mark chars after body_of first_some trimmed begins_by fence_of indent_of is_blank_line language_of step_of title_of token_of cells_of units pickles replaced_after same_skeleton encode
+run_hook_of_unknown_status = refl
+
+-- A pending attempt is no success.
+pending_as_success : shown_by Strict (one_pickle ++ run_started ∷ case (codes "c1") ∷ started (codes "a1") (codes "c1") 0 ∷ step_started (codes "a1") ∷ step_finished (codes "a1") status.Pending ∷ finished (codes "a1") false ∷ run_finished true ∷ []) ≡ Fault 10 (IsBad fault.SuccessDiffers)
+unfolding reads lines_read lines_of numbered_lines without_mark chars after body_of first_some trimmed begins_by fence_of indent_of is_blank_line language_of step_of title_of token_of cells_of units pickles replaced_after same_skeleton encode
+pending_as_success = refl
+
+-- A pending attempt is a success where pending passes.
+pending_passes : shown_by PendingPasses (one_pickle ++ run_started ∷ case (codes "c1") ∷ started (codes "a1") (codes "c1") 0 ∷ step_started (codes "a1") ∷ step_finished (codes "a1") status.Pending ∷ finished (codes "a1") false ∷ run_finished true ∷ []) ≡ good 1 1 1 1 0
+unfolding reads lines_read lines_of numbered_lines without_mark chars after body_of first_some trimmed begins_by fence_of indent_of is_blank_line language_of step_of title_of token_of cells_of units pickles replaced_after same_skeleton encode
+pending_passes = refl
+
+-- There no failure is said of it.
+pending_passes_and_failure_is_said : shown_by PendingPasses (one_pickle ++ run_started ∷ case (codes "c1") ∷ started (codes "a1") (codes "c1") 0 ∷ step_started (codes "a1") ∷ step_finished (codes "a1") status.Pending ∷ finished (codes "a1") false ∷ run_finished false ∷ []) ≡ Fault 10 (IsBad fault.SuccessDiffers)
+unfolding reads lines_read lines_of numbered_lines without_mark chars after body_of first_some trimmed begins_by fence_of indent_of is_blank_line language_of step_of title_of token_of cells_of units pickles replaced_after same_skeleton encode
+pending_passes_and_failure_is_said = refl
+
+-- An undefined attempt is no success where pending passes.
+undefined_as_success : shown_by PendingPasses (one_pickle ++ run_started ∷ case (codes "c1") ∷ started (codes "a1") (codes "c1") 0 ∷ step_started (codes "a1") ∷ step_finished (codes "a1") status.Undefined ∷ finished (codes "a1") false ∷ run_finished true ∷ []) ≡ Fault 10 (IsBad fault.SuccessDiffers)
+unfolding reads lines_read lines_of numbered_lines without_mark chars after body_of first_some trimmed begins_by fence_of indent_of is_blank_line language_of step_of title_of token_of cells_of units pickles replaced_after same_skeleton encode
+undefined_as_success = refl
+
+-- A pending run hook is a success where pending passes.
+pending_run_hook_passes : shown_by PendingPasses (one_pickle ++ hook ∷ run_started ∷ hook_started (codes "r1") ∷ hook_finished (codes "r1") status.Pending ∷ run_finished true ∷ []) ≡ good 1 1 0 0 1
+unfolding reads lines_read lines_of numbered_lines without_mark chars after body_of first_some trimmed begins_by fence_of indent_of is_blank_line language_of step_of title_of token_of cells_of units pickles replaced_after same_skeleton encode
+pending_run_hook_passes = refl

@@ -1,17 +1,18 @@
 -- The checks of each line in order, over the lines before it: which fault stands first in a stream.
-use Rattle.std.specs.Prelude.{◌==◌, nat_lt, Bool, true, false, not, ◌&&◌, ◌||◌, List, [], ◌∷◌, Option, Some, None, if◌then◌else◌, map, length, slice_get}
+use Rattle.std.specs.Prelude.{◌==◌, nat_lt, Bool, true, false, not, ◌&&◌, ◌||◌, List, [], ◌∷◌, ◌++◌, Option, Some, None, if◌then◌else◌, map, length, slice_get}
 use Rattle.std.specs.List.{list_any, list_all}
 use Rattle.std.specs.Option.{option_map_or}
 use Rattle.std.specs.Str.{bytes_eq}
 use Rattle.cm_stream.specs.Texts.{Text, same_texts}
 use Rattle.cm_attempt.specs.Table.{has_repeat}
+use Rattle.cm_attempt.specs.declared.policy.Policy.{Policy}
 use Rattle.gk_document.specs.declared.tree.Document.{Document}
 use Rattle.gk_pickle.specs.Pickles.{pickles as compiled}
 use Rattle.cm_stream.specs.Readings.{Reading, Accepted, OtherLanguage, TooLong}
 use Rattle.cm_stream.specs.OnePass.{reads}
 use Rattle.cm_stream.specs.Skeleton.{same_skeleton}
 use Rattle.cm_stream.specs.Sources.{DuePickle, plain, is_due}
-use Rattle.cm_stream.specs.Words.{declares, times_declared, refers, sources, documents_of, pickles_of, starts, starts_of, case_of, has_run_started, has_run_finished, is_judged, is_accepted, reading_of, find_pickle, pickle_step_ids, steps_of, Move, Started, StepStarted, StepFinished, Ended, moves, whole, is_ended, is_retried, all_well}
+use Rattle.cm_stream.specs.Words.{declares, times_declared, refers, sources, run_hooks, documents_of, pickles_of, starts, starts_of, case_of, has_run_started, has_run_finished, is_judged, is_accepted, reading_of, find_pickle, pickle_step_ids, steps_of, Move, Started, StepStarted, StepFinished, Ended, moves, whole, is_ended, is_retried, is_hook_finished, all_well}
 use Rattle.cm_stream.specs.Good.{is_unknown, has_same_names}
 use Rattle.cm_envelope.specs.declared.envelope.Envelope.{Envelope}
 use Rattle.cm_envelope.specs.declared.envelope.Envelope.TheVariants as envelope
@@ -115,7 +116,7 @@ lacks before uri _ = false
 abbrev pub is_incomplete : List Envelope → Source → Bool
 is_incomplete before s = lacks before s.uri (reads s.content)
 
--- ---- the checks
+-- ---- the checks, but for the last one of the run's end
 
 abbrev pub checks_of : List Envelope → Envelope → List Check
 checks_of before (envelope.Source s) =
@@ -164,16 +165,30 @@ checks_of before (envelope.TestRunFinished f) =
     bad.OutsideRun if not (has_run_started before)
     ∷ bad.UnknownReference if refers_to_unknown before (envelope.TestRunFinished f)
     ∷ bad.AttemptOpen if not (list_all (λ s. is_ended s.id before) (starts before))
-    ∷ bad.SourceIncomplete if list_any (is_incomplete before) (sources before)
-    ∷ bad.SuccessDiffers if not (same_flag f.success (all_well before && not f.has_exception)) ∷ []
+    ∷ bad.RunHookOpen if not (list_all (λ s. is_hook_finished s.id before) (run_hooks before))
+    ∷ bad.SourceIncomplete if list_any (is_incomplete before) (sources before) ∷ []
 checks_of before (envelope.Attachment a) = bad.UnknownReference if refers_to_unknown before (envelope.Attachment a) ∷ []
-checks_of before envelope.TestRunHookStarted = reason.RunHook unsupported_if true ∷ []
-checks_of before envelope.TestRunHookFinished = reason.RunHook unsupported_if true ∷ []
+checks_of before (envelope.TestRunHookStarted s) =
+    bad.OutsideRun if not (has_run_started before)
+    ∷ bad.UnknownReference if refers_to_unknown before (envelope.TestRunHookStarted s)
+    ∷ bad.DuplicateId if declares_again before (envelope.TestRunHookStarted s) ∷ []
+checks_of before (envelope.TestRunHookFinished f) =
+    bad.UnknownReference if refers_to_unknown before (envelope.TestRunHookFinished f)
+    ∷ bad.RunHookTwice if is_hook_finished f.test_run_hook_started_id before
+    ∷ reason.UnknownStatus unsupported_if is_unknown f.result.status ∷ []
 checks_of before envelope.Other = []
 
--- nothing is judged behind the end of the run
-abbrev pub checks : List Envelope → Envelope → List Check
-checks before e = (bad.AfterRunFinished if (is_judged e && has_run_finished before)) ∷ checks_of before e
+-- the last check of the run's end: it tells success as it is
+abbrev pub success_check : Policy → List Envelope → Envelope → List Check
+success_check policy before (envelope.TestRunFinished f) = bad.SuccessDiffers if not (same_flag f.success (all_well policy before && not f.has_exception)) ∷ []
+success_check policy before _ = []
+
+-- those that are made whatever statuses are good; nothing is judged behind the end of the run
+abbrev pub plain_checks : List Envelope → Envelope → List Check
+plain_checks before e = (bad.AfterRunFinished if (is_judged e && has_run_finished before)) ∷ checks_of before e
+
+abbrev pub checks : Policy → List Envelope → Envelope → List Check
+checks policy before e = plain_checks before e ++ success_check policy before e
 
 -- the first check that the line fails
 abbrev pub first_failed : List Check → Option Finding
@@ -181,8 +196,8 @@ first_failed [] = None
 first_failed (c ∷ cs) = if c.fails then Some c.finding else first_failed cs
 
 -- the fault of a line behind these lines, none of which has a fault
-abbrev pub fault : List Envelope → Envelope → Option Finding
-fault before e = first_failed (checks before e)
+abbrev pub fault : Policy → List Envelope → Envelope → Option Finding
+fault policy before e = first_failed (checks policy before e)
 
 -- the fault at the end
 abbrev pub fault_at_end : List Envelope → Option Finding

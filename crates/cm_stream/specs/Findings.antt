@@ -29,6 +29,8 @@ pub data Fault : Type 0 where
   SourceIncomplete : Fault
   SuccessDiffers : Fault
   NoRunFinished : Fault
+  RunHookOpen : Fault
+  RunHookTwice : Fault
 
 -- what is told of a line: it makes the stream bad, or the stream is not judged
 pub data Finding : Type 0 where
@@ -65,3 +67,5 @@ named declared.AttemptOpen = AttemptOpen
 named declared.SourceIncomplete = SourceIncomplete
 named declared.SuccessDiffers = SuccessDiffers
 named declared.NoRunFinished = NoRunFinished
+named declared.RunHookOpen = RunHookOpen
+named declared.RunHookTwice = RunHookTwice

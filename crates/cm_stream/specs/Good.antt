@@ -5,13 +5,14 @@ use Rattle.std.specs.List.{list_any, list_all, flat_map, AllByRecursion}
 use Rattle.std.specs.Option.{option_map}
 use Rattle.std.specs.Str.{bytes_eq}
 use Rattle.cm_stream.specs.Texts.{same_list}
-use Rattle.cm_attempt.specs.Table.{has_repeat}
+use Rattle.cm_attempt.specs.Table.{has_repeat, is_good_status}
+use Rattle.cm_attempt.specs.declared.policy.Policy.{Policy}
 use Rattle.gk_document.specs.declared.tree.Document.{Document}
 use Rattle.gk_document.specs.Skeleton.{skeleton}
 use Rattle.gk_pickle.specs.Pickles.{pickles as compiled}
 use Rattle.cm_stream.specs.Readings.{Reading, Accepted, Refused, OtherLanguage, TooLong, IsReading}
 use Rattle.cm_stream.specs.Sources.{plain, is_due}
-use Rattle.cm_stream.specs.Words.{cases, sources, is_good_case, Name, same_name, declares, times_declared, refers, sources_of, documents_of, pickles_of, starts_of, has_run_started, is_run_started, is_run_finished, is_run_hook, is_judged, find_pickle, pickle_step_ids, steps_of, moves, whole, is_retried}
+use Rattle.cm_stream.specs.Words.{cases, sources, hook_statuses, is_good_case, times_finished, Name, same_name, declares, times_declared, refers, sources_of, documents_of, pickles_of, starts_of, has_run_started, is_run_started, is_run_finished, is_judged, find_pickle, pickle_step_ids, steps_of, moves, whole, is_retried}
 use Rattle.cm_envelope.specs.declared.envelope.Envelope.{Envelope}
 use Rattle.cm_envelope.specs.declared.envelope.Envelope.TheVariants as envelope
 use Rattle.cm_envelope.specs.declared.envelope.Source.{Source}
@@ -75,19 +76,29 @@ RetryGood before _ = Unit {0}
 abbrev pub RetriesGood : List Envelope → Type 0
 RetriesGood es = Everywhere (λ before e after. RetryGood before e) es
 
--- Each case has a final attempt that is at worst skipped, no source is refused and there is no exception.
-pub record AllWell (es : List Envelope) (f : TestRunFinished) : Type 0 where
-  pub each_case : AllByRecursion (λ c. is_good_case es c ≡ true) (cases es)
+-- A run hook that starts is finished exactly once.
+abbrev pub HookGood : List Envelope → Envelope → Type 0
+HookGood es (envelope.TestRunHookStarted s) = times_finished s.id es ≡ 1
+HookGood es _ = Unit {0}
+
+abbrev pub HooksGood : List Envelope → Type 0
+HooksGood es = Everywhere (λ before e after. HookGood es e) es
+
+-- Each case has a final attempt that is at worst of a good status, each run hook's result is good, no source is refused and
+-- there is no exception.
+pub record AllWell (policy : Policy) (es : List Envelope) (f : TestRunFinished) : Type 0 where
+  pub each_case : AllByRecursion (λ c. is_good_case policy es c ≡ true) (cases es)
+  pub each_hook : AllByRecursion (λ status. is_good_status policy status ≡ true) (hook_statuses es)
   pub each_source : AllByRecursion IsAccepted (sources es)
   pub no_exception : f.has_exception ≡ false
 
 -- Success is said exactly if all is well.
-abbrev pub SuccessOf : List Envelope → Envelope → Type 0
-SuccessOf es (envelope.TestRunFinished f) = (f.success ≡ true) ↔ AllWell es f
-SuccessOf es _ = Unit {0}
+abbrev pub SuccessOf : Policy → List Envelope → Envelope → Type 0
+SuccessOf policy es (envelope.TestRunFinished f) = (f.success ≡ true) ↔ AllWell policy es f
+SuccessOf policy es _ = Unit {0}
 
-abbrev pub SuccessGood : List Envelope → Type 0
-SuccessGood es = Everywhere (λ before e after. SuccessOf es e) es
+abbrev pub SuccessGood : Policy → List Envelope → Type 0
+SuccessGood policy es = Everywhere (λ before e after. SuccessOf policy es e) es
 
 -- ---- the rest
 
@@ -98,13 +109,14 @@ has_same_names (n ∷ ns) = list_any (λ later. same_name later n) ns || has_sam
 
 abbrev pub StartsInside : List Envelope → Envelope → Type 0
 StartsInside before (envelope.TestCaseStarted s) = has_run_started before ≡ true
+StartsInside before (envelope.TestRunHookStarted s) = has_run_started before ≡ true
 StartsInside before _ = Unit {0}
 
 abbrev pub NothingBehind : Envelope → List Envelope → Type 0
 NothingBehind (envelope.TestRunFinished f) after = list_any is_judged after ≡ false
 NothingBehind _ after = Unit {0}
 
--- The run starts once, before each attempt, and finishes once, behind every other judged envelope.
+-- The run starts once, before each attempt and each run hook, and finishes once, behind every other judged envelope.
 pub record OrderGood (es : List Envelope) : Type 0 where
   pub one_start : count_by is_run_started es ≡ 1
   pub one_finish : count_by is_run_finished es ≡ 1
@@ -115,20 +127,25 @@ abbrev pub is_unknown : Status → Bool
 is_unknown Unknown = true
 is_unknown _ = false
 
--- a step result is unknown
+-- the result of a step or of a run hook is unknown
 abbrev pub has_unknown_result : Envelope → Bool
 has_unknown_result (envelope.TestStepFinished s) = is_unknown s.test_step_result.status
+has_unknown_result (envelope.TestRunHookFinished f) = is_unknown f.result.status
 has_unknown_result _ = false
 
--- a good list of envelopes
-pub record Good (es : List Envelope) : Type 0 where
+-- all that is asked of a good list, whatever statuses are good, but what success it says
+pub record Sound (es : List Envelope) : Type 0 where
   pub references : ReferencesGood es
   pub sources : SourcesGood es
   pub cases : CasesGood es
   pub attempts : AttemptsGood es
   pub retries : RetriesGood es
-  pub success : SuccessGood es
   pub distinct : has_same_names (flat_map declares es) ≡ false
   pub order : OrderGood es
   pub known : list_any has_unknown_result es ≡ false
-  pub no_hooks : list_any is_run_hook es ≡ false
+  pub hooks : HooksGood es
+
+-- a good list of envelopes, by a policy of good statuses
+pub record Good (policy : Policy) (es : List Envelope) : Type 0 where
+  pub sound : Sound es
+  pub success : SuccessGood policy es

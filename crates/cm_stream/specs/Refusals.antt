@@ -6,6 +6,7 @@ use Rattle.cm_stream.specs.Words.{StepStarted, StepFinished, Ended, starts_of, i
 use Rattle.cm_stream.specs.Checks.{Check, checks_of, ◌if◌, first_failed, refers_to_unknown, declares_again, is_next_move}
 use Rattle.cm_attempt.specs.Table.{Table, add_case_fault, start_fault, step_start_fault, step_finish_fault, finish_fault}
 use Rattle.cm_stream.specs.Seen.{table_of}
+use Rattle.cm_attempt.specs.declared.policy.Policy.{Policy}
 use Rattle.cm_stream.specs.Told.{IsFaultless}
 use Rattle.cm_envelope.specs.declared.envelope.Envelope.{Envelope}
 use Rattle.cm_envelope.specs.declared.envelope.Envelope.TheVariants as envelope
@@ -55,7 +56,7 @@ own_checks es _ = []
 
 -- behind lines without a fault the call refuses what the first failed of these checks tells
 abbrev pub RefusalsAre : Envelope → Type 0
-RefusalsAre e = (es : List Envelope) → IsFaultless es → option_and_then told_refusal (refused (table_of es) e) ≡ first_failed (own_checks es e)
+RefusalsAre e = (policy : Policy) (es : List Envelope) → IsFaultless policy es → option_and_then told_refusal (refused (table_of es) e) ≡ first_failed (own_checks es e)
 
 -- they are checks of the line, one after another
 pub record AreAmongChecks (es : List Envelope) (e : Envelope) : Type 0 where

@@ -6,6 +6,7 @@ use Rattle.std.specs.Str.{bytes_eq}
 use Rattle.cm_envelope.specs.Lines.{Fed, feed, is_blank}
 use Rattle.cm_envelope.specs.declared.feed.Trouble.{Trouble}
 use Rattle.cm_envelope.specs.Reading.{Fault as LineFault, envelope_of_line}
+use Rattle.cm_attempt.specs.declared.policy.Policy.{Policy}
 use Rattle.cm_stream.specs.Words.{sources, pickles, cases, starts}
 use Rattle.cm_stream.specs.Good.{Good}
 use Rattle.cm_stream.specs.Checks.{fault, fault_at_end}
@@ -52,11 +53,11 @@ unrun es = count_by (λ p. not (list_any (λ c. bytes_eq p.id c.pickle_id) (case
 abbrev pub counts_of : List Envelope → Counts
 counts_of es = record { sources = length (sources es); pickles = length (pickles es); cases = length (cases es); attempts = length (starts es); unrun = unrun es }
 
--- a good stream, which has these counts
-pub record IsGoodStream (bytes : List ℕ) (counts : Counts) : Type 0 where
+-- a good stream by a policy of good statuses, which has these counts
+pub record IsGoodStream (policy : Policy) (bytes : List ℕ) (counts : Counts) : Type 0 where
   pub lines : List (ℕ × Envelope)
   pub read : IsRead bytes lines
-  pub good : Good (envelopes lines)
+  pub good : Good policy (envelopes lines)
   pub exact : counts ≡ counts_of (envelopes lines)
 
 -- ---- the first fault
@@ -80,19 +81,19 @@ at_line n (Some f) more = At n f
 abbrev pub shown : List ℕ → Option (Result Envelope LineFault)
 shown line = if is_blank line then None else Some (envelope_of_line line)
 
-abbrev pub told_line : (before : List Envelope) → (n : ℕ) → Option (Result Envelope LineFault) → (List Envelope → Told) → Told
-told_line before n None more = more before
-told_line before n (Some (Err b)) more = At n (IsBad (fault_of_line b))
-told_line before n (Some (Ok e)) more = at_line n (fault before e) (more (before ++ e ∷ []))
+abbrev pub told_line : Policy → (before : List Envelope) → (n : ℕ) → Option (Result Envelope LineFault) → (List Envelope → Told) → Told
+told_line policy before n None more = more before
+told_line policy before n (Some (Err b)) more = At n (IsBad (fault_of_line b))
+told_line policy before n (Some (Ok e)) more = at_line n (fault policy before e) (more (before ++ e ∷ []))
 
 -- of these lines, the first of which has the number n, and then the trouble or the end, behind envelopes without a fault
-abbrev pub told_of : (before : List Envelope) → (n : ℕ) → List (List ℕ) → Option Trouble → Told
-told_of before n [] (Some t) = Troubled t
-told_of before n [] None = at_end n before (fault_at_end before)
-told_of before n (l ∷ ls) t = told_line before n (shown l) (λ (now : List Envelope). told_of now (n + 1) ls t)
+abbrev pub told_of : Policy → (before : List Envelope) → (n : ℕ) → List (List ℕ) → Option Trouble → Told
+told_of policy before n [] (Some t) = Troubled t
+told_of policy before n [] None = at_end n before (fault_at_end before)
+told_of policy before n (l ∷ ls) t = told_line policy before n (shown l) (λ (now : List Envelope). told_of policy now (n + 1) ls t)
 
-abbrev pub told : List ℕ → Told
-told bytes = told_of [] 1 (fed bytes).lines (fed bytes).trouble
+abbrev pub told : Policy → List ℕ → Told
+told policy bytes = told_of policy [] 1 (fed bytes).lines (fed bytes).trouble
 
 -- ---- what an audit promises
 
@@ -115,9 +116,9 @@ answer_for (Troubled t) = Failed t
 answer_for (NoFault es) = GoodWith (counts_of es)
 
 -- Good only for good streams, with exact counts.
-abbrev pub GoodOnlyForGood : List ℕ → Result Verdict Trouble → Type 0
-GoodOnlyForGood bytes (Ok (verdict.Good counts)) = IsGoodStream bytes counts
-GoodOnlyForGood bytes _ = Unit {0}
+abbrev pub GoodOnlyForGood : Policy → List ℕ → Result Verdict Trouble → Type 0
+GoodOnlyForGood policy bytes (Ok (verdict.Good counts)) = IsGoodStream policy bytes counts
+GoodOnlyForGood policy bytes _ = Unit {0}
 
 -- the other stream has the first n lines of this one
 pub record HaveFirstLines (n : ℕ) (bytes other : List ℕ) : Type 0 where
@@ -129,6 +130,6 @@ pub record HaveFirstLines (n : ℕ) (bytes other : List ℕ) : Type 0 where
   pub there : (fed other).lines ≡ first ++ other_rest
 
 -- A finding at line n: no good stream has these first n lines. Past the last line: this stream is not good.
-abbrev pub NoneIsGood : List ℕ → Result Verdict Trouble → Type 0
-NoneIsGood bytes (Ok (verdict.Bad n b)) = ((other : List ℕ) (counts : Counts) → HaveFirstLines n bytes other → IsGoodStream other counts → ⊥) × ((counts : Counts) → IsGoodStream bytes counts → ⊥)
-NoneIsGood bytes _ = Unit {0}
+abbrev pub NoneIsGood : Policy → List ℕ → Result Verdict Trouble → Type 0
+NoneIsGood policy bytes (Ok (verdict.Bad n b)) = ((other : List ℕ) (counts : Counts) → HaveFirstLines n bytes other → IsGoodStream policy other counts → ⊥) × ((counts : Counts) → IsGoodStream policy bytes counts → ⊥)
+NoneIsGood policy bytes _ = Unit {0}

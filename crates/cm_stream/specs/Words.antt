@@ -16,10 +16,13 @@ use Rattle.cm_envelope.specs.declared.envelope.TestCase.{TestCase}
 use Rattle.cm_envelope.specs.declared.envelope.TestStep.{TestStep}
 use Rattle.cm_envelope.specs.declared.envelope.TestCaseStarted.{TestCaseStarted}
 use Rattle.cm_envelope.specs.declared.envelope.TestCaseFinished.{TestCaseFinished}
+use Rattle.cm_envelope.specs.declared.envelope.TestRunHookStarted.{TestRunHookStarted}
+use Rattle.cm_envelope.specs.declared.envelope.TestRunHookFinished.{TestRunHookFinished}
 use Rattle.cm_attempt.specs.declared.status.Status.{Status}
 use Rattle.cm_stream.specs.Statuses.{kept_status}
 use Rattle.cm_attempt.specs.Worst.{worst_of}
 use Rattle.cm_attempt.specs.Table.{is_good_status}
+use Rattle.cm_attempt.specs.declared.policy.Policy.{Policy}
 
 -- ---- the envelopes of one kind, in order
 
@@ -47,6 +50,14 @@ abbrev pub as_end : Envelope → Option TestCaseFinished
 as_end (envelope.TestCaseFinished f) = Some f
 as_end _ = None
 
+abbrev pub as_run_hook : Envelope → Option TestRunHookStarted
+as_run_hook (envelope.TestRunHookStarted s) = Some s
+as_run_hook _ = None
+
+abbrev pub as_run_hook_end : Envelope → Option TestRunHookFinished
+as_run_hook_end (envelope.TestRunHookFinished f) = Some f
+as_run_hook_end _ = None
+
 abbrev pub sources : List Envelope → List Source
 sources es = filter_map as_source es
 
@@ -58,6 +69,14 @@ cases es = filter_map as_case es
 
 abbrev pub starts : List Envelope → List TestCaseStarted
 starts es = filter_map as_start es
+
+-- the starts of run hooks
+abbrev pub run_hooks : List Envelope → List TestRunHookStarted
+run_hooks es = filter_map as_run_hook es
+
+-- the ends of run hooks
+abbrev pub run_hook_ends : List Envelope → List TestRunHookFinished
+run_hook_ends es = filter_map as_run_hook_end es
 
 abbrev pub sources_of : Text → List Envelope → List Source
 sources_of uri es = filter (λ s. bytes_eq uri s.uri) (sources es)
@@ -79,11 +98,6 @@ is_run_started _ = false
 abbrev pub is_run_finished : Envelope → Bool
 is_run_finished (envelope.TestRunFinished f) = true
 is_run_finished _ = false
-
-abbrev pub is_run_hook : Envelope → Bool
-is_run_hook envelope.TestRunHookStarted = true
-is_run_hook envelope.TestRunHookFinished = true
-is_run_hook _ = false
 
 abbrev pub is_judged : Envelope → Bool
 is_judged envelope.Other = false
@@ -110,6 +124,7 @@ pub data Name : Type 0 where
   Step : (test_case : Text) → Text → Name
   Run : Text → Name
   Attempt : Text → Name
+  RunHook : Text → Name
 
 abbrev pub same_name : Name → Name → Bool
 same_name (SourceOf a) (SourceOf b) = bytes_eq a b
@@ -122,6 +137,7 @@ same_name (Case a) (Case b) = bytes_eq a b
 same_name (Step c a) (Step d b) = bytes_eq c d && bytes_eq a b
 same_name (Run a) (Run b) = bytes_eq a b
 same_name (Attempt a) (Attempt b) = bytes_eq a b
+same_name (RunHook a) (RunHook b) = bytes_eq a b
 same_name _ _ = false
 
 -- nothing, or one
@@ -139,6 +155,7 @@ declares (envelope.Hook h) = HookNamed h.id ∷ []
 declares (envelope.TestCase c) = Case c.id ∷ map (λ s. Step c.id s.id) c.test_steps
 declares (envelope.TestRunStarted r) = map Run (if_any r.id)
 declares (envelope.TestCaseStarted s) = Attempt s.id ∷ []
+declares (envelope.TestRunHookStarted s) = RunHook s.id ∷ []
 declares _ = []
 
 abbrev pub declares_it : Name → Envelope → Bool
@@ -175,6 +192,8 @@ refers before (envelope.TestStepStarted s) = Attempt s.test_case_started_id ∷ 
 refers before (envelope.TestStepFinished s) = Attempt s.test_case_started_id ∷ step_names before s.test_case_started_id s.test_step_id
 refers before (envelope.TestCaseFinished f) = Attempt f.test_case_started_id ∷ []
 refers before (envelope.TestRunFinished f) = map Run (if_any f.test_run_started_id)
+refers before (envelope.TestRunHookStarted s) = map Run (if_any s.test_run_started_id) ++ HookNamed s.hook_id ∷ []
+refers before (envelope.TestRunHookFinished f) = RunHook f.test_run_hook_started_id ∷ []
 refers before (envelope.Attachment a) = attachment_names before a.test_case_started_id a.test_step_id
 refers before _ = []
 
@@ -262,6 +281,20 @@ status_in a _ = None
 abbrev pub statuses : Text → List Envelope → List Status
 statuses a es = filter_map (status_in a) es
 
+-- ---- run hooks
+
+-- how many of the envelopes finish the run hook
+abbrev pub times_finished : Text → List Envelope → ℕ
+times_finished hook es = count_by (λ f. bytes_eq hook f.test_run_hook_started_id) (run_hook_ends es)
+
+-- it is finished
+abbrev pub is_hook_finished : Text → List Envelope → Bool
+is_hook_finished hook es = list_any (λ f. bytes_eq hook f.test_run_hook_started_id) (run_hook_ends es)
+
+-- the statuses of the results of run hooks
+abbrev pub hook_statuses : List Envelope → List Status
+hook_statuses es = map (λ f. kept_status f.result.status) (run_hook_ends es)
+
 -- ---- success (Messages: TestRunFinished, TestStepResultStatus)
 
 -- the last of a list
@@ -270,14 +303,14 @@ last_of [] = None
 last_of (x ∷ []) = Some x
 last_of (x ∷ y ∷ more) = last_of (y ∷ more)
 
--- the attempt is finished, won't be retried, and is at worst skipped
-abbrev pub ends_well : List Envelope → Text → Bool
-ends_well es a = is_final a es && is_good_status (worst_of (statuses a es))
+-- the attempt is finished, won't be retried, and is at worst of a good status
+abbrev pub ends_well : Policy → List Envelope → Text → Bool
+ends_well policy es a = is_final a es && is_good_status policy (worst_of (statuses a es))
 
--- the case has a final attempt that is at worst skipped
-abbrev pub is_good_case : List Envelope → TestCase → Bool
-is_good_case es c = option_map_or (λ s. ends_well es s.id) (last_of (starts_of c.id es)) false
+-- the case has a final attempt that is at worst of a good status
+abbrev pub is_good_case : Policy → List Envelope → TestCase → Bool
+is_good_case policy es c = option_map_or (λ s. ends_well policy es s.id) (last_of (starts_of c.id es)) false
 
--- each case has a final attempt that is at worst skipped, and no source is refused
-abbrev pub all_well : List Envelope → Bool
-all_well es = list_all (is_good_case es) (cases es) && list_all (λ s. is_accepted (reads s.content)) (sources es)
+-- each case has a final attempt that is at worst of a good status, each run hook's result is good, and no source is refused
+abbrev pub all_well : Policy → List Envelope → Bool
+all_well policy es = list_all (is_good_case policy es) (cases es) && list_all (is_good_status policy) (hook_statuses es) && list_all (λ s. is_accepted (reads s.content)) (sources es)

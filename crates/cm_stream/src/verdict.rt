@@ -26,6 +26,8 @@ pub enum Bad {
     SourceIncomplete,
     SuccessDiffers,
     NoRunFinished,
+    RunHookOpen,
+    RunHookTwice,
 }
 
 /// Why a stream is not judged.
@@ -34,7 +36,6 @@ pub enum Reason {
     Language,
     MediaType,
     UnknownStatus,
-    RunHook,
     SourceTooLong,
 }
 

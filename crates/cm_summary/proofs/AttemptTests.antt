@@ -9,15 +9,22 @@ use Rattle.std.proofs.lemmas.List.Folds.{list_all-map}
 use Rattle.cm_refs.proofs.EntryLemmas.{list_any-map}
 use Rattle.cm_attempt.specs.Table.{CaseRow, AttemptRow, has_text, has_step, find_attempt, steps_of as steps_in, is_good_case as is_good_row, is_good_status, status_of_last, open_count}
 use Rattle.cm_attempt.specs.Worst.{worst_of}
+use Rattle.cm_attempt.specs.declared.policy.Policy.{Policy}
+use Rattle.cm_attempt.proofs.WorstLemmas.{is_known, good_worst}
 use Rattle.cm_stream.specs.Texts.{Text}
-use Rattle.cm_stream.specs.Words.{Attempt, Step, if_any, attachment_names, cases, starts, starts_of, find_case, Ended, is_ended, retry_in, ends_of, statuses, last_of, is_good_case, all_well, moves}
+use Rattle.cm_stream.specs.Words.{Attempt, Step, if_any, attachment_names, cases, starts, starts_of, find_case, Ended, is_ended, retry_in, ends_of, statuses, last_of, is_good_case, all_well, hook_statuses, moves}
 use Rattle.cm_stream.specs.Seen.{attempt_row, case_row, cursor_at, is_step_start, last_state, state_of, table_of}
 use Rattle.cm_stream.specs.Checks.{is_next_move}
+use Rattle.cm_stream.specs.Good.{is_unknown, has_unknown_result}
+use Rattle.cm_stream.specs.Statuses.{kept_status}
+use Rattle.cm_envelope.specs.declared.envelope.Status as its_status
+use Rattle.cm_envelope.specs.declared.envelope.Status.TheVariants as line
 use Rattle.cm_envelope.specs.declared.envelope.Envelope.{Envelope}
 use Rattle.cm_envelope.specs.declared.envelope.Envelope.TheVariants as envelope
 use Rattle.cm_envelope.specs.declared.envelope.TestCase.{TestCase}
 use Rattle.cm_envelope.specs.declared.envelope.TestCaseStarted.{TestCaseStarted}
-use Rattle.cm_stream.proofs.Lists.{count_none, none_counted}
+use Rattle.cm_stream.proofs.Lists.{or_false, count_none, none_counted}
+use Rattle.cm_stream.proofs.Parts.{all_known}
 use Rattle.cm_stream.proofs.Found.{bytes_same}
 use Rattle.cm_stream.proofs.Passing.{AllPass, was_not, by_lines, front_passes, last_passes}
 use Rattle.cm_stream.proofs.Distinct.{all_refer}
@@ -34,7 +41,7 @@ use Rattle.cm_summary.proofs.SourceTests.{each_accepted}
 
 -- ---- attempts that are open
 
-none_counts : {X : Type 0} (p : X → Bool) (xs : List X) → (count_by p xs == 0) ≡ not (list_any p xs)
+pub none_counts : {X : Type 0} (p : X → Bool) (xs : List X) → (count_by p xs == 0) ≡ not (list_any p xs)
 none_counts {X} p xs = go (list_any p xs) refl
   where
     some : (n : ℕ) → (n ≡ 0 → ⊥) → (n == 0) ≡ false
@@ -44,7 +51,7 @@ none_counts {X} p xs = go (list_any p xs) refl
     go false e = ap (λ n. n == 0) (none_counted p xs e) ∙ ap not (sym e)
     go true e = some (count_by p xs) (λ z. let no_way = count_none p xs z in cc) ∙ ap not (sym e)
 
-none_or_all : {X : Type 0} (p q : X → Bool) → ((x : X) → p x ≡ not (q x)) → (xs : List X) → not (list_any p xs) ≡ list_all q xs
+pub none_or_all : {X : Type 0} (p q : X → Bool) → ((x : X) → p x ≡ not (q x)) → (xs : List X) → not (list_any p xs) ≡ list_all q xs
 none_or_all p q h [] = refl
 none_or_all p q h (x ∷ xs) = ap (λ b. not (b || list_any p xs)) (h x) ∙ both (q x) (list_any p xs) ∙ ap (λ b. q x && b) (none_or_all p q h xs)
   where
@@ -90,24 +97,45 @@ same_all : {X : Type 0} (p q : X → Bool) → ((x : X) → p x ≡ q x) → (xs
 same_all p q h [] = refl
 same_all p q h (x ∷ xs) = rw (h x, same_all p q h xs) refl
 
-good_row : (es : List Envelope) → AllPass es → (c : TestCase) → is_good_row (case_row es c) ≡ is_good_case es c
-good_row es pass c = at (last_of (starts_of c.id es))
+good_row : (policy : Policy) (es : List Envelope) → AllPass es → (c : TestCase) → is_good_row policy (case_row es c) ≡ is_good_case policy es c
+good_row policy es pass c = at (last_of (starts_of c.id es))
   where
     ends : (t : TestCaseStarted) (rs : List Bool) → length rs ≤ 1
-        → option_map_or is_good_status (status_of_last (state_of (worst_of (statuses t.id es)) rs)) false ≡ (list_any not rs && is_good_status (worst_of (statuses t.id es)))
+        → option_map_or (is_good_status policy) (status_of_last (state_of (worst_of (statuses t.id es)) rs)) false ≡ (list_any not rs && is_good_status policy (worst_of (statuses t.id es)))
     ends t [] few = refl
     ends t (true ∷ []) few = refl
     ends t (true ∷ r ∷ more) few = absurd (omega arith)
     ends t (false ∷ more) few = refl
 
-    at : (o : Option TestCaseStarted) → option_map_or is_good_status (status_of_last (last_state es o)) false ≡ option_map_or (λ (t : TestCaseStarted). list_any not (ends_of t.id es) && is_good_status (worst_of (statuses t.id es))) o false
+    at : (o : Option TestCaseStarted) → option_map_or (is_good_status policy) (status_of_last (last_state es o)) false ≡ option_map_or (λ (t : TestCaseStarted). list_any not (ends_of t.id es) && is_good_status policy (worst_of (statuses t.id es))) o false
     at None = refl
     at (Some t) = ends t (ends_of t.id es) (few_ends t.id es pass)
 
-pub same_well : (es : List Envelope) → AllPass es → is_well (seen es) ≡ all_well es
-same_well es pass =
-    let good = list_all-map is_good_row (case_row es) (cases es) ∙ same_all (λ (c : TestCase). is_good_row (case_row es c)) (is_good_case es) (good_row es pass) (cases es) in
-    λ i. good i && each_accepted es i
+-- the results of run hooks are known
+known_hooks : (es : List Envelope) → list_any has_unknown_result es ≡ false → list_all is_known (hook_statuses es) ≡ true
+known_hooks [] h = refl
+known_hooks (envelope.TestRunHookFinished f ∷ es) h =
+    let k = or_false (is_unknown f.result.status) (list_any has_unknown_result es) h in
+    rw (kept_known f.result.status k.0, known_hooks es k.1) refl
+  where
+    kept_known : (s : its_status.Status) → is_unknown s ≡ false → is_known (kept_status s) ≡ true
+    kept_known line.Unknown h = cc
+    kept_known line.Passed h = refl
+    kept_known line.Skipped h = refl
+    kept_known line.Pending h = refl
+    kept_known line.Undefined h = refl
+    kept_known line.Ambiguous h = refl
+    kept_known line.Failed h = refl
+known_hooks (envelope.TestStepFinished s ∷ es) h = known_hooks es (or_false (is_unknown s.test_step_result.status) (list_any has_unknown_result es) h).1
+known_hooks (_ ∷ es) h = known_hooks es h
+
+good_hooks : (policy : Policy) (es : List Envelope) → AllPass es → is_good_status policy (worst_of (hook_statuses es)) ≡ list_all (is_good_status policy) (hook_statuses es)
+good_hooks policy es pass = good_worst policy (hook_statuses es) (known_hooks es (all_known es pass))
+
+pub same_well : (policy : Policy) (es : List Envelope) → AllPass es → is_well policy (seen es) ≡ all_well policy es
+same_well policy es pass =
+    let good = list_all-map (is_good_row policy) (case_row es) (cases es) ∙ same_all (λ (c : TestCase). is_good_row policy (case_row es c)) (is_good_case policy es) (good_row policy es pass) (cases es) in
+    λ i. good i && good_hooks policy es pass i && each_accepted es i
 
 -- ---- attachments
 

@@ -1,12 +1,14 @@
 -- What is told of a line by what is kept of the lines before it is the line's fault over all of them.
 use Rattle.std.proofs.Common.{◌≡◌, refl, sym, ap, ◌∙◌, List, [], ◌∷◌, ◌++◌, Option, Some, true, false, Bool, not, ◌&&◌, ◌||◌, ◌==◌}
-use Rattle.std.specs.Prelude.{nat_lt, if◌then◌else◌}
+use Rattle.std.specs.Prelude.{is_some, nat_lt, if◌then◌else◌}
+use Rattle.cm_attempt.specs.declared.policy.Policy.{Policy}
 use Rattle.cm_stream.specs.Readings.{Reading}
-use Rattle.cm_stream.specs.Words.{Name, SourceOf, DocumentOf, Definition, HookNamed, times_declared, is_judged, has_run_started, has_run_finished}
-use Rattle.cm_stream.specs.Checks.{Check, ◌if◌, checks_of, first_failed, fault, refers_to_unknown, has_skeleton_of, has_steps_of_pickle, same_flag}
+use Rattle.cm_stream.specs.Words.{Name, SourceOf, DocumentOf, Definition, HookNamed, RunHook, times_declared, is_judged, has_run_started, has_run_finished}
+use Rattle.cm_stream.specs.Checks.{Check, ◌if◌, checks_of, success_check, first_failed, fault, refers_to_unknown, has_skeleton_of, has_steps_of_pickle, same_flag}
 use Rattle.cm_stream.specs.Refusals.{own_checks}
 use Rattle.cm_stream.specs.Findings as bad
 use Rattle.cm_stream.specs.Findings.{IsBad}
+use Rattle.cm_refs.specs.Declarations.{find_run_hook}
 use Rattle.cm_attempt.specs.Table.{has_text}
 use Rattle.cm_envelope.specs.declared.envelope.Envelope.{Envelope}
 use Rattle.cm_envelope.specs.declared.envelope.Envelope.TheVariants as envelope
@@ -14,11 +16,12 @@ use Rattle.cm_stream.proofs.Passing.{AllPass}
 use Rattle.cm_stream.proofs.StepRows.{or_no}
 use Rattle.cm_stream.proofs.StepRefuses.{all_refused}
 use Rattle.cm_summary.specs.Summary.{declared_in, seen}
-use Rattle.cm_summary.specs.Findings.{checks_before, checks_behind, or_else, finding, finding_inside}
-use Rattle.cm_summary.proofs.Tests.{IsDeclaredIf, source_declared, document_declared, definition_declared, hook_declared, started_is, run_known}
+use Rattle.cm_summary.specs.Findings.{checks_before, checks_behind, success_by, plain_finding, or_else, finding, finding_inside}
+use Rattle.cm_summary.proofs.Tests.{IsDeclaredIf, source_declared, document_declared, definition_declared, hook_declared, run_hook_declared, started_is, run_known}
 use Rattle.cm_summary.proofs.StepTests.{both_known, pickle_again, case_known, steps_are}
 use Rattle.cm_summary.proofs.SourceTests.{same_reading, same_accepted, same_next, same_incomplete}
 use Rattle.cm_summary.proofs.AttemptTests.{none_open, same_well, place_known}
+use Rattle.cm_summary.proofs.RunHooks.{hook_finished_by, no_hook_open, hook_start_known}
 
 -- ---- checks in turn
 
@@ -97,15 +100,22 @@ agree es pass (envelope.TestRunStarted r) = (refl, started_is es, tt)
 agree es pass (envelope.TestCaseStarted x) = (refl, ap not (started_is es), tt)
 agree es pass (envelope.TestRunFinished f) =
     let run = sym (run_known es pass f.test_run_started_id) in
-    let success = ap (λ (b : Bool). not (same_flag f.success (b && not f.has_exception))) (same_well es pass) in
-    (refl, ap not (started_is es), (refl, run, (refl, ap not (none_open es), (refl, same_incomplete es, (refl, success, tt)))))
+    (refl, ap not (started_is es), (refl, run, (refl, ap not (none_open es), (refl, ap not (no_hook_open es), (refl, same_incomplete es, tt)))))
 agree es pass (envelope.Attachment a) = (refl, sym (place_known es pass a.test_case_started_id a.test_step_id), tt)
-agree es pass envelope.TestRunHookStarted = (refl, refl, tt)
-agree es pass envelope.TestRunHookFinished = (refl, refl, tt)
+agree es pass (envelope.TestRunHookStarted x) =
+    let again = again_one (RunHook x.id) es (is_some (find_run_hook (declared_in es) x.id)) (run_hook_declared x.id es) in
+    (refl, ap not (started_is es), (refl, sym (hook_start_known es pass x), (refl, again, tt)))
+agree es pass (envelope.TestRunHookFinished f) =
+    let known = unknown_one (RunHook f.test_run_hook_started_id) es (is_some (find_run_hook (declared_in es) f.test_run_hook_started_id)) (run_hook_declared f.test_run_hook_started_id es) in
+    (refl, known, (refl, hook_finished_by es pass f.test_run_hook_started_id, (refl, refl, tt)))
 agree es pass _ = tt
 
-inside : (es : List Envelope) (e : Envelope) → AllPass es → finding_inside (seen es) e ≡ first_failed (checks_of es e)
-inside es e pass =
+agree_last : (policy : Policy) (es : List Envelope) → AllPass es → (e : Envelope) → AreSame (success_by policy (seen es) e) (success_check policy es e)
+agree_last policy es pass (envelope.TestRunFinished f) = (refl, ap (λ (b : Bool). not (same_flag f.success (b && not f.has_exception))) (same_well policy es pass), tt)
+agree_last policy es pass _ = tt
+
+plainly : (es : List Envelope) (e : Envelope) → AllPass es → plain_finding (seen es) e ≡ first_failed (checks_of es e)
+plainly es e pass =
     let first = same_failed (checks_before (seen es) e) (checks_first es e) (agree es pass e) in
     let own = all_refused es e pass in
     (λ i. or_else (first i) (or_else (own i) (first_failed (checks_behind e))))
@@ -113,5 +123,11 @@ inside es e pass =
     ∙ sym (in_turn (checks_first es e) (own_checks es e ++ checks_behind e))
     ∙ ap first_failed (sym (in_parts es e))
 
-pub findings_are_faults : (es : List Envelope) (e : Envelope) → AllPass es → finding (seen es) e ≡ fault es e
-findings_are_faults es e pass = ap (λ o. if is_judged e && has_run_finished es then Some (IsBad bad.AfterRunFinished) else o) (inside es e pass)
+inside : (policy : Policy) (es : List Envelope) (e : Envelope) → AllPass es → finding_inside policy (seen es) e ≡ first_failed (checks_of es e ++ success_check policy es e)
+inside policy es e pass =
+    let plain = plainly es e pass in
+    let last = same_failed (success_by policy (seen es) e) (success_check policy es e) (agree_last policy es pass e) in
+    (λ i. or_else (plain i) (last i)) ∙ sym (in_turn (checks_of es e) (success_check policy es e))
+
+pub findings_are_faults : (policy : Policy) (es : List Envelope) (e : Envelope) → AllPass es → finding policy (seen es) e ≡ fault policy es e
+findings_are_faults policy es e pass = ap (λ o. if is_judged e && has_run_finished es then Some (IsBad bad.AfterRunFinished) else o) (inside policy es e pass)

@@ -7,4 +7,5 @@ pub mod Checked
 pub mod Behind
 pub mod Rows
 pub mod Unrun
+pub mod RunHooks
 pub mod Steps

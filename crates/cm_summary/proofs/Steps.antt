@@ -5,7 +5,7 @@ use Rattle.std.specs.Option.{option_map}
 use Rattle.std.proofs.lemmas.List.Folds.{list_any-append}
 use Rattle.cm_refs.specs.Declarations.{Declarations}
 use Rattle.cm_stream.specs.Texts.{Text}
-use Rattle.cm_stream.specs.Words.{as_source, as_document, as_pickle, as_case, sources, pickles, cases, is_run_finished, has_run_started, has_run_finished}
+use Rattle.cm_stream.specs.Words.{as_source, as_document, as_pickle, as_case, as_run_hook_end, sources, pickles, cases, is_run_finished, has_run_started, has_run_finished}
 use Rattle.cm_stream.specs.Checks.{checks_of}
 use Rattle.cm_stream.specs.Seen.{changed}
 use Rattle.cm_envelope.specs.declared.envelope.Envelope.{Envelope}
@@ -20,6 +20,7 @@ use Rattle.cm_stream.proofs.TableSteps.{table_steps}
 use Rattle.cm_summary.specs.Summary.{SourceRow, Summary, as_definition, as_hook, as_run, first_of, pickle_row, declared_in, with_name, once_each, seen, new_source, with_ids, one_more, change_source, after}
 use Rattle.cm_summary.proofs.Behind.{push_if, found_behind, map_behind}
 use Rattle.cm_summary.proofs.Rows.{rows, other_rows, source_rows, document_rows, pickle_rows}
+use Rattle.cm_summary.proofs.RunHooks.{hook_rows_after, hook_rows_step, hooks_worst_after, hooks_worst_step}
 use Rattle.cm_summary.proofs.Unrun.{named_by, names_push, counts_after, counts_step}
 
 -- ---- each of what is kept
@@ -31,15 +32,17 @@ declared_after d e = record {
   pickles = push_if d.pickles (option_map pickle_row (as_pickle e));
   definitions = push_if d.definitions (as_definition e);
   hooks = push_if d.hooks (as_hook e);
+  run_hooks = hook_rows_after d.run_hooks e;
 }
 
-declared_step : (es : List Envelope) (e : Envelope) → declared_in (es ++ e ∷ []) ≡ declared_after (declared_in es) e
-declared_step es e = λ i. record {
+declared_step : (es : List Envelope) (e : Envelope) → AllPass (es ++ e ∷ []) → declared_in (es ++ e ∷ []) ≡ declared_after (declared_in es) e
+declared_step es e h = λ i. record {
   sources = (ap (map (λ (s : Source). s.uri)) (found_behind as_source es e) ∙ map_behind (λ (s : Source). s.uri) (sources es) (as_source e)) i;
   documents = (ap (map (λ (d : GherkinDocument). d.uri)) (found_behind as_document es e) ∙ map_behind (λ (d : GherkinDocument). d.uri) (filter_map as_document es) (as_document e)) i;
   pickles = (ap (map pickle_row) (found_behind as_pickle es e) ∙ map_behind pickle_row (pickles es) (as_pickle e)) i;
   definitions = found_behind as_definition es e i;
   hooks = found_behind as_hook es e i;
+  run_hooks = hook_rows_step es e h i;
 }
 
 abbrev rows_after : List SourceRow → Envelope → List SourceRow
@@ -101,6 +104,7 @@ kept_after s e = record {
   named = named_after s.named (as_case e);
   run = run_after s.run (as_run e);
   is_finished = finished_after s.is_finished (is_run_finished e);
+  hooks_worst = hooks_worst_after s.hooks_worst (as_run_hook_end e);
   counts = counts_after s.named s.counts e;
 }
 
@@ -113,6 +117,8 @@ after_is s (envelope.Hook h) = refl
 after_is s (envelope.TestCase c) = refl
 after_is s (envelope.TestRunStarted r) = refl
 after_is s (envelope.TestCaseStarted x) = refl
+after_is s (envelope.TestRunHookStarted x) = refl
+after_is s (envelope.TestRunHookFinished f) = refl
 after_is s (envelope.TestRunFinished f) = refl
 after_is s e = refl
 
@@ -121,11 +127,12 @@ summaries_step es e h = all ∙ after_is (seen es) e
   where
     all : seen (es ++ e ∷ []) ≡ kept_after (seen es) e
     all = λ i. record {
-      declared = declared_step es e i;
+      declared = declared_step es e h i;
       table = table_steps es e h i;
       sources = rows_step es e h i;
       named = named_step es e i;
       run = run_step es e (last_passes es e h).1 i;
       is_finished = finished_step es e i;
+      hooks_worst = hooks_worst_step es e i;
       counts = counts_step es e h i;
     }

@@ -4,11 +4,11 @@ use Rattle.std.specs.Prelude.{nat_lt, is_some}
 use Rattle.std.specs.List.{list_any, filter_map}
 use Rattle.std.specs.Option.{option_map_or}
 use Rattle.std.specs.Str.{bytes_eq}
-use Rattle.cm_refs.specs.Declarations.{PickleRow, find_pickle}
+use Rattle.cm_refs.specs.Declarations.{PickleRow, RunHookRow, find_pickle, find_run_hook}
 use Rattle.cm_refs.proofs.EntryLemmas.{list_any-map}
 use Rattle.cm_attempt.specs.Table.{AttemptRow, find_attempt, has_text}
 use Rattle.cm_stream.specs.Texts.{Text}
-use Rattle.cm_stream.specs.Words.{Name, SourceOf, DocumentOf, PickleNamed, PickleStep, Definition, HookNamed, Step, Run, Attempt, same_name, declares_it, times_declared, if_any, as_source, as_document, as_pickle, as_start, pickles, starts, has_run_started}
+use Rattle.cm_stream.specs.Words.{Name, SourceOf, DocumentOf, PickleNamed, PickleStep, Definition, HookNamed, Step, Run, Attempt, RunHook, same_name, declares_it, times_declared, if_any, as_source, as_document, as_pickle, as_start, as_run_hook, pickles, starts, run_hooks, has_run_started}
 use Rattle.cm_stream.specs.Seen.{attempt_row, table_of}
 use Rattle.cm_envelope.specs.declared.envelope.Envelope.{Envelope}
 use Rattle.cm_envelope.specs.declared.envelope.Envelope.TheVariants as envelope
@@ -17,12 +17,12 @@ use Rattle.cm_envelope.specs.declared.envelope.GherkinDocument.{GherkinDocument}
 use Rattle.cm_envelope.specs.declared.envelope.TestStep.{TestStep}
 use Rattle.cm_envelope.specs.declared.pickle.Pickle.{Pickle}
 use Rattle.cm_envelope.specs.declared.pickle.PickleStep as pickle_step
-use Rattle.cm_stream.proofs.Declared.{none_of, declares_source, declares_document, declares_pickle, declares_attempt}
+use Rattle.cm_stream.proofs.Declared.{none_of, declares_source, declares_document, declares_pickle, declares_attempt, declares_run_hook}
 use Rattle.cm_stream.proofs.Passing.{AllPass, last_passes, by_lines}
 use Rattle.cm_stream.proofs.OneRow.{found_more, found_push}
 use Rattle.cm_stream.proofs.StepRows.{or_no}
 use Rattle.cm_stream.proofs.Refuses.{known, found_any}
-use Rattle.cm_summary.specs.Summary.{as_definition, as_hook, as_run, first_of, pickle_row, declared_in, seen}
+use Rattle.cm_summary.specs.Summary.{as_definition, as_hook, as_run, first_of, pickle_row, run_hook_row, declared_in, seen}
 use Rattle.cm_summary.specs.Findings.{is_run, knows_run}
 
 -- the lines declare the name exactly if b
@@ -61,6 +61,12 @@ attempt_declared id es =
     by_same (Attempt id) es (list_any (λ s. bytes_eq id s.id) (starts es)) (is_some (find_attempt (table_of es) id))
     (sym (list_any-map (λ (r : AttemptRow). bytes_eq id r.id) (attempt_row es) (starts es)) ∙ sym (found_any (λ (r : AttemptRow). bytes_eq id r.id) (map (attempt_row es) (starts es))))
     (by_test (Attempt id) as_start (λ s. bytes_eq id s.id) (declares_attempt id) es)
+
+pub run_hook_declared : (id : Text) (es : List Envelope) → IsDeclaredIf (RunHook id) es (is_some (find_run_hook (declared_in es) id))
+run_hook_declared id es =
+    by_same (RunHook id) es (list_any (λ s. bytes_eq id s.id) (run_hooks es)) (is_some (find_run_hook (declared_in es) id))
+    (sym (list_any-map (λ (r : RunHookRow). bytes_eq id r.id) (run_hook_row es) (run_hooks es)) ∙ sym (found_any (λ (r : RunHookRow). bytes_eq id r.id) (map (run_hook_row es) (run_hooks es))))
+    (by_test (RunHook id) as_run_hook (λ s. bytes_eq id s.id) (declares_run_hook id) es)
 
 declares_definition : (id : Text) (e : Envelope) → declares_it (Definition id) e ≡ option_map_or (bytes_eq id) (as_definition e) false
 declares_definition id (envelope.StepDefinition d) = or_no (bytes_eq id d.id)

@@ -3,8 +3,10 @@ use Rattle.std.specs.Prelude.{◌==◌, ◌&&◌, ◌||◌, nat_lt, Bool, true, 
 use Rattle.std.specs.List.{list_any, list_all}
 use Rattle.std.specs.Option.{option_map, option_map_or, option_and_then}
 use Rattle.std.specs.Str.{bytes_eq}
-use Rattle.cm_refs.specs.Declarations.{find_pickle, pickle_fault}
-use Rattle.cm_attempt.specs.Table.{has_text, has_repeat, has_step, find_attempt, is_good_case, open_count}
+use Rattle.cm_refs.specs.Declarations.{find_pickle, find_run_hook, pickle_fault, open_count as open_hook_count}
+use Rattle.cm_attempt.specs.Table.{has_text, has_repeat, has_step, find_attempt, is_good_case, is_good_status, open_count}
+use Rattle.cm_attempt.specs.declared.status.Status.TheVariants.{Passed}
+use Rattle.cm_attempt.specs.declared.policy.Policy.{Policy}
 use Rattle.gk_pickle.specs.Pickles.{pickles as compiled}
 use Rattle.cm_stream.specs.Texts.{Text, same_texts}
 use Rattle.cm_stream.specs.Readings.{Reading, Accepted}
@@ -19,6 +21,7 @@ use Rattle.cm_envelope.specs.declared.envelope.Envelope.TheVariants as envelope
 use Rattle.cm_envelope.specs.declared.envelope.TestCase.{TestCase}
 use Rattle.cm_envelope.specs.declared.envelope.TestStep.{TestStep}
 use Rattle.cm_envelope.specs.declared.envelope.TestRunStarted.{TestRunStarted}
+use Rattle.cm_envelope.specs.declared.envelope.TestRunHookStarted.{TestRunHookStarted}
 use Rattle.cm_envelope.specs.declared.pickle.Pickle.{Pickle}
 use Rattle.cm_stream.specs.Findings as bad
 use Rattle.cm_stream.specs.Findings.{Finding, IsBad}
@@ -81,8 +84,16 @@ abbrev pub lacks_by : Reading → SourceRow → Bool
 lacks_by (Accepted d) r = is_none r.ids || nat_lt r.matched (length (compiled d))
 lacks_by _ r = false
 
-abbrev pub is_well : Summary → Bool
-is_well s = list_all is_good_case s.table.cases && list_all (λ r. is_accepted r.reading) s.sources
+-- the hook is declared, and the run, where one is named, is the one that started
+abbrev pub knows_run_hook : Summary → TestRunHookStarted → Bool
+knows_run_hook s x = knows_run s x.test_run_started_id && has_text x.hook_id s.declared.hooks
+
+-- the run hook is finished
+abbrev pub is_hook_finished_by : Summary → Text → Bool
+is_hook_finished_by s hook = option_map_or (λ r. r.is_finished) (find_run_hook s.declared hook) false
+
+abbrev pub is_well : Policy → Summary → Bool
+is_well policy s = list_all (is_good_case policy) s.table.cases && is_good_status policy (unwrap_or s.hooks_worst Passed) && list_all (λ r. is_accepted r.reading) s.sources
 
 -- ---- the checks of a line before the one that the record of attempts makes, and behind it
 
@@ -116,29 +127,44 @@ checks_before s (envelope.TestRunFinished f) =
     bad.OutsideRun if is_none s.run
     ∷ bad.UnknownReference if not (knows_run s f.test_run_started_id)
     ∷ bad.AttemptOpen if not (open_count s.table == 0)
-    ∷ bad.SourceIncomplete if list_any (λ r. lacks_by r.reading r) s.sources
-    ∷ bad.SuccessDiffers if not (same_flag f.success (is_well s && not f.has_exception)) ∷ []
+    ∷ bad.RunHookOpen if not (open_hook_count s.declared == 0)
+    ∷ bad.SourceIncomplete if list_any (λ r. lacks_by r.reading r) s.sources ∷ []
 checks_before s (envelope.Attachment a) = bad.UnknownReference if not (knows_place s a.test_case_started_id a.test_step_id) ∷ []
-checks_before s envelope.TestRunHookStarted = reason.RunHook unsupported_if true ∷ []
-checks_before s envelope.TestRunHookFinished = reason.RunHook unsupported_if true ∷ []
+checks_before s (envelope.TestRunHookStarted x) =
+    bad.OutsideRun if is_none s.run
+    ∷ bad.UnknownReference if not (knows_run_hook s x)
+    ∷ bad.DuplicateId if is_some (find_run_hook s.declared x.id) ∷ []
+checks_before s (envelope.TestRunHookFinished f) =
+    bad.UnknownReference if not (is_some (find_run_hook s.declared f.test_run_hook_started_id))
+    ∷ bad.RunHookTwice if is_hook_finished_by s f.test_run_hook_started_id
+    ∷ reason.UnknownStatus unsupported_if is_unknown f.result.status ∷ []
 checks_before s _ = []
 
 abbrev pub checks_behind : Envelope → List Check
 checks_behind (envelope.TestStepFinished x) = reason.UnknownStatus unsupported_if is_unknown x.test_step_result.status ∷ []
 checks_behind _ = []
 
+-- the last check of the run's end: it tells success as it is
+abbrev pub success_by : Policy → Summary → Envelope → List Check
+success_by policy s (envelope.TestRunFinished f) = bad.SuccessDiffers if not (same_flag f.success (is_well policy s && not f.has_exception)) ∷ []
+success_by policy s _ = []
+
 -- the first of two findings
 abbrev pub or_else : Option Finding → Option Finding → Option Finding
 or_else None later = later
 or_else (Some f) later = Some f
 
+-- the finding of a line by the checks that are made whatever statuses are good
+abbrev pub plain_finding : Summary → Envelope → Option Finding
+plain_finding s e = or_else (first_failed (checks_before s e)) (or_else (option_and_then told_refusal (refused s.table e)) (first_failed (checks_behind e)))
+
 -- the finding of a line of which no check stands behind the end of the run
-abbrev pub finding_inside : Summary → Envelope → Option Finding
-finding_inside s e = or_else (first_failed (checks_before s e)) (or_else (option_and_then told_refusal (refused s.table e)) (first_failed (checks_behind e)))
+abbrev pub finding_inside : Policy → Summary → Envelope → Option Finding
+finding_inside policy s e = or_else (plain_finding s e) (first_failed (success_by policy s e))
 
 -- the finding of a line: nothing is judged behind the end of the run
-abbrev pub finding : Summary → Envelope → Option Finding
-finding s e = if is_judged e && s.is_finished then Some (IsBad bad.AfterRunFinished) else finding_inside s e
+abbrev pub finding : Policy → Summary → Envelope → Option Finding
+finding policy s e = if is_judged e && s.is_finished then Some (IsBad bad.AfterRunFinished) else finding_inside policy s e
 
 -- the finding at the end
 abbrev pub finding_at_end : Summary → Option Finding

@@ -3,6 +3,7 @@ use Rattle.std.specs.Prelude.{◌≡◌, ℕ, ◌+◌, List, [], ◌∷◌, ◌+
 use Rattle.cm_envelope.specs.Reading.{Fault as LineFault}
 use Rattle.cm_envelope.specs.declared.envelope.Envelope.{Envelope}
 use Rattle.cm_envelope.specs.declared.feed.Trouble.{Trouble}
+use Rattle.cm_attempt.specs.declared.policy.Policy.{Policy}
 use Rattle.cm_stream.specs.Checks.{fault}
 use Rattle.cm_stream.specs.Findings.{Finding, IsBad, fault_of_line}
 use Rattle.cm_stream.specs.Stream.{Answer, GoodWith, Found, Failed, shown, told_of, answer_for}
@@ -14,11 +15,11 @@ use Rattle.cm_summary.specs.Findings.{finding, finding_at_end}
 
 -- the finding of a line is its fault over all the lines before it
 abbrev pub FindingsAreFaults : Type 0
-FindingsAreFaults = (es : List Envelope) (e : Envelope) → IsFaultless es → finding (seen es) e ≡ fault es e
+FindingsAreFaults = (policy : Policy) (es : List Envelope) (e : Envelope) → IsFaultless policy es → finding policy (seen es) e ≡ fault policy es e
 
 -- what is kept changes by a line
 abbrev pub SummariesStep : Type 0
-SummariesStep = (es : List Envelope) (e : Envelope) → IsFaultless (es ++ e ∷ []) → seen (es ++ e ∷ []) ≡ after (seen es) e
+SummariesStep = (policy : Policy) (es : List Envelope) (e : Envelope) → IsFaultless policy (es ++ e ∷ []) → seen (es ++ e ∷ []) ≡ after (seen es) e
 
 -- ---- a stream
 
@@ -31,17 +32,17 @@ abbrev pub at_line : ℕ → Option Finding → Answer → Answer
 at_line n None more = more
 at_line n (Some f) more = Found n f
 
-abbrev pub judged_line : Summary → ℕ → Option (Result Envelope LineFault) → (Summary → Answer) → Answer
-judged_line s n None more = more s
-judged_line s n (Some (Err b)) more = Found n (IsBad (fault_of_line b))
-judged_line s n (Some (Ok e)) more = at_line n (finding s e) (more (after s e))
+abbrev pub judged_line : Policy → Summary → ℕ → Option (Result Envelope LineFault) → (Summary → Answer) → Answer
+judged_line policy s n None more = more s
+judged_line policy s n (Some (Err b)) more = Found n (IsBad (fault_of_line b))
+judged_line policy s n (Some (Ok e)) more = at_line n (finding policy s e) (more (after s e))
 
 -- the answer for these lines, the first of which has the number n, and then the trouble or the end
-abbrev pub judged_of : Summary → ℕ → List (List ℕ) → Option Trouble → Answer
-judged_of s n [] (Some t) = Failed t
-judged_of s n [] None = at_end n s (finding_at_end s)
-judged_of s n (l ∷ ls) t = judged_line s n (shown l) (λ (now : Summary). judged_of now (n + 1) ls t)
+abbrev pub judged_of : Policy → Summary → ℕ → List (List ℕ) → Option Trouble → Answer
+judged_of policy s n [] (Some t) = Failed t
+judged_of policy s n [] None = at_end n s (finding_at_end s)
+judged_of policy s n (l ∷ ls) t = judged_line policy s n (shown l) (λ (now : Summary). judged_of policy now (n + 1) ls t)
 
 -- the answer is that for what is told of the lines
 abbrev pub JudgedIsTold : Type 0
-JudgedIsTold = (lines : List (List ℕ)) (t : Option Trouble) → judged_of nothing_seen 1 lines t ≡ answer_for (told_of [] 1 lines t)
+JudgedIsTold = (policy : Policy) (lines : List (List ℕ)) (t : Option Trouble) → judged_of policy nothing_seen 1 lines t ≡ answer_for (told_of policy [] 1 lines t)

@@ -3,18 +3,22 @@ use Rattle.std.specs.Prelude.{ℕ, ◌+◌, ◌-◌, Bool, false, true, List, []
 use Rattle.std.specs.List.{filter_map}
 use Rattle.std.specs.Option.{option_map}
 use Rattle.std.specs.Str.{bytes_eq}
-use Rattle.cm_refs.specs.Declarations.{Declarations, PickleRow, no_declarations, with_source, with_document, with_pickle, with_definition, with_hook}
+use Rattle.cm_refs.specs.Declarations.{Declarations, PickleRow, RunHookRow, no_declarations, with_source, with_document, with_pickle, with_definition, with_hook, with_run_hook, with_finished}
 use Rattle.cm_attempt.specs.Table.{Table, empty_table, change_first, has_text}
+use Rattle.cm_attempt.specs.Worst.{with_status, worst_so_far}
+use Rattle.cm_attempt.specs.declared.status.Status.{Status}
+use Rattle.cm_stream.specs.Statuses.{kept_status}
 use Rattle.cm_stream.specs.Texts.{Text}
 use Rattle.cm_stream.specs.Readings.{Reading}
 use Rattle.cm_stream.specs.OnePass.{reads}
-use Rattle.cm_stream.specs.Words.{as_document, sources, pickles, cases, documents_of, pickles_of, has_run_finished}
+use Rattle.cm_stream.specs.Words.{as_document, sources, pickles, cases, run_hooks, hook_statuses, documents_of, pickles_of, has_run_finished, is_hook_finished}
 use Rattle.cm_stream.specs.Stream.{counts_of}
 use Rattle.cm_stream.specs.Seen.{table_of, changed}
 use Rattle.cm_envelope.specs.declared.envelope.Envelope.{Envelope}
 use Rattle.cm_envelope.specs.declared.envelope.Envelope.TheVariants as envelope
 use Rattle.cm_envelope.specs.declared.envelope.Source.{Source}
 use Rattle.cm_envelope.specs.declared.envelope.TestRunStarted.{TestRunStarted}
+use Rattle.cm_envelope.specs.declared.envelope.TestRunHookStarted.{TestRunHookStarted}
 use Rattle.cm_envelope.specs.declared.pickle.Pickle.{Pickle}
 use Rattle.cm_stream.specs.declared.verdict.Counts.{Counts}
 
@@ -34,6 +38,8 @@ pub record Summary : Type 0 where
   -- the start of the run, once it came
   pub run : Option TestRunStarted
   pub is_finished : Bool
+  -- the worst status of the run hooks, which is absent while none is finished
+  pub hooks_worst : Option Status
   pub counts : Counts
 
 -- ---- of all the lines so far
@@ -57,6 +63,9 @@ first_of (x ∷ xs) = Some x
 abbrev pub pickle_row : Pickle → PickleRow
 pickle_row p = record { id = p.id; steps = map (λ s. s.id) p.steps }
 
+abbrev pub run_hook_row : List Envelope → TestRunHookStarted → RunHookRow
+run_hook_row es s = record { id = s.id; is_finished = is_hook_finished s.id es }
+
 abbrev pub declared_in : List Envelope → Declarations
 declared_in es = record {
   sources = map (λ s. s.uri) (sources es);
@@ -64,6 +73,7 @@ declared_in es = record {
   pickles = map pickle_row (pickles es);
   definitions = filter_map as_definition es;
   hooks = filter_map as_hook es;
+  run_hooks = map (run_hook_row es) (run_hooks es);
 }
 
 abbrev pub source_row : List Envelope → Source → SourceRow
@@ -94,6 +104,7 @@ seen es = record {
   named = once_each (map (λ c. c.pickle_id) (cases es));
   run = first_of (filter_map as_run es);
   is_finished = has_run_finished es;
+  hooks_worst = worst_so_far (hook_statuses es);
   counts = counts_of es;
 }
 
@@ -107,6 +118,7 @@ nothing_seen = record {
   named = [];
   run = None;
   is_finished = false;
+  hooks_worst = None;
   counts = record { sources = 0; pickles = 0; cases = 0; attempts = 0; unrun = 0 };
 }
 
@@ -154,5 +166,7 @@ after s (envelope.TestCase c) = record s {
 }
 after s (envelope.TestRunStarted r) = record s { run = Some r }
 after s (envelope.TestCaseStarted x) = record s { table = changed s.table (envelope.TestCaseStarted x); counts = attempt_counted s.counts }
+after s (envelope.TestRunHookStarted x) = record s { declared = with_run_hook x.id s.declared }
+after s (envelope.TestRunHookFinished f) = record s { declared = with_finished f.test_run_hook_started_id s.declared; hooks_worst = with_status s.hooks_worst (kept_status f.result.status) }
 after s (envelope.TestRunFinished f) = record s { is_finished = true }
 after s e = record s { table = changed s.table e }

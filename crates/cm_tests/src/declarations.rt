@@ -22,6 +22,7 @@ fn declare(declared: &mut Declared, kind: &str, name: &str) -> Result<(), RefFau
         "document" => declared.declare_document(name),
         "definition" => declared.declare_definition(name),
         "hook" => declared.declare_hook(name),
+        "run_hook" => declared.start_run_hook(name),
         _ => Err(RefFault::Memory),
     }
 }
@@ -31,6 +32,7 @@ fn has(declared: &Declared, kind: &str, name: &str) -> bool {
         "source" => declared.has_source(name),
         "document" => declared.has_document(name),
         "definition" => declared.has_definition(name),
+        "run_hook" => declared.has_run_hook(name),
         _ => declared.has_hook(name),
     }
 }
@@ -40,6 +42,8 @@ fn answer_name(answer: Result<(), RefFault>) -> &'static str {
         Ok(()) => "ok",
         Err(RefFault::DuplicateId) => "DuplicateId",
         Err(RefFault::DuplicateUri) => "DuplicateUri",
+        Err(RefFault::UnknownRunHook) => "UnknownRunHook",
+        Err(RefFault::RunHookTwice) => "RunHookTwice",
         Err(RefFault::Memory) => "Memory",
     }
 }
@@ -52,7 +56,9 @@ DuplicateUri source u
 ok document u
 DuplicateUri document u
 ok definition d
-DuplicateId definition d";
+DuplicateId definition d
+ok run_hook r
+DuplicateId run_hook r";
 
 fn expect_declared(rt: &impl Abort, declared: &mut Declared, wanted: &str, kind: &str, name: &str) {
     let is_new = !has(declared, kind, name);
@@ -73,6 +79,20 @@ fn expect_kinds(rt: &impl Abort, declared: &mut Declared, table: &str) {
 fn a_kind_has_each_name_once(rt: HostRuntime) {
     let mut declared = Declared::new(rt.alloc());
     expect_kinds(&rt, &mut declared, KINDS);
+    drop(declared);
+}
+
+#[test]
+fn a_run_hook_finishes_once(rt: HostRuntime) {
+    let mut declared = Declared::new(rt.alloc());
+    assert!(rt; declared.start_run_hook("r") == Ok(()));
+    assert!(rt; declared.open_run_hooks() == 1);
+    assert!(rt; declared.start_run_hook("r") == Err(RefFault::DuplicateId));
+    assert!(rt; declared.finish_run_hook("x") == Err(RefFault::UnknownRunHook));
+    assert!(rt; declared.finish_run_hook("r") == Ok(()));
+    assert!(rt; declared.finish_run_hook("r") == Err(RefFault::RunHookTwice));
+    assert!(rt; declared.open_run_hooks() == 0);
+    assert!(rt; declared.has_run_hook("r"));
     drop(declared);
 }
 

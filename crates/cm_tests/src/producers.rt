@@ -20,8 +20,8 @@ fn kind_of(envelope: &Envelope) -> &'static str {
         Envelope::TestCaseFinished(_) => "testCaseFinished",
         Envelope::TestRunFinished(_) => "testRunFinished",
         Envelope::Attachment(_) => "attachment",
-        Envelope::TestRunHookStarted => "testRunHookStarted",
-        Envelope::TestRunHookFinished => "testRunHookFinished",
+        Envelope::TestRunHookStarted(_) => "testRunHookStarted",
+        Envelope::TestRunHookFinished(_) => "testRunHookFinished",
         Envelope::Other => "other",
     }
 }

@@ -21,7 +21,7 @@ mod token;
 pub use fault::ParseFault;
 pub use gk_document::{
     Argument, Background, Comment, DocString, Document, ExampleTable, Examples, Feature, Location,
-    Row, Rule, Scenario, Step, Tag,
+    Row, Rule, Scenario, Step, Tag, same_skeleton,
 };
 pub use gk_grammar::FaultKind;
 pub use one_pass::parse;

@@ -2,7 +2,8 @@ use Rattle.std.proofs.Common.{rules, arith, sym, refl, ◌<◌, ◌≤◌}
 use Rattle.std.specs.Str.{bytes_eq}
 use Rattle.cm_attempt.specs.Rows.{case_row}
 use Rattle.cm_attempt.specs.Table.{opened}
-use Rattle.cm_attempt.proofs.EntryLemmas.{few_after, first_entry, no_entry}
+use Rattle.cm_refs.proofs.EntryLemmas.{first_entry, no_entry}
+use Rattle.cm_attempt.proofs.EntryLemmas.{few_after}
 use Rattle.cm_attempt.proofs.changes.open_case.Goals as goal
 
 pub returns-in-Some-clause-rows : goal.returns-in-Some-clause-rows

@@ -3,7 +3,7 @@ use Rattle.std.specs.Str.{bytes_eq}
 use Rattle.cm_attempt.specs.Rows.{attempt_row}
 use Rattle.cm_attempt.specs.Table.{running}
 use Rattle.indexmap.proofs.CallerLemmas.{index_map_len-with_value_at}
-use Rattle.cm_attempt.proofs.EntryLemmas.{first_entry, no_entry}
+use Rattle.cm_refs.proofs.EntryLemmas.{first_entry, no_entry}
 use Rattle.cm_attempt.proofs.changes.set_running.Goals as goal
 
 pub returns-in-Some-clause-rows : goal.returns-in-Some-clause-rows

@@ -4,7 +4,7 @@ use Rattle.cm_attempt.specs.Table.{has_text}
 use Rattle.cm_refs.specs.Declarations.{Declarations, with_document}
 use Rattle.cm_refs.specs.declared.fault.RefFault.TheVariants.{DuplicateUri}
 use Rattle.cm_envelope.specs.declared.envelope.Envelope.TheVariants.{GherkinDocument}
-use Rattle.cm_summary.specs.Findings.{finding_inside}
+use Rattle.cm_summary.specs.Findings.{plain_finding}
 use Rattle.cm_summary.specs.Summary.{SourceRow, change_source, with_ids}
 use Rattle.cm_audit.specs.Kept.{IsAcceptedAt, kept_rows}
 use Rattle.cm_audit.specs.State.{summary_of}
@@ -24,7 +24,7 @@ returns-in_err-declare_document c =
     let answer = rw c.as_str.ensures at c.in_err-declare_document.ensures.answer in
     stops c.args.state.now (record (c.args.state.now) { declared = c.declare_document.new.self }) (GherkinDocument c.args.document)
     c.from_residual-in_err-declare_document.result (refused_reference fault) c.from_residual-in_err-declare_document.ensures.1
-    (only_memory (has_text c.args.document.uri c.args.state.now.declared.documents) DuplicateUri fault (finding_inside (summary_of c.args.state.now) (GherkinDocument c.args.document))
+    (only_memory (has_text c.args.document.uri c.args.state.now.declared.documents) DuplicateUri fault (plain_finding (summary_of c.args.state.now) (GherkinDocument c.args.document))
     c.in_ok-checked.ensures.first answer)
 
 pub set_ids-requires : goal.set_ids-requires

@@ -1,10 +1,9 @@
-use Rattle.cm_stream.proofs.Passing.{passed}
+use Rattle.cm_stream.proofs.Passing.{plain_passes}
 use Rattle.cm_stream.proofs.StepRefuses.{all_refused, own_are_checks}
-use Rattle.cm_stream.specs.Checks.{checks}
 use Rattle.cm_stream.proofs.laws.refusals_are_told.Goals as goal
 
 pub returns-clause-refused : goal.returns-clause-refused
-returns-clause-refused c = λ e es h. all_refused es e (λ before x after cut. passed (checks before x) (h before x after cut))
+returns-clause-refused c = λ e policy es h. all_refused es e (plain_passes policy es h)
 
 pub returns-clause-own : goal.returns-clause-own
 returns-clause-own c = own_are_checks

@@ -1,7 +1,7 @@
-use Rattle.cm_stream.proofs.Passing.{passed}
+use Rattle.cm_stream.proofs.Passing.{plain_passes}
+use Rattle.std.proofs.Common.{[], ◌∷◌, ◌++◌}
 use Rattle.cm_stream.proofs.TableSteps.{table_steps as steps}
-use Rattle.cm_stream.specs.Checks.{checks}
 use Rattle.cm_stream.proofs.laws.table_steps.Goals as goal
 
 pub returns : goal.returns
-returns c = λ es e h. steps es e (λ before x after cut. passed (checks before x) (h before x after cut))
+returns c = λ policy es e h. steps es e (plain_passes policy (es ++ e ∷ []) h)
