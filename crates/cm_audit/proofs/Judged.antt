@@ -212,8 +212,8 @@ module _ (s : Summary) (x : TestRunHookStarted) where
 abbrev pub end_found : Option RunHookRow → Bool → Option Finding
 end_found row unknown =
     or_else (if not (is_some row) then Some (IsBad bad.UnknownReference)
-        else (if option_map_or (λ r. r.is_finished) row false then Some (IsBad bad.RunHookTwice)
-            else (if unknown then Some (IsUnsupported reason.UnknownStatus) else None))) None
+    else (if option_map_or (λ r. r.is_finished) row false then Some (IsBad bad.RunHookTwice)
+    else (if unknown then Some (IsUnsupported reason.UnknownStatus) else None))) None
 
 marked_told : (b unknown : Bool) (f : RefFault) → MatchOption (if b then Some reference.RunHookTwice else None) (IsOk (failed f)) (λ fault. failed f ≡ failed fault)
     → StopsFor (or_else (if b then Some (IsBad bad.RunHookTwice) else (if unknown then Some (IsUnsupported reason.UnknownStatus) else None)) None) (refused_reference f)

@@ -19,12 +19,7 @@ use cm_stream::{Bad, Verdict};
 use std::alloc::Global;
 
 /// Judges a line, and takes it where it has no fault.
-fn take_line(
-    alloc: Global,
-    state: &mut State,
-    line: &[u8],
-    policy: Policy,
-) -> Result<(), Stop>
+fn take_line(alloc: Global, state: &mut State, line: &[u8], policy: Policy) -> Result<(), Stop>
     requires listed { IsListed state.old }
     requires few { AreFewer MOST state.old.counts }
     ensures { TakesLine policy state.old state.new (shown line.now) result }

@@ -88,7 +88,7 @@ const EXAMPLES: &str =
 const TABLES: &str = r#"tableBody "tableBody":[{"id":"r","location":{"line":4}}]
 tableBody "tableBody":[{}]
 id "tableHeader":{},"tableBody":[{}]
-value "tableHeader":{"id":"r","location":{"line":4}},"tableBody":[{"id":"r","location":{"line":4},"cells":[{}]},5]"#;
+tableBody "tableHeader":{"id":"r","location":{"line":4}},"tableBody":[{"id":"r","location":{"line":4},"cells":[{}]},5]"#;
 
 #[test]
 fn bad_members_of_nodes(rt: HostRuntime) -> Result<(), Fail> {

@@ -10,7 +10,7 @@ use Rattle.cm_audit.proofs.judge_run.is_well.Goals.{then-all_good_with, else-all
 pub returns-then-are_hooks_good : goal.returns-then-are_hooks_good
 returns-then-are_hooks_good c =
     elim c.if-all_good_with.branch [
-      then-all_good_with w ↦
+      | then-all_good_with w ↦
           let cases : list_all (is_good_case c.args.policy) c.args.state.now.track.cases ≡ true = sym c.all_good_with.ensures ∙ w.if-all_good_with.true in
           let are_good : w.are_hooks_good.result ≡ true = cc in
           let hooks : is_good_status c.args.policy (unwrap_or c.args.state.now.hooks_worst Passed) ≡ true = sym w.are_hooks_good.ensures ∙ are_good in
