@@ -1,4 +1,4 @@
-use crate::{Status, Track, TrackFault, worst};
+use crate::{Policy, Status, Track, TrackFault, worst};
 use std::alloc::{AllocError, Global};
 use std::process::Abort;
 use std::test::Fail;
@@ -33,6 +33,8 @@ fn status_of(word: &str) -> Option<Status> {
         "Unknown" => Some(Status::Unknown),
         "Passed" => Some(Status::Passed),
         "Skipped" => Some(Status::Skipped),
+        "Pending" => Some(Status::Pending),
+        "Undefined" => Some(Status::Undefined),
         "Failed" => Some(Status::Failed),
         _ => None,
     }
@@ -117,7 +119,8 @@ fn picks_the_worst(rt: HostRuntime) {
     assert!(rt; worst(&[Status::Unknown]) == Status::Unknown);
 }
 
-const REFUSED: &str = "DuplicateId case c t u t
+const REFUSED: &str = "DuplicateId case c t t
+DuplicateId case c t u t
 UnknownCase start a c 0
 ok case c
 DuplicateId case c
@@ -213,4 +216,58 @@ fn attempts_of_two_cases_interleave(rt: HostRuntime) {
     assert!(rt; reported(&track, "c") == "none");
     assert!(rt; track.open_attempts() == 1);
     drop(track);
+}
+
+const PENDING: &str = "ok case c s
+ok start a c 0
+ok step a s
+ok stepped a s Pending
+ok final a";
+
+#[test]
+fn a_pending_case_is_good_where_pending_passes(rt: HostRuntime) {
+    let alloc = rt.alloc();
+    let mut track = Track::new(alloc);
+    expect_answers(&rt, &mut track, alloc, PENDING);
+    assert!(rt; reported(&track, "c") == "Pending");
+    assert!(rt; !track.all_good());
+    assert!(rt; !track.all_good_with(Policy::Strict));
+    assert!(rt; track.all_good_with(Policy::PendingPasses));
+    drop(track);
+}
+
+const UNDEFINED: &str = "ok case c s
+ok start a c 0
+ok step a s
+ok stepped a s Undefined
+ok final a";
+
+#[test]
+fn an_undefined_case_is_good_by_no_policy(rt: HostRuntime) {
+    let alloc = rt.alloc();
+    let mut track = Track::new(alloc);
+    expect_answers(&rt, &mut track, alloc, UNDEFINED);
+    assert!(rt; reported(&track, "c") == "Undefined");
+    assert!(rt; !track.all_good_with(Policy::Strict));
+    assert!(rt; !track.all_good_with(Policy::PendingPasses));
+    drop(track);
+}
+
+// Each line: a status, whether it is good by the strict policy, and whether it is where pending passes.
+const GOOD_STATUSES: [(Status, bool, bool); 7] = [
+    (Status::Unknown, false, false),
+    (Status::Passed, true, true),
+    (Status::Skipped, true, true),
+    (Status::Pending, false, true),
+    (Status::Undefined, false, false),
+    (Status::Ambiguous, false, false),
+    (Status::Failed, false, false),
+];
+
+#[test]
+fn a_policy_says_which_statuses_are_good(rt: HostRuntime) {
+    for (status, strict, pending_passes) in GOOD_STATUSES {
+        assert!(rt; Policy::Strict.is_good(status) == strict);
+        assert!(rt; Policy::PendingPasses.is_good(status) == pending_passes);
+    }
 }
