@@ -1,8 +1,8 @@
 -- A doc string line, read from one backslash to the next.
-use Rattle.std.proofs.Common.{◌≡◌, ℕ, List, [], ◌∷◌, ◌++◌, Some, None, sym, refl, ap, ◌∙◌}
+use Rattle.std.proofs.Common.{◌≡◌, ◌≤◌, ◌+◌, ℕ, suc, List, [], ◌∷◌, ◌++◌, length, Some, None, sym, refl, ap, ◌∙◌, arith}
 use Rattle.std.specs.Prelude.{◌==◌, is_some, if◌then◌else◌}
 use Rattle.std.specs.Str.{chars, IsUtf8, NonePass}
-use Rattle.std.proofs.lemmas.List.{append_assoc, append-nil}
+use Rattle.std.proofs.lemmas.List.{append_assoc, append-nil, length-append}
 use Rattle.std.proofs.lemmas.Str.{chars-append, chars-IsAscii}
 use Rattle.gk_line.specs.Characters.{backslash}
 use Rattle.gk_line.specs.Texts.{after, IsCutAt}
@@ -59,3 +59,20 @@ last mark old new rest whole u grown none inv =
     let read : fences_unescaped mark 0 (chars rest) ≡ chars rest =
     ap (fences_unescaped mark 0) (sym (append-nil (chars rest))) ∙ front_step mark (chars rest) [] none ∙ append-nil (chars rest) in
     ap chars grown ∙ chars-append old rest u ∙ ap (λ q. chars old ++ q) (sym read) ∙ inv
+
+-- ---- room for a piece: what is added for a text is no longer than the text
+
+-- there is room for what stands before a backslash, for the backslash, and for what comes after it
+pub room_at_cut : (size capacity : ℕ) (text front next : List ℕ) → text ≡ front ++ backslash ∷ next → size + length text ≤ capacity → size + length front + suc (length next) ≤ capacity
+room_at_cut size capacity text front next is room =
+    let parts : length text ≡ length front + suc (length next) = ap length is ∙ length-append front (backslash ∷ next) in
+    omega (arith, parts, room)
+
+pub length-fence_characters : (fence : Fence) → length (fence_characters fence) ≡ 3
+length-fence_characters Quotes = refl
+length-fence_characters Backticks = refl
+
+-- an escaped fence is longer than the fence
+pub length-after_backslash : (fence : Fence) (tail : List ℕ) → backslash ∷ tail ≡ escaped_mark (fence_mark fence) → suc (length tail) ≡ 6
+length-after_backslash Quotes tail is = ap length is
+length-after_backslash Backticks tail is = ap length is

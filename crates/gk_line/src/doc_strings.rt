@@ -1,9 +1,9 @@
 //! The lines inside a doc string.
-ghost use Rattle.std.specs.Prelude.{◌≡◌, ◌≤◌, ◌∷◌, [], ◌++◌, drop, length, IfOk, OnOk, IsTrue};
+ghost use Rattle.std.specs.Prelude.{◌≡◌, ◌≤◌, ◌∷◌, [], ◌+◌, ◌++◌, drop, length, IfOk, IsOk, OnErr, OnOk, IsTrue};
 ghost use Rattle.std.specs.Char.{is_ascii};
 ghost use Rattle.std.specs.List.{list_all};
 ghost use Rattle.std.specs.Str.{chars};
-ghost use Rattle.std.specs.String.{string_bytes};
+ghost use Rattle.std.specs.String.{string_bytes, string_capacity, string_len};
 ghost use Rattle.gk_line.specs.DocStrings.{doc_line_of, outdented, fences_unescaped, fence_characters, fence_mark, escaped_mark};
 ghost use Rattle.gk_line.specs.Characters.{backslash};
 ghost use Rattle.gk_line.specs.Views.{line_chars};
@@ -40,7 +40,8 @@ pub fn doc_line(
 /// Adds what a line inside a doc string says, as [`doc_line`] tells it, to the end of a text.
 ///
 /// # Errors
-/// Only where there is no memory for the text, which then may hold a part of the line.
+/// Only where there is no memory for the text, which is then as it was: room is made first, and what the line says is no
+/// longer than the line.
 ///
 /// Source: Gherkin reference, "Doc Strings".
 #[tactic(auto, unfolding(crate::specs::DocStrings::doc_line_of))]
@@ -51,14 +52,21 @@ pub fn push_doc_line(
     indent: u32,
 ) -> Result<(), AllocError>
     requires { length line.text.now ≤ 16_777_216 }
-    ensures { OnOk result (chars (string_bytes text.new) ≡ chars (string_bytes text.old) ++ doc_line_of fence indent (line_chars line.entry)) }
+    ensures ok { OnOk result (chars (string_bytes text.new)
+        ≡ chars (string_bytes text.old) ++ doc_line_of fence indent (line_chars line.entry)) }
+    ensures err { OnErr result (string_bytes text.new ≡ string_bytes text.old) }
 {
-    push_unescaped(text, outdent(line.text, indent), fence)
+    let said = outdent(line.text, indent);
+    text.reserve(said.len())?;
+    push_unescaped(text, said, fence)
 }
 
-/// Adds the text with a fence in place of each escaped one.
+/// Adds the text with a fence in place of each escaped one. There is room for the text.
 fn push_unescaped(value: &mut String, text: &str, fence: Fence) -> Result<(), AllocError>
-    ensures { OnOk result (chars (string_bytes value.new) ≡ chars (string_bytes value.old) ++ fences_unescaped (fence_mark fence) 0 (chars text.now)) }
+    requires room { string_len value.old + length text.now ≤ string_capacity value.old }
+    ensures fits { IsOk result }
+    ensures value { OnOk result (chars (string_bytes value.new)
+        ≡ chars (string_bytes value.old) ++ fences_unescaped (fence_mark fence) 0 (chars text.now)) }
 {
     let mut rest = text;
     while let Some((front, next)) = cut(rest, b'\\') {

@@ -23,18 +23,16 @@ fn short_line<'a>(rt: &impl Abort, text: &'a str) -> Line<'a>
     Line { number: 1, text }
 }
 
-/// The cells of a row. A call that memory was refused to is made again.
+/// The cells of a row.
 pub(crate) fn cells_of(alloc: Global, text: &str) -> Result<Vec<Cell>, &'static str> {
     let line = line(text)?;
     if !is_row(line) {
         return Err("no row");
     }
-    cells(alloc, line)
-        .or_else(|_| cells(alloc, line))
-        .map_err(|_| "no memory")
+    cells(alloc, line).map_err(|_| "no memory")
 }
 
-/// The tags of a tag line. A call that memory was refused to is made again.
+/// The tags of a tag line.
 fn tag_line<'a>(alloc: Global, text: &'a str) -> Result<Vec<TagText<'a>>, Fail> {
     let line = line(text)?;
     if !is_tags(line) {
@@ -43,16 +41,14 @@ fn tag_line<'a>(alloc: Global, text: &'a str) -> Result<Vec<TagText<'a>>, Fail> 
     match tags(alloc, line) {
         Ok(tags) => Ok(tags),
         Err(LineFault::TagSpace(_)) => Err(Fail::from("white space in a tag")),
-        Err(LineFault::Memory) => tags(alloc, line).map_err(|_| Fail::from("no memory")),
+        Err(LineFault::Memory) => Err(Fail::from("no memory")),
     }
 }
 
-/// A line of a doc string. A call that memory was refused to is made again.
+/// A line of a doc string.
 fn content(alloc: Global, text: &str, fence: Fence, indent: u32) -> Result<String, &'static str> {
     let line = line(text)?;
-    doc_line(alloc, line, fence, indent)
-        .or_else(|_| doc_line(alloc, line, fence, indent))
-        .map_err(|_| "no memory")
+    doc_line(alloc, line, fence, indent).map_err(|_| "no memory")
 }
 
 /// The cells, each as its column, a colon, its text and a semicolon.
@@ -344,13 +340,6 @@ fn check_indent(rt: &impl Abort, text: &str, wanted: u32) {
 fn indents_are_white_space_of_unicode(rt: HostRuntime) {
     check_indent(&rt, "\r\u{85}\u{2028}\u{3000}x", 4);
     check_indent(&rt, "\u{1C} x", 0);
-}
-
-#[test]
-fn laws_take_no_work(_rt: HostRuntime) {
-    kinds_exclude();
-    lines_are_cut();
-    columns_rise();
 }
 
 fn check_text(rt: &impl Abort, text: &Text) {

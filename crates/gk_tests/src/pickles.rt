@@ -11,7 +11,7 @@ const RULED_TEXT: &str =
     "@f\nFeature: f\n  Rule: r\n    Background:\n      Given b\n    @s @s\n    Scenario Outline: <n> o\n      And c\n      @e\n      Examples:\n        | n |\n        | 1 |";
 
 const MIXED_TEXT: &str =
-    "Feature: f\n  Scenario: s\n    * x\n    And y\n  Scenario: h\n    Examples:\n      | a |\n    Examples:\n  Scenario: q\n    Given d\n      ```<m>\n      <n>\n      ```\n    And <n>\n      | <n> | é |\n    Examples:\n      | m | n |\n      |  | ü |\n# \u{1}\u{1F600}";
+    "Feature: f\n  Scenario: s\n    * x\n    And y\n  Scenario: h\n    Examples:\n      | a |\n    Examples:\n  Scenario: q\n    Given d\n      \"\"\"<m>\n      <n>\n      \"\"\"\n    And <n>\n      | <n> | é |\n    Examples:\n      | m | n |\n      |  | ü |\n# \u{1}\u{1F600}";
 
 const STEPLESS_PICKLE: &str =
     r#"{"pickle":{"astNodeIds":["3"],"id":"4","language":"en","name":"s","steps":[],"tags":[],"uri":"u"}}

@@ -1,9 +1,9 @@
-//! The parser beside the plain program.
-use gk_tree::{has_document, parse, place};
+//! The parser beside the plain program, and its faults beside what the lines of a text say.
+use gk_tree::{FaultKind, ParseFault, has_document, parse, place};
 use std::alloc::Global;
 use std::test::Fail;
 
-/// One line of each sort that a short text can tell apart.
+/// One line of each sort that a short text can tell apart. No line of these texts has an indent, so each fault stands in column 1.
 const LINES: [&str; 12] = [
     "Feature: f",
     "Rule: r",
@@ -35,25 +35,58 @@ const OTHER_LINES: [&str; 12] = [
     "Background:",
 ];
 
-/// The line of the parser's fault.
-fn fault_line(alloc: Global, text: &str) -> Option<usize> {
+/// The parser's fault.
+fn fault_of(alloc: Global, text: &str) -> Option<ParseFault> {
     match parse(alloc, text) {
         Ok(document) => {
             drop(document);
             None
         }
-        Err(fault) => Some(fault.line as usize),
+        Err(fault) => Some(fault),
     }
 }
 
-/// Whether the parser and the plain program say the same of the text: whether it has a document, and where its fault is.
+/// Why a line of these can't stand where it does, if the line before, comments and blank lines aside, is a row or is none.
+fn kind_of(line: &str, is_behind_row: bool) -> FaultKind {
+    match line {
+        "@a b" => FaultKind::TagSpace,
+        "# language: fr" => FaultKind::UnsupportedLanguage,
+        "| a |" | "| b | c |" if is_behind_row => FaultKind::CellCount,
+        _ => FaultKind::Unexpected,
+    }
+}
+
+/// The kind of a fault at a line, whose numbers count from 1. Behind the last line it is `UnexpectedEnd`.
+fn kind_at(text: &str, number: usize) -> FaultKind {
+    let mut is_behind_row = false;
+    for (at, line) in text.lines().enumerate() {
+        if number.checked_sub(1) == Some(at) {
+            return kind_of(line, is_behind_row);
+        }
+        if !line.is_empty() && !line.starts_with('#') {
+            is_behind_row = line.starts_with('|');
+        }
+    }
+    FaultKind::UnexpectedEnd
+}
+
+/// Whether a fault is the one that a text has at the line.
+fn is_fault_at(fault: ParseFault, text: &str, number: usize) -> bool {
+    fault.line as usize == number && fault.column == 1 && fault.kind == kind_at(text, number)
+}
+
+/// Whether the parser and the plain program say the same of the text: whether it has a document, and else where its fault is. Its kind
+/// and column are those that the lines of the text say.
 fn agree(alloc: Global, text: &str) -> Result<bool, Fail> {
     if text.len() > 1_000 {
         return Err(Fail::from("a long text"));
     }
-    let line = fault_line(alloc, text);
-    let same_document = has_document(alloc, text)? == line.is_none();
-    Ok(same_document && place(alloc, text)? == line)
+    let has_document = has_document(alloc, text)?;
+    match (fault_of(alloc, text), place(alloc, text)?) {
+        (None, None) => Ok(has_document),
+        (Some(fault), Some(number)) => Ok(!has_document && is_fault_at(fault, text, number)),
+        (None, Some(_)) | (Some(_), None) => Ok(false),
+    }
 }
 
 /// The lines behind the head whose numbers are the digits of the number in base 12, the lowest first.

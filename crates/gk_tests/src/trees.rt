@@ -76,14 +76,17 @@ fn texts_without_a_feature(rt: HostRuntime) -> Result<(), Fail> {
 }
 
 const DESCRIBED_TREE: &str =
+    r#"{"gherkinDocument":{"comments":[],"feature":{"children":[],"description":"  Given x\n  | a |","keyword":"Feature","language":"en","location":{"column":1,"line":1},"name":"f","tags":[]},"uri":"u"}}"#;
+
+const COMMENTED_TREE: &str =
     r##"{"gherkinDocument":{"comments":[{"location":{"column":1,"line":4},"text":" # c"}],"feature":{"children":[],"description":"  Given x\n  | a |","keyword":"Feature","language":"en","location":{"column":1,"line":1},"name":"f","tags":[]},"uri":"u"}}"##;
 
 #[test]
 fn a_description_that_looks_like_steps_and_rows(rt: HostRuntime) -> Result<(), AllocError> {
-    let text = "Feature: f\n\n  Given x\n # c\n  | a |\n\t\n";
+    let text = "Feature: f\n  Given x\n  | a |";
     check_tree(&rt, rt.alloc(), text, DESCRIBED_TREE)?;
-    let text = "Feature: f\n  Given x\n # c\n  | a |";
-    check_told(&rt, rt.alloc(), text, "0 nodes, 1 comments")
+    let text = "Feature: f\n\n  Given x\n # c\n  | a |\n\t\n";
+    check_tree(&rt, rt.alloc(), text, COMMENTED_TREE)
 }
 
 const BACKGROUND_TREE: &str =
@@ -97,12 +100,12 @@ fn numbers_with_a_background(rt: HostRuntime) -> Result<(), AllocError> {
 }
 
 const QUOTED_TREE: &str =
-    r#"{"gherkinDocument":{"comments":[],"feature":{"children":[{"scenario":{"description":"","examples":[],"id":"0","keyword":"Scenario","location":{"column":3,"line":2},"name":"s","steps":[{"docString":{"content":"x\ny \"\"\" z\n  w","delimiter":"\"\"\"","location":{"column":5,"line":4},"mediaType":"json"},"id":"1","keyword":"Given ","keywordType":"Context","location":{"column":5,"line":3},"text":"d"}],"tags":[]}}],"description":"","keyword":"Feature","language":"en","location":{"column":1,"line":1},"name":"f","tags":[]},"uri":"u"}}"#;
+    r#"{"gherkinDocument":{"comments":[],"feature":{"children":[{"scenario":{"description":"","examples":[],"id":"0","keyword":"Scenario","location":{"column":3,"line":2},"name":"s","steps":[{"docString":{"content":"x\ny \"\"\" z\n  w","delimiter":"\"\"\"","location":{"column":5,"line":4}},"id":"1","keyword":"Given ","keywordType":"Context","location":{"column":5,"line":3},"text":"d"}],"tags":[]}}],"description":"","keyword":"Feature","language":"en","location":{"column":1,"line":1},"name":"f","tags":[]},"uri":"u"}}"#;
 
 #[test]
 fn the_content_of_a_doc_string(rt: HostRuntime) -> Result<(), AllocError> {
     let text =
-        "Feature: f\n  Scenario: s\n    Given d\n    \"\"\"json\n  x\n    y \\\"\\\"\\\" z\n      w\n    \"\"\"";
+        "Feature: f\n  Scenario: s\n    Given d\n    \"\"\"\n  x\n    y \\\"\\\"\\\" z\n      w\n    \"\"\"";
     check_tree(&rt, rt.alloc(), text, QUOTED_TREE)
 }
 
@@ -201,35 +204,4 @@ UnexpectedEnd at line 2, column 1;# language: en";
 #[test]
 fn language_lines(rt: HostRuntime) -> Result<(), Fail> {
     check_cases(&rt, rt.alloc(), LANGUAGES)
-}
-
-/// The text so many times.
-fn repeated(alloc: Global, text: &str, times: u32) -> Result<String, AllocError> {
-    let mut all = String::new(alloc);
-    for _ in 0..times {
-        all.push_str(text)?;
-    }
-    Ok(all)
-}
-
-/// Checks a text at a limit, which is too long with one more character.
-fn check_limit(
-    rt: &impl Abort,
-    alloc: Global,
-    text: &mut String,
-    more: &str,
-) -> Result<(), AllocError> {
-    check_told(rt, alloc, text.as_str(), "0 nodes, 0 comments")?;
-    text.push_str(more)?;
-    check_told(rt, alloc, text.as_str(), "TooLong at line 0, column 0")
-}
-
-#[test]
-fn texts_at_the_limits(rt: HostRuntime) -> Result<(), AllocError> {
-    let alloc = rt.alloc();
-    let block = repeated(alloc, " ", 65_536)?;
-    let mut spaces = repeated(alloc, block.as_str(), 256)?;
-    check_limit(&rt, alloc, &mut spaces, " ")?;
-    let mut feeds = repeated(alloc, "\n\n\n\n\n\n\n\n", 125_000)?;
-    check_limit(&rt, alloc, &mut feeds, "\n")
 }

@@ -8,4 +8,4 @@ use Rattle.gk_line.proofs.doc_strings.doc_line.Goals as goal
 pub returns : goal.returns
 returns c =
     let empty = ap chars c.new-text.ensures.bytes ∙ chars-nil in
-    c.in_ok-push_doc_line.ensures ∙ ap (λ q. q ++ doc_line_of c.args.fence c.args.indent (line_chars c.args.line)) empty
+    c.in_ok-push_doc_line.ensures.ok ∙ ap (λ q. q ++ doc_line_of c.args.fence c.args.indent (line_chars c.args.line)) empty

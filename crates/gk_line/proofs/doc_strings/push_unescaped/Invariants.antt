@@ -1,8 +1,8 @@
-use Rattle.std.proofs.Common.{◌≡◌, ◌++◌, length}
+use Rattle.std.proofs.Common.{◌≡◌, ◌+◌, ◌++◌, ◌≤◌, length}
 use denote.Text.{Utf8}
 use denote.Shadow.{shadow}
 use Rattle.std.specs.Str.{chars}
-use Rattle.std.specs.String.{string_bytes}
+use Rattle.std.specs.String.{string_bytes, string_capacity, string_len}
 use Rattle.gk_line.specs.DocStrings.{fences_unescaped, fence_mark}
 use Rattle.gk_line.proofs.doc_strings.push_unescaped.Given as goal
 
@@ -14,3 +14,4 @@ invariant-loop-front l =
     shadow (Utf8 l.rest)
     × (chars (string_bytes l.value) ++ fences_unescaped (fence_mark l.fence) 0 (chars l.rest)
     ≡ chars (string_bytes l.fn.value) ++ fences_unescaped (fence_mark l.fence) 0 (chars l.text))
+    × (string_len l.value + length l.rest ≤ string_capacity l.value)

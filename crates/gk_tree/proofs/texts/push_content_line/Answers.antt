@@ -13,7 +13,7 @@ returns-then-is_first c =
     let line = doc_line_of c.args.fence c.args.indent (line_chars c.args.line.line) in
     on_ok_weaker c.push_doc_line.result
     (λ added. first_line c.args.is_first old new _ c.if-is_first.true (characters_added old new line (IsUtf8-string_bytes c.args.text.now) (IsUtf8-string_bytes c.push_doc_line.new.text) added))
-    c.push_doc_line.ensures
+    c.push_doc_line.ensures.ok
 
 pub returns : goal.returns
 unfolding lib.Utf8.encode
@@ -24,4 +24,4 @@ returns c =
     on_ok_weaker c.push_doc_line-2.result
     (λ added. next_line c.args.is_first (string_bytes c.args.text.now) mid new _ c.if-is_first.false c.in_ok-push.ensures.bytes
     (characters_added mid new line (IsUtf8-string_bytes c.push.new.self) (IsUtf8-string_bytes c.push_doc_line-2.new.text) added))
-    c.push_doc_line-2.ensures
+    c.push_doc_line-2.ensures.ok
