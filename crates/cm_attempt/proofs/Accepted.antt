@@ -1,10 +1,10 @@
 -- What holds of calls that were all accepted, and of the table that they left.
-use Rattle.std.proofs.Common.{◌≡◌, ℕ, suc, refl, sym, ap, ◌∙◌, subst, List, [], ◌∷◌, ◌++◌, Option, Some, None, true, false, Bool, not, length, map, append-nil, append_assoc}
+use Rattle.std.proofs.Common.{◌≡◌, ◌+◌, ℕ, suc, refl, sym, ap, ◌∙◌, subst, List, [], ◌∷◌, ◌++◌, Option, Some, None, true, false, Bool, not, length, map, append-nil, append_assoc}
 use Rattle.std.specs.Prelude.{find, is_some, unwrap_or, filter, option_and_then}
 use Rattle.std.specs.List.{list_any, list_all, AllByRecursion}
 use Rattle.std.specs.Str.{bytes_eq}
 use Rattle.std.proofs.lemmas.List.Sums.{length-filter}
-use Rattle.cm_attempt.specs.Table.{Text, AttemptRow, Table, empty_table, has_text, has_repeat, find_attempt, is_closed_to_new, status_of_last, reported_of}
+use Rattle.cm_attempt.specs.Table.{Text, AttemptRow, Table, table_from, finished_at, has_text, has_repeat, find_attempt, is_closed_to_new, status_of_last, reported_of}
 use Rattle.cm_attempt.specs.declared.rows.Last.{Last}
 use Rattle.cm_attempt.specs.declared.fault.TrackFault.{TrackFault}
 use Rattle.cm_attempt.specs.Calls.{Call, AddCase, Start, StartStep, FinishStep, Finish, refusal_of, after_call, unless_refused, left_by, table_after, StartedAttempt, starts, starts_of, steps_of_attempt, moves, whole, ends_of, is_ended, is_retried, last_of, final_status, result_of}
@@ -15,8 +15,8 @@ use Rattle.cm_attempt.proofs.Fits.{StartFits, start_fits}
 use Rattle.cm_attempt.proofs.Tracked.{AttemptIs, unstarted, begun, Begun, begun_of, Retried, Latest, none_yet, one_open, last_over, CaseIs, undeclared, known, Known, known_of, Tracked}
 use Rattle.cm_attempt.proofs.NextCall.{case_added, attempt_started, step_started, step_finished, attempt_finished}
 
-pub none_tracked : Tracked [] empty_table
-none_tracked = record {
+pub none_tracked : (first : ℕ) → Tracked [] (table_from first)
+none_tracked first = record {
   of_cases = λ case. undeclared refl (record { no_case = refl; no_start = refl });
   of_attempts = λ a. unstarted refl (record { start = refl; moves = refl; ends = refl; statuses = refl });
   case_ids = refl;
@@ -41,8 +41,8 @@ tracked_from xs (c ∷ cs) t u h e = go (refusal_of t c) refl e (tracked_from (x
     go None k l rec = subst (λ ys. Tracked ys u) (append_assoc xs (c ∷ []) cs) (rec (one_more xs t c h k) l)
     go (Some f) k l rec = cc
 
-pub tracked : (calls : List Call) (t : Table) → table_after calls ≡ Some t → Tracked calls t
-tracked calls t e = tracked_from [] calls empty_table t none_tracked e
+pub tracked : (first : ℕ) (calls : List Call) (t : Table) → table_after first calls ≡ Some t → Tracked calls t
+tracked first calls t e = tracked_from [] calls (table_from first) t (none_tracked first) e
 
 -- the first of the calls were accepted, and so were the others behind them
 pub cut_at : (xs ys : List Call) (t u : Table) → left_by t (xs ++ ys) ≡ Some u → (v : Table) × (left_by t xs ≡ Some v) × (left_by v ys ≡ Some u)
@@ -54,32 +54,59 @@ cut_at (c ∷ xs) ys t u e = go (refusal_of t c) refl e (cut_at xs ys (after_cal
     go None k l rec = let w = rec l in (w.0, rw k w.1, w.2)
     go (Some f) k l rec = cc
 
+-- ---- the number that attempts are counted from
+
+-- no call changes it
+pub first_stays : (t : Table) (c : Call) → (after_call t c).first ≡ t.first
+first_stays t (AddCase id steps) = refl
+first_stays t (Start id case number) = refl
+first_stays t (StartStep a step) = refl
+first_stays t (FinishStep a step status) = refl
+first_stays t (Finish a r) = go (find_attempt t a)
+  where
+    go : (o : Option AttemptRow) → (finished_at a r o t).first ≡ t.first
+    go None = refl
+    go (Some row) = refl
+
+first_left : (cs : List Call) (t u : Table) → left_by t cs ≡ Some u → u.first ≡ t.first
+first_left [] t u e = ap (λ o. (unwrap_or o t).first) (sym e)
+first_left (c ∷ cs) t u e = go (refusal_of t c) e (first_left cs (after_call t c) u)
+  where
+    go : (o : Option TrackFault) → unless_refused o (left_by (after_call t c) cs) ≡ Some u
+        → (left_by (after_call t c) cs ≡ Some u → u.first ≡ (after_call t c).first) → u.first ≡ t.first
+    go None l rec = rec l ∙ first_stays t c
+    go (Some f) l rec = cc
+
+pub first_is : (first : ℕ) (calls : List Call) (t : Table) → table_after first calls ≡ Some t → t.first ≡ first
+first_is first calls t e = first_left calls (table_from first) t e
+
 -- ---- each start
 
-record AtStart (before : List Call) (id case : Text) (number : ℕ) : Type 0 where
+record AtStart (first : ℕ) (before : List Call) (id case : Text) (number : ℕ) : Type 0 where
   table : Table
+  counts : table.first ≡ first
   so_far : Tracked before table
   fits : StartFits table id case number
 
-at_start : (calls : List Call) (t : Table) → table_after calls ≡ Some t → (before : List Call) (id case : Text) (number : ℕ) (after : List Call) → calls ≡ before ++ Start id case number ∷ after → AtStart before id case number
-at_start calls t e before id case number after cut =
-    let parts = cut_at before (Start id case number ∷ after) empty_table t (ap table_after (sym cut) ∙ e) in
-    record { table = parts.0; so_far = tracked before parts.0 parts.1; fits = start_fits parts.0 id case number (none (refusal_of parts.0 (Start id case number)) (left_by (after_call parts.0 (Start id case number)) after) parts.2) }
+at_start : (first : ℕ) (calls : List Call) (t : Table) → table_after first calls ≡ Some t → (before : List Call) (id case : Text) (number : ℕ) (after : List Call) → calls ≡ before ++ Start id case number ∷ after → AtStart first before id case number
+at_start first calls t e before id case number after cut =
+    let parts = cut_at before (Start id case number ∷ after) (table_from first) t (ap (table_after first) (sym cut) ∙ e) in
+    record { table = parts.0; counts = first_is first before parts.0 parts.1; so_far = tracked first before parts.0 parts.1; fits = start_fits parts.0 id case number (none (refusal_of parts.0 (Start id case number)) (left_by (after_call parts.0 (Start id case number)) after) parts.2) }
   where
     none : (o : Option TrackFault) (l : Option Table) → unless_refused o l ≡ Some t → o ≡ None
     none None l k = refl
     none (Some f) l k = cc
 
-known_at : (before : List Call) (id case : Text) (number : ℕ) → (s : AtStart before id case number) → Known before case s.fits.row
-known_at before id case number s = known_of before s.table case s.fits.row (s.so_far.of_cases case) s.fits.found
+known_at : (first : ℕ) (before : List Call) (id case : Text) (number : ℕ) → (s : AtStart first before id case number) → Known before case s.fits.row
+known_at first before id case number s = known_of before s.table case s.fits.row (s.so_far.of_cases case) s.fits.found
 
-pub cases_known : (calls : List Call) (t : Table) → table_after calls ≡ Some t → CasesKnown calls
-cases_known calls t e before id case number after cut = ap is_some (known_at before id case number (at_start calls t e before id case number after cut)).is_declared
+pub cases_known : (first : ℕ) (calls : List Call) (t : Table) → table_after first calls ≡ Some t → CasesKnown calls
+cases_known first calls t e before id case number after cut = ap is_some (known_at first before id case number (at_start first calls t e before id case number after cut)).is_declared
 
-pub are_numbered : (calls : List Call) (t : Table) → table_after calls ≡ Some t → AreNumbered calls
-are_numbered calls t e before id case number after cut =
-    let s = at_start calls t e before id case number after cut in
-    s.fits.count ∙ (known_at before id case number s).count
+pub are_numbered : (first : ℕ) (calls : List Call) (t : Table) → table_after first calls ≡ Some t → AreNumbered first calls
+are_numbered first calls t e before id case number after cut =
+    let s = at_start first calls t e before id case number after cut in
+    s.fits.count ∙ (λ i. s.counts i + (known_at first before id case number s).count i)
 
 all_retried : (calls : List Call) (ss : List StartedAttempt) → AllByRecursion (Retried calls) ss → list_all (λ s. is_retried s.id calls) ss ≡ true
 all_retried calls [] h = refl
@@ -107,10 +134,10 @@ none_open calls case ss l closed (one_open front s cut all st cs ends e) = let n
 none_open calls case ss l closed (last_over front s false cut all ends e) = let no : true ≡ false = ap is_closed_to_new (sym e) ∙ closed in cc
 none_open calls case ss l closed (last_over front s true cut all ends e) = ap (list_all (λ s. is_retried s.id calls)) cut ∙ all_then calls front s all ends
 
-pub none_overlaps : (calls : List Call) (t : Table) → table_after calls ≡ Some t → NoneOverlaps calls
-none_overlaps calls t e before id case number after cut =
-    let s = at_start calls t e before id case number after cut in
-    none_open before case (starts_of case before) s.fits.row.last s.fits.closed (known_at before id case number s).latest
+pub none_overlaps : (first : ℕ) (calls : List Call) (t : Table) → table_after first calls ≡ Some t → NoneOverlaps calls
+none_overlaps first calls t e before id case number after cut =
+    let s = at_start first calls t e before id case number after cut in
+    none_open before case (starts_of case before) s.fits.row.last s.fits.closed (known_at first before id case number s).latest
 
 -- ---- each attempt
 
@@ -126,8 +153,8 @@ front_of calls t h a (begun row f b) =
     let front = left_of b.its_case.steps (moves a calls) (ends_of a calls) row.cursor b.stands in
     (front.0, ap whole (its_steps calls t h a row b) ∙ front.1)
 
-pub steps_in_order : (calls : List Call) (t : Table) → table_after calls ≡ Some t → StepsInOrder calls
-steps_in_order calls t e a = let h = tracked calls t e in front_of calls t h a (h.of_attempts a)
+pub steps_in_order : (first : ℕ) (calls : List Call) (t : Table) → table_after first calls ≡ Some t → StepsInOrder calls
+steps_in_order first calls t e a = let h = tracked first calls t e in front_of calls t h a (h.of_attempts a)
 
 whole_of : (calls : List Call) (t : Table) → Tracked calls t → (a : Text) → AttemptIs calls t a → is_ended a calls ≡ true → (moves a calls ≡ whole (steps_of_attempt a calls)) × (length (ends_of a calls) ≡ 1)
 whole_of calls t h a (unstarted n u) ended = let no : is_ended a calls ≡ false = rw u.moves refl in cc
@@ -135,33 +162,33 @@ whole_of calls t h a (begun row f b) ended =
     let parts = whole_if_ended b.its_case.steps (moves a calls) (ends_of a calls) row.cursor b.stands ended in
     (parts.0 ∙ ap whole (sym (its_steps calls t h a row b)), parts.1)
 
-pub finished_are_whole : (calls : List Call) (t : Table) → table_after calls ≡ Some t → FinishedAreWhole calls
-finished_are_whole calls t e a = let h = tracked calls t e in whole_of calls t h a (h.of_attempts a)
+pub finished_are_whole : (first : ℕ) (calls : List Call) (t : Table) → table_after first calls ≡ Some t → FinishedAreWhole calls
+finished_are_whole first calls t e a = let h = tracked first calls t e in whole_of calls t h a (h.of_attempts a)
 
 -- ---- ids
 
-pub ids_distinct : (calls : List Call) (t : Table) → table_after calls ≡ Some t → IdsDistinct calls
-ids_distinct calls t e =
-    let h = tracked calls t e in
+pub ids_distinct : (first : ℕ) (calls : List Call) (t : Table) → table_after first calls ≡ Some t → IdsDistinct calls
+ids_distinct first calls t e =
+    let h = tracked first calls t e in
     record {
       of_cases = ap has_repeat (sym h.case_ids) ∙ h.cases_distinct;
       of_steps = h.steps_distinct;
       of_attempts = ap has_repeat (sym h.attempt_ids) ∙ h.attempts_distinct;
     }
 
-pub come_in_order : (calls : List Call) (t : Table) → table_after calls ≡ Some t → ComeInOrder calls
-come_in_order calls t e = record {
-  distinct = ids_distinct calls t e;
-  known = cases_known calls t e;
-  numbers = are_numbered calls t e;
-  overlap = none_overlaps calls t e;
-  steps = steps_in_order calls t e;
+pub come_in_order : (first : ℕ) (calls : List Call) (t : Table) → table_after first calls ≡ Some t → ComeInOrder first calls
+come_in_order first calls t e = record {
+  distinct = ids_distinct first calls t e;
+  known = cases_known first calls t e;
+  numbers = are_numbered first calls t e;
+  overlap = none_overlaps first calls t e;
+  steps = steps_in_order first calls t e;
 }
 
 -- ---- what is reported
 
-pub has_cases : (calls : List Call) (t : Table) → table_after calls ≡ Some t → HasCases calls t
-has_cases calls t e = (tracked calls t e).case_ids
+pub has_cases : (first : ℕ) (calls : List Call) (t : Table) → table_after first calls ≡ Some t → HasCases calls t
+has_cases first calls t e = (tracked first calls t e).case_ids
 
 last_push : {X : Type 0} (xs : List X) (x : X) → last_of (xs ++ x ∷ []) ≡ Some x
 last_push [] x = refl
@@ -178,8 +205,8 @@ reports_case : (calls : List Call) (t : Table) (case : Text) → CaseIs calls t 
 reports_case calls t case (undeclared n u) = rw (n, u.no_start) refl
 reports_case calls t case (known row f k) = rw f (final_in calls case (starts_of case calls) row.last k.latest)
 
-pub reports : (calls : List Call) (t : Table) → table_after calls ≡ Some t → Reports calls t
-reports calls t e case = reports_case calls t case ((tracked calls t e).of_cases case)
+pub reports : (first : ℕ) (calls : List Call) (t : Table) → table_after first calls ≡ Some t → Reports calls t
+reports first calls t e case = reports_case calls t case ((tracked first calls t e).of_cases case)
 
 -- ---- open attempts
 
@@ -215,9 +242,9 @@ open_row calls t h row f =
     let b = begun_of calls t row.id row (h.of_attempts row.id) f in
     open_is b.its_case.steps (moves row.id calls) (ends_of row.id calls) row.cursor b.stands
 
-pub counts_open : (calls : List Call) (t : Table) → table_after calls ≡ Some t → CountsOpen calls t
-counts_open calls t e =
-    let h = tracked calls t e in
+pub counts_open : (first : ℕ) (calls : List Call) (t : Table) → table_after first calls ≡ Some t → CountsOpen calls t
+counts_open first calls t e =
+    let h = tracked first calls t e in
     let rows : AllByRecursion (λ (r : AttemptRow). is_some r.cursor ≡ not (is_ended r.id calls)) t.attempts =
     all_weaker (λ (r : AttemptRow). find_attempt t r.id ≡ Some r) (λ (r : AttemptRow). is_some r.cursor ≡ not (is_ended r.id calls)) (open_row calls t h) t.attempts (found_self (λ (r : AttemptRow). r.id) t.attempts h.attempts_distinct) in
     sym (length-filter (λ (r : AttemptRow). is_some r.cursor) t.attempts)

@@ -1,5 +1,5 @@
 -- Calls that come as they must are accepted.
-use Rattle.std.proofs.Common.{◌≡◌, ℕ, refl, sym, ap, ◌∙◌, subst, ◌≢◌, List, [], ◌∷◌, ◌++◌, Option, Some, None, true, false, Bool, ◌||◌, ◌==◌, length, length-append, map, append_assoc, arith}
+use Rattle.std.proofs.Common.{◌≡◌, ◌+◌, ℕ, refl, sym, ap, ◌∙◌, subst, ◌≢◌, List, [], ◌∷◌, ◌++◌, Option, Some, None, true, false, Bool, ◌||◌, ◌==◌, length, length-append, map, append_assoc, arith}
 use Rattle.std.specs.Prelude.{find, is_some, slice_get, unwrap_or}
 use Rattle.std.specs.List.{list_any, list_all, AllByRecursion}
 use Rattle.std.specs.Option.{option_map_or}
@@ -7,7 +7,7 @@ use Rattle.std.specs.Str.{bytes_eq}
 use Rattle.std.proofs.lemmas.Bool.Decides.{nat_tests}
 use Rattle.std.proofs.lemmas.List.{append_cancel_left}
 use Rattle.std.proofs.lemmas.List.Folds.{list_any-append}
-use Rattle.cm_attempt.specs.Table.{Text, AttemptRow, Table, empty_table, has_text, has_repeat, find_attempt, steps_of, add_case_fault, start_fault, step_start_fault, step_finish_fault, step_fault_at, finish_fault, finish_fault_at, end_fault_of, may_start, may_finish, is_closed_to_new}
+use Rattle.cm_attempt.specs.Table.{Text, AttemptRow, Table, table_from, has_text, has_repeat, find_attempt, steps_of, add_case_fault, start_fault, step_start_fault, step_finish_fault, step_fault_at, finish_fault, finish_fault_at, end_fault_of, may_start, may_finish, is_closed_to_new}
 use Rattle.cm_attempt.specs.declared.rows.Cursor.{Cursor}
 use Rattle.cm_attempt.specs.declared.status.Status.{Status}
 use Rattle.cm_attempt.specs.declared.rows.Last.{Last}
@@ -17,7 +17,7 @@ use Rattle.cm_attempt.proofs.Growing.{bytes_same, by_id, or_false, at_end, kept_
 use Rattle.cm_attempt.proofs.Standing.{cursor_at, Stands, between, inside, over, rest_of, left_is}
 use Rattle.cm_attempt.proofs.Tracked.{AttemptIs, unstarted, begun, Begun, Latest, none_yet, one_open, last_over, CaseIs, undeclared, known, Tracked, start_still, declared_still}
 use Rattle.cm_attempt.proofs.NextCall.{steps_are}
-use Rattle.cm_attempt.proofs.Accepted.{none_tracked, one_more, last_all}
+use Rattle.cm_attempt.proofs.Accepted.{none_tracked, one_more, first_stays, last_all}
 
 -- ---- lists that are cut at an element
 
@@ -120,8 +120,8 @@ steps_still xs ys t h a row b = go (h.of_cases b.start.case_id)
         let same : other ≡ b.its_case = ap (λ o. unwrap_or o other) (sym f ∙ b.has_case) in
         rw (start_still a xs ys b.start b.is_start, declared_still b.start.case_id xs ys k.found k.is_declared) (sym k.steps ∙ ap (λ r. r.steps) same)
 
-goes_on : (xs : List Call) (c : Call) (cs : List Call) (t : Table) → Tracked xs t → ComeInOrder (xs ++ c ∷ cs) → (a : Text) (m : Move) → move_of a c ≡ Some m → 1 ≢ shape (m ∷ []) → GoesOn xs t a m
-goes_on xs c cs t h order a m moved later = go (h.of_attempts a)
+goes_on : (first : ℕ) (xs : List Call) (c : Call) (cs : List Call) (t : Table) → Tracked xs t → ComeInOrder first (xs ++ c ∷ cs) → (a : Text) (m : Move) → move_of a c ≡ Some m → 1 ≢ shape (m ∷ []) → GoesOn xs t a m
+goes_on first xs c cs t h order a m moved later = go (h.of_attempts a)
   where
     front : IsFront (moves a (xs ++ c ∷ cs)) (whole (steps_of_attempt a (xs ++ c ∷ cs)))
     front = order.steps a
@@ -153,8 +153,8 @@ no_step_fault t a step may row f k n = rw (f, k, n) refl
 
 -- ---- each call
 
-case_accepted : (xs : List Call) (id : Text) (steps : List Text) (cs : List Call) (t : Table) → Tracked xs t → ComeInOrder (xs ++ AddCase id steps ∷ cs) → add_case_fault t id steps ≡ None
-case_accepted xs id steps cs t h order = go (h.of_cases id)
+case_accepted : (first : ℕ) (xs : List Call) (id : Text) (steps : List Text) (cs : List Call) (t : Table) → Tracked xs t → ComeInOrder first (xs ++ AddCase id steps ∷ cs) → add_case_fault t id steps ≡ None
+case_accepted first xs id steps cs t h order = go (h.of_cases id)
   where
     d : DeclaredCase
     d = record { id = id; steps = steps }
@@ -172,8 +172,8 @@ case_accepted xs id steps cs t h order = go (h.of_cases id)
     go (undeclared n u) = rw (n, distinct) refl
     go (known row f k) = let no : None ≡ Some k.found = sym new ∙ k.is_declared in cc
 
-start_accepted : (xs : List Call) (id case : Text) (number : ℕ) (cs : List Call) (t : Table) → Tracked xs t → ComeInOrder (xs ++ Start id case number ∷ cs) → start_fault t id case number ≡ None
-start_accepted xs id case number cs t h order = go (h.of_cases case)
+start_accepted : (first : ℕ) (xs : List Call) (id case : Text) (number : ℕ) (cs : List Call) (t : Table) → t.first ≡ first → Tracked xs t → ComeInOrder first (xs ++ Start id case number ∷ cs) → start_fault t id case number ≡ None
+start_accepted first xs id case number cs t counts h order = go (h.of_cases case)
   where
     s : StartedAttempt
     s = record { id = id; case_id = case; number = number }
@@ -209,45 +209,45 @@ start_accepted xs id case number cs t h order = go (h.of_cases case)
         let no : is_some (declared case xs) ≡ false = ap is_some u.no_case in
         cc
     go (known row f k) =
-        let count : (number == row.attempts) ≡ true = same_number number row.attempts (order.numbers xs id case number cs refl ∙ sym k.count) in
+        let count : (number == t.first + row.attempts) ≡ true = same_number number (t.first + row.attempts) (order.numbers xs id case number cs refl ∙ (λ i. sym counts i + sym k.count i)) in
         let open_to_new : is_closed_to_new row.last ≡ false = not_closed row.last (starts_of case xs) (order.overlap xs id case number cs refl) k.latest in
         rw (f, unseen (h.of_attempts id), count, open_to_new) refl
 
-start_step_accepted : (xs : List Call) (a step : Text) (cs : List Call) (t : Table) → Tracked xs t → ComeInOrder (xs ++ StartStep a step ∷ cs) → step_start_fault t a step ≡ None
-start_step_accepted xs a step cs t h order =
-    let g = goes_on xs (StartStep a step) cs t h order a (StepStarted step) (rw (bytes_same a) refl) (λ e. omega (arith, e)) in
+start_step_accepted : (first : ℕ) (xs : List Call) (a step : Text) (cs : List Call) (t : Table) → Tracked xs t → ComeInOrder first (xs ++ StartStep a step ∷ cs) → step_start_fault t a step ≡ None
+start_step_accepted first xs a step cs t h order =
+    let g = goes_on first xs (StartStep a step) cs t h order a (StepStarted step) (rw (bytes_same a) refl) (λ e. omega (arith, e)) in
     let b = g.begins in
     let may = may_start_next b.its_case.steps (moves a xs) (ends_of a xs) g.row.cursor step g.zs b.stands g.next in
     let same = steps_are xs t a g.row b in
     no_step_fault t a step (may_start step) g.row g.found (ap (has_text step) same ∙ may.known_step) (ap (may_start step g.row.cursor) same ∙ may.next)
 
-finish_step_accepted : (xs : List Call) (a step : Text) (status : Status) (cs : List Call) (t : Table) → Tracked xs t → ComeInOrder (xs ++ FinishStep a step status ∷ cs) → step_finish_fault t a step ≡ None
-finish_step_accepted xs a step status cs t h order =
-    let g = goes_on xs (FinishStep a step status) cs t h order a (StepFinished step) (rw (bytes_same a) refl) (λ e. omega (arith, e)) in
+finish_step_accepted : (first : ℕ) (xs : List Call) (a step : Text) (status : Status) (cs : List Call) (t : Table) → Tracked xs t → ComeInOrder first (xs ++ FinishStep a step status ∷ cs) → step_finish_fault t a step ≡ None
+finish_step_accepted first xs a step status cs t h order =
+    let g = goes_on first xs (FinishStep a step status) cs t h order a (StepFinished step) (rw (bytes_same a) refl) (λ e. omega (arith, e)) in
     let b = g.begins in
     let may = may_finish_next b.its_case.steps (moves a xs) (ends_of a xs) g.row.cursor step g.zs b.stands g.next in
     let same = steps_are xs t a g.row b in
     no_step_fault t a step (may_finish step) g.row g.found (ap (has_text step) same ∙ may.known_step) (ap (may_finish step g.row.cursor) same ∙ may.next)
 
-end_accepted : (xs : List Call) (a : Text) (r : Bool) (cs : List Call) (t : Table) → Tracked xs t → ComeInOrder (xs ++ Finish a r ∷ cs) → finish_fault t a ≡ None
-end_accepted xs a r cs t h order =
-    let g = goes_on xs (Finish a r) cs t h order a Ended (rw (bytes_same a) refl) (λ e. omega (arith, e)) in
+end_accepted : (first : ℕ) (xs : List Call) (a : Text) (r : Bool) (cs : List Call) (t : Table) → Tracked xs t → ComeInOrder first (xs ++ Finish a r ∷ cs) → finish_fault t a ≡ None
+end_accepted first xs a r cs t h order =
+    let g = goes_on first xs (Finish a r) cs t h order a Ended (rw (bytes_same a) refl) (λ e. omega (arith, e)) in
     let b = g.begins in
     let fine = may_end_next b.its_case.steps (moves a xs) (ends_of a xs) g.row.cursor g.zs b.stands g.next in
     ap (finish_fault_at t) g.found ∙ ap (end_fault_of g.row.cursor) (steps_are xs t a g.row b) ∙ fine
 
-next_accepted : (xs : List Call) (c : Call) (cs : List Call) (t : Table) → Tracked xs t → ComeInOrder (xs ++ c ∷ cs) → refusal_of t c ≡ None
-next_accepted xs (AddCase id steps) cs t h order = case_accepted xs id steps cs t h order
-next_accepted xs (Start id case number) cs t h order = start_accepted xs id case number cs t h order
-next_accepted xs (StartStep a step) cs t h order = start_step_accepted xs a step cs t h order
-next_accepted xs (FinishStep a step status) cs t h order = finish_step_accepted xs a step status cs t h order
-next_accepted xs (Finish a r) cs t h order = end_accepted xs a r cs t h order
+next_accepted : (first : ℕ) (xs : List Call) (c : Call) (cs : List Call) (t : Table) → t.first ≡ first → Tracked xs t → ComeInOrder first (xs ++ c ∷ cs) → refusal_of t c ≡ None
+next_accepted first xs (AddCase id steps) cs t counts h order = case_accepted first xs id steps cs t h order
+next_accepted first xs (Start id case number) cs t counts h order = start_accepted first xs id case number cs t counts h order
+next_accepted first xs (StartStep a step) cs t counts h order = start_step_accepted first xs a step cs t h order
+next_accepted first xs (FinishStep a step status) cs t counts h order = finish_step_accepted first xs a step status cs t h order
+next_accepted first xs (Finish a r) cs t counts h order = end_accepted first xs a r cs t h order
 
-accepted_from : (xs cs : List Call) (t : Table) → Tracked xs t → ComeInOrder (xs ++ cs) → is_some (left_by t cs) ≡ true
-accepted_from xs [] t h order = refl
-accepted_from xs (c ∷ cs) t h order =
-    let fine = next_accepted xs c cs t h order in
-    rw fine (accepted_from (xs ++ c ∷ []) cs (after_call t c) (one_more xs t c h fine) (subst ComeInOrder (sym (append_assoc xs (c ∷ []) cs)) order))
+accepted_from : (first : ℕ) (xs cs : List Call) (t : Table) → t.first ≡ first → Tracked xs t → ComeInOrder first (xs ++ cs) → is_some (left_by t cs) ≡ true
+accepted_from first xs [] t counts h order = refl
+accepted_from first xs (c ∷ cs) t counts h order =
+    let fine = next_accepted first xs c cs t counts h order in
+    rw fine (accepted_from first (xs ++ c ∷ []) cs (after_call t c) (first_stays t c ∙ counts) (one_more xs t c h fine) (subst (ComeInOrder first) (sym (append_assoc xs (c ∷ []) cs)) order))
 
-pub are_accepted : (calls : List Call) → ComeInOrder calls → is_some (table_after calls) ≡ true
-are_accepted calls order = accepted_from [] calls empty_table none_tracked order
+pub are_accepted : (first : ℕ) (calls : List Call) → ComeInOrder first calls → is_some (table_after first calls) ≡ true
+are_accepted first calls order = accepted_from first [] calls (table_from first) refl (none_tracked first) order

@@ -1,5 +1,5 @@
 -- What a call finds in the table that doesn't refuse it.
-use Rattle.std.proofs.Common.{◌≡◌, ℕ, refl, List, Option, Some, None, true, false, Bool, not, ◌||◌, ◌==◌, arith}
+use Rattle.std.proofs.Common.{◌≡◌, ℕ, refl, List, Option, Some, None, true, false, Bool, not, ◌||◌, ◌==◌, ◌+◌, arith}
 use Rattle.std.specs.Prelude.{is_some, if◌then◌else◌}
 use Rattle.std.proofs.lemmas.Bool.Decides.{nat_tests}
 use Rattle.cm_attempt.specs.Table.{Text, CaseRow, AttemptRow, Table, has_text, has_repeat, find_case, find_attempt, steps_of, add_case_fault, start_fault, start_fault_at, is_closed_to_new, step_fault_at, step_fault_of, end_fault_of, finish_fault, finish_fault_at}
@@ -29,7 +29,7 @@ pub record StartFits (t : Table) (id case : Text) (number : ℕ) : Type 0 where
   pub row : CaseRow
   pub found : find_case t case ≡ Some row
   pub new : find_attempt t id ≡ None
-  pub count : number ≡ row.attempts
+  pub count : number ≡ t.first + row.attempts
   pub closed : is_closed_to_new row.last ≡ false
 
 three : (a b c : Bool) → (if a then Some fault.DuplicateId else (if not b then Some fault.AttemptNumber else (if c then Some fault.AttemptOverlap else None))) ≡ None → (a ≡ false) × (b ≡ true) × (c ≡ false)
@@ -47,12 +47,12 @@ start_fits t id case number h = go (find_case t case) refl h
     go : (o : Option CaseRow) → find_case t case ≡ o → start_fault_at t id number o ≡ None → StartFits t id case number
     go None e k = cc
     go (Some row) e k =
-        let parts = three (is_some (find_attempt t id)) (number == row.attempts) (is_closed_to_new row.last) k in
+        let parts = three (is_some (find_attempt t id)) (number == t.first + row.attempts) (is_closed_to_new row.last) k in
         record {
           row = row;
           found = e;
           new = is_none_of (find_attempt t id) parts.0;
-          count = same_number number row.attempts parts.1;
+          count = same_number number (t.first + row.attempts) parts.1;
           closed = parts.2;
         }
 

@@ -1,5 +1,5 @@
 -- A call is refused for what the calls before it tell.
-use Rattle.std.proofs.Common.{◌≡◌, ℕ, refl, sym, ap, ◌∙◌, List, [], ◌∷◌, ◌++◌, Option, Some, None, true, false, Bool, not, ◌||◌, ◌==◌, length, append-nil, arith}
+use Rattle.std.proofs.Common.{◌≡◌, ◌+◌, ℕ, refl, sym, ap, ◌∙◌, List, [], ◌∷◌, ◌++◌, Option, Some, None, true, false, Bool, not, ◌||◌, ◌==◌, length, append-nil, arith}
 use Rattle.std.specs.Prelude.{is_some, slice_get, if◌then◌else◌}
 use Rattle.std.specs.List.{list_any, list_all}
 use Rattle.std.specs.Option.{option_map_or}
@@ -16,7 +16,7 @@ use Rattle.cm_attempt.proofs.Growing.{at_end}
 use Rattle.cm_attempt.proofs.Standing.{Stands, between, inside, over, rest_of, left_is, some_left, open_is}
 use Rattle.cm_attempt.proofs.Tracked.{AttemptIs, unstarted, begun, Latest, none_yet, one_open, last_over, CaseIs, undeclared, known, Tracked}
 use Rattle.cm_attempt.proofs.NextCall.{steps_are}
-use Rattle.cm_attempt.proofs.Accepted.{tracked, its_steps, last_all, all_then}
+use Rattle.cm_attempt.proofs.Accepted.{tracked, first_is, its_steps, last_all, all_then}
 
 -- ---- a start
 
@@ -46,11 +46,11 @@ has_attempt : (calls : List Call) (t : Table) (a : Text) → AttemptIs calls t a
 has_attempt calls t a (unstarted n u) = rw (n, u.start) refl
 has_attempt calls t a (begun row f b) = rw (f, b.is_start) refl
 
-start_refused : (calls : List Call) (t : Table) → Tracked calls t → (id case : Text) (number : ℕ) → CaseIs calls t case → refusal_of t (Start id case number) ≡ fault_of calls (Start id case number)
-start_refused calls t h id case number (undeclared n u) = rw (n, u.no_case) refl
-start_refused calls t h id case number (known row f k) =
+start_refused : (first : ℕ) (calls : List Call) (t : Table) → t.first ≡ first → Tracked calls t → (id case : Text) (number : ℕ) → CaseIs calls t case → refusal_of t (Start id case number) ≡ fault_of first calls (Start id case number)
+start_refused first calls t counts h id case number (undeclared n u) = rw (n, u.no_case) refl
+start_refused first calls t counts h id case number (known row f k) =
     ap (start_fault_at t id number) f
-    ∙ (λ i. if has_attempt calls t id (h.of_attempts id) i then Some fault.DuplicateId else (if not (number == k.count i) then Some fault.AttemptNumber else (if closed_is calls case (starts_of case calls) row.last k.latest i then Some fault.AttemptOverlap else None)))
+    ∙ (λ i. if has_attempt calls t id (h.of_attempts id) i then Some fault.DuplicateId else (if not (number == counts i + k.count i) then Some fault.AttemptNumber else (if closed_is calls case (starts_of case calls) row.last k.latest i then Some fault.AttemptOverlap else None)))
     ∙ rw k.is_declared refl
 
 -- ---- a step and an end
@@ -103,9 +103,9 @@ not_twice : (b : Bool) → not (not b) ≡ b
 not_twice true = refl
 not_twice false = refl
 
-end_refused : (calls : List Call) (t : Table) → Tracked calls t → (a : Text) (r : Bool) → AttemptIs calls t a → refusal_of t (Finish a r) ≡ fault_of calls (Finish a r)
-end_refused calls t h a r (unstarted n u) = rw (n, u.start) refl
-end_refused calls t h a r (begun row f b) =
+end_refused : (first : ℕ) (calls : List Call) (t : Table) → Tracked calls t → (a : Text) (r : Bool) → AttemptIs calls t a → refusal_of t (Finish a r) ≡ fault_of first calls (Finish a r)
+end_refused first calls t h a r (unstarted n u) = rw (n, u.start) refl
+end_refused first calls t h a r (begun row f b) =
     let steps = its_steps calls t h a row b in
     let ended : not (is_some row.cursor) ≡ is_ended a calls = ap not (open_is b.its_case.steps (moves a calls) (ends_of a calls) row.cursor b.stands) ∙ not_twice (is_ended a calls) in
     let next = sym (next_is calls a b.its_case.steps (ends_of a calls) row.cursor Ended b.stands steps) in
@@ -115,11 +115,11 @@ end_refused calls t h a r (begun row f b) =
 -- ---- each call
 
 pub refused_for_fault : RefusedForFault
-refused_for_fault calls t e c = go c (tracked calls t e)
+refused_for_fault first calls t e c = go c (tracked first calls t e)
   where
-    go : (c : Call) → Tracked calls t → refusal_of t c ≡ fault_of calls c
+    go : (c : Call) → Tracked calls t → refusal_of t c ≡ fault_of first calls c
     go (AddCase id steps) h = ap (λ b. if b || has_repeat steps then Some fault.DuplicateId else None) (has_case calls t id (h.of_cases id))
-    go (Start id case number) h = start_refused calls t h id case number (h.of_cases case)
+    go (Start id case number) h = start_refused first calls t (first_is first calls t e) h id case number (h.of_cases case)
     go (StartStep a step) h = step_refused calls t h a step (StepStarted step) (may_start step) (λ steps ms rs o st. start_is steps ms rs o step st) (h.of_attempts a)
     go (FinishStep a step status) h = step_refused calls t h a step (StepFinished step) (may_finish step) (λ steps ms rs o st. finish_is steps ms rs o step st) (h.of_attempts a)
-    go (Finish a r) h = end_refused calls t h a r (h.of_attempts a)
+    go (Finish a r) h = end_refused first calls t h a r (h.of_attempts a)

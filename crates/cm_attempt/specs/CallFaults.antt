@@ -1,5 +1,5 @@
 -- Why a call behind accepted calls is refused, by what the calls before it tell.
-use Rattle.std.specs.Prelude.{◌≡◌, ◌==◌, Bool, true, false, not, ◌||◌, List, Option, Some, None, is_some, length, slice_get, if◌then◌else◌}
+use Rattle.std.specs.Prelude.{◌≡◌, ◌==◌, ◌+◌, ℕ, Bool, true, false, not, ◌||◌, List, Option, Some, None, is_some, length, slice_get, if◌then◌else◌}
 use Rattle.std.specs.List.{list_all}
 use Rattle.std.specs.Option.{option_map_or}
 use Rattle.std.specs.Str.{bytes_eq}
@@ -26,21 +26,22 @@ step_fault calls a step m =
     else (if not (has_text step (steps_of_attempt a calls)) then Some UnknownStep
     else (if is_next_move m a calls then None else Some StepOrder))
 
--- the first fault of a call behind these calls
-abbrev pub fault_of : List Call → Call → Option TrackFault
-fault_of calls (AddCase id steps) = if is_some (declared id calls) || has_repeat steps then Some DuplicateId else None
-fault_of calls (Start id case number) =
+-- the first fault of a call behind these calls, where attempts are counted from the first number
+abbrev pub fault_of : ℕ → List Call → Call → Option TrackFault
+fault_of first calls (AddCase id steps) = if is_some (declared id calls) || has_repeat steps then Some DuplicateId else None
+fault_of first calls (Start id case number) =
     if not (is_some (declared case calls)) then Some UnknownCase
     else (if is_some (start_of id calls) then Some DuplicateId
-    else (if not (number == length (starts_of case calls)) then Some AttemptNumber
+    else (if not (number == first + length (starts_of case calls)) then Some AttemptNumber
     else (if not (list_all (λ s. is_retried s.id calls) (starts_of case calls)) then Some AttemptOverlap else None)))
-fault_of calls (StartStep a step) = step_fault calls a step (StepStarted step)
-fault_of calls (FinishStep a step status) = step_fault calls a step (StepFinished step)
-fault_of calls (Finish a will_be_retried) =
+fault_of first calls (StartStep a step) = step_fault calls a step (StepStarted step)
+fault_of first calls (FinishStep a step status) = step_fault calls a step (StepFinished step)
+fault_of first calls (Finish a will_be_retried) =
     if not (is_some (start_of a calls)) then Some UnknownAttempt
     else (if is_ended a calls then Some StepOrder
     else (if is_next_move Ended a calls then None else Some FinishedEarly))
 
 -- behind accepted calls a call is refused for its first fault
 abbrev pub RefusedForFault : Type 0
-RefusedForFault = (calls : List Call) (t : Table) → table_after calls ≡ Some t → (c : Call) → refusal_of t c ≡ fault_of calls c
+RefusedForFault = (first : ℕ) (calls : List Call) (t : Table) → table_after first calls ≡ Some t
+    → (c : Call) → refusal_of t c ≡ fault_of first calls c

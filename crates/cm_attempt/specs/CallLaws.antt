@@ -1,5 +1,5 @@
 -- What the calls of a run tell where none is refused, for every interleaving of attempts, and what their table shows of it.
-use Rattle.std.specs.Prelude.{◌≡◌, ℕ, true, false, not, List, ◌∷◌, ◌++◌, map, length, Some, is_some, count_by}
+use Rattle.std.specs.Prelude.{◌≡◌, ◌+◌, ℕ, true, false, not, List, ◌∷◌, ◌++◌, map, length, Some, is_some, count_by}
 use Rattle.std.specs.List.{list_all, AllByRecursion}
 use Rattle.cm_attempt.specs.Table.{Text, Table, has_repeat, open_count, reported_of}
 use Rattle.cm_attempt.specs.Calls.{Call, Start, table_after, cases, starts, declared, starts_of, steps_of_attempt, moves, whole, ends_of, is_ended, is_retried, result_of}
@@ -16,9 +16,9 @@ AtEachStart P calls = (before : List Call) (id case : Text) (number : ℕ) (afte
 abbrev pub CasesKnown : List Call → Type 0
 CasesKnown = AtEachStart (λ before id case number. is_some (declared case before) ≡ true)
 
--- the attempts of a case are numbered 0, 1, .. in order of start
-abbrev pub AreNumbered : List Call → Type 0
-AreNumbered = AtEachStart (λ before id case number. number ≡ length (starts_of case before))
+-- the attempts of a case are numbered from the first number on, in order of start
+abbrev pub AreNumbered : ℕ → List Call → Type 0
+AreNumbered first = AtEachStart (λ before id case number. number ≡ first + length (starts_of case before))
 
 -- each attempt of a case but the last is finished and will be retried before the next starts
 abbrev pub NoneOverlaps : List Call → Type 0
@@ -39,23 +39,27 @@ pub record IdsDistinct (calls : List Call) : Type 0 where
   pub of_steps : AllByRecursion (λ c. has_repeat c.steps ≡ false) (cases calls)
   pub of_attempts : has_repeat (map (λ s. s.id) (starts calls)) ≡ false
 
--- the calls come as they must
-pub record ComeInOrder (calls : List Call) : Type 0 where
+-- the calls come as they must, where attempts are counted from the first number
+pub record ComeInOrder (first : ℕ) (calls : List Call) : Type 0 where
   pub distinct : IdsDistinct calls
   pub known : CasesKnown calls
-  pub numbers : AreNumbered calls
+  pub numbers : AreNumbered first calls
   pub overlap : NoneOverlaps calls
   pub steps : StepsInOrder calls
 
 -- ---- the laws
 
--- what holds of the calls of each run without a refusal
+-- what holds of the calls of each run without a refusal, by the number that attempts are counted from
+abbrev pub WhereAcceptedFrom : (ℕ → List Call → Type 0) → Type 0
+WhereAcceptedFrom P = (first : ℕ) (calls : List Call) (t : Table) → table_after first calls ≡ Some t → P first calls
+
+-- what holds of them from whatever number attempts are counted
 abbrev pub WhereAccepted : (List Call → Type 0) → Type 0
-WhereAccepted P = (calls : List Call) (t : Table) → table_after calls ≡ Some t → P calls
+WhereAccepted P = WhereAcceptedFrom (λ first calls. P calls)
 
 -- what holds of them and their table
 abbrev pub OfTheirTable : (List Call → Table → Type 0) → Type 0
-OfTheirTable P = (calls : List Call) (t : Table) → table_after calls ≡ Some t → P calls t
+OfTheirTable P = (first : ℕ) (calls : List Call) (t : Table) → table_after first calls ≡ Some t → P calls t
 
 -- the table has the declared cases in order
 abbrev pub HasCases : List Call → Table → Type 0
@@ -71,7 +75,7 @@ CountsOpen calls t = open_count t ≡ count_by (λ s. not (is_ended s.id calls))
 
 -- calls are accepted exactly where they come as they must
 abbrev pub AcceptedComeInOrder : Type 0
-AcceptedComeInOrder = WhereAccepted ComeInOrder
+AcceptedComeInOrder = WhereAcceptedFrom ComeInOrder
 
 abbrev pub InOrderAreAccepted : Type 0
-InOrderAreAccepted = (calls : List Call) → ComeInOrder calls → is_some (table_after calls) ≡ true
+InOrderAreAccepted = (first : ℕ) (calls : List Call) → ComeInOrder first calls → is_some (table_after first calls) ≡ true

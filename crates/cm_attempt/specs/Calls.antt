@@ -5,7 +5,7 @@ use Rattle.std.specs.Prelude.{ℕ, Bool, true, false, not, List, [], ◌∷◌, 
 use Rattle.std.specs.List.{list_any, filter, filter_map, flat_map}
 use Rattle.std.specs.Option.{option_map_or, option_and_then}
 use Rattle.std.specs.Str.{bytes_eq}
-use Rattle.cm_attempt.specs.Table.{Text, Table, empty_table, add_case_fault, start_fault, step_start_fault, step_finish_fault, finish_fault}
+use Rattle.cm_attempt.specs.Table.{Text, Table, table_from, add_case_fault, start_fault, step_start_fault, step_finish_fault, finish_fault}
 use Rattle.cm_attempt.specs.Table.{with_case, started, change_attempt, running, step_done, finished}
 use Rattle.cm_attempt.specs.Worst.{worst_of}
 use Rattle.cm_attempt.specs.declared.status.Status.{Status}
@@ -43,9 +43,9 @@ abbrev pub left_by : Table → List Call → Option Table
 left_by t [] = Some t
 left_by t (c ∷ calls) = unless_refused (refusal_of t c) (left_by (after_call t c) calls)
 
--- the table after the calls of a run, and none where one of them is refused
-abbrev pub table_after : List Call → Option Table
-table_after calls = left_by empty_table calls
+-- the table after the calls of a run whose attempts are counted from a number, and none where one of them is refused
+abbrev pub table_after : ℕ → List Call → Option Table
+table_after first calls = left_by (table_from first) calls
 
 -- ---- the cases, and the attempts in order of start
 

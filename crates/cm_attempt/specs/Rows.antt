@@ -1,5 +1,5 @@
 -- The rows of the table that the entries of the maps stand for.
-use Rattle.std.specs.Prelude.{List, String, map}
+use Rattle.std.specs.Prelude.{ℕ, List, String, map}
 use Rattle.std.specs.String.{string_bytes}
 use Rattle.std.specs.declared.alloc.Global.{Global}
 use Rattle.cm_attempt.specs.Table.{CaseRow, AttemptRow, Table, Text}
@@ -28,8 +28,10 @@ case_rows = map (λ e. case_row (string_bytes e.0) e.1)
 abbrev pub attempt_rows : List (String Global × Attempt) → List AttemptRow
 attempt_rows = map (λ e. attempt_row (string_bytes e.0) e.1)
 
-abbrev pub table_of : List (String Global × Case) → List (String Global × Attempt) → Table
-table_of cases attempts = record {
+-- the first attempt of each case has the first number
+abbrev pub table_of : ℕ → List (String Global × Case) → List (String Global × Attempt) → Table
+table_of first cases attempts = record {
+  first = first;
   cases = case_rows cases;
   attempts = attempt_rows attempts;
 }

@@ -32,12 +32,18 @@ pub record AttemptRow : Type 0 where
   pub cursor : Option Cursor
   pub worst : Option Status
 
+-- the cases, the attempts in order of start, and the number of each case's first attempt
 pub record Table : Type 0 where
+  pub first : ℕ
   pub cases : List CaseRow
   pub attempts : List AttemptRow
 
+-- no case yet, and attempts that are counted from a number
+abbrev pub table_from : ℕ → Table
+table_from first = record { first = first; cases = []; attempts = [] }
+
 abbrev pub empty_table : Table
-empty_table = record { cases = []; attempts = [] }
+empty_table = table_from 0
 
 -- ---- look-ups
 
@@ -102,7 +108,7 @@ abbrev pub start_fault_at : Table → Text → ℕ → Option CaseRow → Option
 start_fault_at t id number None = Some fault.UnknownCase
 start_fault_at t id number (Some c) =
     if is_some (find_attempt t id) then Some fault.DuplicateId
-    else (if not (number == c.attempts) then Some fault.AttemptNumber
+    else (if not (number == t.first + c.attempts) then Some fault.AttemptNumber
     else (if is_closed_to_new c.last then Some fault.AttemptOverlap else None))
 
 abbrev pub start_fault : Table → Text → Text → ℕ → Option TrackFault

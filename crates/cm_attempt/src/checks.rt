@@ -76,14 +76,16 @@ fn check_step(is_known: bool, is_in_order: bool) -> Result<(), TrackFault>
     }
 }
 
+/// Whether the attempt may start. The first attempt of each case has the number `first`.
 pub(crate) fn check_new(
     cases: &Cases,
     attempts: &Attempts,
+    first: u64,
     id: &str,
     case: &str,
     number: u64,
 ) -> Result<(), TrackFault>
-    ensures { MatchOption (start_fault (table_of cases.now.entries attempts.now.entries) id.now case.now number)
+    ensures { MatchOption (start_fault (table_of first cases.now.entries attempts.now.entries) id.now case.now number)
         (result ≡ Ok tt) (λ fault. result ≡ Err fault) }
 {
     let Some(found) = find_case(cases, case) else {
@@ -92,7 +94,7 @@ pub(crate) fn check_new(
     if find_attempt(attempts, id).is_some() {
         return Err(TrackFault::DuplicateId);
     }
-    if number != found.attempts {
+    if number.checked_sub(first) != Some(found.attempts) {
         return Err(TrackFault::AttemptNumber);
     }
     if is_closed_to_new(found.last) {
@@ -108,7 +110,7 @@ pub(crate) fn check_start(
     id: &str,
     step: &str,
 ) -> Result<(), TrackFault>
-    ensures { MatchOption (step_start_fault (table_of cases.now.entries attempts.now.entries) id.now step.now)
+    ensures { MatchOption (step_start_fault (table_of 0 cases.now.entries attempts.now.entries) id.now step.now)
         (result ≡ Ok tt) (λ fault. result ≡ Err fault) }
 {
     let Some(attempt) = find_attempt(attempts, id) else {
@@ -146,10 +148,10 @@ pub(crate) fn check_finish(
     id: &str,
     step: &str,
 ) -> Result<Cursor, TrackFault>
-    ensures answer { MatchOption (step_finish_fault (table_of cases.now.entries attempts.now.entries) id.now step.now)
+    ensures answer { MatchOption (step_finish_fault (table_of 0 cases.now.entries attempts.now.entries) id.now step.now)
         (IsOk result) (λ fault. result ≡ Err fault) }
     ensures next { IfOk result (λ next. IfSome
-        (row_of (table_of cases.now.entries attempts.now.entries) id.now)
+        (row_of (table_of 0 cases.now.entries attempts.now.entries) id.now)
         (λ a. option_map after_step a.cursor ≡ Some next)) }
 {
     let Some(attempt) = find_attempt(attempts, id) else {
@@ -162,7 +164,7 @@ pub(crate) fn check_finish(
 
 /// Whether the attempt may end.
 pub(crate) fn check_end(cases: &Cases, attempt: &Attempt) -> Result<(), TrackFault>
-    ensures { MatchOption (finish_fault_at (table_of cases.now.entries []) (Some (attempt_row [] attempt.now)))
+    ensures { MatchOption (finish_fault_at (table_of 0 cases.now.entries []) (Some (attempt_row [] attempt.now)))
         (result ≡ Ok tt) (λ fault. result ≡ Err fault) }
 {
     let Some(cursor) = attempt.cursor else {

@@ -12,7 +12,7 @@ pub enum TrackFault {
     UnknownCase,
     #[error("no attempt has the id")]
     UnknownAttempt,
-    #[error("the attempt's number is not the number of attempts of its case so far")]
+    #[error("the attempt's number is not that of its case's next attempt")]
     AttemptNumber,
     #[error("an attempt of the case is open, or its last one is not retried")]
     AttemptOverlap,

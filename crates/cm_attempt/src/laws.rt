@@ -1,11 +1,11 @@
 //! Laws of the calls of a run, for every interleaving of attempts.
 ghost use Rattle.cm_attempt.specs.CallFaults.{RefusedForFault};
 ghost use Rattle.cm_attempt.specs.CallLaws.{AcceptedComeInOrder, AreNumbered, CountsOpen, FinishedAreWhole, HasCases, IdsDistinct};
-ghost use Rattle.cm_attempt.specs.CallLaws.{InOrderAreAccepted, NoneOverlaps, OfTheirTable, Reports, StepsInOrder, WhereAccepted};
+ghost use Rattle.cm_attempt.specs.CallLaws.{InOrderAreAccepted, NoneOverlaps, OfTheirTable, Reports, StepsInOrder, WhereAccepted, WhereAcceptedFrom};
 
-/// The attempts of a case are numbered 0, 1, .. in order of start.
+/// The attempts of a case are numbered from the first number on, in order of start.
 pub fn attempts_are_numbered()
-    ensures { WhereAccepted AreNumbered }
+    ensures { WhereAcceptedFrom AreNumbered }
 {}
 
 /// Each attempt of a case but the last is finished and will be retried before the next starts.

@@ -7,6 +7,7 @@ mod fault;
 mod laws;
 mod policy;
 mod rows;
+mod settings;
 mod status;
 #[cfg(test)]
 mod tests;
@@ -19,5 +20,6 @@ pub use laws::{
     open_attempts_are_counted, steps_come_in_order,
 };
 pub use policy::Policy;
+pub use settings::Settings;
 pub use status::{Status, worst, worst_with};
 pub use track::Track;

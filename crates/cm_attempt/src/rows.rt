@@ -84,7 +84,7 @@ fn contains(steps: &Steps, step: &str) -> bool
 
 /// Whether the case has the step.
 pub(crate) fn case_has_step(cases: &Cases, id: &str, step: &str) -> bool
-    ensures { result ≡ has_text step.now (steps_in (table_of cases.now.entries []) id.now) }
+    ensures { result ≡ has_text step.now (steps_in (table_of 0 cases.now.entries []) id.now) }
 {
     match find_case(cases, id) {
         Some(case) => contains(&case.steps, step),
@@ -143,7 +143,7 @@ pub(crate) fn count_open(attempts: &Attempts) -> u64
 
 /// Whether there is such an attempt and its case has the step.
 pub(crate) fn attempt_has_step(cases: &Cases, attempts: &Attempts, id: &str, step: &str) -> bool
-    ensures { result ≡ has_step (table_of cases.now.entries attempts.now.entries) id.now step.now }
+    ensures { result ≡ has_step (table_of 0 cases.now.entries attempts.now.entries) id.now step.now }
 {
     match find_attempt(attempts, id) {
         Some(attempt) => case_has_step(cases, attempt.case_id.as_str(), step),

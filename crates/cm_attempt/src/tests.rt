@@ -1,4 +1,4 @@
-use crate::{Policy, Status, Track, TrackFault, worst};
+use crate::{Policy, Settings, Status, Track, TrackFault, worst};
 use std::alloc::{AllocError, Global};
 use std::process::Abort;
 use std::test::Fail;
@@ -216,6 +216,62 @@ fn attempts_of_two_cases_interleave(rt: HostRuntime) {
     assert!(rt; reported(&track, "c") == "none");
     assert!(rt; track.open_attempts() == 1);
     drop(track);
+}
+
+const FROM_ONE: &str = "ok case c s
+AttemptNumber start a c 0
+AttemptNumber start a c 2
+ok start a c 1
+ok step a s
+ok stepped a s Failed
+ok retried a
+AttemptNumber start b c 1
+ok start b c 2
+ok step b s
+ok stepped b s Passed
+ok final b
+ok case d
+AttemptNumber start e d 0
+ok start e d 1
+ok final e";
+
+#[test]
+fn attempts_are_counted_from_one(rt: HostRuntime) {
+    let alloc = rt.alloc();
+    let mut track = Track::counting_from(alloc, 1);
+    expect_answers(&rt, &mut track, alloc, FROM_ONE);
+    assert!(rt; reported(&track, "c") == "Passed");
+    assert!(rt; track.all_good());
+    drop(track);
+}
+
+// Behind the greatest number no other attempt of the case can come.
+const FROM_THE_GREATEST: &str = "ok case c
+AttemptNumber start a c 0
+AttemptNumber start a c 18446744073709551614
+ok start a c 18446744073709551615
+ok retried a
+AttemptNumber start b c 0
+AttemptNumber start b c 18446744073709551615
+ok case d
+ok start e d 18446744073709551615";
+
+#[test]
+fn attempts_are_counted_from_the_greatest_number(rt: HostRuntime) {
+    let alloc = rt.alloc();
+    let mut track = Track::counting_from(alloc, u64::MAX);
+    expect_answers(&rt, &mut track, alloc, FROM_THE_GREATEST);
+    assert!(rt; track.open_attempts() == 1);
+    drop(track);
+}
+
+#[test]
+fn settings_of_a_policy_count_from_zero(rt: HostRuntime) {
+    for policy in [Policy::Strict, Policy::PendingPasses] {
+        let settings = Settings::from(policy);
+        assert!(rt; settings.policy == policy);
+        assert!(rt; settings.first_attempt == 0);
+    }
 }
 
 const PENDING: &str = "ok case c s

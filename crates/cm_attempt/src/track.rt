@@ -2,7 +2,7 @@
 ghost use Rattle.std.specs.Prelude.{◌≡◌, ◌+◌, ◌⊎◌, IfSome, IsErrAnd, IsOk, IsOkUnless, MatchOption, OnErr, OnOk, is_some, map};
 ghost use Rattle.std.specs.List.{list_all};
 ghost use Rattle.std.specs.String.{string_bytes};
-ghost use Rattle.cm_attempt.specs.Table.{HasDistinctIds, add_case_fault, change_attempt, empty_table};
+ghost use Rattle.cm_attempt.specs.Table.{HasDistinctIds, add_case_fault, change_attempt, empty_table, table_from};
 ghost use Rattle.cm_attempt.specs.Table.{find_attempt as row_of, find_case as case_of};
 ghost use Rattle.cm_attempt.specs.Table.{finish_fault, finished, has_step, is_good_case, open_count};
 ghost use Rattle.cm_attempt.specs.Table.{reported_of, running, start_fault, started, step_done};
@@ -29,6 +29,7 @@ use std::marker::Model;
 /// it as it was.
 #[derive(Drop)]
 pub struct Track {
+    first: u64,
     cases: Cases,
     attempts: Attempts,
     alloc: Global,
@@ -43,18 +44,27 @@ impl Model for Track {
 
     ghost use Rattle.cm_attempt.specs.Rows.{table_of};
 
-    ghost view = { λ t. table_of t.cases.entries t.attempts.entries };
+    ghost view = { λ t. table_of t.first t.cases.entries t.attempts.entries };
 
     ghost invariant = { λ t. All (λ c. c.attempts ≤ index_map_len t.attempts) (values t.cases)
-        × HasDistinctIds (table_of t.cases.entries t.attempts.entries) };
+        × HasDistinctIds (table_of t.first t.cases.entries t.attempts.entries) };
 }
 
 impl Track {
-    /// A track with no case. It takes no memory.
+    /// A track with no case, which counts the attempts of a case from 0. It takes no memory.
     pub fn new(alloc: Global) -> Track
         ensures { result ≡ empty_table }
     {
+        Track::counting_from(alloc, 0)
+    }
+
+    /// A track with no case. The first attempt of each case has the number `first`, and the next ones
+    /// the numbers after it. It takes no memory.
+    pub fn counting_from(alloc: Global, first: u64) -> Track
+        ensures { result ≡ table_from first }
+    {
         Track {
+            first,
             cases: IndexMap::new(alloc),
             attempts: IndexMap::new(alloc),
             alloc,
@@ -88,11 +98,11 @@ impl Track {
         Ok(())
     }
 
-    /// Starts an attempt of a case, with its number: 0 for the first.
+    /// Starts an attempt of a case, with its number: for the first, that from which the track counts.
     ///
     /// # Errors
     /// In this order: `UnknownCase`; `DuplicateId` where the id is that of an attempt;
-    /// `AttemptNumber` where the number is not that of the case's attempts so far;
+    /// `AttemptNumber` where the number is not that of the case's next attempt;
     /// `AttemptOverlap` where an attempt of the case is open or its last one is not retried;
     /// `Memory` where a growth is refused.
     pub fn start(&mut self, id: &str, case: &str, attempt: u64) -> Result<(), TrackFault>
@@ -103,7 +113,7 @@ impl Track {
         ensures opens { OnOk result (open_count self.new ≡ open_count self.old + 1) }
         ensures open_count_err { OnErr result (open_count self.new ≡ open_count self.old) }
     {
-        check_new(&self.cases, &self.attempts, id, case, attempt)?;
+        check_new(&self.cases, &self.attempts, self.first, id, case, attempt)?;
         add_attempt(&mut self.attempts, self.alloc, id, case)?;
         let most = self.attempts.len() as u64;
         open_case(&mut self.cases, case, most);

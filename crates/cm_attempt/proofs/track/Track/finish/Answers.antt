@@ -9,7 +9,7 @@ use Rattle.cm_attempt.proofs.track.Track.finish.Goals as goal
 pub returns-clause-closes : goal.returns-clause-closes
 returns-clause-closes c =
     let row = attempt_row c.args.attempt.now c.in-Some.found.now in
-    let live : is_open row ≡ true = open_before_end (table_of c.self.inside.cases.entries []) row c.check_end.result (search rules) (search rules) in
+    let live : is_open row ≡ true = open_before_end (table_of 0 c.self.inside.cases.entries []) row c.check_end.result (search rules) (search rules) in
     rw (← c.self.view_is, c.set_ended.ensures.rows)
     (count_ended (λ r. bytes_eq c.args.attempt.now r.id) row _ (search rules) live)
 
