@@ -6,7 +6,7 @@ use Rattle.std.proofs.lemmas.List.Sums.{length-filter}
 use Rattle.gk_document.specs.declared.tree.Document.{Document}
 use Rattle.gk_pickle.specs.declared.pickle.Pickle.{Pickle}
 use Rattle.gk_pickle.specs.Pickles.{pickles as compiled}
-use Rattle.cm_attempt.specs.declared.policy.Policy.{Policy}
+use Rattle.cm_attempt.specs.declared.settings.Settings.{Settings}
 use Rattle.cm_stream.specs.Good.{Good}
 use Rattle.cm_stream.specs.Stream.{fed, IsRead, IsGoodStream, envelopes, counts_of, unrun}
 use Rattle.cm_stream.specs.Words.{sources, pickles, cases, starts, as_source, as_case, as_start}
@@ -50,17 +50,17 @@ counts_are uri text d =
 
 -- ---- the stream
 
-pub good_if_plain : (policy : Policy) (uri text : List ℕ) (d : Document) → IsReadable d → Known uri text d → ArePlain uri text d → (fed (stream_of uri text d)).trouble ≡ None → IsGoodStream policy (stream_of uri text d) (counts_for d)
-good_if_plain policy uri text d readable k plain fits =
+pub good_if_plain : (settings : Settings) (uri text : List ℕ) (d : Document) → IsReadable d → Known uri text d → ArePlain uri text d → (fed (stream_of uri text d)).trouble ≡ None → IsGoodStream settings (stream_of uri text d) (counts_for d)
+good_if_plain settings uri text d readable k plain fits =
     let es = expected uri text d in
     let joined = texts_joined uri text d in
     let read : IsRead (concat (all_texts uri text d)) (with_numbers 1 es) =
     they_are_read (all_texts uri text d) es (all_lines uri text d readable plain) (ap (λ (bytes : List ℕ). (fed bytes).trouble) joined ∙ fits) in
-    let good : Good policy es = faultless_are_good policy es (none_faulty policy uri text d k) in
+    let good : Good settings es = faultless_are_good settings es (none_faulty settings uri text d k) in
     let same : envelopes (with_numbers 1 es) ≡ es = numbers_off 1 es in
     record {
       lines = with_numbers 1 es;
       read = subst (λ bytes. IsRead bytes (with_numbers 1 es)) joined read;
-      good = subst (Good policy) (sym same) good;
+      good = subst (Good settings) (sym same) good;
       exact = counts_are uri text d ∙ ap counts_of (sym same);
     }

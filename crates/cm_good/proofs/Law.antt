@@ -52,4 +52,4 @@ plain uri text d v u is short =
     }
 
 pub compiled_are_good : CompiledAreGood
-compiled_are_good policy uri text d v u is short fits = good_if_plain policy uri text d (parsed_are_readable text d is short) (known uri text d u is short) (plain uri text d v u is short) fits
+compiled_are_good settings uri text d v u is short fits = good_if_plain settings uri text d (parsed_are_readable text d is short) (known uri text d u is short) (plain uri text d v u is short) fits

@@ -19,7 +19,7 @@ use Rattle.cm_stream.specs.OnePass.{reads}
 use Rattle.cm_stream.specs.Readings.{Accepted, IsReading}
 use Rattle.cm_stream.specs.Stream.{fed, IsGoodStream}
 use Rattle.cm_stream.proofs.OnePass.{is_read}
-use Rattle.cm_stream.proofs.Streaming.{one_step, document_in}
+use Rattle.cm_stream.proofs.Streaming.{by, one_step, document_in}
 use Rattle.cm_good.specs.Law.{stream_of, counts_for}
 use Rattle.cm_good.proofs.Law.{compiled_are_good}
 
@@ -38,8 +38,8 @@ one_pickle : counts_for the_document ≡ record { sources = 1; pickles = 1; case
 unfolding reads lines_read lines_of numbered_lines without_mark chars after body_of first_some trimmed begins_by fence_of indent_of is_blank_line language_of step_of title_of token_of encode pickles
 one_pickle = refl
 
-pub one_is_good : IsGoodStream Strict (stream_of (codes "a") one_step the_document) (record { sources = 1; pickles = 1; cases = 0; attempts = 0; unrun = 1 })
+pub one_is_good : IsGoodStream (by Strict 0) (stream_of (codes "a") one_step the_document) (record { sources = 1; pickles = 1; cases = 0; attempts = 0; unrun = 1 })
 one_is_good =
     let reading : IsReading one_step (Accepted the_document) = subst (IsReading one_step) accepted (is_read one_step) in
-    subst (IsGoodStream Strict (stream_of (codes "a") one_step the_document)) one_pickle
-    (compiled_are_good Strict (codes "a") one_step the_document (IsUtf8-are_ascii _ refl) (IsUtf8-are_ascii _ refl) reading.1 reading.0 fits)
+    subst (IsGoodStream (by Strict 0) (stream_of (codes "a") one_step the_document)) one_pickle
+    (compiled_are_good (by Strict 0) (codes "a") one_step the_document (IsUtf8-are_ascii _ refl) (IsUtf8-are_ascii _ refl) reading.1 reading.0 fits)

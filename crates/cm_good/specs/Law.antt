@@ -5,7 +5,7 @@ use Rattle.std.specs.Str.{IsUtf8}
 use Rattle.gk_document.specs.declared.tree.Document.{Document}
 use Rattle.gk_grammar.specs.Documents.{IsDocumentOf, IsTooLong}
 use Rattle.gk_pickle.specs.Pickles.{pickles}
-use Rattle.cm_attempt.specs.declared.policy.Policy.{Policy}
+use Rattle.cm_attempt.specs.declared.settings.Settings.{Settings}
 use Rattle.cm_stream.specs.Stream.{fed, IsGoodStream}
 use Rattle.cm_stream.specs.declared.verdict.Counts.{Counts}
 use Rattle.cm_good.specs.Compiled.{compiled_lines}
@@ -22,7 +22,7 @@ stream_of uri text d = concat (compiled_lines uri text d) ++ run_lines
 abbrev pub counts_for : Document → Counts
 counts_for d = record { sources = 1; pickles = length (pickles d); cases = 0; attempts = 0; unrun = length (pickles d) }
 
--- A text of the grammar that isn't too long compiles to a good stream, by every policy, if the stream is within its limits.
+-- A text of the grammar that isn't too long compiles to a good stream, by all settings, if the stream is within its limits.
 abbrev pub CompiledAreGood : Type 0
-CompiledAreGood = (policy : Policy) (uri text : List ℕ) (d : Document) → IsUtf8 uri → IsUtf8 text → IsDocumentOf text d → (IsTooLong text → ⊥)
-    → (fed (stream_of uri text d)).trouble ≡ None → IsGoodStream policy (stream_of uri text d) (counts_for d)
+CompiledAreGood = (settings : Settings) (uri text : List ℕ) (d : Document) → IsUtf8 uri → IsUtf8 text → IsDocumentOf text d → (IsTooLong text → ⊥)
+    → (fed (stream_of uri text d)).trouble ≡ None → IsGoodStream settings (stream_of uri text d) (counts_for d)

@@ -1,10 +1,10 @@
 -- What one more envelope makes of the table, and of attempts that come as they must.
-use Rattle.std.proofs.Common.{◌≡◌, refl, sym, ap, ◌∙◌, List, [], ◌∷◌, ◌++◌, Option, Some, None, true, false, Bool, not, ◌||◌, ◌==◌, length, map, ◌↔◌, unwrap_or}
+use Rattle.std.proofs.Common.{◌≡◌, ◌+◌, ℕ, refl, sym, ap, ◌∙◌, List, [], ◌∷◌, ◌++◌, Option, Some, None, true, false, Bool, not, ◌||◌, ◌==◌, length, map, ◌↔◌, unwrap_or}
 use Rattle.std.specs.Prelude.{is_some, if◌then◌else◌}
 use Rattle.std.specs.List.{list_all}
 use Rattle.std.specs.Option.{option_and_then}
 use Rattle.std.proofs.lemmas.List.Elements.{filter_map-append}
-use Rattle.cm_attempt.specs.Table.{Text, Table, empty_table, has_text, has_repeat}
+use Rattle.cm_attempt.specs.Table.{Text, Table, table_from, has_text, has_repeat}
 use Rattle.cm_attempt.specs.Calls as call
 use Rattle.cm_attempt.specs.Calls.{Call, AddCase, Start, StartStep, FinishStep, Finish, Move, refusal_of, after_call, unless_refused, left_by, table_after}
 use Rattle.cm_attempt.specs.CallFaults as calls
@@ -58,23 +58,23 @@ end_told_none false false true h = refl
 step_told : (cs : List Call) (a step : Text) (m : Move) → option_and_then told (step_fault cs a step m) ≡ None → step_fault cs a step m ≡ None
 step_told cs a step m h = step_told_none (not (is_some (call.start_of a cs))) (not (has_text step (call.steps_of_attempt a cs))) (calls.is_next_move m a cs) h
 
-fault_told : (cs : List Call) (c : Call) → option_and_then told (fault_of cs c) ≡ None → fault_of cs c ≡ None
-fault_told cs (AddCase id steps) h = one (is_some (call.declared id cs) || has_repeat steps) h
-fault_told cs (Start id case number) h = start_told_none (not (is_some (call.declared case cs))) (is_some (call.start_of id cs)) (not (number == length (call.starts_of case cs))) (not (list_all (λ s. call.is_retried s.id cs) (call.starts_of case cs))) h
-fault_told cs (StartStep a step) h = step_told cs a step (call.StepStarted step) h
-fault_told cs (FinishStep a step status) h = step_told cs a step (call.StepFinished step) h
-fault_told cs (Finish a r) h = end_told_none (not (is_some (call.start_of a cs))) (call.is_ended a cs) (calls.is_next_move call.Ended a cs) h
+fault_told : (first : ℕ) (cs : List Call) (c : Call) → option_and_then told (fault_of first cs c) ≡ None → fault_of first cs c ≡ None
+fault_told first cs (AddCase id steps) h = one (is_some (call.declared id cs) || has_repeat steps) h
+fault_told first cs (Start id case number) h = start_told_none (not (is_some (call.declared case cs))) (is_some (call.start_of id cs)) (not (number == first + length (call.starts_of case cs))) (not (list_all (λ s. call.is_retried s.id cs) (call.starts_of case cs))) h
+fault_told first cs (StartStep a step) h = step_told cs a step (call.StepStarted step) h
+fault_told first cs (FinishStep a step status) h = step_told cs a step (call.StepFinished step) h
+fault_told first cs (Finish a r) h = end_told_none (not (is_some (call.start_of a cs))) (call.is_ended a cs) (calls.is_next_move call.Ended a cs) h
 
-refusal_told : (cs : List Call) (t : Table) → table_after cs ≡ Some t → (c : Call) → option_and_then told (refusal_of t c) ≡ None → refusal_of t c ≡ None
-refusal_told cs t taken c h = let same = refused_for_fault cs t taken c in same ∙ fault_told cs c (ap (option_and_then told) (sym same) ∙ h)
+refusal_told : (first : ℕ) (cs : List Call) (t : Table) → table_after first cs ≡ Some t → (c : Call) → option_and_then told (refusal_of t c) ≡ None → refusal_of t c ≡ None
+refusal_told first cs t taken c h = let same = refused_for_fault first cs t taken c in same ∙ fault_told first cs c (ap (option_and_then told) (sym same) ∙ h)
 
-not_refused : (es : List Envelope) (t : Table) → table_after (calls_of es) ≡ Some t → (e : Envelope) → option_and_then told (refused t e) ≡ None → refused t e ≡ None
-not_refused es t taken (envelope.TestCase c) h = refusal_told (calls_of es) t taken (AddCase c.id (map (λ s. s.id) c.test_steps)) h
-not_refused es t taken (envelope.TestCaseStarted s) h = refusal_told (calls_of es) t taken (Start s.id s.test_case_id s.attempt) h
-not_refused es t taken (envelope.TestStepStarted s) h = refusal_told (calls_of es) t taken (StartStep s.test_case_started_id s.test_step_id) h
-not_refused es t taken (envelope.TestStepFinished s) h = refusal_told (calls_of es) t taken (FinishStep s.test_case_started_id s.test_step_id (kept_status s.test_step_result.status)) h
-not_refused es t taken (envelope.TestCaseFinished f) h = refusal_told (calls_of es) t taken (Finish f.test_case_started_id f.will_be_retried) h
-not_refused es t taken _ h = refl
+not_refused : (first : ℕ) (es : List Envelope) (t : Table) → table_after first (calls_of es) ≡ Some t → (e : Envelope) → option_and_then told (refused t e) ≡ None → refused t e ≡ None
+not_refused first es t taken (envelope.TestCase c) h = refusal_told first (calls_of es) t taken (AddCase c.id (map (λ s. s.id) c.test_steps)) h
+not_refused first es t taken (envelope.TestCaseStarted s) h = refusal_told first (calls_of es) t taken (Start s.id s.test_case_id s.attempt) h
+not_refused first es t taken (envelope.TestStepStarted s) h = refusal_told first (calls_of es) t taken (StartStep s.test_case_started_id s.test_step_id) h
+not_refused first es t taken (envelope.TestStepFinished s) h = refusal_told first (calls_of es) t taken (FinishStep s.test_case_started_id s.test_step_id (kept_status s.test_step_result.status)) h
+not_refused first es t taken (envelope.TestCaseFinished f) h = refusal_told first (calls_of es) t taken (Finish f.test_case_started_id f.will_be_retried) h
+not_refused first es t taken _ h = refl
 
 -- ---- one more envelope
 
@@ -86,8 +86,8 @@ left_both (c ∷ xs) ys t u e = go (refusal_of t c) refl e (left_both xs ys (aft
     go None k l rec = rw k (rec l)
     go (Some f) k l rec = cc
 
-left_one : (es : List Envelope) (t : Table) → table_after (calls_of es) ≡ Some t → (e : Envelope) → table_after (calls_of (es ++ e ∷ [])) ≡ unless_refused (refused t e) (Some (changed t e))
-left_one es t taken e = ap table_after (filter_map-append call_of es (e ∷ [])) ∙ left_both (calls_of es) (calls_of (e ∷ [])) empty_table t taken ∙ go e
+left_one : (first : ℕ) (es : List Envelope) (t : Table) → table_after first (calls_of es) ≡ Some t → (e : Envelope) → table_after first (calls_of (es ++ e ∷ [])) ≡ unless_refused (refused t e) (Some (changed t e))
+left_one first es t taken e = ap (table_after first) (filter_map-append call_of es (e ∷ [])) ∙ left_both (calls_of es) (calls_of (e ∷ [])) (table_from first) t taken ∙ go e
   where
     go : (e : Envelope) → left_by t (calls_of (e ∷ [])) ≡ unless_refused (refused t e) (Some (changed t e))
     go (envelope.TestCase c) = refl
@@ -98,9 +98,9 @@ left_one es t taken e = ap table_after (filter_map-append call_of es (e ∷ []))
     go _ = refl
 
 pub tables_change : TablesChange
-tables_change es t taken e none =
-    let fine : refused t e ≡ None = not_refused es t taken e (refused_for_checks es t taken e ∙ none) in
-    left_one es t taken e ∙ ap (λ o. unless_refused o (Some (changed t e))) fine
+tables_change first es t taken e none =
+    let fine : refused t e ≡ None = not_refused first es t taken e (refused_for_checks first es t taken e ∙ none) in
+    left_one first es t taken e ∙ ap (λ o. unless_refused o (Some (changed t e))) fine
 
 -- ---- exactly where they don't come as they must
 
@@ -109,13 +109,13 @@ accepted_one None l h = refl
 accepted_one (Some f) l h = cc
 
 pub faults_are_exact : FaultsAreExact
-faults_are_exact es well e = go (table_after (calls_of es)) refl (well_come_is_taken es well)
+faults_are_exact first es well e = go (table_after first (calls_of es)) refl (well_come_is_taken first es well)
   where
-    go : (o : Option Table) → table_after (calls_of es) ≡ o → is_some o ≡ true → (first_failed (own_checks es e) ≡ None) ↔ AttemptsComeWell (es ++ e ∷ [])
+    go : (o : Option Table) → table_after first (calls_of es) ≡ o → is_some o ≡ true → (first_failed (own_checks first es e) ≡ None) ↔ AttemptsComeWell first (es ++ e ∷ [])
     go None taken k = cc
     go (Some t) taken k = (
-      λ none. (tables_have_results (es ++ e ∷ []) (changed t e) (tables_change es t taken e none)).0,
+      λ none. (tables_have_results first (es ++ e ∷ []) (changed t e) (tables_change first es t taken e none)).0,
       λ more.
-          let all : is_some (unless_refused (refused t e) (Some (changed t e))) ≡ true = ap is_some (sym (left_one es t taken e)) ∙ well_come_is_taken (es ++ e ∷ []) more in
-          sym (refused_for_checks es t taken e) ∙ ap (option_and_then told) (accepted_one (refused t e) (Some (changed t e)) all),
+          let all : is_some (unless_refused (refused t e) (Some (changed t e))) ≡ true = ap is_some (sym (left_one first es t taken e)) ∙ well_come_is_taken first (es ++ e ∷ []) more in
+          sym (refused_for_checks first es t taken e) ∙ ap (option_and_then told) (accepted_one (refused t e) (Some (changed t e)) all),
     )

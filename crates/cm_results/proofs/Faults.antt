@@ -1,5 +1,5 @@
 -- Why the call for an envelope is refused, in the words of the stream's checks.
-use Rattle.std.proofs.Common.{◌≡◌, ℕ, zero, suc, arith, refl, sym, ap, ◌∙◌, List, [], ◌∷◌, Option, Some, None, true, false, Bool, not, ◌||◌, ◌==◌, map, length}
+use Rattle.std.proofs.Common.{◌≡◌, ◌+◌, ℕ, zero, suc, arith, refl, sym, ap, ◌∙◌, List, [], ◌∷◌, Option, Some, None, true, false, Bool, not, ◌||◌, ◌==◌, map, length}
 use Rattle.std.specs.Prelude.{find, is_some, nat_lt, slice_get, option_map, if◌then◌else◌}
 use Rattle.std.specs.List.{list_any, list_all}
 use Rattle.std.specs.Option.{option_map_or, option_and_then}
@@ -94,10 +94,10 @@ ended_told a es = ap (list_any call.is_end) (moves_told a es) ∙ go (moves a es
 
 -- ---- a case
 
-case_checked : (es : List Envelope) (c : TestCase) → option_and_then told (fault_of (calls_of es) (call.AddCase c.id (step_ids c))) ≡ first_failed (own_checks es (envelope.TestCase c))
-case_checked es c =
-    let row : is_some (case_in (table_of es) c.id) ≡ is_some (find_case c.id es) = ap is_some (find_map (λ r. bytes_eq c.id r.id) (case_row es) (cases es)) ∙ some_mapped (case_row es) (find_case c.id es) in
-    ap (λ b. option_and_then told (if b || has_repeat (step_ids c) then Some refusal.DuplicateId else None)) (some_told c.id es ∙ sym row) ∙ case_refused es c
+case_checked : (first : ℕ) (es : List Envelope) (c : TestCase) → option_and_then told (fault_of first (calls_of es) (call.AddCase c.id (step_ids c))) ≡ first_failed (own_checks first es (envelope.TestCase c))
+case_checked first es c =
+    let row : is_some (case_in (table_of first es) c.id) ≡ is_some (find_case c.id es) = ap is_some (find_map (λ r. bytes_eq c.id r.id) (case_row es) (cases es)) ∙ some_mapped (case_row es) (find_case c.id es) in
+    ap (λ b. option_and_then told (if b || has_repeat (step_ids c) then Some refusal.DuplicateId else None)) (some_told c.id es ∙ sym row) ∙ case_refused first es c
 
 -- ---- a start
 
@@ -109,10 +109,10 @@ four false false true o = refl
 four false false false true = refl
 four false false false false = refl
 
-start_checked : (es : List Envelope) (s : TestCaseStarted) → option_and_then told (fault_of (calls_of es) (call.Start s.id s.test_case_id s.attempt)) ≡ first_failed (own_checks es (envelope.TestCaseStarted s))
-start_checked es s =
-    (λ i. option_and_then told (if unknown i then Some refusal.UnknownCase else (if again i then Some refusal.DuplicateId else (if not (s.attempt == long_told s.test_case_id es i) then Some refusal.AttemptNumber else (if not (retried_told s.test_case_id es i) then Some refusal.AttemptOverlap else None)))))
-    ∙ four (refers_to_unknown es (envelope.TestCaseStarted s)) (declares_again es (envelope.TestCaseStarted s)) (not (s.attempt == length (starts_of s.test_case_id es))) (not (list_all (λ x. is_retried x.id es) (starts_of s.test_case_id es)))
+start_checked : (first : ℕ) (es : List Envelope) (s : TestCaseStarted) → option_and_then told (fault_of first (calls_of es) (call.Start s.id s.test_case_id s.attempt)) ≡ first_failed (own_checks first es (envelope.TestCaseStarted s))
+start_checked first es s =
+    (λ i. option_and_then told (if unknown i then Some refusal.UnknownCase else (if again i then Some refusal.DuplicateId else (if not (s.attempt == first + long_told s.test_case_id es i) then Some refusal.AttemptNumber else (if not (retried_told s.test_case_id es i) then Some refusal.AttemptOverlap else None)))))
+    ∙ four (refers_to_unknown es (envelope.TestCaseStarted s)) (declares_again es (envelope.TestCaseStarted s)) (not (s.attempt == first + length (starts_of s.test_case_id es))) (not (list_all (λ x. is_retried x.id es) (starts_of s.test_case_id es)))
   where
     unknown : not (is_some (call.declared s.test_case_id (calls_of es))) ≡ refers_to_unknown es (envelope.TestCaseStarted s)
     unknown = ap not (some_told s.test_case_id es) ∙ sym (known (Case s.test_case_id) as_case (λ c. bytes_eq s.test_case_id c.id) (declares_case s.test_case_id) es).0 ∙ sym (or_no (times_declared (Case s.test_case_id) es == 0))
@@ -182,8 +182,8 @@ three false true n = refl
 three false false true = refl
 three false false false = refl
 
-end_checked : (es : List Envelope) (f : TestCaseFinished) → option_and_then told (fault_of (calls_of es) (call.Finish f.test_case_started_id f.will_be_retried)) ≡ first_failed (own_checks es (envelope.TestCaseFinished f))
-end_checked es f =
+end_checked : (first : ℕ) (es : List Envelope) (f : TestCaseFinished) → option_and_then told (fault_of first (calls_of es) (call.Finish f.test_case_started_id f.will_be_retried)) ≡ first_failed (own_checks first es (envelope.TestCaseFinished f))
+end_checked first es f =
     (λ i. option_and_then told (if unknown i then Some refusal.UnknownAttempt else (if ended_told f.test_case_started_id es i then Some refusal.StepOrder else (if next_told Ended f.test_case_started_id es i then None else Some refusal.FinishedEarly))))
     ∙ three (refers_to_unknown es (envelope.TestCaseFinished f)) (is_ended f.test_case_started_id es) (is_next_move Ended f.test_case_started_id es)
   where
@@ -193,18 +193,18 @@ end_checked es f =
 -- ---- each envelope
 
 pub refused_for_checks : RefusedForChecks
-refused_for_checks es t taken e = go e
+refused_for_checks first es t taken e = go e
   where
     distinct : has_repeat (map (λ (c : TestCase). c.id) (cases es)) ≡ false
-    distinct = (tables_have_results es t taken).0.cases_distinct
+    distinct = (tables_have_results first es t taken).0.cases_distinct
 
-    why : (c : Call) → option_and_then told (refusal_of t c) ≡ option_and_then told (fault_of (calls_of es) c)
-    why c = ap (option_and_then told) (refused_for_fault (calls_of es) t taken c)
+    why : (c : Call) → option_and_then told (refusal_of t c) ≡ option_and_then told (fault_of first (calls_of es) c)
+    why c = ap (option_and_then told) (refused_for_fault first (calls_of es) t taken c)
 
-    go : (e : Envelope) → option_and_then told (refused t e) ≡ first_failed (own_checks es e)
-    go (envelope.TestCase c) = why (call.AddCase c.id (step_ids c)) ∙ case_checked es c
-    go (envelope.TestCaseStarted s) = why (call.Start s.id s.test_case_id s.attempt) ∙ start_checked es s
+    go : (e : Envelope) → option_and_then told (refused t e) ≡ first_failed (own_checks first es e)
+    go (envelope.TestCase c) = why (call.AddCase c.id (step_ids c)) ∙ case_checked first es c
+    go (envelope.TestCaseStarted s) = why (call.Start s.id s.test_case_id s.attempt) ∙ start_checked first es s
     go (envelope.TestStepStarted s) = why (call.StartStep s.test_case_started_id s.test_step_id) ∙ step_checked es distinct s.test_case_started_id s.test_step_id (StepStarted s.test_step_id)
     go (envelope.TestStepFinished s) = why (call.FinishStep s.test_case_started_id s.test_step_id (kept_status s.test_step_result.status)) ∙ step_checked es distinct s.test_case_started_id s.test_step_id (StepFinished s.test_step_id)
-    go (envelope.TestCaseFinished f) = why (call.Finish f.test_case_started_id f.will_be_retried) ∙ end_checked es f
+    go (envelope.TestCaseFinished f) = why (call.Finish f.test_case_started_id f.will_be_retried) ∙ end_checked first es f
     go _ = refl

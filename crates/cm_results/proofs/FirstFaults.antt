@@ -1,6 +1,6 @@
 -- What is told of a stream's attempts is right.
 use Rattle.std.proofs.Common.{◌≡◌, ℕ, ◌+◌, refl, sym, ap, ◌∙◌, subst, List, [], ◌∷◌, ◌++◌, Option, Some, None, Result, Ok, Err, true, false, Bool, append_assoc, append-nil, map}
-use Rattle.cm_attempt.specs.Table.{empty_table}
+use Rattle.cm_attempt.specs.Table.{table_from}
 use Rattle.cm_envelope.specs.Lines.{is_blank}
 use Rattle.cm_envelope.specs.Reading.{Fault as LineFault, envelope_of_line}
 use Rattle.cm_envelope.specs.declared.envelope.Envelope.{Envelope}
@@ -12,100 +12,100 @@ use Rattle.cm_results.specs.FirstFault.{fault, told_line, told_of, told, IsWell,
 use Rattle.cm_results.proofs.Joined.{tables_have_results, fronts_come_well}
 use Rattle.cm_results.proofs.Changes.{faults_are_exact}
 
-none_well : AttemptsComeWell []
-none_well = (tables_have_results [] empty_table refl).0
+none_well : (first : ℕ) → AttemptsComeWell first []
+none_well first = (tables_have_results first [] (table_from first) refl).0
 
 -- ---- no fault
 
-record Clean (before : List Envelope) (n : ℕ) (ls : List (List ℕ)) (t : Option Trouble) (es : List Envelope) : Type 0 where
+record Clean (first : ℕ) (before : List Envelope) (n : ℕ) (ls : List (List ℕ)) (t : Option Trouble) (es : List Envelope) : Type 0 where
   lines : List (ℕ × Envelope)
   no_trouble : t ≡ None
   read : map read_line (numbered n ls) ≡ map as_read lines
   all : es ≡ before ++ envelopes lines
-  well : AttemptsComeWell es
+  well : AttemptsComeWell first es
 
-clean : (before : List Envelope) (n : ℕ) (ls : List (List ℕ)) (t : Option Trouble) (es : List Envelope) → AttemptsComeWell before → told_of before n ls t ≡ NoFault es → Clean before n ls t es
-clean before n [] (Some t) es well h = cc
-clean before n [] None es well h =
+clean : (first : ℕ) (before : List Envelope) (n : ℕ) (ls : List (List ℕ)) (t : Option Trouble) (es : List Envelope) → AttemptsComeWell first before → told_of first before n ls t ≡ NoFault es → Clean first before n ls t es
+clean first before n [] (Some t) es well h = cc
+clean first before n [] None es well h =
     let same : before ≡ es = cc in
-    record { lines = []; no_trouble = refl; read = refl; all = sym same ∙ sym (append-nil before); well = subst AttemptsComeWell same well }
-clean before n (l ∷ ls) t es well h = go (is_blank l) refl (clean before (n + 1) ls t es well) (λ e. clean (before ++ e ∷ []) (n + 1) ls t es)
+    record { lines = []; no_trouble = refl; read = refl; all = sym same ∙ sym (append-nil before); well = subst (AttemptsComeWell first) same well }
+clean first before n (l ∷ ls) t es well h = go (is_blank l) refl (clean first before (n + 1) ls t es well) (λ e. clean first (before ++ e ∷ []) (n + 1) ls t es)
   where
-    on_fault : (e : Envelope) → is_blank l ≡ false → envelope_of_line l ≡ Ok e → (o : Option Finding) → fault before e ≡ o → at_line n o (told_of (before ++ e ∷ []) (n + 1) ls t) ≡ NoFault es
-        → (AttemptsComeWell (before ++ e ∷ []) → told_of (before ++ e ∷ []) (n + 1) ls t ≡ NoFault es → Clean (before ++ e ∷ []) (n + 1) ls t es) → Clean before n (l ∷ ls) t es
+    on_fault : (e : Envelope) → is_blank l ≡ false → envelope_of_line l ≡ Ok e → (o : Option Finding) → fault first before e ≡ o → at_line n o (told_of first (before ++ e ∷ []) (n + 1) ls t) ≡ NoFault es
+        → (AttemptsComeWell first (before ++ e ∷ []) → told_of first (before ++ e ∷ []) (n + 1) ls t ≡ NoFault es → Clean first (before ++ e ∷ []) (n + 1) ls t es) → Clean first before n (l ∷ ls) t es
     on_fault e filled is (Some f) k told rec = cc
     on_fault e filled is None k told rec =
-        let c = rec ((faults_are_exact before well e).0 k) told in
+        let c = rec ((faults_are_exact first before well e).0 k) told in
         record { lines = (n, e) ∷ c.lines; no_trouble = c.no_trouble; read = rw (filled, is, c.read) refl; all = c.all ∙ append_assoc before (e ∷ []) (envelopes c.lines); well = c.well }
 
-    on_read : is_blank l ≡ false → (r : Result Envelope LineFault) → envelope_of_line l ≡ r → told_line before n (Some r) (λ (now : List Envelope). told_of now (n + 1) ls t) ≡ NoFault es
-        → ((e : Envelope) → AttemptsComeWell (before ++ e ∷ []) → told_of (before ++ e ∷ []) (n + 1) ls t ≡ NoFault es → Clean (before ++ e ∷ []) (n + 1) ls t es) → Clean before n (l ∷ ls) t es
+    on_read : is_blank l ≡ false → (r : Result Envelope LineFault) → envelope_of_line l ≡ r → told_line first before n (Some r) (λ (now : List Envelope). told_of first now (n + 1) ls t) ≡ NoFault es
+        → ((e : Envelope) → AttemptsComeWell first (before ++ e ∷ []) → told_of first (before ++ e ∷ []) (n + 1) ls t ≡ NoFault es → Clean first (before ++ e ∷ []) (n + 1) ls t es) → Clean first before n (l ∷ ls) t es
     on_read filled (Err b) is told rec = cc
-    on_read filled (Ok e) is told rec = on_fault e filled is (fault before e) refl told (rec e)
+    on_read filled (Ok e) is told rec = on_fault e filled is (fault first before e) refl told (rec e)
 
-    go : (b : Bool) → is_blank l ≡ b → (told_of before (n + 1) ls t ≡ NoFault es → Clean before (n + 1) ls t es)
-        → ((e : Envelope) → AttemptsComeWell (before ++ e ∷ []) → told_of (before ++ e ∷ []) (n + 1) ls t ≡ NoFault es → Clean (before ++ e ∷ []) (n + 1) ls t es) → Clean before n (l ∷ ls) t es
+    go : (b : Bool) → is_blank l ≡ b → (told_of first before (n + 1) ls t ≡ NoFault es → Clean first before (n + 1) ls t es)
+        → ((e : Envelope) → AttemptsComeWell first (before ++ e ∷ []) → told_of first (before ++ e ∷ []) (n + 1) ls t ≡ NoFault es → Clean first (before ++ e ∷ []) (n + 1) ls t es) → Clean first before n (l ∷ ls) t es
     go true e skip rec =
         let c = skip (rw e at h) in
         record { lines = c.lines; no_trouble = c.no_trouble; read = rw e c.read; all = c.all; well = c.well }
     go false e skip rec = on_read e (envelope_of_line l) refl (rw e at h) rec
 
-is_well : (bytes : List ℕ) (es : List Envelope) → told bytes ≡ NoFault es → IsWell bytes es
-is_well bytes es h =
-    let c = clean [] 1 (fed bytes).lines (fed bytes).trouble es none_well h in
+is_well : (first : ℕ) (bytes : List ℕ) (es : List Envelope) → told first bytes ≡ NoFault es → IsWell first bytes es
+is_well first bytes es h =
+    let c = clean first [] 1 (fed bytes).lines (fed bytes).trouble es (none_well first) h in
     record { lines = c.lines; read = record { no_trouble = c.no_trouble; read = c.read }; all = c.all; well = c.well }
 
 -- ---- the other direction
 
-told_well : (before : List Envelope) (n : ℕ) (ls : List (List ℕ)) (lines : List (ℕ × Envelope)) → map read_line (numbered n ls) ≡ map as_read lines → AttemptsComeWell (before ++ envelopes lines) → told_of before n ls None ≡ NoFault (before ++ envelopes lines)
-told_well before n [] [] read well = ap NoFault (sym (append-nil before))
-told_well before n [] (x ∷ lines) read well = cc
-told_well before n (l ∷ ls) lines read well = go (is_blank l) refl (told_well before (n + 1) ls lines) (λ e more. told_well (before ++ e ∷ []) (n + 1) ls more)
+told_well : (first : ℕ) (before : List Envelope) (n : ℕ) (ls : List (List ℕ)) (lines : List (ℕ × Envelope)) → map read_line (numbered n ls) ≡ map as_read lines → AttemptsComeWell first (before ++ envelopes lines) → told_of first before n ls None ≡ NoFault (before ++ envelopes lines)
+told_well first before n [] [] read well = ap NoFault (sym (append-nil before))
+told_well first before n [] (x ∷ lines) read well = cc
+told_well first before n (l ∷ ls) lines read well = go (is_blank l) refl (told_well first before (n + 1) ls lines) (λ e more. told_well first (before ++ e ∷ []) (n + 1) ls more)
   where
-    filled : is_blank l ≡ false → (lines : List (ℕ × Envelope)) → (n, envelope_of_line l) ∷ map read_line (numbered (n + 1) ls) ≡ map as_read lines → AttemptsComeWell (before ++ envelopes lines)
-        → ((e : Envelope) (more : List (ℕ × Envelope)) → map read_line (numbered (n + 1) ls) ≡ map as_read more → AttemptsComeWell ((before ++ e ∷ []) ++ envelopes more) → told_of (before ++ e ∷ []) (n + 1) ls None ≡ NoFault ((before ++ e ∷ []) ++ envelopes more))
-        → told_of before n (l ∷ ls) None ≡ NoFault (before ++ envelopes lines)
+    filled : is_blank l ≡ false → (lines : List (ℕ × Envelope)) → (n, envelope_of_line l) ∷ map read_line (numbered (n + 1) ls) ≡ map as_read lines → AttemptsComeWell first (before ++ envelopes lines)
+        → ((e : Envelope) (more : List (ℕ × Envelope)) → map read_line (numbered (n + 1) ls) ≡ map as_read more → AttemptsComeWell first ((before ++ e ∷ []) ++ envelopes more) → told_of first (before ++ e ∷ []) (n + 1) ls None ≡ NoFault ((before ++ e ∷ []) ++ envelopes more))
+        → told_of first before n (l ∷ ls) None ≡ NoFault (before ++ envelopes lines)
     filled is [] read well rec = cc
     filled is (x ∷ lines) read well rec =
-        let first : ◌≡◌ {A = ℕ × Result Envelope LineFault} (n, envelope_of_line l) (as_read x) = cc in
+        let here_read : ◌≡◌ {A = ℕ × Result Envelope LineFault} (n, envelope_of_line l) (as_read x) = cc in
         let more : map read_line (numbered (n + 1) ls) ≡ map as_read lines = cc in
-        let here : envelope_of_line l ≡ Ok x.1 = ap (λ (r : ℕ × Result Envelope LineFault). r.1) first in
-        let again : AttemptsComeWell ((before ++ x.1 ∷ []) ++ envelopes lines) = subst AttemptsComeWell (sym (append_assoc before (x.1 ∷ []) (envelopes lines))) well in
-        let passes : fault before x.1 ≡ None = (faults_are_exact before (fronts_come_well before (x.1 ∷ envelopes lines) well) x.1).1 (fronts_come_well (before ++ x.1 ∷ []) (envelopes lines) again) in
+        let here : envelope_of_line l ≡ Ok x.1 = ap (λ (r : ℕ × Result Envelope LineFault). r.1) here_read in
+        let again : AttemptsComeWell first ((before ++ x.1 ∷ []) ++ envelopes lines) = subst (AttemptsComeWell first) (sym (append_assoc before (x.1 ∷ []) (envelopes lines))) well in
+        let passes : fault first before x.1 ≡ None = (faults_are_exact first before (fronts_come_well first before (x.1 ∷ envelopes lines) well) x.1).1 (fronts_come_well first (before ++ x.1 ∷ []) (envelopes lines) again) in
         rw (is, here, passes) (rec x.1 lines more again ∙ ap NoFault (append_assoc before (x.1 ∷ []) (envelopes lines)))
 
     go : (b : Bool) → is_blank l ≡ b
-        → (map read_line (numbered (n + 1) ls) ≡ map as_read lines → AttemptsComeWell (before ++ envelopes lines) → told_of before (n + 1) ls None ≡ NoFault (before ++ envelopes lines))
-        → ((e : Envelope) (more : List (ℕ × Envelope)) → map read_line (numbered (n + 1) ls) ≡ map as_read more → AttemptsComeWell ((before ++ e ∷ []) ++ envelopes more) → told_of (before ++ e ∷ []) (n + 1) ls None ≡ NoFault ((before ++ e ∷ []) ++ envelopes more))
-        → told_of before n (l ∷ ls) None ≡ NoFault (before ++ envelopes lines)
+        → (map read_line (numbered (n + 1) ls) ≡ map as_read lines → AttemptsComeWell first (before ++ envelopes lines) → told_of first before (n + 1) ls None ≡ NoFault (before ++ envelopes lines))
+        → ((e : Envelope) (more : List (ℕ × Envelope)) → map read_line (numbered (n + 1) ls) ≡ map as_read more → AttemptsComeWell first ((before ++ e ∷ []) ++ envelopes more) → told_of first (before ++ e ∷ []) (n + 1) ls None ≡ NoFault ((before ++ e ∷ []) ++ envelopes more))
+        → told_of first before n (l ∷ ls) None ≡ NoFault (before ++ envelopes lines)
     go true e skip rec = rw e (skip (rw e at read) well)
     go false e skip rec = filled e lines (rw e at read) well rec
 
-is_told : (bytes : List ℕ) (es : List Envelope) → IsWell bytes es → told bytes ≡ NoFault es
-is_told bytes es w =
-    ap (told_of [] 1 (fed bytes).lines) w.read.no_trouble ∙ told_well [] 1 (fed bytes).lines w.lines w.read.read (subst AttemptsComeWell w.all w.well) ∙ ap NoFault (sym w.all)
+is_told : (first : ℕ) (bytes : List ℕ) (es : List Envelope) → IsWell first bytes es → told first bytes ≡ NoFault es
+is_told first bytes es w =
+    ap (told_of first [] 1 (fed bytes).lines) w.read.no_trouble ∙ told_well first [] 1 (fed bytes).lines w.lines w.read.read (subst (AttemptsComeWell first) w.all w.well) ∙ ap NoFault (sym w.all)
 
 pub no_fault_is_exact : NoFaultIsExact
 no_fault_is_exact = record { well = is_well; told = is_told }
 
 -- ---- a fault
 
-record First (before : List Envelope) (n : ℕ) (ls : List (List ℕ)) (m : ℕ) (f : Finding) : Type 0 where
+record First (first : ℕ) (before : List Envelope) (n : ℕ) (ls : List (List ℕ)) (m : ℕ) (f : Finding) : Type 0 where
   front : List (ℕ × List ℕ)
   line : List ℕ
   rest : List (ℕ × List ℕ)
   read_as : List (ℕ × Envelope)
   cut : numbered n ls ≡ front ++ (m, line) ∷ rest
   read : map read_line front ≡ map as_read read_as
-  well : AttemptsComeWell (before ++ envelopes read_as)
-  why : FaultOf (before ++ envelopes read_as) (envelope_of_line line) f
+  well : AttemptsComeWell first (before ++ envelopes read_as)
+  why : FaultOf first (before ++ envelopes read_as) (envelope_of_line line) f
 
-first : (before : List Envelope) (n : ℕ) (ls : List (List ℕ)) (t : Option Trouble) (m : ℕ) (f : Finding) → AttemptsComeWell before → told_of before n ls t ≡ At m f → First before n ls m f
-first before n [] (Some t) m f well h = cc
-first before n [] None m f well h = cc
-first before n (l ∷ ls) t m f well h = go (is_blank l) refl (first before (n + 1) ls t m f well) (λ e. first (before ++ e ∷ []) (n + 1) ls t m f)
+first_of : (first : ℕ) (before : List Envelope) (n : ℕ) (ls : List (List ℕ)) (t : Option Trouble) (m : ℕ) (f : Finding) → AttemptsComeWell first before → told_of first before n ls t ≡ At m f → First first before n ls m f
+first_of first before n [] (Some t) m f well h = cc
+first_of first before n [] None m f well h = cc
+first_of first before n (l ∷ ls) t m f well h = go (is_blank l) refl (first_of first before (n + 1) ls t m f well) (λ e. first_of first (before ++ e ∷ []) (n + 1) ls t m f)
   where
-    here : is_blank l ≡ false → n ≡ m → FaultOf before (envelope_of_line l) f → First before n (l ∷ ls) m f
+    here : is_blank l ≡ false → n ≡ m → FaultOf first before (envelope_of_line l) f → First first before n (l ∷ ls) m f
     here filled same why = record {
       front = [];
       line = l;
@@ -113,19 +113,19 @@ first before n (l ∷ ls) t m f well h = go (is_blank l) refl (first before (n +
       read_as = [];
       cut = rw filled (ap (λ k. (k, l) ∷ numbered (n + 1) ls) same);
       read = refl;
-      well = subst AttemptsComeWell (sym (append-nil before)) well;
-      why = subst (λ es. FaultOf es (envelope_of_line l) f) (sym (append-nil before)) why;
+      well = subst (AttemptsComeWell first) (sym (append-nil before)) well;
+      why = subst (λ es. FaultOf first es (envelope_of_line l) f) (sym (append-nil before)) why;
     }
 
-    on_fault : (e : Envelope) → is_blank l ≡ false → envelope_of_line l ≡ Ok e → (o : Option Finding) → fault before e ≡ o → at_line n o (told_of (before ++ e ∷ []) (n + 1) ls t) ≡ At m f
-        → (AttemptsComeWell (before ++ e ∷ []) → told_of (before ++ e ∷ []) (n + 1) ls t ≡ At m f → First (before ++ e ∷ []) (n + 1) ls m f) → First before n (l ∷ ls) m f
+    on_fault : (e : Envelope) → is_blank l ≡ false → envelope_of_line l ≡ Ok e → (o : Option Finding) → fault first before e ≡ o → at_line n o (told_of first (before ++ e ∷ []) (n + 1) ls t) ≡ At m f
+        → (AttemptsComeWell first (before ++ e ∷ []) → told_of first (before ++ e ∷ []) (n + 1) ls t ≡ At m f → First first (before ++ e ∷ []) (n + 1) ls m f) → First first before n (l ∷ ls) m f
     on_fault e filled is (Some g) k told rec =
         let same : n ≡ m = cc in
         let its : g ≡ f = cc in
-        let failed : fault before e ≡ Some f = k ∙ ap Some its in
-        here filled same (rw is (failed, λ more. let none : None ≡ Some f = sym ((faults_are_exact before well e).1 more) ∙ failed in cc))
+        let failed : fault first before e ≡ Some f = k ∙ ap Some its in
+        here filled same (rw is (failed, λ more. let none : None ≡ Some f = sym ((faults_are_exact first before well e).1 more) ∙ failed in cc))
     on_fault e filled is None k told rec =
-        let w = rec ((faults_are_exact before well e).0 k) told in
+        let w = rec ((faults_are_exact first before well e).0 k) told in
         let all : (before ++ e ∷ []) ++ envelopes w.read_as ≡ before ++ e ∷ envelopes w.read_as = append_assoc before (e ∷ []) (envelopes w.read_as) in
         record {
           front = (n, l) ∷ w.front;
@@ -134,65 +134,65 @@ first before n (l ∷ ls) t m f well h = go (is_blank l) refl (first before (n +
           read_as = (n, e) ∷ w.read_as;
           cut = rw filled (ap (λ ls. (n, l) ∷ ls) w.cut);
           read = rw (is, w.read) refl;
-          well = subst AttemptsComeWell all w.well;
-          why = subst (λ es. FaultOf es (envelope_of_line w.line) f) all w.why;
+          well = subst (AttemptsComeWell first) all w.well;
+          why = subst (λ es. FaultOf first es (envelope_of_line w.line) f) all w.why;
         }
 
-    on_read : is_blank l ≡ false → (r : Result Envelope LineFault) → envelope_of_line l ≡ r → told_line before n (Some r) (λ (now : List Envelope). told_of now (n + 1) ls t) ≡ At m f
-        → ((e : Envelope) → AttemptsComeWell (before ++ e ∷ []) → told_of (before ++ e ∷ []) (n + 1) ls t ≡ At m f → First (before ++ e ∷ []) (n + 1) ls m f) → First before n (l ∷ ls) m f
+    on_read : is_blank l ≡ false → (r : Result Envelope LineFault) → envelope_of_line l ≡ r → told_line first before n (Some r) (λ (now : List Envelope). told_of first now (n + 1) ls t) ≡ At m f
+        → ((e : Envelope) → AttemptsComeWell first (before ++ e ∷ []) → told_of first (before ++ e ∷ []) (n + 1) ls t ≡ At m f → First first (before ++ e ∷ []) (n + 1) ls m f) → First first before n (l ∷ ls) m f
     on_read filled (Err b) is told rec =
         let same : n ≡ m = cc in
         let its : IsBad (fault_of_line b) ≡ f = cc in
         here filled same (rw is (sym its))
-    on_read filled (Ok e) is told rec = on_fault e filled is (fault before e) refl told (rec e)
+    on_read filled (Ok e) is told rec = on_fault e filled is (fault first before e) refl told (rec e)
 
-    go : (b : Bool) → is_blank l ≡ b → (told_of before (n + 1) ls t ≡ At m f → First before (n + 1) ls m f)
-        → ((e : Envelope) → AttemptsComeWell (before ++ e ∷ []) → told_of (before ++ e ∷ []) (n + 1) ls t ≡ At m f → First (before ++ e ∷ []) (n + 1) ls m f) → First before n (l ∷ ls) m f
+    go : (b : Bool) → is_blank l ≡ b → (told_of first before (n + 1) ls t ≡ At m f → First first before (n + 1) ls m f)
+        → ((e : Envelope) → AttemptsComeWell first (before ++ e ∷ []) → told_of first (before ++ e ∷ []) (n + 1) ls t ≡ At m f → First first (before ++ e ∷ []) (n + 1) ls m f) → First first before n (l ∷ ls) m f
     go true e skip rec =
         let w = skip (rw e at h) in
         record { front = w.front; line = w.line; rest = w.rest; read_as = w.read_as; cut = rw e w.cut; read = w.read; well = w.well; why = w.why }
     go false e skip rec = on_read e (envelope_of_line l) refl (rw e at h) rec
 
 pub faults_are_first : FaultsAreFirst
-faults_are_first bytes n f h =
-    let w = first [] 1 (fed bytes).lines (fed bytes).trouble n f none_well h in
+faults_are_first first bytes n f h =
+    let w = first_of first [] 1 (fed bytes).lines (fed bytes).trouble n f (none_well first) h in
     record { front = w.front; line = w.line; rest = w.rest; before = w.read_as; cut = w.cut; read = w.read; well = w.well; why = w.why }
 
 -- ---- a trouble
 
-record Cut (before : List Envelope) (n : ℕ) (ls : List (List ℕ)) (t : Option Trouble) (u : Trouble) : Type 0 where
+record Cut (first : ℕ) (before : List Envelope) (n : ℕ) (ls : List (List ℕ)) (t : Option Trouble) (u : Trouble) : Type 0 where
   lines : List (ℕ × Envelope)
   read : map read_line (numbered n ls) ≡ map as_read lines
-  well : AttemptsComeWell (before ++ envelopes lines)
+  well : AttemptsComeWell first (before ++ envelopes lines)
   end : t ≡ Some u
 
-cut_off : (before : List Envelope) (n : ℕ) (ls : List (List ℕ)) (t : Option Trouble) (u : Trouble) → AttemptsComeWell before → told_of before n ls t ≡ Troubled u → Cut before n ls t u
-cut_off before n [] None u well h = cc
-cut_off before n [] (Some t) u well h =
+cut_off : (first : ℕ) (before : List Envelope) (n : ℕ) (ls : List (List ℕ)) (t : Option Trouble) (u : Trouble) → AttemptsComeWell first before → told_of first before n ls t ≡ Troubled u → Cut first before n ls t u
+cut_off first before n [] None u well h = cc
+cut_off first before n [] (Some t) u well h =
     let same : t ≡ u = cc in
-    record { lines = []; read = refl; well = subst AttemptsComeWell (sym (append-nil before)) well; end = ap Some same }
-cut_off before n (l ∷ ls) t u well h = go (is_blank l) refl (cut_off before (n + 1) ls t u well) (λ e. cut_off (before ++ e ∷ []) (n + 1) ls t u)
+    record { lines = []; read = refl; well = subst (AttemptsComeWell first) (sym (append-nil before)) well; end = ap Some same }
+cut_off first before n (l ∷ ls) t u well h = go (is_blank l) refl (cut_off first before (n + 1) ls t u well) (λ e. cut_off first (before ++ e ∷ []) (n + 1) ls t u)
   where
-    on_fault : (e : Envelope) → is_blank l ≡ false → envelope_of_line l ≡ Ok e → (o : Option Finding) → fault before e ≡ o → at_line n o (told_of (before ++ e ∷ []) (n + 1) ls t) ≡ Troubled u
-        → (AttemptsComeWell (before ++ e ∷ []) → told_of (before ++ e ∷ []) (n + 1) ls t ≡ Troubled u → Cut (before ++ e ∷ []) (n + 1) ls t u) → Cut before n (l ∷ ls) t u
+    on_fault : (e : Envelope) → is_blank l ≡ false → envelope_of_line l ≡ Ok e → (o : Option Finding) → fault first before e ≡ o → at_line n o (told_of first (before ++ e ∷ []) (n + 1) ls t) ≡ Troubled u
+        → (AttemptsComeWell first (before ++ e ∷ []) → told_of first (before ++ e ∷ []) (n + 1) ls t ≡ Troubled u → Cut first (before ++ e ∷ []) (n + 1) ls t u) → Cut first before n (l ∷ ls) t u
     on_fault e filled is (Some f) k told rec = cc
     on_fault e filled is None k told rec =
-        let c = rec ((faults_are_exact before well e).0 k) told in
-        record { lines = (n, e) ∷ c.lines; read = rw (filled, is, c.read) refl; well = subst AttemptsComeWell (append_assoc before (e ∷ []) (envelopes c.lines)) c.well; end = c.end }
+        let c = rec ((faults_are_exact first before well e).0 k) told in
+        record { lines = (n, e) ∷ c.lines; read = rw (filled, is, c.read) refl; well = subst (AttemptsComeWell first) (append_assoc before (e ∷ []) (envelopes c.lines)) c.well; end = c.end }
 
-    on_read : is_blank l ≡ false → (r : Result Envelope LineFault) → envelope_of_line l ≡ r → told_line before n (Some r) (λ (now : List Envelope). told_of now (n + 1) ls t) ≡ Troubled u
-        → ((e : Envelope) → AttemptsComeWell (before ++ e ∷ []) → told_of (before ++ e ∷ []) (n + 1) ls t ≡ Troubled u → Cut (before ++ e ∷ []) (n + 1) ls t u) → Cut before n (l ∷ ls) t u
+    on_read : is_blank l ≡ false → (r : Result Envelope LineFault) → envelope_of_line l ≡ r → told_line first before n (Some r) (λ (now : List Envelope). told_of first now (n + 1) ls t) ≡ Troubled u
+        → ((e : Envelope) → AttemptsComeWell first (before ++ e ∷ []) → told_of first (before ++ e ∷ []) (n + 1) ls t ≡ Troubled u → Cut first (before ++ e ∷ []) (n + 1) ls t u) → Cut first before n (l ∷ ls) t u
     on_read filled (Err b) is told rec = cc
-    on_read filled (Ok e) is told rec = on_fault e filled is (fault before e) refl told (rec e)
+    on_read filled (Ok e) is told rec = on_fault e filled is (fault first before e) refl told (rec e)
 
-    go : (b : Bool) → is_blank l ≡ b → (told_of before (n + 1) ls t ≡ Troubled u → Cut before (n + 1) ls t u)
-        → ((e : Envelope) → AttemptsComeWell (before ++ e ∷ []) → told_of (before ++ e ∷ []) (n + 1) ls t ≡ Troubled u → Cut (before ++ e ∷ []) (n + 1) ls t u) → Cut before n (l ∷ ls) t u
+    go : (b : Bool) → is_blank l ≡ b → (told_of first before (n + 1) ls t ≡ Troubled u → Cut first before (n + 1) ls t u)
+        → ((e : Envelope) → AttemptsComeWell first (before ++ e ∷ []) → told_of first (before ++ e ∷ []) (n + 1) ls t ≡ Troubled u → Cut first (before ++ e ∷ []) (n + 1) ls t u) → Cut first before n (l ∷ ls) t u
     go true e skip rec =
         let c = skip (rw e at h) in
         record { lines = c.lines; read = rw e c.read; well = c.well; end = c.end }
     go false e skip rec = on_read e (envelope_of_line l) refl (rw e at h) rec
 
 pub troubles_are_last : TroublesAreLast
-troubles_are_last bytes t h =
-    let c = cut_off [] 1 (fed bytes).lines (fed bytes).trouble t none_well h in
+troubles_are_last first bytes t h =
+    let c = cut_off first [] 1 (fed bytes).lines (fed bytes).trouble t (none_well first) h in
     record { lines = c.lines; read = c.read; well = c.well; end = c.end }

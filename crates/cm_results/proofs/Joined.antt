@@ -1,11 +1,11 @@
 -- The attempts of a stream come as they must exactly where no call is refused, and the table reports the results.
-use Rattle.std.proofs.Common.{◌≡◌, ℕ, suc, refl, sym, ap, ◌∙◌, subst, List, [], ◌∷◌, ◌++◌, Option, Some, None, true, false, not, ◌&&◌, map, length, unwrap_or}
+use Rattle.std.proofs.Common.{◌≡◌, ◌+◌, ℕ, suc, refl, sym, ap, ◌∙◌, subst, List, [], ◌∷◌, ◌++◌, Option, Some, None, true, false, not, ◌&&◌, map, length, unwrap_or}
 use Rattle.std.specs.Prelude.{is_some, filter_map, option_map, if◌then◌else◌}
 use Rattle.std.specs.List.{list_any, list_all, AllByRecursion}
 use Rattle.std.specs.Option.{option_and_then}
 use Rattle.std.proofs.lemmas.List.{map-append}
 use Rattle.std.proofs.lemmas.List.Elements.{filter_map-append}
-use Rattle.cm_attempt.specs.Table.{Table, has_repeat, reported_of, empty_table}
+use Rattle.cm_attempt.specs.Table.{Table, has_repeat, reported_of, table_from}
 use Rattle.cm_attempt.specs.Worst.{worst_of}
 use Rattle.cm_attempt.specs.Calls as call
 use Rattle.cm_attempt.specs.Calls.{Call, Start, DeclaredCase, StartedAttempt, table_after}
@@ -15,7 +15,7 @@ use Rattle.cm_attempt.proofs.Accepted.{come_in_order, has_cases, reports, cut_at
 use Rattle.cm_attempt.proofs.Converse.{are_accepted}
 use Rattle.cm_stream.specs.Texts.{Text}
 use Rattle.cm_stream.specs.Words.{cases, starts, starts_of, find_case, moves, whole, is_retried, last_of}
-use Rattle.cm_stream.specs.Good.{Everywhere, RetryGood}
+use Rattle.cm_stream.specs.Good.{Everywhere, NumberGood, RetryGood}
 use Rattle.cm_stream.specs.Checks.{steps_of_attempt}
 use Rattle.cm_envelope.specs.declared.envelope.Envelope.{Envelope}
 use Rattle.cm_envelope.specs.declared.envelope.Envelope.TheVariants as envelope
@@ -100,12 +100,12 @@ result_told case es =
     go None = refl
     go (Some s) = final_told es s
 
-table_results : (es : List Envelope) (t : Table) → table_after (calls_of es) ≡ Some t → map (λ c. (c.id, reported_of t c.id)) t.cases ≡ results_of es
-table_results es t e =
+table_results : (first : ℕ) (es : List Envelope) (t : Table) → table_after first (calls_of es) ≡ Some t → map (λ c. (c.id, reported_of t c.id)) t.cases ≡ results_of es
+table_results first es t e =
     sym (map_twice (λ (id : Text). (id, reported_of t id)) (λ c. c.id) t.cases)
-    ∙ ap (map (λ (id : Text). (id, reported_of t id))) (has_cases (calls_of es) t e ∙ ap (map (λ (c : DeclaredCase). c.id)) (cases_told es) ∙ map_twice (λ (c : DeclaredCase). c.id) case_told (cases es))
+    ∙ ap (map (λ (id : Text). (id, reported_of t id))) (has_cases first (calls_of es) t e ∙ ap (map (λ (c : DeclaredCase). c.id)) (cases_told es) ∙ map_twice (λ (c : DeclaredCase). c.id) case_told (cases es))
     ∙ map_twice (λ (id : Text). (id, reported_of t id)) (λ (c : TestCase). c.id) (cases es)
-    ∙ map_same (λ (c : TestCase). (c.id, reported_of t c.id)) (λ (c : TestCase). (c.id, result_of c.id es)) (λ c. ap (λ r. (c.id, r)) (reports (calls_of es) t e c.id ∙ result_told c.id es)) (cases es)
+    ∙ map_same (λ (c : TestCase). (c.id, reported_of t c.id)) (λ (c : TestCase). (c.id, result_of c.id es)) (λ c. ap (λ r. (c.id, r)) (reports first (calls_of es) t e c.id ∙ result_told c.id es)) (cases es)
 
 -- ---- ids
 
@@ -133,20 +133,22 @@ retried_told case es = ap (list_all (λ (s : StartedAttempt). call.is_retried s.
 calls_cut : (es before : List Envelope) (s : TestCaseStarted) (after : List Envelope) → es ≡ before ++ envelope.TestCaseStarted s ∷ after → calls_of es ≡ calls_of before ++ Start s.id s.test_case_id s.attempt ∷ calls_of after
 calls_cut es before s after cut = ap calls_of cut ∙ kept_cut call_of before (envelope.TestCaseStarted s) after (Start s.id s.test_case_id s.attempt) refl
 
-known_well : (es : List Envelope) → ComeInOrder (calls_of es) → Everywhere (λ before e after. CaseKnown before e) es
-known_well es order before (envelope.TestCaseStarted s) after cut = sym (some_told s.test_case_id before) ∙ order.known (calls_of before) s.id s.test_case_id s.attempt (calls_of after) (calls_cut es before s after cut)
-known_well es order before _ after cut = tt
+known_well : (first : ℕ) (es : List Envelope) → ComeInOrder first (calls_of es) → Everywhere (λ before e after. CaseKnown before e) es
+known_well first es order before (envelope.TestCaseStarted s) after cut = sym (some_told s.test_case_id before) ∙ order.known (calls_of before) s.id s.test_case_id s.attempt (calls_of after) (calls_cut es before s after cut)
+known_well first es order before _ after cut = tt
 
-retries_well : (es : List Envelope) → ComeInOrder (calls_of es) → Everywhere (λ before e after. RetryGood before e) es
-retries_well es order before (envelope.TestCaseStarted s) after cut =
-    let here = calls_cut es before s after cut in (
-      order.numbers (calls_of before) s.id s.test_case_id s.attempt (calls_of after) here ∙ long_told s.test_case_id before,
-      sym (retried_told s.test_case_id before) ∙ order.overlap (calls_of before) s.id s.test_case_id s.attempt (calls_of after) here,
-    )
-retries_well es order before _ after cut = tt
+numbers_well : (first : ℕ) (es : List Envelope) → ComeInOrder first (calls_of es) → Everywhere (λ before e after. NumberGood first before e) es
+numbers_well first es order before (envelope.TestCaseStarted s) after cut =
+    order.numbers (calls_of before) s.id s.test_case_id s.attempt (calls_of after) (calls_cut es before s after cut) ∙ ap (λ n. first + n) (long_told s.test_case_id before)
+numbers_well first es order before _ after cut = tt
 
-steps_well : (es : List Envelope) → ComeInOrder (calls_of es) → (a : Text) → IsFront (moves a es) (whole (steps_of_attempt a es))
-steps_well es order a =
+retries_well : (first : ℕ) (es : List Envelope) → ComeInOrder first (calls_of es) → Everywhere (λ before e after. RetryGood before e) es
+retries_well first es order before (envelope.TestCaseStarted s) after cut =
+    sym (retried_told s.test_case_id before) ∙ order.overlap (calls_of before) s.id s.test_case_id s.attempt (calls_of after) (calls_cut es before s after cut)
+retries_well first es order before _ after cut = tt
+
+steps_well : (first : ℕ) (es : List Envelope) → ComeInOrder first (calls_of es) → (a : Text) → IsFront (moves a es) (whole (steps_of_attempt a es))
+steps_well first es order a =
     let front = order.steps a in (
       map move_back front.0,
       sym (there_and_back (whole (steps_of_attempt a es)))
@@ -155,14 +157,15 @@ steps_well es order a =
           ∙ ap (λ ms. ms ++ map move_back front.0) (there_and_back (moves a es)),
     )
 
-pub come_well : (es : List Envelope) → ComeInOrder (calls_of es) → AttemptsComeWell es
-come_well es order = record {
+pub come_well : (first : ℕ) (es : List Envelope) → ComeInOrder first (calls_of es) → AttemptsComeWell first es
+come_well first es order = record {
   cases_distinct = ap has_repeat (sym (case_ids es)) ∙ order.distinct.of_cases;
   steps_distinct = all_mapped (λ (c : DeclaredCase). has_repeat c.steps ≡ false) case_told (cases es) (subst (AllByRecursion (λ (c : DeclaredCase). has_repeat c.steps ≡ false)) (cases_told es) order.distinct.of_steps);
   attempts_distinct = ap has_repeat (sym (start_ids es)) ∙ order.distinct.of_attempts;
-  known = known_well es order;
-  retries = retries_well es order;
-  steps = steps_well es order;
+  known = known_well first es order;
+  numbers = numbers_well first es order;
+  retries = retries_well first es order;
+  steps = steps_well first es order;
 }
 
 -- ---- the other way round
@@ -188,39 +191,39 @@ at_each es P f before id case number after cut = go k.here k.cut k.is
     go (envelope.TestCaseFinished x) c is = let no : None ≡ Some d = ap (option_and_then call.as_start) is in cc
     go e c is = cc
 
-steps_in_order : (es : List Envelope) → AttemptsComeWell es → (a : Text) → IsFront (call.moves a (calls_of es)) (call.whole (call.steps_of_attempt a (calls_of es)))
-steps_in_order es well a =
+steps_in_order : (first : ℕ) (es : List Envelope) → AttemptsComeWell first es → (a : Text) → IsFront (call.moves a (calls_of es)) (call.whole (call.steps_of_attempt a (calls_of es)))
+steps_in_order first es well a =
     let front = well.steps a in (
       map move_told front.0,
       ap call.whole (attempt_steps_told a es) ∙ sym (whole_told (steps_of_attempt a es)) ∙ ap (map move_told) front.1 ∙ map-append move_told (moves a es) front.0 ∙ ap (λ ms. ms ++ map move_told front.0) (sym (moves_told a es)),
     )
 
-pub in_order : (es : List Envelope) → AttemptsComeWell es → ComeInOrder (calls_of es)
-in_order es well = record {
+pub in_order : (first : ℕ) (es : List Envelope) → AttemptsComeWell first es → ComeInOrder first (calls_of es)
+in_order first es well = record {
   distinct = record {
     of_cases = ap has_repeat (case_ids es) ∙ well.cases_distinct;
     of_steps = subst (AllByRecursion (λ (c : DeclaredCase). has_repeat c.steps ≡ false)) (sym (cases_told es)) (all_to_mapped (λ (c : DeclaredCase). has_repeat c.steps ≡ false) case_told (cases es) well.steps_distinct);
     of_attempts = ap has_repeat (start_ids es) ∙ well.attempts_distinct;
   };
   known = at_each es (λ before id case number. is_some (call.declared case before) ≡ true) (λ before s after cut. some_told s.test_case_id before ∙ well.known before (envelope.TestCaseStarted s) after cut);
-  numbers = at_each es (λ before id case number. number ≡ length (call.starts_of case before)) (λ before s after cut. (well.retries before (envelope.TestCaseStarted s) after cut).0 ∙ sym (long_told s.test_case_id before));
-  overlap = at_each es (λ before id case number. list_all (λ s. call.is_retried s.id before) (call.starts_of case before) ≡ true) (λ before s after cut. retried_told s.test_case_id before ∙ (well.retries before (envelope.TestCaseStarted s) after cut).1);
-  steps = steps_in_order es well;
+  numbers = at_each es (λ before id case number. number ≡ first + length (call.starts_of case before)) (λ before s after cut. well.numbers before (envelope.TestCaseStarted s) after cut ∙ ap (λ n. first + n) (sym (long_told s.test_case_id before)));
+  overlap = at_each es (λ before id case number. list_all (λ s. call.is_retried s.id before) (call.starts_of case before) ≡ true) (λ before s after cut. retried_told s.test_case_id before ∙ well.retries before (envelope.TestCaseStarted s) after cut);
+  steps = steps_in_order first es well;
 }
 
 -- ---- the joining
 
 pub tables_have_results : TablesHaveResults
-tables_have_results es t e = (come_well es (come_in_order (calls_of es) t e), table_results es t e)
+tables_have_results first es t e = (come_well first es (come_in_order first (calls_of es) t e), table_results first es t e)
 
 pub well_come_is_taken : WellComeIsTaken
-well_come_is_taken es well = are_accepted (calls_of es) (in_order es well)
+well_come_is_taken first es well = are_accepted first (calls_of es) (in_order first es well)
 
 pub fronts_come_well : FrontsComeWell
-fronts_come_well before after well = go (table_after (calls_of (before ++ after))) refl (well_come_is_taken (before ++ after) well)
+fronts_come_well first before after well = go (table_after first (calls_of (before ++ after))) refl (well_come_is_taken first (before ++ after) well)
   where
-    go : (o : Option Table) → table_after (calls_of (before ++ after)) ≡ o → is_some o ≡ true → AttemptsComeWell before
+    go : (o : Option Table) → table_after first (calls_of (before ++ after)) ≡ o → is_some o ≡ true → AttemptsComeWell first before
     go None e k = cc
     go (Some t) e k =
-        let parts = cut_at (calls_of before) (calls_of after) empty_table t (ap table_after (sym (filter_map-append call_of before after)) ∙ e) in
-        come_well before (come_in_order (calls_of before) parts.0 parts.1)
+        let parts = cut_at (calls_of before) (calls_of after) (table_from first) t (ap (table_after first) (sym (filter_map-append call_of before after)) ∙ e) in
+        come_well first before (come_in_order first (calls_of before) parts.0 parts.1)

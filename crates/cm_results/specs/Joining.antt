@@ -1,5 +1,5 @@
 -- The calls that envelopes stand for, and how the table after them goes with the envelopes' own words.
-use Rattle.std.specs.Prelude.{◌≡◌, ◌↔◌, List, [], ◌∷◌, ◌++◌, map, Option, Some, None, is_some, true}
+use Rattle.std.specs.Prelude.{◌≡◌, ◌↔◌, ℕ, List, [], ◌∷◌, ◌++◌, map, Option, Some, None, is_some, true}
 use Rattle.std.specs.List.{filter_map}
 use Rattle.std.specs.Option.{option_and_then}
 use Rattle.cm_attempt.specs.Table.{Table, reported_of}
@@ -26,25 +26,25 @@ calls_of es = filter_map call_of es
 
 -- where no call is refused, the attempts come as they must, and the table reports the results
 abbrev pub TablesHaveResults : Type 0
-TablesHaveResults = (es : List Envelope) (t : Table) → table_after (calls_of es) ≡ Some t
-    → AttemptsComeWell es × (map (λ c. (c.id, reported_of t c.id)) t.cases ≡ results_of es)
+TablesHaveResults = (first : ℕ) (es : List Envelope) (t : Table) → table_after first (calls_of es) ≡ Some t
+    → AttemptsComeWell first es × (map (λ c. (c.id, reported_of t c.id)) t.cases ≡ results_of es)
 
 -- where the attempts come as they must, no call is refused
 abbrev pub WellComeIsTaken : Type 0
-WellComeIsTaken = (es : List Envelope) → AttemptsComeWell es → is_some (table_after (calls_of es)) ≡ true
+WellComeIsTaken = (first : ℕ) (es : List Envelope) → AttemptsComeWell first es → is_some (table_after first (calls_of es)) ≡ true
 
 -- what comes as it must has come so all the way
 abbrev pub FrontsComeWell : Type 0
-FrontsComeWell = (before after : List Envelope) → AttemptsComeWell (before ++ after) → AttemptsComeWell before
+FrontsComeWell = (first : ℕ) (before after : List Envelope) → AttemptsComeWell first (before ++ after) → AttemptsComeWell first before
 
 -- behind envelopes whose calls are accepted, the call for an envelope is refused for the first of its own checks that it fails
 abbrev pub RefusedForChecks : Type 0
-RefusedForChecks = (es : List Envelope) (t : Table) → table_after (calls_of es) ≡ Some t → (e : Envelope) → option_and_then told_refusal (refused t e) ≡ first_failed (own_checks es e)
+RefusedForChecks = (first : ℕ) (es : List Envelope) (t : Table) → table_after first (calls_of es) ≡ Some t → (e : Envelope) → option_and_then told_refusal (refused t e) ≡ first_failed (own_checks first es e)
 
 -- and where it fails none, the table changes as the call for it changes a table
 abbrev pub TablesChange : Type 0
-TablesChange = (es : List Envelope) (t : Table) → table_after (calls_of es) ≡ Some t → (e : Envelope) → first_failed (own_checks es e) ≡ None → table_after (calls_of (es ++ e ∷ [])) ≡ Some (changed t e)
+TablesChange = (first : ℕ) (es : List Envelope) (t : Table) → table_after first (calls_of es) ≡ Some t → (e : Envelope) → first_failed (own_checks first es e) ≡ None → table_after first (calls_of (es ++ e ∷ [])) ≡ Some (changed t e)
 
 -- An envelope behind accepted ones fails one of its own checks exactly where the attempts don't come as they must with it.
 abbrev pub FaultsAreExact : Type 0
-FaultsAreExact = (es : List Envelope) → AttemptsComeWell es → (e : Envelope) → (first_failed (own_checks es e) ≡ None) ↔ AttemptsComeWell (es ++ e ∷ [])
+FaultsAreExact = (first : ℕ) (es : List Envelope) → AttemptsComeWell first es → (e : Envelope) → (first_failed (own_checks first es e) ≡ None) ↔ AttemptsComeWell first (es ++ e ∷ [])

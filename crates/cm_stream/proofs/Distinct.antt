@@ -8,7 +8,7 @@ use Rattle.std.proofs.lemmas.Bool.Decides.{nat_tests}
 use Rattle.cm_stream.specs.Texts.{Text}
 use Rattle.cm_stream.specs.Words.{Name, SourceOf, DocumentOf, PickleNamed, PickleStep, Definition, HookNamed, Case, Step, Run, Attempt, RunHook, same_name, declares, declares_it, times_declared, refers, if_any, is_run_started, has_run_started}
 use Rattle.cm_stream.specs.Good.{has_same_names, ReferencesGood}
-use Rattle.cm_stream.specs.Checks.{checks_of, declares_again}
+use Rattle.cm_stream.specs.Checks.{declares_again}
 use Rattle.cm_envelope.specs.declared.envelope.Envelope.{Envelope}
 use Rattle.cm_envelope.specs.declared.envelope.Envelope.TheVariants as envelope
 use Rattle.cm_envelope.specs.declared.pickle.PickleStep as pickle_step
@@ -18,7 +18,7 @@ use Rattle.cm_stream.proofs.Lists.{or_false, and_true, any_front, any_back, coun
 use Rattle.cm_stream.proofs.Found.{bytes_same, bytes_are}
 use Rattle.cm_stream.proofs.Declared.{none_of}
 use Rattle.cm_stream.proofs.Refuted.{declared_append, names_behind, cut_at}
-use Rattle.cm_stream.proofs.Passing.{Passes, AllPass, front_passes, last_passes, by_lines, no_unknown}
+use Rattle.cm_stream.proofs.Passing.{LinePasses, AllPass, front_passes, last_passes, by_lines, no_unknown}
 
 -- ---- names
 
@@ -132,22 +132,22 @@ new_run before r h = record { own = alone r.id; new = none r.id }
 nothing_new : (before : List Envelope) (e : Envelope) → declares e ≡ [] → IsNew before e
 nothing_new before e h = record { own = ap has_same_names h; new = ap (list_any (λ m. list_any (same_name m) (flat_map declares before))) h }
 
-pub new_here : (before : List Envelope) (e : Envelope) → Passes (checks_of before e) → IsNew before e
-new_here before (envelope.Source s) h = is_new before (envelope.Source s) h.0
-new_here before (envelope.GherkinDocument d) h = is_new before (envelope.GherkinDocument d) (h.1).0
-new_here before (envelope.Pickle p) h = is_new before (envelope.Pickle p) ((h.1).1).0
-new_here before (envelope.StepDefinition d) h = is_new before (envelope.StepDefinition d) h.0
-new_here before (envelope.Hook x) h = is_new before (envelope.Hook x) h.0
-new_here before (envelope.TestCase c) h = is_new before (envelope.TestCase c) ((h.1).1).0
-new_here before (envelope.TestRunStarted r) h = new_run before r h.0
-new_here before (envelope.TestCaseStarted s) h = is_new before (envelope.TestCaseStarted s) ((h.1).1).0
+pub new_here : (before : List Envelope) (e : Envelope) → LinePasses before e → IsNew before e
+new_here before (envelope.Source s) h = is_new before (envelope.Source s) h.passes.0
+new_here before (envelope.GherkinDocument d) h = is_new before (envelope.GherkinDocument d) (h.passes.1).0
+new_here before (envelope.Pickle p) h = is_new before (envelope.Pickle p) ((h.passes.1).1).0
+new_here before (envelope.StepDefinition d) h = is_new before (envelope.StepDefinition d) h.passes.0
+new_here before (envelope.Hook x) h = is_new before (envelope.Hook x) h.passes.0
+new_here before (envelope.TestCase c) h = is_new before (envelope.TestCase c) ((h.passes.1).1).0
+new_here before (envelope.TestRunStarted r) h = new_run before r h.passes.0
+new_here before (envelope.TestCaseStarted s) h = is_new before (envelope.TestCaseStarted s) ((h.passes.1).1).0
 new_here before (envelope.ParseError p) h = nothing_new before (envelope.ParseError p) refl
 new_here before (envelope.TestStepStarted s) h = nothing_new before (envelope.TestStepStarted s) refl
 new_here before (envelope.TestStepFinished s) h = nothing_new before (envelope.TestStepFinished s) refl
 new_here before (envelope.TestCaseFinished f) h = nothing_new before (envelope.TestCaseFinished f) refl
 new_here before (envelope.TestRunFinished f) h = nothing_new before (envelope.TestRunFinished f) refl
 new_here before (envelope.Attachment a) h = nothing_new before (envelope.Attachment a) refl
-new_here before (envelope.TestRunHookStarted s) h = is_new before (envelope.TestRunHookStarted s) ((h.1).1).0
+new_here before (envelope.TestRunHookStarted s) h = is_new before (envelope.TestRunHookStarted s) ((h.passes.1).1).0
 new_here before (envelope.TestRunHookFinished f) h = nothing_new before (envelope.TestRunHookFinished f) refl
 new_here before envelope.Other h = nothing_new before envelope.Other refl
 
@@ -158,7 +158,7 @@ all_distinct es pass = by_lines (λ xs. has_same_names (flat_map declares xs) �
   where
     step : (xs : List Envelope) (e : Envelope) → AllPass (xs ++ e ∷ []) → has_same_names (flat_map declares xs) ≡ false → has_same_names (flat_map declares (xs ++ e ∷ [])) ≡ false
     step xs e h rec =
-        let new = new_here xs e (last_passes xs e h).1 in
+        let new = new_here xs e (last_passes xs e h) in
         let parts : flat_map declares (xs ++ e ∷ []) ≡ flat_map declares xs ++ declares e = declared_append xs (e ∷ []) ∙ ap (λ ns. flat_map declares xs ++ ns) (append-nil (declares e)) in
         ap has_same_names parts ∙ names_join (flat_map declares xs) (declares e) rec new.own new.new
 
@@ -213,4 +213,4 @@ once before h (n ∷ ns) k =
 pub all_refer : (es : List Envelope) → AllPass es → ReferencesGood es
 all_refer es pass before e after cut =
     let front : AllPass before = front_passes before (e ∷ after) (subst AllPass cut pass) in
-    once before (all_distinct before front) (refers before e) (no_unknown before e (pass before e after cut).1)
+    once before (all_distinct before front) (refers before e) (no_unknown before e (pass before e after cut))

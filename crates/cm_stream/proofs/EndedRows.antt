@@ -1,5 +1,5 @@
 -- What an attempt that ends changes in the table of the lines so far.
-use Rattle.std.proofs.Common.{◌≡◌, refl, sym, ap, ◌∙◌, List, [], ◌∷◌, ◌++◌, Option, Some, None, true, false, Bool, append-nil, subst, ◌||◌, map}
+use Rattle.std.proofs.Common.{◌≡◌, ℕ, refl, sym, ap, ◌∙◌, List, [], ◌∷◌, ◌++◌, Option, Some, None, true, false, Bool, append-nil, subst, ◌||◌, map}
 use Rattle.std.specs.Prelude.{find, unwrap_or}
 use Rattle.std.specs.List.{AllByRecursion, list_any, list_all, filter}
 use Rattle.std.specs.Option.{option_map}
@@ -67,7 +67,7 @@ others_retried case es pass = by_lines (λ xs. AllByRecursion (λ (s : TestCaseS
     step xs (envelope.TestCaseStarted t) more h = by_id case t.test_case_id
         (λ k. keep xs (envelope.TestCaseStarted t) (split xs t ∙ ap (λ ys. starts_of case xs ++ ys) (rw k refl) ∙ append-nil (starts_of case xs)) h)
         (λ k.
-        let all = was_not (list_all (λ x. is_retried x.id xs) (starts_of t.test_case_id xs)) ((((((last_passes xs (envelope.TestCaseStarted t) more).1).1).1).1).1).0 in
+        let all = was_not (list_all (λ x. is_retried x.id xs) (starts_of t.test_case_id xs)) ((((((last_passes xs (envelope.TestCaseStarted t) more).passes).1).1).1).1).0 in
         let each : AllByRecursion (λ (s : TestCaseStarted). is_retried s.id xs ≡ true) (starts_of case xs) = each_true (λ x. is_retried x.id xs) (starts_of case xs) (ap (λ u. list_all (λ (x : TestCaseStarted). is_retried x.id xs) (starts_of u xs)) k ∙ all) in
         let here : filter (λ s. bytes_eq case s.test_case_id) (t ∷ []) ≡ t ∷ [] = rw (k, bytes_same t.test_case_id) refl in
         let parts : front_of (starts_of case (xs ++ envelope.TestCaseStarted t ∷ [])) ≡ starts_of case xs = ap front_of (split xs t ∙ ap (λ ys. starts_of case xs ++ ys) here) ∙ front_push (starts_of case xs) t in
@@ -136,20 +136,20 @@ state_outcome row false = refl
 pub differs_back : (a b : Text) → bytes_eq a b ≡ false → bytes_eq b a ≡ false
 differs_back a b k = by_id b a (λ n. n) (λ n. let yes_too = bytes_same a in let turned : bytes_eq a a ≡ false = ap (bytes_eq a) (sym n) ∙ k in cc)
 
-pub finished_table : (es : List Envelope) (f : TestCaseFinished) → AllPass (es ++ envelope.TestCaseFinished f ∷ []) → table_of (es ++ envelope.TestCaseFinished f ∷ []) ≡ changed (table_of es) (envelope.TestCaseFinished f)
-finished_table es f more =
+pub finished_table : (first : ℕ) (es : List Envelope) (f : TestCaseFinished) → AllPass (es ++ envelope.TestCaseFinished f ∷ []) → table_of first (es ++ envelope.TestCaseFinished f ∷ []) ≡ changed (table_of first es) (envelope.TestCaseFinished f)
+finished_table first es f more =
     let e = envelope.TestCaseFinished f in
     let a = f.test_case_started_id in
     let pass = front_passes es (e ∷ []) more in
     let one = (all_refer (es ++ e ∷ []) more es e [] refl).0 in
-    let next = was_not (is_next_move Ended a es) ((((last_passes es e more).1).1).1).0 in
+    let next = was_not (is_next_move Ended a es) ((((last_passes es e more).passes).1).1).0 in
     let at = declarer (Attempt a) as_start (is_of a) (declares_attempt a) es one in
     let s = at.value in
     let open_yet : ends_of a es ≡ [] = no_ends a es (not_over es pass a Ended one next) in
-    let row : find_attempt (table_of es) a ≡ Some (attempt_row es s) = find_map (λ r. bytes_eq a r.id) (attempt_row es) (starts es) ∙ ap (option_map (attempt_row es)) at.found in
-    let closed : changed (table_of es) e ≡ change_attempt a ended (change_case s.test_case_id (with_last (outcome (attempt_row es s) f.will_be_retried)) (table_of es)) = ap (λ o. finished_at a f.will_be_retried o (table_of es)) row in
+    let row : find_attempt (table_of first es) a ≡ Some (attempt_row es s) = find_map (λ r. bytes_eq a r.id) (attempt_row es) (starts es) ∙ ap (option_map (attempt_row es)) at.found in
+    let closed : changed (table_of first es) e ≡ change_attempt a ended (change_case s.test_case_id (with_last (outcome (attempt_row es s) f.will_be_retried)) (table_of first es)) = ap (λ o. finished_at a f.will_be_retried o (table_of first es)) row in
     let only = only_found (is_of a) (starts es) s (one_attempt es pass a) at.found in
-    table_is (table_of (es ++ e ∷ [])) (change_attempt a ended (change_case s.test_case_id (with_last (outcome (attempt_row es s) f.will_be_retried)) (table_of es)))
+    table_is (table_of first (es ++ e ∷ [])) (change_attempt a ended (change_case s.test_case_id (with_last (outcome (attempt_row es s) f.will_be_retried)) (table_of first es))) refl
     (ap (map (case_row (es ++ e ∷ []))) (found_more as_case es e refl)
     ∙ sym (change_one (λ r. bytes_eq s.test_case_id r.id) (with_last (outcome (attempt_row es s) f.will_be_retried)) (λ c. bytes_eq s.test_case_id c.id) (case_row es) (case_row (es ++ e ∷ [])) (λ c. refl)
     (hit_case pass s at.found (bytes_are a s.id at.passes) open_yet) (other_case_row s only) (cases es) (one_case es pass s.test_case_id)))

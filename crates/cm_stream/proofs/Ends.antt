@@ -13,6 +13,7 @@ use Rattle.cm_stream.specs.Sources.{is_due}
 use Rattle.cm_stream.specs.Words.{as_source, as_document, as_pickle, as_case, as_start, as_run_hook_end, sources, cases, starts, hook_statuses, starts_of, documents_of, pickles_of, is_run_started, is_judged, has_run_started, StepStarted, StepFinished, Ended, move_of, moves, whole, is_end, is_ended, retry_in, ends_of, status_in, statuses, ends_well, is_good_case, last_of, all_well, steps_of}
 use Rattle.cm_stream.specs.Good.{Good, Sound, MeetsSource}
 use Rattle.cm_attempt.specs.declared.policy.Policy.{Policy}
+use Rattle.cm_attempt.specs.declared.settings.Settings.{Settings}
 use Rattle.cm_stream.specs.Checks.{lacks, is_incomplete, same_flag}
 use Rattle.cm_envelope.specs.declared.envelope.Envelope.{Envelope}
 use Rattle.cm_envelope.specs.declared.envelope.Envelope.TheVariants as envelope
@@ -160,5 +161,5 @@ module _ (es before : List Envelope) (f : TestRunFinished) (after : List Envelop
   same_flags true b h = ap not (sym h)
   same_flags false b h = rw (← h) refl
 
-  pub success_right : (policy : Policy) → Good policy es → not (same_flag f.success (all_well policy before && not f.has_exception)) ≡ false
-  success_right policy good = same_flags f.success (all_well policy before && not f.has_exception) (success_by policy es f (good.success before (envelope.TestRunFinished f) after run.cut) ∙ ap (λ b. b && not f.has_exception) (same_well policy))
+  pub success_right : (settings : Settings) → Good settings es → not (same_flag f.success (all_well settings.policy before && not f.has_exception)) ≡ false
+  success_right settings good = same_flags f.success (all_well settings.policy before && not f.has_exception) (success_by settings.policy es f (good.success before (envelope.TestRunFinished f) after run.cut) ∙ ap (λ b. b && not f.has_exception) (same_well settings.policy))

@@ -3,14 +3,14 @@ use Rattle.cm_stream.specs.Laws.{FaultlessAreGood}
 use Rattle.cm_stream.proofs.Passing.{plain_passes, success_passes}
 use Rattle.cm_stream.proofs.Distinct.{all_distinct, all_refer}
 use Rattle.cm_stream.proofs.Order.{the_end, in_order}
-use Rattle.cm_stream.proofs.Parts.{all_cases, all_retries, all_known, success_said}
+use Rattle.cm_stream.proofs.Parts.{all_cases, all_retries, all_numbers, all_known, success_said}
 use Rattle.cm_stream.proofs.Moves.{all_attempts}
 use Rattle.cm_stream.proofs.Sourced.{all_sources}
 use Rattle.cm_stream.proofs.RunHooks.{all_hooks}
 
 pub faultless_are_good : FaultlessAreGood
-faultless_are_good policy es h =
-    let pass = plain_passes policy es h.lines in
+faultless_are_good settings es h =
+    let pass = plain_passes settings es h.lines in
     let end = the_end es pass h.end in
     record {
       sound = record {
@@ -24,5 +24,6 @@ faultless_are_good policy es h =
         known = all_known es pass;
         hooks = all_hooks es pass end;
       };
-      success = success_said policy es pass (success_passes policy es h);
+      numbers = all_numbers settings es h.lines;
+      success = success_said settings.policy es pass (success_passes settings es h);
     }

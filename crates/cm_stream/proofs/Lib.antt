@@ -30,3 +30,4 @@ pub mod Refuses
 pub mod Steps
 pub mod StepRefuses
 pub mod RunHooks
+pub mod Released

@@ -122,25 +122,25 @@ more a xs (envelope.TestCaseStarted s) h g =
     let e = envelope.TestCaseStarted s in
     by_id a s.id (λ k. stays a xs e (rw k refl) (rw k refl) g)
     (λ k. subst (λ x. Goes x (xs ++ e ∷ [])) (sym k)
-    (begins xs s (all_refer (xs ++ e ∷ []) h xs e [] refl).0 (none_before xs s ((((last_passes xs e h).1).1).1).0) (subst (λ x. Goes x xs) k g)))
+    (begins xs s (all_refer (xs ++ e ∷ []) h xs e [] refl).0 (none_before xs s ((((last_passes xs e h).passes).1).1).0) (subst (λ x. Goes x xs) k g)))
 more a xs (envelope.TestStepStarted s) h g =
     let e = envelope.TestStepStarted s in
     let id = s.test_case_started_id in
     by_id a id (λ k. stays a xs e (rw k refl) refl g)
     (λ k. subst (λ x. Goes x (xs ++ e ∷ [])) (sym k)
-    (goes_on id xs e (StepStarted s.test_step_id) (rw (bytes_same id) refl) (all_refer (xs ++ e ∷ []) h xs e [] refl).0 (was_not (is_next_move (StepStarted s.test_step_id) id xs) (((last_passes xs e h).1).1).0) (subst (λ x. Goes x xs) k g)))
+    (goes_on id xs e (StepStarted s.test_step_id) (rw (bytes_same id) refl) (all_refer (xs ++ e ∷ []) h xs e [] refl).0 (was_not (is_next_move (StepStarted s.test_step_id) id xs) (((last_passes xs e h).passes).1).0) (subst (λ x. Goes x xs) k g)))
 more a xs (envelope.TestStepFinished s) h g =
     let e = envelope.TestStepFinished s in
     let id = s.test_case_started_id in
     by_id a id (λ k. stays a xs e (rw k refl) refl g)
     (λ k. subst (λ x. Goes x (xs ++ e ∷ [])) (sym k)
-    (goes_on id xs e (StepFinished s.test_step_id) (rw (bytes_same id) refl) (all_refer (xs ++ e ∷ []) h xs e [] refl).0 (was_not (is_next_move (StepFinished s.test_step_id) id xs) (((last_passes xs e h).1).1).0) (subst (λ x. Goes x xs) k g)))
+    (goes_on id xs e (StepFinished s.test_step_id) (rw (bytes_same id) refl) (all_refer (xs ++ e ∷ []) h xs e [] refl).0 (was_not (is_next_move (StepFinished s.test_step_id) id xs) (((last_passes xs e h).passes).1).0) (subst (λ x. Goes x xs) k g)))
 more a xs (envelope.TestCaseFinished f) h g =
     let e = envelope.TestCaseFinished f in
     let id = f.test_case_started_id in
     by_id a id (λ k. stays a xs e (rw k refl) refl g)
     (λ k. subst (λ x. Goes x (xs ++ e ∷ [])) (sym k)
-    (goes_on id xs e Ended (rw (bytes_same id) refl) (all_refer (xs ++ e ∷ []) h xs e [] refl).0 (was_not (is_next_move Ended id xs) ((((last_passes xs e h).1).1).1).0) (subst (λ x. Goes x xs) k g)))
+    (goes_on id xs e Ended (rw (bytes_same id) refl) (all_refer (xs ++ e ∷ []) h xs e [] refl).0 (was_not (is_next_move Ended id xs) ((((last_passes xs e h).passes).1).1).0) (subst (λ x. Goes x xs) k g)))
 more a xs e h g = stays a xs e refl refl g
 
 pub all_go : (a : Text) (es : List Envelope) → AllPass es → Goes a es
@@ -188,7 +188,7 @@ all_attempts es pass end before e after cut = at e cut
         let same : t ≡ s = cc in
         let known : find_case s.test_case_id es ≡ Some c = ap (λ x. find_case x.test_case_id es) (sym same) ∙ k in
         let in_front : find (is_of s.id) (starts end.before) ≡ Some s = ap (find (is_of s.id)) (sym (till_end es end.before end.end end.after end.run as_start refl refl)) ∙ found in
-        let is : is_ended s.id end.before ≡ true = find_all (λ x. is_ended x.id end.before) (is_of s.id) (starts end.before) s in_front (was_not (list_all (λ x. is_ended x.id end.before) (starts end.before)) ((end.passes.1).1).0) in
+        let is : is_ended s.id end.before ≡ true = find_all (λ x. is_ended x.id end.before) (is_of s.id) (starts end.before) s in_front (was_not (list_all (λ x. is_ended x.id end.before) (starts end.before)) ((end.line.passes.1).1).0) in
         let ended : list_any is_end (moves s.id es) ≡ true = ap (list_any is_end) (till_end es end.before end.end end.after end.run (move_of s.id) refl refl) ∙ is in
         let none = end_is_last (Started ∷ flat_map (λ x. StepStarted x ∷ StepFinished x ∷ []) (step_ids c)) (moves s.id es) rest (steps_have_no_end (step_ids c)) w ended in
         let all : whole (step_ids c) ≡ moves s.id es = w ∙ ap (λ r. moves s.id es ++ r) none ∙ append-nil (moves s.id es) in
@@ -196,7 +196,7 @@ all_attempts es pass end before e after cut = at e cut
 
     at : (e : Envelope) → es ≡ before ++ e ∷ after → AttemptGood es e
     at (envelope.TestCaseStarted s) cut =
-        let h = (pass before (envelope.TestCaseStarted s) after cut).1 in
+        let h = (pass before (envelope.TestCaseStarted s) after cut).passes in
         let none = none_before before s ((h.1).1).0 in
         let here : find (is_of s.id) (starts (envelope.TestCaseStarted s ∷ after)) ≡ Some s = rw (bytes_same s.id) refl in
         let found : find (is_of s.id) (starts es) ≡ Some s =

@@ -1,5 +1,5 @@
 -- What an attempt that starts, and a case that is declared, change in the table of the lines so far.
-use Rattle.std.proofs.Common.{◌≡◌, refl, sym, ap, ◌∙◌, List, [], ◌∷◌, ◌++◌, Some, None, true, false, Bool, append-nil, map, length, arith}
+use Rattle.std.proofs.Common.{◌≡◌, ℕ, refl, sym, ap, ◌∙◌, List, [], ◌∷◌, ◌++◌, Some, None, true, false, Bool, append-nil, map, length, arith}
 use Rattle.std.specs.Prelude.{find}
 use Rattle.std.specs.List.{list_any, filter}
 use Rattle.std.specs.Option.{option_map_or}
@@ -68,13 +68,13 @@ pub map_both : {X Y : Type 0} (f : X → Y) (xs ys : List X) → map f (xs ++ ys
 map_both f [] ys = refl
 map_both f (x ∷ xs) ys = ap (λ zs. f x ∷ zs) (map_both f xs ys)
 
-pub started_table : (es : List Envelope) (s : TestCaseStarted) → AllPass (es ++ envelope.TestCaseStarted s ∷ []) → table_of (es ++ envelope.TestCaseStarted s ∷ []) ≡ changed (table_of es) (envelope.TestCaseStarted s)
-started_table es s more =
+pub started_table : (first : ℕ) (es : List Envelope) (s : TestCaseStarted) → AllPass (es ++ envelope.TestCaseStarted s ∷ []) → table_of first (es ++ envelope.TestCaseStarted s ∷ []) ≡ changed (table_of first es) (envelope.TestCaseStarted s)
+started_table first es s more =
     let e = envelope.TestCaseStarted s in
     let pass = front_passes es (e ∷ []) more in
-    let new : find (is_of s.id) (starts es) ≡ None = none_before es s ((((last_passes es e more).1).1).1).0 in
+    let new : find (is_of s.id) (starts es) ≡ None = none_before es s ((((last_passes es e more).passes).1).1).0 in
     let still = no_moves (all_go s.id es pass) new in
-    table_is (table_of (es ++ e ∷ [])) (changed (table_of es) e)
+    table_is (table_of first (es ++ e ∷ [])) (changed (table_of first es) e) refl
     (ap (map (case_row (es ++ e ∷ []))) (found_more as_case es e refl)
     ∙ sym (change_one (λ r. bytes_eq s.test_case_id r.id) opened (λ c. bytes_eq s.test_case_id c.id) (case_row es) (case_row (es ++ e ∷ [])) (λ c. refl) (hit still) other (cases es) (one_case es pass s.test_case_id)))
     (ap (map (attempt_row (es ++ e ∷ []))) (found_push as_start es e s refl) ∙ map_both (attempt_row (es ++ e ∷ [])) (starts es) (s ∷ [])
@@ -113,17 +113,17 @@ started_table es s more =
 
 -- ---- a case is declared
 
-pub case_table : (es : List Envelope) (c : TestCase) → AllPass (es ++ envelope.TestCase c ∷ []) → table_of (es ++ envelope.TestCase c ∷ []) ≡ changed (table_of es) (envelope.TestCase c)
-case_table es c more =
+pub case_table : (first : ℕ) (es : List Envelope) (c : TestCase) → AllPass (es ++ envelope.TestCase c ∷ []) → table_of first (es ++ envelope.TestCase c ∷ []) ≡ changed (table_of first es) (envelope.TestCase c)
+case_table first es c more =
     let e = envelope.TestCase c in
     let pass = front_passes es (e ∷ []) more in
-    let again = or_false _ _ ((((last_passes es e more).1).1).1).0 in
+    let again = or_false _ _ ((((last_passes es e more).passes).1).1).0 in
     let new = (or_false _ _ again.1).0 in
     let nowhere = not_counted (declares_it (Case c.id)) es new in
     let none : find (λ x. bytes_eq c.id x.id) (cases es) ≡ None = none_found as_case (λ x. bytes_eq c.id x.id) es (sym (same_any (declares_it (Case c.id)) (λ x. option_map_or (λ y. bytes_eq c.id y.id) (as_case x) false) (declares_case c.id) es) ∙ nowhere) in
     let unstarted : starts_of c.id es ≡ [] = none_kept (λ s. bytes_eq c.id s.test_case_id) (starts es) (each_found as_start (λ s. bytes_eq c.id s.test_case_id ≡ false) es (each pass none)) in
     let still : starts_of c.id (es ++ e ∷ []) ≡ [] = ap (filter (λ s. bytes_eq c.id s.test_case_id)) (found_more as_start es e refl) ∙ unstarted in
-    table_is (table_of (es ++ e ∷ [])) (changed (table_of es) e)
+    table_is (table_of first (es ++ e ∷ [])) (changed (table_of first es) e) refl
     (ap (map (case_row (es ++ e ∷ []))) (found_push as_case es e c refl) ∙ map_both (case_row (es ++ e ∷ [])) (cases es) (c ∷ [])
     ∙ ap (λ rs. rs ++ case_row (es ++ e ∷ []) c ∷ []) (map_same (case_row (es ++ e ∷ [])) (case_row es) (λ x. other_case es e x refl (λ a. refl) (λ a. refl)) (cases es))
     ∙ ap (λ r. map (case_row es) (cases es) ++ r ∷ []) (rw still refl))

@@ -1,5 +1,6 @@
 -- One row of a table among many.
 use Rattle.std.proofs.Common.{◌≡◌, suc, ◌≤◌, refl, sym, ap, ◌∙◌, List, [], ◌∷◌, ◌++◌, Option, Some, None, true, false, Bool, append-nil, map, length, arith}
+use Rattle.std.specs.Prelude.{find}
 use Rattle.std.specs.List.{list_any, filter, filter_map}
 use Rattle.std.specs.Option.{option_map_or}
 use Rattle.std.specs.Str.{bytes_eq}
@@ -7,10 +8,10 @@ use Rattle.std.proofs.lemmas.List.Elements.{filter_map-append}
 use Rattle.std.proofs.lemmas.List.Sums.{length-filter}
 use Rattle.cm_stream.specs.Texts.{Text}
 use Rattle.cm_attempt.specs.Table.{change_first}
-use Rattle.cm_stream.specs.Words.{Attempt, times_declared, declares_it, as_start, starts}
+use Rattle.cm_stream.specs.Words.{Attempt, PickleNamed, times_declared, declares_it, as_start, as_pickle, starts, pickles}
 use Rattle.cm_envelope.specs.declared.envelope.Envelope.{Envelope}
-use Rattle.cm_stream.proofs.Lists.{or_false}
-use Rattle.cm_stream.proofs.Declared.{declares_attempt}
+use Rattle.cm_stream.proofs.Lists.{or_false, any_here}
+use Rattle.cm_stream.proofs.Declared.{declares_attempt, declares_pickle}
 use Rattle.cm_stream.proofs.Passing.{AllPass}
 use Rattle.cm_stream.proofs.Distinct.{all_distinct, at_most_once}
 use Rattle.cm_stream.proofs.Sourced.{kept_count, same_kept}
@@ -69,3 +70,18 @@ one_attempt es pass a =
     let counted : length (filter (λ s. bytes_eq a s.id) (starts es)) ≡ times_declared (Attempt a) es =
     kept_count as_start (λ s. bytes_eq a s.id) es ∙ ap length (sym (same_kept (declares_it (Attempt a)) (λ x. option_map_or (λ s. bytes_eq a s.id) (as_start x) false) (declares_attempt a) es)) ∙ length-filter (declares_it (Attempt a)) es in
     only_one (λ s. bytes_eq a s.id) (starts es) (omega (arith, counted, at_most_once (Attempt a) es (all_distinct es pass)))
+
+pub one_pickle : (es : List Envelope) → AllPass es → (id : Text) → OnlyOne (λ p. bytes_eq id p.id) (pickles es)
+one_pickle es pass id =
+    let counted : length (filter (λ p. bytes_eq id p.id) (pickles es)) ≡ times_declared (PickleNamed id) es =
+    kept_count as_pickle (λ p. bytes_eq id p.id) es ∙ ap length (sym (same_kept (declares_it (PickleNamed id)) (λ x. option_map_or (λ p. bytes_eq id p.id) (as_pickle x) false) (declares_pickle id) es)) ∙ length-filter (declares_it (PickleNamed id)) es in
+    only_one (λ p. bytes_eq id p.id) (pickles es) (omega (arith, counted, at_most_once (PickleNamed id) es (all_distinct es pass)))
+
+-- an element that passes is the one that is found
+pub only_here : {X : Type 0} (q : X → Bool) (front : List X) (x : X) (back : List X) → OnlyOne q (front ++ x ∷ back) → q x ≡ true → find q (front ++ x ∷ back) ≡ Some x
+only_here q [] x back one e = rw e refl
+only_here {X} q (y ∷ front) x back one e = go (q y) refl (only_here q front x back one.1 e)
+  where
+    go : (b : Bool) → q y ≡ b → find q (front ++ x ∷ back) ≡ Some x → find q (y ∷ front ++ x ∷ back) ≡ Some x
+    go true k rec = let no_way = any_here q front x back (one.0 k) in cc
+    go false k rec = rw k rec

@@ -1,14 +1,15 @@
--- Lines that pass their checks have good cases, retries and results.
-use Rattle.std.proofs.Common.{◌≡◌, ℕ, refl, sym, ap, ◌∙◌, List, [], ◌∷◌, ◌++◌, Option, Some, None, true, false, Bool, not, ◌&&◌, ◌==◌, map, length, arith}
+-- Lines that pass their checks have good cases, retries, numbers and results.
+use Rattle.std.proofs.Common.{◌≡◌, ℕ, ◌+◌, refl, sym, ap, ◌∙◌, List, [], ◌∷◌, ◌++◌, Option, Some, None, true, false, Bool, not, ◌&&◌, ◌==◌, map, length, arith}
 use Rattle.std.specs.List.{list_any, list_all}
 use Rattle.std.specs.Option.{option_map_or}
 use Rattle.std.specs.Str.{bytes_eq}
 use Rattle.std.proofs.lemmas.Bool.Decides.{nat_tests}
 use Rattle.cm_stream.specs.Texts.{Text, same_list, same_texts}
 use Rattle.cm_stream.specs.Words.{is_retried, starts_of, all_well, find_pickle, pickle_step_ids, as_pickle}
-use Rattle.cm_stream.specs.Good.{CasesGood, CaseGood, RetriesGood, RetryGood, SuccessGood, SuccessOf, has_unknown_result}
-use Rattle.cm_stream.specs.Checks.{checks_of, success_check, same_flag}
+use Rattle.cm_stream.specs.Good.{CasesGood, CaseGood, RetriesGood, RetryGood, NumbersGood, NumberGood, SuccessGood, SuccessOf, has_unknown_result}
+use Rattle.cm_stream.specs.Checks.{plain_checks, success_check, same_flag}
 use Rattle.cm_attempt.specs.declared.policy.Policy.{Policy}
+use Rattle.cm_attempt.specs.declared.settings.Settings.{Settings}
 use Rattle.cm_envelope.specs.declared.envelope.Envelope.{Envelope}
 use Rattle.cm_envelope.specs.declared.envelope.Envelope.TheVariants as envelope
 use Rattle.cm_envelope.specs.declared.pickle.Pickle.{Pickle}
@@ -17,7 +18,7 @@ use Rattle.cm_stream.proofs.Readings.{success_is}
 use Rattle.cm_stream.proofs.Lists.{and_true}
 use Rattle.cm_stream.proofs.Found.{bytes_are, still_found}
 use Rattle.cm_stream.proofs.Ends.{EndsRun, same_well}
-use Rattle.cm_stream.proofs.Passing.{Passes, AllPass, SuccessPasses, was_not}
+use Rattle.cm_stream.proofs.Passing.{Passes, LinePasses, AllPass, NoneFails, SuccessPasses, plain_pass, was_not}
 use Rattle.cm_stream.proofs.Order.{everywhere_none, behind_end}
 
 -- ---- cases
@@ -33,7 +34,7 @@ texts_are (x ∷ xs) (y ∷ ys) h =
     cc
 
 pub all_cases : (es : List Envelope) → AllPass es → CasesGood es
-all_cases es pass before e after cut = at e cut (pass before e after cut).1
+all_cases es pass before e after cut = at e cut (pass before e after cut)
   where
     go : (c : TestCase) → es ≡ before ++ envelope.TestCase c ∷ after → (o : Option Pickle) → find_pickle c.pickle_id before ≡ o
         → option_map_or (λ p. same_texts (map (λ s. s.id) p.steps) (pickle_step_ids c)) o false ≡ true → CaseGood es (envelope.TestCase c)
@@ -42,30 +43,39 @@ all_cases es pass before e after cut = at e cut (pass before e after cut).1
         let in_all : find_pickle c.pickle_id es ≡ Some p = ap (find_pickle c.pickle_id) cut ∙ still_found as_pickle (λ x. bytes_eq c.pickle_id x.id) before (envelope.TestCase c ∷ after) p is in
         rw in_all (ap Some (texts_are (map (λ s. s.id) p.steps) (pickle_step_ids c) h))
 
-    at : (e : Envelope) → es ≡ before ++ e ∷ after → Passes (checks_of before e) → CaseGood es e
-    at (envelope.TestCase c) cut h = go c cut (find_pickle c.pickle_id before) refl (was_not _ (h.1).0)
+    at : (e : Envelope) → es ≡ before ++ e ∷ after → LinePasses before e → CaseGood es e
+    at (envelope.TestCase c) cut h = go c cut (find_pickle c.pickle_id before) refl (was_not _ (h.passes.1).0)
     at _ cut h = tt
 
 -- ---- retries
 
+pub all_retries : (es : List Envelope) → AllPass es → RetriesGood es
+all_retries es pass before e after cut = at e (pass before e after cut)
+  where
+    at : (e : Envelope) → LinePasses before e → RetryGood before e
+    at (envelope.TestCaseStarted s) h = was_not (list_all (λ x. is_retried x.id before) (starts_of s.test_case_id before)) ((((h.passes.1).1).1).1).0
+    at _ h = tt
+
+-- ---- numbers
+
 numbers_are : (m n : ℕ) → not (m == n) ≡ false → m ≡ n
 numbers_are m n h = grind (arith, nat_tests)
 
-pub all_retries : (es : List Envelope) → AllPass es → RetriesGood es
-all_retries es pass before e after cut = at e (pass before e after cut).1
+pub all_numbers : (settings : Settings) (es : List Envelope) → NoneFails settings es → NumbersGood settings.first_attempt es
+all_numbers settings es h before e after cut = at e (plain_pass settings es h before e after cut)
   where
-    at : (e : Envelope) → Passes (checks_of before e) → RetryGood before e
-    at (envelope.TestCaseStarted s) h = (numbers_are s.attempt (length (starts_of s.test_case_id before)) (((h.1).1).1).0, was_not (list_all (λ x. is_retried x.id before) (starts_of s.test_case_id before)) ((((h.1).1).1).1).0)
+    at : (e : Envelope) → Passes (plain_checks settings.first_attempt before e) → NumberGood settings.first_attempt before e
+    at (envelope.TestCaseStarted s) h = numbers_are s.attempt (settings.first_attempt + length (starts_of s.test_case_id before)) ((((h.1).1).1).1).0
     at _ h = tt
 
 -- ---- results
 
 pub all_known : (es : List Envelope) → AllPass es → list_any has_unknown_result es ≡ false
-all_known es pass = everywhere_none has_unknown_result es (λ before e after cut. at before e (pass before e after cut).1)
+all_known es pass = everywhere_none has_unknown_result es (λ before e after cut. at before e (pass before e after cut))
   where
-    at : (before : List Envelope) (e : Envelope) → Passes (checks_of before e) → has_unknown_result e ≡ false
-    at before (envelope.TestStepFinished s) h = ((h.1).1).0
-    at before (envelope.TestRunHookFinished f) h = ((h.1).1).0
+    at : (before : List Envelope) (e : Envelope) → LinePasses before e → has_unknown_result e ≡ false
+    at before (envelope.TestStepFinished s) h = ((h.passes.1).1).0
+    at before (envelope.TestRunHookFinished f) h = ((h.passes.1).1).0
     at before _ h = refl
 
 -- ---- success

@@ -1,5 +1,5 @@
 -- What the calls of a record of attempts refuse.
-use Rattle.std.proofs.Common.{◌≡◌, ℕ, ◌≤◌, refl, sym, ap, ◌∙◌, List, [], ◌∷◌, ◌++◌, Option, Some, None, true, false, Bool, not, ◌&&◌, ◌||◌, ◌==◌, length, arith}
+use Rattle.std.proofs.Common.{◌≡◌, ℕ, ◌+◌, ◌≤◌, refl, sym, ap, ◌∙◌, List, [], ◌∷◌, ◌++◌, Option, Some, None, true, false, Bool, not, ◌&&◌, ◌||◌, ◌==◌, length, arith}
 use Rattle.std.specs.Prelude.{nat_lt, count_by, find, is_some, if◌then◌else◌}
 use Rattle.std.specs.List.{AllByRecursion, list_any, list_all, filter_map}
 use Rattle.std.specs.Option.{option_map, option_map_or, option_and_then}
@@ -41,7 +41,7 @@ found_any {X} p (x ∷ xs) = go (p x) refl (found_any p xs)
     go true e rec = rw e refl
     go false e rec = rw e rec
 
-any_found : {X Y : Type 0} (h : X → Option Y) (p : Y → Bool) (xs : List X) → list_any p (filter_map h xs) ≡ list_any (λ x. option_map_or p (h x) false) xs
+pub any_found : {X Y : Type 0} (h : X → Option Y) (p : Y → Bool) (xs : List X) → list_any p (filter_map h xs) ≡ list_any (λ x. option_map_or p (h x) false) xs
 any_found h p [] = refl
 any_found {X} {Y} h p (x ∷ xs) = go (h x) refl (any_found h p xs)
   where
@@ -87,7 +87,7 @@ few_ends a es pass = by_lines (λ xs. length (ends_of a xs) ≤ 1) (omega arith)
         (λ k.
         let e = envelope.TestCaseFinished f in
         let one = (all_refer (xs ++ e ∷ []) h xs e [] refl).0 in
-        let next = was_not (is_next_move Ended f.test_case_started_id xs) ((((last_passes xs e h).1).1).1).0 in
+        let next = was_not (is_next_move Ended f.test_case_started_id xs) ((((last_passes xs e h).passes).1).1).0 in
         let none : ends_of a xs ≡ [] = ap (λ u. ends_of u xs) k ∙ no_ends f.test_case_started_id xs (not_over xs (front_passes xs (e ∷ []) h) f.test_case_started_id Ended one next) in
         let told : retry_in a e ≡ Some f.will_be_retried = rw (k, bytes_same f.test_case_started_id) refl in
         let all : ends_of a (xs ++ e ∷ []) ≡ f.will_be_retried ∷ [] = filter_map-append (retry_in a) xs (e ∷ []) ∙ ap (λ ys. ys ++ ends_of a (e ∷ [])) none ∙ rw told refl in
@@ -143,30 +143,30 @@ or_no : (b : Bool) → (b || false) ≡ b
 or_no true = refl
 or_no false = refl
 
-pub start_refused : (es : List Envelope) (s : TestCaseStarted) → AllPass es
-    → option_and_then told (refused (table_of es) (envelope.TestCaseStarted s)) ≡ first_failed (own_checks es (envelope.TestCaseStarted s))
-start_refused es s pass = go (find_case s.test_case_id es) refl
+pub start_refused : (first : ℕ) (es : List Envelope) (s : TestCaseStarted) → AllPass es
+    → option_and_then told (refused (table_of first es) (envelope.TestCaseStarted s)) ≡ first_failed (own_checks first es (envelope.TestCaseStarted s))
+start_refused first es s pass = go (find_case s.test_case_id es) refl
   where
-    row : case_in (table_of es) s.test_case_id ≡ option_map (case_row es) (find_case s.test_case_id es)
+    row : case_in (table_of first es) s.test_case_id ≡ option_map (case_row es) (find_case s.test_case_id es)
     row = find_map (λ r. bytes_eq s.test_case_id r.id) (case_row es) (cases es)
 
     declared : (times_declared (Case s.test_case_id) es == 0) ≡ not (is_some (find_case s.test_case_id es))
     declared = (known (Case s.test_case_id) as_case (λ c. bytes_eq s.test_case_id c.id) (declares_case s.test_case_id) es).0
 
-    attempt : is_some (find_attempt (table_of es) s.id) ≡ declares_again es (envelope.TestCaseStarted s)
+    attempt : is_some (find_attempt (table_of first es) s.id) ≡ declares_again es (envelope.TestCaseStarted s)
     attempt = ap is_some (find_map (λ r. bytes_eq s.id r.id) (attempt_row es) (starts es)) ∙ some_map (attempt_row es) (find (is_of s.id) (starts es))
         ∙ sym (known (Attempt s.id) as_start (is_of s.id) (declares_attempt s.id) es).1 ∙ sym (or_no (nat_lt 0 (times_declared (Attempt s.id) es)))
 
-    go : (o : Option TestCase) → find_case s.test_case_id es ≡ o → option_and_then told (refused (table_of es) (envelope.TestCaseStarted s)) ≡ first_failed (own_checks es (envelope.TestCaseStarted s))
+    go : (o : Option TestCase) → find_case s.test_case_id es ≡ o → option_and_then told (refused (table_of first es) (envelope.TestCaseStarted s)) ≡ first_failed (own_checks first es (envelope.TestCaseStarted s))
     go None e = rw (row, e, declared, e) refl
     go (Some c) e =
         let same : c.id ≡ s.test_case_id = sym (bytes_are s.test_case_id c.id (find_passes (λ c. bytes_eq s.test_case_id c.id) (cases es) c e)) in
-        let left : refused (table_of es) (envelope.TestCaseStarted s) ≡ start_fault_at (table_of es) s.id s.attempt (Some (case_row es c)) = ap (start_fault_at (table_of es) s.id s.attempt) (row ∙ ap (option_map (case_row es)) e) in
+        let left : refused (table_of first es) (envelope.TestCaseStarted s) ≡ start_fault_at (table_of first es) s.id s.attempt (Some (case_row es c)) = ap (start_fault_at (table_of first es) s.id s.attempt) (row ∙ ap (option_map (case_row es)) e) in
         let number : (case_row es c).attempts ≡ length (starts_of s.test_case_id es) = ap (λ u. length (starts_of u es)) same in
         let closed : is_closed_to_new (case_row es c).last ≡ not (list_all (λ x. is_retried x.id es) (starts_of s.test_case_id es)) = ap (λ u. is_closed_to_new (last_state es (last_of (starts_of u es)))) same ∙ closed_is s.test_case_id es pass in
-        let tests : option_and_then told (start_fault_at (table_of es) s.id s.attempt (Some (case_row es c)))
-        ≡ first_failed (bad.DuplicateId if declares_again es (envelope.TestCaseStarted s) ∷ bad.AttemptNumber if not (s.attempt == length (starts_of s.test_case_id es)) ∷ bad.AttemptOverlap if not (list_all (λ x. is_retried x.id es) (starts_of s.test_case_id es)) ∷ []) =
-        (λ i. option_and_then told (if attempt i then Some refusal.DuplicateId else (if not (s.attempt == number i) then Some refusal.AttemptNumber else (if closed i then Some refusal.AttemptOverlap else None))))
-        ∙ in_turn (declares_again es (envelope.TestCaseStarted s)) (not (s.attempt == length (starts_of s.test_case_id es))) (not (list_all (λ x. is_retried x.id es) (starts_of s.test_case_id es))) in
+        let tests : option_and_then told (start_fault_at (table_of first es) s.id s.attempt (Some (case_row es c)))
+        ≡ first_failed (bad.DuplicateId if declares_again es (envelope.TestCaseStarted s) ∷ bad.AttemptNumber if not (s.attempt == first + length (starts_of s.test_case_id es)) ∷ bad.AttemptOverlap if not (list_all (λ x. is_retried x.id es) (starts_of s.test_case_id es)) ∷ []) =
+        (λ i. option_and_then told (if attempt i then Some refusal.DuplicateId else (if not (s.attempt == first + number i) then Some refusal.AttemptNumber else (if closed i then Some refusal.AttemptOverlap else None))))
+        ∙ in_turn (declares_again es (envelope.TestCaseStarted s)) (not (s.attempt == first + length (starts_of s.test_case_id es))) (not (list_all (λ x. is_retried x.id es) (starts_of s.test_case_id es))) in
         let right : refers_to_unknown es (envelope.TestCaseStarted s) ≡ false = or_no (times_declared (Case s.test_case_id) es == 0) ∙ declared ∙ ap (λ o. not (is_some o)) e in
         ap (option_and_then told) left ∙ tests ∙ rw right refl

@@ -1,5 +1,5 @@
 -- A good list has no fault: one lemma for each check.
-use Rattle.std.proofs.Common.{◌≡◌, ℕ, refl, sym, ap, ◌∙◌, List, [], ◌∷◌, ◌++◌, true, false, Bool, length, not, arith, append_assoc, ◌&&◌, ◌==◌}
+use Rattle.std.proofs.Common.{◌≡◌, ℕ, ◌+◌, refl, sym, ap, ◌∙◌, List, [], ◌∷◌, ◌++◌, true, false, Bool, length, not, arith, append_assoc, ◌&&◌, ◌==◌}
 use Rattle.std.specs.Prelude.{count_by, nat_lt}
 use Rattle.std.specs.List.{list_any, list_all, flat_map, AllByRecursion}
 use Rattle.std.specs.Str.{bytes_eq}
@@ -8,7 +8,7 @@ use Rattle.cm_stream.specs.OnePass.{reads}
 use Rattle.cm_stream.specs.Sources.{plain}
 use Rattle.cm_stream.specs.Words
 use Rattle.cm_stream.specs.Words.{Name, same_name, declares, declares_it, times_declared, refers, is_run_started, is_run_finished, is_judged, has_run_started, has_run_finished, starts_of}
-use Rattle.cm_stream.specs.Good.{Sound, MeetsSource, has_same_names, has_unknown_result, NothingBehind}
+use Rattle.cm_stream.specs.Good.{Sound, NumbersGood, MeetsSource, has_same_names, has_unknown_result, NothingBehind}
 use Rattle.cm_stream.specs.Checks.{refers_to_unknown, declares_again, is_too_long, is_other_language}
 use Rattle.cm_envelope.specs.declared.envelope.Envelope.{Envelope}
 use Rattle.cm_envelope.specs.declared.envelope.Envelope.TheVariants as envelope
@@ -97,13 +97,13 @@ hook_inside es before s after good cut = ap not (good.order.starts_inside before
 same_number : (m n : ℕ) → m ≡ n → not (m == n) ≡ false
 same_number m n h = grind (arith, h)
 
-pub number_is_next : (es before : List Envelope) (s : TestCaseStarted) (after : List Envelope) → Sound es → es ≡ before ++ envelope.TestCaseStarted s ∷ after
-    → not (s.attempt == length (starts_of s.test_case_id before)) ≡ false
-number_is_next es before s after good cut = same_number s.attempt (length (starts_of s.test_case_id before)) (good.retries before (envelope.TestCaseStarted s) after cut).0
+pub number_is_next : (first : ℕ) (es before : List Envelope) (s : TestCaseStarted) (after : List Envelope) → NumbersGood first es → es ≡ before ++ envelope.TestCaseStarted s ∷ after
+    → not (s.attempt == first + length (starts_of s.test_case_id before)) ≡ false
+number_is_next first es before s after numbers cut = same_number s.attempt (first + length (starts_of s.test_case_id before)) (numbers before (envelope.TestCaseStarted s) after cut)
 
 pub no_overlap : (es before : List Envelope) (s : TestCaseStarted) (after : List Envelope) → Sound es → es ≡ before ++ envelope.TestCaseStarted s ∷ after
     → not (list_all (λ x. Words.is_retried x.id before) (starts_of s.test_case_id before)) ≡ false
-no_overlap es before s after good cut = ap not (good.retries before (envelope.TestCaseStarted s) after cut).1
+no_overlap es before s after good cut = ap not (good.retries before (envelope.TestCaseStarted s) after cut)
 
 -- ---- UnknownStatus
 

@@ -86,7 +86,7 @@ finished_few hook es pass = by_lines (λ xs. times_finished hook xs ≤ 1) (omeg
         omega (arith, all, past_many hook (run_hook_ends xs) f [] k, none_many hook, rec))
         (λ k.
         let e = envelope.TestRunHookFinished f in
-        let first : is_hook_finished f.test_run_hook_started_id xs ≡ false = (((last_passes xs e h).1).1).0 in
+        let first : is_hook_finished f.test_run_hook_started_id xs ≡ false = (((last_passes xs e h).passes).1).0 in
         let new : many hook (run_hook_ends xs) ≡ 0 = none_counted (λ (x : TestRunHookFinished). bytes_eq hook x.test_run_hook_started_id) (run_hook_ends xs) (ap (λ u. is_hook_finished u xs) k ∙ first) in
         let all : many hook (run_hook_ends (xs ++ e ∷ [])) ≡ many hook (run_hook_ends xs ++ f ∷ []) = ap (many hook) (found_push as_run_hook_end xs e f refl) in
         let here : bytes_eq hook f.test_run_hook_started_id ≡ true = ap (λ u. bytes_eq u f.test_run_hook_started_id) k ∙ bytes_same f.test_run_hook_started_id in
@@ -108,7 +108,7 @@ all_hooks es pass end before e after cut = at e cut
 
     all : AllByRecursion (λ (s : TestRunHookStarted). is_hook_finished s.id end.before ≡ true) (run_hooks end.before)
     all = each_true (λ (s : TestRunHookStarted). is_hook_finished s.id end.before) (run_hooks end.before)
-        (was_not (list_all (λ s. is_hook_finished s.id end.before) (run_hooks end.before)) (((end.passes.1).1).1).0)
+        (was_not (list_all (λ s. is_hook_finished s.id end.before) (run_hooks end.before)) (((end.line.passes.1).1).1).0)
 
     at : (e : Envelope) → es ≡ before ++ e ∷ after → HookGood es e
     at (envelope.TestRunHookStarted s) cut =

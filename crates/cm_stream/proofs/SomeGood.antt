@@ -19,7 +19,7 @@ use Rattle.cm_envelope.specs.declared.envelope.Envelope.{Envelope}
 use Rattle.cm_envelope.specs.declared.envelope.Status.TheVariants as status
 use Rattle.cm_stream.proofs.Lists.{and_true}
 use Rattle.cm_stream.proofs.FaultlessGood.{faultless_are_good}
-use Rattle.cm_stream.proofs.Streaming.{one_pickle, run_started, run_finished, case, started, step_started, step_finished, finished}
+use Rattle.cm_stream.proofs.Streaming.{by, one_pickle, run_started, run_finished, case, started, step_started, step_finished, finished}
 
 abbrev is_none : Option Finding → Bool
 is_none None = true
@@ -27,24 +27,24 @@ is_none (Some f) = false
 
 abbrev is_faultless : List Envelope → List Envelope → Bool
 is_faultless before [] = true
-is_faultless before (e ∷ rest) = is_none (fault Strict before e) && is_faultless (before ++ e ∷ []) rest
+is_faultless before (e ∷ rest) = is_none (fault (by Strict 0) before e) && is_faultless (before ++ e ∷ []) rest
 
 none_is : (o : Option Finding) → is_none o ≡ true → o ≡ None
 none_is None h = refl
 none_is (Some f) h = cc
 
-each_line : (before rest : List Envelope) → is_faultless before rest ≡ true → (b : List Envelope) (e : Envelope) (a : List Envelope) → rest ≡ b ++ e ∷ a → fault Strict (before ++ b) e ≡ None
+each_line : (before rest : List Envelope) → is_faultless before rest ≡ true → (b : List Envelope) (e : Envelope) (a : List Envelope) → rest ≡ b ++ e ∷ a → fault (by Strict 0) (before ++ b) e ≡ None
 each_line before [] h [] e a cut = cc
 each_line before [] h (x ∷ b) e a cut = cc
 each_line before (x ∷ rest) h [] e a cut =
-    let k = and_true (is_none (fault Strict before x)) (is_faultless (before ++ x ∷ []) rest) h in
+    let k = and_true (is_none (fault (by Strict 0) before x)) (is_faultless (before ++ x ∷ []) rest) h in
     let same : x ≡ e = cc in
-    ap (λ bs. fault Strict bs e) (append-nil before) ∙ ap (fault Strict before) (sym same) ∙ none_is (fault Strict before x) k.0
+    ap (λ bs. fault (by Strict 0) bs e) (append-nil before) ∙ ap (fault (by Strict 0) before) (sym same) ∙ none_is (fault (by Strict 0) before x) k.0
 each_line before (x ∷ rest) h (y ∷ b) e a cut =
-    let k = and_true (is_none (fault Strict before x)) (is_faultless (before ++ x ∷ []) rest) h in
+    let k = and_true (is_none (fault (by Strict 0) before x)) (is_faultless (before ++ x ∷ []) rest) h in
     let same : x ≡ y = cc in
     let more : rest ≡ b ++ e ∷ a = cc in
-    ap (λ bs. fault Strict bs e) (ap (λ z. before ++ z ∷ b) (sym same) ∙ sym (append_assoc before (x ∷ []) b)) ∙ each_line (before ++ x ∷ []) rest k.1 b e a more
+    ap (λ bs. fault (by Strict 0) bs e) (ap (λ z. before ++ z ∷ b) (sym same) ∙ sym (append_assoc before (x ∷ []) b)) ∙ each_line (before ++ x ∷ []) rest k.1 b e a more
 
 -- an attempt that failed and is retried, and one that passed
 abbrev pub retried_then_passed : List Envelope
@@ -58,5 +58,5 @@ no_line_fails : is_faultless [] retried_then_passed ≡ true
 unfolding reads lines_read lines_of numbered_lines without_mark chars after body_of first_some trimmed begins_by fence_of indent_of is_blank_line language_of step_of title_of token_of pickles same_skeleton encode
 no_line_fails = refl
 
-pub retried_then_passed_is_good : Good Strict retried_then_passed
-retried_then_passed_is_good = faultless_are_good Strict retried_then_passed (record { lines = each_line [] retried_then_passed no_line_fails; end = refl })
+pub retried_then_passed_is_good : Good (by Strict 0) retried_then_passed
+retried_then_passed_is_good = faultless_are_good (by Strict 0) retried_then_passed (record { lines = each_line [] retried_then_passed no_line_fails; end = refl })

@@ -17,7 +17,7 @@ use Rattle.cm_stream.specs.OnePass.{reads}
 use Rattle.cm_stream.specs.Sources.{DuePickle, plain, is_due}
 use Rattle.cm_stream.specs.Words.{SourceOf, DocumentOf, times_declared, declares_it, refers, as_source, as_document, as_pickle, sources, sources_of, documents_of, pickles_of, is_accepted, reading_of}
 use Rattle.cm_stream.specs.Good.{SourcesGood, SourceGood, MeetsSource}
-use Rattle.cm_stream.specs.Checks.{checks_of, is_too_long, is_other_language, is_uri_accepted, has_skeleton_of, due_pickles, first_ids, document_ids, is_next_pickle, lacks, is_incomplete}
+use Rattle.cm_stream.specs.Checks.{is_too_long, is_other_language, is_uri_accepted, has_skeleton_of, due_pickles, first_ids, document_ids, is_next_pickle, lacks, is_incomplete}
 use Rattle.cm_envelope.specs.declared.envelope.Envelope.{Envelope}
 use Rattle.cm_envelope.specs.declared.envelope.Envelope.TheVariants as envelope
 use Rattle.cm_envelope.specs.declared.envelope.GherkinDocument.{GherkinDocument}
@@ -32,7 +32,7 @@ use Rattle.cm_stream.proofs.Found.{still_found, each_found, bytes_same, bytes_ar
 use Rattle.cm_stream.proofs.Declared.{declarer, declares_source, declares_document, source_is, document_is, pickle_is, same_any}
 use Rattle.cm_stream.proofs.Documents.{documents_both, pickles_both, the_only}
 use Rattle.cm_stream.proofs.Ends.{till_end}
-use Rattle.cm_stream.proofs.Passing.{Passes, AllPass, was_not}
+use Rattle.cm_stream.proofs.Passing.{LinePasses, AllPass, was_not}
 use Rattle.cm_stream.proofs.Distinct.{all_distinct, all_refer, not_counted, at_most_once}
 use Rattle.cm_stream.proofs.Moves.{none_found, by_id}
 use Rattle.cm_stream.proofs.Order.{TheEnd}
@@ -120,12 +120,12 @@ abbrev of_uri : Text → Source → Bool
 of_uri u s = bytes_eq u s.uri
 
 module _ (es : List Envelope) (pass : AllPass es) where
-  passes_at : (before : List Envelope) (e : Envelope) (after : List Envelope) → es ≡ before ++ e ∷ after → Passes (checks_of before e)
-  passes_at before e after cut = (pass before e after cut).1
+  passes_at : (before : List Envelope) (e : Envelope) (after : List Envelope) → es ≡ before ++ e ∷ after → LinePasses before e
+  passes_at before e after cut = pass before e after cut
 
   none_earlier : (before : List Envelope) (s : Source) (after : List Envelope) → es ≡ before ++ envelope.Source s ∷ after → find (of_uri s.uri) (sources before) ≡ None
   none_earlier before s after cut =
-      let new = or_false (nat_lt 0 (times_declared (SourceOf s.uri) before)) false (passes_at before (envelope.Source s) after cut).0 in
+      let new = or_false (nat_lt 0 (times_declared (SourceOf s.uri) before)) false (passes_at before (envelope.Source s) after cut).passes.0 in
       let nowhere = not_counted (declares_it (SourceOf s.uri)) before new.0 in
       none_found as_source (of_uri s.uri) before (sym (same_any (declares_it (SourceOf s.uri)) (λ e. option_map_or (of_uri s.uri) (as_source e) false) (declares_source s.uri) before) ∙ nowhere)
 
@@ -188,7 +188,7 @@ module _ (es : List Envelope) (pass : AllPass es) where
           let one : times_declared (SourceOf s.uri) front ≡ 1 = ap (λ u. times_declared (SourceOf u) front) same ∙ (refers_at front (envelope.GherkinDocument d) back its).0 in
           let found = read_before s only front (envelope.GherkinDocument d) back its one in
           let read : reading_of d.uri front ≡ Some (reads s.content) = ap (λ u. reading_of u front) (sym same) ∙ ap (option_map (λ x. reads x.content)) found in
-          let h = passes_at front (envelope.GherkinDocument d) back its in
+          let h = (passes_at front (envelope.GherkinDocument d) back its).passes in
           record {
             accepted = ap (λ o. option_map_or is_accepted o false) (sym read) ∙ was_not (is_uri_accepted d.uri front) ((h.1).1).0;
             skeleton = ap (has_skeleton_of d.document) (sym read) ∙ was_not (has_skeleton_of d.document (reading_of d.uri front)) (((h.1).1).1).0;
@@ -251,7 +251,7 @@ module _ (es : List Envelope) (pass : AllPass es) where
           let reading : reading_of p.uri xs ≡ Some (Accepted d) = ap (λ u. reading_of u xs) (sym same) ∙ ap (option_map (λ x. reads x.content)) found ∙ ap Some read in
           let declared : times_declared (DocumentOf s.uri) xs ≡ 1 = ap (λ u. times_declared (DocumentOf u) xs) same ∙ (refs.1).0 in
           let ids : document_ids p.uri xs ≡ g.ids = ap (λ u. document_ids u xs) (sym same) ∙ ids_before s.uri g all xs (e ∷ rest) cut declared in
-          let next = was_not (is_next_pickle xs p) ((passes_at xs e rest cut).1).0 in
+          let next = was_not (is_next_pickle xs p) ((passes_at xs e rest cut).passes.1).0 in
           let long : length (pickles_of p.uri xs) ≡ length m.done = ap (λ u. length (pickles_of u xs)) (sym same) ∙ lists_same_length (is_due g.ids) (pickles_of s.uri xs) m.done m.same in
           let at : slice_get due (length (pickles_of p.uri xs)) ≡ slice_get m.rest 0 = ap (λ ds. slice_get ds (length (pickles_of p.uri xs))) m.parts ∙ at_end_of m.done m.rest (length (pickles_of p.uri xs)) long in
           let told : option_map_or (λ q. is_due g.ids p q) (slice_get m.rest 0) false ≡ true =
@@ -315,7 +315,7 @@ module _ (es : List Envelope) (pass : AllPass es) where
         let run = end.run in
         let only = the_source before s after cut in
         let in_front : find (of_uri s.uri) (sources end.before) ≡ Some s = ap (find (of_uri s.uri)) (sym (till_end es end.before end.end end.after run as_source refl refl)) ∙ only in
-        let complete : is_incomplete end.before s ≡ false = find_fails (is_incomplete end.before) (of_uri s.uri) (sources end.before) s in_front (((((end.passes).1).1).1).1).0 in
+        let complete : is_incomplete end.before s ≡ false = find_fails (is_incomplete end.before) (of_uri s.uri) (sources end.before) s in_front (((((end.line.passes).1).1).1).1).0 in
         let parts = or_false (length (documents_of s.uri end.before) == 0) (nat_lt (length (pickles_of s.uri end.before)) (length (compiled d))) (ap (lacks end.before s.uri) (sym read) ∙ complete) in
         let same_documents : documents_of s.uri es ≡ documents_of s.uri end.before = ap (filter (λ x. bytes_eq s.uri x.uri)) (till_end es end.before end.end end.after run as_document refl refl) in
         let same_pickles : pickles_of s.uri es ≡ pickles_of s.uri end.before = ap (filter (λ x. bytes_eq s.uri x.uri)) (till_end es end.before end.end end.after run as_pickle refl refl) in
@@ -343,14 +343,14 @@ module _ (es : List Envelope) (pass : AllPass es) where
             let one : times_declared (SourceOf s.uri) before ≡ 1 = ap (λ u. times_declared (SourceOf u) before) (sym same) ∙ (refers_at before (envelope.ParseError p) after cut).0 in
             let found = read_before s only before (envelope.ParseError p) after cut one in
             let read : reading_of p.source.uri before ≡ Some (reads s.content) = ap (λ u. reading_of u before) same ∙ ap (option_map (λ x. reads x.content)) found in
-            ap (λ o. option_map_or is_accepted o false) (sym read) ∙ ((passes_at before (envelope.ParseError p) after cut).1).0
+            ap (λ o. option_map_or is_accepted o false) (sym read) ∙ ((passes_at before (envelope.ParseError p) after cut).passes.1).0
 
     pub all_sources : SourcesGood es
     all_sources before e after cut = at e cut
       where
         at : (e : Envelope) → es ≡ before ++ e ∷ after → SourceGood es before e after
         at (envelope.Source s) cut =
-            let h = passes_at before (envelope.Source s) after cut in
+            let h = (passes_at before (envelope.Source s) after cut).passes in
             (was_not (bytes_eq s.media_type plain) (h.1).0, reads s.content, is_read s.content, meets before s after cut (reads s.content) refl ((h.1).1).0 (((h.1).1).1).0)
         at (envelope.ParseError p) cut = each_refused (sources_of p.source.uri es) (each_false (λ s. is_accepted (reads s.content)) (sources_of p.source.uri es) (refused before p after cut))
         at _ cut = tt

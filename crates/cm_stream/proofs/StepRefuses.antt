@@ -142,11 +142,11 @@ or_no false = refl
 attempt_known : (es : List Envelope) (a : Text) → (times_declared (Attempt a) es == 0) ≡ not (is_some (find (is_of a) (starts es)))
 attempt_known es a = (known (Attempt a) as_start (is_of a) (declares_attempt a) es).0
 
-row_of : (es : List Envelope) (a : Text) → find_attempt (table_of es) a ≡ option_map (attempt_row es) (find (is_of a) (starts es))
-row_of es a = find_map (λ r. bytes_eq a r.id) (attempt_row es) (starts es)
+row_of : (first : ℕ) (es : List Envelope) (a : Text) → find_attempt (table_of first es) a ≡ option_map (attempt_row es) (find (is_of a) (starts es))
+row_of first es a = find_map (λ r. bytes_eq a r.id) (attempt_row es) (starts es)
 
-steps_row : (es : List Envelope) (case : Text) (c : TestCase) → find_case case es ≡ Some c → steps_in (table_of es) case ≡ step_ids c
-steps_row es case c found = ap (λ o. option_map_or (λ (r : CaseRow). r.steps) o []) (find_map (λ r. bytes_eq case r.id) (case_row es) (cases es) ∙ ap (option_map (case_row es)) found)
+steps_row : (first : ℕ) (es : List Envelope) (case : Text) (c : TestCase) → find_case case es ≡ Some c → steps_in (table_of first es) case ≡ step_ids c
+steps_row first es case c found = ap (λ o. option_map_or (λ (r : CaseRow). r.steps) o []) (find_map (λ r. bytes_eq case r.id) (case_row es) (cases es) ∙ ap (option_map (case_row es)) found)
 
 -- the cursor of the attempt's row
 cursor_is : (es : List Envelope) (a : Text) (t : TestCaseStarted) → t.id ≡ a → (ms : List Move) → moves a es ≡ Started ∷ ms → (attempt_row es t).cursor ≡ cursor_behind ms
@@ -177,38 +177,38 @@ found_passes {X} p (y ∷ xs) x h = go (p y) refl (found_passes p xs x)
     go false e rec = rec (rw e at h)
 
 -- A step's call, whatever it tests of the cursor.
-step_refused : (es : List Envelope) → AllPass es → (a step : Text) (m : Move) (may : Option Cursor → List Text → Bool)
+step_refused : (first : ℕ) (es : List Envelope) → AllPass es → (a step : Text) (m : Move) (may : Option Cursor → List Text → Bool)
     → ((steps : List Text) (ms rest : List Move) → Stands Started steps ms rest → is_next_of m rest ≡ may (cursor_behind ms) steps)
-    → option_and_then told (step_fault_at (table_of es) step may (find_attempt (table_of es) a))
+    → option_and_then told (step_fault_at (table_of first es) step may (find_attempt (table_of first es) a))
     ≡ first_failed (bad.UnknownReference if list_any (λ name. times_declared name es == 0) (Attempt a ∷ step_names es a step) ∷ bad.StepOrder if not (is_next_move m a es) ∷ [])
-step_refused es pass a step m may fits = go (find (is_of a) (starts es)) refl
+step_refused first es pass a step m may fits = go (find (is_of a) (starts es)) refl
   where
-    go : (o : Option TestCaseStarted) → find (is_of a) (starts es) ≡ o → option_and_then told (step_fault_at (table_of es) step may (find_attempt (table_of es) a))
+    go : (o : Option TestCaseStarted) → find (is_of a) (starts es) ≡ o → option_and_then told (step_fault_at (table_of first es) step may (find_attempt (table_of first es) a))
         ≡ first_failed (bad.UnknownReference if list_any (λ name. times_declared name es == 0) (Attempt a ∷ step_names es a step) ∷ bad.StepOrder if not (is_next_move m a es) ∷ [])
     go None e =
-        let row : find_attempt (table_of es) a ≡ None = row_of es a ∙ ap (option_map (attempt_row es)) e in
-        ap (λ o. option_and_then told (step_fault_at (table_of es) step may o)) row
+        let row : find_attempt (table_of first es) a ≡ None = row_of first es a ∙ ap (option_map (attempt_row es)) e in
+        ap (λ o. option_and_then told (step_fault_at (table_of first es) step may o)) row
         ∙ ap (λ b. first_failed (bad.UnknownReference if b ∷ bad.StepOrder if not (is_next_move m a es) ∷ [])) (sym (no_references es a step e))
     go (Some t) e =
-        let row : find_attempt (table_of es) a ≡ Some (attempt_row es t) = row_of es a ∙ ap (option_map (attempt_row es)) e in
+        let row : find_attempt (table_of first es) a ≡ Some (attempt_row es t) = row_of first es a ∙ ap (option_map (attempt_row es)) e in
         let at = came a es t e (all_go a es pass) in
         let id : t.id ≡ a = sym (bytes_are a t.id (found_passes (is_of a) (starts es) t e)) in
-        let steps : steps_in (table_of es) t.test_case_id ≡ step_ids at.case = steps_row es t.test_case_id at.case at.found in
+        let steps : steps_in (table_of first es) t.test_case_id ≡ step_ids at.case = steps_row first es t.test_case_id at.case at.found in
         let cursor : (attempt_row es t).cursor ≡ cursor_behind at.ms = cursor_is es a t id at.ms at.so_far in
-        let fit : may (attempt_row es t).cursor (steps_in (table_of es) t.test_case_id) ≡ is_next_move m a es =
+        let fit : may (attempt_row es t).cursor (steps_in (table_of first es) t.test_case_id) ≡ is_next_move m a es =
         (λ i. may (cursor i) (steps i)) ∙ sym (fits (step_ids at.case) at.ms at.rest at.at) ∙ sym (at.next m) in
         let unknown : list_any (λ name. times_declared name es == 0) (Attempt a ∷ step_names es a step) ≡ not (has_text step (step_ids at.case)) =
         references es a step t e ∙ step_known es t.test_case_id step at.case (one_case es pass t.test_case_id) at.found in
-        ap (λ o. option_and_then told (step_fault_at (table_of es) step may o)) row
+        ap (λ o. option_and_then told (step_fault_at (table_of first es) step may o)) row
         ∙ (λ i. option_and_then told (step_fault_of (has_text step (steps i)) (fit i)))
         ∙ two_tests (has_text step (step_ids at.case)) (is_next_move m a es)
         ∙ ap (λ b. first_failed (bad.UnknownReference if b ∷ bad.StepOrder if not (is_next_move m a es) ∷ [])) (sym unknown)
 
-pub step_start_refused : (es : List Envelope) (s : TestStepStarted) → AllPass es → option_and_then told (refused (table_of es) (envelope.TestStepStarted s)) ≡ first_failed (own_checks es (envelope.TestStepStarted s))
-step_start_refused es s pass = step_refused es pass s.test_case_started_id s.test_step_id (StepStarted s.test_step_id) (may_start s.test_step_id) (λ steps ms rest at. start_fits steps ms rest at s.test_step_id)
+pub step_start_refused : (first : ℕ) (es : List Envelope) (s : TestStepStarted) → AllPass es → option_and_then told (refused (table_of first es) (envelope.TestStepStarted s)) ≡ first_failed (own_checks first es (envelope.TestStepStarted s))
+step_start_refused first es s pass = step_refused first es pass s.test_case_started_id s.test_step_id (StepStarted s.test_step_id) (may_start s.test_step_id) (λ steps ms rest at. start_fits steps ms rest at s.test_step_id)
 
-pub step_finish_refused : (es : List Envelope) (s : TestStepFinished) → AllPass es → option_and_then told (refused (table_of es) (envelope.TestStepFinished s)) ≡ first_failed (own_checks es (envelope.TestStepFinished s))
-step_finish_refused es s pass = step_refused es pass s.test_case_started_id s.test_step_id (StepFinished s.test_step_id) (may_finish s.test_step_id) (λ steps ms rest at. finish_fits steps ms rest at s.test_step_id)
+pub step_finish_refused : (first : ℕ) (es : List Envelope) (s : TestStepFinished) → AllPass es → option_and_then told (refused (table_of first es) (envelope.TestStepFinished s)) ≡ first_failed (own_checks first es (envelope.TestStepFinished s))
+step_finish_refused first es s pass = step_refused first es pass s.test_case_started_id s.test_step_id (StepFinished s.test_step_id) (may_finish s.test_step_id) (λ steps ms rest at. finish_fits steps ms rest at s.test_step_id)
 
 -- ---- the end of an attempt
 
@@ -221,26 +221,26 @@ end_tests false n r steps fits same = go (n == length steps) refl
     go true e = rw (same refl, e) refl
     go false e = rw (same refl, e) refl
 
-pub end_refused : (es : List Envelope) (f : TestCaseFinished) → AllPass es → option_and_then told (refused (table_of es) (envelope.TestCaseFinished f)) ≡ first_failed (own_checks es (envelope.TestCaseFinished f))
-end_refused es f pass = go (find (is_of f.test_case_started_id) (starts es)) refl
+pub end_refused : (first : ℕ) (es : List Envelope) (f : TestCaseFinished) → AllPass es → option_and_then told (refused (table_of first es) (envelope.TestCaseFinished f)) ≡ first_failed (own_checks first es (envelope.TestCaseFinished f))
+end_refused first es f pass = go (find (is_of f.test_case_started_id) (starts es)) refl
   where
-    go : (o : Option TestCaseStarted) → find (is_of f.test_case_started_id) (starts es) ≡ o → option_and_then told (refused (table_of es) (envelope.TestCaseFinished f)) ≡ first_failed (own_checks es (envelope.TestCaseFinished f))
+    go : (o : Option TestCaseStarted) → find (is_of f.test_case_started_id) (starts es) ≡ o → option_and_then told (refused (table_of first es) (envelope.TestCaseFinished f)) ≡ first_failed (own_checks first es (envelope.TestCaseFinished f))
     go None e =
         let a = f.test_case_started_id in
-        let row : find_attempt (table_of es) a ≡ None = row_of es a ∙ ap (option_map (attempt_row es)) e in
+        let row : find_attempt (table_of first es) a ≡ None = row_of first es a ∙ ap (option_map (attempt_row es)) e in
         let unknown : refers_to_unknown es (envelope.TestCaseFinished f) ≡ true = or_no (times_declared (Attempt a) es == 0) ∙ attempt_known es a ∙ ap (λ o. not (is_some o)) e in
-        ap (λ o. option_and_then told (finish_fault_at (table_of es) o)) row
+        ap (λ o. option_and_then told (finish_fault_at (table_of first es) o)) row
         ∙ ap (λ b. first_failed (bad.UnknownReference if b ∷ bad.StepOrder if is_ended a es ∷ bad.FinishedEarly if not (is_next_move Ended a es) ∷ [])) (sym unknown)
     go (Some t) e =
         let a = f.test_case_started_id in
-        let row : find_attempt (table_of es) a ≡ Some (attempt_row es t) = row_of es a ∙ ap (option_map (attempt_row es)) e in
+        let row : find_attempt (table_of first es) a ≡ Some (attempt_row es t) = row_of first es a ∙ ap (option_map (attempt_row es)) e in
         let unknown : refers_to_unknown es (envelope.TestCaseFinished f) ≡ false = or_no (times_declared (Attempt a) es == 0) ∙ attempt_known es a ∙ ap (λ o. not (is_some o)) e in
         let at = came a es t e (all_go a es pass) in
         let id : t.id ≡ a = sym (bytes_are a t.id (found_passes (is_of a) (starts es) t e)) in
-        let steps : steps_in (table_of es) t.test_case_id ≡ step_ids at.case = steps_row es t.test_case_id at.case at.found in
+        let steps : steps_in (table_of first es) t.test_case_id ≡ step_ids at.case = steps_row first es t.test_case_id at.case at.found in
         let cursor : (attempt_row es t).cursor ≡ cursor_behind at.ms = cursor_is es a t id at.ms at.so_far in
         let over : list_any is_end at.ms ≡ is_ended a es = ap (list_any is_end) (sym at.so_far) in
-        ap (λ o. option_and_then told (finish_fault_at (table_of es) o)) row
+        ap (λ o. option_and_then told (finish_fault_at (table_of first es) o)) row
         ∙ (λ i. option_and_then told (end_fault_of (cursor i) (steps i)))
         ∙ end_tests (list_any is_end at.ms) (length (finishes at.ms)) (is_step_start (last_of (Started ∷ at.ms))) (step_ids at.case) (is_next_move Ended a es)
         (λ open_yet. at.next Ended ∙ end_fits (step_ids at.case) at.ms at.rest at.at open_yet)
@@ -276,15 +276,15 @@ one_test : (b : Bool) → option_and_then told (if b then Some refusal.Duplicate
 one_test true = refl
 one_test false = refl
 
-pub case_refused : (es : List Envelope) (c : TestCase) → option_and_then told (refused (table_of es) (envelope.TestCase c)) ≡ first_failed (own_checks es (envelope.TestCase c))
-case_refused es c =
+pub case_refused : (first : ℕ) (es : List Envelope) (c : TestCase) → option_and_then told (refused (table_of first es) (envelope.TestCase c)) ≡ first_failed (own_checks first es (envelope.TestCase c))
+case_refused first es c =
     ap (λ b. option_and_then told (if b then Some refusal.DuplicateId else None)) same ∙ one_test (declares_again es (envelope.TestCase c))
   where
     some_row : {X Y : Type 0} (f : X → Y) (o : Option X) → is_some (option_map f o) ≡ is_some o
     some_row f None = refl
     some_row f (Some x) = refl
 
-    found : is_some (case_in (table_of es) c.id) ≡ is_some (find_case c.id es)
+    found : is_some (case_in (table_of first es) c.id) ≡ is_some (find_case c.id es)
     found = ap is_some (find_map (λ r. bytes_eq c.id r.id) (case_row es) (cases es)) ∙ some_row (case_row es) (find_case c.id es)
 
     repeats : has_same_names (declares (envelope.TestCase c)) ≡ has_repeat (step_ids c)
@@ -300,27 +300,27 @@ case_refused es c =
         let some : list_any (λ name. nat_lt 0 (times_declared name es)) (declares (envelope.TestCase c)) ≡ true = rw declared refl in
         rw some (sym (or_yes (has_same_names (declares (envelope.TestCase c)))))
 
-    same : (is_some (case_in (table_of es) c.id) || has_repeat (step_ids c)) ≡ declares_again es (envelope.TestCase c)
+    same : (is_some (case_in (table_of first es) c.id) || has_repeat (step_ids c)) ≡ declares_again es (envelope.TestCase c)
     same = ap (λ b. b || has_repeat (step_ids c)) found ∙ go (find_case c.id es) refl
 
 -- ---- each line
 
-pub all_refused : (es : List Envelope) (e : Envelope) → AllPass es → option_and_then told (refused (table_of es) e) ≡ first_failed (own_checks es e)
-all_refused es (envelope.TestCase c) pass = case_refused es c
-all_refused es (envelope.TestCaseStarted s) pass = start_refused es s pass
-all_refused es (envelope.TestStepStarted s) pass = step_start_refused es s pass
-all_refused es (envelope.TestStepFinished s) pass = step_finish_refused es s pass
-all_refused es (envelope.TestCaseFinished f) pass = end_refused es f pass
-all_refused es _ pass = refl
+pub all_refused : (first : ℕ) (es : List Envelope) (e : Envelope) → AllPass es → option_and_then told (refused (table_of first es) e) ≡ first_failed (own_checks first es e)
+all_refused first es (envelope.TestCase c) pass = case_refused first es c
+all_refused first es (envelope.TestCaseStarted s) pass = start_refused first es s pass
+all_refused first es (envelope.TestStepStarted s) pass = step_start_refused first es s pass
+all_refused first es (envelope.TestStepFinished s) pass = step_finish_refused first es s pass
+all_refused first es (envelope.TestCaseFinished f) pass = end_refused first es f pass
+all_refused first es _ pass = refl
 
 pub own_are_checks : OwnAreChecks
-own_are_checks es (envelope.TestCase c) = record {
-  first = bad.UnknownReference if refers_to_unknown es (envelope.TestCase c) ∷ bad.CaseStepsDiffer if not (has_steps_of_pickle es c) ∷ [];
+own_are_checks first es (envelope.TestCase c) = record {
+  front = bad.UnknownReference if refers_to_unknown es (envelope.TestCase c) ∷ bad.CaseStepsDiffer if not (has_steps_of_pickle es c) ∷ [];
   rest = [];
   cut = refl;
 }
-own_are_checks es (envelope.TestCaseStarted s) = record { first = bad.OutsideRun if not (has_run_started es) ∷ []; rest = []; cut = refl }
-own_are_checks es (envelope.TestStepStarted s) = record { first = []; rest = []; cut = refl }
-own_are_checks es (envelope.TestStepFinished s) = record { first = []; rest = reason.UnknownStatus unsupported_if is_unknown s.test_step_result.status ∷ []; cut = refl }
-own_are_checks es (envelope.TestCaseFinished f) = record { first = []; rest = []; cut = refl }
-own_are_checks es e = record { first = []; rest = checks_of es e; cut = refl }
+own_are_checks first es (envelope.TestCaseStarted s) = record { front = bad.OutsideRun if not (has_run_started es) ∷ []; rest = []; cut = refl }
+own_are_checks first es (envelope.TestStepStarted s) = record { front = []; rest = []; cut = refl }
+own_are_checks first es (envelope.TestStepFinished s) = record { front = []; rest = reason.UnknownStatus unsupported_if is_unknown s.test_step_result.status ∷ []; cut = refl }
+own_are_checks first es (envelope.TestCaseFinished f) = record { front = []; rest = []; cut = refl }
+own_are_checks first es e = record { front = []; rest = checks_of first es e; cut = refl }

@@ -42,12 +42,12 @@ other_case es e c start status ends =
     let same : starts_of c.id (es ++ e ∷ []) ≡ starts_of c.id es = ap (filter (λ s. bytes_eq c.id s.test_case_id)) (found_more as_start es e start) in
     rw (same, other_state es e (last_of (starts_of c.id es)) status ends) refl
 
-pub table_is : (t u : Table) → t.cases ≡ u.cases → t.attempts ≡ u.attempts → t ≡ u
-table_is t u c a = λ i. record { cases = c i; attempts = a i }
+pub table_is : (t u : Table) → t.first ≡ u.first → t.cases ≡ u.cases → t.attempts ≡ u.attempts → t ≡ u
+table_is t u f c a = λ i. record { cases = c i; attempts = a i; first = f i }
 
-pub other_table : (es : List Envelope) (e : Envelope) → as_case e ≡ None → as_start e ≡ None → ((a : Text) → move_of a e ≡ None) → ((a : Text) → status_in a e ≡ None) → ((a : Text) → retry_in a e ≡ None) → table_of (es ++ e ∷ []) ≡ table_of es
-other_table es e case start moved status ends =
-    table_is (table_of (es ++ e ∷ [])) (table_of es)
+pub other_table : (first : ℕ) (es : List Envelope) (e : Envelope) → as_case e ≡ None → as_start e ≡ None → ((a : Text) → move_of a e ≡ None) → ((a : Text) → status_in a e ≡ None) → ((a : Text) → retry_in a e ≡ None) → table_of first (es ++ e ∷ []) ≡ table_of first es
+other_table first es e case start moved status ends =
+    table_is (table_of first (es ++ e ∷ [])) (table_of first es) refl
     (ap (map (case_row (es ++ e ∷ []))) (found_more as_case es e case) ∙ map_same (case_row (es ++ e ∷ [])) (case_row es) (λ c. other_case es e c start status ends) (cases es))
     (ap (map (attempt_row (es ++ e ∷ []))) (found_more as_start es e start) ∙ map_same (attempt_row (es ++ e ∷ [])) (attempt_row es) (λ s. other_row es e s (moved s.id) (status s.id)) (starts es))
 
@@ -73,11 +73,11 @@ or_no false = refl
 pub end_same : (ms : List Move) (m : Move) → is_end m ≡ false → list_any is_end (ms ++ m ∷ []) ≡ list_any is_end ms
 end_same ms m e = list_any-append is_end ms (m ∷ []) ∙ rw e (or_no (list_any is_end ms))
 
-pub step_started_table : (es : List Envelope) (s : TestStepStarted) → AllPass es → table_of (es ++ envelope.TestStepStarted s ∷ []) ≡ changed (table_of es) (envelope.TestStepStarted s)
-step_started_table es s pass =
+pub step_started_table : (first : ℕ) (es : List Envelope) (s : TestStepStarted) → AllPass es → table_of first (es ++ envelope.TestStepStarted s ∷ []) ≡ changed (table_of first es) (envelope.TestStepStarted s)
+step_started_table first es s pass =
     let e = envelope.TestStepStarted s in
     let a = s.test_case_started_id in
-    table_is (table_of (es ++ e ∷ [])) (changed (table_of es) e)
+    table_is (table_of first (es ++ e ∷ [])) (changed (table_of first es) e) refl
     (ap (map (case_row (es ++ e ∷ []))) (found_more as_case es e refl) ∙ map_same (case_row (es ++ e ∷ [])) (case_row es) (λ c. other_case es e c refl (λ a. refl) (λ a. refl)) (cases es))
     (ap (map (attempt_row (es ++ e ∷ []))) (found_more as_start es e refl)
     ∙ sym (change_one (λ r. bytes_eq a r.id) running (λ x. bytes_eq a x.id) (attempt_row es) (attempt_row (es ++ e ∷ [])) (λ x. refl) hit other (starts es) (one_attempt es pass a)))
@@ -145,13 +145,13 @@ no_ends a (envelope.TestStepFinished s ∷ es) h = go (bytes_eq a s.test_case_st
     go false e rec = rec (rw e at h)
 no_ends a (_ ∷ es) h = no_ends a es h
 
-pub step_finished_table : (es : List Envelope) (s : TestStepFinished) → AllPass (es ++ envelope.TestStepFinished s ∷ []) → table_of (es ++ envelope.TestStepFinished s ∷ []) ≡ changed (table_of es) (envelope.TestStepFinished s)
-step_finished_table es s more =
+pub step_finished_table : (first : ℕ) (es : List Envelope) (s : TestStepFinished) → AllPass (es ++ envelope.TestStepFinished s ∷ []) → table_of first (es ++ envelope.TestStepFinished s ∷ []) ≡ changed (table_of first es) (envelope.TestStepFinished s)
+step_finished_table first es s more =
     let e = envelope.TestStepFinished s in
     let a = s.test_case_started_id in
     let pass = front_passes es (e ∷ []) more in
-    let open_yet : ends_of a es ≡ [] = no_ends a es (not_over es pass a (StepFinished s.test_step_id) (all_refer (es ++ e ∷ []) more es e [] refl).0 (was_not (is_next_move (StepFinished s.test_step_id) a es) (((last_passes es e more).1).1).0)) in
-    table_is (table_of (es ++ e ∷ [])) (changed (table_of es) e)
+    let open_yet : ends_of a es ≡ [] = no_ends a es (not_over es pass a (StepFinished s.test_step_id) (all_refer (es ++ e ∷ []) more es e [] refl).0 (was_not (is_next_move (StepFinished s.test_step_id) a es) (((last_passes es e more).passes).1).0)) in
+    table_is (table_of first (es ++ e ∷ [])) (changed (table_of first es) e) refl
     (ap (map (case_row (es ++ e ∷ []))) (found_more as_case es e refl) ∙ map_same (case_row (es ++ e ∷ [])) (case_row es) (case open_yet) (cases es))
     (ap (map (attempt_row (es ++ e ∷ []))) (found_more as_start es e refl)
     ∙ sym (change_one (λ r. bytes_eq a r.id) (step_done (kept_status s.test_step_result.status)) (λ x. bytes_eq a x.id) (attempt_row es) (attempt_row (es ++ e ∷ [])) (λ x. refl) hit other (starts es) (one_attempt es pass a)))

@@ -9,6 +9,7 @@ use Rattle.cm_stream.specs.Readings.{Reading, Accepted}
 use Rattle.cm_stream.specs.OnePass.{reads}
 use Rattle.cm_stream.specs.Sources.{plain, english}
 use Rattle.cm_attempt.specs.declared.policy.Policy.{Policy}
+use Rattle.cm_attempt.specs.declared.settings.Settings.{Settings}
 use Rattle.cm_attempt.specs.declared.policy.Policy.TheVariants.{Strict}
 use Rattle.cm_stream.specs.Checks.{fault, fault_at_end}
 use Rattle.cm_stream.specs.Stream.{Told, At, NoFault, at_line, at_end, counts_of}
@@ -144,20 +145,24 @@ pub data Shown : Type 0 where
   Fault : ℕ → Finding → Shown
   Other : Shown
 
-abbrev pub told_from : Policy → List Envelope → ℕ → List Envelope → Told
-told_from policy before n [] = at_end n before (fault_at_end before)
-told_from policy before n (e ∷ es) = at_line n (fault policy before e) (told_from policy (before ++ e ∷ []) (suc n) es)
+-- by the policy, where the attempts of a case are numbered from the first number
+abbrev pub by : Policy → (first : ℕ) → Settings
+by policy first = record { policy = policy; first_attempt = first }
+
+abbrev pub told_from : Settings → List Envelope → ℕ → List Envelope → Told
+told_from settings before n [] = at_end n before (fault_at_end before)
+told_from settings before n (e ∷ es) = at_line n (fault settings before e) (told_from settings (before ++ e ∷ []) (suc n) es)
 
 abbrev pub show : Told → Shown
 show (NoFault es) = Good (counts_of es)
 show (At n f) = Fault n f
 show _ = Other
 
-abbrev pub shown_by : Policy → List Envelope → Shown
-shown_by policy es = show (told_from policy [] 1 es)
+abbrev pub shown_by : Settings → List Envelope → Shown
+shown_by settings es = show (told_from settings [] 1 es)
 
 abbrev pub shown : List Envelope → Shown
-shown = shown_by Strict
+shown = shown_by (by Strict 0)
 
 abbrev pub good : (sources pickles cases attempts unrun : ℕ) → Shown
 good s p c a u = Good (record { sources = s; pickles = p; cases = c; attempts = a; unrun = u })

@@ -1,5 +1,5 @@
--- Worked streams, computed.
-use Rattle.std.proofs.Common.{◌≡◌, refl, None, [], ◌∷◌, ◌++◌, true, false}
+-- Worked streams and runs, computed.
+use Rattle.std.proofs.Common.{◌≡◌, refl, Some, None, [], ◌∷◌, ◌++◌, true, false}
 use Rattle.std.specs.Prelude.{codes}
 use lib.Utf8.{encode}
 use Rattle.std.specs.Str.{chars}
@@ -16,10 +16,12 @@ use Rattle.cm_stream.specs.OnePass.{reads}
 use Rattle.cm_stream.specs.Findings.{IsBad, IsUnsupported}
 use Rattle.cm_stream.specs.Findings as fault
 use Rattle.cm_envelope.specs.declared.envelope.Status.TheVariants as status
+use Rattle.cm_stream.specs.declared.verdict.Hold.TheVariants.{NotSuccessful, Empty, Unrun}
 use Rattle.cm_stream.specs.declared.verdict.Reason.TheVariants as reason
+use Rattle.cm_stream.specs.Release.{hold_of}
 use Rattle.cm_attempt.specs.declared.policy.Policy.TheVariants.{Strict, PendingPasses}
 use Rattle.cm_envelope.specs.declared.envelope.Envelope.TheVariants as envelope
-use Rattle.cm_stream.proofs.Streaming.{one_step, french, source, document, pickle, parse_error, hook, hook_started, hook_finished, one_step_as, one_pickle, outline_front, first_row, second_row, third_row, no_steps_front, empty_case, run_started, run_finished, case, started, step_started, step_finished, finished, Fault, shown, shown_by, good}
+use Rattle.cm_stream.proofs.Streaming.{by, one_step, french, source, document, pickle, parse_error, hook, hook_started, hook_finished, one_step_as, one_pickle, outline_front, first_row, second_row, third_row, no_steps_front, empty_case, run_started, run_finished, case, started, step_started, step_finished, finished, Fault, shown, shown_by, good}
 
 -- A pickle without a case is counted as not run.
 never_run : shown (one_pickle ++ run_started ∷ run_finished true ∷ []) ≡ good 1 1 0 0 1
@@ -226,27 +228,57 @@ run_hook_of_unknown_status : shown (one_pickle ++ hook ∷ run_started ∷ hook_
 unfolding reads lines_read lines_of numbered_lines without_mark chars after body_of first_some trimmed begins_by fence_of indent_of is_blank_line language_of step_of title_of token_of cells_of units pickles replaced_after same_skeleton encode
 run_hook_of_unknown_status = refl
 
+-- Attempts are numbered from 1.
+numbered_from_one : shown_by (by Strict 1) (one_pickle ++ run_started ∷ case (codes "c1") ∷ started (codes "a1") (codes "c1") 1 ∷ step_started (codes "a1") ∷ step_finished (codes "a1") status.Failed ∷ finished (codes "a1") true ∷ started (codes "a2") (codes "c1") 2 ∷ step_started (codes "a2") ∷ step_finished (codes "a2") status.Passed ∷ finished (codes "a2") false ∷ run_finished true ∷ []) ≡ good 1 1 1 2 0
+unfolding reads lines_read lines_of numbered_lines without_mark chars after body_of first_some trimmed begins_by fence_of indent_of is_blank_line language_of step_of title_of token_of cells_of units pickles replaced_after same_skeleton encode
+numbered_from_one = refl
+
+-- There the first attempt isn't number 0.
+numbered_from_zero_where_one_is_due : shown_by (by Strict 1) (one_pickle ++ run_started ∷ case (codes "c1") ∷ started (codes "a1") (codes "c1") 0 ∷ step_started (codes "a1") ∷ step_finished (codes "a1") status.Failed ∷ finished (codes "a1") true ∷ started (codes "a2") (codes "c1") 1 ∷ step_started (codes "a2") ∷ step_finished (codes "a2") status.Passed ∷ finished (codes "a2") false ∷ run_finished true ∷ []) ≡ Fault 6 (IsBad fault.AttemptNumber)
+unfolding reads lines_read lines_of numbered_lines without_mark chars after body_of first_some trimmed begins_by fence_of indent_of is_blank_line language_of step_of title_of token_of cells_of units pickles replaced_after same_skeleton encode
+numbered_from_zero_where_one_is_due = refl
+
+-- Where attempts are numbered from 0, the first isn't number 1.
+numbered_from_one_where_zero_is_due : shown (one_pickle ++ run_started ∷ case (codes "c1") ∷ started (codes "a1") (codes "c1") 1 ∷ step_started (codes "a1") ∷ step_finished (codes "a1") status.Failed ∷ finished (codes "a1") true ∷ started (codes "a2") (codes "c1") 2 ∷ step_started (codes "a2") ∷ step_finished (codes "a2") status.Passed ∷ finished (codes "a2") false ∷ run_finished true ∷ []) ≡ Fault 6 (IsBad fault.AttemptNumber)
+unfolding reads lines_read lines_of numbered_lines without_mark chars after body_of first_some trimmed begins_by fence_of indent_of is_blank_line language_of step_of title_of token_of cells_of units pickles replaced_after same_skeleton encode
+numbered_from_one_where_zero_is_due = refl
+
 -- A pending attempt is no success.
-pending_as_success : shown_by Strict (one_pickle ++ run_started ∷ case (codes "c1") ∷ started (codes "a1") (codes "c1") 0 ∷ step_started (codes "a1") ∷ step_finished (codes "a1") status.Pending ∷ finished (codes "a1") false ∷ run_finished true ∷ []) ≡ Fault 10 (IsBad fault.SuccessDiffers)
+pending_as_success : shown_by (by Strict 0) (one_pickle ++ run_started ∷ case (codes "c1") ∷ started (codes "a1") (codes "c1") 0 ∷ step_started (codes "a1") ∷ step_finished (codes "a1") status.Pending ∷ finished (codes "a1") false ∷ run_finished true ∷ []) ≡ Fault 10 (IsBad fault.SuccessDiffers)
 unfolding reads lines_read lines_of numbered_lines without_mark chars after body_of first_some trimmed begins_by fence_of indent_of is_blank_line language_of step_of title_of token_of cells_of units pickles replaced_after same_skeleton encode
 pending_as_success = refl
 
 -- A pending attempt is a success where pending passes.
-pending_passes : shown_by PendingPasses (one_pickle ++ run_started ∷ case (codes "c1") ∷ started (codes "a1") (codes "c1") 0 ∷ step_started (codes "a1") ∷ step_finished (codes "a1") status.Pending ∷ finished (codes "a1") false ∷ run_finished true ∷ []) ≡ good 1 1 1 1 0
+pending_passes : shown_by (by PendingPasses 0) (one_pickle ++ run_started ∷ case (codes "c1") ∷ started (codes "a1") (codes "c1") 0 ∷ step_started (codes "a1") ∷ step_finished (codes "a1") status.Pending ∷ finished (codes "a1") false ∷ run_finished true ∷ []) ≡ good 1 1 1 1 0
 unfolding reads lines_read lines_of numbered_lines without_mark chars after body_of first_some trimmed begins_by fence_of indent_of is_blank_line language_of step_of title_of token_of cells_of units pickles replaced_after same_skeleton encode
 pending_passes = refl
 
 -- There no failure is said of it.
-pending_passes_and_failure_is_said : shown_by PendingPasses (one_pickle ++ run_started ∷ case (codes "c1") ∷ started (codes "a1") (codes "c1") 0 ∷ step_started (codes "a1") ∷ step_finished (codes "a1") status.Pending ∷ finished (codes "a1") false ∷ run_finished false ∷ []) ≡ Fault 10 (IsBad fault.SuccessDiffers)
+pending_passes_and_failure_is_said : shown_by (by PendingPasses 0) (one_pickle ++ run_started ∷ case (codes "c1") ∷ started (codes "a1") (codes "c1") 0 ∷ step_started (codes "a1") ∷ step_finished (codes "a1") status.Pending ∷ finished (codes "a1") false ∷ run_finished false ∷ []) ≡ Fault 10 (IsBad fault.SuccessDiffers)
 unfolding reads lines_read lines_of numbered_lines without_mark chars after body_of first_some trimmed begins_by fence_of indent_of is_blank_line language_of step_of title_of token_of cells_of units pickles replaced_after same_skeleton encode
 pending_passes_and_failure_is_said = refl
 
 -- An undefined attempt is no success where pending passes.
-undefined_as_success : shown_by PendingPasses (one_pickle ++ run_started ∷ case (codes "c1") ∷ started (codes "a1") (codes "c1") 0 ∷ step_started (codes "a1") ∷ step_finished (codes "a1") status.Undefined ∷ finished (codes "a1") false ∷ run_finished true ∷ []) ≡ Fault 10 (IsBad fault.SuccessDiffers)
+undefined_as_success : shown_by (by PendingPasses 0) (one_pickle ++ run_started ∷ case (codes "c1") ∷ started (codes "a1") (codes "c1") 0 ∷ step_started (codes "a1") ∷ step_finished (codes "a1") status.Undefined ∷ finished (codes "a1") false ∷ run_finished true ∷ []) ≡ Fault 10 (IsBad fault.SuccessDiffers)
 unfolding reads lines_read lines_of numbered_lines without_mark chars after body_of first_some trimmed begins_by fence_of indent_of is_blank_line language_of step_of title_of token_of cells_of units pickles replaced_after same_skeleton encode
 undefined_as_success = refl
 
 -- A pending run hook is a success where pending passes.
-pending_run_hook_passes : shown_by PendingPasses (one_pickle ++ hook ∷ run_started ∷ hook_started (codes "r1") ∷ hook_finished (codes "r1") status.Pending ∷ run_finished true ∷ []) ≡ good 1 1 0 0 1
+pending_run_hook_passes : shown_by (by PendingPasses 0) (one_pickle ++ hook ∷ run_started ∷ hook_started (codes "r1") ∷ hook_finished (codes "r1") status.Pending ∷ run_finished true ∷ []) ≡ good 1 1 0 0 1
 unfolding reads lines_read lines_of numbered_lines without_mark chars after body_of first_some trimmed begins_by fence_of indent_of is_blank_line language_of step_of title_of token_of cells_of units pickles replaced_after same_skeleton encode
 pending_run_hook_passes = refl
+
+-- A run without success and without a case is held for the first.
+held_without_success : hold_of true false (record { sources = 0; pickles = 0; cases = 0; attempts = 0; unrun = 0 }) ≡ Some NotSuccessful
+held_without_success = refl
+
+-- A run that succeeds without a case is held, also where pickles may be unrun.
+held_without_a_case : hold_of true true (record { sources = 1; pickles = 1; cases = 0; attempts = 0; unrun = 1 }) ≡ Some Empty
+held_without_a_case = refl
+
+-- A pickle without a case holds a run, unless that is allowed.
+held_with_a_pickle_unrun : hold_of false true (record { sources = 1; pickles = 2; cases = 1; attempts = 1; unrun = 1 }) ≡ Some Unrun
+held_with_a_pickle_unrun = refl
+
+released_with_a_pickle_unrun : hold_of true true (record { sources = 1; pickles = 2; cases = 1; attempts = 1; unrun = 1 }) ≡ None
+released_with_a_pickle_unrun = refl

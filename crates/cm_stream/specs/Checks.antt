@@ -1,11 +1,12 @@
 -- The checks of each line in order, over the lines before it: which fault stands first in a stream.
-use Rattle.std.specs.Prelude.{◌==◌, nat_lt, Bool, true, false, not, ◌&&◌, ◌||◌, List, [], ◌∷◌, ◌++◌, Option, Some, None, if◌then◌else◌, map, length, slice_get}
+use Rattle.std.specs.Prelude.{ℕ, ◌+◌, ◌==◌, nat_lt, Bool, true, false, not, ◌&&◌, ◌||◌, List, [], ◌∷◌, ◌++◌, Option, Some, None, if◌then◌else◌, map, length, slice_get}
 use Rattle.std.specs.List.{list_any, list_all}
 use Rattle.std.specs.Option.{option_map_or}
 use Rattle.std.specs.Str.{bytes_eq}
 use Rattle.cm_stream.specs.Texts.{Text, same_texts}
 use Rattle.cm_attempt.specs.Table.{has_repeat}
 use Rattle.cm_attempt.specs.declared.policy.Policy.{Policy}
+use Rattle.cm_attempt.specs.declared.settings.Settings.{Settings}
 use Rattle.gk_document.specs.declared.tree.Document.{Document}
 use Rattle.gk_pickle.specs.Pickles.{pickles as compiled}
 use Rattle.cm_stream.specs.Readings.{Reading, Accepted, OtherLanguage, TooLong}
@@ -116,67 +117,67 @@ lacks before uri _ = false
 abbrev pub is_incomplete : List Envelope → Source → Bool
 is_incomplete before s = lacks before s.uri (reads s.content)
 
--- ---- the checks, but for the last one of the run's end
+-- ---- the checks, but for the last one of the run's end, where the attempts of a case are numbered from the first number
 
-abbrev pub checks_of : List Envelope → Envelope → List Check
-checks_of before (envelope.Source s) =
+abbrev pub checks_of : (first : ℕ) → List Envelope → Envelope → List Check
+checks_of first before (envelope.Source s) =
     bad.DuplicateUri if declares_again before (envelope.Source s)
     ∷ reason.MediaType unsupported_if not (bytes_eq s.media_type plain)
     ∷ reason.SourceTooLong unsupported_if is_too_long (reads s.content)
     ∷ reason.Language unsupported_if is_other_language (reads s.content) ∷ []
-checks_of before (envelope.GherkinDocument d) =
+checks_of first before (envelope.GherkinDocument d) =
     bad.UnknownReference if refers_to_unknown before (envelope.GherkinDocument d)
     ∷ bad.DuplicateUri if declares_again before (envelope.GherkinDocument d)
     ∷ bad.DocumentOfRefusedSource if not (is_uri_accepted d.uri before)
     ∷ bad.TreeDiffers if not (has_skeleton_of d.document (reading_of d.uri before))
     ∷ bad.DuplicateId if has_repeat d.ids ∷ []
-checks_of before (envelope.ParseError p) =
+checks_of first before (envelope.ParseError p) =
     bad.UnknownReference if refers_to_unknown before (envelope.ParseError p)
     ∷ bad.ParseErrorOfGoodSource if is_uri_accepted p.source.uri before ∷ []
-checks_of before (envelope.Pickle p) =
+checks_of first before (envelope.Pickle p) =
     bad.UnknownReference if refers_to_unknown before (envelope.Pickle p)
     ∷ bad.PickleDiffers if not (is_next_pickle before p)
     ∷ bad.DuplicateId if declares_again before (envelope.Pickle p) ∷ []
-checks_of before (envelope.StepDefinition d) = bad.DuplicateId if declares_again before (envelope.StepDefinition d) ∷ []
-checks_of before (envelope.Hook h) = bad.DuplicateId if declares_again before (envelope.Hook h) ∷ []
-checks_of before (envelope.TestCase c) =
+checks_of first before (envelope.StepDefinition d) = bad.DuplicateId if declares_again before (envelope.StepDefinition d) ∷ []
+checks_of first before (envelope.Hook h) = bad.DuplicateId if declares_again before (envelope.Hook h) ∷ []
+checks_of first before (envelope.TestCase c) =
     bad.UnknownReference if refers_to_unknown before (envelope.TestCase c)
     ∷ bad.CaseStepsDiffer if not (has_steps_of_pickle before c)
     ∷ bad.DuplicateId if declares_again before (envelope.TestCase c) ∷ []
-checks_of before (envelope.TestRunStarted r) = bad.SecondRunStarted if has_run_started before ∷ []
-checks_of before (envelope.TestCaseStarted s) =
+checks_of first before (envelope.TestRunStarted r) = bad.SecondRunStarted if has_run_started before ∷ []
+checks_of first before (envelope.TestCaseStarted s) =
     bad.OutsideRun if not (has_run_started before)
     ∷ bad.UnknownReference if refers_to_unknown before (envelope.TestCaseStarted s)
     ∷ bad.DuplicateId if declares_again before (envelope.TestCaseStarted s)
-    ∷ bad.AttemptNumber if not (s.attempt == length (starts_of s.test_case_id before))
+    ∷ bad.AttemptNumber if not (s.attempt == first + length (starts_of s.test_case_id before))
     ∷ bad.AttemptOverlap if not (list_all (λ x. is_retried x.id before) (starts_of s.test_case_id before)) ∷ []
-checks_of before (envelope.TestStepStarted s) =
+checks_of first before (envelope.TestStepStarted s) =
     bad.UnknownReference if refers_to_unknown before (envelope.TestStepStarted s)
     ∷ bad.StepOrder if not (is_next_move (StepStarted s.test_step_id) s.test_case_started_id before) ∷ []
-checks_of before (envelope.TestStepFinished s) =
+checks_of first before (envelope.TestStepFinished s) =
     bad.UnknownReference if refers_to_unknown before (envelope.TestStepFinished s)
     ∷ bad.StepOrder if not (is_next_move (StepFinished s.test_step_id) s.test_case_started_id before)
     ∷ reason.UnknownStatus unsupported_if is_unknown s.test_step_result.status ∷ []
-checks_of before (envelope.TestCaseFinished f) =
+checks_of first before (envelope.TestCaseFinished f) =
     bad.UnknownReference if refers_to_unknown before (envelope.TestCaseFinished f)
     ∷ bad.StepOrder if is_ended f.test_case_started_id before
     ∷ bad.FinishedEarly if not (is_next_move Ended f.test_case_started_id before) ∷ []
-checks_of before (envelope.TestRunFinished f) =
+checks_of first before (envelope.TestRunFinished f) =
     bad.OutsideRun if not (has_run_started before)
     ∷ bad.UnknownReference if refers_to_unknown before (envelope.TestRunFinished f)
     ∷ bad.AttemptOpen if not (list_all (λ s. is_ended s.id before) (starts before))
     ∷ bad.RunHookOpen if not (list_all (λ s. is_hook_finished s.id before) (run_hooks before))
     ∷ bad.SourceIncomplete if list_any (is_incomplete before) (sources before) ∷ []
-checks_of before (envelope.Attachment a) = bad.UnknownReference if refers_to_unknown before (envelope.Attachment a) ∷ []
-checks_of before (envelope.TestRunHookStarted s) =
+checks_of first before (envelope.Attachment a) = bad.UnknownReference if refers_to_unknown before (envelope.Attachment a) ∷ []
+checks_of first before (envelope.TestRunHookStarted s) =
     bad.OutsideRun if not (has_run_started before)
     ∷ bad.UnknownReference if refers_to_unknown before (envelope.TestRunHookStarted s)
     ∷ bad.DuplicateId if declares_again before (envelope.TestRunHookStarted s) ∷ []
-checks_of before (envelope.TestRunHookFinished f) =
+checks_of first before (envelope.TestRunHookFinished f) =
     bad.UnknownReference if refers_to_unknown before (envelope.TestRunHookFinished f)
     ∷ bad.RunHookTwice if is_hook_finished f.test_run_hook_started_id before
     ∷ reason.UnknownStatus unsupported_if is_unknown f.result.status ∷ []
-checks_of before envelope.Other = []
+checks_of first before envelope.Other = []
 
 -- the last check of the run's end: it tells success as it is
 abbrev pub success_check : Policy → List Envelope → Envelope → List Check
@@ -184,11 +185,11 @@ success_check policy before (envelope.TestRunFinished f) = bad.SuccessDiffers if
 success_check policy before _ = []
 
 -- those that are made whatever statuses are good; nothing is judged behind the end of the run
-abbrev pub plain_checks : List Envelope → Envelope → List Check
-plain_checks before e = (bad.AfterRunFinished if (is_judged e && has_run_finished before)) ∷ checks_of before e
+abbrev pub plain_checks : (first : ℕ) → List Envelope → Envelope → List Check
+plain_checks first before e = (bad.AfterRunFinished if (is_judged e && has_run_finished before)) ∷ checks_of first before e
 
-abbrev pub checks : Policy → List Envelope → Envelope → List Check
-checks policy before e = plain_checks before e ++ success_check policy before e
+abbrev pub checks : Settings → List Envelope → Envelope → List Check
+checks settings before e = plain_checks settings.first_attempt before e ++ success_check settings.policy before e
 
 -- the first check that the line fails
 abbrev pub first_failed : List Check → Option Finding
@@ -196,8 +197,8 @@ first_failed [] = None
 first_failed (c ∷ cs) = if c.fails then Some c.finding else first_failed cs
 
 -- the fault of a line behind these lines, none of which has a fault
-abbrev pub fault : Policy → List Envelope → Envelope → Option Finding
-fault policy before e = first_failed (checks policy before e)
+abbrev pub fault : Settings → List Envelope → Envelope → Option Finding
+fault settings before e = first_failed (checks settings before e)
 
 -- the fault at the end
 abbrev pub fault_at_end : List Envelope → Option Finding

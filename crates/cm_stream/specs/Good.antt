@@ -1,12 +1,13 @@
 -- Good streams, as predicates on the whole list of envelopes. The Cucumber Messages schemas say which members an envelope
 -- has; which lists of envelopes are good they leave open, and the rules here are this profile's.
-use Rattle.std.specs.Prelude.{◌≡◌, ◌↔◌, Bool, true, false, ◌||◌, List, [], ◌∷◌, ◌++◌, Some, map, length, count_by}
+use Rattle.std.specs.Prelude.{◌≡◌, ◌↔◌, ℕ, ◌+◌, Bool, true, false, ◌||◌, List, [], ◌∷◌, ◌++◌, Some, map, length, count_by}
 use Rattle.std.specs.List.{list_any, list_all, flat_map, AllByRecursion}
 use Rattle.std.specs.Option.{option_map}
 use Rattle.std.specs.Str.{bytes_eq}
 use Rattle.cm_stream.specs.Texts.{same_list}
 use Rattle.cm_attempt.specs.Table.{has_repeat, is_good_status}
 use Rattle.cm_attempt.specs.declared.policy.Policy.{Policy}
+use Rattle.cm_attempt.specs.declared.settings.Settings.{Settings}
 use Rattle.gk_document.specs.declared.tree.Document.{Document}
 use Rattle.gk_document.specs.Skeleton.{skeleton}
 use Rattle.gk_pickle.specs.Pickles.{pickles as compiled}
@@ -68,13 +69,21 @@ AttemptGood es _ = Unit {0}
 abbrev pub AttemptsGood : List Envelope → Type 0
 AttemptsGood es = Everywhere (λ before e after. AttemptGood es e) es
 
--- An attempt's number is how many of its case started before it, and each of those is finished and will be retried.
+-- Each attempt of the case that started before it is finished and will be retried.
 abbrev pub RetryGood : List Envelope → Envelope → Type 0
-RetryGood before (envelope.TestCaseStarted s) = (s.attempt ≡ length (starts_of s.test_case_id before)) × (list_all (λ x. is_retried x.id before) (starts_of s.test_case_id before) ≡ true)
+RetryGood before (envelope.TestCaseStarted s) = list_all (λ x. is_retried x.id before) (starts_of s.test_case_id before) ≡ true
 RetryGood before _ = Unit {0}
 
 abbrev pub RetriesGood : List Envelope → Type 0
 RetriesGood es = Everywhere (λ before e after. RetryGood before e) es
+
+-- The attempts of a case are numbered one after another in order of start, from this number.
+abbrev pub NumberGood : (first : ℕ) → List Envelope → Envelope → Type 0
+NumberGood first before (envelope.TestCaseStarted s) = s.attempt ≡ first + length (starts_of s.test_case_id before)
+NumberGood first before _ = Unit {0}
+
+abbrev pub NumbersGood : (first : ℕ) → List Envelope → Type 0
+NumbersGood first es = Everywhere (λ before e after. NumberGood first before e) es
 
 -- A run hook that starts is finished exactly once.
 abbrev pub HookGood : List Envelope → Envelope → Type 0
@@ -133,7 +142,7 @@ has_unknown_result (envelope.TestStepFinished s) = is_unknown s.test_step_result
 has_unknown_result (envelope.TestRunHookFinished f) = is_unknown f.result.status
 has_unknown_result _ = false
 
--- all that is asked of a good list, whatever statuses are good, but what success it says
+-- all that is asked of a good list whatever the settings: not the numbers of its attempts, nor what success it says
 pub record Sound (es : List Envelope) : Type 0 where
   pub references : ReferencesGood es
   pub sources : SourcesGood es
@@ -145,7 +154,8 @@ pub record Sound (es : List Envelope) : Type 0 where
   pub known : list_any has_unknown_result es ≡ false
   pub hooks : HooksGood es
 
--- a good list of envelopes, by a policy of good statuses
-pub record Good (policy : Policy) (es : List Envelope) : Type 0 where
+-- a good list of envelopes, by the settings
+pub record Good (settings : Settings) (es : List Envelope) : Type 0 where
   pub sound : Sound es
-  pub success : SuccessGood policy es
+  pub numbers : NumbersGood settings.first_attempt es
+  pub success : SuccessGood settings.policy es

@@ -13,3 +13,4 @@ pub mod Laws
 pub mod Seen
 pub mod Told
 pub mod Refusals
+pub mod Release

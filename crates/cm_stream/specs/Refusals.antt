@@ -1,12 +1,12 @@
 -- What a record of attempts refuses, as the first failed of the checks that are its own.
-use Rattle.std.specs.Prelude.{◌≡◌, ◌==◌, not, List, [], ◌∷◌, ◌++◌, Option, Some, None, map, length}
+use Rattle.std.specs.Prelude.{◌≡◌, ℕ, ◌+◌, ◌==◌, not, List, [], ◌∷◌, ◌++◌, Option, Some, None, map, length}
 use Rattle.std.specs.List.{list_all}
 use Rattle.std.specs.Option.{option_and_then}
 use Rattle.cm_stream.specs.Words.{StepStarted, StepFinished, Ended, starts_of, is_ended, is_retried}
 use Rattle.cm_stream.specs.Checks.{Check, checks_of, ◌if◌, first_failed, refers_to_unknown, declares_again, is_next_move}
 use Rattle.cm_attempt.specs.Table.{Table, add_case_fault, start_fault, step_start_fault, step_finish_fault, finish_fault}
 use Rattle.cm_stream.specs.Seen.{table_of}
-use Rattle.cm_attempt.specs.declared.policy.Policy.{Policy}
+use Rattle.cm_attempt.specs.declared.settings.Settings.{Settings}
 use Rattle.cm_stream.specs.Told.{IsFaultless}
 use Rattle.cm_envelope.specs.declared.envelope.Envelope.{Envelope}
 use Rattle.cm_envelope.specs.declared.envelope.Envelope.TheVariants as envelope
@@ -36,36 +36,37 @@ refused t (envelope.TestStepFinished s) = step_finish_fault t s.test_case_starte
 refused t (envelope.TestCaseFinished f) = finish_fault t f.test_case_started_id
 refused t _ = None
 
--- the checks of a line that its call makes
-abbrev pub own_checks : List Envelope → Envelope → List Check
-own_checks es (envelope.TestCase c) = bad.DuplicateId if declares_again es (envelope.TestCase c) ∷ []
-own_checks es (envelope.TestCaseStarted s) =
+-- the checks of a line that its call makes, where the attempts of a case are numbered from the first number
+abbrev pub own_checks : (first : ℕ) → List Envelope → Envelope → List Check
+own_checks first es (envelope.TestCase c) = bad.DuplicateId if declares_again es (envelope.TestCase c) ∷ []
+own_checks first es (envelope.TestCaseStarted s) =
     bad.UnknownReference if refers_to_unknown es (envelope.TestCaseStarted s)
     ∷ bad.DuplicateId if declares_again es (envelope.TestCaseStarted s)
-    ∷ bad.AttemptNumber if not (s.attempt == length (starts_of s.test_case_id es))
+    ∷ bad.AttemptNumber if not (s.attempt == first + length (starts_of s.test_case_id es))
     ∷ bad.AttemptOverlap if not (list_all (λ x. is_retried x.id es) (starts_of s.test_case_id es)) ∷ []
-own_checks es (envelope.TestStepStarted s) =
+own_checks first es (envelope.TestStepStarted s) =
     bad.UnknownReference if refers_to_unknown es (envelope.TestStepStarted s) ∷ bad.StepOrder if not (is_next_move (StepStarted s.test_step_id) s.test_case_started_id es) ∷ []
-own_checks es (envelope.TestStepFinished s) =
+own_checks first es (envelope.TestStepFinished s) =
     bad.UnknownReference if refers_to_unknown es (envelope.TestStepFinished s) ∷ bad.StepOrder if not (is_next_move (StepFinished s.test_step_id) s.test_case_started_id es) ∷ []
-own_checks es (envelope.TestCaseFinished f) =
+own_checks first es (envelope.TestCaseFinished f) =
     bad.UnknownReference if refers_to_unknown es (envelope.TestCaseFinished f)
     ∷ bad.StepOrder if is_ended f.test_case_started_id es
     ∷ bad.FinishedEarly if not (is_next_move Ended f.test_case_started_id es) ∷ []
-own_checks es _ = []
+own_checks first es _ = []
 
 -- behind lines without a fault the call refuses what the first failed of these checks tells
 abbrev pub RefusalsAre : Envelope → Type 0
-RefusalsAre e = (policy : Policy) (es : List Envelope) → IsFaultless policy es → option_and_then told_refusal (refused (table_of es) e) ≡ first_failed (own_checks es e)
+RefusalsAre e = (settings : Settings) (es : List Envelope) → IsFaultless settings es
+    → option_and_then told_refusal (refused (table_of settings.first_attempt es) e) ≡ first_failed (own_checks settings.first_attempt es e)
 
 -- they are checks of the line, one after another
-pub record AreAmongChecks (es : List Envelope) (e : Envelope) : Type 0 where
-  pub first : List Check
+pub record AreAmongChecks (first : ℕ) (es : List Envelope) (e : Envelope) : Type 0 where
+  pub front : List Check
   pub rest : List Check
-  pub cut : checks_of es e ≡ first ++ own_checks es e ++ rest
+  pub cut : checks_of first es e ≡ front ++ own_checks first es e ++ rest
 
 abbrev pub OwnAreChecks : Type 0
-OwnAreChecks = (es : List Envelope) (e : Envelope) → AreAmongChecks es e
+OwnAreChecks = (first : ℕ) (es : List Envelope) (e : Envelope) → AreAmongChecks first es e
 
 -- that of each line
 abbrev pub RefusalsAreTold : Type 0

@@ -49,8 +49,9 @@ case_row es c = record {
   last = last_state es (last_of (starts_of c.id es));
 }
 
-abbrev pub table_of : List Envelope → Table
-table_of es = record { cases = map (case_row es) (cases es); attempts = map (attempt_row es) (starts es) }
+-- the table, where the attempts of a case are numbered from the first number
+abbrev pub table_of : (first : ℕ) → List Envelope → Table
+table_of first es = record { cases = map (case_row es) (cases es); attempts = map (attempt_row es) (starts es); first = first }
 
 -- what the calls make of a table at a line
 abbrev pub changed : Table → Envelope → Table

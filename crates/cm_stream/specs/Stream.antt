@@ -1,17 +1,18 @@
 -- Good streams of bytes, and the first fault of a stream. A stream is lines of JSON, each an envelope of the Cucumber
 -- Messages (NDJSON, but blank lines are skipped and a last line may lack its LF).
-use Rattle.std.specs.Prelude.{◌≡◌, ℕ, ◌+◌, not, List, [], ◌∷◌, ◌++◌, Option, Some, None, Result, Ok, Err, if◌then◌else◌, map, length, count_by}
+use Rattle.std.specs.Prelude.{◌≡◌, ℕ, ◌+◌, Bool, not, List, [], ◌∷◌, ◌++◌, Option, Some, None, Result, Ok, Err, if◌then◌else◌, map, length, count_by}
 use Rattle.std.specs.List.{list_any}
 use Rattle.std.specs.Str.{bytes_eq}
 use Rattle.cm_envelope.specs.Lines.{Fed, feed, is_blank}
 use Rattle.cm_envelope.specs.declared.feed.Trouble.{Trouble}
 use Rattle.cm_envelope.specs.Reading.{Fault as LineFault, envelope_of_line}
-use Rattle.cm_attempt.specs.declared.policy.Policy.{Policy}
-use Rattle.cm_stream.specs.Words.{sources, pickles, cases, starts}
+use Rattle.cm_attempt.specs.declared.settings.Settings.{Settings}
+use Rattle.cm_stream.specs.Words.{sources, pickles, cases, starts, run_succeeded}
 use Rattle.cm_stream.specs.Good.{Good}
 use Rattle.cm_stream.specs.Checks.{fault, fault_at_end}
 use Rattle.cm_envelope.specs.declared.envelope.Envelope.{Envelope}
 use Rattle.cm_stream.specs.Findings.{Finding, IsBad, IsUnsupported, named, fault_of_line}
+use Rattle.cm_stream.specs.declared.verdict.Audited.{Audited}
 use Rattle.cm_stream.specs.declared.verdict.Counts.{Counts}
 use Rattle.cm_stream.specs.declared.verdict.Verdict.{Verdict}
 use Rattle.cm_stream.specs.declared.verdict.Verdict.TheVariants as verdict
@@ -53,12 +54,20 @@ unrun es = count_by (λ p. not (list_any (λ c. bytes_eq p.id c.pickle_id) (case
 abbrev pub counts_of : List Envelope → Counts
 counts_of es = record { sources = length (sources es); pickles = length (pickles es); cases = length (cases es); attempts = length (starts es); unrun = unrun es }
 
--- a good stream by a policy of good statuses, which has these counts
-pub record IsGoodStream (policy : Policy) (bytes : List ℕ) (counts : Counts) : Type 0 where
+-- a good stream by the settings, which has these counts
+pub record IsGoodStream (settings : Settings) (bytes : List ℕ) (counts : Counts) : Type 0 where
   pub lines : List (ℕ × Envelope)
   pub read : IsRead bytes lines
-  pub good : Good policy (envelopes lines)
+  pub good : Good settings (envelopes lines)
   pub exact : counts ≡ counts_of (envelopes lines)
+
+-- it says this of the run's success
+pub record IsGoodRun (settings : Settings) (bytes : List ℕ) (counts : Counts) (success : Bool) : Type 0 where
+  pub lines : List (ℕ × Envelope)
+  pub read : IsRead bytes lines
+  pub good : Good settings (envelopes lines)
+  pub exact : counts ≡ counts_of (envelopes lines)
+  pub told : success ≡ run_succeeded (envelopes lines)
 
 -- ---- the first fault
 
@@ -81,44 +90,60 @@ at_line n (Some f) more = At n f
 abbrev pub shown : List ℕ → Option (Result Envelope LineFault)
 shown line = if is_blank line then None else Some (envelope_of_line line)
 
-abbrev pub told_line : Policy → (before : List Envelope) → (n : ℕ) → Option (Result Envelope LineFault) → (List Envelope → Told) → Told
-told_line policy before n None more = more before
-told_line policy before n (Some (Err b)) more = At n (IsBad (fault_of_line b))
-told_line policy before n (Some (Ok e)) more = at_line n (fault policy before e) (more (before ++ e ∷ []))
+abbrev pub told_line : Settings → (before : List Envelope) → (n : ℕ) → Option (Result Envelope LineFault) → (List Envelope → Told) → Told
+told_line settings before n None more = more before
+told_line settings before n (Some (Err b)) more = At n (IsBad (fault_of_line b))
+told_line settings before n (Some (Ok e)) more = at_line n (fault settings before e) (more (before ++ e ∷ []))
 
 -- of these lines, the first of which has the number n, and then the trouble or the end, behind envelopes without a fault
-abbrev pub told_of : Policy → (before : List Envelope) → (n : ℕ) → List (List ℕ) → Option Trouble → Told
-told_of policy before n [] (Some t) = Troubled t
-told_of policy before n [] None = at_end n before (fault_at_end before)
-told_of policy before n (l ∷ ls) t = told_line policy before n (shown l) (λ (now : List Envelope). told_of policy now (n + 1) ls t)
+abbrev pub told_of : Settings → (before : List Envelope) → (n : ℕ) → List (List ℕ) → Option Trouble → Told
+told_of settings before n [] (Some t) = Troubled t
+told_of settings before n [] None = at_end n before (fault_at_end before)
+told_of settings before n (l ∷ ls) t = told_line settings before n (shown l) (λ (now : List Envelope). told_of settings now (n + 1) ls t)
 
-abbrev pub told : Policy → List ℕ → Told
-told policy bytes = told_of policy [] 1 (fed bytes).lines (fed bytes).trouble
+abbrev pub told : Settings → List ℕ → Told
+told settings bytes = told_of settings [] 1 (fed bytes).lines (fed bytes).trouble
 
 -- ---- what an audit promises
 
--- an answer, by what it names
+-- an answer, by what it names: the counts of a good stream and whether its run says success
 pub data Answer : Type 0 where
-  GoodWith : Counts → Answer
+  GoodWith : Counts → Bool → Answer
   Found : ℕ → Finding → Answer
   Failed : Trouble → Answer
 
-abbrev pub answered : Result Verdict Trouble → Answer
-answered (Ok (verdict.Good counts)) = GoodWith counts
-answered (Ok (verdict.Bad n b)) = Found n (IsBad (named b))
-answered (Ok (verdict.Unsupported n r)) = Found n (IsUnsupported r)
+abbrev pub answer_in : Verdict → Bool → Answer
+answer_in (verdict.Good counts) success = GoodWith counts success
+answer_in (verdict.Bad n b) success = Found n (IsBad (named b))
+answer_in (verdict.Unsupported n r) success = Found n (IsUnsupported r)
+
+abbrev pub answered : Result Audited Trouble → Answer
+answered (Ok a) = answer_in a.verdict a.success
 answered (Err t) = Failed t
+
+abbrev pub verdict_in : Result Audited Trouble → Result Verdict Trouble
+verdict_in (Ok a) = Ok a.verdict
+verdict_in (Err t) = Err t
 
 -- the answer for what is told
 abbrev pub answer_for : Told → Answer
 answer_for (At n f) = Found n f
 answer_for (Troubled t) = Failed t
-answer_for (NoFault es) = GoodWith (counts_of es)
+answer_for (NoFault es) = GoodWith (counts_of es) (run_succeeded es)
 
 -- Good only for good streams, with exact counts.
-abbrev pub GoodOnlyForGood : Policy → List ℕ → Result Verdict Trouble → Type 0
-GoodOnlyForGood policy bytes (Ok (verdict.Good counts)) = IsGoodStream policy bytes counts
-GoodOnlyForGood policy bytes _ = Unit {0}
+abbrev pub GoodOnlyForGood : Settings → List ℕ → Result Verdict Trouble → Type 0
+GoodOnlyForGood settings bytes (Ok (verdict.Good counts)) = IsGoodStream settings bytes counts
+GoodOnlyForGood settings bytes _ = Unit {0}
+
+abbrev pub GoodRunIn : Settings → List ℕ → Verdict → Bool → Type 0
+GoodRunIn settings bytes (verdict.Good counts) success = IsGoodRun settings bytes counts success
+GoodRunIn settings bytes _ success = Unit {0}
+
+-- Good only for good streams, with exact counts and what they say of success.
+abbrev pub GoodRunsOnly : Settings → List ℕ → Result Audited Trouble → Type 0
+GoodRunsOnly settings bytes (Ok a) = GoodRunIn settings bytes a.verdict a.success
+GoodRunsOnly settings bytes (Err t) = Unit {0}
 
 -- the other stream has the first n lines of this one
 pub record HaveFirstLines (n : ℕ) (bytes other : List ℕ) : Type 0 where
@@ -130,6 +155,6 @@ pub record HaveFirstLines (n : ℕ) (bytes other : List ℕ) : Type 0 where
   pub there : (fed other).lines ≡ first ++ other_rest
 
 -- A finding at line n: no good stream has these first n lines. Past the last line: this stream is not good.
-abbrev pub NoneIsGood : Policy → List ℕ → Result Verdict Trouble → Type 0
-NoneIsGood policy bytes (Ok (verdict.Bad n b)) = ((other : List ℕ) (counts : Counts) → HaveFirstLines n bytes other → IsGoodStream policy other counts → ⊥) × ((counts : Counts) → IsGoodStream policy bytes counts → ⊥)
-NoneIsGood policy bytes _ = Unit {0}
+abbrev pub NoneIsGood : Settings → List ℕ → Result Verdict Trouble → Type 0
+NoneIsGood settings bytes (Ok (verdict.Bad n b)) = ((other : List ℕ) (counts : Counts) → HaveFirstLines n bytes other → IsGoodStream settings other counts → ⊥) × ((counts : Counts) → IsGoodStream settings bytes counts → ⊥)
+NoneIsGood settings bytes _ = Unit {0}

@@ -109,6 +109,14 @@ has_run_started es = list_any is_run_started es
 abbrev pub has_run_finished : List Envelope → Bool
 has_run_finished es = list_any is_run_finished es
 
+-- the end of the run says success
+abbrev pub says_success : Envelope → Bool
+says_success (envelope.TestRunFinished f) = f.success
+says_success _ = false
+
+abbrev pub run_succeeded : List Envelope → Bool
+run_succeeded es = list_any says_success es
+
 -- ---- names
 
 -- What can be referred to: its kind, its scope and its id. The Messages refer by the members whose names end in `Id` or

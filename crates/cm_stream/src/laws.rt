@@ -3,6 +3,7 @@ ghost use Rattle.cm_stream.specs.Laws.{FaultlessAreGood, GoodHaveNoFault};
 ghost use Rattle.cm_stream.specs.OnePass.{EachTextIsRead};
 ghost use Rattle.cm_stream.specs.Readings.{OneReading};
 ghost use Rattle.cm_stream.specs.Refusals.{OwnAreChecks, RefusalsAreTold};
+ghost use Rattle.cm_stream.specs.Release.{ReleasedIsNotHeld, ReleasedRan};
 ghost use Rattle.cm_stream.specs.Told.{AnswersAreRight, FoundIsNotGood, GoodIsNoFault, NoFaultIsGood, NoneBeginsSo, TableSteps};
 
 /// Each text is accepted with one document, refused, in another language, or too long, and never two of these.
@@ -56,4 +57,15 @@ pub fn table_steps()
 pub fn refusals_are_told()
     ensures refused { RefusalsAreTold }
     ensures own { OwnAreChecks }
+{}
+
+/// A good run isn't held exactly where its stream is a released one.
+pub fn released_is_not_held()
+    ensures { ReleasedIsNotHeld }
+{}
+
+/// In a released stream without unrun pickles, the pickles of each source are those that its text compiles to, and each of
+/// them ran: its case's last attempt went through each step in order, finished, and is at worst of a good status.
+pub fn released_scenarios_ran()
+    ensures { ReleasedRan }
 {}

@@ -7,6 +7,6 @@ mod verdict;
 pub use laws::{
     answers_are_right, each_text_has_one_reading, found_is_not_good, good_is_no_fault,
     good_streams_have_no_fault, no_fault_is_good, none_begins_so, refusals_are_told,
-    streams_without_fault_are_good, table_steps,
+    released_is_not_held, released_scenarios_ran, streams_without_fault_are_good, table_steps,
 };
-pub use verdict::{Bad, Counts, Reason, Verdict};
+pub use verdict::{Audited, Bad, Counts, Hold, Reason, Verdict};

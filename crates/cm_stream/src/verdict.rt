@@ -56,3 +56,21 @@ pub enum Verdict {
     Bad { line: u64, fault: Bad },
     Unsupported { line: u64, reason: Reason },
 }
+
+/// What an audit answers, and whether the run says success: only a good stream's word counts, of any other it is false.
+#[derive(Clone, Copy, Debug, Drop, PartialEq, Eq)]
+pub struct Audited {
+    pub verdict: Verdict,
+    pub success: bool,
+}
+
+/// Why a run that was truthfully reported isn't to be released, the first that holds.
+#[derive(Clone, Copy, Debug, Drop, PartialEq, Eq)]
+pub enum Hold {
+    /// The run doesn't say success.
+    NotSuccessful,
+    /// The run has no test case.
+    Empty,
+    /// No test case names one of the pickles.
+    Unrun,
+}

@@ -63,8 +63,8 @@ cursor_there : (over : Bool) (n : ℕ) (r : Bool) → is_some (cursor_at over n 
 cursor_there true n r = refl
 cursor_there false n r = refl
 
-pub none_open : (es : List Envelope) → (open_count (table_of es) == 0) ≡ list_all (λ (s : TestCaseStarted). is_ended s.id es) (starts es)
-none_open es =
+pub none_open : (first : ℕ) (es : List Envelope) → (open_count (table_of first es) == 0) ≡ list_all (λ (s : TestCaseStarted). is_ended s.id es) (starts es)
+none_open first es =
     none_counts (λ (r : AttemptRow). is_some r.cursor) (map (attempt_row es) (starts es))
     ∙ ap not (list_any-map (λ (r : AttemptRow). is_some r.cursor) (attempt_row es) (starts es))
     ∙ none_or_all (λ (s : TestCaseStarted). is_some (attempt_row es s).cursor) (λ (s : TestCaseStarted). is_ended s.id es)
@@ -85,7 +85,7 @@ few_ends a es pass = by_lines (λ xs. length (ends_of a xs) ≤ 1) (omega arith)
         (λ k.
         let e = envelope.TestCaseFinished f in
         let one = (all_refer (xs ++ e ∷ []) h xs e [] refl).0 in
-        let next = was_not (is_next_move Ended f.test_case_started_id xs) ((((last_passes xs e h).1).1).1).0 in
+        let next = was_not (is_next_move Ended f.test_case_started_id xs) ((((last_passes xs e h).passes).1).1).0 in
         let none : ends_of a xs ≡ [] = ap (λ u. ends_of u xs) k ∙ no_ends f.test_case_started_id xs (not_over xs (front_passes xs (e ∷ []) h) f.test_case_started_id Ended one next) in
         let told : retry_in a e ≡ Some f.will_be_retried = rw (k, bytes_same f.test_case_started_id) refl in
         let all : ends_of a (xs ++ e ∷ []) ≡ f.will_be_retried ∷ [] = found_push (retry_in a) xs e f.will_be_retried told ∙ ap (λ ys. ys ++ f.will_be_retried ∷ []) none in
@@ -132,18 +132,18 @@ known_hooks (_ ∷ es) h = known_hooks es h
 good_hooks : (policy : Policy) (es : List Envelope) → AllPass es → is_good_status policy (worst_of (hook_statuses es)) ≡ list_all (is_good_status policy) (hook_statuses es)
 good_hooks policy es pass = good_worst policy (hook_statuses es) (known_hooks es (all_known es pass))
 
-pub same_well : (policy : Policy) (es : List Envelope) → AllPass es → is_well policy (seen es) ≡ all_well policy es
-same_well policy es pass =
+pub same_well : (policy : Policy) (first : ℕ) (es : List Envelope) → AllPass es → is_well policy (seen first es) ≡ all_well policy es
+same_well policy first es pass =
     let good = list_all-map (is_good_row policy) (case_row es) (cases es) ∙ same_all (λ (c : TestCase). is_good_row policy (case_row es c)) (is_good_case policy es) (good_row policy es pass) (cases es) in
     λ i. good i && good_hooks policy es pass i && each_accepted es i
 
 -- ---- attachments
 
-row_is : (es : List Envelope) (a : Text) → find_attempt (table_of es) a ≡ option_map (attempt_row es) (find (is_of a) (starts es))
-row_is es a = find_map (λ r. bytes_eq a r.id) (attempt_row es) (starts es)
+row_is : (first : ℕ) (es : List Envelope) (a : Text) → find_attempt (table_of first es) a ≡ option_map (attempt_row es) (find (is_of a) (starts es))
+row_is first es a = find_map (λ r. bytes_eq a r.id) (attempt_row es) (starts es)
 
-case_steps : (es : List Envelope) (case : Text) (c : TestCase) → find_case case es ≡ Some c → steps_in (table_of es) case ≡ step_ids c
-case_steps es case c found = ap (λ o. option_map_or (λ (r : CaseRow). r.steps) o []) (find_map (λ r. bytes_eq case r.id) (case_row es) (cases es) ∙ ap (option_map (case_row es)) found)
+case_steps : (first : ℕ) (es : List Envelope) (case : Text) (c : TestCase) → find_case case es ≡ Some c → steps_in (table_of first es) case ≡ step_ids c
+case_steps first es case c found = ap (λ o. option_map_or (λ (r : CaseRow). r.steps) o []) (find_map (λ r. bytes_eq case r.id) (case_row es) (cases es) ∙ ap (option_map (case_row es)) found)
 
 -- the one case of an attempt that was started
 case_is : (es : List Envelope) (a : Text) (t : TestCaseStarted) → find (is_of a) (starts es) ≡ Some t → Goes a es → (c : TestCase) × (find_case t.test_case_id es ≡ Some c)
@@ -152,28 +152,28 @@ case_is es a t found (goes s c rest f k w) =
     let same : s ≡ t = cc in
     (c, ap (λ (x : TestCaseStarted). find_case x.test_case_id es) (sym same) ∙ k)
 
-step_place : (es : List Envelope) → AllPass es → (a step : Text) → list_any (unknown es) (attachment_names es (Some a) (Some step)) ≡ not (has_step (table_of es) a step)
-step_place es pass a step = go (find (is_of a) (starts es)) refl
+step_place : (first : ℕ) (es : List Envelope) → AllPass es → (a step : Text) → list_any (unknown es) (attachment_names es (Some a) (Some step)) ≡ not (has_step (table_of first es) a step)
+step_place first es pass a step = go (find (is_of a) (starts es)) refl
   where
-    known : (o : Option TestCaseStarted) → find (is_of a) (starts es) ≡ o → not (has_step (table_of es) a step) ≡ not (option_map_or (λ (r : AttemptRow). has_text step (steps_in (table_of es) r.case_id)) (option_map (attempt_row es) o) false)
-    known o e = ap (λ r. not (option_map_or (λ (x : AttemptRow). has_text step (steps_in (table_of es) x.case_id)) r false)) (row_is es a ∙ ap (option_map (attempt_row es)) e)
+    known : (o : Option TestCaseStarted) → find (is_of a) (starts es) ≡ o → not (has_step (table_of first es) a step) ≡ not (option_map_or (λ (r : AttemptRow). has_text step (steps_in (table_of first es) r.case_id)) (option_map (attempt_row es) o) false)
+    known o e = ap (λ r. not (option_map_or (λ (x : AttemptRow). has_text step (steps_in (table_of first es) x.case_id)) r false)) (row_is first es a ∙ ap (option_map (attempt_row es)) e)
 
     names : (o : Option TestCaseStarted) → find (is_of a) (starts es) ≡ o
         → list_any (unknown es) (attachment_names es (Some a) (Some step)) ≡ (not (is_some (option_map (attempt_row es) o)) || list_any (unknown es) (map (λ (c : Text). Step c step) (if_any (option_map (λ (s : TestCaseStarted). s.test_case_id) o)) ++ []))
     names o e =
-        let here = (attempt_declared a es).unknown ∙ ap (λ r. not (is_some r)) (row_is es a ∙ ap (option_map (attempt_row es)) e) in
+        let here = (attempt_declared a first es).unknown ∙ ap (λ r. not (is_some r)) (row_is first es a ∙ ap (option_map (attempt_row es)) e) in
         λ i. here i || list_any (unknown es) (map (λ (c : Text). Step c step) (if_any (option_map (λ (s : TestCaseStarted). s.test_case_id) (e i))) ++ [])
 
-    go : (o : Option TestCaseStarted) → find (is_of a) (starts es) ≡ o → list_any (unknown es) (attachment_names es (Some a) (Some step)) ≡ not (has_step (table_of es) a step)
+    go : (o : Option TestCaseStarted) → find (is_of a) (starts es) ≡ o → list_any (unknown es) (attachment_names es (Some a) (Some step)) ≡ not (has_step (table_of first es) a step)
     go None e = names None e ∙ sym (known None e)
     go (Some t) e =
         let case = case_is es a t e (all_go a es pass) in
         names (Some t) e ∙ or_no (unknown es (Step t.test_case_id step))
         ∙ step_known es t.test_case_id step case.0 (one_case es pass t.test_case_id) case.1
-        ∙ ap (λ ids. not (has_text step ids)) (sym (case_steps es t.test_case_id case.0 case.1))
+        ∙ ap (λ ids. not (has_text step ids)) (sym (case_steps first es t.test_case_id case.0 case.1))
         ∙ sym (known (Some t) e)
 
-pub place_known : (es : List Envelope) → AllPass es → (a step : Option Text) → list_any (unknown es) (attachment_names es a step) ≡ not (knows_place (seen es) a step)
-place_known es pass None step = refl
-place_known es pass (Some a) None = or_no (unknown es (Attempt a)) ∙ (attempt_declared a es).unknown
-place_known es pass (Some a) (Some step) = step_place es pass a step
+pub place_known : (first : ℕ) (es : List Envelope) → AllPass es → (a step : Option Text) → list_any (unknown es) (attachment_names es a step) ≡ not (knows_place (seen first es) a step)
+place_known first es pass None step = refl
+place_known first es pass (Some a) None = or_no (unknown es (Attempt a)) ∙ (attempt_declared a first es).unknown
+place_known first es pass (Some a) (Some step) = step_place first es pass a step

@@ -1,7 +1,8 @@
 -- What is told of a line by what is kept of the lines before it is the line's fault over all of them.
-use Rattle.std.proofs.Common.{◌≡◌, refl, sym, ap, ◌∙◌, List, [], ◌∷◌, ◌++◌, Option, Some, true, false, Bool, not, ◌&&◌, ◌||◌, ◌==◌}
+use Rattle.std.proofs.Common.{◌≡◌, ℕ, refl, sym, ap, ◌∙◌, List, [], ◌∷◌, ◌++◌, Option, Some, true, false, Bool, not, ◌&&◌, ◌||◌, ◌==◌}
 use Rattle.std.specs.Prelude.{is_some, nat_lt, if◌then◌else◌}
 use Rattle.cm_attempt.specs.declared.policy.Policy.{Policy}
+use Rattle.cm_attempt.specs.declared.settings.Settings.{Settings}
 use Rattle.cm_stream.specs.Readings.{Reading}
 use Rattle.cm_stream.specs.Words.{Name, SourceOf, DocumentOf, Definition, HookNamed, RunHook, times_declared, is_judged, has_run_started, has_run_finished}
 use Rattle.cm_stream.specs.Checks.{Check, ◌if◌, checks_of, success_check, first_failed, fault, refers_to_unknown, has_skeleton_of, has_steps_of_pickle, same_flag}
@@ -50,21 +51,21 @@ same_failed (x ∷ xs) (y ∷ ys) h =
     λ i. if fails i then Some (told i) else rest i
 
 -- the checks of a line before those that its call makes
-abbrev checks_first : List Envelope → Envelope → List Check
-checks_first es (envelope.TestCase c) = bad.UnknownReference if refers_to_unknown es (envelope.TestCase c) ∷ bad.CaseStepsDiffer if not (has_steps_of_pickle es c) ∷ []
-checks_first es (envelope.TestCaseStarted s) = bad.OutsideRun if not (has_run_started es) ∷ []
-checks_first es (envelope.TestStepStarted s) = []
-checks_first es (envelope.TestStepFinished s) = []
-checks_first es (envelope.TestCaseFinished f) = []
-checks_first es e = checks_of es e
+abbrev checks_first : (first : ℕ) → List Envelope → Envelope → List Check
+checks_first first es (envelope.TestCase c) = bad.UnknownReference if refers_to_unknown es (envelope.TestCase c) ∷ bad.CaseStepsDiffer if not (has_steps_of_pickle es c) ∷ []
+checks_first first es (envelope.TestCaseStarted s) = bad.OutsideRun if not (has_run_started es) ∷ []
+checks_first first es (envelope.TestStepStarted s) = []
+checks_first first es (envelope.TestStepFinished s) = []
+checks_first first es (envelope.TestCaseFinished f) = []
+checks_first first es e = checks_of first es e
 
-in_parts : (es : List Envelope) (e : Envelope) → checks_of es e ≡ checks_first es e ++ (own_checks es e ++ checks_behind e)
-in_parts es (envelope.TestCase c) = refl
-in_parts es (envelope.TestCaseStarted s) = refl
-in_parts es (envelope.TestStepStarted s) = refl
-in_parts es (envelope.TestStepFinished s) = refl
-in_parts es (envelope.TestCaseFinished f) = refl
-in_parts es _ = refl
+in_parts : (first : ℕ) (es : List Envelope) (e : Envelope) → checks_of first es e ≡ checks_first first es e ++ (own_checks first es e ++ checks_behind e)
+in_parts first es (envelope.TestCase c) = refl
+in_parts first es (envelope.TestCaseStarted s) = refl
+in_parts first es (envelope.TestStepStarted s) = refl
+in_parts first es (envelope.TestStepFinished s) = refl
+in_parts first es (envelope.TestCaseFinished f) = refl
+in_parts first es _ = refl
 
 -- ---- one name
 
@@ -76,58 +77,59 @@ again_one name es b k = sym k.again ∙ sym (or_no (nat_lt 0 (times_declared nam
 
 -- ---- each line
 
-agree : (es : List Envelope) → AllPass es → (e : Envelope) → AreSame (checks_before (seen es) e) (checks_first es e)
-agree es pass (envelope.Source x) =
+agree : (first : ℕ) (es : List Envelope) → AllPass es → (e : Envelope) → AreSame (checks_before (seen first es) e) (checks_first first es e)
+agree first es pass (envelope.Source x) =
     (refl, again_one (SourceOf x.uri) es (has_text x.uri (declared_in es).sources) (source_declared x.uri es), (refl, refl, (refl, refl, (refl, refl, tt))))
-agree es pass (envelope.GherkinDocument d) =
+agree first es pass (envelope.GherkinDocument d) =
     let source = unknown_one (SourceOf d.uri) es (has_text d.uri (declared_in es).sources) (source_declared d.uri es) in
     let document = again_one (DocumentOf d.uri) es (has_text d.uri (declared_in es).documents) (document_declared d.uri es) in
-    let accepted = ap not (same_accepted es d.uri) in
-    let skeleton = ap (λ (r : Option Reading). not (has_skeleton_of d.document r)) (same_reading es d.uri) in
+    let accepted = ap not (same_accepted first es d.uri) in
+    let skeleton = ap (λ (r : Option Reading). not (has_skeleton_of d.document r)) (same_reading first es d.uri) in
     (refl, source, (refl, document, (refl, accepted, (refl, skeleton, (refl, refl, tt)))))
-agree es pass (envelope.ParseError p) =
+agree first es pass (envelope.ParseError p) =
     let source = unknown_one (SourceOf p.source.uri) es (has_text p.source.uri (declared_in es).sources) (source_declared p.source.uri es) in
-    (refl, source, (refl, same_accepted es p.source.uri, tt))
-agree es pass (envelope.Pickle p) =
+    (refl, source, (refl, same_accepted first es p.source.uri, tt))
+agree first es pass (envelope.Pickle p) =
     let source = (source_declared p.uri es).unknown in
     let document = unknown_one (DocumentOf p.uri) es (has_text p.uri (declared_in es).documents) (document_declared p.uri es) in
     let both = both_known (has_text p.uri (declared_in es).sources) (has_text p.uri (declared_in es).documents) in
-    (refl, sym both ∙ (λ i. sym source i || document i), (refl, ap not (same_next es p), (refl, pickle_again es p, tt)))
-agree es pass (envelope.StepDefinition d) = (refl, again_one (Definition d.id) es (has_text d.id (declared_in es).definitions) (definition_declared d.id es), tt)
-agree es pass (envelope.Hook h) = (refl, again_one (HookNamed h.id) es (has_text h.id (declared_in es).hooks) (hook_declared h.id es), tt)
-agree es pass (envelope.TestCase c) = (refl, sym (case_known es pass c), (refl, ap not (steps_are es c), tt))
-agree es pass (envelope.TestRunStarted r) = (refl, started_is es, tt)
-agree es pass (envelope.TestCaseStarted x) = (refl, ap not (started_is es), tt)
-agree es pass (envelope.TestRunFinished f) =
-    let run = sym (run_known es pass f.test_run_started_id) in
-    (refl, ap not (started_is es), (refl, run, (refl, ap not (none_open es), (refl, ap not (no_hook_open es), (refl, same_incomplete es, tt)))))
-agree es pass (envelope.Attachment a) = (refl, sym (place_known es pass a.test_case_started_id a.test_step_id), tt)
-agree es pass (envelope.TestRunHookStarted x) =
+    (refl, sym both ∙ (λ i. sym source i || document i), (refl, ap not (same_next first es p), (refl, pickle_again es p, tt)))
+agree first es pass (envelope.StepDefinition d) = (refl, again_one (Definition d.id) es (has_text d.id (declared_in es).definitions) (definition_declared d.id es), tt)
+agree first es pass (envelope.Hook h) = (refl, again_one (HookNamed h.id) es (has_text h.id (declared_in es).hooks) (hook_declared h.id es), tt)
+agree first es pass (envelope.TestCase c) = (refl, sym (case_known first es pass c), (refl, ap not (steps_are first es c), tt))
+agree first es pass (envelope.TestRunStarted r) = (refl, started_is es, tt)
+agree first es pass (envelope.TestCaseStarted x) = (refl, ap not (started_is es), tt)
+agree first es pass (envelope.TestRunFinished f) =
+    let run = sym (run_known first es pass f.test_run_started_id) in
+    (refl, ap not (started_is es), (refl, run, (refl, ap not (none_open first es), (refl, ap not (no_hook_open es), (refl, same_incomplete es, tt)))))
+agree first es pass (envelope.Attachment a) = (refl, sym (place_known first es pass a.test_case_started_id a.test_step_id), tt)
+agree first es pass (envelope.TestRunHookStarted x) =
     let again = again_one (RunHook x.id) es (is_some (find_run_hook (declared_in es) x.id)) (run_hook_declared x.id es) in
-    (refl, ap not (started_is es), (refl, sym (hook_start_known es pass x), (refl, again, tt)))
-agree es pass (envelope.TestRunHookFinished f) =
+    (refl, ap not (started_is es), (refl, sym (hook_start_known first es pass x), (refl, again, tt)))
+agree first es pass (envelope.TestRunHookFinished f) =
     let known = unknown_one (RunHook f.test_run_hook_started_id) es (is_some (find_run_hook (declared_in es) f.test_run_hook_started_id)) (run_hook_declared f.test_run_hook_started_id es) in
-    (refl, known, (refl, hook_finished_by es pass f.test_run_hook_started_id, (refl, refl, tt)))
-agree es pass _ = tt
+    (refl, known, (refl, hook_finished_by first es pass f.test_run_hook_started_id, (refl, refl, tt)))
+agree first es pass _ = tt
 
-agree_last : (policy : Policy) (es : List Envelope) → AllPass es → (e : Envelope) → AreSame (success_by policy (seen es) e) (success_check policy es e)
-agree_last policy es pass (envelope.TestRunFinished f) = (refl, ap (λ (b : Bool). not (same_flag f.success (b && not f.has_exception))) (same_well policy es pass), tt)
-agree_last policy es pass _ = tt
+agree_last : (policy : Policy) (first : ℕ) (es : List Envelope) → AllPass es → (e : Envelope) → AreSame (success_by policy (seen first es) e) (success_check policy es e)
+agree_last policy first es pass (envelope.TestRunFinished f) = (refl, ap (λ (b : Bool). not (same_flag f.success (b && not f.has_exception))) (same_well policy first es pass), tt)
+agree_last policy first es pass _ = tt
 
-plainly : (es : List Envelope) (e : Envelope) → AllPass es → plain_finding (seen es) e ≡ first_failed (checks_of es e)
-plainly es e pass =
-    let first = same_failed (checks_before (seen es) e) (checks_first es e) (agree es pass e) in
-    let own = all_refused es e pass in
-    (λ i. or_else (first i) (or_else (own i) (first_failed (checks_behind e))))
-    ∙ ap (or_else (first_failed (checks_first es e))) (sym (in_turn (own_checks es e) (checks_behind e)))
-    ∙ sym (in_turn (checks_first es e) (own_checks es e ++ checks_behind e))
-    ∙ ap first_failed (sym (in_parts es e))
+plainly : (first : ℕ) (es : List Envelope) (e : Envelope) → AllPass es → plain_finding (seen first es) e ≡ first_failed (checks_of first es e)
+plainly first es e pass =
+    let front = same_failed (checks_before (seen first es) e) (checks_first first es e) (agree first es pass e) in
+    let own = all_refused first es e pass in
+    (λ i. or_else (front i) (or_else (own i) (first_failed (checks_behind e))))
+    ∙ ap (or_else (first_failed (checks_first first es e))) (sym (in_turn (own_checks first es e) (checks_behind e)))
+    ∙ sym (in_turn (checks_first first es e) (own_checks first es e ++ checks_behind e))
+    ∙ ap first_failed (sym (in_parts first es e))
 
-inside : (policy : Policy) (es : List Envelope) (e : Envelope) → AllPass es → finding_inside policy (seen es) e ≡ first_failed (checks_of es e ++ success_check policy es e)
-inside policy es e pass =
-    let plain = plainly es e pass in
-    let last = same_failed (success_by policy (seen es) e) (success_check policy es e) (agree_last policy es pass e) in
-    (λ i. or_else (plain i) (last i)) ∙ sym (in_turn (checks_of es e) (success_check policy es e))
+inside : (policy : Policy) (first : ℕ) (es : List Envelope) (e : Envelope) → AllPass es → finding_inside policy (seen first es) e ≡ first_failed (checks_of first es e ++ success_check policy es e)
+inside policy first es e pass =
+    let plain = plainly first es e pass in
+    let last = same_failed (success_by policy (seen first es) e) (success_check policy es e) (agree_last policy first es pass e) in
+    (λ i. or_else (plain i) (last i)) ∙ sym (in_turn (checks_of first es e) (success_check policy es e))
 
-pub findings_are_faults : (policy : Policy) (es : List Envelope) (e : Envelope) → AllPass es → finding policy (seen es) e ≡ fault policy es e
-findings_are_faults policy es e pass = ap (λ o. if is_judged e && has_run_finished es then Some (IsBad bad.AfterRunFinished) else o) (inside policy es e pass)
+pub findings_are_faults : (settings : Settings) (es : List Envelope) (e : Envelope) → AllPass es → finding settings (seen settings.first_attempt es) e ≡ fault settings es e
+findings_are_faults settings es e pass =
+    ap (λ o. if is_judged e && has_run_finished es then Some (IsBad bad.AfterRunFinished) else o) (inside settings.policy settings.first_attempt es e pass)

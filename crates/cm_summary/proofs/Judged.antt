@@ -4,7 +4,7 @@ use Rattle.cm_envelope.specs.Lines.{is_blank}
 use Rattle.cm_envelope.specs.Reading.{Fault as LineFault, envelope_of_line}
 use Rattle.cm_envelope.specs.declared.envelope.Envelope.{Envelope}
 use Rattle.cm_envelope.specs.declared.feed.Trouble.{Trouble}
-use Rattle.cm_attempt.specs.declared.policy.Policy.{Policy}
+use Rattle.cm_attempt.specs.declared.settings.Settings.{Settings}
 use Rattle.cm_stream.specs.Checks.{fault, fault_at_end}
 use Rattle.cm_stream.specs.Findings.{Finding}
 use Rattle.cm_stream.specs.Words.{has_run_finished}
@@ -35,53 +35,53 @@ cut_before {X} (z ∷ xs) e (y ∷ b) x a h =
     go same (inl k) = inl (rw (k.0, same) refl, k.1)
     go same (inr k) = inr (k.0, rw same (ap (λ ys. y ∷ ys) k.1))
 
-one_more_line : (policy : Policy) (before : List Envelope) (e : Envelope) → IsFaultless policy before → fault policy before e ≡ None → IsFaultless policy (before ++ e ∷ [])
-one_more_line policy before e h none b x a cut = go (cut_before before e b x a cut)
+one_more_line : (settings : Settings) (before : List Envelope) (e : Envelope) → IsFaultless settings before → fault settings before e ≡ None → IsFaultless settings (before ++ e ∷ [])
+one_more_line settings before e h none b x a cut = go (cut_before before e b x a cut)
   where
-    go : ((b ≡ before) × (x ≡ e)) ⊎ ((more : List Envelope) × (before ≡ b ++ x ∷ more)) → fault policy b x ≡ None
-    go (inl k) = ap (λ ys. fault policy ys x) k.0 ∙ ap (fault policy before) k.1 ∙ none
+    go : ((b ≡ before) × (x ≡ e)) ⊎ ((more : List Envelope) × (before ≡ b ++ x ∷ more)) → fault settings b x ≡ None
+    go (inl k) = ap (λ ys. fault settings ys x) k.0 ∙ ap (fault settings before) k.1 ∙ none
     go (inr k) = h b x k.0 k.1
 
 -- ---- all lines
 
-finished : (n : ℕ) (before : List Envelope) → at_end n (seen before) (finding_at_end (seen before)) ≡ answer_for (stream.at_end n before (fault_at_end before))
-finished n before = go (has_run_finished before) refl
+finished : (first n : ℕ) (before : List Envelope) → at_end n (seen first before) (finding_at_end (seen first before)) ≡ answer_for (stream.at_end n before (fault_at_end before))
+finished first n before = go (has_run_finished before) refl
   where
-    go : (b : Bool) → has_run_finished before ≡ b → at_end n (seen before) (finding_at_end (seen before)) ≡ answer_for (stream.at_end n before (fault_at_end before))
+    go : (b : Bool) → has_run_finished before ≡ b → at_end n (seen first before) (finding_at_end (seen first before)) ≡ answer_for (stream.at_end n before (fault_at_end before))
     go true e = rw e refl
     go false e = rw e refl
 
-module _ (findings : FindingsAreFaults) (steps : SummariesStep) (policy : Policy) where
-  same : (before : List Envelope) (s : Summary) → s ≡ seen before → IsFaultless policy before → (n : ℕ) (ls : List (List ℕ)) (t : Option Trouble) → judged_of policy s n ls t ≡ answer_for (told_of policy before n ls t)
+module _ (findings : FindingsAreFaults) (steps : SummariesStep) (settings : Settings) where
+  same : (before : List Envelope) (s : Summary) → s ≡ seen settings.first_attempt before → IsFaultless settings before → (n : ℕ) (ls : List (List ℕ)) (t : Option Trouble) → judged_of settings s n ls t ≡ answer_for (told_of settings before n ls t)
   same before s is h n [] (Some t) = refl
-  same before s is h n [] None = ap (λ u. at_end n u (finding_at_end u)) is ∙ finished n before
+  same before s is h n [] None = ap (λ u. at_end n u (finding_at_end u)) is ∙ finished settings.first_attempt n before
   same before s is h n (l ∷ ls) t = go (is_blank l) refl (same before s is h (n + 1) ls t) (λ e u k more. same (before ++ e ∷ []) u k more (n + 1) ls t)
     where
       Later : Envelope → Type 0
-      Later e = (u : Summary) → u ≡ seen (before ++ e ∷ []) → IsFaultless policy (before ++ e ∷ []) → judged_of policy u (n + 1) ls t ≡ answer_for (told_of policy (before ++ e ∷ []) (n + 1) ls t)
+      Later e = (u : Summary) → u ≡ seen settings.first_attempt (before ++ e ∷ []) → IsFaultless settings (before ++ e ∷ []) → judged_of settings u (n + 1) ls t ≡ answer_for (told_of settings (before ++ e ∷ []) (n + 1) ls t)
 
-      on_fault : (e : Envelope) (o : Option Finding) → fault policy before e ≡ o → Later e → at_line n o (judged_of policy (after s e) (n + 1) ls t) ≡ answer_for (stream.at_line n o (told_of policy (before ++ e ∷ []) (n + 1) ls t))
+      on_fault : (e : Envelope) (o : Option Finding) → fault settings before e ≡ o → Later e → at_line n o (judged_of settings (after s e) (n + 1) ls t) ≡ answer_for (stream.at_line n o (told_of settings (before ++ e ∷ []) (n + 1) ls t))
       on_fault e (Some f) k rec = refl
       on_fault e None k rec =
-          let more = one_more_line policy before e h k in
-          rec (after s e) (ap (λ u. after u e) is ∙ sym (steps policy before e more)) more
+          let more = one_more_line settings before e h k in
+          rec (after s e) (ap (λ u. after u e) is ∙ sym (steps settings before e more)) more
 
       on_read : (r : Result Envelope LineFault) → ((e : Envelope) → Later e)
-          → judged_line policy s n (Some r) (λ (now : Summary). judged_of policy now (n + 1) ls t) ≡ answer_for (told_line policy before n (Some r) (λ (now : List Envelope). told_of policy now (n + 1) ls t))
+          → judged_line settings s n (Some r) (λ (now : Summary). judged_of settings now (n + 1) ls t) ≡ answer_for (told_line settings before n (Some r) (λ (now : List Envelope). told_of settings now (n + 1) ls t))
       on_read (Err b) rec = refl
       on_read (Ok e) rec =
-          let found : finding policy s e ≡ fault policy before e = ap (λ u. finding policy u e) is ∙ findings policy before e h in
-          rw found (on_fault e (fault policy before e) refl (rec e))
+          let found : finding settings s e ≡ fault settings before e = ap (λ u. finding settings u e) is ∙ findings settings before e h in
+          rw found (on_fault e (fault settings before e) refl (rec e))
 
-      go : (b : Bool) → is_blank l ≡ b → judged_of policy s (n + 1) ls t ≡ answer_for (told_of policy before (n + 1) ls t) → ((e : Envelope) → Later e) → judged_of policy s n (l ∷ ls) t ≡ answer_for (told_of policy before n (l ∷ ls) t)
+      go : (b : Bool) → is_blank l ≡ b → judged_of settings s (n + 1) ls t ≡ answer_for (told_of settings before (n + 1) ls t) → ((e : Envelope) → Later e) → judged_of settings s n (l ∷ ls) t ≡ answer_for (told_of settings before n (l ∷ ls) t)
       go true k skip rec = rw k skip
       go false k skip rec = rw k (on_read (envelope_of_line l) rec)
 
-  none_yet : IsFaultless policy []
+  none_yet : IsFaultless settings []
   none_yet b x a cut = absurd (empty_isnt b x a cut)
 
-  judged_as_told : (lines : List (List ℕ)) (t : Option Trouble) → judged_of policy nothing_seen 1 lines t ≡ answer_for (told_of policy [] 1 lines t)
-  judged_as_told lines t = same [] nothing_seen refl none_yet 1 lines t
+  judged_as_told : (lines : List (List ℕ)) (t : Option Trouble) → judged_of settings (nothing_seen settings.first_attempt) 1 lines t ≡ answer_for (told_of settings [] 1 lines t)
+  judged_as_told lines t = same [] (nothing_seen settings.first_attempt) refl none_yet 1 lines t
 
 pub judged_is_told : FindingsAreFaults → SummariesStep → JudgedIsTold
-judged_is_told findings steps policy lines t = judged_as_told findings steps policy lines t
+judged_is_told findings steps settings lines t = judged_as_told findings steps settings lines t

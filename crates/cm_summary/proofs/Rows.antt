@@ -72,7 +72,7 @@ pub source_rows : (es : List Envelope) (s : Source) → AllPass (es ++ envelope.
 source_rows es s more =
     let e = envelope.Source s in
     let pass = front_passes es (e ∷ []) more in
-    let new = (or_false (nat_lt 0 (times_declared (SourceOf s.uri) es)) false ((last_passes es e more).1).0).0 in
+    let new = (or_false (nat_lt 0 (times_declared (SourceOf s.uri) es)) false ((last_passes es e more).passes).0).0 in
     let none = not_found (SourceOf s.uri) as_source (λ (x : Source). bytes_eq s.uri x.uri) (declares_source s.uri) es new in
     let fresh : source_row (es ++ e ∷ []) s ≡ new_source s = row_is (source_row (es ++ e ∷ []) s) (new_source s) refl refl
     (ap ids_of (documents_stay es e refl s.uri ∙ no_documents es pass s.uri none)) (ap length (pickles_stay es e refl s.uri ∙ no_pickles es pass s.uri none)) in
@@ -92,7 +92,7 @@ pub document_rows : (es : List Envelope) (d : GherkinDocument) → AllPass (es +
 document_rows es d more =
     let e = envelope.GherkinDocument d in
     let pass = front_passes es (e ∷ []) more in
-    let new = (or_false (nat_lt 0 (times_declared (DocumentOf d.uri) es)) false (((last_passes es e more).1).1).0).0 in
+    let new = (or_false (nat_lt 0 (times_declared (DocumentOf d.uri) es)) false (((last_passes es e more).passes).1).0).0 in
     let missing = not_found (DocumentOf d.uri) as_document (λ (x : GherkinDocument). bytes_eq d.uri x.uri) (declares_document d.uri) es new in
     let none : documents_of d.uri es ≡ [] = keeps_none (λ x. bytes_eq d.uri x.uri) (filter_map as_document es) (find_none (λ x. bytes_eq d.uri x.uri) (filter_map as_document es) missing) in
     ap (map (source_row (es ++ e ∷ []))) (found_more as_source es e refl)

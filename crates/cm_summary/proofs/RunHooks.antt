@@ -1,16 +1,15 @@
 -- What is kept of run hooks: what one more line changes in it, and what it tells of a line.
-use Rattle.std.proofs.Common.{◌≡◌, refl, sym, ap, subst, ◌∙◌, List, [], ◌∷◌, ◌++◌, Option, Some, None, true, false, Bool, not, ◌&&◌, ◌||◌, ◌==◌, map, length, arith}
-use Rattle.std.specs.Prelude.{nat_lt, find, is_some}
-use Rattle.std.specs.List.{AllByRecursion, list_any, list_all, filter, filter_map}
+use Rattle.std.proofs.Common.{◌≡◌, ℕ, refl, sym, ap, ◌∙◌, List, [], ◌∷◌, ◌++◌, Option, Some, None, true, false, Bool, not, ◌||◌, ◌==◌, map, length, arith}
+use Rattle.std.specs.Prelude.{nat_lt, find}
+use Rattle.std.specs.List.{AllByRecursion, list_any, list_all, filter}
 use Rattle.std.specs.Option.{option_map, option_map_or}
 use Rattle.std.specs.Str.{bytes_eq}
 use Rattle.std.proofs.lemmas.List.Folds.{list_any-append}
 use Rattle.std.proofs.lemmas.List.Sums.{fold_push}
-use Rattle.cm_refs.specs.Declarations.{RunHookRow, change_first, finished, find_run_hook, new_run_hook, open_count}
+use Rattle.cm_refs.specs.Declarations.{RunHookRow, change_first, finished, new_run_hook, open_count}
 use Rattle.cm_refs.proofs.EntryLemmas.{list_any-map}
-use Rattle.cm_attempt.specs.Table.{has_text}
 use Rattle.cm_stream.specs.Texts.{Text}
-use Rattle.cm_stream.specs.Words.{Name, HookNamed, Run, RunHook, times_declared, refers, if_any, as_run_hook, as_run_hook_end, run_hooks, run_hook_ends, hook_statuses, is_hook_finished}
+use Rattle.cm_stream.specs.Words.{HookNamed, Run, RunHook, times_declared, refers, if_any, as_run_hook, as_run_hook_end, run_hooks, run_hook_ends, hook_statuses, is_hook_finished}
 use Rattle.cm_stream.specs.Statuses.{kept_status}
 use Rattle.cm_attempt.specs.Worst.{with_status, worst_so_far}
 use Rattle.cm_attempt.specs.declared.status.Status.{Status}
@@ -71,7 +70,7 @@ start_rows : (es : List Envelope) (s : TestRunHookStarted) → AllPass (es ++ en
 start_rows es s more =
     let e = envelope.TestRunHookStarted s in
     let pass = front_passes es (e ∷ []) more in
-    let new = (or_false (nat_lt 0 (times_declared (RunHook s.id) es)) false ((((last_passes es e more).1).1).1).0).0 in
+    let new = (or_false (nat_lt 0 (times_declared (RunHook s.id) es)) false ((((last_passes es e more).passes).1).1).0).0 in
     let none = not_found (RunHook s.id) as_run_hook (λ (x : TestRunHookStarted). bytes_eq s.id x.id) (declares_run_hook s.id) es new in
     let fresh : run_hook_row (es ++ e ∷ []) s ≡ new_run_hook s.id = row_is s.id (is_hook_finished s.id (es ++ e ∷ [])) false (finish_stays es e refl s.id ∙ never_finished es pass s.id none) in
     ap (map (run_hook_row (es ++ e ∷ []))) (found_push as_run_hook es e s refl) ∙ map_both (run_hook_row (es ++ e ∷ [])) (run_hooks es) (s ∷ [])
@@ -129,8 +128,8 @@ hooks_worst_step es e = ap (λ fs. worst_so_far (map (λ (f : TestRunHookFinishe
 
 -- ---- what is told of a line
 
-pub hook_finished_by : (es : List Envelope) → AllPass es → (u : Text) → is_hook_finished_by (seen es) u ≡ is_hook_finished u es
-hook_finished_by es pass u =
+pub hook_finished_by : (first : ℕ) (es : List Envelope) → AllPass es → (u : Text) → is_hook_finished_by (seen first es) u ≡ is_hook_finished u es
+hook_finished_by first es pass u =
     ap (λ o. option_map_or (λ (r : RunHookRow). r.is_finished) o false) (find_map (λ (r : RunHookRow). bytes_eq u r.id) (run_hook_row es) (run_hooks es)) ∙ go (find (λ s. bytes_eq u s.id) (run_hooks es)) refl
   where
     found : (xs : List TestRunHookStarted) (s : TestRunHookStarted) → find (λ x. bytes_eq u x.id) xs ≡ Some s → bytes_eq u s.id ≡ true
@@ -154,8 +153,8 @@ no_hook_open es =
     ∙ ap not (list_any-map (λ (r : RunHookRow). not r.is_finished) (run_hook_row es) (run_hooks es))
     ∙ none_or_all (λ (s : TestRunHookStarted). not (is_hook_finished s.id es)) (λ (s : TestRunHookStarted). is_hook_finished s.id es) (λ s. refl) (run_hooks es)
 
-pub hook_start_known : (es : List Envelope) → AllPass es → (s : TestRunHookStarted) → refers_to_unknown es (envelope.TestRunHookStarted s) ≡ not (knows_run_hook (seen es) s)
-hook_start_known es pass s =
+pub hook_start_known : (first : ℕ) (es : List Envelope) → AllPass es → (s : TestRunHookStarted) → refers_to_unknown es (envelope.TestRunHookStarted s) ≡ not (knows_run_hook (seen first es) s)
+hook_start_known first es pass s =
     list_any-append (unknown es) (map Run (if_any s.test_run_started_id)) (HookNamed s.hook_id ∷ [])
-    ∙ (λ i. run_known es pass s.test_run_started_id i || (or_no (unknown es (HookNamed s.hook_id)) ∙ (hook_declared s.hook_id es).unknown) i)
+    ∙ (λ i. run_known first es pass s.test_run_started_id i || (or_no (unknown es (HookNamed s.hook_id)) ∙ (hook_declared s.hook_id es).unknown) i)
     ∙ both_known _ _

@@ -27,18 +27,18 @@ use Rattle.cm_summary.specs.Findings.{find_source, reading_by, is_accepted_by, i
 abbrev of_uri : Text → Source → Bool
 of_uri uri s = bytes_eq uri s.uri
 
-row_is : (es : List Envelope) (uri : Text) → find_source (seen es) uri ≡ option_map (source_row es) (find (of_uri uri) (sources es))
-row_is es uri = find_map (λ r. bytes_eq uri r.uri) (source_row es) (sources es)
+row_is : (first : ℕ) (es : List Envelope) (uri : Text) → find_source (seen first es) uri ≡ option_map (source_row es) (find (of_uri uri) (sources es))
+row_is first es uri = find_map (λ r. bytes_eq uri r.uri) (source_row es) (sources es)
 
-pub same_reading : (es : List Envelope) (uri : Text) → reading_by (seen es) uri ≡ reading_of uri es
-same_reading es uri = ap (option_map (λ (r : SourceRow). r.reading)) (row_is es uri) ∙ go (find (of_uri uri) (sources es))
+pub same_reading : (first : ℕ) (es : List Envelope) (uri : Text) → reading_by (seen first es) uri ≡ reading_of uri es
+same_reading first es uri = ap (option_map (λ (r : SourceRow). r.reading)) (row_is first es uri) ∙ go (find (of_uri uri) (sources es))
   where
     go : (o : Option Source) → option_map (λ (r : SourceRow). r.reading) (option_map (source_row es) o) ≡ option_map (λ (s : Source). reads s.content) o
     go None = refl
     go (Some s) = refl
 
-pub same_accepted : (es : List Envelope) (uri : Text) → is_accepted_by (seen es) uri ≡ is_uri_accepted uri es
-same_accepted es uri = ap (λ o. option_map_or is_accepted o false) (same_reading es uri)
+pub same_accepted : (first : ℕ) (es : List Envelope) (uri : Text) → is_accepted_by (seen first es) uri ≡ is_uri_accepted uri es
+same_accepted first es uri = ap (λ o. option_map_or is_accepted o false) (same_reading first es uri)
 
 -- ---- the next pickle
 
@@ -61,16 +61,16 @@ ids_are (d ∷ ds) = refl
 abbrev is_at : Pickle → List Text → Option Reading → ℕ → Bool
 is_at p ids r n = option_map_or (λ due. is_due ids p due) (slice_get (due_pickles r) n) false
 
-pub same_next : (es : List Envelope) (p : Pickle) → is_next_by (seen es) p ≡ is_next_pickle es p
-same_next es p = go (find (of_uri p.uri) (sources es)) refl
+pub same_next : (first : ℕ) (es : List Envelope) (p : Pickle) → is_next_by (seen first es) p ≡ is_next_pickle es p
+same_next first es p = go (find (of_uri p.uri) (sources es)) refl
   where
-    by : (o : Option Source) → find (of_uri p.uri) (sources es) ≡ o → is_next_by (seen es) p ≡ option_map_or (is_next_of p) (option_map (source_row es) o) false
-    by o e = ap (λ r. option_map_or (is_next_of p) r false) (row_is es p.uri ∙ ap (option_map (source_row es)) e)
+    by : (o : Option Source) → find (of_uri p.uri) (sources es) ≡ o → is_next_by (seen first es) p ≡ option_map_or (is_next_of p) (option_map (source_row es) o) false
+    by o e = ap (λ r. option_map_or (is_next_of p) r false) (row_is first es p.uri ∙ ap (option_map (source_row es)) e)
 
     of : (o : Option Source) → find (of_uri p.uri) (sources es) ≡ o → is_next_pickle es p ≡ is_at p (document_ids p.uri es) (option_map (λ (s : Source). reads s.content) o) (length (pickles_of p.uri es))
     of o e = ap (λ r. is_at p (document_ids p.uri es) (option_map (λ (s : Source). reads s.content) r) (length (pickles_of p.uri es))) e
 
-    go : (o : Option Source) → find (of_uri p.uri) (sources es) ≡ o → is_next_by (seen es) p ≡ is_next_pickle es p
+    go : (o : Option Source) → find (of_uri p.uri) (sources es) ≡ o → is_next_by (seen first es) p ≡ is_next_pickle es p
     go None e = by None e ∙ sym (of None e)
     go (Some s) e =
         let same : s.uri ≡ p.uri = sym (bytes_are p.uri s.uri (find_passes (of_uri p.uri) (sources es) s e)) in

@@ -1,11 +1,10 @@
 -- A pickle that is declared again, and what a test case refers to, by what is kept of the lines.
-use Rattle.std.proofs.Common.{◌≡◌, refl, sym, ap, ◌∙◌, List, [], ◌∷◌, ◌++◌, Option, Some, None, true, false, Bool, not, ◌&&◌, ◌||◌, length, map, arith}
+use Rattle.std.proofs.Common.{◌≡◌, ℕ, refl, sym, ap, ◌∙◌, List, [], ◌∷◌, ◌++◌, Option, Some, None, true, false, Bool, not, ◌&&◌, ◌||◌, map}
 use Rattle.std.specs.Prelude.{nat_lt, is_some, if◌then◌else◌}
-use Rattle.std.specs.List.{list_any, list_all, filter, flat_map}
+use Rattle.std.specs.List.{list_any, list_all, flat_map}
 use Rattle.std.specs.Option.{option_map, option_map_or}
 use Rattle.std.specs.Str.{bytes_eq}
 use Rattle.std.proofs.lemmas.List.Folds.{list_any-append}
-use Rattle.std.proofs.lemmas.List.Sums.{length-filter}
 use Rattle.cm_refs.specs.Declarations.{PickleRow, find_pickle, has_text, has_repeat, pickle_fault}
 use Rattle.cm_refs.specs.declared.fault.RefFault.TheVariants as fault
 use Rattle.cm_stream.specs.Texts.{Text, same_texts}
@@ -18,13 +17,11 @@ use Rattle.cm_envelope.specs.declared.envelope.TestCase.{TestCase}
 use Rattle.cm_envelope.specs.declared.envelope.TestStep.{TestStep}
 use Rattle.cm_envelope.specs.declared.pickle.Pickle.{Pickle}
 use Rattle.cm_envelope.specs.declared.pickle.PickleStep as pickle_step
-use Rattle.cm_stream.proofs.Declared.{none_of, declares_pickle}
+use Rattle.cm_stream.proofs.Declared.{none_of}
 use Rattle.cm_stream.proofs.Found.{bytes_same}
 use Rattle.cm_stream.proofs.Passing.{AllPass}
-use Rattle.cm_stream.proofs.Distinct.{all_distinct, at_most_once}
-use Rattle.cm_stream.proofs.Sourced.{kept_count, same_kept}
 use Rattle.cm_stream.proofs.Moves.{by_id}
-use Rattle.cm_stream.proofs.OneRow.{OnlyOne, only_one}
+use Rattle.cm_stream.proofs.OneRow.{one_pickle}
 use Rattle.cm_stream.proofs.StepRows.{or_no}
 use Rattle.cm_stream.proofs.EndedRows.{find_map, differs_back}
 use Rattle.cm_stream.proofs.Refuses.{known, found_any}
@@ -59,31 +56,25 @@ declares_step pickle step (envelope.TestCase c) = none_of (PickleStep pickle ste
 declares_step pickle step (envelope.TestRunStarted r) = none_of (PickleStep pickle step) Run (if_any r.id) (λ s. refl)
 declares_step pickle step _ = refl
 
-one_pickle : (es : List Envelope) → AllPass es → (id : Text) → OnlyOne (λ p. bytes_eq id p.id) (pickles es)
-one_pickle es pass id =
-    let counted : length (filter (λ p. bytes_eq id p.id) (pickles es)) ≡ times_declared (PickleNamed id) es =
-    kept_count as_pickle (λ p. bytes_eq id p.id) es ∙ ap length (sym (same_kept (declares_it (PickleNamed id)) (λ x. option_map_or (λ p. bytes_eq id p.id) (as_pickle x) false) (declares_pickle id) es)) ∙ length-filter (declares_it (PickleNamed id)) es in
-    only_one (λ p. bytes_eq id p.id) (pickles es) (omega (arith, counted, at_most_once (PickleNamed id) es (all_distinct es pass)))
-
 row_is : (es : List Envelope) (id : Text) → find_pickle (declared_in es) id ≡ option_map pickle_row (pickle_in id es)
 row_is es id = find_map (λ r. bytes_eq id r.id) pickle_row (pickles es)
 
-step_declared : (es : List Envelope) → AllPass es → (pickle step : Text) → IsDeclaredIf (PickleStep pickle step) es (has_text step (steps_by (seen es) pickle))
-step_declared es pass pickle step = go (pickle_in pickle es) refl
+step_declared : (first : ℕ) (es : List Envelope) → AllPass es → (pickle step : Text) → IsDeclaredIf (PickleStep pickle step) es (has_text step (steps_by (seen first es) pickle))
+step_declared first es pass pickle step = go (pickle_in pickle es) refl
   where
     k : IsDeclaredIf (PickleStep pickle step) es (list_any (has_step_of pickle step) (pickles es))
     k = by_test (PickleStep pickle step) as_pickle (has_step_of pickle step) (declares_step pickle step) es
 
-    its : (o : Option Pickle) → pickle_in pickle es ≡ o → steps_by (seen es) pickle ≡ option_map_or (λ (r : PickleRow). r.steps) (option_map pickle_row o) []
+    its : (o : Option Pickle) → pickle_in pickle es ≡ o → steps_by (seen first es) pickle ≡ option_map_or (λ (r : PickleRow). r.steps) (option_map pickle_row o) []
     its o e = ap (λ r. option_map_or (λ (x : PickleRow). x.steps) r []) (row_is es pickle ∙ ap (option_map pickle_row) e)
 
-    go : (o : Option Pickle) → pickle_in pickle es ≡ o → IsDeclaredIf (PickleStep pickle step) es (has_text step (steps_by (seen es) pickle))
+    go : (o : Option Pickle) → pickle_in pickle es ≡ o → IsDeclaredIf (PickleStep pickle step) es (has_text step (steps_by (seen first es) pickle))
     go None e =
         let none : list_any (has_step_of pickle step) (pickles es) ≡ false = sym (found_any (has_step_of pickle step) (pickles es)) ∙ none_with (λ p. bytes_eq pickle p.id) (λ p. has_text step (ids_of p)) (pickles es) e in
-        by_same (PickleStep pickle step) es (list_any (has_step_of pickle step) (pickles es)) (has_text step (steps_by (seen es) pickle)) (none ∙ sym (ap (has_text step) (its None e))) k
+        by_same (PickleStep pickle step) es (list_any (has_step_of pickle step) (pickles es)) (has_text step (steps_by (seen first es) pickle)) (none ∙ sym (ap (has_text step) (its None e))) k
     go (Some p) e =
         let some : list_any (has_step_of pickle step) (pickles es) ≡ has_text step (ids_of p) = one_with (λ x. bytes_eq pickle x.id) (λ x. has_text step (ids_of x)) (pickles es) p (one_pickle es pass pickle) e in
-        by_same (PickleStep pickle step) es (list_any (has_step_of pickle step) (pickles es)) (has_text step (steps_by (seen es) pickle)) (some ∙ sym (ap (has_text step) (its (Some p) e))) k
+        by_same (PickleStep pickle step) es (list_any (has_step_of pickle step) (pickles es)) (has_text step (steps_by (seen first es) pickle)) (some ∙ sym (ap (has_text step) (its (Some p) e))) k
 
 -- ---- a pickle that is declared again
 
@@ -158,44 +149,44 @@ definitions_known es (id ∷ ids) =
     let here = (definition_declared id es).unknown in
     (λ i. here i || definitions_known es ids i) ∙ both_known (has_text id (declared_in es).definitions) (list_all (λ x. has_text x (declared_in es).definitions) ids)
 
-pickle_step_known : (es : List Envelope) → AllPass es → (pickle : Text) (o : Option Text) → list_any (unknown es) (map (PickleStep pickle) (if_any o)) ≡ not (is_among (steps_by (seen es) pickle) o)
-pickle_step_known es pass pickle None = refl
-pickle_step_known es pass pickle (Some step) = or_no (unknown es (PickleStep pickle step)) ∙ (step_declared es pass pickle step).unknown
+pickle_step_known : (first : ℕ) (es : List Envelope) → AllPass es → (pickle : Text) (o : Option Text) → list_any (unknown es) (map (PickleStep pickle) (if_any o)) ≡ not (is_among (steps_by (seen first es) pickle) o)
+pickle_step_known first es pass pickle None = refl
+pickle_step_known first es pass pickle (Some step) = or_no (unknown es (PickleStep pickle step)) ∙ (step_declared first es pass pickle step).unknown
 
 three : (a b c : Bool) → ((not a || not b) || not c) ≡ not (a && b && c)
 three true b c = both_known b c
 three false b c = refl
 
-step_known : (es : List Envelope) → AllPass es → (pickle : Text) (t : TestStep) → list_any (unknown es) (test_step_names pickle t) ≡ not (knows_step (seen es) pickle t)
-step_known es pass pickle t =
+step_known : (first : ℕ) (es : List Envelope) → AllPass es → (pickle : Text) (t : TestStep) → list_any (unknown es) (test_step_names pickle t) ≡ not (knows_step (seen first es) pickle t)
+step_known first es pass pickle t =
     let hooks = map HookNamed (if_any t.hook_id) in
     let steps = map (PickleStep pickle) (if_any t.pickle_step_id) in
     let definitions = map Definition t.step_definition_ids in
     list_any-append (unknown es) (hooks ++ steps) definitions
     ∙ ap (λ b. b || list_any (unknown es) definitions) (list_any-append (unknown es) hooks steps)
-    ∙ (λ i. (hook_known es t.hook_id i || pickle_step_known es pass pickle t.pickle_step_id i) || definitions_known es t.step_definition_ids i)
-    ∙ three (is_among (declared_in es).hooks t.hook_id) (is_among (steps_by (seen es) pickle) t.pickle_step_id) (list_all (λ id. has_text id (declared_in es).definitions) t.step_definition_ids)
+    ∙ (λ i. (hook_known es t.hook_id i || pickle_step_known first es pass pickle t.pickle_step_id i) || definitions_known es t.step_definition_ids i)
+    ∙ three (is_among (declared_in es).hooks t.hook_id) (is_among (steps_by (seen first es) pickle) t.pickle_step_id) (list_all (λ id. has_text id (declared_in es).definitions) t.step_definition_ids)
 
-steps_known : (es : List Envelope) → AllPass es → (pickle : Text) (ts : List TestStep) → list_any (unknown es) (flat_map (test_step_names pickle) ts) ≡ not (list_all (knows_step (seen es) pickle) ts)
-steps_known es pass pickle [] = refl
-steps_known es pass pickle (t ∷ ts) =
+steps_known : (first : ℕ) (es : List Envelope) → AllPass es → (pickle : Text) (ts : List TestStep) → list_any (unknown es) (flat_map (test_step_names pickle) ts) ≡ not (list_all (knows_step (seen first es) pickle) ts)
+steps_known first es pass pickle [] = refl
+steps_known first es pass pickle (t ∷ ts) =
     list_any-append (unknown es) (test_step_names pickle t) (flat_map (test_step_names pickle) ts)
-    ∙ (λ i. step_known es pass pickle t i || steps_known es pass pickle ts i)
-    ∙ both_known (knows_step (seen es) pickle t) (list_all (knows_step (seen es) pickle) ts)
+    ∙ (λ i. step_known first es pass pickle t i || steps_known first es pass pickle ts i)
+    ∙ both_known (knows_step (seen first es) pickle t) (list_all (knows_step (seen first es) pickle) ts)
 
-pub case_known : (es : List Envelope) → AllPass es → (c : TestCase) → refers_to_unknown es (envelope.TestCase c) ≡ not (knows_case (seen es) c)
-case_known es pass c =
+pub case_known : (first : ℕ) (es : List Envelope) → AllPass es → (c : TestCase) → refers_to_unknown es (envelope.TestCase c) ≡ not (knows_case (seen first es) c)
+case_known first es pass c =
     let here = (pickle_declared c.pickle_id es).unknown in
     list_any-append (unknown es) (map Run (if_any c.test_run_started_id)) (PickleNamed c.pickle_id ∷ flat_map (test_step_names c.pickle_id) c.test_steps)
-    ∙ (λ i. run_known es pass c.test_run_started_id i || (here i || steps_known es pass c.pickle_id c.test_steps i))
-    ∙ right (knows_run (seen es) c.test_run_started_id) (is_some (find_pickle (declared_in es) c.pickle_id)) (list_all (knows_step (seen es) c.pickle_id) c.test_steps)
+    ∙ (λ i. run_known first es pass c.test_run_started_id i || (here i || steps_known first es pass c.pickle_id c.test_steps i))
+    ∙ right (knows_run (seen first es) c.test_run_started_id) (is_some (find_pickle (declared_in es) c.pickle_id)) (list_all (knows_step (seen first es) c.pickle_id) c.test_steps)
   where
     right : (x y z : Bool) → (not x || (not y || not z)) ≡ not (x && y && z)
     right true y z = both_known y z
     right false y z = refl
 
-pub steps_are : (es : List Envelope) (c : TestCase) → has_steps_by (seen es) c ≡ has_steps_of_pickle es c
-steps_are es c = ap (λ o. option_map_or (λ (r : PickleRow). same_texts r.steps (pickle_step_ids c)) o false) (row_is es c.pickle_id) ∙ go (pickle_in c.pickle_id es)
+pub steps_are : (first : ℕ) (es : List Envelope) (c : TestCase) → has_steps_by (seen first es) c ≡ has_steps_of_pickle es c
+steps_are first es c = ap (λ o. option_map_or (λ (r : PickleRow). same_texts r.steps (pickle_step_ids c)) o false) (row_is es c.pickle_id) ∙ go (pickle_in c.pickle_id es)
   where
     go : (o : Option Pickle) → option_map_or (λ (r : PickleRow). same_texts r.steps (pickle_step_ids c)) (option_map pickle_row o) false ≡ option_map_or (λ (p : Pickle). same_texts (ids_of p) (pickle_step_ids c)) o false
     go None = refl

@@ -1,12 +1,11 @@
 -- What is kept of the lines so far changes by a line as an audit changes it.
-use Rattle.std.proofs.Common.{◌≡◌, refl, ap, ◌∙◌, List, [], ◌∷◌, ◌++◌, Option, Some, None, true, false, Bool, ◌||◌, map}
+use Rattle.std.proofs.Common.{◌≡◌, ℕ, refl, ap, ◌∙◌, List, [], ◌∷◌, ◌++◌, Option, Some, None, true, false, Bool, ◌||◌, map}
 use Rattle.std.specs.List.{filter_map}
 use Rattle.std.specs.Option.{option_map}
 use Rattle.std.proofs.lemmas.List.Folds.{list_any-append}
 use Rattle.cm_refs.specs.Declarations.{Declarations}
 use Rattle.cm_stream.specs.Texts.{Text}
-use Rattle.cm_stream.specs.Words.{as_source, as_document, as_pickle, as_case, as_run_hook_end, sources, pickles, cases, is_run_finished, has_run_started, has_run_finished}
-use Rattle.cm_stream.specs.Checks.{checks_of}
+use Rattle.cm_stream.specs.Words.{as_source, as_document, as_pickle, as_case, as_run_hook_end, sources, pickles, cases, is_run_finished, has_run_started, has_run_finished, says_success, run_succeeded}
 use Rattle.cm_stream.specs.Seen.{changed}
 use Rattle.cm_envelope.specs.declared.envelope.Envelope.{Envelope}
 use Rattle.cm_envelope.specs.declared.envelope.Envelope.TheVariants as envelope
@@ -14,8 +13,9 @@ use Rattle.cm_envelope.specs.declared.envelope.Source.{Source}
 use Rattle.cm_envelope.specs.declared.envelope.GherkinDocument.{GherkinDocument}
 use Rattle.cm_envelope.specs.declared.envelope.TestCase.{TestCase}
 use Rattle.cm_envelope.specs.declared.envelope.TestRunStarted.{TestRunStarted}
-use Rattle.cm_stream.proofs.Passing.{Passes, AllPass, last_passes}
+use Rattle.cm_stream.proofs.Passing.{LinePasses, AllPass, last_passes}
 use Rattle.cm_stream.proofs.OneRow.{found_more, found_push}
+use Rattle.cm_stream.proofs.StepRows.{or_no}
 use Rattle.cm_stream.proofs.TableSteps.{table_steps}
 use Rattle.cm_summary.specs.Summary.{SourceRow, Summary, as_definition, as_hook, as_run, first_of, pickle_row, declared_in, with_name, once_each, seen, new_source, with_ids, one_more, change_source, after}
 use Rattle.cm_summary.proofs.Behind.{push_if, found_behind, map_behind}
@@ -77,8 +77,8 @@ no_run [] h = refl
 no_run (envelope.TestRunStarted r ∷ es) h = cc
 no_run (_ ∷ es) h = no_run es h
 
-run_step : (es : List Envelope) (e : Envelope) → Passes (checks_of es e) → first_of (filter_map as_run (es ++ e ∷ [])) ≡ run_after (first_of (filter_map as_run es)) (as_run e)
-run_step es (envelope.TestRunStarted r) h = ap first_of (found_push as_run es (envelope.TestRunStarted r) r refl ∙ ap (λ rs. rs ++ r ∷ []) (no_run es h.0))
+run_step : (es : List Envelope) (e : Envelope) → LinePasses es e → first_of (filter_map as_run (es ++ e ∷ [])) ≡ run_after (first_of (filter_map as_run es)) (as_run e)
+run_step es (envelope.TestRunStarted r) h = ap first_of (found_push as_run es (envelope.TestRunStarted r) r refl ∙ ap (λ rs. rs ++ r ∷ []) (no_run es h.passes.0))
 run_step es e h = ap first_of (found_more as_run es e refl)
 
 abbrev finished_after : Bool → (is_end : Bool) → Bool
@@ -94,6 +94,21 @@ finished_step es e = list_any-append is_run_finished es (e ∷ []) ∙ go (has_r
     go false true = refl
     go false false = refl
 
+abbrev success_after : Bool → Envelope → Bool
+success_after b (envelope.TestRunFinished f) = f.success
+success_after b _ = b
+
+-- before the run finishes no success is said
+none_said : (es : List Envelope) → has_run_finished es ≡ false → run_succeeded es ≡ false
+none_said [] h = refl
+none_said (envelope.TestRunFinished f ∷ es) h = cc
+none_said (_ ∷ es) h = none_said es h
+
+success_step : (es : List Envelope) (e : Envelope) → LinePasses es e → run_succeeded (es ++ e ∷ []) ≡ success_after (run_succeeded es) e
+success_step es (envelope.TestRunFinished f) h =
+    list_any-append says_success es (envelope.TestRunFinished f ∷ []) ∙ ap (λ b. b || (f.success || false)) (none_said es h.inside) ∙ or_no f.success
+success_step es e h = list_any-append says_success es (e ∷ []) ∙ or_no (run_succeeded es)
+
 -- ---- all of it
 
 abbrev kept_after : Summary → Envelope → Summary
@@ -104,6 +119,7 @@ kept_after s e = record {
   named = named_after s.named (as_case e);
   run = run_after s.run (as_run e);
   is_finished = finished_after s.is_finished (is_run_finished e);
+  success = success_after s.success e;
   hooks_worst = hooks_worst_after s.hooks_worst (as_run_hook_end e);
   counts = counts_after s.named s.counts e;
 }
@@ -122,17 +138,18 @@ after_is s (envelope.TestRunHookFinished f) = refl
 after_is s (envelope.TestRunFinished f) = refl
 after_is s e = refl
 
-pub summaries_step : (es : List Envelope) (e : Envelope) → AllPass (es ++ e ∷ []) → seen (es ++ e ∷ []) ≡ after (seen es) e
-summaries_step es e h = all ∙ after_is (seen es) e
+pub summaries_step : (first : ℕ) (es : List Envelope) (e : Envelope) → AllPass (es ++ e ∷ []) → seen first (es ++ e ∷ []) ≡ after (seen first es) e
+summaries_step first es e h = all ∙ after_is (seen first es) e
   where
-    all : seen (es ++ e ∷ []) ≡ kept_after (seen es) e
+    all : seen first (es ++ e ∷ []) ≡ kept_after (seen first es) e
     all = λ i. record {
       declared = declared_step es e h i;
-      table = table_steps es e h i;
+      table = table_steps first es e h i;
       sources = rows_step es e h i;
       named = named_step es e i;
-      run = run_step es e (last_passes es e h).1 i;
+      run = run_step es e (last_passes es e h) i;
       is_finished = finished_step es e i;
+      success = success_step es e (last_passes es e h) i;
       hooks_worst = hooks_worst_step es e i;
       counts = counts_step es e h i;
     }

@@ -1,5 +1,5 @@
 -- Which names the lines declare, by what is kept of them.
-use Rattle.std.proofs.Common.{◌≡◌, ◌≤◌, refl, sym, ap, ◌∙◌, List, [], ◌∷◌, ◌++◌, Option, Some, None, false, Bool, not, ◌==◌, length, map, arith}
+use Rattle.std.proofs.Common.{◌≡◌, ℕ, ◌≤◌, refl, sym, ap, ◌∙◌, List, [], ◌∷◌, ◌++◌, Option, Some, None, false, Bool, not, ◌==◌, length, map, arith}
 use Rattle.std.specs.Prelude.{nat_lt, is_some}
 use Rattle.std.specs.List.{list_any, filter_map}
 use Rattle.std.specs.Option.{option_map_or}
@@ -56,9 +56,9 @@ pickle_declared id es =
     (sym (list_any-map (λ (r : PickleRow). bytes_eq id r.id) pickle_row (pickles es)) ∙ sym (found_any (λ (r : PickleRow). bytes_eq id r.id) (map pickle_row (pickles es))))
     (by_test (PickleNamed id) as_pickle (λ p. bytes_eq id p.id) (declares_pickle id) es)
 
-pub attempt_declared : (id : Text) (es : List Envelope) → IsDeclaredIf (Attempt id) es (is_some (find_attempt (table_of es) id))
-attempt_declared id es =
-    by_same (Attempt id) es (list_any (λ s. bytes_eq id s.id) (starts es)) (is_some (find_attempt (table_of es) id))
+pub attempt_declared : (id : Text) (first : ℕ) (es : List Envelope) → IsDeclaredIf (Attempt id) es (is_some (find_attempt (table_of first es) id))
+attempt_declared id first es =
+    by_same (Attempt id) es (list_any (λ s. bytes_eq id s.id) (starts es)) (is_some (find_attempt (table_of first es) id))
     (sym (list_any-map (λ (r : AttemptRow). bytes_eq id r.id) (attempt_row es) (starts es)) ∙ sym (found_any (λ (r : AttemptRow). bytes_eq id r.id) (map (attempt_row es) (starts es))))
     (by_test (Attempt id) as_start (λ s. bytes_eq id s.id) (declares_attempt id) es)
 
@@ -105,7 +105,7 @@ few_runs es pass = by_lines (λ xs. length (filter_map as_run xs) ≤ 1) (omega 
   where
     step : (xs : List Envelope) (e : Envelope) → AllPass (xs ++ e ∷ []) → length (filter_map as_run xs) ≤ 1 → length (filter_map as_run (xs ++ e ∷ [])) ≤ 1
     step xs (envelope.TestRunStarted r) h rec =
-        let none : filter_map as_run xs ≡ [] = no_run xs ((last_passes xs (envelope.TestRunStarted r) h).1).0 in
+        let none : filter_map as_run xs ≡ [] = no_run xs ((last_passes xs (envelope.TestRunStarted r) h).passes).0 in
         let all : filter_map as_run (xs ++ envelope.TestRunStarted r ∷ []) ≡ r ∷ [] = found_push as_run xs (envelope.TestRunStarted r) r refl ∙ ap (λ ys. ys ++ r ∷ []) none in
         let long = ap length all in
         omega (arith, long)
@@ -136,6 +136,6 @@ run_declared es pass id =
 abbrev pub unknown : List Envelope → Name → Bool
 unknown es name = times_declared name es == 0
 
-pub run_known : (es : List Envelope) → AllPass es → (o : Option Text) → list_any (unknown es) (map Run (if_any o)) ≡ not (knows_run (seen es) o)
-run_known es pass None = refl
-run_known es pass (Some id) = or_no (unknown es (Run id)) ∙ (run_declared es pass id).unknown
+pub run_known : (first : ℕ) (es : List Envelope) → AllPass es → (o : Option Text) → list_any (unknown es) (map Run (if_any o)) ≡ not (knows_run (seen first es) o)
+run_known first es pass None = refl
+run_known first es pass (Some id) = or_no (unknown es (Run id)) ∙ (run_declared es pass id).unknown

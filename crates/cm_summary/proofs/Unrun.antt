@@ -90,7 +90,7 @@ pickle_unrun : (es : List Envelope) (p : Pickle) → AllPass (es ++ envelope.Pic
 pickle_unrun es p more =
     let e = envelope.Pickle p in
     let pass = front_passes es (e ∷ []) more in
-    let again = or_false _ _ ((((last_passes es e more).1).1).1).0 in
+    let again = or_false _ _ ((((last_passes es e more).passes).1).1).0 in
     let new = (or_false _ _ again.1).0 in
     let none = not_found (PickleNamed p.id) as_pickle (λ (x : Pickle). bytes_eq p.id x.id) (declares_pickle p.id) es new in
     let unused : list_any (names_it p.id) (cases es) ≡ false = none_refers es pass PickleNamed as_pickle (λ (x : Pickle). x.id) declares_pickle as_case (λ (c : TestCase). c.pickle_id) case_refers p.id none in

@@ -7,6 +7,7 @@ use Rattle.cm_refs.specs.Declarations.{find_pickle, find_run_hook, pickle_fault,
 use Rattle.cm_attempt.specs.Table.{has_text, has_repeat, has_step, find_attempt, is_good_case, is_good_status, open_count}
 use Rattle.cm_attempt.specs.declared.status.Status.TheVariants.{Passed}
 use Rattle.cm_attempt.specs.declared.policy.Policy.{Policy}
+use Rattle.cm_attempt.specs.declared.settings.Settings.{Settings}
 use Rattle.gk_pickle.specs.Pickles.{pickles as compiled}
 use Rattle.cm_stream.specs.Texts.{Text, same_texts}
 use Rattle.cm_stream.specs.Readings.{Reading, Accepted}
@@ -163,8 +164,8 @@ abbrev pub finding_inside : Policy → Summary → Envelope → Option Finding
 finding_inside policy s e = or_else (plain_finding s e) (first_failed (success_by policy s e))
 
 -- the finding of a line: nothing is judged behind the end of the run
-abbrev pub finding : Policy → Summary → Envelope → Option Finding
-finding policy s e = if is_judged e && s.is_finished then Some (IsBad bad.AfterRunFinished) else finding_inside policy s e
+abbrev pub finding : Settings → Summary → Envelope → Option Finding
+finding settings s e = if is_judged e && s.is_finished then Some (IsBad bad.AfterRunFinished) else finding_inside settings.policy s e
 
 -- the finding at the end
 abbrev pub finding_at_end : Summary → Option Finding

@@ -4,14 +4,14 @@ use Rattle.std.specs.List.{filter_map}
 use Rattle.std.specs.Option.{option_map}
 use Rattle.std.specs.Str.{bytes_eq}
 use Rattle.cm_refs.specs.Declarations.{Declarations, PickleRow, RunHookRow, no_declarations, with_source, with_document, with_pickle, with_definition, with_hook, with_run_hook, with_finished}
-use Rattle.cm_attempt.specs.Table.{Table, empty_table, change_first, has_text}
+use Rattle.cm_attempt.specs.Table.{Table, table_from, change_first, has_text}
 use Rattle.cm_attempt.specs.Worst.{with_status, worst_so_far}
 use Rattle.cm_attempt.specs.declared.status.Status.{Status}
 use Rattle.cm_stream.specs.Statuses.{kept_status}
 use Rattle.cm_stream.specs.Texts.{Text}
 use Rattle.cm_stream.specs.Readings.{Reading}
 use Rattle.cm_stream.specs.OnePass.{reads}
-use Rattle.cm_stream.specs.Words.{as_document, sources, pickles, cases, run_hooks, hook_statuses, documents_of, pickles_of, has_run_finished, is_hook_finished}
+use Rattle.cm_stream.specs.Words.{as_document, sources, pickles, cases, run_hooks, hook_statuses, documents_of, pickles_of, has_run_finished, run_succeeded, is_hook_finished}
 use Rattle.cm_stream.specs.Stream.{counts_of}
 use Rattle.cm_stream.specs.Seen.{table_of, changed}
 use Rattle.cm_envelope.specs.declared.envelope.Envelope.{Envelope}
@@ -38,6 +38,8 @@ pub record Summary : Type 0 where
   -- the start of the run, once it came
   pub run : Option TestRunStarted
   pub is_finished : Bool
+  -- the end of the run said success
+  pub success : Bool
   -- the worst status of the run hooks, which is absent while none is finished
   pub hooks_worst : Option Status
   pub counts : Counts
@@ -96,28 +98,31 @@ names_from names (name ∷ more) = names_from (with_name names name) more
 abbrev pub once_each : List Text → List Text
 once_each texts = names_from [] texts
 
-abbrev pub seen : List Envelope → Summary
-seen es = record {
+-- where the attempts of a case are numbered from the first number
+abbrev pub seen : (first : ℕ) → List Envelope → Summary
+seen first es = record {
   declared = declared_in es;
-  table = table_of es;
+  table = table_of first es;
   sources = map (source_row es) (sources es);
   named = once_each (map (λ c. c.pickle_id) (cases es));
   run = first_of (filter_map as_run es);
   is_finished = has_run_finished es;
+  success = run_succeeded es;
   hooks_worst = worst_so_far (hook_statuses es);
   counts = counts_of es;
 }
 
 -- ---- line by line
 
-abbrev pub nothing_seen : Summary
-nothing_seen = record {
+abbrev pub nothing_seen : (first : ℕ) → Summary
+nothing_seen first = record {
   declared = no_declarations;
-  table = empty_table;
+  table = table_from first;
   sources = [];
   named = [];
   run = None;
   is_finished = false;
+  success = false;
   hooks_worst = None;
   counts = record { sources = 0; pickles = 0; cases = 0; attempts = 0; unrun = 0 };
 }
@@ -168,5 +173,5 @@ after s (envelope.TestRunStarted r) = record s { run = Some r }
 after s (envelope.TestCaseStarted x) = record s { table = changed s.table (envelope.TestCaseStarted x); counts = attempt_counted s.counts }
 after s (envelope.TestRunHookStarted x) = record s { declared = with_run_hook x.id s.declared }
 after s (envelope.TestRunHookFinished f) = record s { declared = with_finished f.test_run_hook_started_id s.declared; hooks_worst = with_status s.hooks_worst (kept_status f.result.status) }
-after s (envelope.TestRunFinished f) = record s { is_finished = true }
+after s (envelope.TestRunFinished f) = record s { is_finished = true; success = f.success }
 after s e = record s { table = changed s.table e }

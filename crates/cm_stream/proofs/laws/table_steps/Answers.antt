@@ -4,4 +4,4 @@ use Rattle.cm_stream.proofs.TableSteps.{table_steps as steps}
 use Rattle.cm_stream.proofs.laws.table_steps.Goals as goal
 
 pub returns : goal.returns
-returns c = λ policy es e h. steps es e (plain_passes policy (es ++ e ∷ []) h)
+returns c = λ settings es e h. steps settings.first_attempt es e (plain_passes settings (es ++ e ∷ []) h)

@@ -7,5 +7,5 @@ use Rattle.cm_summary.proofs.laws.judged_is_told.Goals as goal
 
 pub returns : goal.returns
 returns c = judged_is_told
-    (λ policy es e h. findings_are_faults policy es e (plain_passes policy es h))
-    (λ policy es e h. summaries_step es e (plain_passes policy (es ++ e ∷ []) h))
+    (λ settings es e h. findings_are_faults settings es e (plain_passes settings es h))
+    (λ settings es e h. summaries_step settings.first_attempt es e (plain_passes settings (es ++ e ∷ []) h))

@@ -1,0 +1,96 @@
+-- Which good runs are to be released, and what a released run says of its scenarios.
+use Rattle.std.specs.Prelude.{◌≡◌, ◌≢◌, ◌↔◌, ◌==◌, ◌&&◌, ℕ, Bool, true, false, not, List, [], ◌∷◌, Option, Some, None, if◌then◌else◌, map}
+use Rattle.std.specs.List.{list_any, AllByRecursion}
+use Rattle.std.specs.Str.{bytes_eq}
+use Rattle.cm_attempt.specs.Table.{is_good_status}
+use Rattle.cm_attempt.specs.Worst.{worst_of}
+use Rattle.cm_attempt.specs.declared.policy.Policy.{Policy}
+use Rattle.cm_attempt.specs.declared.settings.Settings.{Settings}
+use Rattle.gk_document.specs.declared.tree.Document.{Document}
+use Rattle.gk_document.specs.Skeleton.{skeleton}
+use Rattle.gk_pickle.specs.Pickles.{pickles as compiled}
+use Rattle.cm_stream.specs.Texts.{same_list}
+use Rattle.cm_stream.specs.Readings.{Accepted, IsReading}
+use Rattle.cm_stream.specs.Sources.{is_due}
+use Rattle.cm_stream.specs.Words.{sources, pickles, cases, documents_of, pickles_of, starts_of, find_case, pickle_step_ids, moves, whole, is_final, statuses, last_of, run_succeeded}
+use Rattle.cm_stream.specs.Good.{Good}
+use Rattle.cm_stream.specs.Stream.{IsRead, IsGoodRun, envelopes, counts_of}
+use Rattle.cm_envelope.specs.declared.envelope.Envelope.{Envelope}
+use Rattle.cm_envelope.specs.declared.envelope.GherkinDocument.{GherkinDocument}
+use Rattle.cm_envelope.specs.declared.envelope.Source.{Source}
+use Rattle.cm_envelope.specs.declared.envelope.TestCase.{TestCase}
+use Rattle.cm_envelope.specs.declared.envelope.TestCaseStarted.{TestCaseStarted}
+use Rattle.cm_envelope.specs.declared.pickle.Pickle.{Pickle}
+use Rattle.cm_stream.specs.declared.verdict.Counts.{Counts}
+use Rattle.cm_stream.specs.declared.verdict.Hold.{Hold}
+use Rattle.cm_stream.specs.declared.verdict.Hold.TheVariants.{NotSuccessful, Empty, Unrun}
+
+-- ---- which runs are released
+
+-- why a good run isn't to be released, the first that holds
+abbrev pub hold_of : (allows_unrun success : Bool) → Counts → Option Hold
+hold_of allows_unrun success counts =
+    if not success then Some NotSuccessful
+    else (if counts.cases == 0 then Some Empty
+    else (if not allows_unrun && not (counts.unrun == 0) then Some Unrun else None))
+
+-- a test case names the pickle
+abbrev pub is_named : List Envelope → Pickle → Bool
+is_named es p = list_any (λ c. bytes_eq p.id c.pickle_id) (cases es)
+
+abbrev pub EachNamed : List Envelope → Type 0
+EachNamed es = AllByRecursion (λ p. is_named es p ≡ true) (pickles es)
+
+-- A good stream with these counts, whose run says success, which has a test case, and each of whose pickles is named by one
+-- unless others are allowed.
+pub record IsReleasedStream (settings : Settings) (allows_unrun : Bool) (bytes : List ℕ) (counts : Counts) : Type 0 where
+  pub lines : List (ℕ × Envelope)
+  pub read : IsRead bytes lines
+  pub good : Good settings (envelopes lines)
+  pub exact : counts ≡ counts_of (envelopes lines)
+  pub succeeded : run_succeeded (envelopes lines) ≡ true
+  pub some_case : cases (envelopes lines) ≢ []
+  pub each_named : allows_unrun ≡ false → EachNamed (envelopes lines)
+
+-- ---- what a released run says
+
+-- The source's text is of the grammar, its uri has one document, of the text's skeleton, and the uri's pickles are those
+-- that the text compiles to, in order.
+pub record IsCompiled (es : List Envelope) (s : Source) : Type 0 where
+  pub document : Document
+  pub accepted : IsReading s.content (Accepted document)
+  pub told : GherkinDocument
+  pub one_document : documents_of s.uri es ≡ told ∷ []
+  pub same_skeleton : skeleton told.document ≡ skeleton document
+  pub same_pickles : same_list (is_due told.ids) (pickles_of s.uri es) (compiled document) ≡ true
+
+-- The pickle ran: it has a test case, whose steps, hooks aside, are the pickle's. The case's last attempt started, started
+-- and finished each step of the case in order, and finished; it won't be retried, and is at worst of a good status.
+pub record Ran (policy : Policy) (es : List Envelope) (p : Pickle) : Type 0 where
+  pub test_case : TestCase
+  pub is_there : find_case test_case.id es ≡ Some test_case
+  pub of_pickle : test_case.pickle_id ≡ p.id
+  pub same_steps : pickle_step_ids test_case ≡ map (λ s. s.id) p.steps
+  pub attempt : TestCaseStarted
+  pub is_last : last_of (starts_of test_case.id es) ≡ Some attempt
+  pub each_step : moves attempt.id es ≡ whole (map (λ s. s.id) test_case.test_steps)
+  pub not_retried : is_final attempt.id es ≡ true
+  pub good_status : is_good_status policy (worst_of (statuses attempt.id es)) ≡ true
+
+abbrev pub EachSourceIsCompiled : List Envelope → Type 0
+EachSourceIsCompiled es = AllByRecursion (IsCompiled es) (sources es)
+
+abbrev pub EachPickleRan : Policy → List Envelope → Type 0
+EachPickleRan policy es = AllByRecursion (Ran policy es) (pickles es)
+
+-- ---- the laws
+
+-- a good run isn't held exactly where its stream is released
+abbrev pub ReleasedIsNotHeld : Type 0
+ReleasedIsNotHeld = (settings : Settings) (allows_unrun : Bool) (bytes : List ℕ) (counts : Counts) (success : Bool) → IsGoodRun settings bytes counts success
+    → (hold_of allows_unrun success counts ≡ None) ↔ IsReleasedStream settings allows_unrun bytes counts
+
+-- in a released stream without unrun pickles each scenario of each source ran
+abbrev pub ReleasedRan : Type 0
+ReleasedRan = (settings : Settings) (bytes : List ℕ) (counts : Counts) (r : IsReleasedStream settings false bytes counts)
+    → EachSourceIsCompiled (envelopes r.lines) × EachPickleRan settings.policy (envelopes r.lines)
