@@ -1,7 +1,7 @@
 -- A line adds at most one to each count.
-use Rattle.std.proofs.Common.{◌≡◌, ◌<◌, ℕ, ◌+◌, sym, ap, subst, Option, Some, None, Result, Ok, Err, true, false, Bool, arith}
+use Rattle.std.proofs.Common.{ℕ, ◌+◌, sym, ap, subst, Option, Some, None, Result, Ok, Err, true, false, Bool, arith}
 use Rattle.cm_attempt.specs.Table.{has_text}
-use Rattle.cm_attempt.specs.declared.policy.Policy.{Policy}
+use Rattle.cm_attempt.specs.declared.settings.Settings.{Settings}
 use Rattle.cm_envelope.specs.Reading.{Fault as LineFault}
 use Rattle.cm_envelope.specs.declared.envelope.Envelope.{Envelope}
 use Rattle.cm_envelope.specs.declared.envelope.Envelope.TheVariants as envelope
@@ -62,7 +62,7 @@ fewer_after n s (envelope.TestCaseStarted x) h = record {
 fewer_after n s _ h = weaker n s.counts h
 
 -- a line that is taken
-pub still_fewer : (policy : Policy) (n : ℕ) (old new : State) (r : Option (Result Envelope LineFault)) → TakesLine policy old new r (Ok tt) → AreFewer n old.counts → AreFewer (n + 1) new.counts
-still_fewer policy n old new None k h = subst (AreFewer (n + 1)) (ap (λ (s : Summary). s.counts) (sym k.0)) (weaker n old.counts h)
-still_fewer policy n old new (Some (Err b)) k h = absurd k
-still_fewer policy n old new (Some (Ok e)) k h = subst (AreFewer (n + 1)) (ap (λ (s : Summary). s.counts) (sym k.1)) (fewer_after n (summary_of old) e h)
+pub still_fewer : (settings : Settings) (n : ℕ) (old new : State) (r : Option (Result Envelope LineFault)) → TakesLine settings old new r (Ok tt) → AreFewer n old.counts → AreFewer (n + 1) new.counts
+still_fewer settings n old new None k h = subst (AreFewer (n + 1)) (ap (λ (s : Summary). s.counts) (sym k.0)) (weaker n old.counts h)
+still_fewer settings n old new (Some (Err b)) k h = absurd k
+still_fewer settings n old new (Some (Ok e)) k h = subst (AreFewer (n + 1)) (ap (λ (s : Summary). s.counts) (sym k.1)) (fewer_after n (summary_of old) e h)

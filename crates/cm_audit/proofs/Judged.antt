@@ -27,7 +27,7 @@ use Rattle.cm_summary.specs.Summary.{SourceRow, Summary, new_source}
 use Rattle.cm_summary.specs.Findings.{find_source, plain_finding, is_accepted_by, is_next_by, knows_run_hook, or_else}
 use Rattle.cm_audit.specs.AcceptedSource.{AcceptedSource}
 use Rattle.cm_audit.specs.Kept.{ReadsAs, accepted_row, kept_row}
-use Rattle.cm_audit.specs.State.{Checks, Judges, summary_of}
+use Rattle.cm_audit.specs.State.{Checks, Judges, Refuses, summary_of}
 use Rattle.cm_audit.specs.Stops.{StopsFor, refused_reference}
 use Rattle.cm_audit.specs.declared.source.Kept.{Kept}
 use Rattle.cm_audit.specs.declared.source.Kept.TheVariants as kept
@@ -36,10 +36,16 @@ use Rattle.cm_audit.specs.declared.stop.Stop.{Stop}
 use Rattle.cm_audit.specs.declared.stop.Stop.TheVariants as stop
 use Rattle.cm_audit.proofs.KeptRows.{moved_row}
 
+-- the finding is told, and what is kept is as it was
+pub refuses : (f : Option Finding) (old new : State) (why : Stop) → StopsFor f why → summary_of new ≡ summary_of old → Refuses f old new why
+refuses f old new (stop.Bad b) told same = told
+refuses f old new (stop.Unsupported r) told same = told
+refuses f old new stop.Memory told same = same
+
 -- an answer that is a stop
-pub stops : (old new : State) (e : Envelope) (r : Result ⊤ Stop) (why : Stop) → IsErrAnd r (λ x. x ≡ why) → StopsFor (plain_finding (summary_of old) e) why → Judges old new e r
-stops old new e (Ok done) why h told = absurd h
-stops old new e (Err x) why h told = subst (StopsFor (plain_finding (summary_of old) e)) (sym h) told
+pub stops : (old new : State) (e : Envelope) (r : Result ⊤ Stop) (why : Stop) → IsErrAnd r (λ x. x ≡ why) → StopsFor (plain_finding (summary_of old) e) why → summary_of new ≡ summary_of old → Judges old new e r
+stops old new e (Ok done) why h told same = absurd h
+stops old new e (Err x) why h told same = subst (Refuses (plain_finding (summary_of old) e) old new) (sym h) (refuses (plain_finding (summary_of old) e) old new why told same)
 
 pub halts : (s : State) (e : Envelope) (r : Result ⊤ Stop) (why : Stop) → IsErrAnd r (λ x. x ≡ why) → StopsFor (plain_finding (summary_of s) e) why → Checks s e r
 halts s e (Ok done) why h told = absurd h

@@ -1,6 +1,6 @@
 -- What an audit has read and judged of a stream, line by line.
-use Rattle.std.proofs.Common.{◌≡◌, ◌≤◌, ◌<◌, ℕ, ◌+◌, refl, sym, ap, ◌∙◌, List, [], ◌∷◌, ◌++◌, Option, Some, None, Result, Ok, Err, true, false, Bool, not, append_assoc, append-nil, map, length, arith, ◌⊎◌, inl, inr}
-use Rattle.std.specs.Prelude.{IfSome, if◌then◌else◌, ⊤}
+use Rattle.std.proofs.Common.{◌≡◌, ◌≤◌, ◌<◌, ℕ, ◌+◌, refl, sym, ap, ◌∙◌, List, [], ◌∷◌, ◌++◌, Option, Some, None, Result, Ok, Err, true, false, Bool, append_assoc, append-nil, map, length, arith, inl, inr}
+use Rattle.std.specs.Prelude.{IfSome, if◌then◌else◌}
 use Rattle.std.specs.List.{flat_map}
 use Rattle.cm_envelope.specs.Lines.{Line, Fed, size, line_feed, line_then, nothing, trouble_alone}
 use Rattle.cm_envelope.specs.Reading.{Fault as LineFault}
@@ -8,15 +8,15 @@ use Rattle.cm_envelope.specs.Feeds.{Stored, ShowNothing, written, given_line, no
 use Rattle.cm_envelope.specs.declared.envelope.Envelope.{Envelope}
 use Rattle.cm_envelope.specs.declared.feed.Trouble.{Trouble}
 use Rattle.cm_envelope.specs.declared.feed.Trouble.TheVariants.{ReadFailed}
-use Rattle.cm_attempt.specs.declared.policy.Policy.{Policy}
-use Rattle.cm_stream.specs.Findings.{Finding, IsBad, IsUnsupported, named, fault_of_line}
-use Rattle.cm_stream.specs.Stream.{Answer, Found, Failed, answered, fed, shown}
+use Rattle.cm_attempt.specs.declared.settings.Settings.{Settings}
+use Rattle.cm_stream.specs.Findings.{IsBad, named, fault_of_line}
+use Rattle.cm_stream.specs.Stream.{Answer, Found, Failed, fed, shown}
 use Rattle.cm_stream.proofs.Lists.{length-both}
 use Rattle.cm_stream.proofs.NewRows.{map_both}
-use Rattle.cm_summary.specs.Summary.{Summary, nothing_seen, after}
-use Rattle.cm_summary.specs.Findings.{finding, finding_at_end}
+use Rattle.cm_summary.specs.Summary.{Summary, nothing_seen}
+use Rattle.cm_summary.specs.Findings.{finding_at_end}
 use Rattle.cm_summary.specs.Laws.{at_end, judged_line, judged_of}
-use Rattle.cm_audit.specs.Audit.{AnswersAs, Begins, ReadsNoFurther, TakesLine, verdict_at}
+use Rattle.cm_audit.specs.Audit.{AnswersAs, Begins, ReadsNoFurther, TakesLine, audited_at}
 use Rattle.cm_audit.specs.Judging.{judged, lines_then, HasRead, HasJudged, JudgesTo, HoldNoFault}
 use Rattle.cm_audit.specs.State.{summary_of}
 use Rattle.cm_audit.specs.declared.state.State.{State}
@@ -63,59 +63,59 @@ next_read {before} {ys} {zs} {old} {new} {n} {line} r i g =
 
 -- ---- what was judged
 
-judges_nothing : (policy : Policy) → JudgesTo policy [] 0 nothing_seen
-judges_nothing policy more t = refl
+judges_nothing : (settings : Settings) → JudgesTo settings [] 0 (nothing_seen settings.first_attempt)
+judges_nothing settings more t = refl
 
-pub nothing_judged : (policy : Policy) (bytes : List ℕ) → HasJudged policy bytes bytes (new_feed 67108864 1073741824) 0 nothing_seen
+pub nothing_judged : (settings : Settings) (bytes : List ℕ) → HasJudged settings bytes bytes (new_feed 67108864 1073741824) 0 (nothing_seen settings.first_attempt)
 unfolding nothing_read
-nothing_judged policy bytes = record { read = nothing_read bytes; judges = judges_nothing policy }
+nothing_judged settings bytes = record { read = nothing_read bytes; judges = judges_nothing settings }
 
-taken : (policy : Policy) (old new : State) (n : ℕ) (r : Option (Result Envelope LineFault)) (more : Summary → Answer) → TakesLine policy old new r (Ok tt)
-    → judged_line policy (summary_of old) n r more ≡ more (summary_of new)
-taken policy old new n None more k = ap more (sym k.0)
-taken policy old new n (Some (Err b)) more k = absurd k
-taken policy old new n (Some (Ok e)) more k = rw k.0 (ap more (sym k.1))
+taken : (settings : Settings) (old new : State) (n : ℕ) (r : Option (Result Envelope LineFault)) (more : Summary → Answer) → TakesLine settings old new r (Ok tt)
+    → judged_line settings (summary_of old) n r more ≡ more (summary_of new)
+taken settings old new n None more k = ap more (sym k.0)
+taken settings old new n (Some (Err b)) more k = absurd k
+taken settings old new n (Some (Ok e)) more k = rw k.0 (ap more (sym k.1))
 
-judges_next : (policy : Policy) (lines : List Line) (n : ℕ) (old new : State) (l : Line) → JudgesTo policy lines n (summary_of old) → TakesLine policy old new (shown l.bytes) (Ok tt)
-    → JudgesTo policy (lines ++ l ∷ []) (n + 1) (summary_of new)
-judges_next policy lines n old new l h k more t =
-    ap (λ ls. judged_of policy nothing_seen 1 ls t) (one_more lines l more) ∙ h (l.bytes ∷ more) t
-    ∙ taken policy old new (n + 1) (shown l.bytes) (λ (now : Summary). judged_of policy now (n + 1 + 1) more t) k
+judges_next : (settings : Settings) (lines : List Line) (n : ℕ) (old new : State) (l : Line) → JudgesTo settings lines n (summary_of old) → TakesLine settings old new (shown l.bytes) (Ok tt)
+    → JudgesTo settings (lines ++ l ∷ []) (n + 1) (summary_of new)
+judges_next settings lines n old new l h k more t =
+    ap (λ ls. judged_of settings (nothing_seen settings.first_attempt) 1 ls t) (one_more lines l more) ∙ h (l.bytes ∷ more) t
+    ∙ taken settings old new (n + 1) (shown l.bytes) (λ (now : Summary). judged_of settings now (n + 1 + 1) more t) k
 
-pub next_judged : (policy : Policy) (before ys zs : List ℕ) (feed later : Stored) (n : ℕ) (old new : State) (line : List ℕ) → HasJudged policy before ys feed n (summary_of old)
-    → IsNextLine feed later ys zs line → GivesLine feed later line → TakesLine policy old new (shown line) (Ok tt) → HasJudged policy before zs later (n + 1) (summary_of new)
+pub next_judged : (settings : Settings) (before ys zs : List ℕ) (feed later : Stored) (n : ℕ) (old new : State) (line : List ℕ) → HasJudged settings before ys feed n (summary_of old)
+    → IsNextLine feed later ys zs line → GivesLine feed later line → TakesLine settings old new (shown line) (Ok tt) → HasJudged settings before zs later (n + 1) (summary_of new)
 unfolding next_read
-next_judged policy before ys zs feed later n old new line h i g k = record { read = next_read h.read i g; judges = judges_next policy (h.read).lines n old new (given_line later line) h.judges k }
+next_judged settings before ys zs feed later n old new line h i g k = record { read = next_read h.read i g; judges = judges_next settings (h.read).lines n old new (given_line later line) h.judges k }
 
 -- ---- the answer
 
-found : (policy : Policy) (old new : State) (n : ℕ) (r : Option (Result Envelope LineFault)) (more : Summary → Answer) (why : Stop) → TakesLine policy old new r (Err why)
-    → AnswersAs (judged_line policy (summary_of old) n r more) (verdict_at n why)
-found policy old new n None more why k = absurd k
-found policy old new n (Some (Err b)) more (stop.Bad f) k = let same : IsBad (fault_of_line b) ≡ IsBad (named f) = cc in ap (Found n) (sym same)
-found policy old new n (Some (Err b)) more (stop.Unsupported r) k = cc
-found policy old new n (Some (Err b)) more stop.Memory k = tt
-found policy old new n (Some (Ok e)) more (stop.Bad f) k = rw k refl
-found policy old new n (Some (Ok e)) more (stop.Unsupported r) k = rw k refl
-found policy old new n (Some (Ok e)) more stop.Memory k = tt
+found : (settings : Settings) (old new : State) (n : ℕ) (r : Option (Result Envelope LineFault)) (more : Summary → Answer) (why : Stop) → TakesLine settings old new r (Err why)
+    → AnswersAs (judged_line settings (summary_of old) n r more) (audited_at n why)
+found settings old new n None more why k = absurd k
+found settings old new n (Some (Err b)) more (stop.Bad f) k = let same : IsBad (fault_of_line b) ≡ IsBad (named f) = cc in ap (Found n) (sym same)
+found settings old new n (Some (Err b)) more (stop.Unsupported r) k = cc
+found settings old new n (Some (Err b)) more stop.Memory k = tt
+found settings old new n (Some (Ok e)) more (stop.Bad f) k = rw k refl
+found settings old new n (Some (Ok e)) more (stop.Unsupported r) k = rw k refl
+found settings old new n (Some (Ok e)) more stop.Memory k = tt
 
 -- what is left decides
-pub judged_left : {before ys : List ℕ} {feed : Stored} {n : ℕ} {s : Summary} (policy : Policy) (r : HasRead before ys feed n) → JudgesTo policy r.lines n s
-    → judged policy before ≡ judged_of policy s (n + 1) (left feed ys).lines (left feed ys).trouble
-judged_left {before} {ys} {feed} policy r h = ap (λ (f : Fed). judged_of policy nothing_seen 1 f.lines f.trouble) r.fed ∙ h (left feed ys).lines (left feed ys).trouble
+pub judged_left : {before ys : List ℕ} {feed : Stored} {n : ℕ} {s : Summary} (settings : Settings) (r : HasRead before ys feed n) → JudgesTo settings r.lines n s
+    → judged settings before ≡ judged_of settings s (n + 1) (left feed ys).lines (left feed ys).trouble
+judged_left {before} {ys} {feed} settings r h = ap (λ (f : Fed). judged_of settings (nothing_seen settings.first_attempt) 1 f.lines f.trouble) r.fed ∙ h (left feed ys).lines (left feed ys).trouble
 
-pub found_at : (policy : Policy) (before ys zs : List ℕ) (feed later : Stored) (n : ℕ) (old new : State) (line : List ℕ) (r : HasRead before ys feed n) → JudgesTo policy r.lines n (summary_of old)
-    → IsNextLine feed later ys zs line → (why : Stop) → TakesLine policy old new (shown line) (Err why) → AnswersAs (judged policy before) (verdict_at (n + 1) why)
-found_at policy before ys zs feed later n old new line r h i why k =
-    rw (judged_left policy r h, i.first) (found policy old new (n + 1) (shown line) (λ (now : Summary). judged_of policy now (n + 1 + 1) (left later zs).lines (left later zs).trouble) why k)
+pub found_at : (settings : Settings) (before ys zs : List ℕ) (feed later : Stored) (n : ℕ) (old new : State) (line : List ℕ) (r : HasRead before ys feed n) → JudgesTo settings r.lines n (summary_of old)
+    → IsNextLine feed later ys zs line → (why : Stop) → TakesLine settings old new (shown line) (Err why) → AnswersAs (judged settings before) (audited_at (n + 1) why)
+found_at settings before ys zs feed later n old new line r h i why k =
+    rw (judged_left settings r h, i.first) (found settings old new (n + 1) (shown line) (λ (now : Summary). judged_of settings now (n + 1 + 1) (left later zs).lines (left later zs).trouble) why k)
 
-pub at_the_end : {before ys : List ℕ} {feed : Stored} {n : ℕ} {s : Summary} (policy : Policy) (r : HasRead before ys feed n) → JudgesTo policy r.lines n s → left feed ys ≡ nothing
-    → judged policy before ≡ at_end (n + 1) s (finding_at_end s)
-at_the_end {n = n} {s = s} policy r h e = judged_left policy r h ∙ ap (λ (f : Fed). judged_of policy s (n + 1) f.lines f.trouble) e
+pub at_the_end : {before ys : List ℕ} {feed : Stored} {n : ℕ} {s : Summary} (settings : Settings) (r : HasRead before ys feed n) → JudgesTo settings r.lines n s → left feed ys ≡ nothing
+    → judged settings before ≡ at_end (n + 1) s (finding_at_end s)
+at_the_end {n = n} {s = s} settings r h e = judged_left settings r h ∙ ap (λ (f : Fed). judged_of settings s (n + 1) f.lines f.trouble) e
 
-pub at_trouble : {before ys : List ℕ} {feed : Stored} {n : ℕ} {s : Summary} (policy : Policy) (r : HasRead before ys feed n) → JudgesTo policy r.lines n s → (t : Trouble)
-    → left feed ys ≡ trouble_alone t → judged policy before ≡ Failed t
-at_trouble {n = n} {s = s} policy r h t e = judged_left policy r h ∙ ap (λ (f : Fed). judged_of policy s (n + 1) f.lines f.trouble) e
+pub at_trouble : {before ys : List ℕ} {feed : Stored} {n : ℕ} {s : Summary} (settings : Settings) (r : HasRead before ys feed n) → JudgesTo settings r.lines n s → (t : Trouble)
+    → left feed ys ≡ trouble_alone t → judged settings before ≡ Failed t
+at_trouble {n = n} {s = s} settings r h t e = judged_left settings r h ∙ ap (λ (f : Fed). judged_of settings s (n + 1) f.lines f.trouble) e
 
 -- ---- how far it reads
 
@@ -147,13 +147,13 @@ fewer_lines {before} {ys} {feed} {n} r e =
     as_many [] = refl
     as_many (l ∷ ls) = omega (arith, as_many ls)
 
-pub held_no_fault : (policy : Policy) (before ys zs : List ℕ) (feed after_it : Stored) (n : ℕ) (s : Summary) (r : HasRead before ys feed n) → JudgesTo policy r.lines n s → feed.line_limit ≡ 67108864 → feed.stream_limit ≡ 1073741824
-    → not_given feed ys ≡ after_it.held ++ zs → ShowNothing feed.line_limit feed.stream_limit feed.given after_it.held → HoldNoFault policy before zs
-held_no_fault policy before ys zs feed after_it n s r h line stream e shows = record {
+pub held_no_fault : (settings : Settings) (before ys zs : List ℕ) (feed after_it : Stored) (n : ℕ) (s : Summary) (r : HasRead before ys feed n) → JudgesTo settings r.lines n s → feed.line_limit ≡ 67108864 → feed.stream_limit ≡ 1073741824
+    → not_given feed ys ≡ after_it.held ++ zs → ShowNothing feed.line_limit feed.stream_limit feed.given after_it.held → HoldNoFault settings before zs
+held_no_fault settings before ys zs feed after_it n s r h line stream e shows = record {
   lines = r.lines;
   held = after_it.held;
   begins = first_lines r after_it.held zs e;
-  faultless = ap (λ ls. judged_of policy nothing_seen 1 ls (Some ReadFailed)) (sym (append-nil (bytes_of r.lines))) ∙ h [] (Some ReadFailed);
+  faultless = ap (λ ls. judged_of settings (nothing_seen settings.first_attempt) 1 ls (Some ReadFailed)) (sym (append-nil (bytes_of r.lines))) ∙ h [] (Some ReadFailed);
   nothing = rw (r.long, ← line, ← stream) shows;
 }
 

@@ -7,13 +7,13 @@ use Rattle.cm_envelope.specs.Feeds.{ShowNothing, written}
 use Rattle.cm_envelope.specs.declared.envelope.Envelope.{Envelope}
 use Rattle.cm_envelope.specs.declared.feed.Trouble.{Trouble}
 use Rattle.cm_envelope.specs.declared.feed.Trouble.TheVariants.{ReadFailed, Memory}
-use Rattle.cm_attempt.specs.declared.policy.Policy.{Policy}
-use Rattle.cm_stream.specs.Findings.{Finding, IsBad, IsUnsupported, fault_of_line}
-use Rattle.cm_stream.specs.Stream.{Answer, Told, Troubled, At, fed, told, told_of, answered, answer_for, line_limit, stream_limit}
+use Rattle.cm_attempt.specs.declared.settings.Settings.{Settings}
+use Rattle.cm_stream.specs.Findings.{IsBad, fault_of_line}
+use Rattle.cm_stream.specs.Stream.{Answer, Troubled, fed, told, told_of, answered, answer_for, line_limit, stream_limit}
+use Rattle.cm_stream.specs.declared.verdict.Audited.{Audited}
 use Rattle.cm_stream.specs.declared.verdict.Verdict.{Verdict}
 use Rattle.cm_stream.specs.declared.verdict.Verdict.TheVariants as verdict
-use Rattle.cm_audit.specs.State.{Takes, IsListed, summary_of}
-use Rattle.cm_audit.specs.Stops.{StopsFor}
+use Rattle.cm_audit.specs.State.{Takes, IsListed, Refuses, summary_of}
 use Rattle.cm_audit.specs.declared.state.State.{State}
 use Rattle.cm_audit.specs.declared.stop.Stop.{Stop}
 use Rattle.cm_audit.specs.declared.stop.Stop.TheVariants as stop
@@ -21,16 +21,25 @@ use Rattle.cm_audit.specs.declared.stop.Stop.TheVariants as stop
 -- ---- the answer
 
 -- it is this answer, unless a read failed or memory was refused
-abbrev pub AnswersAs : Answer → Result Verdict Trouble → Type 0
+abbrev pub AnswersAs : Answer → Result Audited Trouble → Type 0
 AnswersAs a (Err ReadFailed) = ⊤
 AnswersAs a (Err Memory) = ⊤
 AnswersAs a answer = answered answer ≡ a
 
 -- the answer is that for what is told of the bytes
-abbrev pub AnswersTold : Policy → List ℕ → Result Verdict Trouble → Type 0
-AnswersTold policy bytes answer = AnswersAs (answer_for (told policy bytes)) answer
+abbrev pub AnswersTold : Settings → List ℕ → Result Audited Trouble → Type 0
+AnswersTold settings bytes answer = AnswersAs (answer_for (told settings bytes)) answer
 
-abbrev pub is_failed_read : Result Verdict Trouble → Bool
+-- a verdict, with this word of success
+abbrev pub saying : Bool → Result Verdict Trouble → Result Audited Trouble
+saying success (Ok v) = Ok (record { verdict = v; success = success })
+saying success (Err t) = Err t
+
+-- the verdict is that of the answer for what is told of the bytes, whatever the run says of its success
+abbrev pub VerdictTold : Settings → List ℕ → Result Verdict Trouble → Type 0
+VerdictTold settings bytes verdict = (success : Bool) × AnswersTold settings bytes (saying success verdict)
+
+abbrev pub is_failed_read : {A : Type 0} → Result A Trouble → Bool
 is_failed_read (Err ReadFailed) = true
 is_failed_read _ = false
 
@@ -43,11 +52,11 @@ pub record Begins (bytes : List ℕ) (lines : List Line) (behind rest : List ℕ
   pub first : (fed bytes).lines ≡ map (λ l. l.bytes) lines ++ more
 
 -- Where a read failed, the bytes before are lines without a fault, and then bytes that are no whole line and pass no limit.
-pub record ShowNoFault (policy : Policy) (before after : List ℕ) : Type 0 where
+pub record ShowNoFault (settings : Settings) (before after : List ℕ) : Type 0 where
   pub lines : List Line
   pub held : List ℕ
   pub begins : Begins before lines held after
-  pub faultless : told_of policy [] 1 (map (λ l. l.bytes) lines) (Some ReadFailed) ≡ Troubled ReadFailed
+  pub faultless : told_of settings [] 1 (map (λ l. l.bytes) lines) (Some ReadFailed) ≡ Troubled ReadFailed
   pub nothing : ShowNothing line_limit stream_limit (length (flat_map written lines)) held
 
 -- At most 65,536 bytes behind the first n lines with their LFs were read, of these bytes to come before and after.
@@ -69,15 +78,19 @@ ReadsUpTo _ before after = ⊤
 -- ---- a line
 
 -- what a line that is read so leaves
-abbrev pub TakesLine : Policy → (old new : State) → Option (Result Envelope LineFault) → Result ⊤ Stop → Type 0
-TakesLine policy old new None (Ok done) = (summary_of new ≡ summary_of old) × IsListed new
-TakesLine policy old new None (Err why) = ⊥
-TakesLine policy old new (Some (Ok e)) answer = Takes policy old new e answer
-TakesLine policy old new (Some (Err b)) (Ok done) = ⊥
-TakesLine policy old new (Some (Err b)) (Err why) = StopsFor (Some (IsBad (fault_of_line b))) why
+abbrev pub TakesLine : Settings → (old new : State) → Option (Result Envelope LineFault) → Result ⊤ Stop → Type 0
+TakesLine settings old new None (Ok done) = (summary_of new ≡ summary_of old) × IsListed new
+TakesLine settings old new None (Err why) = ⊥
+TakesLine settings old new (Some (Ok e)) answer = Takes settings old new e answer
+TakesLine settings old new (Some (Err b)) (Ok done) = ⊥
+TakesLine settings old new (Some (Err b)) (Err why) = Refuses (Some (IsBad (fault_of_line b))) old new why
 
--- the verdict at a line
-abbrev pub verdict_at : ℕ → Stop → Result Verdict Trouble
-verdict_at n (stop.Bad b) = Ok (verdict.Bad n b)
-verdict_at n (stop.Unsupported r) = Ok (verdict.Unsupported n r)
-verdict_at n stop.Memory = Err Memory
+-- the verdict on a stream that isn't good
+abbrev pub unsuccessful : Verdict → Audited
+unsuccessful v = record { verdict = v; success = false }
+
+-- the answer at a line
+abbrev pub audited_at : ℕ → Stop → Result Audited Trouble
+audited_at n (stop.Bad b) = Ok (unsuccessful (verdict.Bad n b))
+audited_at n (stop.Unsupported r) = Ok (unsuccessful (verdict.Unsupported n r))
+audited_at n stop.Memory = Err Memory

@@ -1,15 +1,18 @@
 -- What an audit keeps, as a summary of the lines so far.
-use Rattle.std.specs.Prelude.{◌≡◌, ◌<◌, ℕ, ⊤, map, Result, Ok, Err, None}
+use Rattle.std.specs.Prelude.{◌≡◌, ◌<◌, ℕ, ⊤, map, Option, Result, Ok, Err, None, Some}
 use Rattle.std.specs.String.{string_bytes}
 use Rattle.cm_envelope.specs.declared.envelope.Envelope.{Envelope}
 use Rattle.cm_stream.specs.declared.verdict.Counts.{Counts}
 use Rattle.cm_summary.specs.Summary.{Summary, after}
 use Rattle.cm_attempt.specs.declared.policy.Policy.{Policy}
+use Rattle.cm_attempt.specs.declared.settings.Settings.{Settings}
 use Rattle.cm_summary.specs.Findings.{finding, finding_inside, plain_finding}
 use Rattle.cm_audit.specs.Kept.{kept_rows}
+use Rattle.cm_stream.specs.Findings.{Finding, IsBad, IsUnsupported, named}
 use Rattle.cm_audit.specs.Stops.{StopsFor}
 use Rattle.cm_audit.specs.declared.state.State.{State}
 use Rattle.cm_audit.specs.declared.stop.Stop.{Stop}
+use Rattle.cm_audit.specs.declared.stop.Stop.TheVariants as stop
 
 abbrev pub summary_of : State → Summary
 summary_of s = record {
@@ -19,6 +22,7 @@ summary_of s = record {
   named = map string_bytes s.named.keys;
   run = s.run;
   is_finished = s.is_finished;
+  success = s.success;
   hooks_worst = s.hooks_worst;
   counts = s.counts;
 }
@@ -35,6 +39,12 @@ pub record AreFewer (n : ℕ) (c : Counts) : Type 0 where
   pub attempts : c.attempts < n
   pub unrun : c.unrun < n
 
+-- a line has the finding, or memory was refused, and then what is kept is as it was
+abbrev pub Refuses : Option Finding → (old new : State) → Stop → Type 0
+Refuses f old new (stop.Bad b) = f ≡ Some (IsBad (named b))
+Refuses f old new (stop.Unsupported r) = f ≡ Some (IsUnsupported r)
+Refuses f old new stop.Memory = summary_of new ≡ summary_of old
+
 -- a line has no finding by the checks that are made whatever statuses are good, or it has the finding
 abbrev pub Checks : State → Envelope → Result ⊤ Stop → Type 0
 Checks s e (Ok done) = plain_finding (summary_of s) e ≡ None
@@ -43,14 +53,14 @@ Checks s e (Err why) = StopsFor (plain_finding (summary_of s) e) why
 -- a line was taken by the checks that are made whatever statuses are good, or it has the finding
 abbrev pub Judges : (old new : State) → Envelope → Result ⊤ Stop → Type 0
 Judges old new e (Ok done) = (plain_finding (summary_of old) e ≡ None) × (summary_of new ≡ after (summary_of old) e) × IsListed new
-Judges old new e (Err why) = StopsFor (plain_finding (summary_of old) e) why
+Judges old new e (Err why) = Refuses (plain_finding (summary_of old) e) old new why
 
 -- a line of which no check stands behind the end of the run was taken, or it has the finding
 abbrev pub JudgesBy : Policy → (old new : State) → Envelope → Result ⊤ Stop → Type 0
 JudgesBy policy old new e (Ok done) = (finding_inside policy (summary_of old) e ≡ None) × (summary_of new ≡ after (summary_of old) e) × IsListed new
-JudgesBy policy old new e (Err why) = StopsFor (finding_inside policy (summary_of old) e) why
+JudgesBy policy old new e (Err why) = Refuses (finding_inside policy (summary_of old) e) old new why
 
 -- a line was taken, or it has the finding
-abbrev pub Takes : Policy → (old new : State) → Envelope → Result ⊤ Stop → Type 0
-Takes policy old new e (Ok done) = (finding policy (summary_of old) e ≡ None) × (summary_of new ≡ after (summary_of old) e) × IsListed new
-Takes policy old new e (Err why) = StopsFor (finding policy (summary_of old) e) why
+abbrev pub Takes : Settings → (old new : State) → Envelope → Result ⊤ Stop → Type 0
+Takes settings old new e (Ok done) = (finding settings (summary_of old) e ≡ None) × (summary_of new ≡ after (summary_of old) e) × IsListed new
+Takes settings old new e (Err why) = Refuses (finding settings (summary_of old) e) old new why

@@ -15,7 +15,7 @@ use crate::judge_run::{
 };
 use crate::state::State;
 use crate::stop::Stop;
-use cm_attempt::Policy;
+use cm_attempt::{Policy, Settings};
 use cm_envelope::Envelope;
 use cm_stream::Bad;
 
@@ -54,14 +54,14 @@ fn is_judged(envelope: &Envelope) -> bool
 }
 
 /// Judges an envelope behind the lines so far, and takes it where it has no fault.
-pub(crate) fn judge(state: &mut State, envelope: Envelope, policy: Policy) -> Result<(), Stop>
+pub(crate) fn judge(state: &mut State, envelope: Envelope, settings: Settings) -> Result<(), Stop>
     requires listed { IsListed state.old }
     requires few { AreFewer MOST state.old.counts }
-    ensures { Takes policy state.old state.new envelope result }
+    ensures { Takes settings state.old state.new envelope result }
 {
     if state.is_finished && is_judged(&envelope) {
         drop(envelope);
         return Err(Stop::Bad(Bad::AfterRunFinished));
     }
-    judge_inside(state, envelope, policy)
+    judge_inside(state, envelope, settings.policy)
 }

@@ -1,9 +1,10 @@
 //! Test cases.
-ghost use Rattle.std.specs.Prelude.{◌≡◌, ◌<◌, IfOk, OnOk, false, is_some, map, not, slice_get};
+ghost use Rattle.std.specs.Prelude.{◌≡◌, ◌<◌, IfOk, IsOk, OnOk, false, is_some, map, not, slice_get};
 ghost use Rattle.std.specs.List.{list_all};
 ghost use Rattle.std.specs.Option.{option_map_or};
 ghost use Rattle.std.specs.Str.{bytes_eq};
 ghost use Rattle.std.specs.String.{string_bytes};
+ghost use Rattle.indexmap.specs.IndexSet.{spare};
 ghost use Rattle.cm_attempt.specs.Table.{has_text};
 ghost use Rattle.cm_refs.specs.Declarations.{find_pickle, steps_of};
 ghost use Rattle.cm_envelope.specs.declared.envelope.Envelope.TheVariants as Envelope;
@@ -151,6 +152,7 @@ fn add_name(named: &mut Names, pickle: String) -> Result<bool, AllocFailed<Strin
         ≡ with_name (map string_bytes named.old.keys) (string_bytes pickle)) }
     ensures first { IfOk result (λ is_first. not is_first
         ≡ has_text (string_bytes pickle) (map string_bytes named.old.keys)) }
+    ensures room { 0 < spare named.old → IsOk result }
 {
     let is_first = named.insert(pickle)?;
     Ok(is_first)

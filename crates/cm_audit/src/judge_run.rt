@@ -240,5 +240,6 @@ pub(crate) fn judge_run_finished(
         return Err(Stop::Bad(Bad::SuccessDiffers));
     }
     state.is_finished = true;
+    state.success = finished.success;
     Ok(())
 }

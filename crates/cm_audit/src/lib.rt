@@ -15,8 +15,9 @@ mod status;
 mod stop;
 mod write;
 
-pub use auditing::{audit, audit_with};
-pub use cm_stream::{Bad, Counts, Reason, Verdict};
+pub use auditing::{audit, audit_by, audit_run, audit_with};
+pub use cm_attempt::{Policy, Settings};
+pub use cm_stream::{Audited, Bad, Counts, Reason, Verdict};
 pub use compiled::write_compiled;
 pub use fault::CompileFault;
 pub use status::kept_status;

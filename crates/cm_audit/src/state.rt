@@ -18,7 +18,7 @@ pub(crate) type Sources = IndexMap<String, Kept>;
 pub(crate) type Names = IndexSet<String>;
 
 /// What an audit keeps: what was declared, the record of attempts, each source by its uri, the pickles that cases name,
-/// what the run's envelopes said, and the worst status of its hooks.
+/// what the run's envelopes said, its success among it, and the worst status of its hooks.
 #[derive(Drop)]
 pub(crate) struct State {
     pub(crate) declared: Declared,
@@ -27,24 +27,26 @@ pub(crate) struct State {
     pub(crate) named: Names,
     pub(crate) run: Option<TestRunStarted>,
     pub(crate) is_finished: bool,
+    pub(crate) success: bool,
     pub(crate) hooks_worst: Option<Status>,
     pub(crate) counts: Counts,
     pub(crate) alloc: Global,
 }
 
 impl State {
-    /// Nothing was seen yet. It takes no memory.
-    pub(crate) fn new(alloc: Global) -> State
-        ensures seen { summary_of result ≡ nothing_seen }
+    /// Nothing was seen yet, and the attempts of a case will be numbered from `first`. It takes no memory.
+    pub(crate) fn new(alloc: Global, first: u64) -> State
+        ensures seen { summary_of result ≡ nothing_seen first }
         ensures listed { IsListed result }
     {
         State {
             declared: Declared::new(alloc),
-            track: Track::new(alloc),
+            track: Track::counting_from(alloc, first),
             sources: IndexMap::new(alloc),
             named: IndexSet::new(alloc),
             run: None,
             is_finished: false,
+            success: false,
             hooks_worst: None,
             counts: Counts {
                 sources: 0,

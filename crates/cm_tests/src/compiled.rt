@@ -24,8 +24,10 @@ const PLAIN_LINES: &str =
 const OUTLINE_TEXT: &str =
     "Feature: f\n  Scenario: s\n    Given <a>\n    Examples:\n      | a |\n      | x |\n      | x |\n      | y |\n";
 
-const OUTLINE_PICKLES: &str =
-    r#"{"pickle":{"astNodeIds":["0","4"],"id":"8","language":"en","name":"s","steps":[{"astNodeIds":["1","4"],"id":"7","text":"x","type":"Context"}],"tags":[],"uri":"o.feature"}}
+const OUTLINE_LINES: &str =
+    r#"{"source":{"data":"Feature: f\n  Scenario: s\n    Given <a>\n    Examples:\n      | a |\n      | x |\n      | x |\n      | y |\n","mediaType":"text/x.cucumber.gherkin+plain","uri":"o.feature"}}
+{"gherkinDocument":{"comments":[],"feature":{"children":[{"scenario":{"description":"","examples":[{"description":"","id":"2","keyword":"Examples","location":{"column":5,"line":4},"name":"","tableBody":[{"cells":[{"location":{"column":9,"line":6},"value":"x"}],"id":"4","location":{"column":7,"line":6}},{"cells":[{"location":{"column":9,"line":7},"value":"x"}],"id":"5","location":{"column":7,"line":7}},{"cells":[{"location":{"column":9,"line":8},"value":"y"}],"id":"6","location":{"column":7,"line":8}}],"tableHeader":{"cells":[{"location":{"column":9,"line":5},"value":"a"}],"id":"3","location":{"column":7,"line":5}},"tags":[]}],"id":"0","keyword":"Scenario","location":{"column":3,"line":2},"name":"s","steps":[{"id":"1","keyword":"Given ","keywordType":"Context","location":{"column":5,"line":3},"text":"<a>"}],"tags":[]}}],"description":"","keyword":"Feature","language":"en","location":{"column":1,"line":1},"name":"f","tags":[]},"uri":"o.feature"}}
+{"pickle":{"astNodeIds":["0","4"],"id":"8","language":"en","name":"s","steps":[{"astNodeIds":["1","4"],"id":"7","text":"x","type":"Context"}],"tags":[],"uri":"o.feature"}}
 {"pickle":{"astNodeIds":["0","5"],"id":"10","language":"en","name":"s","steps":[{"astNodeIds":["1","5"],"id":"9","text":"x","type":"Context"}],"tags":[],"uri":"o.feature"}}
 {"pickle":{"astNodeIds":["0","6"],"id":"12","language":"en","name":"s","steps":[{"astNodeIds":["1","6"],"id":"11","text":"y","type":"Context"}],"tags":[],"uri":"o.feature"}}
 "#;
@@ -125,13 +127,7 @@ fn all_that_a_feature_may_have(rt: HostRuntime) -> Result<(), Fail> {
 
 #[test]
 fn ids_go_on_from_pickle_to_pickle(rt: HostRuntime) -> Result<(), Fail> {
-    let alloc = rt.alloc();
-    let mut sink = sink_with(alloc, 1_000_000, 1_000_000, false);
-    assert_eq!(rt;
-        write_compiled(alloc, "o.feature", OUTLINE_TEXT, &mut sink),
-        Ok(())
-    );
-    assert!(rt; sink.taken.as_slice().ends_with(OUTLINE_PICKLES.as_bytes()));
+    check_lines(&rt, rt.alloc(), "o.feature", OUTLINE_TEXT, OUTLINE_LINES);
     Ok(())
 }
 

@@ -1,6 +1,7 @@
 use cm_refs::{Declared, RefFault, distinct_texts};
 use std::alloc::{AllocError, Global};
 use std::process::Abort;
+use std::test::Fail;
 
 fn texts(alloc: Global, words: &str) -> Result<Vec<String>, AllocError> {
     let mut owned = Vec::new(alloc);
@@ -106,56 +107,78 @@ fn declare_pickle(
     declared.declare_pickle(id, steps.as_slice())
 }
 
-// The first of the steps is the one that is told, or `-` tells that there is none.
-fn expect_first(rt: &impl Abort, steps: Option<&[String]>, told: &str) {
-    match steps {
-        Some([first, ..]) => assert!(rt; first.as_str() == told),
-        _ => assert!(rt; told == "-"),
+// The texts in order, with `+` between two of them.
+fn joined(alloc: Global, texts: &[String]) -> Result<String, AllocError> {
+    let mut all = String::new(alloc);
+    for (i, text) in texts.iter().enumerate() {
+        if i > 0 {
+            all.push('+')?;
+        }
+        all.push_str(text.as_str())?;
     }
+    Ok(all)
 }
 
-// Each line: the answer that is wanted, the first step that is then known, a pickle and its steps.
+// The texts are those that are told, or `-` tells that there are none.
+fn expect_texts(
+    rt: &impl Abort,
+    alloc: Global,
+    found: Option<&[String]>,
+    told: &str,
+) -> Result<(), AllocError> {
+    match found {
+        Some(texts) => assert!(rt; joined(alloc, texts)?.as_str() == told),
+        None => assert!(rt; told == "-"),
+    }
+    Ok(())
+}
+
+// Each line: the answer that is wanted, the steps that are then known, a pickle and its steps.
 const PICKLES: &str = "ok s p s
 DuplicateId - q s s
-DuplicateId s p t";
+DuplicateId s p t
+ok b+a+c r b a c";
 
-fn expect_pickles(rt: &impl Abort, declared: &mut Declared, alloc: Global, table: &str) {
+fn expect_pickles(
+    rt: &impl Abort,
+    declared: &mut Declared,
+    alloc: Global,
+    table: &str,
+) -> Result<(), AllocError> {
     for told in table.lines() {
         let (wanted, rest) = cut(told);
         let (known, rest) = cut(rest);
         let (id, steps) = cut(rest);
         assert!(rt; answer_name(declare_pickle(declared, alloc, id, steps)) == wanted);
-        expect_first(rt, declared.pickle(id), known);
+        expect_texts(rt, alloc, declared.pickle(id), known)?;
     }
+    Ok(())
 }
 
 #[test]
-fn a_pickle_has_distinct_steps(rt: HostRuntime) {
+fn a_pickle_has_distinct_steps(rt: HostRuntime) -> Result<(), Fail> {
     let alloc = rt.alloc();
     let mut declared = Declared::new(alloc);
-    expect_pickles(&rt, &mut declared, alloc, PICKLES);
+    expect_pickles(&rt, &mut declared, alloc, PICKLES)?;
     assert!(rt; declared.has_step("p", "s"));
     assert!(rt; !declared.has_step("p", "t"));
     assert!(rt; !declared.has_step("q", "s"));
     drop(declared);
+    Ok(())
 }
 
-// How many texts the set has, and the first of them; `-` tells that there is none.
-fn expect_set(rt: &impl Abort, alloc: Global, words: &str, len: usize, first: &str) {
-    let Ok(words) = texts(alloc, words) else {
-        return assert!(rt; false);
-    };
-    match distinct_texts(alloc, words.as_slice()) {
-        Ok(Some(set)) => {
-            assert!(rt; set.len() == len);
-            expect_first(rt, Some(set.as_slice()), first);
-        }
-        answer => assert!(rt; answer.is_ok() && first == "-"),
+// The set of the words, or `-` where two of them are equal.
+fn expect_set(rt: &impl Abort, alloc: Global, words: &str, told: &str) -> Result<(), AllocError> {
+    let words = texts(alloc, words)?;
+    match distinct_texts(alloc, words.as_slice())? {
+        Some(set) => expect_texts(rt, alloc, Some(set.as_slice()), told),
+        None => expect_texts(rt, alloc, None, told),
     }
 }
 
 #[test]
-fn distinct_texts_keep_their_order(rt: HostRuntime) {
-    expect_set(&rt, rt.alloc(), "b a c", 3, "b");
-    expect_set(&rt, rt.alloc(), "b a b", 0, "-");
+fn distinct_texts_keep_their_order(rt: HostRuntime) -> Result<(), Fail> {
+    expect_set(&rt, rt.alloc(), "b a c", "b+a+c")?;
+    expect_set(&rt, rt.alloc(), "b a b", "-")?;
+    Ok(())
 }

@@ -201,7 +201,7 @@ fn a_test_case(rt: HostRuntime) {
     expect(&rt, rt.alloc(), line.as_bytes(), Wanted::Case);
 }
 
-fn word_of(status: Status) -> &'static str {
+pub(crate) fn word_of(status: Status) -> &'static str {
     match status {
         Status::Unknown => "UNKNOWN",
         Status::Passed => "PASSED",

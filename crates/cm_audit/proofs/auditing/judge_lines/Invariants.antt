@@ -13,7 +13,7 @@ invariant-lines g l = record {
   few : l.feed.given ≤ 1073741824;
   listed : IsListed l.state;
   fewer : AreFewer (l.number + 1) l.state.counts;
-  judged : WhereTold (g.R.ByteSource.to_come l.fn.source) (g.R.ByteSource.to_come l.source) (λ xs ys. HasJudged l.fn.policy xs ys l.feed l.number (summary_of l.state));
+  judged : WhereTold (g.R.ByteSource.to_come l.fn.source) (g.R.ByteSource.to_come l.source) (λ xs ys. HasJudged l.fn.settings xs ys l.feed l.number (summary_of l.state));
   no_failure : g.R.ByteSource.failed_calls l.source ≡ g.R.ByteSource.failed_calls l.fn.source;
 }
 

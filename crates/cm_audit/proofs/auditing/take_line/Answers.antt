@@ -6,4 +6,4 @@ use Rattle.cm_audit.proofs.auditing.take_line.Goals as goal
 pub returns-in-Err : goal.returns-in-Err
 returns-in-Err c =
     let filled : is_blank c.args.line.now ≡ false = sym c.is_blank_line.ensures ∙ c.if-is_blank_line.false in
-    not_read c.args.policy c.args.state.now c.args.line.now filled c.in-Err.fault c.in-Err.ensures c.from.result c.from.ensures
+    not_read c.args.settings c.args.state.now c.args.line.now filled c.in-Err.fault c.in-Err.ensures c.from.result c.from.ensures

@@ -13,6 +13,7 @@ returns-in_err-declare_definition c =
     let answer = rw c.as_str.ensures at c.in_err-declare_definition.ensures.answer in
     stops c.args.state.now (record (c.args.state.now) { declared = c.declare_definition.new.self }) (StepDefinition c.args.definition.now) c.from_residual.result (refused_reference fault) c.from_residual.ensures.1
     (told_by (has_text c.args.definition.now.id c.args.state.now.declared.definitions) fault answer)
+    (λ i. record (summary_of c.args.state.now) { declared = c.in_err-declare_definition.ensures.err i })
 
 pub returns : goal.returns
 returns c =

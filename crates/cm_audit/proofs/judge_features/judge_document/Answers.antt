@@ -16,7 +16,7 @@ use Rattle.cm_audit.proofs.judge_features.judge_document.Goals as goal
 pub returns-in_err-checked : goal.returns-in_err-checked
 returns-in_err-checked c =
     stops c.args.state.now (c.args.state.now) (GherkinDocument c.args.document) c.from_residual.result c.in_err-checked.field-0.0 c.from_residual.ensures.1
-    c.in_err-checked.ensures.found
+    c.in_err-checked.ensures.found refl
 
 pub returns-in_err-declare_document : goal.returns-in_err-declare_document
 returns-in_err-declare_document c =
@@ -26,6 +26,7 @@ returns-in_err-declare_document c =
     c.from_residual-in_err-declare_document.result (refused_reference fault) c.from_residual-in_err-declare_document.ensures.1
     (only_memory (has_text c.args.document.uri c.args.state.now.declared.documents) DuplicateUri fault (plain_finding (summary_of c.args.state.now) (GherkinDocument c.args.document))
     c.in_ok-checked.ensures.first answer)
+    (λ i. record (summary_of c.args.state.now) { declared = c.in_err-declare_document.ensures.err i })
 
 pub set_ids-requires : goal.set_ids-requires
 set_ids-requires c =

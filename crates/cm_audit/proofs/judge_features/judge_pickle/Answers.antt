@@ -15,11 +15,11 @@ use Rattle.cm_audit.proofs.judge_features.judge_pickle.Goals as goal
 pub returns-in_err-check_pickle : goal.returns-in_err-check_pickle
 returns-in_err-check_pickle c =
     stops c.args.state.now (c.args.state.now) (Pickle c.args.pickle) c.from_residual.result c.in_err-check_pickle.field-0.0 c.from_residual.ensures.1
-    c.in_err-check_pickle.ensures.err
+    c.in_err-check_pickle.ensures.err refl
 
 pub returns-in_err-steps : goal.returns-in_err-steps
 returns-in_err-steps c =
-    stops c.args.state.now (c.args.state.now) (Pickle c.args.pickle) c.from_residual-in_err-steps.result Memory c.from_residual-in_err-steps.ensures.1 tt
+    stops c.args.state.now (c.args.state.now) (Pickle c.args.pickle) c.from_residual-in_err-steps.result Memory c.from_residual-in_err-steps.ensures.1 tt refl
 
 pub returns-in_err-declare_pickle : goal.returns-in_err-declare_pickle
 returns-in_err-declare_pickle c =
@@ -29,6 +29,7 @@ returns-in_err-declare_pickle c =
     stops c.args.state.now (record (c.args.state.now) { declared = c.declare_pickle.new.self }) (Pickle c.args.pickle)
     c.from_residual-in_err-declare_pickle.result (refused_reference fault) c.from_residual-in_err-declare_pickle.ensures.1
     (pickle_told (summary_of c.args.state.now) c.args.pickle c.in_ok-check_pickle.ensures.known c.in_ok-check_pickle.ensures.next (map string_bytes c.as_slice.result.now) same fault answer)
+    (λ i. record (summary_of c.args.state.now) { declared = c.in_err-declare_pickle.ensures.err i })
 
 pub count_pickle-requires : goal.count_pickle-requires
 count_pickle-requires c =

@@ -37,14 +37,15 @@ returns-in_err-kept c =
     let read : ReadsAs (reads c.args.source.content) (Err why) = subst (λ t. ReadsAs (reads t) (Err why)) c.as_str-3.ensures c.in_err-kept.ensures in
     stops c.args.state.now (record (c.args.state.now) { sources = c.reserve.new.self }) (Source c.args.source) c.from_residual-in_err-kept.result why c.from_residual-in_err-kept.ensures.1
     (source_unread (summary_of c.args.state.now) c.args.source new media why read)
+    (λ i. record (summary_of c.args.state.now) { sources = kept_rows (c.reserve.ensures.entries i) })
 
 pub returns-in_err-reserve : goal.returns-in_err-reserve
 returns-in_err-reserve c =
     stops c.args.state.now (record (c.args.state.now) { sources = c.reserve.new.self }) (Source c.args.source) c.from_residual.result Memory c.from_residual.ensures.1 tt
+    (λ i. record (summary_of c.args.state.now) { sources = kept_rows (c.reserve.ensures.entries i) })
 
 pub returns-in_err-insert : goal.returns-in_err-insert
-returns-in_err-insert c =
-    stops c.args.state.now (record (c.args.state.now) { declared = c.declare_source.new.self; sources = c.insert.new.self }) (Source c.args.source) c.from_residual-in_err-insert.result Memory c.from_residual-in_err-insert.ensures.1 tt
+returns-in_err-insert c = let taken : false ≡ true = c.in_err-insert.ensures.succeeds (omega (arith, c.in_ok-reserve.ensures.ok)) in cc
 
 pub overflow_add-state : goal.overflow_add-state
 overflow_add-state c = omega (arith, c.requires.few.sources)

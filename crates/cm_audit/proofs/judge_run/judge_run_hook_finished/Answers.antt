@@ -32,6 +32,7 @@ returns-in_err-finish_run_hook c =
     let answer = rw c.as_str.ensures at c.in_err-finish_run_hook.ensures.answer in
     stops old (record old { declared = c.finish_run_hook.new.self }) (TestRunHookFinished finished) c.from_residual.result (refused_reference fault) c.from_residual.ensures.1
     (end_told (find_run_hook old.declared finished.test_run_hook_started_id) (is_unknown finished.result.status) fault answer)
+    (λ i. record (summary_of old) { declared = c.in_err-finish_run_hook.ensures.err i })
 
 pub returns-then-eq : goal.returns-then-eq
 returns-then-eq c =

@@ -18,6 +18,7 @@ returns-in_err-start_run_hook c =
     let known : knows_run_hook (summary_of old) started ≡ true = sym c.knows_run_hook.ensures ∙ c.if-not-knows_run_hook.false in
     stops old (record old { declared = c.start_run_hook.new.self }) (TestRunHookStarted started) c.from_residual.result (refused_reference fault) c.from_residual.ensures.1
     (hook_told (summary_of old) started inside known fault answer)
+    (λ i. record (summary_of old) { declared = c.in_err-start_run_hook.ensures.err i })
 
 pub returns : goal.returns
 returns c =
