@@ -1,5 +1,5 @@
 -- The outcome that a table holds is the answer for what is told of the stream.
-use Rattle.std.proofs.Common.{◌≡◌, ℕ, ◌+◌, refl, sym, ap, ◌∙◌, subst, List, [], ◌∷◌, ◌++◌, Option, Some, None, Result, Ok, Err, true, false, Bool, map, inl, inr, ◌⊎◌}
+use Rattle.std.proofs.Common.{◌≡◌, ℕ, ◌+◌, refl, sym, ap, ◌∙◌, subst, List, [], ◌∷◌, ◌++◌, Option, Some, None, Result, Ok, Err, true, false, Bool, map, inl, inr}
 use Rattle.std.specs.Prelude.{IfSome, option_map, option_and_then}
 use Rattle.std.specs.List.{flat_map}
 use Rattle.std.specs.Io.KnownBytes.{Appends}
@@ -8,23 +8,23 @@ use Rattle.cm_envelope.specs.Member.{◌>>=◌}
 use Rattle.cm_envelope.specs.Reading.{envelope_of_line, Fault as ReadingFault, not_json, shape, field}
 use Rattle.cm_envelope.specs.declared.envelope.Envelope.{Envelope}
 use Rattle.cm_envelope.specs.declared.feed.Trouble.{Trouble}
-use Rattle.cm_attempt.specs.Table.{Table, empty_table, reported_of}
+use Rattle.cm_attempt.specs.Table.{Table, reported_of, table_from}
 use Rattle.cm_attempt.specs.Calls.{table_after}
 use Rattle.cm_attempt.specs.declared.fault.TrackFault.{TrackFault}
 use Rattle.cm_attempt.specs.declared.fault.TrackFault.TheVariants as track
-use Rattle.cm_stream.specs.Findings.{Finding, IsBad, fault_of_line}
+use Rattle.cm_stream.specs.Findings.{IsBad, fault_of_line}
 use Rattle.cm_stream.specs.Refusals as stream
 use Rattle.cm_stream.specs.Refusals.{refused}
 use Rattle.cm_stream.specs.Seen.{changed}
-use Rattle.cm_stream.specs.Stream.{Told, At, NoFault, Troubled, at_line as at_told, fed}
+use Rattle.cm_stream.specs.Stream.{Told, NoFault, at_line as at_told, fed}
 use Rattle.cm_results.specs.Joining.{calls_of}
 use Rattle.cm_results.specs.FirstFault.{fault, told_line, told_of, told}
 use Rattle.cm_results.proofs.Joined.{tables_have_results}
 use Rattle.cm_results.proofs.Faults.{refused_for_checks}
 use Rattle.cm_results.proofs.Changes.{tables_change}
 use Rattle.ck_commands.specs.Faults.{Fault, refusal_fault, unread_fault}
-use Rattle.ck_commands.specs.Outcome.{unless_fault, after_envelope, after_line, at_line, after_lines, Outcome, outcome_at, outcome_of, case_text, text_of, status_of}
-use Rattle.ck_commands.specs.Run.{Tells, TellsOrNoMemory}
+use Rattle.ck_commands.specs.Outcome.{unless_fault, after_envelope, at_line, after_lines, Outcome, outcome_at, outcome_of, case_text, text_of, status_of}
+use Rattle.ck_commands.specs.Run.{TellsOrNoMemory}
 use Rattle.ck_commands.specs.Answer.{Answer, results, bad_line, trouble, finding_of, IsAnswer, result_text, answer_text, answer_status, AnswersOrNoMemory}
 
 -- ---- the same words
@@ -59,53 +59,54 @@ flat_twice : {X Y : Type 0} (f : Y → List ℕ) (g : X → Y) (xs : List X) →
 flat_twice f g [] = refl
 flat_twice f g (x ∷ xs) = ap (λ ys. f (g x) ++ ys) (flat_twice f g xs)
 
-at_end : (before : List Envelope) (t : Table) → table_after (calls_of before) ≡ Some t → Shown (NoFault before) (outcome_at (Ok t) None)
-at_end before t taken = record {
+at_end : (first : ℕ) (before : List Envelope) (t : Table) → table_after first (calls_of before) ≡ Some t → Shown (NoFault before) (outcome_at (Ok t) None)
+at_end first before t taken = record {
   answer = results (map (λ c. (c.id, reported_of t c.id)) t.cases);
-  is = (tables_have_results before t taken).1;
+  is = (tables_have_results first before t taken).1;
   text = flat_twice (case_text t) (λ c. c.id) t.cases ∙ sym (flat_twice result_text (λ c. (c.id, reported_of t c.id)) t.cases);
   status = refl;
 }
 
-shown : (before : List Envelope) (n : ℕ) (t : Table) (ls : List (List ℕ)) (end : Option Trouble) → table_after (calls_of before) ≡ Some t → Shown (told_of before (n + 1) ls end) (outcome_at (after_lines n t ls) end)
-shown before n t [] (Some reason) taken = record { answer = trouble reason; is = refl; text = refl; status = refl }
-shown before n t [] None taken = at_end before t taken
-shown before n t (l ∷ ls) end taken = go (is_blank l) refl (shown before (n + 1) t ls end taken) (λ e u. shown (before ++ e ∷ []) (n + 1) u ls end)
+shown : (first : ℕ) (before : List Envelope) (n : ℕ) (t : Table) (ls : List (List ℕ)) (end : Option Trouble) → table_after first (calls_of before) ≡ Some t → Shown (told_of first before (n + 1) ls end) (outcome_at (after_lines n t ls) end)
+shown first before n t [] (Some reason) taken = record { answer = trouble reason; is = refl; text = refl; status = refl }
+shown first before n t [] None taken = at_end first before t taken
+shown first before n t (l ∷ ls) end taken = go (is_blank l) refl (shown first before (n + 1) t ls end taken) (λ e u. shown first (before ++ e ∷ []) (n + 1) u ls end)
   where
     on_fault : (e : Envelope) → (o : Option Fault) → option_and_then refusal_fault (refused t e) ≡ o
-        → ((u : Table) → table_after (calls_of (before ++ e ∷ [])) ≡ Some u → Shown (told_of (before ++ e ∷ []) (n + 1 + 1) ls end) (outcome_at (after_lines (n + 1) u ls) end))
-        → Shown (at_told (n + 1) (fault before e) (told_of (before ++ e ∷ []) (n + 1 + 1) ls end)) (outcome_at (at_line (n + 1) (unless_fault o (changed t e)) >>= λ next. after_lines (n + 1) next ls) end)
+        → ((u : Table) → table_after first (calls_of (before ++ e ∷ [])) ≡ Some u → Shown (told_of first (before ++ e ∷ []) (n + 1 + 1) ls end) (outcome_at (after_lines (n + 1) u ls) end))
+        → Shown (at_told (n + 1) (fault first before e) (told_of first (before ++ e ∷ []) (n + 1 + 1) ls end)) (outcome_at (at_line (n + 1) (unless_fault o (changed t e)) >>= λ next. after_lines (n + 1) next ls) end)
     on_fault e o k rec = by o k
       where
-        failed : (o : Option Fault) → option_and_then refusal_fault (refused t e) ≡ o → fault before e ≡ option_map finding_of o
-        failed o k = sym (refused_for_checks before t taken e) ∙ sym (told_is (refused t e)) ∙ ap (option_map finding_of) k
+        failed : (o : Option Fault) → option_and_then refusal_fault (refused t e) ≡ o → fault first before e ≡ option_map finding_of o
+        failed o k = sym (refused_for_checks first before t taken e) ∙ sym (told_is (refused t e)) ∙ ap (option_map finding_of) k
 
         by : (o : Option Fault) → option_and_then refusal_fault (refused t e) ≡ o
-            → Shown (at_told (n + 1) (fault before e) (told_of (before ++ e ∷ []) (n + 1 + 1) ls end)) (outcome_at (at_line (n + 1) (unless_fault o (changed t e)) >>= λ next. after_lines (n + 1) next ls) end)
+            → Shown (at_told (n + 1) (fault first before e) (told_of first (before ++ e ∷ []) (n + 1 + 1) ls end)) (outcome_at (at_line (n + 1) (unless_fault o (changed t e)) >>= λ next. after_lines (n + 1) next ls) end)
         by (Some f) k = rw (failed (Some f) k) (record { answer = bad_line (n + 1) f; is = (refl, refl); text = refl; status = refl })
-        by None k = rw (failed None k) (rec (changed t e) (tables_change before t taken e (failed None k)))
+        by None k = rw (failed None k) (rec (changed t e) (tables_change first before t taken e (failed None k)))
 
     on_read : (r : Result Envelope ReadingFault)
-        → ((e : Envelope) (u : Table) → table_after (calls_of (before ++ e ∷ [])) ≡ Some u → Shown (told_of (before ++ e ∷ []) (n + 1 + 1) ls end) (outcome_at (after_lines (n + 1) u ls) end))
-        → Shown (told_line before (n + 1) (Some r) (λ (now : List Envelope). told_of now (n + 1 + 1) ls end)) (outcome_at (at_line (n + 1) (after_envelope t r) >>= λ next. after_lines (n + 1) next ls) end)
+        → ((e : Envelope) (u : Table) → table_after first (calls_of (before ++ e ∷ [])) ≡ Some u → Shown (told_of first (before ++ e ∷ []) (n + 1 + 1) ls end) (outcome_at (after_lines (n + 1) u ls) end))
+        → Shown (told_line first before (n + 1) (Some r) (λ (now : List Envelope). told_of first now (n + 1 + 1) ls end)) (outcome_at (at_line (n + 1) (after_envelope t r) >>= λ next. after_lines (n + 1) next ls) end)
     on_read (Err b) rec = record { answer = bad_line (n + 1) (unread_fault b); is = (refl, unread_is b); text = refl; status = refl }
     on_read (Ok e) rec = on_fault e (option_and_then refusal_fault (refused t e)) refl (rec e)
 
-    go : (b : Bool) → is_blank l ≡ b → Shown (told_of before (n + 1 + 1) ls end) (outcome_at (after_lines (n + 1) t ls) end)
-        → ((e : Envelope) (u : Table) → table_after (calls_of (before ++ e ∷ [])) ≡ Some u → Shown (told_of (before ++ e ∷ []) (n + 1 + 1) ls end) (outcome_at (after_lines (n + 1) u ls) end))
-        → Shown (told_of before (n + 1) (l ∷ ls) end) (outcome_at (after_lines n t (l ∷ ls)) end)
+    go : (b : Bool) → is_blank l ≡ b → Shown (told_of first before (n + 1 + 1) ls end) (outcome_at (after_lines (n + 1) t ls) end)
+        → ((e : Envelope) (u : Table) → table_after first (calls_of (before ++ e ∷ [])) ≡ Some u → Shown (told_of first (before ++ e ∷ []) (n + 1 + 1) ls end) (outcome_at (after_lines (n + 1) u ls) end))
+        → Shown (told_of first before (n + 1) (l ∷ ls) end) (outcome_at (after_lines n t (l ∷ ls)) end)
     go true k skip rec = rw k skip
     go false k skip rec = rw k (on_read (envelope_of_line l) rec)
 
-outcome_shown : (bytes : List ℕ) → Shown (told bytes) (outcome_of bytes)
-outcome_shown bytes = shown [] 0 empty_table (fed bytes).lines (fed bytes).trouble refl
+module _ (first : ℕ) where
+  outcome_shown : (bytes : List ℕ) → Shown (told first bytes) (outcome_of first bytes)
+  outcome_shown bytes = shown first [] 0 (table_from first) (fed bytes).lines (fed bytes).trouble refl
 
-answer_one : (bytes : List ℕ) (status : ℕ) (b c : Option (List ℕ)) → TellsOrNoMemory (outcome_of bytes) status b c → AnswersOrNoMemory (told bytes) status b c
-answer_one bytes status b c (inl h) =
-    let s = outcome_shown bytes in
-    inl (s.answer, s.is, (h.0 ∙ s.status, subst (Appends b c) s.text h.1))
-answer_one bytes status b c (inr h) = inr h
+  answer_one : (bytes : List ℕ) (status : ℕ) (b c : Option (List ℕ)) → TellsOrNoMemory (outcome_of first bytes) status b c → AnswersOrNoMemory (told first bytes) status b c
+  answer_one bytes status b c (inl h) =
+      let s = outcome_shown bytes in
+      inl (s.answer, s.is, (h.0 ∙ s.status, subst (Appends b c) s.text h.1))
+  answer_one bytes status b c (inr h) = inr h
 
-pub answers_told : (a b c : Option (List ℕ)) (status : ℕ) → IfSome a (λ bytes. TellsOrNoMemory (outcome_of bytes) status b c) → IfSome a (λ bytes. AnswersOrNoMemory (told bytes) status b c)
-answers_told None b c status h = tt
-answers_told (Some bytes) b c status h = answer_one bytes status b c h
+  pub answers_told : (a b c : Option (List ℕ)) (status : ℕ) → IfSome a (λ bytes. TellsOrNoMemory (outcome_of first bytes) status b c) → IfSome a (λ bytes. AnswersOrNoMemory (told first bytes) status b c)
+  answers_told None b c status h = tt
+  answers_told (Some bytes) b c status h = answer_one bytes status b c h

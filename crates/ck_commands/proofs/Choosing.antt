@@ -1,11 +1,10 @@
 -- What a parse of the command line says of the choice.
-use Rattle.std.proofs.Common.{◌≡◌, ◌∙◌, List, [], ◌∷◌, Option, Some, None, Ok, Err, ℕ, true, false, bytes_eq, codes, option_map, refl, sym, ap, subst, inl, inr}
-use Rattle.clap.specs.Words.{App, Row, HasMatchesOf, Kinds, HasKind, Text, fault_of, first_of, is_simple, is_simple_and_free, kind_of, subcommand_of, subcommand_rows_of}
+use Rattle.std.proofs.Common.{◌≡◌, ◌∙◌, List, [], ◌∷◌, Option, Some, None, Ok, Err, true, option_map, refl, sym, ap, subst, inl, inr}
+use Rattle.clap.specs.Words.{App, HasMatchesOf, Kinds, HasKind, Text, fault_of, is_simple, is_simple_and_free, kind_of, subcommand_of, subcommand_rows_of}
 use Rattle.clap.specs.declared.error.Error.{Error}
 use Rattle.clap.specs.declared.error.kind.ErrorKind.TheVariants.{OutOfMemory}
 use Rattle.clap.specs.declared.parser.matches.ArgMatches.{ArgMatches}
-use Rattle.ck_commands.specs.CommandLine.{Chooses, Command, ask_audit, ask_compile, asked, policy_named, command_app, command_named, command_of, named, where_none}
-use Rattle.cm_attempt.specs.declared.policy.Policy.{Policy}
+use Rattle.ck_commands.specs.CommandLine.{Chooses, Command, asked, command_app, command_of, named, where_none}
 use Rattle.ck_commands.specs.declared.command_line.Choice.{Choice}
 use Rattle.ck_commands.specs.declared.command_line.Refusal.{Refusal}
 use Rattle.ck_commands.specs.declared.command_line.Refusal.TheVariants.{Memory}
@@ -52,24 +51,3 @@ chosen_some words found c is same = subst (λ o. Chooses o (Ok c)) (sym (ap (opt
 pub chosen_none : (words : List Text) (found : Option Choice) (r : Refusal) → found ≡ None → option_map asked found ≡ command_of words
     → Chooses (command_of words) (Err r)
 chosen_none words found r is same = subst (λ o. Chooses o (Err r)) (sym (ap (option_map asked) is) ∙ same) refl
-
--- the command of this name and these values is named
-pub named_as : (sub : Option (Text × List Row)) (name : Text) (rows : List Row) → Some name ≡ option_map (λ p. p.0) sub
-    → Some rows ≡ option_map (λ p. p.1) sub → named sub ≡ command_named name rows
-named_as None name rows n r = cc
-named_as (Some p) name rows n r =
-    let is_name : name ≡ p.0 = cc in
-    let are_rows : rows ≡ p.1 = cc in
-    rw (is_name, are_rows) refl
-
--- `compile` is named, with this uri or none
-pub named_compile : (sub : Option (Text × List Row)) (name : Text) (rows : List Row) (uri : Option (List ℕ)) → Some name ≡ option_map (λ p. p.0) sub
-    → Some rows ≡ option_map (λ p. p.1) sub → bytes_eq name (codes "parse") ≡ false → bytes_eq name (codes "compile") ≡ true
-    → first_of (codes "uri") rows ≡ uri → named sub ≡ option_map ask_compile uri
-named_compile sub name rows uri n r other is value = named_as sub name rows n r ∙ rw (other, is, value) refl
-
--- `audit` is named, with this policy
-pub named_audit : (sub : Option (Text × List Row)) (name : Text) (rows : List Row) (policy : Policy) → Some name ≡ option_map (λ p. p.0) sub
-    → Some rows ≡ option_map (λ p. p.1) sub → bytes_eq name (codes "parse") ≡ false → bytes_eq name (codes "compile") ≡ false → bytes_eq name (codes "audit") ≡ true
-    → policy_named (first_of (codes "pending-passes") rows) ≡ policy → named sub ≡ Some (ask_audit policy)
-named_audit sub name rows policy n r not_parse not_compile is value = named_as sub name rows n r ∙ rw (not_parse, not_compile, is, value) refl

@@ -1,9 +1,9 @@
 -- What the command `audit` tells: a verdict's text and status.
-use Rattle.std.specs.Prelude.{◌≡◌, ◌⊎◌, ℕ, List, [], ◌∷◌, ◌++◌, Option, codes, decimal, Bool, true, false, ◌==◌, if◌then◌else◌}
+use Rattle.std.specs.Prelude.{◌≡◌, ◌⊎◌, ℕ, List, [], ◌∷◌, ◌++◌, Option, codes, decimal, ◌==◌, if◌then◌else◌}
 use Rattle.std.specs.Io.KnownBytes.{Appends}
 use Rattle.cm_envelope.specs.Lines.{line_feed}
 use Rattle.cm_envelope.specs.declared.feed.Trouble.TheVariants.{Memory}
-use Rattle.cm_attempt.specs.declared.policy.Policy.{Policy}
+use Rattle.cm_attempt.specs.declared.settings.Settings.{Settings}
 use Rattle.cm_stream.specs.Findings as bad
 use Rattle.cm_stream.specs.Findings.{Fault, Finding, IsBad, IsUnsupported}
 use Rattle.cm_stream.specs.Stream.{Answer, GoodWith, Found, Failed, IsGoodStream}
@@ -60,7 +60,7 @@ abbrev pub counts_text : Counts → List ℕ
 counts_text c = plain_counts_text c ++ unrun_text c.unrun ++ line_feed ∷ []
 
 abbrev pub verdict_text : Answer → List ℕ
-verdict_text (GoodWith c) = counts_text c
+verdict_text (GoodWith c success) = counts_text c
 verdict_text (Found n f) = finding_text n f
 verdict_text (Failed t) = codes "trouble " ++ trouble_name t ++ line_feed ∷ []
 
@@ -69,7 +69,7 @@ finding_status (IsBad f) = 1
 finding_status (IsUnsupported r) = 4
 
 abbrev pub verdict_status : Answer → ℕ
-verdict_status (GoodWith c) = 0
+verdict_status (GoodWith c success) = 0
 verdict_status (Found n f) = finding_status f
 verdict_status (Failed t) = 3
 
@@ -81,6 +81,6 @@ TellsAnswer a status old new = (status ≡ verdict_status a) × Appends old new 
 abbrev pub TellsVerdict : Answer → ℕ → Option (List ℕ) → Option (List ℕ) → Type 0
 TellsVerdict a status old new = TellsAnswer a status old new ⊎ TellsAnswer (Failed Memory) status old new
 
--- a good stream by the policy, whatever its counts
-abbrev pub IsGoodSomehow : Policy → List ℕ → Type 0
-IsGoodSomehow policy bytes = (counts : Counts) × IsGoodStream policy bytes counts
+-- a good stream by the settings, whatever its counts
+abbrev pub IsGoodSomehow : Settings → List ℕ → Type 0
+IsGoodSomehow settings bytes = (counts : Counts) × IsGoodStream settings bytes counts

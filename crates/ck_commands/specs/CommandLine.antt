@@ -1,82 +1,141 @@
 -- The command line `cukecheck COMMAND`, as the crate `clap` reads it.
-use Rattle.std.specs.Prelude.{◌≡◌, true, ℕ, List, [], ◌∷◌, Option, Some, None, Result, Ok, Err, IsErr, codes}
+use Rattle.std.specs.Prelude.{◌≡◌, true, false, ℕ, Bool, List, [], ◌∷◌, Option, Some, None, Result, Ok, Err, IsErr, codes}
 use Rattle.std.specs.Prelude.{if◌then◌else◌, option_and_then, option_map}
+use Rattle.std.specs.Option.{option_map_or}
 use Rattle.std.specs.Str.{bytes_eq}
 use Rattle.clap.specs.Words.{App, Row, Rule, Text, fault_of, first_of, new_app, new_rule, subcommand_of, with_rule, with_subcommand}
 use Rattle.clap.specs.Simple.{on_top}
 use Rattle.clap.specs.declared.builder.action.ArgAction.TheVariants.{Set, SetTrue}
 use Rattle.cm_attempt.specs.declared.policy.Policy.{Policy}
 use Rattle.cm_attempt.specs.declared.policy.Policy.TheVariants.{Strict, PendingPasses}
+use Rattle.cm_attempt.specs.declared.settings.Settings.{Settings}
 use Rattle.ck_commands.specs.declared.command_line.Choice.{Choice}
 use Rattle.ck_commands.specs.declared.command_line.Choice.TheVariants as choice
 use Rattle.ck_commands.specs.declared.command_line.Refusal.{Refusal}
 use Rattle.ck_commands.specs.declared.command_line.Refusal.TheVariants as refusal
 
--- what the words may ask for; `compile` has its uri
+-- what the words may ask for; `compile` has its uri, `results` the number of each case's first attempt, `gate` whether it
+-- lets a run pass that has pickles without a case
 pub data Command : Type 0 where
   ask_parse : Command
   ask_compile : List ℕ → Command
-  ask_audit : Policy → Command
-  ask_results : Command
+  ask_audit : Settings → Command
+  ask_gate : Settings → Bool → Command
+  ask_results : ℕ → Command
 
 -- the command, as the code holds it
 abbrev pub asked : Choice → Command
 asked choice.Parse = ask_parse
 asked (choice.Compile uri) = ask_compile uri.now
-asked (choice.Audit policy) = ask_audit policy
-asked choice.Results = ask_results
+asked (choice.Audit settings) = ask_audit settings
+asked (choice.Gate settings allows_unrun) = ask_gate settings allows_unrun
+asked (choice.Results first_attempt) = ask_results first_attempt
 
--- `--uri URI`, which must be given
+-- `--uri URI`, which must be given; its value has one name
 abbrev pub uri_rule : Rule
 uri_rule = record (new_rule (codes "uri")) {
   long = Some (codes "uri");
+  value_names = 1;
   required = true;
   action = Some Set;
 }
 
--- `--pending-passes`, which takes no value
-abbrev pub pending_rule : Rule
-pending_rule = record (new_rule (codes "pending-passes")) { long = Some (codes "pending-passes"); action = Some SetTrue }
+-- `--attempts-from N`; its value has one name
+abbrev pub attempts_rule : Rule
+attempts_rule = record (new_rule (codes "attempts-from")) {
+  long = Some (codes "attempts-from");
+  value_names = 1;
+  action = Some Set;
+}
 
+-- a flag, which takes no value
+abbrev pub flag_rule : Text → Rule
+flag_rule name = record (new_rule name) { long = Some name; action = Some SetTrue }
+
+abbrev pub pending_rule : Rule
+pending_rule = flag_rule (codes "pending-passes")
+
+abbrev pub unrun_rule : Rule
+unrun_rule = flag_rule (codes "allow-unrun")
+
+-- the command `compile --uri URI`
+abbrev pub compile_command : App
+compile_command = with_rule (new_app (codes "compile")) uri_rule
+
+-- the command `audit [--pending-passes] [--attempts-from N]`
+abbrev pub audit_command : App
+audit_command = with_rule (with_rule (new_app (codes "audit")) pending_rule) attempts_rule
+
+-- the command `gate [--allow-unrun] [--pending-passes] [--attempts-from N]`
+abbrev pub gate_command : App
+gate_command = with_rule (with_rule (with_rule (new_app (codes "gate")) unrun_rule) pending_rule) attempts_rule
+
+-- the command `results [--attempts-from N]`
+abbrev pub results_command : App
+results_command = with_rule (new_app (codes "results")) attempts_rule
+
+-- the program, which has a version and wants a command
 abbrev pub bare_app : App
-bare_app = on_top (λ s. record s { subcommand_required = true }) (new_app (codes "cukecheck"))
+bare_app = on_top (λ s. record s { has_version = true; subcommand_required = true }) (new_app (codes "cukecheck"))
 
 -- the program with its command `parse`
 abbrev pub parse_app : App
 parse_app = with_subcommand bare_app (new_app (codes "parse")).top
 
--- the command `compile --uri URI`
-abbrev pub uri_app : App
-uri_app = with_rule (new_app (codes "compile")) uri_rule
-
--- the program with its commands `parse` and `compile --uri URI`
+-- the program with its commands up to `compile`
 abbrev pub compile_app : App
-compile_app = with_subcommand parse_app uri_app.top
+compile_app = with_subcommand parse_app compile_command.top
 
--- the command `audit`, with its flag
-abbrev pub pending_app : App
-pending_app = with_rule (new_app (codes "audit")) pending_rule
-
--- the program with its commands `parse`, `compile --uri URI` and `audit`
+-- the program with its commands up to `audit`
 abbrev pub audit_app : App
-audit_app = with_subcommand compile_app pending_app.top
+audit_app = with_subcommand compile_app audit_command.top
 
--- the program with all its commands: `parse`, `compile --uri URI`, `audit` and `results`
+-- the program with its commands up to `gate`
+abbrev pub gate_app : App
+gate_app = with_subcommand audit_app gate_command.top
+
+-- the program with all its commands: `parse`, `compile`, `audit`, `gate` and `results`
 abbrev pub command_app : App
-command_app = with_subcommand audit_app (new_app (codes "results")).top
+command_app = with_subcommand gate_app results_command.top
+
+-- a flag is given where its text is `true`
+abbrev pub is_given : Option Text → Bool
+is_given text = option_map_or (λ t. bytes_eq t (codes "true")) text false
 
 -- the policy that the flag's text asks for
 abbrev pub policy_named : Option Text → Policy
-policy_named None = Strict
-policy_named (Some text) = if bytes_eq text (codes "true") then PendingPasses else Strict
+policy_named text = if is_given text then PendingPasses else Strict
+
+-- the number of each case's first attempt: the option's text is exactly `0` or `1`, and it is 0 where the option isn't given
+abbrev pub first_attempt_named : Option Text → Option ℕ
+first_attempt_named None = Some 0
+first_attempt_named (Some text) =
+    if bytes_eq text (codes "0") then Some 0
+    else if bytes_eq text (codes "1") then Some 1
+    else None
+
+-- the number and the policy that the values behind a command ask for
+abbrev pub first_attempt_in : List Row → Option ℕ
+first_attempt_in rows = first_attempt_named (first_of (codes "attempts-from") rows)
+
+abbrev pub policy_in : List Row → Policy
+policy_in rows = policy_named (first_of (codes "pending-passes") rows)
+
+abbrev pub settings_in : List Row → Option Settings
+settings_in rows = option_map (λ n. record { policy = policy_in rows; first_attempt = n }) (first_attempt_in rows)
+
+-- whether pickles without a case may pass
+abbrev pub allows_unrun_in : List Row → Bool
+allows_unrun_in rows = is_given (first_of (codes "allow-unrun") rows)
 
 -- the command of this name, with the values that stand behind it
 abbrev pub command_named : Text → List Row → Option Command
 command_named name rows =
     if bytes_eq name (codes "parse") then Some ask_parse
     else if bytes_eq name (codes "compile") then option_map ask_compile (first_of (codes "uri") rows)
-    else if bytes_eq name (codes "audit") then Some (ask_audit (policy_named (first_of (codes "pending-passes") rows)))
-    else if bytes_eq name (codes "results") then Some ask_results
+    else if bytes_eq name (codes "audit") then option_map ask_audit (settings_in rows)
+    else if bytes_eq name (codes "gate") then option_map (λ s. ask_gate s (allows_unrun_in rows)) (settings_in rows)
+    else if bytes_eq name (codes "results") then option_map ask_results (first_attempt_in rows)
     else None
 
 abbrev pub named : Option (Text × List Row) → Option Command

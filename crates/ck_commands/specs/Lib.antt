@@ -8,3 +8,4 @@ pub mod Run
 pub mod Statuses
 pub mod Texts
 pub mod Audited
+pub mod Gated

@@ -8,7 +8,7 @@ use Rattle.cm_envelope.specs.declared.envelope.Envelope.{Envelope}
 use Rattle.cm_envelope.specs.declared.feed.Trouble.{Trouble}
 use Rattle.cm_envelope.specs.declared.feed.Trouble.TheVariants.{ReadFailed, LineTooLong, StreamTooLong, Memory}
 use Rattle.cm_envelope.specs.declared.feed.TheConstants.{LINE_LIMIT, STREAM_LIMIT}
-use Rattle.cm_attempt.specs.Table.{Table, empty_table, reported_of}
+use Rattle.cm_attempt.specs.Table.{Table, reported_of, table_from}
 use Rattle.ck_commands.specs.Faults.{Fault, label, refusal_fault, unread_fault}
 use Rattle.cm_stream.specs.Refusals.{refused}
 use Rattle.cm_stream.specs.Seen.{changed}
@@ -52,11 +52,11 @@ outcome_at (Err bad) end = bad_line bad.0 bad.1
 outcome_at (Ok t) (Some reason) = trouble reason
 outcome_at (Ok t) None = table t
 
--- the outcome of the bytes of a stream
-abbrev pub outcome_of : List ℕ → Outcome
-outcome_of bytes =
+-- the outcome of the bytes of a stream, in which the first attempt of each case has the first number
+abbrev pub outcome_of : (first : ℕ) → List ℕ → Outcome
+outcome_of first bytes =
     let fed = feed bytes LINE_LIMIT STREAM_LIMIT in
-    outcome_at (after_lines 0 empty_table fed.lines) fed.trouble
+    outcome_at (after_lines 0 (table_from first) fed.lines) fed.trouble
 
 -- ---- its text and status
 

@@ -1,8 +1,8 @@
 //! The command `audit`: the verdict on a stream.
 ghost use Rattle.std.specs.Prelude.{◌≡◌, ◌≢◌, IfOk, IfSome, string_bytes};
-ghost use Rattle.cm_stream.specs.Findings.{named};
+ghost use Rattle.cm_stream.specs.Findings.{IsBad, IsUnsupported, named};
 ghost use Rattle.cm_stream.specs.Stream.{answer_for, answered, told};
-ghost use Rattle.ck_commands.specs.Audited.{IsGoodSomehow, TellsVerdict, counts_text, fault_label, plain_counts_text};
+ghost use Rattle.ck_commands.specs.Audited.{IsGoodSomehow, TellsVerdict, counts_text, fault_label, finding_text, plain_counts_text};
 ghost use Rattle.ck_commands.specs.Audited.{reason_label};
 ghost use Rattle.cm_stream.specs.Findings as bad;
 ghost use Rattle.ck_commands.specs.Audited.{unrun_text, verdict_status, verdict_text};
@@ -10,10 +10,10 @@ ghost use Rattle.ck_commands.specs.Run.{NoneFailed};
 
 use crate::report::{BAD_LINE_STATUS, Report, trouble_text};
 use crate::write::{NO_MEMORY, TROUBLE_STATUS, write_text};
-use cm_attempt::Policy;
-use cm_audit::audit_with;
+use cm_attempt::Settings;
+use cm_audit::audit_run;
 use cm_envelope::{ByteSink, ByteSource, Trouble};
-use cm_stream::{Bad, Counts, Reason, Verdict};
+use cm_stream::{Audited, Bad, Counts, Reason, Verdict};
 use std::alloc::{AllocError, Global};
 
 /// The status where a stream is not judged.
@@ -107,7 +107,7 @@ fn good_text(alloc: Global, counts: Counts) -> Result<String, AllocError>
 }
 
 fn bad_text(alloc: Global, line: u64, fault: Bad) -> Result<String, AllocError>
-    ensures { IfOk result (λ text. string_bytes text ≡ verdict_text (answered (Ok (Verdict.Bad line fault)))) }
+    ensures { IfOk result (λ text. string_bytes text ≡ finding_text line (IsBad (named fault))) }
 {
     let label = fault_text(alloc, fault)?;
     let text = format!(in alloc; "bad line {line}: {label}\n")?;
@@ -115,7 +115,7 @@ fn bad_text(alloc: Global, line: u64, fault: Bad) -> Result<String, AllocError>
 }
 
 fn unsupported_text(alloc: Global, line: u64, reason: Reason) -> Result<String, AllocError>
-    ensures { IfOk result (λ text. string_bytes text ≡ verdict_text (answered (Ok (Verdict.Unsupported line reason)))) }
+    ensures { IfOk result (λ text. string_bytes text ≡ finding_text line (IsUnsupported reason)) }
 {
     let label = reason_name(reason);
     let text = format!(in alloc; "unsupported line {line}: {label}\n")?;
@@ -123,31 +123,38 @@ fn unsupported_text(alloc: Global, line: u64, reason: Reason) -> Result<String, 
 }
 
 /// The text that tells what an audit answered.
-fn verdict_words(alloc: Global, answer: &Result<Verdict, Trouble>) -> Result<String, AllocError>
+fn verdict_words(alloc: Global, answer: &Result<Audited, Trouble>) -> Result<String, AllocError>
     ensures { IfOk result (λ text. string_bytes text ≡ verdict_text (answered answer.now)) }
 {
     match answer {
-        Ok(Verdict::Good(counts)) => good_text(alloc, *counts),
-        Ok(Verdict::Bad { line, fault }) => bad_text(alloc, *line, *fault),
-        Ok(Verdict::Unsupported { line, reason }) => unsupported_text(alloc, *line, *reason),
+        Ok(audited) => match audited.verdict {
+            Verdict::Good(counts) => good_text(alloc, counts),
+            Verdict::Bad { line, fault } => bad_text(alloc, line, fault),
+            Verdict::Unsupported { line, reason } => unsupported_text(alloc, line, reason),
+        },
         Err(trouble) => trouble_text(alloc, *trouble),
     }
 }
 
 /// The status of what an audit answered.
-fn verdict_code(answer: &Result<Verdict, Trouble>) -> u8
+fn verdict_code(answer: &Result<Audited, Trouble>) -> u8
     ensures { result ≡ verdict_status (answered answer.now) }
 {
     match answer {
-        Ok(Verdict::Good(_)) => 0,
-        Ok(Verdict::Bad { .. }) => BAD_LINE_STATUS,
-        Ok(Verdict::Unsupported { .. }) => UNSUPPORTED_STATUS,
+        Ok(audited) => match audited.verdict {
+            Verdict::Good(_) => 0,
+            Verdict::Bad { .. } => BAD_LINE_STATUS,
+            Verdict::Unsupported { .. } => UNSUPPORTED_STATUS,
+        },
         Err(_) => TROUBLE_STATUS,
     }
 }
 
 /// The report of what an audit answered.
-fn verdict_report(alloc: Global, answer: &Result<Verdict, Trouble>) -> Result<Report, AllocError>
+pub(crate) fn verdict_report(
+    alloc: Global,
+    answer: &Result<Audited, Trouble>,
+) -> Result<Report, AllocError>
     ensures text { IfOk result (λ report. string_bytes report.text ≡ verdict_text (answered answer.now)) }
     ensures status { IfOk result (λ report. report.status ≡ verdict_status (answered answer.now)) }
 {
@@ -156,22 +163,22 @@ fn verdict_report(alloc: Global, answer: &Result<Verdict, Trouble>) -> Result<Re
     Ok(Report { text, status })
 }
 
-/// Audits the source by a policy of good statuses and tells the verdict, and gives the status.
+/// Audits the source by the settings and tells the verdict, and gives the status.
 pub(crate) fn audit_stream<R: ByteSource, W: ByteSink>(
     alloc: Global,
-    policy: Policy,
+    settings: Settings,
     source: &mut R,
     sink: &mut W,
 ) -> u8
     ensures told { NoneFailed (R.failed_calls source.old) (R.failed_calls source.new)
         → NoneFailed (W.failed_calls sink.old) (W.failed_calls sink.new)
         → IfSome (R.to_come source.old) (λ bytes.
-        TellsVerdict (answer_for (told policy bytes)) result (W.taken sink.old) (W.taken sink.new)) }
-    ensures good { result ≡ 0 → IfSome (R.to_come source.old) (IsGoodSomehow policy) }
+        TellsVerdict (answer_for (told settings bytes)) result (W.taken sink.old) (W.taken sink.new)) }
+    ensures good { result ≡ 0 → IfSome (R.to_come source.old) (IsGoodSomehow settings) }
     ensures unwritten { W.failed_calls sink.new ≢ W.failed_calls sink.old → result ≡ TROUBLE_STATUS }
     ensures unread { result ≡ 0 → R.failed_calls source.new ≡ R.failed_calls source.old }
 {
-    let answer = audit_with(alloc, source, policy);
+    let answer = audit_run(alloc, source, settings);
     match verdict_report(alloc, &answer) {
         Ok(report) => write_text(sink, report.text.as_str(), report.status),
         Err(AllocError) => write_text(sink, NO_MEMORY, TROUBLE_STATUS),

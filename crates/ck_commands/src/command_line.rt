@@ -1,12 +1,16 @@
 //! The command line: what the words after the program's name ask for.
 ghost use Rattle.std.specs.Prelude.{◌≡◌, IfOk, codes, false, map, option_map};
-ghost use Rattle.clap.specs.Words.{app_of, found_of, kind_of, rule_of, subcommand_rows_of};
-ghost use Rattle.clap.specs.Matches.{first_value};
-ghost use Rattle.ck_commands.specs.CommandLine.{Chooses, asked, command_app, command_of, named, pending_rule, policy_named, uri_rule};
+ghost use Rattle.clap.specs.Words.{app_of, first_of, found_of, kind_of, new_app, rows_of, rule_of, subcommand_rows_of};
+ghost use Rattle.clap.specs.declared.builder.command.Command.TheViews.{out-Command as fields_of};
+ghost use Rattle.ck_commands.specs.CommandLine.{Chooses, allows_unrun_in, asked, attempts_rule, audit_command, bare_app};
+ghost use Rattle.ck_commands.specs.CommandLine.{command_app, command_named, command_of, compile_command, first_attempt_in};
+ghost use Rattle.ck_commands.specs.CommandLine.{flag_rule, gate_command, is_given, named, policy_in, results_command};
+ghost use Rattle.ck_commands.specs.CommandLine.{settings_in, uri_rule};
 
+use crate::help;
 use clap::error::ErrorKind;
 use clap::{Arg, ArgAction, ArgMatches, Command, Error};
-use cm_attempt::Policy;
+use cm_attempt::{Policy, Settings};
 use std::alloc::{AllocError, Global};
 
 /// What the words ask for.
@@ -16,10 +20,13 @@ pub(crate) enum Choice<'a> {
     Parse,
     /// The message lines of a feature file, with its uri.
     Compile(&'a str),
-    /// The verdict on a stream, by a policy of good statuses.
-    Audit(Policy),
-    /// The table of the test cases of a stream.
-    Results,
+    /// The verdict on a stream, by these settings.
+    Audit(Settings),
+    /// The verdict on a stream, and whether its run is to be released; the second says whether a run passes that has
+    /// pickles without a test case.
+    Gate(Settings, bool),
+    /// The table of the test cases of a stream, with the number of each test case's first attempt.
+    Results(u64),
 }
 
 /// Why the words give no choice.
@@ -27,10 +34,18 @@ pub(crate) enum Choice<'a> {
 pub(crate) enum Refusal {
     /// A mistake in the words, with the text for the user.
     Usage(String),
-    /// A call for help, with its text.
+    /// A call for help or for the version, with its text.
     Help(String),
     /// There was no memory.
     Memory,
+}
+
+// The argument, of whose value the help says its name and what it is.
+fn explained<'a>(arg: Arg<'a>, value: &'a str, text: &'a str) -> Arg<'a>
+    ensures rule { rule_of result ≡ record (rule_of arg.entry) { value_names = 1 } }
+    ensures local { result.global ≡ arg.entry.global }
+{
+    arg.help(text).value_name(value)
 }
 
 // The argument `--uri URI`, which must be given.
@@ -38,46 +53,100 @@ fn uri_argument<'a>(alloc: Global) -> Arg<'a>
     ensures rule { rule_of result ≡ uri_rule }
     ensures local { result.global ≡ false }
 {
-    Arg::new(alloc, "uri")
+    let uri = Arg::new(alloc, "uri")
         .long("uri")
         .required(true)
-        .action(ArgAction::Set)
+        .action(ArgAction::Set);
+    explained(uri, "URI", help::URI)
 }
 
-// The flag `--pending-passes`.
-fn pending_argument<'a>(alloc: Global) -> Arg<'a>
-    ensures rule { rule_of result ≡ pending_rule }
+// The argument `--attempts-from N`.
+fn attempts_argument<'a>(alloc: Global) -> Arg<'a>
+    ensures rule { rule_of result ≡ attempts_rule }
     ensures local { result.global ≡ false }
 {
-    Arg::new(alloc, "pending-passes")
-        .long("pending-passes")
-        .action(ArgAction::SetTrue)
+    let attempts_from = Arg::new(alloc, "attempts-from")
+        .long("attempts-from")
+        .action(ArgAction::Set);
+    explained(attempts_from, "N", help::ATTEMPTS_FROM)
 }
 
-// The policy that the values behind `audit` ask for.
-fn policy_of<'a>(values: &ArgMatches<'a>) -> Policy
-    ensures { result ≡ policy_named (first_value (found_of values.now) (codes "pending-passes")) }
+// A flag, with what its help says.
+fn flag<'a>(alloc: Global, name: &'a str, text: &'a str) -> Arg<'a>
+    ensures rule { rule_of result ≡ flag_rule name.entry.now }
+    ensures local { result.global ≡ false }
 {
-    match values.get_str("pending-passes") {
-        Some(text) => if text == "true" {
-            Policy::PendingPasses
-        } else {
-            Policy::Strict
-        },
-        None => Policy::Strict,
-    }
+    Arg::new(alloc, name)
+        .long(name)
+        .action(ArgAction::SetTrue)
+        .help(text)
 }
 
+// A command with no argument so far. Its help says what it is about, and more behind its options.
+fn new_command<'a>(alloc: Global, name: &'a str, about: &'a str, more: &'a str) -> Command<'a>
+    ensures app { app_of result ≡ new_app name.entry.now }
+    ensures local { (fields_of result).has_globals ≡ false }
+{
+    Command::new(alloc, name).about(about).after_help(more)
+}
+
+// `compile --uri URI`.
+fn compile_command<'a>(alloc: Global) -> Result<Command<'a>, AllocError>
+    ensures app { IfOk result (λ c. app_of c ≡ compile_command) }
+    ensures local { IfOk result (λ c. (fields_of c).has_globals ≡ false) }
+{
+    new_command(alloc, "compile", help::COMPILE, help::AFTER_COMPILE).arg(uri_argument(alloc))
+}
+
+// `audit [--pending-passes] [--attempts-from N]`.
+fn audit_command<'a>(alloc: Global) -> Result<Command<'a>, AllocError>
+    ensures app { IfOk result (λ c. app_of c ≡ audit_command) }
+    ensures local { IfOk result (λ c. (fields_of c).has_globals ≡ false) }
+{
+    new_command(alloc, "audit", help::AUDIT, help::AFTER_AUDIT)
+        .arg(flag(alloc, "pending-passes", help::PENDING_PASSES))?
+        .arg(attempts_argument(alloc))
+}
+
+// `gate [--allow-unrun] [--pending-passes] [--attempts-from N]`.
+fn gate_command<'a>(alloc: Global) -> Result<Command<'a>, AllocError>
+    ensures app { IfOk result (λ c. app_of c ≡ gate_command) }
+    ensures local { IfOk result (λ c. (fields_of c).has_globals ≡ false) }
+{
+    new_command(alloc, "gate", help::GATE, help::AFTER_GATE)
+        .arg(flag(alloc, "allow-unrun", help::ALLOW_UNRUN))?
+        .arg(flag(alloc, "pending-passes", help::PENDING_PASSES))?
+        .arg(attempts_argument(alloc))
+}
+
+// `results [--attempts-from N]`.
+fn results_command<'a>(alloc: Global) -> Result<Command<'a>, AllocError>
+    ensures app { IfOk result (λ c. app_of c ≡ results_command) }
+    ensures local { IfOk result (λ c. (fields_of c).has_globals ≡ false) }
+{
+    new_command(alloc, "results", help::RESULTS, help::AFTER_RESULTS).arg(attempts_argument(alloc))
+}
+
+// The program with no command so far.
+fn bare_command<'a>(alloc: Global) -> Command<'a>
+    ensures { app_of result ≡ bare_app }
+{
+    new_command(alloc, "cukecheck", help::PROGRAM, help::AFTER_PROGRAM)
+        .version(help::VERSION)
+        .subcommand_required(true)
+}
+
+// The command line: one of the commands is required.
 fn command<'a>(alloc: Global) -> Result<Command<'a>, AllocError>
     ensures { IfOk result (λ c. app_of c ≡ command_app) }
 {
-    let bare = Command::new(alloc, "cukecheck").subcommand_required(true);
-    let with_parse = bare.subcommand(Command::new(alloc, "parse"))?;
-    let compile = Command::new(alloc, "compile").arg(uri_argument(alloc))?;
-    let with_compile = with_parse.subcommand(compile)?;
-    let audit = Command::new(alloc, "audit").arg(pending_argument(alloc))?;
-    let with_audit = with_compile.subcommand(audit)?;
-    with_audit.subcommand(Command::new(alloc, "results"))
+    let bare = bare_command(alloc);
+    let parse = new_command(alloc, "parse", help::PARSE, help::AFTER_PARSE);
+    let with_parse = bare.subcommand(parse)?;
+    let with_compile = with_parse.subcommand(compile_command(alloc)?)?;
+    let with_audit = with_compile.subcommand(audit_command(alloc)?)?;
+    let with_gate = with_audit.subcommand(gate_command(alloc)?)?;
+    with_gate.subcommand(results_command(alloc)?)
 }
 
 fn refusal_of(alloc: Global, error: &Error) -> Refusal
@@ -96,23 +165,96 @@ fn refusal_of(alloc: Global, error: &Error) -> Refusal
     }
 }
 
-fn chosen<'a>(matches: &ArgMatches<'a>) -> Option<Choice<'a>>
-    ensures { option_map asked result ≡ named (subcommand_rows_of matches.now) }
+// The text behind an option or a flag.
+fn text_of<'a>(values: &ArgMatches<'a>, name: &str) -> Option<&'a str>
+    ensures { option_map (λ s. s.now) result ≡ first_of name.now (rows_of (found_of values.now)) }
 {
-    let (name, values) = matches.subcommand()?;
+    values.get_str(name)
+}
+
+// Whether the flag of this name is given.
+fn has_flag<'a>(values: &ArgMatches<'a>, name: &str) -> bool
+    ensures { result ≡ is_given (first_of name.now (rows_of (found_of values.now))) }
+{
+    match text_of(values, name) {
+        Some(text) => text == "true",
+        None => false,
+    }
+}
+
+// The policy that the values behind a command ask for.
+fn policy_in<'a>(values: &ArgMatches<'a>) -> Policy
+    ensures { result ≡ policy_in (rows_of (found_of values.now)) }
+{
+    if has_flag(values, "pending-passes") {
+        Policy::PendingPasses
+    } else {
+        Policy::Strict
+    }
+}
+
+// The number of each test case's first attempt: 0 where the option isn't given, and None where its value is neither 0 nor 1.
+fn first_attempt_in<'a>(values: &ArgMatches<'a>) -> Option<u64>
+    ensures { result ≡ first_attempt_in (rows_of (found_of values.now)) }
+{
+    match text_of(values, "attempts-from") {
+        None => Some(0),
+        Some(text) => if text == "0" {
+            Some(0)
+        } else if text == "1" {
+            Some(1)
+        } else {
+            None
+        },
+    }
+}
+
+// The settings that the values behind a command ask for.
+fn settings_in<'a>(values: &ArgMatches<'a>) -> Option<Settings>
+    ensures { result ≡ settings_in (rows_of (found_of values.now)) }
+{
+    let first_attempt = first_attempt_in(values)?;
+    Some(Settings {
+        policy: policy_in(values),
+        first_attempt,
+    })
+}
+
+// The command of this name, with the values that stand behind it.
+fn choice_named<'a>(name: &str, values: &ArgMatches<'a>) -> Option<Choice<'a>>
+    ensures { option_map asked result ≡ command_named name.now (rows_of (found_of values.now)) }
+{
     if name == "parse" {
         return Some(Choice::Parse);
     }
     if name == "compile" {
-        return Some(Choice::Compile(values.get_str("uri")?));
+        return Some(Choice::Compile(text_of(values, "uri")?));
     }
     if name == "audit" {
-        return Some(Choice::Audit(policy_of(values)));
+        return Some(Choice::Audit(settings_in(values)?));
+    }
+    if name == "gate" {
+        return Some(Choice::Gate(settings_in(values)?, has_flag(values, "allow-unrun")));
     }
     if name == "results" {
-        return Some(Choice::Results);
+        return Some(Choice::Results(first_attempt_in(values)?));
     }
     None
+}
+
+fn chosen<'a>(matches: &ArgMatches<'a>) -> Option<Choice<'a>>
+    ensures { option_map asked result ≡ named (subcommand_rows_of matches.now) }
+{
+    let (name, values) = matches.subcommand()?;
+    choice_named(name, values)
+}
+
+// The words are a command's, but for the value of `--attempts-from`.
+fn wrong_attempts(alloc: Global) -> Refusal {
+    match String::from_str(alloc, help::WRONG_ATTEMPTS) {
+        Ok(text) => Refusal::Usage(text),
+        Err(AllocError) => Refusal::Memory,
+    }
 }
 
 /// Reads the words, of which the first is the program's name.
@@ -128,7 +270,7 @@ pub(crate) fn choose<'a>(alloc: Global, words: &'a [&'a str]) -> Result<Choice<'
     match command.try_get_matches_from(words) {
         Ok(matches) => match chosen(&matches) {
             Some(choice) => Ok(choice),
-            None => Err(Refusal::Usage(String::new(alloc))),
+            None => Err(wrong_attempts(alloc)),
         },
         Err(error) => Err(refusal_of(alloc, &error)),
     }

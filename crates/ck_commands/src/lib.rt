@@ -6,6 +6,8 @@ mod command_line;
 mod compiled;
 mod fault;
 mod feature;
+mod gated;
+mod help;
 mod parsed;
 mod report;
 mod running;

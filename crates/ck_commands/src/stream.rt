@@ -125,6 +125,7 @@ fn add_case(alloc: Global, cases: &mut Cases, case: TestCase) -> Result<(), Line
 {
     let TestCase { id, test_steps, .. } = case;
     let steps = step_ids(alloc, test_steps)?;
+    cases.ids.reserve(1)?;
     cases.track.add_case(id.as_str(), steps.as_slice())?;
     cases.ids.push(id)?;
     Ok(())
@@ -219,18 +220,22 @@ fn take_line(alloc: Global, cases: &mut Cases, line: &[u8]) -> Result<(), LineSt
     }
 }
 
-/// Reads all lines of a stream.
+/// Reads all lines of a stream, in which the first attempt of each test case has the number `first_attempt`.
 ///
 /// # Errors
 /// The first line with a fault, or why no further line could be read. No read is repeated.
-pub(crate) fn read_stream<S: ByteSource>(alloc: Global, source: &mut S) -> Result<Cases, Stop>
-    ensures outcome { IfSome (S.to_come source.old) (λ bytes. HasOutcome (outcome_of bytes) result) }
+pub(crate) fn read_stream<S: ByteSource>(
+    alloc: Global,
+    first_attempt: u64,
+    source: &mut S,
+) -> Result<Cases, Stop>
+    ensures outcome { IfSome (S.to_come source.old) (λ bytes. HasOutcome (outcome_of first_attempt bytes) result) }
     ensures listed { IfOk result IsListed }
     ensures failures { Counts (is_failed_read result) (S.failed_calls source.old) (S.failed_calls source.new) }
 {
     let mut feed = Feed::new(alloc);
     let mut cases = Cases {
-        track: Track::new(alloc),
+        track: Track::counting_from(alloc, first_attempt),
         ids: Vec::new(alloc),
     };
     let mut number: u64 = 0;

@@ -51,7 +51,8 @@ impl From<AllocError> for TextFault {
     }
 }
 
-// Puts all bytes of the source into `bytes`, at most the limit. A read takes at most the length of `piece`.
+// Puts all bytes of the source into `bytes`, at most the limit. A read takes at most the length of `piece`, and there is room for
+// what it takes before it is made.
 fn gather<R: ByteSource>(
     source: &mut R,
     piece: &mut [u8],
@@ -65,6 +66,7 @@ fn gather<R: ByteSource>(
     ensures failures { Counts (is_read_failed result) (R.failed_calls source.old) (R.failed_calls source.new) }
 {
     'pieces: while bytes.len() <= TEXT_LIMIT {
+        bytes.reserve(PIECE)?;
         let count = source.read_some(piece)?;
         if count == 0 {
             return Ok(());

@@ -4,8 +4,15 @@
 use ck_commands::{TROUBLE_STATUS, run};
 use cm_envelope::{Reader, Writer};
 use std::alloc::{AllocError, Global};
-use std::env;
 use std::process::ExitCode;
+use std::{env, io};
+
+// What standard error says where the status is that of trouble.
+const NOT_UTF8: &str = "cukecheck: an argument isn't UTF-8";
+
+const NO_MEMORY: &str = "cukecheck: there is no memory for the arguments";
+
+const TOLD: &str = "cukecheck: standard output says why, unless it couldn't be written";
 
 fn words_after_first(alloc: Global, given: &Vec<String>) -> Result<Vec<&str>, AllocError> {
     let mut words = Vec::new(alloc);
@@ -15,15 +22,33 @@ fn words_after_first(alloc: Global, given: &Vec<String>) -> Result<Vec<&str>, Al
     Ok(words)
 }
 
-// The status of a run, and None where the arguments can't be read.
-fn status_of(rt: &HostRuntime) -> Option<u8> {
-    let given: Vec<String> = env::args(rt).ok()?.collect(rt.alloc()).ok()?;
-    let words = words_after_first(rt.alloc(), &given).ok()?;
+fn arguments(rt: &HostRuntime) -> Result<Vec<String>, &'static str> {
+    match env::args(rt) {
+        Ok(given) => given.collect(rt.alloc()).map_err(|_| NO_MEMORY),
+        Err(error) => Err(if error.kind() == io::ErrorKind::InvalidData {
+            NOT_UTF8
+        } else {
+            NO_MEMORY
+        }),
+    }
+}
+
+// The status of a run, or what keeps its arguments from being read.
+fn status_of(rt: &HostRuntime) -> Result<u8, &'static str> {
+    let given = arguments(rt)?;
+    let words = words_after_first(rt.alloc(), &given).map_err(|_| NO_MEMORY)?;
     let mut reader = Reader::new(rt.stdin());
     let mut writer = Writer::new(rt.stdout());
-    Some(run(rt.alloc(), words.as_slice(), &mut reader, &mut writer))
+    Ok(run(rt.alloc(), words.as_slice(), &mut reader, &mut writer))
 }
 
 fn main(rt: HostRuntime) -> ExitCode {
-    ExitCode::from(status_of(&rt).unwrap_or(TROUBLE_STATUS))
+    let (status, trouble) = match status_of(&rt) {
+        Ok(status) => (status, TOLD),
+        Err(trouble) => (TROUBLE_STATUS, trouble),
+    };
+    if status == TROUBLE_STATUS {
+        let _ = rt.eprintln(trouble).is_ok();
+    }
+    ExitCode::from(status)
 }

@@ -1,3 +1,4 @@
+use Rattle.std.proofs.Common.{◌≡◌, rules}
 use Rattle.ck_commands.proofs.Answered.{answers_told}
 use Rattle.ck_commands.proofs.Compiles.{memory_told}
 use Rattle.ck_commands.proofs.Runs.{feature_no_memory, tells_no_memory}
@@ -9,12 +10,14 @@ returns-in_default-clause-parse g c = λ asked none written.
     feature_no_memory (g.R.ByteSource.to_come c.args.source.now) _ _ _ told.0 told.1
 
 pub returns-in-Ok-Results-clause-results : goal.returns-in-Ok-Results-clause-results
-returns-in-Ok-Results-clause-results g c = λ asked none written. answers_told (g.R.ByteSource.to_come c.args.source.now) _ _ _ (c.results.ensures.told none written)
+returns-in-Ok-Results-clause-results g c = λ first asked none written.
+    let same : c.in-Ok-Results.first_attempt ≡ first = search rules in
+    rw (← same) (answers_told c.in-Ok-Results.first_attempt (g.R.ByteSource.to_come c.args.source.now) _ _ _ (c.results.ensures.told none written))
 
 pub returns-clause-results : goal.returns-clause-results
-returns-clause-results g c = λ asked none written.
+returns-clause-results g c = λ first asked none written.
     let told = c.write_text-in-Err-Memory.ensures.written written in
-    answers_told (g.R.ByteSource.to_come c.args.source.now) _ _ _ (tells_no_memory (g.R.ByteSource.to_come c.args.source.now) _ _ _ told.0 told.1)
+    answers_told first (g.R.ByteSource.to_come c.args.source.now) _ _ _ (tells_no_memory first (g.R.ByteSource.to_come c.args.source.now) _ _ _ told.0 told.1)
 
 pub returns-clause-parse : goal.returns-clause-parse
 returns-clause-parse g c = λ asked none written.

@@ -13,7 +13,7 @@ invariant-lines g l = record {
   few : l.feed.given ≤ 1073741824;
   listed : IsListed l.cases;
   told : WhereTold (g.S.ByteSource.to_come l.fn.source) (g.S.ByteSource.to_come l.source)
-      (λ xs ys. outcome_of xs ≡ outcome_left l.number l.cases.track (left l.feed ys));
+      (λ xs ys. outcome_of l.fn.first_attempt xs ≡ outcome_left l.number l.cases.track (left l.feed ys));
   no_failure : g.S.ByteSource.failed_calls l.source ≡ g.S.ByteSource.failed_calls l.fn.source;
 }
 

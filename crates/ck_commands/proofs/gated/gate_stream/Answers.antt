@@ -1,0 +1,11 @@
+use Rattle.cm_stream.specs.Stream.{answer_for, told}
+use Rattle.ck_commands.proofs.Gates.{gate_no_memory, released_of}
+use Rattle.ck_commands.proofs.gated.gate_stream.Goals as goal
+
+pub returns-in-Ok-clause-released : goal.returns-in-Ok-clause-released
+returns-in-Ok-clause-released g c = λ zero. released_of c.args.settings c.args.allows_unrun (g.R.ByteSource.to_come c.args.source.now) c.audit_run-answer.result c.audit_run-answer.ensures.good _ _ c.in-Ok.ensures.status c.write_text.ensures.status zero
+
+pub returns-in-Err-clause-told : goal.returns-in-Err-clause-told
+returns-in-Err-clause-told g c = λ none written.
+    let words = c.write_text-in-Err.ensures.written written in
+    gate_no_memory c.args.allows_unrun (λ bytes. answer_for (told c.args.settings bytes)) (g.R.ByteSource.to_come c.args.source.now) _ _ _ words.0 words.1

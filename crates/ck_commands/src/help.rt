@@ -1,0 +1,164 @@
+//! What `--help` says of the program and of its commands, beside their usage and their options.
+
+pub(crate) const VERSION: &str = "0.1.0";
+
+pub(crate) const PROGRAM: &str =
+    "Says whether a stream of Cucumber Messages is a true report of its run, and compiles Gherkin.";
+
+pub(crate) const AFTER_PROGRAM: &str =
+    "Every command reads standard input and prints on standard output. Give it a file with a redirect:
+
+  cukecheck gate < run.ndjson && deploy
+  cukecheck audit < run.ndjson
+  cukecheck compile --uri features/a.feature < features/a.feature
+
+Exit status:
+  0  done; by audit: the stream is a true report, whether its tests passed or failed; by gate: and its run is to be released
+  1  audit, gate, results: the stream is bad; parse, compile: the feature file is refused
+  2  a mistake in the words
+  3  trouble: a read or a write failed, the input is too long or no UTF-8, or there is no memory
+  4  audit, gate: the stream isn't judged
+  5  gate: the report is true, and the run isn't to be released
+
+`cukecheck COMMAND --help` says what a command reads and prints.";
+
+pub(crate) const PARSE: &str =
+    "Says what a feature file is: how many nodes it has, or where it is refused and why.";
+
+pub(crate) const AFTER_PARSE: &str =
+    "Reads a feature file (Gherkin, in English) from standard input:
+
+  cukecheck parse < features/a.feature
+
+Prints one line, with the exit status after it:
+  ok nodes=N comments=C               0  the file is Gherkin
+  refused LINE:COLUMN 1 Unexpected    1  a line of this kind can't come here
+  refused LINE:COLUMN 2 TagSpace      1  a tag holds white space
+  refused LINE:COLUMN 3 CellCount     1  a row has another count of cells than the table's first
+  refused LINE:COLUMN 4 UnsupportedLanguage
+                                      1  the language line names another language than English
+  refused LINE:COLUMN 5 UnexpectedEnd 1  the file ends too early
+  refused 0:0 6 TooLong               1  there are more than 16,777,216 bytes or 1,000,000 lines
+  trouble NotUtf8, ReadFailed, Memory 3  the bytes are no UTF-8; a read failed; there is no memory
+Lines and columns count from 1, columns in characters.";
+
+pub(crate) const COMPILE: &str =
+    "Writes the messages of a feature file: its source, its document and its pickles.";
+
+pub(crate) const AFTER_COMPILE: &str =
+    "Reads a feature file (Gherkin, in English) from standard input:
+
+  cukecheck compile --uri features/a.feature < features/a.feature
+
+Prints one JSON object a line, as Cucumber Messages have them: `source`, `gherkinDocument` and, in order, each `pickle`,
+with exit status 0. Where the file is refused it prints what `parse` prints, and no message, with exit status 1; or
+`trouble NotUtf8`, `trouble ReadFailed` or `trouble Memory` with 3.";
+
+pub(crate) const URI: &str =
+    "The uri of the feature file, as its messages name it; it isn't opened";
+
+pub(crate) const AUDIT: &str =
+    "Says whether a stream of Cucumber Messages is a true report of its run (not whether its tests passed).";
+
+pub(crate) const AFTER_AUDIT: &str =
+    "Reads a stream of Cucumber Messages (one JSON object a line) from standard input:
+
+  cukecheck audit < run.ndjson
+
+Prints one line, with the exit status after it:
+  good sources=S pickles=P cases=C attempts=A   0  the stream is a true report, of a failed run too
+  good .. unrun=U                               0  the same, and U pickles have no test case
+  bad line L: N Name                            1  no good stream begins with the lines up to L
+  unsupported line L: N Name                    4  line L shows why the stream isn't judged
+  trouble Name                                  3  the stream can't be read to its end, or there is no memory
+Lines count from 1, blank ones too; a fault at the end has the number of lines plus 1.
+
+bad:
+   1 NotJson                  The line is no JSON value in UTF-8, or nests more than 127 deep.
+   2 Shape                    The line is no object, or has two judged kinds, or a judged kind that is no object.
+   3 Field kind.member        A member is missing or has another type.
+   4 DuplicateId              An id was declared before for the same kind, or stands twice in the line.
+   5 DuplicateUri             The uri has a source already, or a document.
+   6 UnknownReference         It refers to something that no line before declares.
+   7 DocumentOfRefusedSource  The document's source doesn't parse.
+   8 TreeDiffers              The document isn't that of its source.
+   9 PickleDiffers            The pickle isn't the source's next one, or there is no next one.
+  10 ParseErrorOfGoodSource   The source of the parse error parses.
+  11 CaseStepsDiffer          The test case's steps, hooks aside, aren't those of its pickle in order.
+  12 AttemptNumber            The attempt's number isn't N plus how many attempts of the case started before,
+                              where N is 0 or what `--attempts-from` says.
+  13 AttemptOverlap           An attempt of the case is unfinished, or its last one won't be retried.
+  14 StepOrder                The step isn't the next to start, or not the one that runs; or the attempt is finished.
+  15 FinishedEarly            The attempt finishes before each step of its case.
+  16 SecondRunStarted         The run has started before.
+  17 OutsideRun               The run hasn't started.
+  18 AfterRunFinished         The run has finished before.
+  19 AttemptOpen              The run finishes while an attempt isn't finished.
+  20 SourceIncomplete         The run finishes, and a source lacks its document or some of its pickles.
+  21 SuccessDiffers           The success that is reported isn't what the lines before show.
+  22 NoRunFinished            The stream ends, and the run hasn't finished.
+  23 RunHookOpen              The run finishes while a run hook isn't finished.
+  24 RunHookTwice             The run hook is finished already.
+
+unsupported:
+   1 Language                 The source is in another language than English.
+   2 MediaType                The source is no plain Gherkin.
+   3 UnknownStatus            The status of a step or a run hook is UNKNOWN.
+   5 SourceTooLong            The source has more than 16,777,216 bytes or 1,000,000 lines.
+
+trouble:
+  ReadFailed     A read failed.
+  LineTooLong    A line has more than 67,108,864 bytes.
+  StreamTooLong  The stream has more than 1,073,741,824 bytes.
+  WriteFailed    A write failed.
+  Memory         There is no memory.";
+
+pub(crate) const GATE: &str =
+    "Says whether a run is to be released: its report is true and says success, and each scenario ran.";
+
+pub(crate) const AFTER_GATE: &str =
+    "Reads a stream of Cucumber Messages (one JSON object a line) from standard input:
+
+  cukecheck gate < run.ndjson && deploy
+
+Prints the line that `audit` prints, and a second one where the report is true and the run isn't to be released:
+  good ..               0  the run is to be released
+  bad line L: N Name    1  no good stream begins with the lines up to L
+  trouble Name          3  the stream can't be read to its end, or there is no memory
+  unsupported line ..   4  the stream isn't judged
+  good ..               5  the report is true, and the run isn't to be released; the second line says why:
+  stop NotSuccessful         The run says no success.
+  stop Empty                 There is no test case.
+  stop Unrun                 A pickle has no test case (not with --allow-unrun).
+Where more than one of these holds, the second line has the first of them.
+Status 2 is for a mistake in the words. `cukecheck audit --help` says what the numbers and names are.
+A scenario without steps counts as passed, and a run whose every step was skipped is released.";
+
+pub(crate) const ALLOW_UNRUN: &str =
+    "A run may be released that has pickles without a test case, as where a filter was used";
+
+pub(crate) const PENDING_PASSES: &str = "PENDING is a good status too, beside PASSED and SKIPPED";
+
+pub(crate) const ATTEMPTS_FROM: &str =
+    "The number of each test case's first attempt: 0, as the messages' schema has it, or 1, as cucumber-ruby counts [default: 0]";
+
+pub(crate) const WRONG_ATTEMPTS: &str = "error: the value of '--attempts-from <N>' is 0 or 1
+
+Usage: cukecheck <COMMAND> --attempts-from <N>
+
+For more information, try '--help'.
+";
+
+pub(crate) const RESULTS: &str =
+    "Prints the id of each test case of a stream, with the worst status of its final attempt.";
+
+pub(crate) const AFTER_RESULTS: &str =
+    "Reads a stream of Cucumber Messages (one JSON object a line) from standard input:
+
+  cukecheck results < run.ndjson
+
+Prints, with the exit status after it:
+  ID STATUS            0  for each test case, in order of declaration; NONE where it has no final attempt
+  bad line L: N Name   1  the first line that is no message, or at which cases and attempts come in no possible order
+  trouble Name         3  the stream can't be read to its end, or there is no memory
+The numbers and names are those of `audit`, which says whether the report is true: ask it first.";
