@@ -1,104 +1,71 @@
-//! Verdicts on streams. A word stands for a line, as in the tests of attempts; further words are those of `OTHER_LINES`.
-use crate::retries::line_of;
-use crate::runs::{expect_words, whole};
-use std::alloc::Global;
-use std::process::Abort;
+//! Verdicts on streams.
+use crate::devices::{expect_told, whole};
+use crate::lines::expect_rows;
 use std::test::Fail;
 
-// A word, and its line.
-const OTHER_LINES: &str =
-    r##"source = {"source":{"data":"Feature: f\n\n  Scenario: s\n    Given a\n","mediaType":"text/x.cucumber.gherkin+plain","uri":"a.feature"}}
-document = {"gherkinDocument":{"comments":[],"feature":{"children":[{"scenario":{"description":"","examples":[],"id":"0","keyword":"Scenario","location":{"column":3,"line":3},"name":"s","steps":[{"id":"1","keyword":"Given ","keywordType":"Context","location":{"column":5,"line":4},"text":"a"}],"tags":[]}}],"description":"","keyword":"Feature","language":"en","location":{"column":1,"line":1},"name":"f","tags":[]},"uri":"a.feature"}}
-document_moved = {"gherkinDocument":{"comments":[],"feature":{"children":[{"scenario":{"description":"","examples":[],"id":"0","keyword":"Scenario","location":{"column":3,"line":3},"name":"s","steps":[{"id":"1","keyword":"Given ","keywordType":"Context","location":{"column":5,"line":5},"text":"a"}],"tags":[]}}],"description":"","keyword":"Feature","language":"en","location":{"column":1,"line":1},"name":"f","tags":[]},"uri":"a.feature"}}
-document_named = {"gherkinDocument":{"comments":[],"feature":{"children":[{"scenario":{"description":"","examples":[],"id":"x0","keyword":"Scenario","location":{"column":3,"line":3},"name":"s","steps":[{"id":"x1","keyword":"Given ","keywordType":"Context","location":{"column":5,"line":4},"text":"a"}],"tags":[]}}],"description":"","keyword":"Feature","language":"en","location":{"column":1,"line":1},"name":"f","tags":[]},"uri":"a.feature"}}
-pickle = {"pickle":{"astNodeIds":["0"],"id":"3","language":"en","name":"s","steps":[{"astNodeIds":["1"],"id":"2","text":"a","type":"Context"}],"tags":[],"uri":"a.feature"}}
-pickle_named = {"pickle":{"astNodeIds":["x0"],"id":"3","language":"en","name":"s","steps":[{"astNodeIds":["x1"],"id":"2","text":"a","type":"Context"}],"tags":[],"uri":"a.feature"}}
-pickle_again = {"pickle":{"astNodeIds":["0"],"id":"4","language":"en","name":"s","steps":[{"astNodeIds":["1"],"id":"2","text":"a","type":"Context"}],"tags":[],"uri":"a.feature"}}
-source_b = {"source":{"data":"Feature: g\n\n  Scenario: t\n    Given b\n","mediaType":"text/x.cucumber.gherkin+plain","uri":"b.feature"}}
-document_b = {"gherkinDocument":{"comments":[],"feature":{"children":[{"scenario":{"description":"","examples":[],"id":"0","keyword":"Scenario","location":{"column":3,"line":3},"name":"t","steps":[{"id":"1","keyword":"Given ","keywordType":"Context","location":{"column":5,"line":4},"text":"b"}],"tags":[]}}],"description":"","keyword":"Feature","language":"en","location":{"column":1,"line":1},"name":"g","tags":[]},"uri":"b.feature"}}
-pickle_b = {"pickle":{"astNodeIds":["0"],"id":"7","language":"en","name":"t","steps":[{"astNodeIds":["1"],"id":"6","text":"b","type":"Context"}],"tags":[],"uri":"b.feature"}}
-pickle_c = {"pickle":{"astNodeIds":["0"],"id":"7","language":"en","name":"t","steps":[{"astNodeIds":["1"],"id":"6","text":"b","type":"Context"}],"tags":[],"uri":"a.feature"}}
-case_b = {"testCase":{"id":"c2","pickleId":"7","testSteps":[{"id":"t1","pickleStepId":"6"}]}}
-refused = {"source":{"data":"Given x","mediaType":"text/x.cucumber.gherkin+plain","uri":"b.feature"}}
-refused_document = {"gherkinDocument":{"uri":"b.feature"}}
-refused_error = {"parseError":{"source":{"uri":"b.feature"},"message":"m"}}
-error = {"parseError":{"source":{"uri":"a.feature"},"message":"m"}}
-french = {"source":{"data":"# language: fr\nFeature: x","mediaType":"text/x.cucumber.gherkin+plain","uri":"f.feature"}}
-markdown = {"source":{"data":"","mediaType":"text/x.cucumber.gherkin+markdown","uri":"m.feature"}}
-hook = {"hook":{"id":"h"}}
-hook_start = {"testRunHookStarted":{"id":"r1","hookId":"h"}}
-hook_passed = {"testRunHookFinished":{"testRunHookStartedId":"r1","result":{"status":"PASSED"}}}
-hook_failed = {"testRunHookFinished":{"testRunHookStartedId":"r1","result":{"status":"FAILED"}}}
-hook_pending = {"testRunHookFinished":{"testRunHookStartedId":"r1","result":{"status":"PENDING"}}}
-hook_unknown = {"testRunHookFinished":{"testRunHookStartedId":"r1","result":{"status":"UNKNOWN"}}}
-case_without_steps = {"testCase":{"id":"c1","pickleId":"3","testSteps":[]}}
-run = {"testRunStarted":{}}
-array = []
-well = {"testRunFinished":{"success":true}}
-unwell = {"testRunFinished":{"success":false}}
-exception = {"testRunFinished":{"success":true,"exception":{"type":"E"}}}"##;
-
-// The line of a word among those above, or of an attempt.
-fn audited_line(alloc: Global, word: &str) -> Result<String, Fail> {
-    for row in OTHER_LINES.lines() {
-        let (name, line) = row.split_once(" = ").ok_or("no line")?;
-        if name == word {
-            let mut text = String::from_str(alloc, line)?;
-            text.push_str("\n")?;
-            return Ok(text);
-        }
-    }
-    line_of(alloc, word)
-}
-
-pub(crate) fn audited_stream(alloc: Global, words: &str) -> Result<String, Fail> {
-    let mut text = String::new(alloc);
-    for word in words.split(' ') {
-        text.push_str(audited_line(alloc, word)?.as_str())?;
-    }
-    Ok(text)
-}
-
-// What `audit` prints, the status, and the stream.
-const VERDICTS: &str =
+const SOURCES: &str =
     "good sources=1 pickles=1 cases=0 attempts=0 unrun=1/ 0 = source document pickle run well
 good sources=1 pickles=1 cases=0 attempts=0 unrun=1/ 0 = source document_named pickle_named run well
-good sources=1 pickles=1 cases=1 attempts=2/ 0 = source document pickle run case:c1:t1 start:a1:c1:0 step:a1:t1 end:a1:t1:FAILED done:a1:true start:a2:c1:1 step:a2:t1 end:a2:t1:PASSED done:a2:false well
+good sources=1 pickles=3 cases=0 attempts=0 unrun=3/ 0 = outline outline_document row_1 row_2 row_3 run well
+bad line 6: 20 SourceIncomplete/ 1 = outline outline_document row_1 row_2 run well
+bad line 6: 9 PickleDiffers/ 1 = outline outline_document row_1 row_2 row_3 row_3_again run well
+bad line 3: 9 PickleDiffers/ 1 = outline outline_document row_2 row_1 row_3 run well
+bad line 7: 20 SourceIncomplete/ 1 = source document pickle source_b document_b run well
+bad line 5: 9 PickleDiffers/ 1 = source document source_b document_b pickle_c
+good sources=1 pickles=0 cases=0 attempts=0/ 0 = refused refused_error run unwell
+bad line 4: 21 SuccessDiffers/ 1 = refused refused_error run well
+unsupported line 1: 1 Language/ 4 = french
+unsupported line 1: 2 MediaType/ 4 = markdown
+bad line 2: 5 DuplicateUri/ 1 = source source
+bad line 4: 10 ParseErrorOfGoodSource/ 1 = source document pickle error
+bad line 2: 8 TreeDiffers/ 1 = source document_moved
+bad line 2: 7 DocumentOfRefusedSource/ 1 = refused refused_document";
+
+#[test]
+fn verdicts_on_sources(rt: HostRuntime) -> Result<(), Fail> {
+    expect_rows(&rt, rt.alloc(), &["audit"], SOURCES)
+}
+
+const ATTEMPTS: &str =
+    "good sources=1 pickles=1 cases=1 attempts=2/ 0 = source document pickle run case:c1:t1 start:a1:c1:0 step:a1:t1 end:a1:t1:FAILED done:a1:true start:a2:c1:1 step:a2:t1 end:a2:t1:PASSED done:a2:false well
 bad line 14: 21 SuccessDiffers/ 1 = source document pickle run case:c1:t1 start:a1:c1:0 step:a1:t1 end:a1:t1:PENDING done:a1:true start:a2:c1:1 step:a2:t1 end:a2:t1:FAILED done:a2:false well
 good sources=1 pickles=1 cases=1 attempts=2/ 0 = source document pickle run case:c1:t1 start:a1:c1:0 step:a1:t1 end:a1:t1:PENDING done:a1:true start:a2:c1:1 step:a2:t1 end:a2:t1:FAILED done:a2:false unwell
 good sources=1 pickles=1 cases=2 attempts=2/ 0 = source document pickle run case:c1:t1 case:c2:t1 start:a1:c1:0 start:b1:c2:0 step:a1:t1 step:b1:t1 end:a1:t1:PASSED end:b1:t1:SKIPPED done:b1:false done:a1:false well
 good sources=2 pickles=2 cases=2 attempts=3/ 0 = source document pickle source_b document_b pickle_b run case:c1:t1 case_b start:a1:c1:0 start:b1:c2:0 step:b1:t1 step:a1:t1 end:b1:t1:FAILED end:a1:t1:PASSED done:b1:true start:b2:c2:1 done:a1:false step:b2:t1 end:b2:t1:PASSED done:b2:false well
 good sources=2 pickles=2 cases=2 attempts=2/ 0 = source source_b document_b document pickle_b pickle case_b case:c1:t1 run start:a1:c1:0 start:b1:c2:0 step:a1:t1 step:b1:t1 end:a1:t1:PASSED end:b1:t1:FAILED done:b1:false done:a1:false unwell
 bad line 15: 14 StepOrder/ 1 = source document pickle source_b document_b pickle_b run case:c1:t1 case_b start:a1:c1:0 start:b1:c2:0 step:a1:t1 end:a1:t1:PASSED done:a1:false end:b1:t1:PASSED
-bad line 7: 20 SourceIncomplete/ 1 = source document pickle source_b document_b run well
-bad line 5: 9 PickleDiffers/ 1 = source document source_b document_b pickle_c
 bad line 3: 6 UnknownReference/ 1 = source document case:c1:t1 pickle run unwell
-bad line 4: 9 PickleDiffers/ 1 = source document pickle pickle_again
-bad line 4: 20 SourceIncomplete/ 1 = source document run well
 bad line 14: 22 NoRunFinished/ 1 = source document pickle run case:c1:t1 start:a1:c1:0 step:a1:t1 end:a1:t1:FAILED done:a1:true start:a2:c1:1 step:a2:t1 end:a2:t1:PASSED done:a2:false
 good sources=1 pickles=1 cases=1 attempts=0/ 0 = source document pickle run case:c1:t1 unwell
 bad line 6: 21 SuccessDiffers/ 1 = source document pickle run case:c1:t1 well
-bad line 9: 19 AttemptOpen/ 1 = source document pickle run case:c1:t1 start:a1:c1:0 step:a1:t1 end:a1:t1:FAILED unwell
-unsupported line 8: 3 UnknownStatus/ 4 = source document pickle run case:c1:t1 start:a1:c1:0 step:a1:t1 end:a1:t1:UNKNOWN done:a1:false well
-good sources=1 pickles=0 cases=0 attempts=0/ 0 = refused refused_error run unwell
-bad line 4: 21 SuccessDiffers/ 1 = refused refused_error run well
-bad line 5: 21 SuccessDiffers/ 1 = source document pickle run exception
-unsupported line 1: 1 Language/ 4 = french
-unsupported line 1: 2 MediaType/ 4 = markdown
+good sources=1 pickles=1 cases=1 attempts=1/ 0 = stepless stepless_document stepless_pickle run stepless_case start:a1:c1:0 done:a1:false well
+bad line 9: 19 AttemptOpen/ 1 = source document pickle run case:c1:t1 start:a1:c1:0 step:a1:t1 end:a1:t1:FAILED unwell start:a2:c1:1 step:a2:t1 end:a2:t1:PASSED done:a2:false well
+bad line 9: 19 AttemptOpen/ 1 = source document pickle run case:c1:t1 start:a1:c1:0 step:a1:t1 end:a1:t1:FAILED unwell done:a1:true start:a2:c1:1 step:a2:t1 end:a2:t1:PASSED done:a2:false well
+unsupported line 8: 3 UnknownStatus/ 4 = source document pickle run case:c1:t1 start:a1:c1:0 step:a1:t1 end:a1:t1:UNKNOWN done:a1:true start:a2:c1:1 step:a2:t1 end:a2:t1:PASSED done:a2:false well
+bad line 5: 11 CaseStepsDiffer/ 1 = source document pickle run case_without_steps
+bad line 10: 21 SuccessDiffers/ 1 = source document pickle run case:c1:t1 start:a1:c1:0 step:a1:t1 end:a1:t1:PENDING done:a1:false well
+good sources=1 pickles=1 cases=1 attempts=1/ 0 = source document pickle run case:c1:t1 start:a1:c1:0 step:a1:t1 end:a1:t1:PENDING done:a1:false unwell
+bad line 10: 21 SuccessDiffers/ 1 = source document pickle run case:c1:t1 start:a1:c1:0 step:a1:t1 end:a1:t1:UNDEFINED done:a1:false well";
+
+#[test]
+fn verdicts_on_attempts(rt: HostRuntime) -> Result<(), Fail> {
+    expect_rows(&rt, rt.alloc(), &["audit"], ATTEMPTS)
+}
+
+const RUNS: &str = "good sources=0 pickles=0 cases=0 attempts=0/ 0 = - run well
 bad line 2: 16 SecondRunStarted/ 1 = run run array
 bad line 1: 17 OutsideRun/ 1 = well
 bad line 6: 18 AfterRunFinished/ 1 = source document pickle run well hook
-bad line 2: 5 DuplicateUri/ 1 = source source
-bad line 4: 10 ParseErrorOfGoodSource/ 1 = source document pickle error
-bad line 5: 11 CaseStepsDiffer/ 1 = source document pickle run case_without_steps
-bad line 2: 8 TreeDiffers/ 1 = source document_moved
-bad line 2: 7 DocumentOfRefusedSource/ 1 = refused refused_document
-bad line 2: 4 DuplicateId/ 1 = hook hook
-bad line 1: 2 Shape/ 1 = array
-bad line 10: 21 SuccessDiffers/ 1 = source document pickle run case:c1:t1 start:a1:c1:0 step:a1:t1 end:a1:t1:PENDING done:a1:false well
-good sources=1 pickles=1 cases=1 attempts=1/ 0 = source document pickle run case:c1:t1 start:a1:c1:0 step:a1:t1 end:a1:t1:PENDING done:a1:false unwell
-bad line 10: 21 SuccessDiffers/ 1 = source document pickle run case:c1:t1 start:a1:c1:0 step:a1:t1 end:a1:t1:UNDEFINED done:a1:false well
-good sources=1 pickles=1 cases=0 attempts=0 unrun=1/ 0 = source document pickle hook run hook_start hook_passed well
+bad line 5: 21 SuccessDiffers/ 1 = source document pickle run exception
+bad line 2: 4 DuplicateId/ 1 = null_source null_source";
+
+#[test]
+fn verdicts_on_runs(rt: HostRuntime) -> Result<(), Fail> {
+    expect_rows(&rt, rt.alloc(), &["audit"], RUNS)
+}
+
+const RUN_HOOKS: &str =
+    "good sources=1 pickles=1 cases=0 attempts=0 unrun=1/ 0 = source document pickle hook run hook_start hook_passed well
 bad line 8: 21 SuccessDiffers/ 1 = source document pickle hook run hook_start hook_failed well
 good sources=1 pickles=1 cases=0 attempts=0 unrun=1/ 0 = source document pickle hook run hook_start hook_failed unwell
 bad line 8: 21 SuccessDiffers/ 1 = source document pickle hook run hook_start hook_pending well
@@ -112,25 +79,12 @@ bad line 6: 23 RunHookOpen/ 1 = source document hook run hook_start well
 bad line 9: 19 AttemptOpen/ 1 = source document pickle run hook hook_start case:c1:t1 start:a1:c1:0 well
 bad line 9: 18 AfterRunFinished/ 1 = source document pickle hook run hook_start hook_passed well hook_start";
 
-fn expect_verdict(rt: &impl Abort, alloc: Global, words: &[&str], row: &str) -> Result<(), Fail> {
-    let (told, lines) = row.split_once(" = ").ok_or("no verdict")?;
-    let (text, status) = told.split_once("/ ").ok_or("no status")?;
-    let stream = audited_stream(alloc, lines)?;
-    let line = format!(in alloc; "{text}\n")?;
-    let status: u8 = status.parse().map_err(|_| "no status")?;
-    expect_words(
-        rt,
-        alloc,
-        words,
-        whole(stream.as_bytes()),
-        line.as_str(),
-        status,
-    );
-    Ok(())
+#[test]
+fn verdicts_on_run_hooks(rt: HostRuntime) -> Result<(), Fail> {
+    expect_rows(&rt, rt.alloc(), &["audit"], RUN_HOOKS)
 }
 
-// By `--pending-passes`.
-const PENDING_VERDICTS: &str =
+const PENDING: &str =
     "good sources=1 pickles=1 cases=1 attempts=1/ 0 = source document pickle run case:c1:t1 start:a1:c1:0 step:a1:t1 end:a1:t1:PENDING done:a1:false well
 bad line 10: 21 SuccessDiffers/ 1 = source document pickle run case:c1:t1 start:a1:c1:0 step:a1:t1 end:a1:t1:PENDING done:a1:false unwell
 bad line 10: 21 SuccessDiffers/ 1 = source document pickle run case:c1:t1 start:a1:c1:0 step:a1:t1 end:a1:t1:UNDEFINED done:a1:false well
@@ -139,16 +93,20 @@ bad line 14: 21 SuccessDiffers/ 1 = source document pickle run case:c1:t1 start:
 
 #[test]
 fn verdicts_where_pending_passes(rt: HostRuntime) -> Result<(), Fail> {
-    for row in PENDING_VERDICTS.lines() {
-        expect_verdict(&rt, rt.alloc(), &["audit", "--pending-passes"], row)?;
-    }
-    Ok(())
+    expect_rows(&rt, rt.alloc(), &["audit", "--pending-passes"], PENDING)
 }
 
+// `audit` and `results` say the same of these.
+const LINES: &str = "bad line 1: 2 Shape/ 1 = array
+bad line 1: 3 Field pickle.id/ 1 = empty_pickle
+bad line 1: 1 NotJson/ 1 = brackets:200
+bad line 1: 2 Shape/ 1 = brackets:100";
+
 #[test]
-fn verdicts(rt: HostRuntime) -> Result<(), Fail> {
-    for row in VERDICTS.lines() {
-        expect_verdict(&rt, rt.alloc(), &["audit"], row)?;
-    }
+fn lines_that_are_no_envelopes(rt: HostRuntime) -> Result<(), Fail> {
+    expect_rows(&rt, rt.alloc(), &["audit"], LINES)?;
+    expect_rows(&rt, rt.alloc(), &["results"], LINES)?;
+    let told = "bad line 1: 1 NotJson\n";
+    expect_told(&rt, rt.alloc(), "audit", whole(b"\xff\n"), told, 1);
     Ok(())
 }

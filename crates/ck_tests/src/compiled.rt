@@ -1,8 +1,9 @@
 //! Feature files by the command `compile`.
-use crate::runs::{Sink, Source, expect_run, taking, whole};
+use crate::devices::{Sink, Source, expect_run, taking, whole};
 use ck_commands::run;
 use std::alloc::Global;
 use std::process::Abort;
+use std::test::Fail;
 
 const NO_LINES: &str =
     r#"{"source":{"data":"","mediaType":"text/x.cucumber.gherkin+plain","uri":"e.feature"}}
@@ -107,22 +108,15 @@ fn lines_whose_flush_fails(rt: HostRuntime) {
     expect_run(&rt, rt.alloc(), &words, &mut source, &mut sink, LINES, 3);
 }
 
-// Words that `clap` takes and words that it refuses, with the status.
+// The lines of an empty feature file whose uri is given by one word.
+fn expect_uri(rt: &impl Abort, alloc: Global, word: &str, uri: &str) -> Result<(), Fail> {
+    let lines = NO_LINES.replace(alloc, "e.feature", uri)?;
+    expect_lines(rt, alloc, &["compile", word], "", lines.as_str(), 0);
+    Ok(())
+}
+
 #[test]
-fn the_words_of_a_uri(rt: HostRuntime) {
-    let cases: [(&[&str], u8); 7] = [
-        (&["compile"], 2),
-        (&["compile", "--uri"], 2),
-        (&["compile", "--uri", "-x"], 2),
-        (&["compile", "--uri", "u", "--uri", "v"], 2),
-        (&["compile", "--uri="], 0),
-        (&["compile", "--uri=-x"], 0),
-        (&["compile", "--help"], 0),
-    ];
-    for (words, status) in cases {
-        let mut source = whole(b"");
-        let mut sink = taking(rt.alloc(), 7);
-        assert_eq!(rt; run(rt.alloc(), words, &mut source, &mut sink), status);
-        assert!(rt; !sink.taken.is_empty());
-    }
+fn an_empty_uri_and_one_like_an_option(rt: HostRuntime) -> Result<(), Fail> {
+    expect_uri(&rt, rt.alloc(), "--uri=", "")?;
+    expect_uri(&rt, rt.alloc(), "--uri=-x", "-x")
 }

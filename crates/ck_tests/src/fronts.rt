@@ -1,13 +1,9 @@
 //! Verdicts on streams that are cut, that come in other ways, or that are long.
-use crate::audits::audited_stream;
-use crate::runs::{Source, expect_told, whole};
+use crate::devices::{Source, expect_told, whole};
+use crate::lines::{RETRIED, repeated, stream_of};
 use std::alloc::Global;
 use std::process::Abort;
 use std::test::Fail;
-
-// A failed attempt, and one that passed.
-const RETRIED: &str =
-    "source document pickle run case:c1:t1 start:a1:c1:0 step:a1:t1 end:a1:t1:FAILED done:a1:true start:a2:c1:1 step:a2:t1 end:a2:t1:PASSED done:a2:false well";
 
 // What is told of a front with so many whole lines, by whether it ends with one of them, and whether its last line is whole.
 fn told_of_front(
@@ -33,7 +29,7 @@ fn told_of_front(
 #[test]
 fn fronts_of_a_good_stream(rt: HostRuntime) -> Result<(), Fail> {
     let alloc = rt.alloc();
-    let stream = audited_stream(alloc, RETRIED)?;
+    let stream = stream_of(alloc, RETRIED)?;
     let bytes = stream.as_bytes();
     let mut lines: u64 = 0;
     let mut is_at_start = true;
@@ -50,13 +46,6 @@ fn fronts_of_a_good_stream(rt: HostRuntime) -> Result<(), Fail> {
             told.as_str(),
             status,
         );
-        let failing = Source {
-            bytes: &bytes[..size],
-            fails: true,
-            calls: 0,
-            failed_calls: 0,
-        };
-        expect_told(&rt, alloc, "audit", failing, "trouble ReadFailed\n", 3);
         is_at_start = is_whole;
         if is_whole {
             lines = lines.saturating_add(1);
@@ -65,10 +54,47 @@ fn fronts_of_a_good_stream(rt: HostRuntime) -> Result<(), Fail> {
     Ok(())
 }
 
+// The read behind these bytes fails: in single bytes, and behind all of them at once.
+fn expect_failed(rt: &impl Abort, alloc: Global, bytes: &[u8]) {
+    for most in [1, usize::MAX] {
+        let source = Source {
+            most,
+            fails: true,
+            ..whole(bytes)
+        };
+        expect_told(rt, alloc, "audit", source, "trouble ReadFailed\n", 3);
+    }
+}
+
+#[test]
+fn a_read_that_fails_behind_each_byte(rt: HostRuntime) -> Result<(), Fail> {
+    let stream = stream_of(rt.alloc(), RETRIED)?;
+    let bytes = stream.as_bytes();
+    for (size, _) in bytes.iter().enumerate() {
+        expect_failed(&rt, rt.alloc(), &bytes[..size]);
+    }
+    expect_failed(&rt, rt.alloc(), bytes);
+    Ok(())
+}
+
+#[test]
+fn a_good_stream_in_pieces(rt: HostRuntime) -> Result<(), Fail> {
+    let stream = stream_of(rt.alloc(), RETRIED)?;
+    for most in [1, 3] {
+        let source = Source {
+            most,
+            ..whole(stream.as_bytes())
+        };
+        let told = "good sources=1 pickles=1 cases=1 attempts=2\n";
+        expect_told(&rt, rt.alloc(), "audit", source, told, 0);
+    }
+    Ok(())
+}
+
 #[test]
 fn lines_that_end_in_two_characters(rt: HostRuntime) -> Result<(), Fail> {
     let alloc = rt.alloc();
-    let stream = audited_stream(alloc, RETRIED)?;
+    let stream = stream_of(alloc, RETRIED)?;
     let other = stream.as_str().replace(alloc, "\n", "\r\n")?;
     let told = "good sources=1 pickles=1 cases=1 attempts=2\n";
     expect_told(&rt, alloc, "audit", whole(other.as_bytes()), told, 0);
@@ -78,14 +104,14 @@ fn lines_that_end_in_two_characters(rt: HostRuntime) -> Result<(), Fail> {
 #[test]
 fn a_thousand_cases(rt: HostRuntime) -> Result<(), Fail> {
     let alloc = rt.alloc();
-    let mut stream = audited_stream(alloc, "source document pickle run")?;
+    let mut stream = stream_of(alloc, "source document pickle run")?;
     for i in 0..1000 {
         let words = format!(in alloc;
             "case:c{i}:t1 start:a{i}:c{i}:0 step:a{i}:t1 end:a{i}:t1:PASSED done:a{i}:false"
         )?;
-        stream.push_str(audited_stream(alloc, words.as_str())?.as_str())?;
+        stream.push_str(stream_of(alloc, words.as_str())?.as_str())?;
     }
-    stream.push_str(audited_stream(alloc, "well")?.as_str())?;
+    stream.push_str(stream_of(alloc, "well")?.as_str())?;
     let told = "good sources=1 pickles=1 cases=1000 attempts=1000\n";
     expect_told(&rt, alloc, "audit", whole(stream.as_bytes()), told, 0);
     Ok(())
@@ -94,9 +120,7 @@ fn a_thousand_cases(rt: HostRuntime) -> Result<(), Fail> {
 // What `audit` tells of a source with this text, whose characters are written as `unit`, so many times.
 fn expect_too_long(rt: &impl Abort, alloc: Global, unit: &str, times: u32) -> Result<(), Fail> {
     let mut line = String::from_str(alloc, "{\"source\":{\"data\":\"")?;
-    for _ in 0..times {
-        line.push_str(unit)?;
-    }
+    line.push_str(repeated(alloc, unit, times)?.as_str())?;
     line.push_str(
         "\",\"mediaType\":\"text/x.cucumber.gherkin+plain\",\"uri\":\"l.feature\"}}\n[]\n",
     )?;

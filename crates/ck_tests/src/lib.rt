@@ -4,14 +4,26 @@
 #[cfg(test)]
 mod audits;
 #[cfg(test)]
+mod calls;
+#[cfg(test)]
 mod compiled;
+#[cfg(test)]
+mod devices;
 #[cfg(test)]
 mod features;
 #[cfg(test)]
 mod fronts;
+#[cfg(test)]
+mod gates;
+#[cfg(test)]
+mod limits;
+#[cfg(test)]
+mod lines;
 #[cfg(test)]
 mod producers;
 #[cfg(test)]
 mod retries;
 #[cfg(test)]
 mod runs;
+#[cfg(test)]
+mod usages;

@@ -1,6 +1,6 @@
 //! A whole stream as the producers of messages write it: with their order of members and of ids, and with members and envelopes that
 //! aren't judged. It is laid out as the sample on retries of Cucumber's compatibility kit, and was written down for this test.
-use crate::runs::{expect_told, whole};
+use crate::devices::{expect_told, whole};
 use std::test::Fail;
 
 const STREAM: &str =

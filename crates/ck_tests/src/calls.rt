@@ -1,0 +1,112 @@
+//! What the commands stand on, called by itself: the audit of a stream, and the text of a source.
+use crate::devices::{Endless, Source, whole};
+use crate::lines::{RETRIED, stream_of};
+use ck_commands::{TextFault, read_text};
+use cm_audit::{Bad, Counts, Reason, Verdict, audit};
+use cm_envelope::{ByteSource, Trouble};
+use std::alloc::Global;
+use std::process::Abort;
+use std::test::Fail;
+
+fn expect_verdict(
+    rt: &impl Abort,
+    alloc: Global,
+    words: &str,
+    wanted: Verdict,
+) -> Result<(), Fail> {
+    let stream = stream_of(alloc, words)?;
+    let found = audit(alloc, &mut whole(stream.as_bytes()));
+    assert!(rt; found == Ok(wanted), "{words}");
+    Ok(())
+}
+
+#[test]
+fn good_streams_have_their_counts(rt: HostRuntime) -> Result<(), Fail> {
+    let retried = Verdict::Good(Counts {
+        sources: 1,
+        pickles: 1,
+        cases: 1,
+        attempts: 2,
+        unrun: 0,
+    });
+    expect_verdict(&rt, rt.alloc(), RETRIED, retried)?;
+    let unrun = Verdict::Good(Counts {
+        sources: 1,
+        pickles: 1,
+        cases: 0,
+        attempts: 0,
+        unrun: 1,
+    });
+    expect_verdict(&rt, rt.alloc(), "source document pickle run well", unrun)
+}
+
+#[test]
+fn other_streams_have_a_line_and_why(rt: HostRuntime) -> Result<(), Fail> {
+    let early = Verdict::Bad {
+        line: 3,
+        fault: Bad::UnknownReference,
+    };
+    let words = "source document case:c1:t1 pickle run unwell";
+    expect_verdict(&rt, rt.alloc(), words, early)?;
+    let field = Verdict::Bad {
+        line: 1,
+        fault: Bad::Field("pickle", "id"),
+    };
+    expect_verdict(&rt, rt.alloc(), "empty_pickle", field)?;
+    let language = Verdict::Unsupported {
+        line: 1,
+        reason: Reason::Language,
+    };
+    expect_verdict(&rt, rt.alloc(), "french", language)
+}
+
+#[test]
+fn a_failed_read_of_a_stream(rt: HostRuntime) {
+    let mut source = Source {
+        fails: true,
+        ..whole(b"")
+    };
+    assert!(rt; audit(rt.alloc(), &mut source) == Err(Trouble::ReadFailed));
+}
+
+fn expect_text<S: ByteSource>(
+    rt: &impl Abort,
+    alloc: Global,
+    source: &mut S,
+    wanted: Result<&str, TextFault>,
+) {
+    match (read_text(alloc, source), wanted) {
+        (Ok(found), Ok(text)) => assert!(rt; found.as_str() == text),
+        (Err(found), Err(fault)) => assert!(rt; found == fault),
+        (Ok(_), Err(_)) => assert!(rt; false, "a text"),
+        (Err(_), Ok(_)) => assert!(rt; false, "no text"),
+    }
+}
+
+#[test]
+fn the_text_of_a_source(rt: HostRuntime) {
+    let text = "Feature: é\n";
+    let mut source = Source {
+        most: 3,
+        ..whole(text.as_bytes())
+    };
+    expect_text(&rt, rt.alloc(), &mut source, Ok(text));
+    expect_text(&rt, rt.alloc(), &mut whole(b""), Ok(""));
+}
+
+#[test]
+fn sources_without_a_text(rt: HostRuntime) {
+    let mut endless = Endless {
+        byte: b' ',
+        ends_lines: false,
+        calls: 0,
+    };
+    expect_text(&rt, rt.alloc(), &mut endless, Err(TextFault::TooLong));
+    let mut other = whole(b"\xff");
+    expect_text(&rt, rt.alloc(), &mut other, Err(TextFault::NotUtf8));
+    let mut failing = Source {
+        fails: true,
+        ..whole(b"Feature: f")
+    };
+    expect_text(&rt, rt.alloc(), &mut failing, Err(TextFault::ReadFailed));
+}

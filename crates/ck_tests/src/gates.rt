@@ -1,0 +1,175 @@
+//! Which runs the gate releases, and streams whose attempts are numbered from 1.
+use crate::devices::{Sink, Source, expect_run, expect_words, taking, whole};
+use crate::lines::{expect_rows, stream_of};
+use std::alloc::Global;
+use std::process::Abort;
+use std::test::Fail;
+
+const PLAIN: &str =
+    "good sources=1 pickles=1 cases=1 attempts=1/ 0 = source document pickle run case:c1:t1 start:a1:c1:0 step:a1:t1 end:a1:t1:PASSED done:a1:false well
+good sources=1 pickles=1 cases=1 attempts=1/ 0 = source document pickle run case:c1:t1 start:a1:c1:0 step:a1:t1 end:a1:t1:SKIPPED done:a1:false well
+good sources=1 pickles=1 cases=1 attempts=1/ 0 = stepless stepless_document stepless_pickle run stepless_case start:a1:c1:0 done:a1:false well
+good sources=1 pickles=1 cases=1 attempts=2/ 0 = source document pickle run case:c1:t1 start:a1:c1:0 step:a1:t1 end:a1:t1:FAILED done:a1:true start:a2:c1:1 step:a2:t1 end:a2:t1:PASSED done:a2:false well
+good sources=1 pickles=1 cases=1 attempts=1/stop NotSuccessful/ 5 = source document pickle run case:c1:t1 start:a1:c1:0 step:a1:t1 end:a1:t1:FAILED done:a1:false unwell
+good sources=1 pickles=1 cases=1 attempts=0/stop NotSuccessful/ 5 = source document pickle run case:c1:t1 unwell
+good sources=1 pickles=0 cases=0 attempts=0/stop NotSuccessful/ 5 = refused refused_error run unwell
+good sources=2 pickles=2 cases=1 attempts=1 unrun=1/stop NotSuccessful/ 5 = source document pickle source_b document_b pickle_b run case:c1:t1 start:a1:c1:0 step:a1:t1 end:a1:t1:FAILED done:a1:false unwell
+good sources=0 pickles=0 cases=0 attempts=0/stop Empty/ 5 = run well
+good sources=1 pickles=1 cases=0 attempts=0 unrun=1/stop Empty/ 5 = source document pickle run well
+good sources=2 pickles=2 cases=1 attempts=1 unrun=1/stop Unrun/ 5 = source document pickle source_b document_b pickle_b run case:c1:t1 start:a1:c1:0 step:a1:t1 end:a1:t1:PASSED done:a1:false well
+bad line 10: 21 SuccessDiffers/ 1 = source document pickle run case:c1:t1 start:a1:c1:0 step:a1:t1 end:a1:t1:PENDING done:a1:false well
+good sources=1 pickles=1 cases=1 attempts=1/stop NotSuccessful/ 5 = source document pickle run case:c1:t1 start:a1:c1:0 step:a1:t1 end:a1:t1:PENDING done:a1:false unwell
+bad line 6: 12 AttemptNumber/ 1 = source document pickle run case:c1:t1 start:a1:c1:1 step:a1:t1 end:a1:t1:PASSED done:a1:false well
+bad line 1: 17 OutsideRun/ 1 = well
+unsupported line 1: 1 Language/ 4 = french";
+
+#[test]
+fn runs_that_are_released_and_runs_that_are_not(rt: HostRuntime) -> Result<(), Fail> {
+    expect_rows(&rt, rt.alloc(), &["gate"], PLAIN)
+}
+
+const WITH_UNRUN: &str =
+    "good sources=2 pickles=2 cases=1 attempts=1 unrun=1/ 0 = source document pickle source_b document_b pickle_b run case:c1:t1 start:a1:c1:0 step:a1:t1 end:a1:t1:PASSED done:a1:false well
+good sources=2 pickles=2 cases=1 attempts=1 unrun=1/stop NotSuccessful/ 5 = source document pickle source_b document_b pickle_b run case:c1:t1 start:a1:c1:0 step:a1:t1 end:a1:t1:FAILED done:a1:false unwell
+good sources=1 pickles=1 cases=0 attempts=0 unrun=1/stop Empty/ 5 = source document pickle run well
+good sources=0 pickles=0 cases=0 attempts=0/stop Empty/ 5 = run well";
+
+#[test]
+fn pickles_without_a_case_that_are_allowed(rt: HostRuntime) -> Result<(), Fail> {
+    expect_rows(&rt, rt.alloc(), &["gate", "--allow-unrun"], WITH_UNRUN)
+}
+
+const WITH_PENDING: &str =
+    "good sources=1 pickles=1 cases=1 attempts=1/ 0 = source document pickle run case:c1:t1 start:a1:c1:0 step:a1:t1 end:a1:t1:PENDING done:a1:false well
+bad line 10: 21 SuccessDiffers/ 1 = source document pickle run case:c1:t1 start:a1:c1:0 step:a1:t1 end:a1:t1:PENDING done:a1:false unwell
+good sources=1 pickles=1 cases=1 attempts=1/stop NotSuccessful/ 5 = source document pickle run case:c1:t1 start:a1:c1:0 step:a1:t1 end:a1:t1:UNDEFINED done:a1:false unwell
+good sources=1 pickles=1 cases=0 attempts=0 unrun=1/stop Empty/ 5 = source document pickle hook run hook_start hook_pending well";
+
+#[test]
+fn gates_where_pending_passes(rt: HostRuntime) -> Result<(), Fail> {
+    expect_rows(&rt, rt.alloc(), &["gate", "--pending-passes"], WITH_PENDING)
+}
+
+// `audit` and `gate` say the same of these.
+const FROM_ONE: &str =
+    "good sources=1 pickles=1 cases=1 attempts=1/ 0 = source document pickle run case:c1:t1 start:a1:c1:1 step:a1:t1 end:a1:t1:PASSED done:a1:false well
+good sources=1 pickles=1 cases=1 attempts=2/ 0 = source document pickle run case:c1:t1 start:a1:c1:1 step:a1:t1 end:a1:t1:FAILED done:a1:true start:a2:c1:2 step:a2:t1 end:a2:t1:PASSED done:a2:false well
+good sources=2 pickles=2 cases=2 attempts=2/ 0 = source document pickle source_b document_b pickle_b run case:c1:t1 case_b start:a1:c1:1 step:a1:t1 end:a1:t1:PASSED done:a1:false start:b1:c2:1 step:b1:t1 end:b1:t1:PASSED done:b1:false well
+bad line 6: 12 AttemptNumber/ 1 = source document pickle run case:c1:t1 start:a1:c1:0
+bad line 6: 12 AttemptNumber/ 1 = source document pickle run case:c1:t1 start:a1:c1:2
+bad line 6: 12 AttemptNumber/ 1 = source document pickle run case:c1:t1 start_without_number
+bad line 10: 12 AttemptNumber/ 1 = source document pickle run case:c1:t1 start:a1:c1:1 step:a1:t1 end:a1:t1:FAILED done:a1:true start:a2:c1:1
+bad line 10: 12 AttemptNumber/ 1 = source document pickle run case:c1:t1 start:a1:c1:1 step:a1:t1 end:a1:t1:FAILED done:a1:true start:a2:c1:3
+bad line 13: 12 AttemptNumber/ 1 = source document pickle source_b document_b pickle_b run case:c1:t1 case_b start:a1:c1:1 step:a1:t1 end:a1:t1:PASSED start:b1:c2:0";
+
+// What `results` says of attempts from 1.
+const RESULTS_FROM_ONE: &str =
+    "c1 PASSED/ 0 = case:c1:t1 start:a1:c1:1 step:a1:t1 end:a1:t1:FAILED done:a1:true start:a2:c1:2 step:a2:t1 end:a2:t1:PASSED done:a2:false
+c1 NONE/c2 SKIPPED/ 0 = case:c1:t1 case:c2:t1 start:a1:c1:1 start:b1:c2:1 step:b1:t1 end:b1:t1:SKIPPED done:b1:false
+bad line 2: 12 AttemptNumber/ 1 = case:c1:t1 start:a1:c1:0
+bad line 2: 12 AttemptNumber/ 1 = case:c1:t1 start_without_number";
+
+#[test]
+fn attempts_that_are_numbered_from_one(rt: HostRuntime) -> Result<(), Fail> {
+    for command in ["audit", "gate"] {
+        let words = [command, "--attempts-from", "1"];
+        expect_rows(&rt, rt.alloc(), &words, FROM_ONE)?;
+        expect_rows(&rt, rt.alloc(), &[command, "--attempts-from=1"], FROM_ONE)?;
+    }
+    let words = ["results", "--attempts-from", "1"];
+    expect_rows(&rt, rt.alloc(), &words, RESULTS_FROM_ONE)
+}
+
+// The first number is 0 where the words say so, or say nothing, and an attempt without a number has 0.
+const FROM_ZERO: &str =
+    "good sources=1 pickles=1 cases=1 attempts=1/ 0 = source document pickle run case:c1:t1 start_without_number step:a1:t1 end:a1:t1:PASSED done:a1:false well
+bad line 6: 12 AttemptNumber/ 1 = source document pickle run case:c1:t1 start:a1:c1:1";
+
+#[test]
+fn attempts_that_are_numbered_from_zero(rt: HostRuntime) -> Result<(), Fail> {
+    for command in ["audit", "gate"] {
+        expect_rows(&rt, rt.alloc(), &[command], FROM_ZERO)?;
+        let words = [command, "--attempts-from", "0"];
+        expect_rows(&rt, rt.alloc(), &words, FROM_ZERO)?;
+    }
+    let bad = "bad line 2: 12 AttemptNumber/ 1 = case:c1:t1 start:a1:c1:1";
+    expect_rows(&rt, rt.alloc(), &["results"], bad)?;
+    expect_rows(&rt, rt.alloc(), &["results", "--attempts-from", "0"], bad)
+}
+
+#[test]
+fn all_options_of_the_gate(rt: HostRuntime) -> Result<(), Fail> {
+    let rows =
+        "good sources=2 pickles=2 cases=1 attempts=1 unrun=1/ 0 = source document pickle source_b document_b pickle_b run case:c1:t1 start:a1:c1:1 step:a1:t1 end:a1:t1:PENDING done:a1:false well";
+    let words = [
+        "gate",
+        "--attempts-from=1",
+        "--allow-unrun",
+        "--pending-passes",
+    ];
+    expect_rows(&rt, rt.alloc(), &words, rows)?;
+    let words = [
+        "gate",
+        "--pending-passes",
+        "--allow-unrun",
+        "--attempts-from",
+        "1",
+    ];
+    expect_rows(&rt, rt.alloc(), &words, rows)
+}
+
+const EMPTY: &str = "good sources=0 pickles=0 cases=0 attempts=0\n";
+
+#[test]
+fn a_gate_whose_read_fails(rt: HostRuntime) -> Result<(), Fail> {
+    let stream = stream_of(rt.alloc(), "run well")?;
+    let source = Source {
+        fails: true,
+        ..whole(stream.as_bytes())
+    };
+    expect_words(
+        &rt,
+        rt.alloc(),
+        &["gate"],
+        source,
+        "trouble ReadFailed\n",
+        3,
+    );
+    Ok(())
+}
+
+// A run of the gate over an empty run, whose answer has status 5 where the sink takes it.
+fn expect_failure(rt: &impl Abort, alloc: Global, sink: Sink, text: &str) -> Result<(), Fail> {
+    let stream = stream_of(alloc, "run well")?;
+    let mut source = whole(stream.as_bytes());
+    let mut sink = sink;
+    expect_run(rt, alloc, &["gate"], &mut source, &mut sink, text, 3);
+    assert_eq!(rt; sink.failed_calls, 1);
+    Ok(())
+}
+
+#[test]
+fn a_gate_whose_write_or_flush_fails(rt: HostRuntime) -> Result<(), Fail> {
+    let alloc = rt.alloc();
+    for takes_none in [false, true] {
+        let sink = Sink {
+            fails_at: 1,
+            takes_none,
+            ..taking(alloc, EMPTY.len())
+        };
+        expect_failure(&rt, alloc, sink, "trouble WriteFailed\n")?;
+        let sink = Sink {
+            fails_at: 2,
+            takes_none,
+            ..taking(alloc, EMPTY.len())
+        };
+        let text = format!(in alloc; "{EMPTY}trouble WriteFailed\n")?;
+        expect_failure(&rt, alloc, sink, text.as_str())?;
+    }
+    let sink = Sink {
+        flush_fails: true,
+        ..taking(alloc, 7)
+    };
+    let text = format!(in alloc; "{EMPTY}stop Empty\n")?;
+    expect_failure(&rt, alloc, sink, text.as_str())
+}

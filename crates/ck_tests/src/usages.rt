@@ -1,0 +1,108 @@
+//! Help, and mistakes in the words.
+use crate::devices::{expect_run, taking, whole};
+use ck_commands::run;
+use std::alloc::Global;
+use std::process::Abort;
+use std::test::Fail;
+
+// The status, the words, and what the text has for the user.
+const TEXTS: &str = "0 --help = Usage: parse compile audit gate results
+0 help = Usage: parse compile audit gate results
+0 -h = Usage: parse compile audit gate results
+0 parse --help = Usage: parse
+0 compile --help = Usage: compile --uri
+0 audit --help = Usage: audit --pending-passes --attempts-from
+0 gate --help = Usage: gate --allow-unrun --pending-passes --attempts-from stop
+0 help gate = Usage: gate --allow-unrun --pending-passes --attempts-from stop
+0 results -h = Usage: results --attempts-from
+2 = Usage: parse compile audit gate results
+2 help x = Usage:
+2 parse x = Usage: parse
+2 parse --attempts-from 1 = Usage: parse
+2 compile = Usage: compile --uri
+2 compile --uri = --uri
+2 compile --uri -x = Usage: compile --uri
+2 compile --uri u --uri v = Usage: compile --uri
+2 compile --uri u --attempts-from 1 = Usage: compile --uri
+2 audit x = Usage: audit
+2 audit --pending-passes --pending-passes = Usage: audit --pending-passes
+2 audit --allow-unrun = Usage: audit
+2 audit --version = Usage: audit
+2 gate x = Usage: gate
+2 gate --uri u = Usage: gate
+2 gate --allow-unrun --allow-unrun = Usage: gate --allow-unrun
+2 gate --allow-unrun=true = Usage: gate
+2 gate -V = Usage: gate
+2 --allow-unrun gate = Usage:
+2 --attempts-from 1 audit = Usage:
+2 results x = Usage: results
+2 results --pending-passes = Usage: results --pending-passes
+2 results --allow-unrun = Usage: results";
+
+// What stands behind a command that takes `--attempts-from`, where that is a mistake.
+const WRONG_ATTEMPTS: &str = "--attempts-from 2
+--attempts-from -1
+--attempts-from 01
+--attempts-from +1
+--attempts-from x
+--attempts-from 18446744073709551616
+--attempts-from=
+--attempts-from
+--attempts-from 1 --attempts-from 1
+--attempts-from=0 --attempts-from 1";
+
+// Nothing is read, and the text that is printed has each of the wanted words.
+fn expect_text(
+    rt: &impl Abort,
+    alloc: Global,
+    words: &[&str],
+    status: u8,
+    wanted: &str,
+) -> Result<(), Fail> {
+    let mut source = whole(b"[]");
+    let mut sink = taking(alloc, 7);
+    assert_eq!(rt; run(alloc, words, &mut source, &mut sink), status);
+    assert_eq!(rt; source.calls, 0);
+    let text = std::str::from_utf8(sink.taken.as_slice())?;
+    for word in wanted.split(' ') {
+        assert!(rt; text.contains(word), "{word} in {text}");
+    }
+    Ok(())
+}
+
+#[test]
+fn texts_that_ask_for_other_words(rt: HostRuntime) -> Result<(), Fail> {
+    for row in TEXTS.lines() {
+        let (given, wanted) = row.split_once(" = ").ok_or("no text")?;
+        let (status, words) = given.split_once(' ').unwrap_or((given, ""));
+        let status: u8 = status.parse().map_err(|_| "no status")?;
+        let words: Vec<&str> = words.split_whitespace().collect(rt.alloc())?;
+        expect_text(&rt, rt.alloc(), words.as_slice(), status, wanted)?;
+    }
+    Ok(())
+}
+
+#[test]
+fn first_numbers_that_are_neither_0_nor_1(rt: HostRuntime) -> Result<(), Fail> {
+    for command in ["audit", "gate", "results"] {
+        for row in WRONG_ATTEMPTS.lines() {
+            let mut words: Vec<&str> = row.split_whitespace().collect(rt.alloc())?;
+            words.insert(0, command)?;
+            expect_text(&rt, rt.alloc(), words.as_slice(), 2, "error:")?;
+        }
+        let words = [command, "--attempts-from", ""];
+        expect_text(&rt, rt.alloc(), &words, 2, "error:")?;
+    }
+    Ok(())
+}
+
+#[test]
+fn the_version(rt: HostRuntime) {
+    for word in ["--version", "-V"] {
+        let mut source = whole(b"[]");
+        let mut sink = taking(rt.alloc(), 7);
+        let told = "cukecheck 0.1.0\n";
+        expect_run(&rt, rt.alloc(), &[word], &mut source, &mut sink, told, 0);
+        assert_eq!(rt; source.calls, 0);
+    }
+}
