@@ -1,0 +1,24 @@
+//! Tests in which each call that takes memory is met with ever more of it: it is refused, or it answers.
+//!
+//! A call is set up with ample memory, met with a room, and judged with ample memory again. While memory is short, nothing
+//! but calls that are met and look-ups and comparisons that take no memory is run.
+#![tactic(auto)]
+
+#[cfg(test)]
+mod attempts;
+#[cfg(test)]
+mod commands;
+#[cfg(test)]
+mod declarations;
+#[cfg(test)]
+mod devices;
+#[cfg(test)]
+mod features;
+#[cfg(test)]
+mod feeds;
+#[cfg(test)]
+mod meeting;
+#[cfg(test)]
+mod rooms;
+#[cfg(test)]
+mod streams;
