@@ -6,10 +6,10 @@ use std::test::Fail;
 const SOURCES: &str =
     "good sources=1 pickles=1 cases=0 attempts=0 unrun=1/ 0 = source document pickle run well
 good sources=1 pickles=1 cases=0 attempts=0 unrun=1/ 0 = source document_named pickle_named run well
-good sources=1 pickles=3 cases=0 attempts=0 unrun=3/ 0 = outline outline_document row_1 row_2 row_3 run well
-bad line 6: 20 SourceIncomplete/ 1 = outline outline_document row_1 row_2 run well
-bad line 6: 9 PickleDiffers/ 1 = outline outline_document row_1 row_2 row_3 row_3_again run well
-bad line 3: 9 PickleDiffers/ 1 = outline outline_document row_2 row_1 row_3 run well
+good sources=1 pickles=3 cases=0 attempts=0 unrun=3/ 0 = outline outline_document first_row second_row third_row run well
+bad line 6: 20 SourceIncomplete/ 1 = outline outline_document first_row second_row run well
+bad line 6: 9 PickleDiffers/ 1 = outline outline_document first_row second_row third_row third_row_again run well
+bad line 3: 9 PickleDiffers/ 1 = outline outline_document second_row first_row third_row run well
 bad line 7: 20 SourceIncomplete/ 1 = source document pickle source_b document_b run well
 bad line 5: 9 PickleDiffers/ 1 = source document source_b document_b pickle_c
 good sources=1 pickles=0 cases=0 attempts=0/ 0 = refused refused_error run unwell
