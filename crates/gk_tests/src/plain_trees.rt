@@ -1,5 +1,6 @@
 //! The parser beside the plain program, and its faults beside what the lines of a text say.
-use gk_tree::{FaultKind, ParseFault, has_document, parse, place};
+use gk_plain::{has_document, place};
+use gk_tree::{FaultKind, ParseFault, parse};
 use std::alloc::Global;
 use std::test::Fail;
 

@@ -3,9 +3,3 @@ pub mod TextLemmas
 pub mod LineLemmas
 mod NodeLemmas
 mod EndLemmas
-pub mod PlainCuts
-pub mod PlainRanks
-pub mod PlainAnswers
-pub mod PlainKinds
-pub mod PlainNumbers
-pub mod PlainFronts

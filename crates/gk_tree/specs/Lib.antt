@@ -4,5 +4,3 @@ pub mod Ends
 pub mod Read
 pub mod Rows
 pub mod Views
-pub mod Plain
-pub mod PlainLines

@@ -65,7 +65,7 @@ pub(crate) fn before_feature<'a>(
     beginning(alloc, progress, false, at, token)
 }
 
-pub(crate) fn is_english(word: &str) -> bool
+fn is_english(word: &str) -> bool
     ensures { result ≡ machine.same_text (text_of word.now) english }
 {
     word == "en"

@@ -1,5 +1,4 @@
-//! The parser of feature files: it takes exactly the texts of the grammar, and makes their one document. Beside it stands a
-//! plain program of the grammar, for small texts.
+//! The parser of feature files: it takes exactly the texts of the grammar, and makes their one document.
 #![tactic(auto)]
 
 mod assemble;
@@ -8,10 +7,7 @@ mod blocks;
 mod chunk;
 mod fault;
 mod header;
-mod kinds;
 mod one_pass;
-mod parts;
-mod plain;
 mod read;
 mod state;
 mod steps;
@@ -25,4 +21,3 @@ pub use gk_document::{
 };
 pub use gk_grammar::FaultKind;
 pub use one_pass::parse;
-pub use plain::{has_document, place};

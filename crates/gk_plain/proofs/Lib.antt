@@ -1,0 +1,6 @@
+pub mod PlainCuts
+pub mod PlainRanks
+pub mod PlainAnswers
+pub mod PlainKinds
+pub mod PlainNumbers
+pub mod PlainFronts
