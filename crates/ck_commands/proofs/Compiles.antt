@@ -3,7 +3,7 @@ use Rattle.std.proofs.Common.{◌≡◌, ◌⊎◌, ℕ, List, Option, Some, Non
 use Rattle.std.specs.Prelude.{IfSome}
 use Rattle.std.specs.Io.KnownBytes.{Appends}
 use Rattle.gk_tree.specs.declared.fault.ParseFault.{ParseFault}
-use Rattle.cm_audit.specs.Faults.{IsRefusedWith}
+use Rattle.cm_compile.specs.Faults.{IsRefusedWith}
 use Rattle.ck_commands.specs.Features.{IsFaultOf, IsRefused, fault_text}
 use Rattle.ck_commands.specs.Run.{Compiles, TellsFault}
 use Rattle.ck_commands.specs.Texts.{IsTextOf}

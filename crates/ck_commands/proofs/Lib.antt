@@ -6,4 +6,3 @@ pub mod Gates
 pub mod Lines
 pub mod Runs
 pub mod TextLemmas
-pub mod Writes

@@ -45,7 +45,8 @@ result_text r = r.0 ++ codes " " ++ reported_word r.1 ++ line_feed ∷ []
 
 abbrev pub answer_text : Answer → List ℕ
 answer_text (results rs) = flat_map result_text rs
-answer_text (bad_line number fault) = codes "bad line " ++ decimal number ++ codes ": " ++ label fault ++ line_feed ∷ []
+answer_text (bad_line number fault) =
+    codes "bad line " ++ decimal number ++ codes ": " ++ label fault ++ line_feed ∷ []
 answer_text (trouble reason) = codes "trouble " ++ trouble_name reason ++ line_feed ∷ []
 
 abbrev pub answer_status : Answer → ℕ
@@ -53,10 +54,12 @@ answer_status (results rs) = 0
 answer_status (bad_line number fault) = 1
 answer_status (trouble reason) = 3
 
--- the status is that of the answer, and its text was written behind what was written before
+-- the status is that of the answer, and its text was written after what was written before
 abbrev pub Answers : Answer → ℕ → Option (List ℕ) → Option (List ℕ) → Type 0
 Answers a status old new = (status ≡ answer_status a) × Appends old new (answer_text a)
 
 -- it answers what is told, or that memory was refused
 abbrev pub AnswersOrNoMemory : Told → ℕ → Option (List ℕ) → Option (List ℕ) → Type 0
-AnswersOrNoMemory told status old new = ((a : Answer) × IsAnswer told a × Answers a status old new) ⊎ Answers (trouble Memory) status old new
+AnswersOrNoMemory told status old new =
+    ((a : Answer) × IsAnswer told a × Answers a status old new)
+    ⊎ Answers (trouble Memory) status old new

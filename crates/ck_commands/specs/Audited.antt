@@ -46,15 +46,19 @@ reason_label reason.UnknownStatus = codes "3 UnknownStatus"
 reason_label reason.SourceTooLong = codes "5 SourceTooLong"
 
 abbrev pub finding_text : ℕ → Finding → List ℕ
-finding_text n (IsBad f) = codes "bad line " ++ decimal n ++ codes ": " ++ fault_label f ++ line_feed ∷ []
-finding_text n (IsUnsupported r) = codes "unsupported line " ++ decimal n ++ codes ": " ++ reason_label r ++ line_feed ∷ []
+finding_text n (IsBad f) =
+    codes "bad line " ++ decimal n ++ codes ": " ++ fault_label f ++ line_feed ∷ []
+finding_text n (IsUnsupported r) =
+    codes "unsupported line " ++ decimal n ++ codes ": " ++ reason_label r ++ line_feed ∷ []
 
 -- the pickles that no case names, where there are any
 abbrev pub unrun_text : ℕ → List ℕ
 unrun_text n = if n == 0 then [] else (codes " unrun=" ++ decimal n)
 
 abbrev pub plain_counts_text : Counts → List ℕ
-plain_counts_text c = codes "good sources=" ++ decimal c.sources ++ codes " pickles=" ++ decimal c.pickles ++ codes " cases=" ++ decimal c.cases ++ codes " attempts=" ++ decimal c.attempts
+plain_counts_text c =
+    codes "good sources=" ++ decimal c.sources ++ codes " pickles=" ++ decimal c.pickles
+    ++ codes " cases=" ++ decimal c.cases ++ codes " attempts=" ++ decimal c.attempts
 
 abbrev pub counts_text : Counts → List ℕ
 counts_text c = plain_counts_text c ++ unrun_text c.unrun ++ line_feed ∷ []
@@ -73,13 +77,14 @@ verdict_status (GoodWith c success) = 0
 verdict_status (Found n f) = finding_status f
 verdict_status (Failed t) = 3
 
--- the status is that of the answer, and its text was written behind what was written before
+-- the status is that of the answer, and its text was written after what was written before
 abbrev pub TellsAnswer : Answer → ℕ → Option (List ℕ) → Option (List ℕ) → Type 0
 TellsAnswer a status old new = (status ≡ verdict_status a) × Appends old new (verdict_text a)
 
 -- the same, or that memory was refused
 abbrev pub TellsVerdict : Answer → ℕ → Option (List ℕ) → Option (List ℕ) → Type 0
-TellsVerdict a status old new = TellsAnswer a status old new ⊎ TellsAnswer (Failed Memory) status old new
+TellsVerdict a status old new =
+    TellsAnswer a status old new ⊎ TellsAnswer (Failed Memory) status old new
 
 -- a good stream by the settings, whatever its counts
 abbrev pub IsGoodSomehow : Settings → List ℕ → Type 0

@@ -68,7 +68,8 @@ audit_command = with_rule (with_rule (new_app (codes "audit")) pending_rule) att
 
 -- the command `gate [--allow-unrun] [--pending-passes] [--attempts-from N]`
 abbrev pub gate_command : App
-gate_command = with_rule (with_rule (with_rule (new_app (codes "gate")) unrun_rule) pending_rule) attempts_rule
+gate_command =
+    with_rule (with_rule (with_rule (new_app (codes "gate")) unrun_rule) pending_rule) attempts_rule
 
 -- the command `results [--attempts-from N]`
 abbrev pub results_command : App
@@ -76,7 +77,9 @@ results_command = with_rule (new_app (codes "results")) attempts_rule
 
 -- the program, which has a version and wants a command
 abbrev pub bare_app : App
-bare_app = on_top (λ s. record s { has_version = true; subcommand_required = true }) (new_app (codes "cukecheck"))
+bare_app =
+    on_top (λ s. record s { has_version = true; subcommand_required = true })
+    (new_app (codes "cukecheck"))
 
 -- the program with its command `parse`
 abbrev pub parse_app : App
@@ -114,7 +117,7 @@ first_attempt_named (Some text) =
     else if bytes_eq text (codes "1") then Some 1
     else None
 
--- the number and the policy that the values behind a command ask for
+-- the number and the policy that the values after a command ask for
 abbrev pub first_attempt_in : List Row → Option ℕ
 first_attempt_in rows = first_attempt_named (first_of (codes "attempts-from") rows)
 
@@ -122,19 +125,22 @@ abbrev pub policy_in : List Row → Policy
 policy_in rows = policy_named (first_of (codes "pending-passes") rows)
 
 abbrev pub settings_in : List Row → Option Settings
-settings_in rows = option_map (λ n. record { policy = policy_in rows; first_attempt = n }) (first_attempt_in rows)
+settings_in rows =
+    option_map (λ n. record { policy = policy_in rows; first_attempt = n }) (first_attempt_in rows)
 
 -- whether pickles without a case may pass
 abbrev pub allows_unrun_in : List Row → Bool
 allows_unrun_in rows = is_given (first_of (codes "allow-unrun") rows)
 
--- the command of this name, with the values that stand behind it
+-- the command of this name, with the values that come after it
 abbrev pub command_named : Text → List Row → Option Command
 command_named name rows =
     if bytes_eq name (codes "parse") then Some ask_parse
-    else if bytes_eq name (codes "compile") then option_map ask_compile (first_of (codes "uri") rows)
+    else if bytes_eq name (codes "compile") then option_map ask_compile
+    (first_of (codes "uri") rows)
     else if bytes_eq name (codes "audit") then option_map ask_audit (settings_in rows)
-    else if bytes_eq name (codes "gate") then option_map (λ s. ask_gate s (allows_unrun_in rows)) (settings_in rows)
+    else if bytes_eq name (codes "gate") then option_map (λ s. ask_gate s (allows_unrun_in rows))
+    (settings_in rows)
     else if bytes_eq name (codes "results") then option_map ask_results (first_attempt_in rows)
     else None
 

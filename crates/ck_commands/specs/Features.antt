@@ -30,7 +30,8 @@ IsNoText bytes = (length bytes ≤ byte_limit) × (IsUtf8 bytes → ⊥)
 
 -- why a feature file is refused: it is too long, or its text has the fault
 abbrev pub IsRefused : List ℕ → ParseFault → Type 0
-IsRefused bytes f = (HasTooMany bytes × (f ≡ too_long)) ⊎ (IsReadable bytes × HasFault bytes f.kind f.line f.column)
+IsRefused bytes f =
+    (HasTooMany bytes × (f ≡ too_long)) ⊎ (IsReadable bytes × HasFault bytes f.kind f.line f.column)
 
 -- Why the bytes give no document, where they could all be read. Memory may be refused of any.
 abbrev pub IsFaultOf : List ℕ → FeatureFault → Type 0
@@ -59,11 +60,14 @@ kind_label kind.Memory = codes "7 Memory"
 -- `refused L:C N Name`
 abbrev pub refused_text : ParseFault → List ℕ
 refused_text f =
-    codes "refused " ++ decimal f.line ++ codes ":" ++ decimal f.column ++ codes " " ++ kind_label f.kind ++ line_feed ∷ []
+    codes "refused " ++ decimal f.line ++ codes ":" ++ decimal f.column ++ codes " "
+    ++ kind_label f.kind ++ line_feed ∷ []
 
 -- `ok nodes=N comments=C`
 abbrev pub document_text : Document → List ℕ
-document_text d = codes "ok nodes=" ++ decimal d.nodes ++ codes " comments=" ++ decimal (length d.comments) ++ line_feed ∷ []
+document_text d =
+    codes "ok nodes=" ++ decimal d.nodes ++ codes " comments=" ++ decimal (length d.comments)
+    ++ line_feed ∷ []
 
 abbrev pub fault_text : FeatureFault → List ℕ
 fault_text (Refused f) = refused_text f

@@ -36,11 +36,14 @@ held_status (Some h) status = 5
 abbrev pub gate_status : (allows_unrun : Bool) → Answer → ℕ
 gate_status allows_unrun a = held_status (hold_in allows_unrun a) (verdict_status a)
 
--- the status is that of the answer, and its text was written behind what was written before; or it is told that memory was refused
-abbrev pub TellsGate : (allows_unrun : Bool) → Answer → ℕ → Option (List ℕ) → Option (List ℕ) → Type 0
+-- the status is that of the answer, and its text was written after what was written before; or it is told that memory was refused
+abbrev pub TellsGate : (allows_unrun : Bool) → Answer → ℕ → Option (List ℕ) → Option (List ℕ)
+    → Type 0
 TellsGate allows_unrun a status old new =
-    ((status ≡ gate_status allows_unrun a) × Appends old new (gate_text allows_unrun a)) ⊎ TellsAnswer (Failed Memory) status old new
+    ((status ≡ gate_status allows_unrun a) × Appends old new (gate_text allows_unrun a))
+    ⊎ TellsAnswer (Failed Memory) status old new
 
 -- a released stream, whatever its counts
 abbrev pub IsReleasedSomehow : Settings → (allows_unrun : Bool) → List ℕ → Type 0
-IsReleasedSomehow settings allows_unrun bytes = (counts : Counts) × IsReleasedStream settings allows_unrun bytes counts
+IsReleasedSomehow settings allows_unrun bytes =
+    (counts : Counts) × IsReleasedStream settings allows_unrun bytes counts

@@ -76,7 +76,8 @@ trouble_name Memory = codes "Memory"
 
 abbrev pub text_of : Outcome → List ℕ
 text_of (table t) = table_text t
-text_of (bad_line number fault) = codes "bad line " ++ decimal number ++ codes ": " ++ label fault ++ line_feed ∷ []
+text_of (bad_line number fault) =
+    codes "bad line " ++ decimal number ++ codes ": " ++ label fault ++ line_feed ∷ []
 text_of (trouble reason) = codes "trouble " ++ trouble_name reason ++ line_feed ∷ []
 
 abbrev pub status_of : Outcome → ℕ

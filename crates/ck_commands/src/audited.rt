@@ -20,7 +20,8 @@ use std::alloc::{AllocError, Global};
 const UNSUPPORTED_STATUS: u8 = 4;
 
 fn field_text(alloc: Global, kind: &str, member: &str) -> Result<String, AllocError>
-    ensures { IfOk result (λ text. string_bytes text ≡ fault_label (bad.Field kind.now member.now)) }
+    ensures { IfOk result (λ text. string_bytes text
+        ≡ fault_label (bad.Field kind.now member.now)) }
 {
     let text = format!(in alloc; "3 Field {kind}.{member}")?;
     Ok(text)
@@ -155,7 +156,8 @@ pub(crate) fn verdict_report(
     alloc: Global,
     answer: &Result<Audited, Trouble>,
 ) -> Result<Report, AllocError>
-    ensures text { IfOk result (λ report. string_bytes report.text ≡ verdict_text (answered answer.now)) }
+    ensures text { IfOk result (λ report. string_bytes report.text
+        ≡ verdict_text (answered answer.now)) }
     ensures status { IfOk result (λ report. report.status ≡ verdict_status (answered answer.now)) }
 {
     let status = verdict_code(answer);
@@ -173,9 +175,11 @@ pub(crate) fn audit_stream<R: ByteSource, W: ByteSink>(
     ensures told { NoneFailed (R.failed_calls source.old) (R.failed_calls source.new)
         → NoneFailed (W.failed_calls sink.old) (W.failed_calls sink.new)
         → IfSome (R.to_come source.old) (λ bytes.
-        TellsVerdict (answer_for (told settings bytes)) result (W.taken sink.old) (W.taken sink.new)) }
+        TellsVerdict (answer_for (told settings bytes)) result (W.taken sink.old)
+        (W.taken sink.new)) }
     ensures good { result ≡ 0 → IfSome (R.to_come source.old) (IsGoodSomehow settings) }
-    ensures unwritten { W.failed_calls sink.new ≢ W.failed_calls sink.old → result ≡ TROUBLE_STATUS }
+    ensures unwritten { W.failed_calls sink.new ≢ W.failed_calls sink.old
+        → result ≡ TROUBLE_STATUS }
     ensures unread { result ≡ 0 → R.failed_calls source.new ≡ R.failed_calls source.old }
 {
     let answer = audit_run(alloc, source, settings);

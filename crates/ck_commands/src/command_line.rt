@@ -82,7 +82,7 @@ fn flag<'a>(alloc: Global, name: &'a str, text: &'a str) -> Arg<'a>
         .help(text)
 }
 
-// A command with no argument so far. Its help says what it is about, and more behind its options.
+// A command with no argument so far. Its help says what it is about, and more after its options.
 fn new_command<'a>(alloc: Global, name: &'a str, about: &'a str, more: &'a str) -> Command<'a>
     ensures app { app_of result ≡ new_app name.entry.now }
     ensures local { (fields_of result).has_globals ≡ false }
@@ -165,7 +165,7 @@ fn refusal_of(alloc: Global, error: &Error) -> Refusal
     }
 }
 
-// The text behind an option or a flag.
+// The text after an option or a flag.
 fn text_of<'a>(values: &ArgMatches<'a>, name: &str) -> Option<&'a str>
     ensures { option_map (λ s. s.now) result ≡ first_of name.now (rows_of (found_of values.now)) }
 {
@@ -182,7 +182,7 @@ fn has_flag<'a>(values: &ArgMatches<'a>, name: &str) -> bool
     }
 }
 
-// The policy that the values behind a command ask for.
+// The policy that the values after a command ask for.
 fn policy_in<'a>(values: &ArgMatches<'a>) -> Policy
     ensures { result ≡ policy_in (rows_of (found_of values.now)) }
 {
@@ -209,7 +209,7 @@ fn first_attempt_in<'a>(values: &ArgMatches<'a>) -> Option<u64>
     }
 }
 
-// The settings that the values behind a command ask for.
+// The settings that the values after a command ask for.
 fn settings_in<'a>(values: &ArgMatches<'a>) -> Option<Settings>
     ensures { result ≡ settings_in (rows_of (found_of values.now)) }
 {
@@ -220,7 +220,7 @@ fn settings_in<'a>(values: &ArgMatches<'a>) -> Option<Settings>
     })
 }
 
-// The command of this name, with the values that stand behind it.
+// The command of this name, with the values that come after it.
 fn choice_named<'a>(name: &str, values: &ArgMatches<'a>) -> Option<Choice<'a>>
     ensures { option_map asked result ≡ command_named name.now (rows_of (found_of values.now)) }
 {

@@ -5,7 +5,7 @@ ghost use Rattle.ck_commands.specs.Run.{Compiles, NoneFailed};
 use crate::feature::FeatureFault;
 use crate::parsed::tell_fault;
 use crate::write::{TROUBLE_STATUS, tell_write_failed};
-use cm_audit::{CompileFault, write_compiled};
+use cm_compile::{CompileFault, write_compiled};
 use cm_envelope::{ByteSink, DeviceFailed};
 use std::alloc::Global;
 
@@ -13,7 +13,8 @@ use std::alloc::Global;
 pub(crate) fn compile_text<W: ByteSink>(alloc: Global, uri: &str, text: &str, sink: &mut W) -> u8
     ensures told { NoneFailed (W.failed_calls sink.old) (W.failed_calls sink.new)
         → Compiles uri.now text.now result (W.taken sink.old) (W.taken sink.new) }
-    ensures unwritten { W.failed_calls sink.new ≢ W.failed_calls sink.old → result ≡ TROUBLE_STATUS }
+    ensures unwritten { W.failed_calls sink.new ≢ W.failed_calls sink.old
+        → result ≡ TROUBLE_STATUS }
 {
     match write_compiled(alloc, uri, text, sink) {
         Ok(()) => match sink.flush() {

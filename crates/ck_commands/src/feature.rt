@@ -63,8 +63,10 @@ pub(crate) fn read_document<R: ByteSource>(
     alloc: Global,
     source: &mut R,
 ) -> Result<Document, FeatureFault>
-    ensures answer { has_no_bytes result ≡ false → IfSome (R.to_come source.old) (λ bytes. IsAnswer bytes result) }
-    ensures failures { Counts (has_no_bytes result) (R.failed_calls source.old) (R.failed_calls source.new) }
+    ensures answer { has_no_bytes result ≡ false
+        → IfSome (R.to_come source.old) (λ bytes. IsAnswer bytes result) }
+    ensures failures { Counts (has_no_bytes result) (R.failed_calls source.old)
+        (R.failed_calls source.new) }
 {
     let text = read_text(alloc, source)?;
     let document = parse(alloc, text.as_str())?;

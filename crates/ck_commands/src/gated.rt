@@ -59,7 +59,8 @@ fn hold_name(hold: Hold) -> &'static str
 
 // Adds the line of why the run isn't to be released.
 fn add_hold(text: &mut String, hold: Hold) -> Result<(), AllocError>
-    ensures { IfOk result (λ done. string_bytes text.new ≡ string_bytes text.old ++ hold_text (Some hold)) }
+    ensures { IfOk result (λ done. string_bytes text.new
+        ≡ string_bytes text.old ++ hold_text (Some hold)) }
 {
     text.push_str(hold_name(hold))?;
     text.push_str("\n")?;
@@ -72,8 +73,10 @@ fn gate_report(
     allows_unrun: bool,
     answer: &Result<Audited, Trouble>,
 ) -> Result<Report, AllocError>
-    ensures text { IfOk result (λ report. string_bytes report.text ≡ gate_text allows_unrun (answered answer.now)) }
-    ensures status { IfOk result (λ report. report.status ≡ gate_status allows_unrun (answered answer.now)) }
+    ensures text { IfOk result (λ report. string_bytes report.text
+        ≡ gate_text allows_unrun (answered answer.now)) }
+    ensures status { IfOk result (λ report. report.status
+        ≡ gate_status allows_unrun (answered answer.now)) }
 {
     let mut report = verdict_report(alloc, answer)?;
     if let Some(hold) = hold_in(allows_unrun, answer) {
@@ -98,7 +101,8 @@ pub(crate) fn gate_stream<R: ByteSource, W: ByteSink>(
         (answer_for (told settings bytes)) result (W.taken sink.old) (W.taken sink.new)) }
     ensures released { result ≡ 0
         → IfSome (R.to_come source.old) (IsReleasedSomehow settings allows_unrun) }
-    ensures unwritten { W.failed_calls sink.new ≢ W.failed_calls sink.old → result ≡ TROUBLE_STATUS }
+    ensures unwritten { W.failed_calls sink.new ≢ W.failed_calls sink.old
+        → result ≡ TROUBLE_STATUS }
     ensures unread { result ≡ 0 → R.failed_calls source.new ≡ R.failed_calls source.old }
 {
     let answer = audit_run(alloc, source, settings);

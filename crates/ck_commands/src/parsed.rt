@@ -92,7 +92,8 @@ pub(crate) fn tell_fault<W: ByteSink>(alloc: Global, fault: FeatureFault, sink: 
     ensures told { NoneFailed (W.failed_calls sink.old) (W.failed_calls sink.new)
         → TellsFault fault result (W.taken sink.old) (W.taken sink.new)
         ⊎ TellsFault Memory result (W.taken sink.old) (W.taken sink.new) }
-    ensures unwritten { W.failed_calls sink.new ≢ W.failed_calls sink.old → result ≡ TROUBLE_STATUS }
+    ensures unwritten { W.failed_calls sink.new ≢ W.failed_calls sink.old
+        → result ≡ TROUBLE_STATUS }
     ensures some { result ≢ 0 }
 {
     match fault_report(alloc, fault) {

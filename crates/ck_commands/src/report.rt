@@ -66,7 +66,8 @@ pub(crate) fn trouble_text(alloc: Global, reason: Trouble) -> Result<String, All
 /// The report of a stream that was read.
 pub(crate) fn report_of(alloc: Global, read: &Result<Cases, Stop>) -> Result<Report, AllocError>
     requires { IfOk read.now IsListed }
-    ensures text { IfOk result (λ report. string_bytes report.text ≡ text_of (held_outcome read.now)) }
+    ensures text { IfOk result (λ report. string_bytes report.text
+        ≡ text_of (held_outcome read.now)) }
     ensures status { IfOk result (λ report. report.status ≡ status_of (held_outcome read.now)) }
 {
     match read {

@@ -29,7 +29,8 @@ const USAGE_STATUS: u8 = 2;
 
 // The words with the program's name before them.
 fn with_name<'a>(alloc: Global, words: &[&'a str]) -> Result<Vec<&'a str>, AllocError>
-    ensures { IfOk result (λ all. map (λ w. w.now) all.items ≡ codes "cukecheck" ∷ map (λ w. w.now) words.now) }
+    ensures { IfOk result (λ all. map (λ w. w.now) all.items
+        ≡ codes "cukecheck" ∷ map (λ w. w.now) words.now) }
 {
     let mut all = Vec::new(alloc);
     all.push("cukecheck")?;
@@ -46,7 +47,8 @@ fn results<R: ByteSource, W: ByteSink>(
     ensures told { NoneFailed (R.failed_calls source.old) (R.failed_calls source.new)
         → NoneFailed (W.failed_calls sink.old) (W.failed_calls sink.new)
         → IfSome (R.to_come source.old) (λ bytes.
-        TellsOrNoMemory (outcome_of first_attempt bytes) result (W.taken sink.old) (W.taken sink.new)) }
+        TellsOrNoMemory (outcome_of first_attempt bytes) result (W.taken sink.old)
+        (W.taken sink.new)) }
     ensures unwritten { W.failed_calls sink.new ≢ W.failed_calls sink.old → result ≡ 3 }
     ensures unread { result ≡ 0 → R.failed_calls source.new ≡ R.failed_calls source.old }
 {
@@ -62,7 +64,8 @@ fn results<R: ByteSource, W: ByteSink>(
 fn parse<R: ByteSource, W: ByteSink>(alloc: Global, source: &mut R, sink: &mut W) -> u8
     ensures told { NoneFailed (R.failed_calls source.old) (R.failed_calls source.new)
         → NoneFailed (W.failed_calls sink.old) (W.failed_calls sink.new)
-        → IfSome (R.to_come source.old) (λ bytes. TellsFeature bytes result (W.taken sink.old) (W.taken sink.new)) }
+        → IfSome (R.to_come source.old) (λ bytes.
+        TellsFeature bytes result (W.taken sink.old) (W.taken sink.new)) }
     ensures unwritten { W.failed_calls sink.new ≢ W.failed_calls sink.old → result ≡ 3 }
     ensures unread { result ≡ 0 → R.failed_calls source.new ≡ R.failed_calls source.old }
 {
@@ -78,7 +81,8 @@ fn parse<R: ByteSource, W: ByteSink>(alloc: Global, source: &mut R, sink: &mut W
 fn compile<R: ByteSource, W: ByteSink>(alloc: Global, uri: &str, source: &mut R, sink: &mut W) -> u8
     ensures told { NoneFailed (R.failed_calls source.old) (R.failed_calls source.new)
         → NoneFailed (W.failed_calls sink.old) (W.failed_calls sink.new)
-        → IfSome (R.to_come source.old) (λ bytes. Compiles uri.now bytes result (W.taken sink.old) (W.taken sink.new)) }
+        → IfSome (R.to_come source.old) (λ bytes.
+        Compiles uri.now bytes result (W.taken sink.old) (W.taken sink.new)) }
     ensures unwritten { W.failed_calls sink.new ≢ W.failed_calls sink.old → result ≡ 3 }
     ensures unread { result ≡ 0 → R.failed_calls source.new ≡ R.failed_calls source.old }
 {
@@ -99,7 +103,8 @@ pub fn run<R: ByteSource, W: ByteSink>(
     sink: &mut W,
 ) -> u8
     // The table is that of the stream's test cases, whose attempts are numbered from the number that the words ask for.
-    ensures results { (first : ℕ) → command_of (codes "cukecheck" ∷ map (λ w. w.now) words.now) ≡ Some (ask_results first)
+    ensures results { (first : ℕ) → command_of (codes "cukecheck" ∷ map (λ w. w.now) words.now)
+        ≡ Some (ask_results first)
         → NoneFailed (R.failed_calls source.old) (R.failed_calls source.new)
         → NoneFailed (W.failed_calls sink.old) (W.failed_calls sink.new)
         → IfSome (R.to_come source.old) (λ bytes.
@@ -107,38 +112,47 @@ pub fn run<R: ByteSource, W: ByteSink>(
 
     // The verdict is that of the stream over all its lines by the settings that the words ask for, and status 0 is for good
     // streams alone.
-    ensures audit { (settings : Settings) → command_of (codes "cukecheck" ∷ map (λ w. w.now) words.now) ≡ Some (ask_audit settings)
+    ensures audit { (settings : Settings) → command_of
+        (codes "cukecheck" ∷ map (λ w. w.now) words.now) ≡ Some (ask_audit settings)
         → NoneFailed (R.failed_calls source.old) (R.failed_calls source.new)
         → NoneFailed (W.failed_calls sink.old) (W.failed_calls sink.new)
         → IfSome (R.to_come source.old) (λ bytes.
-        TellsVerdict (answer_for (stream.told settings bytes)) result (W.taken sink.old) (W.taken sink.new)) }
-    ensures good { (settings : Settings) → command_of (codes "cukecheck" ∷ map (λ w. w.now) words.now) ≡ Some (ask_audit settings)
+        TellsVerdict (answer_for (stream.told settings bytes)) result (W.taken sink.old)
+        (W.taken sink.new)) }
+    ensures good { (settings : Settings) → command_of
+        (codes "cukecheck" ∷ map (λ w. w.now) words.now) ≡ Some (ask_audit settings)
         → result ≡ 0 → IfSome (R.to_come source.old) (IsGoodSomehow settings) }
 
     // The same verdict, and where the stream is good and its run isn't to be released, why not. Status 0 is for released
     // runs alone.
     ensures gate { (settings : Settings) (allows_unrun : Bool)
-        → command_of (codes "cukecheck" ∷ map (λ w. w.now) words.now) ≡ Some (ask_gate settings allows_unrun)
+        → command_of (codes "cukecheck" ∷ map (λ w. w.now) words.now)
+        ≡ Some (ask_gate settings allows_unrun)
         → NoneFailed (R.failed_calls source.old) (R.failed_calls source.new)
         → NoneFailed (W.failed_calls sink.old) (W.failed_calls sink.new)
         → IfSome (R.to_come source.old) (λ bytes. TellsGate allows_unrun
         (answer_for (stream.told settings bytes)) result (W.taken sink.old) (W.taken sink.new)) }
     ensures released { (settings : Settings) (allows_unrun : Bool)
-        → command_of (codes "cukecheck" ∷ map (λ w. w.now) words.now) ≡ Some (ask_gate settings allows_unrun)
+        → command_of (codes "cukecheck" ∷ map (λ w. w.now) words.now)
+        ≡ Some (ask_gate settings allows_unrun)
         → result ≡ 0 → IfSome (R.to_come source.old) (IsReleasedSomehow settings allows_unrun) }
 
     ensures parse { command_of (codes "cukecheck" ∷ map (λ w. w.now) words.now) ≡ Some ask_parse
         → NoneFailed (R.failed_calls source.old) (R.failed_calls source.new)
         → NoneFailed (W.failed_calls sink.old) (W.failed_calls sink.new)
-        → IfSome (R.to_come source.old) (λ bytes. TellsFeature bytes result (W.taken sink.old) (W.taken sink.new)) }
+        → IfSome (R.to_come source.old) (λ bytes.
+        TellsFeature bytes result (W.taken sink.old) (W.taken sink.new)) }
 
-    ensures compile { (uri : List ℕ) → command_of (codes "cukecheck" ∷ map (λ w. w.now) words.now) ≡ Some (ask_compile uri)
+    ensures compile { (uri : List ℕ) → command_of (codes "cukecheck" ∷ map (λ w. w.now) words.now)
+        ≡ Some (ask_compile uri)
         → NoneFailed (R.failed_calls source.old) (R.failed_calls source.new)
         → NoneFailed (W.failed_calls sink.old) (W.failed_calls sink.new)
-        → IfSome (R.to_come source.old) (λ bytes. Compiles uri bytes result (W.taken sink.old) (W.taken sink.new)) }
+        → IfSome (R.to_come source.old) (λ bytes.
+        Compiles uri bytes result (W.taken sink.old) (W.taken sink.new)) }
 
     // Words that ask for no command leave the source alone.
-    ensures refused { command_of (codes "cukecheck" ∷ map (λ w. w.now) words.now) ≡ None → source.new ≡ source.old }
+    ensures refused { command_of (codes "cukecheck" ∷ map (λ w. w.now) words.now) ≡ None
+        → source.new ≡ source.old }
 
     // A failed write or flush is seen in the status, and so is a failed read.
     ensures unwritten { W.failed_calls sink.new ≢ W.failed_calls sink.old → result ≡ 3 }

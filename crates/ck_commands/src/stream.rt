@@ -121,7 +121,8 @@ fn step_ids(alloc: Global, steps: Sequence<TestStep>) -> Result<Vec<String>, All
 
 fn add_case(alloc: Global, cases: &mut Cases, case: TestCase) -> Result<(), LineStop>
     requires { IsListed cases.old }
-    ensures { LeavesCases (after_envelope cases.old.track (Ok (Envelope.TestCase case))) cases.new result }
+    ensures { LeavesCases (after_envelope cases.old.track
+        (Ok (Envelope.TestCase case))) cases.new result }
 {
     let TestCase { id, test_steps, .. } = case;
     let steps = step_ids(alloc, test_steps)?;
@@ -134,7 +135,8 @@ fn add_case(alloc: Global, cases: &mut Cases, case: TestCase) -> Result<(), Line
 #[tactic(auto, using(crate::proofs::Calls::ids_of_started))]
 fn start_attempt(cases: &mut Cases, started: &TestCaseStarted) -> Result<(), LineStop>
     requires { IsListed cases.old }
-    ensures { LeavesCases (after_envelope cases.old.track (Ok (Envelope.TestCaseStarted started.now))) cases.new result }
+    ensures { LeavesCases (after_envelope cases.old.track
+        (Ok (Envelope.TestCaseStarted started.now))) cases.new result }
 {
     let case = started.test_case_id.as_str();
     cases
@@ -146,7 +148,8 @@ fn start_attempt(cases: &mut Cases, started: &TestCaseStarted) -> Result<(), Lin
 #[tactic(auto, using(crate::proofs::Calls::ids_of_started))]
 fn start_step(cases: &mut Cases, started: &TestStepStarted) -> Result<(), LineStop>
     requires { IsListed cases.old }
-    ensures { LeavesCases (after_envelope cases.old.track (Ok (Envelope.TestStepStarted started.now))) cases.new result }
+    ensures { LeavesCases (after_envelope cases.old.track
+        (Ok (Envelope.TestStepStarted started.now))) cases.new result }
 {
     let attempt = started.test_case_started_id.as_str();
     cases
@@ -158,7 +161,8 @@ fn start_step(cases: &mut Cases, started: &TestStepStarted) -> Result<(), LineSt
 #[tactic(auto, using(crate::proofs::Calls::ids_of_started))]
 fn finish_step(cases: &mut Cases, finished: &TestStepFinished) -> Result<(), LineStop>
     requires { IsListed cases.old }
-    ensures { LeavesCases (after_envelope cases.old.track (Ok (Envelope.TestStepFinished finished.now))) cases.new result }
+    ensures { LeavesCases (after_envelope cases.old.track
+        (Ok (Envelope.TestStepFinished finished.now))) cases.new result }
 {
     let attempt = finished.test_case_started_id.as_str();
     let step = finished.test_step_id.as_str();
@@ -170,7 +174,8 @@ fn finish_step(cases: &mut Cases, finished: &TestStepFinished) -> Result<(), Lin
 #[tactic(auto, using(crate::proofs::Calls::ids_of_finished))]
 fn finish_attempt(cases: &mut Cases, finished: &TestCaseFinished) -> Result<(), LineStop>
     requires { IsListed cases.old }
-    ensures { LeavesCases (after_envelope cases.old.track (Ok (Envelope.TestCaseFinished finished.now))) cases.new result }
+    ensures { LeavesCases (after_envelope cases.old.track
+        (Ok (Envelope.TestCaseFinished finished.now))) cases.new result }
 {
     let attempt = finished.test_case_started_id.as_str();
     cases.track.finish(attempt, finished.will_be_retried)?;
@@ -229,9 +234,11 @@ pub(crate) fn read_stream<S: ByteSource>(
     first_attempt: u64,
     source: &mut S,
 ) -> Result<Cases, Stop>
-    ensures outcome { IfSome (S.to_come source.old) (λ bytes. HasOutcome (outcome_of first_attempt bytes) result) }
+    ensures outcome { IfSome (S.to_come source.old)
+        (λ bytes. HasOutcome (outcome_of first_attempt bytes) result) }
     ensures listed { IfOk result IsListed }
-    ensures failures { Counts (is_failed_read result) (S.failed_calls source.old) (S.failed_calls source.new) }
+    ensures failures { Counts (is_failed_read result) (S.failed_calls source.old)
+        (S.failed_calls source.new) }
 {
     let mut feed = Feed::new(alloc);
     let mut cases = Cases {

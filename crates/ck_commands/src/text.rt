@@ -60,10 +60,14 @@ fn gather<R: ByteSource>(
 ) -> Result<(), TextFault>
     requires room { length piece.old ≡ PIECE }
     requires none { bytes.old.items ≡ [] }
-    ensures few { (read : List ℕ) × Consumes (R.to_come source.old) (R.to_come source.new) read × (length read ≤ TEXT_LIMIT + PIECE) }
-    ensures ok { OnOk result ((length bytes.new.items ≤ TEXT_LIMIT) × IfSome (R.to_come source.old) (λ all. bytes.new.items ≡ all)) }
-    ensures err { IfErr result (λ fault. IfSome (R.to_come source.old) (λ all. HasBytesFault all fault)) }
-    ensures failures { Counts (is_read_failed result) (R.failed_calls source.old) (R.failed_calls source.new) }
+    ensures few { (read : List ℕ) × Consumes (R.to_come source.old) (R.to_come source.new) read
+        × (length read ≤ TEXT_LIMIT + PIECE) }
+    ensures ok { OnOk result ((length bytes.new.items ≤ TEXT_LIMIT)
+        × IfSome (R.to_come source.old) (λ all. bytes.new.items ≡ all)) }
+    ensures err { IfErr result (λ fault. IfSome (R.to_come source.old)
+        (λ all. HasBytesFault all fault)) }
+    ensures failures { Counts (is_read_failed result) (R.failed_calls source.old)
+        (R.failed_calls source.new) }
 {
     'pieces: while bytes.len() <= TEXT_LIMIT {
         bytes.reserve(PIECE)?;
@@ -78,10 +82,14 @@ fn gather<R: ByteSource>(
 
 // All bytes of the source, at most the limit.
 fn read_bytes<R: ByteSource>(alloc: Global, source: &mut R) -> Result<Vec<u8>, TextFault>
-    ensures few { (read : List ℕ) × Consumes (R.to_come source.old) (R.to_come source.new) read × (length read ≤ TEXT_LIMIT + PIECE) }
-    ensures ok { IfOk result (λ bytes. (length bytes.items ≤ TEXT_LIMIT) × IfSome (R.to_come source.old) (λ all. bytes.items ≡ all)) }
-    ensures err { IfErr result (λ fault. IfSome (R.to_come source.old) (λ all. HasBytesFault all fault)) }
-    ensures failures { Counts (is_read_failed result) (R.failed_calls source.old) (R.failed_calls source.new) }
+    ensures few { (read : List ℕ) × Consumes (R.to_come source.old) (R.to_come source.new) read
+        × (length read ≤ TEXT_LIMIT + PIECE) }
+    ensures ok { IfOk result (λ bytes. (length bytes.items ≤ TEXT_LIMIT)
+        × IfSome (R.to_come source.old) (λ all. bytes.items ≡ all)) }
+    ensures err { IfErr result (λ fault. IfSome (R.to_come source.old)
+        (λ all. HasBytesFault all fault)) }
+    ensures failures { Counts (is_read_failed result) (R.failed_calls source.old)
+        (R.failed_calls source.new) }
 {
     let mut piece = Vec::new(alloc);
     piece.resize(PIECE, 0)?;
@@ -96,10 +104,14 @@ fn read_bytes<R: ByteSource>(alloc: Global, source: &mut R) -> Result<Vec<u8>, T
 /// # Errors
 /// A read failed; or there are more than 16,777,216 bytes, else they aren't UTF-8; or memory was refused.
 pub fn read_text<R: ByteSource>(alloc: Global, source: &mut R) -> Result<String, TextFault>
-    ensures ok { IfOk result (λ text. IfSome (R.to_come source.old) (λ bytes. IsTextOf bytes (string_bytes text))) }
-    ensures fault { IfErr result (λ fault. IfSome (R.to_come source.old) (λ bytes. HasTextFault bytes fault)) }
-    ensures few { (read : List ℕ) × Consumes (R.to_come source.old) (R.to_come source.new) read × (length read ≤ TEXT_LIMIT + PIECE) }
-    ensures failures { Counts (is_read_failed result) (R.failed_calls source.old) (R.failed_calls source.new) }
+    ensures ok { IfOk result (λ text. IfSome (R.to_come source.old)
+        (λ bytes. IsTextOf bytes (string_bytes text))) }
+    ensures fault { IfErr result (λ fault. IfSome (R.to_come source.old)
+        (λ bytes. HasTextFault bytes fault)) }
+    ensures few { (read : List ℕ) × Consumes (R.to_come source.old) (R.to_come source.new) read
+        × (length read ≤ TEXT_LIMIT + PIECE) }
+    ensures failures { Counts (is_read_failed result) (R.failed_calls source.old)
+        (R.failed_calls source.new) }
 {
     let bytes = read_bytes(alloc, source)?;
     match String::from_utf8(bytes) {

@@ -4,8 +4,7 @@ ghost use Rattle.std.specs.Io.KnownBytes.{Appends};
 ghost use Rattle.cm_envelope.specs.Device.{count_up, greatest_count};
 ghost use Rattle.ck_commands.specs.Run.{NoneFailed};
 
-use cm_audit::write_all;
-use cm_envelope::{ByteSink, DeviceFailed};
+use cm_envelope::{ByteSink, DeviceFailed, write_all};
 
 /// The status where something outside the words and the stream failed.
 pub const TROUBLE_STATUS: u8 = 3;
@@ -16,7 +15,8 @@ pub(crate) const NO_MEMORY: &str = "trouble Memory\n";
 /// Tries to write `trouble WriteFailed`, as far as the sink takes it.
 pub(crate) fn tell_write_failed<W: ByteSink>(sink: &mut W) -> u8
     ensures status { result ≡ TROUBLE_STATUS }
-    ensures counted { W.failed_calls sink.old ≤ greatest_count → W.failed_calls sink.old ≤ W.failed_calls sink.new }
+    ensures counted { W.failed_calls sink.old ≤ greatest_count
+        → W.failed_calls sink.old ≤ W.failed_calls sink.new }
 {
     if write_all(sink, b"trouble WriteFailed\n").is_ok() {
         let _ = sink.flush().is_ok();

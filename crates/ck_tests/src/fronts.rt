@@ -54,7 +54,7 @@ fn fronts_of_a_good_stream(rt: HostRuntime) -> Result<(), Fail> {
     Ok(())
 }
 
-// The read behind these bytes fails: in single bytes, and behind all of them at once.
+// The read after these bytes fails: in single bytes, and after all of them at once.
 fn expect_failed(rt: &impl Abort, alloc: Global, bytes: &[u8]) {
     for most in [1, usize::MAX] {
         let source = Source {

@@ -154,7 +154,7 @@ pub(crate) fn stream_of(alloc: Global, words: &str) -> Result<String, Fail> {
     Ok(text)
 }
 
-// A row has the lines that are printed, each with a slash behind it, a space, the status, ` = ` and the stream.
+// A row has the lines that are printed, each with a slash after it, a space, the status, ` = ` and the stream.
 fn expect_row(rt: &impl Abort, alloc: Global, words: &[&str], row: &str) -> Result<(), Fail> {
     let (told, lines) = row.split_once(" = ").ok_or("no stream")?;
     let (text, status) = told.split_once("/ ").ok_or("no status")?;

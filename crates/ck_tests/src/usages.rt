@@ -39,7 +39,7 @@ const TEXTS: &str = "0 --help = Usage: parse compile audit gate results
 2 results --pending-passes = Usage: results --pending-passes
 2 results --allow-unrun = Usage: results";
 
-// What stands behind a command that takes `--attempts-from`, where that is a mistake.
+// What comes after a command that takes `--attempts-from`, where that is a mistake.
 const WRONG_ATTEMPTS: &str = "--attempts-from 2
 --attempts-from -1
 --attempts-from 01

@@ -13,9 +13,9 @@ use Rattle.cm_attempt.specs.declared.settings.Settings.{Settings}
 use Rattle.cm_stream.specs.Stream.{shown, verdict_in}
 use Rattle.cm_stream.specs.declared.verdict.Verdict.TheVariants as verdict
 use Rattle.cm_stream.specs.declared.verdict.Bad.TheVariants as bad
-use Rattle.cm_summary.specs.Summary.{Summary, nothing_seen}
-use Rattle.cm_summary.specs.Findings.{finding_at_end}
-use Rattle.cm_summary.specs.Laws.{at_end}
+use Rattle.cm_state.specs.Summary.{Summary, nothing_seen}
+use Rattle.cm_state.specs.StateChecks.{finding_at_end}
+use Rattle.cm_state.specs.Laws.{at_end}
 use Rattle.cm_audit.specs.Audit.{AnswersAs, ReadsNoFurther, ReadsUpTo, TakesLine, audited_at, is_failed_read, unsuccessful}
 use Rattle.cm_audit.specs.Judging.{judged, HasJudged, HoldNoFault}
 use Rattle.cm_audit.specs.Stops.{unread_line}

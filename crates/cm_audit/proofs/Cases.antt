@@ -11,7 +11,7 @@ use Rattle.cm_stream.specs.Texts.{Text, same_texts}
 use Rattle.cm_envelope.specs.declared.envelope.TestStep.{TestStep}
 use Rattle.cm_attempt.specs.Table.{has_text}
 use Rattle.cm_refs.proofs.EntryLemmas.{Key, list_any-map}
-use Rattle.cm_summary.specs.Summary.{with_name}
+use Rattle.cm_state.specs.Summary.{with_name}
 
 -- ---- the ids that some of the elements have, from an index on
 

@@ -6,7 +6,7 @@ use Rattle.cm_envelope.specs.Reading.{Fault as LineFault}
 use Rattle.cm_envelope.specs.declared.envelope.Envelope.{Envelope}
 use Rattle.cm_envelope.specs.declared.envelope.Envelope.TheVariants as envelope
 use Rattle.cm_stream.specs.declared.verdict.Counts.{Counts}
-use Rattle.cm_summary.specs.Summary.{Summary, after, case_counted}
+use Rattle.cm_state.specs.Summary.{Summary, after, case_counted}
 use Rattle.cm_audit.specs.Audit.{TakesLine}
 use Rattle.cm_audit.specs.State.{AreFewer, summary_of}
 use Rattle.cm_audit.specs.declared.state.State.{State}

@@ -5,11 +5,11 @@ use Rattle.std.specs.Option.{option_map_or}
 use Rattle.std.specs.Str.{bytes_eq}
 use Rattle.cm_attempt.specs.Table.{change_first, has_text}
 use Rattle.cm_stream.specs.Texts.{Text}
-use Rattle.cm_summary.specs.Summary.{SourceRow}
+use Rattle.cm_state.specs.Summary.{SourceRow}
 use Rattle.cm_stream.specs.Checks.{due_pickles}
 use Rattle.cm_stream.specs.Sources.{DuePickle, is_due}
 use Rattle.cm_envelope.specs.declared.pickle.Pickle.{Pickle}
-use Rattle.cm_summary.specs.Findings.{is_next_of}
+use Rattle.cm_state.specs.StateChecks.{is_next_of}
 use Rattle.cm_stream.specs.Words.{is_accepted}
 use Rattle.cm_audit.specs.Kept.{HasMore, kept_row}
 use Rattle.cm_audit.specs.declared.source.Kept.{Kept}

@@ -1,9 +1,6 @@
 pub mod Answering
 pub mod Cases
 pub mod Counted
-pub mod Floats
-pub mod Fronts
-pub mod Limits
 pub mod Judged
 pub mod KeptRows
 pub mod Parsed
@@ -13,4 +10,3 @@ pub mod Runs
 pub mod SameLists
 pub mod Skeleton
 pub mod Verdicts
-pub mod Writes

@@ -13,9 +13,9 @@ use Rattle.cm_stream.specs.Findings.{IsBad, named, fault_of_line}
 use Rattle.cm_stream.specs.Stream.{Answer, Found, Failed, fed, shown}
 use Rattle.cm_stream.proofs.Lists.{length-both}
 use Rattle.cm_stream.proofs.NewRows.{map_both}
-use Rattle.cm_summary.specs.Summary.{Summary, nothing_seen}
-use Rattle.cm_summary.specs.Findings.{finding_at_end}
-use Rattle.cm_summary.specs.Laws.{at_end, judged_line, judged_of}
+use Rattle.cm_state.specs.Summary.{Summary, nothing_seen}
+use Rattle.cm_state.specs.StateChecks.{finding_at_end}
+use Rattle.cm_state.specs.Laws.{at_end, judged_line, judged_of}
 use Rattle.cm_audit.specs.Audit.{AnswersAs, Begins, ReadsNoFurther, TakesLine, audited_at}
 use Rattle.cm_audit.specs.Judging.{judged, lines_then, HasRead, HasJudged, JudgesTo, HoldNoFault}
 use Rattle.cm_audit.specs.State.{summary_of}

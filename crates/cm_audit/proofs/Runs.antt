@@ -7,8 +7,8 @@ use Rattle.cm_stream.specs.Texts.{Text}
 use Rattle.cm_stream.specs.Words.{is_accepted}
 use Rattle.cm_refs.proofs.EntryLemmas.{Key}
 use Rattle.cm_attempt.proofs.EntryLemmas.{list_all-rows}
-use Rattle.cm_summary.specs.Summary.{SourceRow}
-use Rattle.cm_summary.specs.Findings.{lacks_by}
+use Rattle.cm_state.specs.Summary.{SourceRow}
+use Rattle.cm_state.specs.StateChecks.{lacks_by}
 use Rattle.cm_audit.specs.Kept.{kept_row, kept_rows}
 use Rattle.cm_audit.specs.declared.source.Kept.{Kept}
 use Rattle.cm_audit.specs.declared.source.Kept.TheVariants as kept

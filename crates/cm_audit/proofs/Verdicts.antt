@@ -12,10 +12,10 @@ use Rattle.cm_stream.specs.declared.verdict.Verdict.{Verdict}
 use Rattle.cm_stream.specs.declared.verdict.Verdict.TheVariants as verdict
 use Rattle.cm_stream.proofs.Passing.{plain_passes}
 use Rattle.cm_stream.proofs.Streams.{answers_are_right}
-use Rattle.cm_summary.specs.Laws.{JudgedIsTold}
-use Rattle.cm_summary.proofs.Checked.{findings_are_faults}
-use Rattle.cm_summary.proofs.Judged.{judged_is_told}
-use Rattle.cm_summary.proofs.Steps.{summaries_step}
+use Rattle.cm_state.specs.Laws.{JudgedIsTold}
+use Rattle.cm_state.proofs.Checked.{findings_are_faults}
+use Rattle.cm_state.proofs.Judged.{judged_is_told}
+use Rattle.cm_state.proofs.Steps.{summaries_step}
 use Rattle.cm_audit.specs.Audit.{AnswersAs, AnswersTold, ShowNoFault, VerdictTold, is_failed_read}
 use Rattle.cm_audit.specs.Judging.{judged, HoldNoFault}
 

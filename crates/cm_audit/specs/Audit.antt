@@ -37,7 +37,8 @@ saying success (Err t) = Err t
 
 -- the verdict is that of the answer for what is told of the bytes, whatever the run says of its success
 abbrev pub VerdictTold : Settings → List ℕ → Result Verdict Trouble → Type 0
-VerdictTold settings bytes verdict = (success : Bool) × AnswersTold settings bytes (saying success verdict)
+VerdictTold settings bytes verdict =
+    (success : Bool) × AnswersTold settings bytes (saying success verdict)
 
 abbrev pub is_failed_read : {A : Type 0} → Result A Trouble → Bool
 is_failed_read (Err ReadFailed) = true
@@ -45,7 +46,7 @@ is_failed_read _ = false
 
 -- ---- how far it reads
 
--- These are the first lines of the bytes, and they and what is read behind them stand before `rest`.
+-- These are the first lines of the bytes, and they and what is read after them stand before `rest`.
 pub record Begins (bytes : List ℕ) (lines : List Line) (behind rest : List ℕ) : Type 0 where
   pub cut : bytes ≡ flat_map written lines ++ behind ++ rest
   pub more : List (List ℕ)
@@ -56,10 +57,11 @@ pub record ShowNoFault (settings : Settings) (before after : List ℕ) : Type 0 
   pub lines : List Line
   pub held : List ℕ
   pub begins : Begins before lines held after
-  pub faultless : told_of settings [] 1 (map (λ l. l.bytes) lines) (Some ReadFailed) ≡ Troubled ReadFailed
+  pub faultless : told_of settings [] 1 (map (λ l. l.bytes) lines) (Some ReadFailed)
+      ≡ Troubled ReadFailed
   pub nothing : ShowNothing line_limit stream_limit (length (flat_map written lines)) held
 
--- At most 65,536 bytes behind the first n lines with their LFs were read, of these bytes to come before and after.
+-- At most 65,536 bytes after the first n lines with their LFs were read, of these bytes to come before and after.
 pub record ReadsNoFurther (n : ℕ) (before after : List ℕ) : Type 0 where
   pub lines : List Line
   pub ahead : List ℕ
@@ -71,19 +73,22 @@ pub record ReadsNoFurther (n : ℕ) (before after : List ℕ) : Type 0 where
 
 -- a finding at a line was told with no more than that read, or it stands past the last line
 abbrev pub ReadsUpTo : Result Verdict Trouble → (before after : List ℕ) → Type 0
-ReadsUpTo (Ok (verdict.Bad n b)) before after = (length (fed before).lines < n) ⊎ ReadsNoFurther n before after
+ReadsUpTo (Ok (verdict.Bad n b)) before after =
+    (length (fed before).lines < n) ⊎ ReadsNoFurther n before after
 ReadsUpTo (Ok (verdict.Unsupported n r)) before after = ReadsNoFurther n before after
 ReadsUpTo _ before after = ⊤
 
 -- ---- a line
 
 -- what a line that is read so leaves
-abbrev pub TakesLine : Settings → (old new : State) → Option (Result Envelope LineFault) → Result ⊤ Stop → Type 0
+abbrev pub TakesLine : Settings → (old new : State) → Option (Result Envelope LineFault)
+    → Result ⊤ Stop → Type 0
 TakesLine settings old new None (Ok done) = (summary_of new ≡ summary_of old) × IsListed new
 TakesLine settings old new None (Err why) = ⊥
 TakesLine settings old new (Some (Ok e)) answer = Takes settings old new e answer
 TakesLine settings old new (Some (Err b)) (Ok done) = ⊥
-TakesLine settings old new (Some (Err b)) (Err why) = Refuses (Some (IsBad (fault_of_line b))) old new why
+TakesLine settings old new (Some (Err b)) (Err why) =
+    Refuses (Some (IsBad (fault_of_line b))) old new why
 
 -- the verdict on a stream that isn't good
 abbrev pub unsuccessful : Verdict → Audited

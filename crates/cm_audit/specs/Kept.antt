@@ -8,7 +8,7 @@ use Rattle.cm_stream.specs.Readings.{Reading, Accepted, Refused, OtherLanguage, 
 use Rattle.cm_stream.specs.Words.{is_accepted}
 use Rattle.cm_stream.specs.Checks.{due_pickles}
 use Rattle.cm_stream.specs.declared.verdict.Reason.TheVariants as reason
-use Rattle.cm_summary.specs.Summary.{SourceRow}
+use Rattle.cm_state.specs.Summary.{SourceRow}
 use Rattle.cm_audit.specs.AcceptedSource.{AcceptedSource}
 use Rattle.cm_audit.specs.declared.source.Kept.{Kept}
 use Rattle.cm_audit.specs.declared.source.Kept.TheVariants as kept
@@ -16,7 +16,8 @@ use Rattle.cm_audit.specs.declared.stop.Stop.{Stop}
 use Rattle.cm_audit.specs.declared.stop.Stop.TheVariants as stop
 
 abbrev pub accepted_row : Text → AcceptedSource → SourceRow
-accepted_row uri a = record { uri = uri; reading = Accepted a.document; ids = a.ids; matched = a.matched }
+accepted_row uri a =
+    record { uri = uri; reading = Accepted a.document; ids = a.ids; matched = a.matched }
 
 abbrev pub kept_row : Text → Kept → SourceRow
 kept_row uri kept.Refused = record { uri = uri; reading = Refused; ids = None; matched = 0 }
@@ -31,7 +32,8 @@ HasMore r = r.matched < length (due_pickles (Some r.reading))
 
 -- the source of the uri, if there is one, is accepted
 abbrev pub IsAcceptedAt : Text → List SourceRow → Type 0
-IsAcceptedAt uri rows = IfSome (find (λ r. bytes_eq uri r.uri) rows) (λ r. is_accepted r.reading ≡ true)
+IsAcceptedAt uri rows =
+    IfSome (find (λ r. bytes_eq uri r.uri) rows) (λ r. is_accepted r.reading ≡ true)
 
 -- the source of the uri, if there is one, compiles to more pickles than came
 abbrev pub HasMoreAt : Text → List SourceRow → Type 0
@@ -39,7 +41,8 @@ HasMoreAt uri rows = IfSome (find (λ r. bytes_eq uri r.uri) rows) HasMore
 
 -- a text that is read so was kept or told so, unless memory was refused
 abbrev pub ReadsAs : Reading → Result Kept Stop → Type 0
-ReadsAs reading (Ok k) = kept_row [] k ≡ record { uri = []; reading = reading; ids = None; matched = 0 }
+ReadsAs reading (Ok k) =
+    kept_row [] k ≡ record { uri = []; reading = reading; ids = None; matched = 0 }
 ReadsAs TooLong (Err (stop.Unsupported reason.SourceTooLong)) = Unit {0}
 ReadsAs OtherLanguage (Err (stop.Unsupported reason.Language)) = Unit {0}
 ReadsAs reading (Err stop.Memory) = Unit {0}

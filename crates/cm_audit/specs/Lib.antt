@@ -1,5 +1,3 @@
-pub mod Faults
-pub mod Writing
 pub mod Due
 pub mod Stops
 pub mod AcceptedSource

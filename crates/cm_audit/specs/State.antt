@@ -3,10 +3,10 @@ use Rattle.std.specs.Prelude.{◌≡◌, ◌<◌, ℕ, ⊤, map, Option, Result,
 use Rattle.std.specs.String.{string_bytes}
 use Rattle.cm_envelope.specs.declared.envelope.Envelope.{Envelope}
 use Rattle.cm_stream.specs.declared.verdict.Counts.{Counts}
-use Rattle.cm_summary.specs.Summary.{Summary, after}
+use Rattle.cm_state.specs.Summary.{Summary, after}
 use Rattle.cm_attempt.specs.declared.policy.Policy.{Policy}
 use Rattle.cm_attempt.specs.declared.settings.Settings.{Settings}
-use Rattle.cm_summary.specs.Findings.{finding, finding_inside, plain_finding}
+use Rattle.cm_state.specs.StateChecks.{finding, finding_inside, plain_finding}
 use Rattle.cm_audit.specs.Kept.{kept_rows}
 use Rattle.cm_stream.specs.Findings.{Finding, IsBad, IsUnsupported, named}
 use Rattle.cm_audit.specs.Stops.{StopsFor}
@@ -52,15 +52,21 @@ Checks s e (Err why) = StopsFor (plain_finding (summary_of s) e) why
 
 -- a line was taken by the checks that are made whatever statuses are good, or it has the finding
 abbrev pub Judges : (old new : State) → Envelope → Result ⊤ Stop → Type 0
-Judges old new e (Ok done) = (plain_finding (summary_of old) e ≡ None) × (summary_of new ≡ after (summary_of old) e) × IsListed new
+Judges old new e (Ok done) =
+    (plain_finding (summary_of old) e ≡ None) × (summary_of new ≡ after (summary_of old) e)
+    × IsListed new
 Judges old new e (Err why) = Refuses (plain_finding (summary_of old) e) old new why
 
--- a line of which no check stands behind the end of the run was taken, or it has the finding
+-- a line of which no check comes after the end of the run was taken, or it has the finding
 abbrev pub JudgesBy : Policy → (old new : State) → Envelope → Result ⊤ Stop → Type 0
-JudgesBy policy old new e (Ok done) = (finding_inside policy (summary_of old) e ≡ None) × (summary_of new ≡ after (summary_of old) e) × IsListed new
+JudgesBy policy old new e (Ok done) =
+    (finding_inside policy (summary_of old) e ≡ None) × (summary_of new ≡ after (summary_of old) e)
+    × IsListed new
 JudgesBy policy old new e (Err why) = Refuses (finding_inside policy (summary_of old) e) old new why
 
 -- a line was taken, or it has the finding
 abbrev pub Takes : Settings → (old new : State) → Envelope → Result ⊤ Stop → Type 0
-Takes settings old new e (Ok done) = (finding settings (summary_of old) e ≡ None) × (summary_of new ≡ after (summary_of old) e) × IsListed new
+Takes settings old new e (Ok done) =
+    (finding settings (summary_of old) e ≡ None) × (summary_of new ≡ after (summary_of old) e)
+    × IsListed new
 Takes settings old new e (Err why) = Refuses (finding settings (summary_of old) e) old new why

@@ -9,7 +9,7 @@ ghost use Rattle.cm_audit.specs.Audit.{AnswersAs, AnswersTold, ReadsUpTo, ShowNo
 ghost use Rattle.cm_audit.specs.Audit.{audited_at, is_failed_read, unsuccessful};
 ghost use Rattle.cm_audit.specs.Judging.{HoldNoFault, judged};
 ghost use Rattle.cm_audit.specs.State.{AreFewer, IsListed, summary_of};
-ghost use Rattle.cm_summary.specs.Summary.{nothing_seen};
+ghost use Rattle.cm_state.specs.Summary.{nothing_seen};
 
 use crate::judge::judge;
 use crate::judge_features::MOST;
@@ -56,7 +56,7 @@ fn audited_at(stop: Stop, line: u64) -> Result<Audited, Trouble>
     }
 }
 
-/// Judges a stream line by line, behind none.
+/// Judges a stream line by line, from its start.
 fn judge_lines<R: ByteSource>(
     alloc: Global,
     state: &mut State,
@@ -65,11 +65,14 @@ fn judge_lines<R: ByteSource>(
 ) -> Result<Audited, Trouble>
     requires nothing { summary_of state.old ≡ nothing_seen settings.first_attempt }
     requires listed { IsListed state.old }
-    ensures judged { IfSome (R.to_come source.old) (λ bytes. AnswersAs (judged settings bytes) result) }
-    ensures failures { Rises (is_failed_read result) (R.failed_calls source.old) (R.failed_calls source.new) }
+    ensures judged { IfSome (R.to_come source.old)
+        (λ bytes. AnswersAs (judged settings bytes) result) }
+    ensures failures { Rises (is_failed_read result) (R.failed_calls source.old)
+        (R.failed_calls source.new) }
     ensures read_failed { result ≡ Err ReadFailed
         → WhereTold (R.to_come source.old) (R.to_come source.new) (HoldNoFault settings) }
-    ensures ahead { WhereTold (R.to_come source.old) (R.to_come source.new) (ReadsUpTo (verdict_in result)) }
+    ensures ahead { WhereTold (R.to_come source.old) (R.to_come source.new)
+        (ReadsUpTo (verdict_in result)) }
 {
     let mut feed = Feed::new(alloc);
     let mut number: u64 = 0;
@@ -106,8 +109,8 @@ fn judge_lines<R: ByteSource>(
 /// are good, and from which number the attempts of a test case are counted.
 ///
 /// The verdict is Good with the stream's counts, or the first line that has a fault, or that shows why the stream is not
-/// judged. Lines count from 1, with the blank ones; a fault at the end has the line behind the last one. Judging stops at
-/// that line: no more than 65,536 bytes behind it are read. Each envelope is dropped once it is judged. Beside a Good verdict
+/// judged. Lines count from 1, with the blank ones; a fault at the end has the line after the last one. Judging stops at
+/// that line: no more than 65,536 bytes after it are read. Each envelope is dropped once it is judged. Beside a Good verdict
 /// stands whether the run says success.
 ///
 /// # Errors
@@ -121,16 +124,19 @@ pub fn audit_run<R: ByteSource>(
     // their numbers, retries, success and the rest.
     ensures good { IfSome (R.to_come source.old) (λ bytes. GoodRunsOnly settings bytes result) }
     // Bad only where no good stream has these first lines.
-    ensures bad { IfSome (R.to_come source.old) (λ bytes. NoneIsGood settings bytes (verdict_in result)) }
+    ensures bad { IfSome (R.to_come source.old)
+        (λ bytes. NoneIsGood settings bytes (verdict_in result)) }
     // The verdict is that of the first line that has a fault.
     ensures told { IfSome (R.to_come source.old) (λ bytes. AnswersTold settings bytes result) }
 
     // A failed read is told, and only where the lines before it show no fault.
-    ensures failures { Rises (is_failed_read result) (R.failed_calls source.old) (R.failed_calls source.new) }
+    ensures failures { Rises (is_failed_read result) (R.failed_calls source.old)
+        (R.failed_calls source.new) }
     ensures read_failed { result ≡ Err ReadFailed
         → WhereTold (R.to_come source.old) (R.to_come source.new) (ShowNoFault settings) }
 
-    ensures ahead { WhereTold (R.to_come source.old) (R.to_come source.new) (ReadsUpTo (verdict_in result)) }
+    ensures ahead { WhereTold (R.to_come source.old) (R.to_come source.new)
+        (ReadsUpTo (verdict_in result)) }
 {
     let mut state = State::new(alloc, settings.first_attempt);
     let audited = judge_lines(alloc, &mut state, source, settings);
@@ -161,7 +167,8 @@ pub fn audit_by<R: ByteSource>(
     ensures bad { IfSome (R.to_come source.old) (λ bytes. NoneIsGood settings bytes result) }
     ensures told { IfSome (R.to_come source.old) (λ bytes. VerdictTold settings bytes result) }
 
-    ensures failures { Rises (is_failed_read result) (R.failed_calls source.old) (R.failed_calls source.new) }
+    ensures failures { Rises (is_failed_read result) (R.failed_calls source.old)
+        (R.failed_calls source.new) }
     ensures read_failed { result ≡ Err ReadFailed
         → WhereTold (R.to_come source.old) (R.to_come source.new) (ShowNoFault settings) }
 
@@ -179,13 +186,18 @@ pub fn audit_with<R: ByteSource>(
     source: &mut R,
     policy: Policy,
 ) -> Result<Verdict, Trouble>
-    ensures good { IfSome (R.to_come source.old) (λ bytes. GoodOnlyForGood (settings_of policy) bytes result) }
-    ensures bad { IfSome (R.to_come source.old) (λ bytes. NoneIsGood (settings_of policy) bytes result) }
-    ensures told { IfSome (R.to_come source.old) (λ bytes. VerdictTold (settings_of policy) bytes result) }
+    ensures good { IfSome (R.to_come source.old)
+        (λ bytes. GoodOnlyForGood (settings_of policy) bytes result) }
+    ensures bad { IfSome (R.to_come source.old)
+        (λ bytes. NoneIsGood (settings_of policy) bytes result) }
+    ensures told { IfSome (R.to_come source.old)
+        (λ bytes. VerdictTold (settings_of policy) bytes result) }
 
-    ensures failures { Rises (is_failed_read result) (R.failed_calls source.old) (R.failed_calls source.new) }
+    ensures failures { Rises (is_failed_read result) (R.failed_calls source.old)
+        (R.failed_calls source.new) }
     ensures read_failed { result ≡ Err ReadFailed
-        → WhereTold (R.to_come source.old) (R.to_come source.new) (ShowNoFault (settings_of policy)) }
+        → WhereTold (R.to_come source.old) (R.to_come source.new)
+        (ShowNoFault (settings_of policy)) }
 
     ensures ahead { WhereTold (R.to_come source.old) (R.to_come source.new) (ReadsUpTo result) }
 {
@@ -197,13 +209,18 @@ pub fn audit_with<R: ByteSource>(
 /// # Errors
 /// As those of `audit_run`.
 pub fn audit<R: ByteSource>(alloc: Global, source: &mut R) -> Result<Verdict, Trouble>
-    ensures good { IfSome (R.to_come source.old) (λ bytes. GoodOnlyForGood (settings_of Policy.Strict) bytes result) }
-    ensures bad { IfSome (R.to_come source.old) (λ bytes. NoneIsGood (settings_of Policy.Strict) bytes result) }
-    ensures told { IfSome (R.to_come source.old) (λ bytes. VerdictTold (settings_of Policy.Strict) bytes result) }
+    ensures good { IfSome (R.to_come source.old)
+        (λ bytes. GoodOnlyForGood (settings_of Policy.Strict) bytes result) }
+    ensures bad { IfSome (R.to_come source.old)
+        (λ bytes. NoneIsGood (settings_of Policy.Strict) bytes result) }
+    ensures told { IfSome (R.to_come source.old)
+        (λ bytes. VerdictTold (settings_of Policy.Strict) bytes result) }
 
-    ensures failures { Rises (is_failed_read result) (R.failed_calls source.old) (R.failed_calls source.new) }
+    ensures failures { Rises (is_failed_read result) (R.failed_calls source.old)
+        (R.failed_calls source.new) }
     ensures read_failed { result ≡ Err ReadFailed
-        → WhereTold (R.to_come source.old) (R.to_come source.new) (ShowNoFault (settings_of Policy.Strict)) }
+        → WhereTold (R.to_come source.old) (R.to_come source.new)
+        (ShowNoFault (settings_of Policy.Strict)) }
 
     ensures ahead { WhereTold (R.to_come source.old) (R.to_come source.new) (ReadsUpTo result) }
 {

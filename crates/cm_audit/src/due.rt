@@ -83,7 +83,8 @@ impl Fits<Sequence<Text>> for PickleRow {
 
 /// Whether a doc string has the media type and the content of the other.
 fn is_doc_string(text: &PickleDocString, due: &DueDocString) -> bool
-    ensures { result ≡ (same_option bytes_eq text.now.media_type due.now.media && bytes_eq text.now.content due.now.content) }
+    ensures { result ≡ (same_option bytes_eq text.now.media_type due.now.media
+        && bytes_eq text.now.content due.now.content) }
 {
     text.media_type == due.media && text.content == due.content
 }

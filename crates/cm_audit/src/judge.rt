@@ -19,7 +19,7 @@ use cm_attempt::{Policy, Settings};
 use cm_envelope::Envelope;
 use cm_stream::Bad;
 
-/// Judges an envelope of which no check stands behind the end of the run, and takes it where it has no fault.
+/// Judges an envelope of which no check comes after the end of the run, and takes it where it has no fault.
 fn judge_inside(state: &mut State, envelope: Envelope, policy: Policy) -> Result<(), Stop>
     requires listed { IsListed state.old }
     requires few { AreFewer MOST state.old.counts }
@@ -53,7 +53,7 @@ fn is_judged(envelope: &Envelope) -> bool
     !matches!(envelope, Envelope::Other)
 }
 
-/// Judges an envelope behind the lines so far, and takes it where it has no fault.
+/// Judges an envelope after the lines so far, and takes it where it has no fault.
 pub(crate) fn judge(state: &mut State, envelope: Envelope, settings: Settings) -> Result<(), Stop>
     requires listed { IsListed state.old }
     requires few { AreFewer MOST state.old.counts }

@@ -10,8 +10,8 @@ ghost use Rattle.cm_refs.specs.Declarations.{find_pickle, steps_of};
 ghost use Rattle.cm_envelope.specs.declared.envelope.Envelope.TheVariants as Envelope;
 ghost use Rattle.cm_stream.specs.Texts.{same_texts};
 ghost use Rattle.cm_stream.specs.Words.{pickle_step_ids};
-ghost use Rattle.cm_summary.specs.Summary.{case_counted, with_name};
-ghost use Rattle.cm_summary.specs.Findings.{is_among, knows_case, knows_run, knows_step};
+ghost use Rattle.cm_state.specs.Summary.{case_counted, with_name};
+ghost use Rattle.cm_state.specs.StateChecks.{is_among, knows_case, knows_run, knows_step};
 ghost use Rattle.cm_audit.specs.State.{AreFewer, IsListed, Judges, summary_of};
 
 use crate::judge_features::MOST;
@@ -100,7 +100,8 @@ fn knows_case(state: &State, case: &TestCase) -> bool
 
 /// Whether the step at an index has this id.
 fn is_step_at(steps: &[String], at: usize, id: &str) -> bool
-    ensures { result ≡ option_map_or (λ step. bytes_eq (string_bytes step) id.now) (slice_get steps.now at) false }
+    ensures { result ≡ option_map_or (λ step. bytes_eq (string_bytes step) id.now)
+        (slice_get steps.now at) false }
 {
     match steps.get(at) {
         Some(step) => step.as_str() == id,

@@ -3,8 +3,8 @@ ghost use Rattle.std.specs.Prelude.{◌≡◌, ◌&&◌, IfErr, IfOk, OnOk, fals
 ghost use Rattle.std.specs.String.{string_bytes};
 ghost use Rattle.cm_attempt.specs.Table.{has_repeat, has_text};
 ghost use Rattle.cm_envelope.specs.declared.envelope.Envelope.TheVariants as envelope;
-ghost use Rattle.cm_summary.specs.Findings.{plain_finding, is_next_by};
-ghost use Rattle.cm_summary.specs.Summary.{change_source, one_more, with_ids};
+ghost use Rattle.cm_state.specs.StateChecks.{plain_finding, is_next_by};
+ghost use Rattle.cm_state.specs.Summary.{change_source, one_more, with_ids};
 ghost use Rattle.cm_audit.specs.Kept.{HasMoreAt, IsAcceptedAt, kept_rows};
 ghost use Rattle.cm_audit.specs.State.{AreFewer, Checks, IsListed, Judges, summary_of};
 ghost use Rattle.cm_audit.specs.Stops.{StopsFor};
@@ -69,7 +69,8 @@ fn have_repeat(alloc: Global, texts: &[Text]) -> Result<bool, AllocError>
 /// The stream's document of an accepted source came, with these ids.
 fn set_ids(sources: &mut Sources, uri: &str, ids: Sequence<Text>)
     requires { IsAcceptedAt uri.now (kept_rows sources.old.entries) }
-    ensures { kept_rows sources.new.entries ≡ change_source uri.now (with_ids ids) (kept_rows sources.old.entries) }
+    ensures { kept_rows sources.new.entries ≡ change_source uri.now (with_ids ids)
+        (kept_rows sources.old.entries) }
 {
     if let Some(at) = sources.get_index_of(uri) {
         let kept = &mut sources[at];
@@ -80,7 +81,8 @@ fn set_ids(sources: &mut Sources, uri: &str, ids: Sequence<Text>)
 /// The next pickle of an accepted source came.
 fn count_pickle(sources: &mut Sources, uri: &str)
     requires { HasMoreAt uri.now (kept_rows sources.old.entries) }
-    ensures { kept_rows sources.new.entries ≡ change_source uri.now one_more (kept_rows sources.old.entries) }
+    ensures { kept_rows sources.new.entries ≡ change_source uri.now one_more
+        (kept_rows sources.old.entries) }
 {
     if let Some(at) = sources.get_index_of(uri) {
         let kept = &mut sources[at];
@@ -93,7 +95,8 @@ fn check_document(state: &State, document: &GherkinDocument) -> Result<(), Stop>
     requires listed { IsListed state.now }
     ensures found { Checks state.now (envelope.GherkinDocument document.now) result }
     ensures first { OnOk result (has_text document.now.uri state.now.declared.documents ≡ false) }
-    ensures accepted { OnOk result (IsAcceptedAt document.now.uri (kept_rows state.now.sources.entries)) }
+    ensures accepted { OnOk result (IsAcceptedAt document.now.uri
+        (kept_rows state.now.sources.entries)) }
 {
     let uri = document.uri.as_str();
     let kept = match find_source(&state.sources, uri) {
@@ -157,8 +160,10 @@ fn pickle_step_ids(alloc: Global, steps: Sequence<PickleStep>) -> Result<Vec<Str
 /// Whether the pickle is the next one of its source. Its ids aren't looked at.
 fn check_pickle(state: &State, pickle: &Pickle) -> Result<(), Stop>
     requires listed { IsListed state.now }
-    ensures err { IfErr result (λ why. StopsFor (plain_finding (summary_of state.now) (envelope.Pickle pickle.now)) why) }
-    ensures known { OnOk result ((has_text pickle.now.uri state.now.declared.sources && has_text pickle.now.uri state.now.declared.documents) ≡ true) }
+    ensures err { IfErr result (λ why. StopsFor
+        (plain_finding (summary_of state.now) (envelope.Pickle pickle.now)) why) }
+    ensures known { OnOk result ((has_text pickle.now.uri state.now.declared.sources
+        && has_text pickle.now.uri state.now.declared.documents) ≡ true) }
     ensures next { OnOk result (is_next_by (summary_of state.now) pickle.now ≡ true) }
     ensures more { OnOk result (HasMoreAt pickle.now.uri (kept_rows state.now.sources.entries)) }
 {
@@ -176,7 +181,7 @@ fn check_pickle(state: &State, pickle: &Pickle) -> Result<(), Stop>
     Ok(())
 }
 
-/// A pickle is the next one of its source, behind the document, and its ids are new.
+/// A pickle is the next one of its source, after the document, and its ids are new.
 pub(crate) fn judge_pickle(state: &mut State, pickle: Pickle) -> Result<(), Stop>
     requires listed { IsListed state.old }
     requires few { AreFewer MOST state.old.counts }

@@ -6,7 +6,7 @@ ghost use Rattle.indexmap.specs.IndexMap.{values};
 ghost use Rattle.cm_attempt.specs.Table.{is_good_status};
 ghost use Rattle.cm_stream.specs.Checks.{same_flag};
 ghost use Rattle.cm_stream.specs.Words.{is_accepted};
-ghost use Rattle.cm_summary.specs.Findings.{is_well, knows_place, knows_run_hook, lacks_by};
+ghost use Rattle.cm_state.specs.StateChecks.{is_well, knows_place, knows_run_hook, lacks_by};
 ghost use Rattle.cm_audit.specs.Kept.{kept_row};
 ghost use Rattle.cm_audit.specs.State.{AreFewer, IsListed, Judges, JudgesBy, summary_of};
 
@@ -145,7 +145,9 @@ pub(crate) fn judge_attempt_finished(
 
 /// Whether no attempt is named, or one that was started, with no step or one of its case's.
 fn knows_place(state: &State, attachment: &Attachment) -> bool
-    ensures { result ≡ knows_place (summary_of state.now) attachment.now.test_case_started_id attachment.now.test_step_id }
+    ensures { result
+        ≡ knows_place
+        (summary_of state.now) attachment.now.test_case_started_id attachment.now.test_step_id }
 {
     match (&attachment.test_case_started_id, &attachment.test_step_id) {
         (None, _) => true,
@@ -168,7 +170,8 @@ pub(crate) fn judge_attachment(state: &State, attachment: &Attachment) -> Result
 
 /// Whether one of the sources lacks its document or one of its pickles.
 fn lack_some(sources: &Sources) -> bool
-    ensures { result ≡ list_any (λ k. lacks_by (kept_row [] k).reading (kept_row [] k)) (values sources.now) }
+    ensures { result ≡ list_any (λ k. lacks_by (kept_row [] k).reading (kept_row [] k))
+        (values sources.now) }
 {
     sources.values().any(|kept| kept.lacks_some())
 }
@@ -207,7 +210,8 @@ fn is_well(state: &State, policy: Policy) -> bool
 
 /// Whether the run's end tells its success as it is.
 fn tells_success(state: &State, finished: &TestRunFinished, policy: Policy) -> bool
-    ensures { result ≡ same_flag finished.now.success (is_well policy (summary_of state.now) && not finished.now.has_exception) }
+    ensures { result ≡ same_flag finished.now.success
+        (is_well policy (summary_of state.now) && not finished.now.has_exception) }
 {
     finished.success == (is_well(state, policy) && !finished.has_exception)
 }

@@ -1,7 +1,7 @@
 //! What an audit keeps of the lines so far.
 ghost use Rattle.std.specs.Prelude.{◌≡◌, find, option_map};
 ghost use Rattle.std.specs.Str.{bytes_eq};
-ghost use Rattle.cm_summary.specs.Summary.{nothing_seen};
+ghost use Rattle.cm_state.specs.Summary.{nothing_seen};
 ghost use Rattle.cm_audit.specs.Kept.{kept_row, kept_rows};
 ghost use Rattle.cm_audit.specs.State.{IsListed, summary_of};
 

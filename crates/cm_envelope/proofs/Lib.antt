@@ -7,3 +7,4 @@ pub mod Taking
 pub mod Each
 pub mod Judged
 pub mod Json
+pub mod Writes

@@ -42,13 +42,15 @@ GivesNode (Err e) ids reading = Fails e reading
 abbrev pub node_in : {A : Type 0} → List ℕ → (Ids → Data → NodeRead A) → Ids → Data → NodeRead A
 node_in name read ids d = good name (as_object d) >>= λ members. read ids d
 
-abbrev pub optional_node_in : {A : Type 0} → (Ids → Data → NodeRead A) → List ℕ → Ids → Option Data → NodeRead (Option A)
+abbrev pub optional_node_in : {A : Type 0} → (Ids → Data → NodeRead A) → List ℕ → Ids → Option Data
+    → NodeRead (Option A)
 optional_node_in read name ids None = Ok (None, ids)
 optional_node_in read name ids (Some d) = do
   found ← node_in name read ids d
   Ok (Some found.0, found.1)
 
-abbrev pub optional_node : {A : Type 0} → (Ids → Data → NodeRead A) → List ℕ → Ids → Data → NodeRead (Option A)
+abbrev pub optional_node : {A : Type 0} → (Ids → Data → NodeRead A) → List ℕ → Ids → Data
+    → NodeRead (Option A)
 optional_node read name ids d = optional_node_in read name ids (present name d)
 
 abbrev pub each_node : {A : Type 0} → (Ids → Data → NodeRead A) → Ids → Items → NodeRead (List A)
@@ -58,7 +60,8 @@ each_node read ids (item d ds) = do
   others ← each_node read first.1 ds
   Ok (first.0 ∷ others.0, others.1)
 
-abbrev pub nodes_of : {A : Type 0} → (Ids → Data → NodeRead A) → List ℕ → Ids → Data → NodeRead (List A)
+abbrev pub nodes_of : {A : Type 0} → (Ids → Data → NodeRead A) → List ℕ → Ids → Data
+    → NodeRead (List A)
 nodes_of read name ids d = items_in name (present name d) >>= each_node (node_in name read) ids
 
 -- ---- the children of a feature and of a rule
@@ -86,12 +89,16 @@ rank_if a b c = None
 
 -- In a rule's child, `rule` is an unknown member.
 abbrev pub rank_of : Bool → Data → Option ℕ
-rank_of in_feature d = rank_if (is_some (present (codes "background") d)) (is_some (present (codes "scenario") d)) (in_feature && is_some (present (codes "rule") d))
+rank_of in_feature d =
+    rank_if (is_some (present (codes "background") d)) (is_some (present (codes "scenario") d))
+    (in_feature && is_some (present (codes "rule") d))
 
 -- at most one background, then scenarios, then rules: no child's rank is below least, nor the later ones' below its own or 1
 abbrev pub are_in_order : Bool → ℕ → Items → Bool
 are_in_order in_feature least no_items = true
-are_in_order in_feature least (item d ds) = unwrap_or (option_map (λ r. nat_le least r && are_in_order in_feature (max r 1) ds) (rank_of in_feature d)) false
+are_in_order in_feature least (item d ds) =
+    unwrap_or (option_map (λ r. nat_le least r && are_in_order in_feature (max r 1) ds)
+    (rank_of in_feature d)) false
 
 -- the children, once each has its kind and they are in order
 abbrev pub children_in : Bool → Data → Result Items (List ℕ)
@@ -161,7 +168,17 @@ step ids d = do
   table ← optional_node data_table (codes "dataTable") (ids ++ id ∷ []) d
   checked ← rule (codes "docString") (not (has_both (codes "dataTable") (codes "docString") d))
   content ← optional_nested doc_string (codes "docString") d
-  Ok (record { node = length ids; location = place; keyword = keyword; kind = keyword_type.Unknown; text = text; argument = argument_of table.0 content }, table.1)
+  Ok (
+    record {
+      node = length ids;
+      location = place;
+      keyword = keyword;
+      kind = keyword_type.Unknown;
+      text = text;
+      argument = argument_of table.0 content;
+    },
+    table.1,
+  )
 
 abbrev pub background : Ids → Data → NodeRead Background
 background ids d = do
@@ -170,7 +187,17 @@ background ids d = do
   keyword ← required as_str (codes "keyword") d
   name ← required as_str (codes "name") d
   steps ← nodes_of step (codes "steps") (ids ++ id ∷ []) d
-  Ok (record { node = length ids; location = place; keyword = keyword; name = name; description = []; steps = steps.0 }, steps.1)
+  Ok (
+    record {
+      node = length ids;
+      location = place;
+      keyword = keyword;
+      name = name;
+      description = [];
+      steps = steps.0;
+    },
+    steps.1,
+  )
 
 abbrev pub is_empty : Items → Bool
 is_empty no_items = true
@@ -201,7 +228,18 @@ examples ids d = do
   keyword ← required as_str (codes "keyword") d
   name ← required as_str (codes "name") d
   table ← example_table (tags.1 ++ id ∷ []) d
-  Ok (record { node = length tags.1; location = place; tags = tags.0; keyword = keyword; name = name; description = []; table = table.0 }, table.1)
+  Ok (
+    record {
+      node = length tags.1;
+      location = place;
+      tags = tags.0;
+      keyword = keyword;
+      name = name;
+      description = [];
+      table = table.0;
+    },
+    table.1,
+  )
 
 abbrev pub scenario : Ids → Data → NodeRead Scenario
 scenario ids d = do
@@ -212,7 +250,19 @@ scenario ids d = do
   name ← required as_str (codes "name") d
   steps ← nodes_of step (codes "steps") (tags.1 ++ id ∷ []) d
   blocks ← nodes_of examples (codes "examples") steps.1 d
-  Ok (record { node = length tags.1; location = place; tags = tags.0; keyword = keyword; name = name; description = []; steps = steps.0; examples = blocks.0 }, blocks.1)
+  Ok (
+    record {
+      node = length tags.1;
+      location = place;
+      tags = tags.0;
+      keyword = keyword;
+      name = name;
+      description = [];
+      steps = steps.0;
+      examples = blocks.0;
+    },
+    blocks.1,
+  )
 
 abbrev pub rule_node : Ids → Data → NodeRead Rule
 rule_node ids d = do
@@ -222,9 +272,23 @@ rule_node ids d = do
   keyword ← required as_str (codes "keyword") d
   name ← required as_str (codes "name") d
   children ← children_in false d
-  first ← optional_node_in background (codes "background") (tags.1 ++ id ∷ []) (background_in children)
-  scenarios ← each_node (node_in (codes "scenario") scenario) first.1 (children_of (codes "scenario") children)
-  Ok (record { node = length tags.1; location = place; tags = tags.0; keyword = keyword; name = name; description = []; background = first.0; scenarios = scenarios.0 }, scenarios.1)
+  first ← optional_node_in background (codes "background") (tags.1 ++ id ∷ [])
+      (background_in children)
+  scenarios ← each_node (node_in (codes "scenario") scenario) first.1
+      (children_of (codes "scenario") children)
+  Ok (
+    record {
+      node = length tags.1;
+      location = place;
+      tags = tags.0;
+      keyword = keyword;
+      name = name;
+      description = [];
+      background = first.0;
+      scenarios = scenarios.0;
+    },
+    scenarios.1,
+  )
 
 -- A feature has no id.
 abbrev pub feature : Ids → Data → NodeRead Feature
@@ -236,13 +300,36 @@ feature ids d = do
   name ← required as_str (codes "name") d
   children ← children_in true d
   first ← optional_node_in background (codes "background") tags.1 (background_in children)
-  scenarios ← each_node (node_in (codes "scenario") scenario) first.1 (children_of (codes "scenario") children)
-  rules ← each_node (node_in (codes "rule") rule_node) scenarios.1 (children_of (codes "rule") children)
-  Ok (record { location = place; tags = tags.0; language = language; keyword = keyword; name = name; description = []; background = first.0; scenarios = scenarios.0; rules = rules.0 }, rules.1)
+  scenarios ← each_node (node_in (codes "scenario") scenario) first.1
+      (children_of (codes "scenario") children)
+  rules ← each_node (node_in (codes "rule") rule_node) scenarios.1
+      (children_of (codes "rule") children)
+  Ok (
+    record {
+      location = place;
+      tags = tags.0;
+      language = language;
+      keyword = keyword;
+      name = name;
+      description = [];
+      background = first.0;
+      scenarios = scenarios.0;
+      rules = rules.0;
+    },
+    rules.1,
+  )
 
 -- the tree and the ids of its nodes in their order
 abbrev pub gherkin_document : Data → Result GherkinDocument (List ℕ)
 gherkin_document d = do
   uri ← required as_str (codes "uri") d
   top ← optional_node feature (codes "feature") [] d
-  Ok (record { uri = uri; document = record { feature = top.0; comments = []; nodes = length top.1 }; ids = top.1 })
+  Ok (record {
+    uri = uri;
+    document = record {
+      feature = top.0;
+      comments = [];
+      nodes = length top.1;
+    };
+    ids = top.1;
+  })

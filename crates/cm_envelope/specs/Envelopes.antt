@@ -74,7 +74,11 @@ abbrev pub test_run_finished : Data → Result TestRunFinished (List ℕ)
 test_run_finished d = do
   run ← optional as_str (codes "testRunStartedId") d
   success ← required as_bool (codes "success") d
-  Ok (record { test_run_started_id = run; success = success; has_exception = is_some (present (codes "exception") d) })
+  Ok (record {
+    test_run_started_id = run;
+    success = success;
+    has_exception = is_some (present (codes "exception") d);
+  })
 
 abbrev pub attachment : Data → Result Attachment (List ℕ)
 attachment d = do
@@ -88,14 +92,20 @@ test_step d = do
   hook ← optional as_str (codes "hookId") d
   pickle_step ← optional as_str (codes "pickleStepId") d
   definitions ← list_of_values as_str (codes "stepDefinitionIds") d
-  Ok (record { id = id; hook_id = hook; pickle_step_id = pickle_step; step_definition_ids = definitions })
+  Ok (record {
+    id = id;
+    hook_id = hook;
+    pickle_step_id = pickle_step;
+    step_definition_ids = definitions;
+  })
 
 abbrev pub test_case : Data → Result TestCase (List ℕ)
 test_case d = do
   id ← required as_str (codes "id") d
   pickle ← required as_str (codes "pickleId") d
   run ← optional as_str (codes "testRunStartedId") d
-  checked ← rule (codes "testSteps") (each_item (has_one_of (codes "hookId") (codes "pickleStepId")) (codes "testSteps") d)
+  checked ← rule (codes "testSteps") (each_item (has_one_of (codes "hookId") (codes "pickleStepId"))
+      (codes "testSteps") d)
   steps ← list_of test_step (codes "testSteps") d
   Ok (record { id = id; pickle_id = pickle; test_run_started_id = run; test_steps = steps })
 

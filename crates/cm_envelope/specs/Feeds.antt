@@ -22,7 +22,15 @@ pub record Stored : Type 0 where
 
 -- a new feed
 abbrev pub new_feed : ℕ → ℕ → Stored
-new_feed line_limit stream_limit = record { line_limit = line_limit; stream_limit = stream_limit; held = []; given = 0; is_ended = false; over = None }
+new_feed line_limit stream_limit =
+    record {
+      line_limit = line_limit;
+      stream_limit = stream_limit;
+      held = [];
+      given = 0;
+      is_ended = false;
+      over = None;
+    }
 
 -- what a call answers: a line, the end, or a trouble
 abbrev pub Answer : Type 0
@@ -82,7 +90,8 @@ left s to_come = feed_lines s.line_limit s.stream_limit s.given (lines_of (not_g
 -- these bytes are no whole line, and no limit is passed in them
 pub record ShowNothing (line_limit stream_limit before : ℕ) (bytes : List ℕ) : Type 0 where
   pub no_end : has_line_feed bytes ≡ false
-  pub no_trouble : trouble_of line_limit stream_limit before (record { bytes = bytes; has_end = false }) ≡ None
+  pub no_trouble : trouble_of line_limit stream_limit before
+      (record { bytes = bytes; has_end = false }) ≡ None
 
 -- a line that was given: a LF ends it, unless the end was read
 abbrev pub given_line : Stored → List ℕ → Line
@@ -109,7 +118,9 @@ pub record IsNextLine (old new : Stored) (before after line : List ℕ) : Type 0
 abbrev pub Gives : (old new : Stored) (before after : List ℕ) → Answer → Type 0
 Gives old new before after (Ok (Some line)) = IsNextLine old new before after line
 Gives old new before after (Ok None) = left old before ≡ nothing
-Gives old new before after (Err ReadFailed) = (not_given old before ≡ new.held ++ after) × (new.given ≡ old.given) × ShowNothing old.line_limit old.stream_limit old.given new.held
+Gives old new before after (Err ReadFailed) =
+    (not_given old before ≡ new.held ++ after) × (new.given ≡ old.given)
+    × ShowNothing old.line_limit old.stream_limit old.given new.held
 Gives old new before after (Err LineTooLong) = left old before ≡ trouble_alone LineTooLong
 Gives old new before after (Err StreamTooLong) = left old before ≡ trouble_alone StreamTooLong
 Gives old new before after (Err Memory) = ⊤
@@ -127,7 +138,8 @@ OnLine (Ok None) P = ⊤
 OnLine (Err t) P = ⊤
 
 -- what one call leaves
-pub record Leaves (old new : Stored) (before after : Option (List ℕ)) (answer : Answer) : Type 0 where
+pub record Leaves (old new : Stored) (before after : Option (List ℕ))
+    (answer : Answer) : Type 0 where
   pub line_limit : new.line_limit ≡ old.line_limit
   pub stream_limit : new.stream_limit ≡ old.stream_limit
   pub over : new.over ≡ over_after answer

@@ -1,4 +1,5 @@
 pub mod Device
+pub mod Writing
 pub mod Lines
 pub mod Feeds
 pub mod Held

@@ -18,7 +18,8 @@ space = 32
 
 -- blank: no byte, or spaces, tabs and CRs alone
 abbrev pub is_blank : List ℕ → Bool
-is_blank line = list_all (λ byte. (byte == space) || (byte == tab) || (byte == carriage_return)) line
+is_blank line =
+    list_all (λ byte. (byte == space) || (byte == tab) || (byte == carriage_return)) line
 
 -- a line: its bytes without the LF, and whether a LF ends it
 pub record Line : Type 0 where
@@ -37,14 +38,17 @@ begin_with b (l ∷ ls) = record { bytes = b ∷ l.bytes; has_end = l.has_end } 
 -- the lines: the parts between LFs, the part after the last LF only if it isn't empty
 abbrev pub lines_of : List ℕ → List Line
 lines_of [] = []
-lines_of (b ∷ bs) = if b == line_feed then record { bytes = []; has_end = true } ∷ lines_of bs else begin_with b (lines_of bs)
+lines_of (b ∷ bs) =
+    if b == line_feed then record { bytes = []; has_end = true } ∷ lines_of bs
+    else begin_with b (lines_of bs)
 
 -- The trouble of a line that begins after `before` bytes of the stream. Counted from 0, the first byte beyond the line
 -- limit is byte `before + line_limit` of the stream, and the first beyond the stream limit is byte `stream_limit`, which
 -- may be the LF. The one that comes first decides; at one byte it is the stream's.
 abbrev pub trouble_of : (line_limit stream_limit before : ℕ) → Line → Option Trouble
 trouble_of line_limit stream_limit before l =
-    if nat_lt line_limit (length l.bytes) && nat_lt (before + line_limit) stream_limit then Some LineTooLong
+    if nat_lt line_limit (length l.bytes) && nat_lt (before + line_limit) stream_limit
+    then Some LineTooLong
     else if nat_lt stream_limit (before + size l) then Some StreamTooLong
     else None
 
@@ -74,7 +78,8 @@ unless_trouble None l fed = line_then l fed
 abbrev pub feed_lines : (line_limit stream_limit before : ℕ) → List Line → Fed
 feed_lines line_limit stream_limit before [] = nothing
 feed_lines line_limit stream_limit before (l ∷ ls) =
-    unless_trouble (trouble_of line_limit stream_limit before l) l.bytes (feed_lines line_limit stream_limit (before + size l) ls)
+    unless_trouble (trouble_of line_limit stream_limit before l) l.bytes
+    (feed_lines line_limit stream_limit (before + size l) ls)
 
 -- what a feed of these bytes answers
 abbrev pub feed : List ℕ → (line_limit stream_limit : ℕ) → Fed

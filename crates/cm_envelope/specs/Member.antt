@@ -44,7 +44,8 @@ good name (Some x) = Ok x
 abbrev pub required : {A : Type 0} → (Data → Option A) → List ℕ → Data → Result A (List ℕ)
 required type name d = good name (option_and_then type (present name d))
 
-abbrev pub optional_in : {A : Type 0} → (Data → Option A) → List ℕ → Option Data → Result (Option A) (List ℕ)
+abbrev pub optional_in : {A : Type 0} → (Data → Option A) → List ℕ → Option Data
+    → Result (Option A) (List ℕ)
 optional_in type name None = Ok None
 optional_in type name (Some d) = good name (option_map Some (type d))
 
@@ -78,11 +79,13 @@ object_in name read d = good name (as_object d) >>= λ members. read d
 abbrev pub nested : {A : Type 0} → (Data → Result A (List ℕ)) → List ℕ → Data → Result A (List ℕ)
 nested read name d = good name (present name d) >>= object_in name read
 
-abbrev pub optional_nested_in : {A : Type 0} → (Data → Result A (List ℕ)) → List ℕ → Option Data → Result (Option A) (List ℕ)
+abbrev pub optional_nested_in : {A : Type 0} → (Data → Result A (List ℕ)) → List ℕ → Option Data
+    → Result (Option A) (List ℕ)
 optional_nested_in read name None = Ok None
 optional_nested_in read name (Some d) = object_in name read d >>= λ x. Ok (Some x)
 
-abbrev pub optional_nested : {A : Type 0} → (Data → Result A (List ℕ)) → List ℕ → Data → Result (Option A) (List ℕ)
+abbrev pub optional_nested : {A : Type 0} → (Data → Result A (List ℕ)) → List ℕ → Data
+    → Result (Option A) (List ℕ)
 optional_nested read name d = optional_nested_in read name (present name d)
 
 -- the items, one after the other
@@ -98,10 +101,12 @@ abbrev pub items_in : List ℕ → Option Data → Result Items (List ℕ)
 items_in name None = Ok no_items
 items_in name (Some d) = good name (as_array d)
 
-abbrev pub list_of : {A : Type 0} → (Data → Result A (List ℕ)) → List ℕ → Data → Result (List A) (List ℕ)
+abbrev pub list_of : {A : Type 0} → (Data → Result A (List ℕ)) → List ℕ → Data
+    → Result (List A) (List ℕ)
 list_of read name d = items_in name (present name d) >>= each (object_in name read)
 
-abbrev pub list_of_values : {A : Type 0} → (Data → Option A) → List ℕ → Data → Result (List A) (List ℕ)
+abbrev pub list_of_values : {A : Type 0} → (Data → Option A) → List ℕ → Data
+    → Result (List A) (List ℕ)
 list_of_values type name d = items_in name (present name d) >>= each (λ e. good name (type e))
 
 -- ---- rules, checked when their member is reached
@@ -110,7 +115,8 @@ abbrev pub rule : List ℕ → Bool → Result ⊤ (List ℕ)
 rule name holds = if holds then Ok tt else Err name
 
 abbrev pub has_one_of : List ℕ → List ℕ → Data → Bool
-has_one_of a b d = if is_some (present a d) then not (is_some (present b d)) else is_some (present b d)
+has_one_of a b d =
+    if is_some (present a d) then not (is_some (present b d)) else is_some (present b d)
 
 abbrev pub has_both : List ℕ → List ℕ → Data → Bool
 has_both a b d = is_some (present a d) && is_some (present b d)
@@ -121,4 +127,5 @@ all_items test (item d ds) = test d && all_items test ds
 
 -- where the member is a list, each item passes the test
 abbrev pub each_item : (Data → Bool) → List ℕ → Data → Bool
-each_item test name d = unwrap_or (option_map (all_items test) (option_and_then as_array (present name d))) true
+each_item test name d =
+    unwrap_or (option_map (all_items test) (option_and_then as_array (present name d))) true

@@ -96,4 +96,12 @@ pickle d = do
   nodes ← list_of_values as_str (codes "astNodeIds") d
   tags ← list_of pickle_tag (codes "tags") d
   steps ← list_of pickle_step (codes "steps") d
-  Ok (record { id = id; uri = uri; name = name; language = language; ast_node_ids = nodes; tags = tags; steps = steps })
+  Ok (record {
+    id = id;
+    uri = uri;
+    name = name;
+    language = language;
+    ast_node_ids = nodes;
+    tags = tags;
+    steps = steps;
+  })

@@ -27,7 +27,10 @@ pub data Fault : Type 0 where
 
 -- the judged kinds
 abbrev pub kinds : List Kind
-kinds = Source ∷ GherkinDocument ∷ ParseError ∷ Pickle ∷ StepDefinition ∷ Hook ∷ TestCase ∷ TestRunStarted ∷ TestCaseStarted ∷ TestStepStarted ∷ TestStepFinished ∷ TestCaseFinished ∷ TestRunFinished ∷ Attachment ∷ TestRunHookStarted ∷ TestRunHookFinished ∷ []
+kinds =
+    Source ∷ GherkinDocument ∷ ParseError ∷ Pickle ∷ StepDefinition ∷ Hook ∷ TestCase
+    ∷ TestRunStarted ∷ TestCaseStarted ∷ TestStepStarted ∷ TestStepFinished ∷ TestCaseFinished
+    ∷ TestRunFinished ∷ Attachment ∷ TestRunHookStarted ∷ TestRunHookFinished ∷ []
 
 -- the name of a kind's member in an envelope
 abbrev pub kind_name : Kind → List ℕ

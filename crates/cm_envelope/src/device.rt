@@ -27,7 +27,8 @@ pub trait ByteSource {
     fn read_some(&mut self, piece: &mut [u8]) -> Result<usize, DeviceFailed>
         ensures count { IfOk result (λ n. n ≤ length piece.new) }
         ensures bytes { ReadConsumes (to_come self.old) (to_come self.new) result piece.new }
-        ensures failures { Counts (call_failed result) (failed_calls self.old) (failed_calls self.new) };
+        ensures failures { Counts (call_failed result) (failed_calls self.old)
+            (failed_calls self.new) };
 }
 
 /// What bytes are written to. Contracts see the bytes that it has taken, where it tells them, and how many of its calls
@@ -47,7 +48,8 @@ pub trait ByteSink {
     fn write_some(&mut self, bytes: &[u8]) -> Result<usize, DeviceFailed>
         ensures count { IfOk result (λ n. n ≤ length bytes.now) }
         ensures bytes { WriteAppends (taken self.old) (taken self.new) result bytes.now }
-        ensures failures { Counts (write_failed result bytes.now) (failed_calls self.old) (failed_calls self.new) };
+        ensures failures { Counts (write_failed result bytes.now) (failed_calls self.old)
+            (failed_calls self.new) };
 
     /// Passes on what was taken.
     ///
@@ -55,7 +57,8 @@ pub trait ByteSink {
     /// The flush failed.
     fn flush(&mut self) -> Result<(), DeviceFailed>
         ensures bytes { Keeps (taken self.old) (taken self.new) }
-        ensures failures { Counts (call_failed result) (failed_calls self.old) (failed_calls self.new) };
+        ensures failures { Counts (call_failed result) (failed_calls self.old)
+            (failed_calls self.new) };
 }
 
 /// A source over a reader of std. Each error of a read is a failed call; no read is repeated.

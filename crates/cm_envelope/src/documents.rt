@@ -44,7 +44,8 @@ fn optional_node<T: ReadNode>(
     name: &'static str,
     ids: &mut Sequence<Text>,
 ) -> Result<Option<T>, MemberFault>
-    ensures { GivesNode result ids.new (optional_node_of T.reads name.now ids.old (view object.now)) }
+    ensures { GivesNode result ids.new (optional_node_of T.reads name.now ids.old
+        (view object.now)) }
 {
     match present(object, name) {
         Some(value) => Ok(Some(node_in_member(alloc, value, name, ids)?)),
@@ -75,7 +76,8 @@ fn nodes_of<T: ReadNode + Drop>(
     name: &'static str,
     ids: &mut Sequence<Text>,
 ) -> Result<Sequence<T>, MemberFault>
-    ensures { GivesNode result ids.new (nodes_of_member T.reads name.now ids.old (view object.now)) }
+    ensures { GivesNode result ids.new (nodes_of_member T.reads name.now ids.old
+        (view object.now)) }
 {
     nodes(alloc, items(object, name)?, name, ids)
 }
@@ -88,7 +90,8 @@ fn children<T: ReadNode + Drop>(
     ids: &mut Sequence<Text>,
 ) -> Result<Sequence<T>, MemberFault>
     ensures { GivesNode result ids.new
-        (each_node (node_in name.now T.reads) ids.old (children_of name.now (items_view values.now))) }
+        (each_node (node_in name.now T.reads) ids.old
+        (children_of name.now (items_view values.now))) }
 {
     let mut nodes = Sequence::new(alloc);
     for value in values {
@@ -107,7 +110,8 @@ fn first_background(
     ids: &mut Sequence<Text>,
 ) -> Result<Option<Background>, MemberFault>
     ensures { GivesNode result ids.new
-        (optional_node_in background (codes "background") ids.old (background_in (items_view children.now))) }
+        (optional_node_in background (codes "background") ids.old
+        (background_in (items_view children.now))) }
 {
     match children {
         [first, ..] => optional_node(alloc, first, "background", ids),
@@ -145,7 +149,8 @@ fn are_in_order(children: &[Value], in_feature: bool) -> bool
 
 /// The children, once each has its kind and they are in order.
 fn children_in(object: &Value, in_feature: bool) -> Result<&[Value], MemberFault>
-    ensures { GivesOf (λ values. items_view values.now) result (children_in_member in_feature (view object.now)) }
+    ensures { GivesOf (λ values. items_view values.now) result
+        (children_in_member in_feature (view object.now)) }
 {
     let children = items(object, "children")?;
     if !are_in_order(children, in_feature) {

@@ -62,7 +62,7 @@ pub struct Feed {
     given: u64,
     is_ended: bool,
     over: Option<Over>,
-    // What was read and not yet given, behind the line that was given last.
+    // What was read and not yet given, after the line that was given last.
     window: Window,
 }
 
@@ -82,8 +82,10 @@ impl Model for Feed {
       over = a.over;
     } };
 
-    ghost invariant = { λ a. (a.line_limit ≤ 67108864) × (a.stream_limit ≤ 1073741824) × (a.given ≤ a.stream_limit)
-        × (a.over ≡ None → (length (items a.window) ≤ 65536) × (a.is_ended ≡ true → items a.window ≡ [])) };
+    ghost invariant = { λ a. (a.line_limit ≤ 67108864) × (a.stream_limit ≤ 1073741824)
+        × (a.given ≤ a.stream_limit)
+        × (a.over ≡ None → (length (items a.window) ≤ 65536)
+        × (a.is_ended ≡ true → items a.window ≡ [])) };
 }
 
 impl Feed {
@@ -176,7 +178,8 @@ fn find_line<S: ByteSource>(
         × Consumes (S.to_come source.old) (S.to_come source.new) read
         × Finds line_limit room (items window.new) (S.to_come source.new) result }
     ensures unread { has_line_feed (items window.old) ≡ true → source.new ≡ source.old }
-    ensures failures { Counts (read_failed result) (S.failed_calls source.old) (S.failed_calls source.new) }
+    ensures failures { Counts (read_failed result) (S.failed_calls source.old)
+        (S.failed_calls source.new) }
 {
     let mut searched = 0;
     'pieces: loop {

@@ -1,4 +1,4 @@
-//! The devices that a message stream is read from and written to, its lines, and the envelopes of its lines.
+//! The devices that a message stream is read from and written to, writing to them, its lines, and the envelopes of its lines.
 #![tactic(auto)]
 
 mod blank;
@@ -15,6 +15,7 @@ mod pickle;
 mod pickles;
 mod reading;
 mod window;
+mod write;
 
 pub use blank::is_blank_line;
 pub use device::{ByteSink, ByteSource, DeviceFailed, Reader, Writer};
@@ -31,3 +32,4 @@ pub use pickle::{
     PickleTag, StepKind,
 };
 pub use reading::read_envelope;
+pub use write::{write_all, write_lines};

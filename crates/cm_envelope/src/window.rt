@@ -1,4 +1,4 @@
-//! The bytes of a source that were read and not yet given, and room for more behind them.
+//! The bytes of a source that were read and not yet given, and room for more after them.
 ghost use Rattle.std.specs.Prelude.{◌≡◌, ℕ, ◌+◌, ◌-◌, ◌<◌, ◌≤◌, List, [], ◌++◌, length, vec_len, slice_range, IfOk, OnOk, OnErr};
 ghost use Rattle.std.specs.Io.KnownBytes.{Keeps, Consumes, IsAtEnd};
 ghost use Rattle.cm_envelope.specs.Device.{Counts, call_failed};
@@ -78,15 +78,17 @@ impl Window {
         Ok(())
     }
 
-    // Reads a piece behind the bytes.
+    // Reads a piece after the bytes.
     pub(crate) fn read_from<S: ByteSource>(&mut self, source: &mut S) -> Result<usize, DeviceFailed>
         requires { self.old.end + PIECE ≤ vec_len self.old.bytes }
-        ensures ok { IfOk result (λ n. (more : List ℕ) × (length more ≡ n) × (items self.new ≡ items self.old ++ more)
+        ensures ok { IfOk result (λ n. (more : List ℕ) × (length more ≡ n)
+            × (items self.new ≡ items self.old ++ more)
             × Consumes (S.to_come source.old) (S.to_come source.new) more × (n ≤ PIECE)) }
         ensures end { IfOk result (λ n. n ≡ 0 → IsAtEnd (S.to_come source.new)) }
         ensures err { OnErr result ((items self.new ≡ items self.old)
             × Keeps (S.to_come source.old) (S.to_come source.new)) }
-        ensures failures { Counts (call_failed result) (S.failed_calls source.old) (S.failed_calls source.new) }
+        ensures failures { Counts (call_failed result) (S.failed_calls source.old)
+            (S.failed_calls source.new) }
     {
         let end = self.end;
         let count = source.read_some(&mut self.bytes[end..end + PIECE])?;

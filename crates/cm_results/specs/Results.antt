@@ -32,12 +32,13 @@ CaseKnown before (envelope.TestCaseStarted s) = is_some (find_case s.test_case_i
 CaseKnown before _ = Unit {0}
 
 -- The attempts come as they must, where they are numbered from the first number. Ids are distinct. An attempt is of a case that was
--- declared, it has the number behind those of the case's earlier attempts, and each of those is finished and will be retried. An
+-- declared, it has the number after those of the case's earlier attempts, and each of those is finished and will be retried. An
 -- attempt starts, starts and finishes each test step of its case in order, and finishes; as yet it may have gone through a front
 -- of that.
 pub record AttemptsComeWell (first : ℕ) (es : List Envelope) : Type 0 where
   pub cases_distinct : has_repeat (map (λ c. c.id) (cases es)) ≡ false
-  pub steps_distinct : AllByRecursion (λ c. has_repeat (map (λ s. s.id) c.test_steps) ≡ false) (cases es)
+  pub steps_distinct : AllByRecursion (λ c. has_repeat (map (λ s. s.id) c.test_steps) ≡ false)
+      (cases es)
   pub attempts_distinct : has_repeat (map (λ s. s.id) (starts es)) ≡ false
   pub known : Everywhere (λ before e after. CaseKnown before e) es
   pub numbers : NumbersGood first es

@@ -18,18 +18,18 @@ pub fn fronts_come_well()
     ensures { FrontsComeWell }
 {}
 
-/// Behind envelopes whose calls are accepted, the call for an envelope is refused exactly for the first of its own checks
+/// After envelopes whose calls are accepted, the call for an envelope is refused exactly for the first of its own checks
 /// that it fails.
 pub fn refusals_are_checks()
     ensures { RefusedForChecks }
 {}
 
-/// Behind envelopes whose calls are accepted, one that fails none of its own checks changes the table as its call does.
+/// After envelopes whose calls are accepted, one that fails none of its own checks changes the table as its call does.
 pub fn tables_change()
     ensures { TablesChange }
 {}
 
-/// An envelope behind attempts that come as they must fails one of its own checks exactly where they don't come so with it.
+/// An envelope after attempts that come as they must fails one of its own checks exactly where they don't come so with it.
 pub fn faults_are_exact()
     ensures { FaultsAreExact }
 {}

@@ -56,7 +56,7 @@ has_source es before e after good cut uri one =
       meets = source_meets es at.front at.value (at.back ++ e ∷ after) (good.sources at.front (envelope.Source at.value) (at.back ++ e ∷ after) whole);
     }
 
--- the documents, and the pickles, of two lists one behind the other
+-- the documents, and the pickles, of two lists one after the other
 pub documents_both : (uri : Text) (xs ys : List Envelope) → documents_of uri (xs ++ ys) ≡ documents_of uri xs ++ documents_of uri ys
 documents_both uri xs ys = ap (filter (λ x. bytes_eq uri x.uri)) (filter_map-append as_document xs ys) ∙ filter-append (λ x. bytes_eq uri x.uri) (filter_map as_document xs) (filter_map as_document ys)
 

@@ -29,12 +29,12 @@ use Rattle.cm_stream.proofs.Found.{each_found}
 use Rattle.cm_stream.proofs.Declared.{source_is, start_is}
 use Rattle.std.proofs.lemmas.List.Sums.{length-filter}
 
--- the line that ends the run, behind which nothing is judged
+-- the line that ends the run, after which nothing is judged
 pub record EndsRun (es before : List Envelope) (f : TestRunFinished) (after : List Envelope) : Type 0 where
   pub cut : es ≡ before ++ envelope.TestRunFinished f ∷ after
   pub none : list_any is_judged after ≡ false
 
--- nothing judged stands behind it
+-- nothing judged comes after it
 pub unjudged_is : (e : Envelope) → is_judged e ≡ false → e ≡ envelope.Other
 unjudged_is envelope.Other h = refl
 unjudged_is _ h = cc

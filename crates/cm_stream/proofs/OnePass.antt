@@ -5,7 +5,7 @@ use Rattle.std.proofs.lemmas.Bool.Decides.{nat_tests}
 use Rattle.gk_grammar.specs.declared.fault.FaultKind.{FaultKind}
 use Rattle.gk_grammar.specs.declared.fault.FaultKind.TheVariants as kind
 use Rattle.gk_grammar.specs.Documents.{lines_read, HasFault, IsTooLong, byte_limit, line_limit}
-use Rattle.gk_grammar.specs.Machine.{Chunk, State, Bad, run, closed, initial}
+use Rattle.gk_grammar.specs.Machine.{FlatBlock, State, Bad, run, blocks_at_end, initial}
 use Rattle.gk_grammar.proofs.LawLemmas.{one_document_holds, no_document_with_fault_holds, one_fault_holds, whole_run, stopped_run, open_run}
 use Rattle.cm_stream.specs.Texts.{Text}
 use Rattle.cm_stream.specs.Readings.{Reading, Accepted, Refused, OtherLanguage, TooLong, IsReading, OneReading}
@@ -45,9 +45,9 @@ fault_read text fits kind.Memory n c h = (fits, record { kind = kind.Memory; lin
 
 pass_read : (text : Text) → (IsTooLong text → ⊥) → (r : Result State Bad) → run initial (lines_read text) ≡ r → IsReading text (reading_behind r)
 pass_read text fits (Err b) e = fault_read text fits b.kind b.line b.column (stopped_run text b e)
-pass_read text fits (Ok s) e = go (closed s.phase) refl
+pass_read text fits (Ok s) e = go (blocks_at_end s.phase) refl
   where
-    go : (o : Option (List Chunk)) → closed s.phase ≡ o → IsReading text (reading_at_end s o)
+    go : (o : Option (List FlatBlock)) → blocks_at_end s.phase ≡ o → IsReading text (reading_at_end s o)
     go (Some last) k = (fits, (whole_run text s last e k).doc)
     go None k = fault_read text fits kind.UnexpectedEnd _ _ (open_run text s e k)
 

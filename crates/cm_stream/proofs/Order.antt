@@ -22,7 +22,7 @@ finished_is : (e : Envelope) → is_run_finished e ≡ true → (f : TestRunFini
 finished_is (envelope.TestRunFinished f) h = (f, refl)
 finished_is _ h = cc
 
--- nothing judged stands behind the end of the run
+-- nothing judged comes after the end of the run
 pub behind_end : (es : List Envelope) → AllPass es → (before : List Envelope) (f : TestRunFinished) (after : List Envelope) → es ≡ before ++ envelope.TestRunFinished f ∷ after → list_any is_judged after ≡ false
 behind_end es pass before f after cut = everywhere_none is_judged after each
   where

@@ -34,7 +34,7 @@ pub record LinePasses (before : List Envelope) (e : Envelope) : Type 0 where
 abbrev pub AllPass : List Envelope → Type 0
 AllPass es = (before : List Envelope) (e : Envelope) (after : List Envelope) → es ≡ before ++ e ∷ after → LinePasses before e
 
--- the checks before others, and those behind
+-- the checks before others, and those after
 front_of : (cs ds : List Check) → Passes (cs ++ ds) → Passes cs
 front_of [] ds h = tt
 front_of (c ∷ cs) ds h = (h.0, front_of cs ds h.1)
@@ -47,7 +47,7 @@ pub both_pass : (cs ds : List Check) → Passes cs → Passes ds → Passes (cs 
 both_pass [] ds h k = k
 both_pass (c ∷ cs) ds h k = (h.0, both_pass cs ds h.1 k)
 
--- each line has no fault behind those before it
+-- each line has no fault after those before it
 abbrev pub NoneFails : Settings → List Envelope → Type 0
 NoneFails settings es = (before : List Envelope) (e : Envelope) (after : List Envelope) → es ≡ before ++ e ∷ after → first_failed (checks settings before e) ≡ None
 

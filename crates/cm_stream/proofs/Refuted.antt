@@ -60,7 +60,7 @@ pub declared_append : (xs ys : List Envelope) → flat_map declares (xs ++ ys) �
 declared_append [] ys = refl
 declared_append (x ∷ xs) ys = ap (λ ns. declares x ++ ns) (declared_append xs ys) ∙ sym (append_assoc (declares x) (flat_map declares xs) (flat_map declares ys))
 
--- none of these names, which stand behind ms, is declared before
+-- none of these names, which come after ms, is declared before
 none_again : (before : List Envelope) (ms ns more : List Name) → has_same_names (flat_map declares before ++ (ms ++ (ns ++ more))) ≡ false
     → list_any (λ name. nat_lt 0 (times_declared name before)) ns ≡ false
 none_again before ms [] more h = refl

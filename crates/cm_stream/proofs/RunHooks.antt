@@ -1,4 +1,4 @@
--- Each run hook is finished once: in a good list, and behind lines that pass their checks.
+-- Each run hook is finished once: in a good list, and after lines that pass their checks.
 use Rattle.std.proofs.Common.{◌≡◌, ◌≤◌, ℕ, zero, suc, ◌+◌, refl, sym, ap, subst, ◌∙◌, List, [], ◌∷◌, ◌++◌, Some, None, true, false, not, append_assoc, arith}
 use Rattle.std.specs.Prelude.{count_by}
 use Rattle.std.specs.List.{list_any, list_all, AllByRecursion}

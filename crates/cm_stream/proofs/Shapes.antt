@@ -26,7 +26,7 @@ finishes ms = filter_map finish_of ms
 abbrev pub through : List Text → List Move
 through steps = flat_map (λ s. StepStarted s ∷ StepFinished s ∷ []) steps ++ Ended ∷ []
 
--- Where an attempt stands behind a move and these moves: between two steps, inside one, or at its end.
+-- Where an attempt comes after a move and these moves: between two steps, inside one, or at its end.
 pub data Stands (behind : Move) (steps : List Text) (ms rest : List Move) : Type 0 where
   between : (done more : List Text) → steps ≡ done ++ more → rest ≡ through more → length (finishes ms) ≡ length done → is_step_start (last_of (behind ∷ ms)) ≡ false → list_any is_end ms ≡ false → Stands behind steps ms rest
   inside : (done : List Text) (s : Text) (more : List Text) → steps ≡ done ++ s ∷ more → rest ≡ StepFinished s ∷ through more → length (finishes ms) ≡ length done → is_step_start (last_of (behind ∷ ms)) ≡ true → list_any is_end ms ≡ false → Stands behind steps ms rest

@@ -95,7 +95,7 @@ maybe_texts = record { is = are; by = back }
     back (Some x) None e = cc
     back (Some x) (Some y) e = let first : x ≡ y = cc in texts.by x y first
 
--- ---- tests one behind another
+-- ---- tests one after another
 
 three : (a b c : Bool) → (a && b && c) ≡ true → (a ≡ true) × (b ≡ true) × (c ≡ true)
 three a b c h = let x = and_true (a && b) c h in let y = and_true a b x.0 in (y.0, y.1, x.1)

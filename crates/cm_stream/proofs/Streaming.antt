@@ -28,7 +28,7 @@ one_step = codes "Feature: f\n\n  Scenario: s\n    Given a\n"
 abbrev pub outline : Text
 outline = codes "Feature: f\n  Scenario: s\n    Given <a>\n    Examples:\n      | a |\n      | x |\n      | x |\n      | y |\n"
 
--- a scenario without steps of its own behind a background
+-- a scenario without steps of its own after a background
 abbrev pub no_steps : Text
 no_steps = codes "Feature: f\n  Background:\n    Given a\n    And b\n  Scenario: s\n"
 

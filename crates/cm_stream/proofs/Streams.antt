@@ -19,7 +19,7 @@ use Rattle.cm_stream.proofs.NoFault.{good_have_no_fault}
 use Rattle.cm_stream.proofs.FaultlessGood.{faultless_are_good}
 
 module _ (settings : Settings) where
-  -- lines from the number n on that have no fault behind these envelopes
+  -- lines from the number n on that have no fault after these envelopes
   record Clean (before : List Envelope) (n : ℕ) (ls : List (List ℕ)) (t : Option Trouble) (es : List Envelope) : Type 0 where
     lines : List (ℕ × Envelope)
     no_trouble : t ≡ None

@@ -108,7 +108,7 @@ overlapping_attempts : shown (one_pickle ++ run_started ∷ case (codes "c1") �
 unfolding reads lines_read lines_of numbered_lines without_mark chars after body_of first_some trimmed begins_by fence_of indent_of is_blank_line language_of step_of title_of token_of cells_of units pickles replaced_after same_skeleton encode
 overlapping_attempts = refl
 
--- An attempt starts behind the final one.
+-- An attempt starts after the final one.
 attempt_behind_the_final : shown (one_pickle ++ run_started ∷ case (codes "c1") ∷ started (codes "a1") (codes "c1") 0 ∷ step_started (codes "a1") ∷ step_finished (codes "a1") status.Failed ∷ finished (codes "a1") true ∷ started (codes "a2") (codes "c1") 1 ∷ step_started (codes "a2") ∷ step_finished (codes "a2") status.Passed ∷ finished (codes "a2") false ∷ started (codes "a3") (codes "c1") 2 ∷ []) ≡ Fault 14 (IsBad fault.AttemptOverlap)
 unfolding reads lines_read lines_of numbered_lines without_mark chars after body_of first_some trimmed begins_by fence_of indent_of is_blank_line language_of step_of title_of token_of cells_of units pickles replaced_after same_skeleton encode
 attempt_behind_the_final = refl
@@ -138,7 +138,7 @@ run_finished_inside_an_attempt : shown (one_pickle ++ run_started ∷ case (code
 unfolding reads lines_read lines_of numbered_lines without_mark chars after body_of first_some trimmed begins_by fence_of indent_of is_blank_line language_of step_of title_of token_of cells_of units pickles replaced_after same_skeleton encode
 run_finished_inside_an_attempt = refl
 
--- The run does not finish: the fault stands behind the last line.
+-- The run does not finish: the fault comes after the last line.
 no_run_finished : shown (one_pickle ++ run_started ∷ case (codes "c1") ∷ []) ≡ Fault 6 (IsBad fault.NoRunFinished)
 unfolding reads lines_read lines_of numbered_lines without_mark chars after body_of first_some trimmed begins_by fence_of indent_of is_blank_line language_of step_of title_of token_of cells_of units pickles replaced_after same_skeleton encode
 no_run_finished = refl

@@ -51,7 +51,9 @@ refers_to_unknown before e = list_any (λ name. times_declared name before == 0)
 
 -- it declares something that a line before declares, or something twice
 abbrev pub declares_again : List Envelope → Envelope → Bool
-declares_again before e = has_same_names (declares e) || list_any (λ name. nat_lt 0 (times_declared name before)) (declares e)
+declares_again before e =
+    has_same_names (declares e) || list_any (λ name. nat_lt 0 (times_declared name before))
+    (declares e)
 
 abbrev pub is_too_long : Reading → Bool
 is_too_long TooLong = true
@@ -77,7 +79,8 @@ due_pickles _ = []
 
 -- the source's next pickle
 abbrev pub next_pickle : Text → List Envelope → Option DuePickle
-next_pickle uri before = slice_get (due_pickles (reading_of uri before)) (length (pickles_of uri before))
+next_pickle uri before =
+    slice_get (due_pickles (reading_of uri before)) (length (pickles_of uri before))
 
 -- the ids of the document of the uri
 abbrev pub first_ids : List GherkinDocument → List Text
@@ -88,11 +91,14 @@ abbrev pub document_ids : Text → List Envelope → List Text
 document_ids uri before = first_ids (documents_of uri before)
 
 abbrev pub is_next_pickle : List Envelope → Pickle → Bool
-is_next_pickle before p = option_map_or (λ due. is_due (document_ids p.uri before) p due) (next_pickle p.uri before) false
+is_next_pickle before p =
+    option_map_or (λ due. is_due (document_ids p.uri before) p due) (next_pickle p.uri before) false
 
 -- the case has the steps of its pickle
 abbrev pub has_steps_of_pickle : List Envelope → TestCase → Bool
-has_steps_of_pickle before c = option_map_or (λ p. same_texts (map (λ s. s.id) p.steps) (pickle_step_ids c)) (find_pickle c.pickle_id before) false
+has_steps_of_pickle before c =
+    option_map_or (λ p. same_texts (map (λ s. s.id) p.steps) (pickle_step_ids c))
+    (find_pickle c.pickle_id before) false
 
 abbrev pub same_move : Move → Move → Bool
 same_move Started Started = true
@@ -107,11 +113,15 @@ steps_of_attempt a before = option_map_or (λ c. steps_of c before) (case_of a b
 
 -- it is what the attempt has to go through next
 abbrev pub is_next_move : Move → Text → List Envelope → Bool
-is_next_move m a before = option_map_or (same_move m) (slice_get (whole (steps_of_attempt a before)) (length (moves a before))) false
+is_next_move m a before =
+    option_map_or (same_move m) (slice_get (whole (steps_of_attempt a before))
+    (length (moves a before))) false
 
 -- a source that is accepted and has no document, or fewer pickles than it compiles to
 abbrev pub lacks : List Envelope → Text → Reading → Bool
-lacks before uri (Accepted d) = (length (documents_of uri before) == 0) || nat_lt (length (pickles_of uri before)) (length (compiled d))
+lacks before uri (Accepted d) =
+    (length (documents_of uri before) == 0) || nat_lt (length (pickles_of uri before))
+    (length (compiled d))
 lacks before uri _ = false
 
 abbrev pub is_incomplete : List Envelope → Source → Bool
@@ -138,22 +148,27 @@ checks_of first before (envelope.Pickle p) =
     bad.UnknownReference if refers_to_unknown before (envelope.Pickle p)
     ∷ bad.PickleDiffers if not (is_next_pickle before p)
     ∷ bad.DuplicateId if declares_again before (envelope.Pickle p) ∷ []
-checks_of first before (envelope.StepDefinition d) = bad.DuplicateId if declares_again before (envelope.StepDefinition d) ∷ []
-checks_of first before (envelope.Hook h) = bad.DuplicateId if declares_again before (envelope.Hook h) ∷ []
+checks_of first before (envelope.StepDefinition d) =
+    bad.DuplicateId if declares_again before (envelope.StepDefinition d) ∷ []
+checks_of first before (envelope.Hook h) =
+    bad.DuplicateId if declares_again before (envelope.Hook h) ∷ []
 checks_of first before (envelope.TestCase c) =
     bad.UnknownReference if refers_to_unknown before (envelope.TestCase c)
     ∷ bad.CaseStepsDiffer if not (has_steps_of_pickle before c)
     ∷ bad.DuplicateId if declares_again before (envelope.TestCase c) ∷ []
-checks_of first before (envelope.TestRunStarted r) = bad.SecondRunStarted if has_run_started before ∷ []
+checks_of first before (envelope.TestRunStarted r) =
+    bad.SecondRunStarted if has_run_started before ∷ []
 checks_of first before (envelope.TestCaseStarted s) =
     bad.OutsideRun if not (has_run_started before)
     ∷ bad.UnknownReference if refers_to_unknown before (envelope.TestCaseStarted s)
     ∷ bad.DuplicateId if declares_again before (envelope.TestCaseStarted s)
     ∷ bad.AttemptNumber if not (s.attempt == first + length (starts_of s.test_case_id before))
-    ∷ bad.AttemptOverlap if not (list_all (λ x. is_retried x.id before) (starts_of s.test_case_id before)) ∷ []
+    ∷ bad.AttemptOverlap if not (list_all (λ x. is_retried x.id before)
+    (starts_of s.test_case_id before)) ∷ []
 checks_of first before (envelope.TestStepStarted s) =
     bad.UnknownReference if refers_to_unknown before (envelope.TestStepStarted s)
-    ∷ bad.StepOrder if not (is_next_move (StepStarted s.test_step_id) s.test_case_started_id before) ∷ []
+    ∷ bad.StepOrder if not (is_next_move (StepStarted s.test_step_id) s.test_case_started_id before)
+    ∷ []
 checks_of first before (envelope.TestStepFinished s) =
     bad.UnknownReference if refers_to_unknown before (envelope.TestStepFinished s)
     ∷ bad.StepOrder if not (is_next_move (StepFinished s.test_step_id) s.test_case_started_id before)
@@ -168,7 +183,8 @@ checks_of first before (envelope.TestRunFinished f) =
     ∷ bad.AttemptOpen if not (list_all (λ s. is_ended s.id before) (starts before))
     ∷ bad.RunHookOpen if not (list_all (λ s. is_hook_finished s.id before) (run_hooks before))
     ∷ bad.SourceIncomplete if list_any (is_incomplete before) (sources before) ∷ []
-checks_of first before (envelope.Attachment a) = bad.UnknownReference if refers_to_unknown before (envelope.Attachment a) ∷ []
+checks_of first before (envelope.Attachment a) =
+    bad.UnknownReference if refers_to_unknown before (envelope.Attachment a) ∷ []
 checks_of first before (envelope.TestRunHookStarted s) =
     bad.OutsideRun if not (has_run_started before)
     ∷ bad.UnknownReference if refers_to_unknown before (envelope.TestRunHookStarted s)
@@ -181,22 +197,26 @@ checks_of first before envelope.Other = []
 
 -- the last check of the run's end: it tells success as it is
 abbrev pub success_check : Policy → List Envelope → Envelope → List Check
-success_check policy before (envelope.TestRunFinished f) = bad.SuccessDiffers if not (same_flag f.success (all_well policy before && not f.has_exception)) ∷ []
+success_check policy before (envelope.TestRunFinished f) =
+    bad.SuccessDiffers if not (same_flag f.success (all_well policy before && not f.has_exception))
+    ∷ []
 success_check policy before _ = []
 
--- those that are made whatever statuses are good; nothing is judged behind the end of the run
+-- those that are made whatever statuses are good; nothing is judged after the end of the run
 abbrev pub plain_checks : (first : ℕ) → List Envelope → Envelope → List Check
-plain_checks first before e = (bad.AfterRunFinished if (is_judged e && has_run_finished before)) ∷ checks_of first before e
+plain_checks first before e =
+    (bad.AfterRunFinished if (is_judged e && has_run_finished before)) ∷ checks_of first before e
 
 abbrev pub checks : Settings → List Envelope → Envelope → List Check
-checks settings before e = plain_checks settings.first_attempt before e ++ success_check settings.policy before e
+checks settings before e =
+    plain_checks settings.first_attempt before e ++ success_check settings.policy before e
 
 -- the first check that the line fails
 abbrev pub first_failed : List Check → Option Finding
 first_failed [] = None
 first_failed (c ∷ cs) = if c.fails then Some c.finding else first_failed cs
 
--- the fault of a line behind these lines, none of which has a fault
+-- the fault of a line after these lines, none of which has a fault
 abbrev pub fault : Settings → List Envelope → Envelope → Option Finding
 fault settings before e = first_failed (checks settings before e)
 

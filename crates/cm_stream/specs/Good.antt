@@ -22,19 +22,26 @@ use Rattle.cm_envelope.specs.declared.envelope.TestRunFinished.{TestRunFinished}
 use Rattle.cm_envelope.specs.declared.envelope.Status.{Status}
 use Rattle.cm_envelope.specs.declared.envelope.Status.TheVariants.{Unknown}
 
--- what holds of each envelope, the ones before it and the ones behind it
+-- what holds of each envelope, the ones before it and the ones after it
 abbrev pub Everywhere : (List Envelope → Envelope → List Envelope → Type 0) → List Envelope → Type 0
-Everywhere P es = (before : List Envelope) (e : Envelope) (after : List Envelope) → es ≡ before ++ e ∷ after → P before e after
+Everywhere P es =
+    (before : List Envelope) (e : Envelope) (after : List Envelope) → es ≡ before ++ e ∷ after
+    → P before e after
 
 -- Each reference names something that exactly one earlier envelope declares.
 abbrev pub ReferencesGood : List Envelope → Type 0
-ReferencesGood es = Everywhere (λ before e after. AllByRecursion (λ name. times_declared name before ≡ 1) (refers before e)) es
+ReferencesGood es =
+    Everywhere (λ before e after. AllByRecursion (λ name. times_declared name before ≡ 1)
+    (refers before e)) es
 
 -- One later document has the source's uri, with the skeleton of its text and distinct ids, and the pickles of the uri
 -- are those of that document in order; of a refused source there is no document and no pickle.
-abbrev pub MeetsSource : List Envelope → (before : List Envelope) → Source → (after : List Envelope) → Reading → Type 0
-MeetsSource es before s after (Accepted d) = (g : GherkinDocument) × (documents_of s.uri before ≡ []) × (documents_of s.uri after ≡ g ∷ [])
-    × (skeleton g.document ≡ skeleton d) × (has_repeat g.ids ≡ false) × (same_list (is_due g.ids) (pickles_of s.uri es) (compiled d) ≡ true)
+abbrev pub MeetsSource : List Envelope → (before : List Envelope) → Source → (after : List Envelope)
+    → Reading → Type 0
+MeetsSource es before s after (Accepted d) =
+    (g : GherkinDocument) × (documents_of s.uri before ≡ []) × (documents_of s.uri after ≡ g ∷ [])
+    × (skeleton g.document ≡ skeleton d) × (has_repeat g.ids ≡ false)
+    × (same_list (is_due g.ids) (pickles_of s.uri es) (compiled d) ≡ true)
 MeetsSource es before s after Refused = (documents_of s.uri es ≡ []) × (pickles_of s.uri es ≡ [])
 MeetsSource es before s after OtherLanguage = ⊥
 MeetsSource es before s after TooLong = ⊥
@@ -46,8 +53,11 @@ IsAccepted s = (d : Document) × IsReading s.content (Accepted d)
 -- A source is plain Gherkin within the limits and in English, and has its document and pickles; parse errors name only
 -- sources that are refused.
 abbrev pub SourceGood : List Envelope → List Envelope → Envelope → List Envelope → Type 0
-SourceGood es before (envelope.Source s) after = (bytes_eq s.media_type plain ≡ true) × (r : Reading) × IsReading s.content r × MeetsSource es before s after r
-SourceGood es before (envelope.ParseError p) after = AllByRecursion (λ s. IsAccepted s → ⊥) (sources_of p.source.uri es)
+SourceGood es before (envelope.Source s) after =
+    (bytes_eq s.media_type plain ≡ true) × (r : Reading) × IsReading s.content r
+    × MeetsSource es before s after r
+SourceGood es before (envelope.ParseError p) after =
+    AllByRecursion (λ s. IsAccepted s → ⊥) (sources_of p.source.uri es)
 SourceGood es before _ after = Unit {0}
 
 abbrev pub SourcesGood : List Envelope → Type 0
@@ -55,7 +65,9 @@ SourcesGood es = Everywhere (SourceGood es) es
 
 -- The pickle steps of a case, in order, are the steps of its pickle.
 abbrev pub CaseGood : List Envelope → Envelope → Type 0
-CaseGood es (envelope.TestCase c) = option_map (λ p. map (λ s. s.id) p.steps) (find_pickle c.pickle_id es) ≡ Some (pickle_step_ids c)
+CaseGood es (envelope.TestCase c) =
+    option_map (λ p. map (λ s. s.id) p.steps) (find_pickle c.pickle_id es)
+    ≡ Some (pickle_step_ids c)
 CaseGood es _ = Unit {0}
 
 abbrev pub CasesGood : List Envelope → Type 0
@@ -71,7 +83,8 @@ AttemptsGood es = Everywhere (λ before e after. AttemptGood es e) es
 
 -- Each attempt of the case that started before it is finished and will be retried.
 abbrev pub RetryGood : List Envelope → Envelope → Type 0
-RetryGood before (envelope.TestCaseStarted s) = list_all (λ x. is_retried x.id before) (starts_of s.test_case_id before) ≡ true
+RetryGood before (envelope.TestCaseStarted s) =
+    list_all (λ x. is_retried x.id before) (starts_of s.test_case_id before) ≡ true
 RetryGood before _ = Unit {0}
 
 abbrev pub RetriesGood : List Envelope → Type 0
@@ -79,7 +92,8 @@ RetriesGood es = Everywhere (λ before e after. RetryGood before e) es
 
 -- The attempts of a case are numbered one after another in order of start, from this number.
 abbrev pub NumberGood : (first : ℕ) → List Envelope → Envelope → Type 0
-NumberGood first before (envelope.TestCaseStarted s) = s.attempt ≡ first + length (starts_of s.test_case_id before)
+NumberGood first before (envelope.TestCaseStarted s) =
+    s.attempt ≡ first + length (starts_of s.test_case_id before)
 NumberGood first before _ = Unit {0}
 
 abbrev pub NumbersGood : (first : ℕ) → List Envelope → Type 0
@@ -125,7 +139,7 @@ abbrev pub NothingBehind : Envelope → List Envelope → Type 0
 NothingBehind (envelope.TestRunFinished f) after = list_any is_judged after ≡ false
 NothingBehind _ after = Unit {0}
 
--- The run starts once, before each attempt and each run hook, and finishes once, behind every other judged envelope.
+-- The run starts once, before each attempt and each run hook, and finishes once, after every other judged envelope.
 pub record OrderGood (es : List Envelope) : Type 0 where
   pub one_start : count_by is_run_started es ≡ 1
   pub one_finish : count_by is_run_finished es ≡ 1

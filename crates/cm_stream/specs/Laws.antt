@@ -5,14 +5,17 @@ use Rattle.cm_stream.specs.Good.{Good}
 use Rattle.cm_stream.specs.Checks.{fault, fault_at_end}
 use Rattle.cm_envelope.specs.declared.envelope.Envelope.{Envelope}
 
--- no line has a fault behind those before it, and none stands at the end
+-- no line has a fault after those before it, and none stands at the end
 pub record HasNoFault (settings : Settings) (es : List Envelope) : Type 0 where
-  pub lines : (before : List Envelope) (e : Envelope) (after : List Envelope) → es ≡ before ++ e ∷ after → fault settings before e ≡ None
+  pub lines : (before : List Envelope) (e : Envelope) (after : List Envelope)
+      → es ≡ before ++ e ∷ after → fault settings before e ≡ None
   pub end : fault_at_end es ≡ None
 
 -- good lists are those without a fault
 abbrev pub GoodHaveNoFault : Type 0
-GoodHaveNoFault = (settings : Settings) (es : List Envelope) → Good settings es → HasNoFault settings es
+GoodHaveNoFault =
+    (settings : Settings) (es : List Envelope) → Good settings es → HasNoFault settings es
 
 abbrev pub FaultlessAreGood : Type 0
-FaultlessAreGood = (settings : Settings) (es : List Envelope) → HasNoFault settings es → Good settings es
+FaultlessAreGood =
+    (settings : Settings) (es : List Envelope) → HasNoFault settings es → Good settings es

@@ -3,7 +3,7 @@ use Rattle.std.specs.Prelude.{◌||◌, nat_lt, Bool, List, length, Option, Some
 use Rattle.gk_grammar.specs.declared.fault.FaultKind.{FaultKind}
 use Rattle.gk_grammar.specs.declared.fault.FaultKind.TheVariants.{UnsupportedLanguage}
 use Rattle.gk_grammar.specs.Documents.{lines_read, byte_limit, line_limit}
-use Rattle.gk_grammar.specs.Machine.{Chunk, State, Bad, run, closed, initial}
+use Rattle.gk_grammar.specs.Machine.{FlatBlock, State, Bad, run, blocks_at_end, initial}
 use Rattle.gk_grammar.specs.Assembly.{document_of}
 use Rattle.cm_stream.specs.Texts.{Text}
 use Rattle.cm_stream.specs.Readings.{Reading, Accepted, Refused, OtherLanguage, TooLong, IsReading}
@@ -16,13 +16,13 @@ abbrev pub refused_for : FaultKind → Reading
 refused_for UnsupportedLanguage = OtherLanguage
 refused_for _ = Refused
 
-abbrev pub reading_at_end : State → Option (List Chunk) → Reading
+abbrev pub reading_at_end : State → Option (List FlatBlock) → Reading
 reading_at_end s None = Refused
 reading_at_end s (Some last) = Accepted (document_of s last)
 
 abbrev pub reading_behind : Result State Bad → Reading
 reading_behind (Err b) = refused_for b.kind
-reading_behind (Ok s) = reading_at_end s (closed s.phase)
+reading_behind (Ok s) = reading_at_end s (blocks_at_end s.phase)
 
 -- what one pass over the lines of a text makes of it
 unfoldable pub reads : Text → Reading

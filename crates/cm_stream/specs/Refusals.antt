@@ -38,26 +38,31 @@ refused t _ = None
 
 -- the checks of a line that its call makes, where the attempts of a case are numbered from the first number
 abbrev pub own_checks : (first : ℕ) → List Envelope → Envelope → List Check
-own_checks first es (envelope.TestCase c) = bad.DuplicateId if declares_again es (envelope.TestCase c) ∷ []
+own_checks first es (envelope.TestCase c) =
+    bad.DuplicateId if declares_again es (envelope.TestCase c) ∷ []
 own_checks first es (envelope.TestCaseStarted s) =
     bad.UnknownReference if refers_to_unknown es (envelope.TestCaseStarted s)
     ∷ bad.DuplicateId if declares_again es (envelope.TestCaseStarted s)
     ∷ bad.AttemptNumber if not (s.attempt == first + length (starts_of s.test_case_id es))
-    ∷ bad.AttemptOverlap if not (list_all (λ x. is_retried x.id es) (starts_of s.test_case_id es)) ∷ []
+    ∷ bad.AttemptOverlap if not (list_all (λ x. is_retried x.id es) (starts_of s.test_case_id es))
+    ∷ []
 own_checks first es (envelope.TestStepStarted s) =
-    bad.UnknownReference if refers_to_unknown es (envelope.TestStepStarted s) ∷ bad.StepOrder if not (is_next_move (StepStarted s.test_step_id) s.test_case_started_id es) ∷ []
+    bad.UnknownReference if refers_to_unknown es (envelope.TestStepStarted s)
+    ∷ bad.StepOrder if not (is_next_move (StepStarted s.test_step_id) s.test_case_started_id es) ∷ []
 own_checks first es (envelope.TestStepFinished s) =
-    bad.UnknownReference if refers_to_unknown es (envelope.TestStepFinished s) ∷ bad.StepOrder if not (is_next_move (StepFinished s.test_step_id) s.test_case_started_id es) ∷ []
+    bad.UnknownReference if refers_to_unknown es (envelope.TestStepFinished s)
+    ∷ bad.StepOrder if not (is_next_move (StepFinished s.test_step_id) s.test_case_started_id es) ∷ []
 own_checks first es (envelope.TestCaseFinished f) =
     bad.UnknownReference if refers_to_unknown es (envelope.TestCaseFinished f)
     ∷ bad.StepOrder if is_ended f.test_case_started_id es
     ∷ bad.FinishedEarly if not (is_next_move Ended f.test_case_started_id es) ∷ []
 own_checks first es _ = []
 
--- behind lines without a fault the call refuses what the first failed of these checks tells
+-- after lines without a fault the call refuses what the first failed of these checks tells
 abbrev pub RefusalsAre : Envelope → Type 0
 RefusalsAre e = (settings : Settings) (es : List Envelope) → IsFaultless settings es
-    → option_and_then told_refusal (refused (table_of settings.first_attempt es) e) ≡ first_failed (own_checks settings.first_attempt es e)
+    → option_and_then told_refusal (refused (table_of settings.first_attempt es) e)
+    ≡ first_failed (own_checks settings.first_attempt es e)
 
 -- they are checks of the line, one after another
 pub record AreAmongChecks (first : ℕ) (es : List Envelope) (e : Envelope) : Type 0 where

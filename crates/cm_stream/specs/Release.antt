@@ -43,7 +43,8 @@ EachNamed es = AllByRecursion (λ p. is_named es p ≡ true) (pickles es)
 
 -- A good stream with these counts, whose run says success, which has a test case, and each of whose pickles is named by one
 -- unless others are allowed.
-pub record IsReleasedStream (settings : Settings) (allows_unrun : Bool) (bytes : List ℕ) (counts : Counts) : Type 0 where
+pub record IsReleasedStream (settings : Settings) (allows_unrun : Bool) (bytes : List ℕ)
+    (counts : Counts) : Type 0 where
   pub lines : List (ℕ × Envelope)
   pub read : IsRead bytes lines
   pub good : Good settings (envelopes lines)
@@ -87,10 +88,15 @@ EachPickleRan policy es = AllByRecursion (Ran policy es) (pickles es)
 
 -- a good run isn't held exactly where its stream is released
 abbrev pub ReleasedIsNotHeld : Type 0
-ReleasedIsNotHeld = (settings : Settings) (allows_unrun : Bool) (bytes : List ℕ) (counts : Counts) (success : Bool) → IsGoodRun settings bytes counts success
-    → (hold_of allows_unrun success counts ≡ None) ↔ IsReleasedStream settings allows_unrun bytes counts
+ReleasedIsNotHeld =
+    (settings : Settings) (allows_unrun : Bool) (bytes : List ℕ) (counts : Counts) (success : Bool)
+    → IsGoodRun settings bytes counts success
+    → (hold_of allows_unrun success counts ≡ None)
+    ↔ IsReleasedStream settings allows_unrun bytes counts
 
 -- in a released stream without unrun pickles each scenario of each source ran
 abbrev pub ReleasedRan : Type 0
-ReleasedRan = (settings : Settings) (bytes : List ℕ) (counts : Counts) (r : IsReleasedStream settings false bytes counts)
+ReleasedRan =
+    (settings : Settings) (bytes : List ℕ) (counts : Counts)
+    (r : IsReleasedStream settings false bytes counts)
     → EachSourceIsCompiled (envelopes r.lines) × EachPickleRan settings.policy (envelopes r.lines)

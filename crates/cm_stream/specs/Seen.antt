@@ -27,7 +27,8 @@ abbrev pub attempt_row : List Envelope → TestCaseStarted → AttemptRow
 attempt_row es s = record {
   id = s.id;
   case_id = s.test_case_id;
-  cursor = cursor_at (is_ended s.id es) (length (statuses s.id es)) (is_step_start (last_of (moves s.id es)));
+  cursor = cursor_at (is_ended s.id es) (length (statuses s.id es))
+      (is_step_start (last_of (moves s.id es)));
   worst = worst_so_far (statuses s.id es);
 }
 
@@ -51,13 +52,19 @@ case_row es c = record {
 
 -- the table, where the attempts of a case are numbered from the first number
 abbrev pub table_of : (first : ℕ) → List Envelope → Table
-table_of first es = record { cases = map (case_row es) (cases es); attempts = map (attempt_row es) (starts es); first = first }
+table_of first es =
+    record {
+      cases = map (case_row es) (cases es);
+      attempts = map (attempt_row es) (starts es);
+      first = first;
+    }
 
 -- what the calls make of a table at a line
 abbrev pub changed : Table → Envelope → Table
 changed t (envelope.TestCase c) = with_case c.id (map (λ s. s.id) c.test_steps) t
 changed t (envelope.TestCaseStarted s) = started s.id s.test_case_id t
 changed t (envelope.TestStepStarted s) = change_attempt s.test_case_started_id running t
-changed t (envelope.TestStepFinished s) = change_attempt s.test_case_started_id (step_done (kept_status s.test_step_result.status)) t
+changed t (envelope.TestStepFinished s) =
+    change_attempt s.test_case_started_id (step_done (kept_status s.test_step_result.status)) t
 changed t (envelope.TestCaseFinished f) = finished f.test_case_started_id f.will_be_retried t
 changed t _ = t

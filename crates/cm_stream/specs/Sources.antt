@@ -61,16 +61,23 @@ has_cells row cells = same_list (λ (c : PickleCell). bytes_eq c.value) row.cell
 -- a table of these cells, or a doc string of this media type and content
 abbrev pub is_argument : PickleArgument → DueArgument → Bool
 is_argument (argument.Table t) (due_argument.Table rows) = same_list has_cells t.rows rows
-is_argument (argument.Text d) (due_argument.Text due) = same_option bytes_eq d.media_type due.media && bytes_eq d.content due.content
+is_argument (argument.Text d) (due_argument.Text due) =
+    same_option bytes_eq d.media_type due.media && bytes_eq d.content due.content
 is_argument _ _ = false
 
 abbrev pub is_due_step : List Text → PickleStep → DueStep → Bool
-is_due_step ids s due = bytes_eq s.text due.text && fits_type s.kind due.kind && same_texts s.ast_node_ids (ids_at ids due.nodes) && same_option is_argument s.argument due.argument
+is_due_step ids s due =
+    bytes_eq s.text due.text && fits_type s.kind due.kind
+    && same_texts s.ast_node_ids (ids_at ids due.nodes)
+    && same_option is_argument s.argument due.argument
 
 abbrev pub is_due_tag : List Text → PickleTag → DueTag → Bool
-is_due_tag ids t due = bytes_eq t.name due.name && same_texts (t.ast_node_id ∷ []) (ids_at ids (due.node ∷ []))
+is_due_tag ids t due =
+    bytes_eq t.name due.name && same_texts (t.ast_node_id ∷ []) (ids_at ids (due.node ∷ []))
 
 -- The stream's pickle is the one that is due, where the nodes have these ids. Its own id and those of its steps are free.
 abbrev pub is_due : List Text → Pickle → DuePickle → Bool
-is_due ids p due = bytes_eq p.language english && bytes_eq p.name due.name && same_texts p.ast_node_ids (ids_at ids due.nodes)
+is_due ids p due =
+    bytes_eq p.language english && bytes_eq p.name due.name
+    && same_texts p.ast_node_ids (ids_at ids due.nodes)
     && same_list (is_due_tag ids) p.tags due.tags && same_list (is_due_step ids) p.steps due.steps

@@ -52,7 +52,14 @@ abbrev pub unrun : List Envelope → ℕ
 unrun es = count_by (λ p. not (list_any (λ c. bytes_eq p.id c.pickle_id) (cases es))) (pickles es)
 
 abbrev pub counts_of : List Envelope → Counts
-counts_of es = record { sources = length (sources es); pickles = length (pickles es); cases = length (cases es); attempts = length (starts es); unrun = unrun es }
+counts_of es =
+    record {
+      sources = length (sources es);
+      pickles = length (pickles es);
+      cases = length (cases es);
+      attempts = length (starts es);
+      unrun = unrun es;
+    }
 
 -- a good stream by the settings, which has these counts
 pub record IsGoodStream (settings : Settings) (bytes : List ℕ) (counts : Counts) : Type 0 where
@@ -62,7 +69,8 @@ pub record IsGoodStream (settings : Settings) (bytes : List ℕ) (counts : Count
   pub exact : counts ≡ counts_of (envelopes lines)
 
 -- it says this of the run's success
-pub record IsGoodRun (settings : Settings) (bytes : List ℕ) (counts : Counts) (success : Bool) : Type 0 where
+pub record IsGoodRun (settings : Settings) (bytes : List ℕ) (counts : Counts)
+    (success : Bool) : Type 0 where
   pub lines : List (ℕ × Envelope)
   pub read : IsRead bytes lines
   pub good : Good settings (envelopes lines)
@@ -81,7 +89,7 @@ abbrev pub at_end : ℕ → List Envelope → Option Finding → Told
 at_end n before None = NoFault before
 at_end n before (Some f) = At n f
 
--- a finding at this line, or what is told behind it
+-- a finding at this line, or what is told after it
 abbrev pub at_line : ℕ → Option Finding → Told → Told
 at_line n None more = more
 at_line n (Some f) more = At n f
@@ -90,16 +98,21 @@ at_line n (Some f) more = At n f
 abbrev pub shown : List ℕ → Option (Result Envelope LineFault)
 shown line = if is_blank line then None else Some (envelope_of_line line)
 
-abbrev pub told_line : Settings → (before : List Envelope) → (n : ℕ) → Option (Result Envelope LineFault) → (List Envelope → Told) → Told
+abbrev pub told_line : Settings → (before : List Envelope) → (n : ℕ)
+    → Option (Result Envelope LineFault) → (List Envelope → Told) → Told
 told_line settings before n None more = more before
 told_line settings before n (Some (Err b)) more = At n (IsBad (fault_of_line b))
-told_line settings before n (Some (Ok e)) more = at_line n (fault settings before e) (more (before ++ e ∷ []))
+told_line settings before n (Some (Ok e)) more =
+    at_line n (fault settings before e) (more (before ++ e ∷ []))
 
--- of these lines, the first of which has the number n, and then the trouble or the end, behind envelopes without a fault
-abbrev pub told_of : Settings → (before : List Envelope) → (n : ℕ) → List (List ℕ) → Option Trouble → Told
+-- of these lines, the first of which has the number n, and then the trouble or the end, after envelopes without a fault
+abbrev pub told_of : Settings → (before : List Envelope) → (n : ℕ) → List (List ℕ) → Option Trouble
+    → Told
 told_of settings before n [] (Some t) = Troubled t
 told_of settings before n [] None = at_end n before (fault_at_end before)
-told_of settings before n (l ∷ ls) t = told_line settings before n (shown l) (λ (now : List Envelope). told_of settings now (n + 1) ls t)
+told_of settings before n (l ∷ ls) t =
+    told_line settings before n (shown l) (λ (now : List Envelope). told_of settings now
+    (n + 1) ls t)
 
 abbrev pub told : Settings → List ℕ → Told
 told settings bytes = told_of settings [] 1 (fed bytes).lines (fed bytes).trouble
@@ -156,5 +169,8 @@ pub record HaveFirstLines (n : ℕ) (bytes other : List ℕ) : Type 0 where
 
 -- A finding at line n: no good stream has these first n lines. Past the last line: this stream is not good.
 abbrev pub NoneIsGood : Settings → List ℕ → Result Verdict Trouble → Type 0
-NoneIsGood settings bytes (Ok (verdict.Bad n b)) = ((other : List ℕ) (counts : Counts) → HaveFirstLines n bytes other → IsGoodStream settings other counts → ⊥) × ((counts : Counts) → IsGoodStream settings bytes counts → ⊥)
+NoneIsGood settings bytes (Ok (verdict.Bad n b)) =
+    ((other : List ℕ) (counts : Counts) → HaveFirstLines n bytes other
+    → IsGoodStream settings other counts → ⊥) × ((counts : Counts)
+    → IsGoodStream settings bytes counts → ⊥)
 NoneIsGood settings bytes _ = Unit {0}

@@ -12,35 +12,53 @@ use Rattle.cm_stream.specs.Findings.{Finding}
 
 -- where no fault is told, the stream is good, and these are its counts
 abbrev pub NoFaultIsGood : Type 0
-NoFaultIsGood = (settings : Settings) (bytes : List ℕ) (es : List Envelope) → told settings bytes ≡ NoFault es → IsGoodStream settings bytes (counts_of es)
+NoFaultIsGood =
+    (settings : Settings) (bytes : List ℕ) (es : List Envelope) → told settings bytes ≡ NoFault es
+    → IsGoodStream settings bytes (counts_of es)
 
 -- of a good stream no fault is told
 abbrev pub GoodIsNoFault : Type 0
-GoodIsNoFault = (settings : Settings) (bytes : List ℕ) (counts : Counts) → IsGoodStream settings bytes counts → (es : List Envelope) × (told settings bytes ≡ NoFault es) × (counts ≡ counts_of es)
+GoodIsNoFault =
+    (settings : Settings) (bytes : List ℕ) (counts : Counts) → IsGoodStream settings bytes counts
+    → (es : List Envelope) × (told settings bytes ≡ NoFault es) × (counts ≡ counts_of es)
 
 -- no good stream has the lines up to one at which a fault is told
 abbrev pub NoneBeginsSo : Type 0
-NoneBeginsSo = (settings : Settings) (bytes other : List ℕ) (n : ℕ) (f : Finding) (counts : Counts) → told settings bytes ≡ At n f → HaveFirstLines n bytes other → IsGoodStream settings other counts → ⊥
+NoneBeginsSo =
+    (settings : Settings) (bytes other : List ℕ) (n : ℕ) (f : Finding) (counts : Counts)
+    → told settings bytes ≡ At n f → HaveFirstLines n bytes other
+    → IsGoodStream settings other counts → ⊥
 
 -- a stream of which a finding or a trouble is told isn't good, wherever it stands
 pub record FoundIsNotGood : Type 0 where
-  pub found : (settings : Settings) (bytes : List ℕ) (n : ℕ) (f : Finding) (counts : Counts) → told settings bytes ≡ At n f → IsGoodStream settings bytes counts → ⊥
-  pub troubled : (settings : Settings) (bytes : List ℕ) (t : Trouble) (counts : Counts) → told settings bytes ≡ Troubled t → IsGoodStream settings bytes counts → ⊥
+  pub found : (settings : Settings) (bytes : List ℕ) (n : ℕ) (f : Finding) (counts : Counts)
+      → told settings bytes ≡ At n f → IsGoodStream settings bytes counts → ⊥
+  pub troubled : (settings : Settings) (bytes : List ℕ) (t : Trouble) (counts : Counts)
+      → told settings bytes ≡ Troubled t → IsGoodStream settings bytes counts → ⊥
 
 -- The answer for what is told is right: Good only for a good stream with these counts that says this of success, Bad only
 -- where none begins so, and Good for each good stream.
-pub record IsRight (settings : Settings) (bytes : List ℕ) (answer : Result Audited Trouble) : Type 0 where
+pub record IsRight (settings : Settings) (bytes : List ℕ)
+    (answer : Result Audited Trouble) : Type 0 where
   pub good : GoodRunsOnly settings bytes answer
   pub bad : NoneIsGood settings bytes (verdict_in answer)
-  pub decided : (counts : Counts) (success : Bool) → IsGoodRun settings bytes counts success → answered answer ≡ GoodWith counts success
+  pub decided : (counts : Counts) (success : Bool) → IsGoodRun settings bytes counts success
+      → answered answer ≡ GoodWith counts success
 
 abbrev pub AnswersAreRight : Type 0
-AnswersAreRight = (settings : Settings) (bytes : List ℕ) (answer : Result Audited Trouble) → answered answer ≡ answer_for (told settings bytes) → IsRight settings bytes answer
+AnswersAreRight =
+    (settings : Settings) (bytes : List ℕ) (answer : Result Audited Trouble)
+    → answered answer ≡ answer_for (told settings bytes) → IsRight settings bytes answer
 
--- the first lines have no fault, each behind those before it
+-- the first lines have no fault, each after those before it
 abbrev pub IsFaultless : Settings → List Envelope → Type 0
-IsFaultless settings es = (before : List Envelope) (e : Envelope) (after : List Envelope) → es ≡ before ++ e ∷ after → fault settings before e ≡ None
+IsFaultless settings es =
+    (before : List Envelope) (e : Envelope) (after : List Envelope) → es ≡ before ++ e ∷ after
+    → fault settings before e ≡ None
 
 -- the table of the lines so far changes by a line as the calls for it change a table
 abbrev pub TableSteps : Type 0
-TableSteps = (settings : Settings) (es : List Envelope) (e : Envelope) → IsFaultless settings (es ++ e ∷ []) → table_of settings.first_attempt (es ++ e ∷ []) ≡ changed (table_of settings.first_attempt es) e
+TableSteps =
+    (settings : Settings) (es : List Envelope) (e : Envelope) → IsFaultless settings (es ++ e ∷ [])
+    → table_of settings.first_attempt (es ++ e ∷ [])
+    ≡ changed (table_of settings.first_attempt es) e

@@ -175,34 +175,44 @@ times_declared name es = count_by (declares_it name) es
 
 -- the case of an attempt
 abbrev pub case_of : Text → List Envelope → Option Text
-case_of attempt es = option_map (λ s. s.test_case_id) (find (λ s. bytes_eq attempt s.id) (starts es))
+case_of attempt es =
+    option_map (λ s. s.test_case_id) (find (λ s. bytes_eq attempt s.id) (starts es))
 
 -- a step of an attempt is a step of its case
 abbrev pub step_names : List Envelope → Text → Text → List Name
 step_names before attempt step = map (λ c. Step c step) (if_any (case_of attempt before))
 
 abbrev pub test_step_names : Text → TestStep → List Name
-test_step_names pickle s = map HookNamed (if_any s.hook_id) ++ map (PickleStep pickle) (if_any s.pickle_step_id) ++ map Definition s.step_definition_ids
+test_step_names pickle s =
+    map HookNamed (if_any s.hook_id) ++ map (PickleStep pickle) (if_any s.pickle_step_id)
+    ++ map Definition s.step_definition_ids
 
 -- without an attempt its step isn't judged
 abbrev pub attachment_names : List Envelope → Option Text → Option Text → List Name
 attachment_names before None step = []
-attachment_names before (Some attempt) step = Attempt attempt ∷ flat_map (step_names before attempt) (if_any step)
+attachment_names before (Some attempt) step =
+    Attempt attempt ∷ flat_map (step_names before attempt) (if_any step)
 
--- what an envelope refers to, behind these envelopes
+-- what an envelope refers to, after these envelopes
 abbrev pub refers : List Envelope → Envelope → List Name
 refers before (envelope.GherkinDocument d) = SourceOf d.uri ∷ []
 refers before (envelope.ParseError p) = SourceOf p.source.uri ∷ []
 refers before (envelope.Pickle p) = SourceOf p.uri ∷ DocumentOf p.uri ∷ []
-refers before (envelope.TestCase c) = map Run (if_any c.test_run_started_id) ++ PickleNamed c.pickle_id ∷ flat_map (test_step_names c.pickle_id) c.test_steps
+refers before (envelope.TestCase c) =
+    map Run (if_any c.test_run_started_id) ++ PickleNamed c.pickle_id
+    ∷ flat_map (test_step_names c.pickle_id) c.test_steps
 refers before (envelope.TestCaseStarted s) = Case s.test_case_id ∷ []
-refers before (envelope.TestStepStarted s) = Attempt s.test_case_started_id ∷ step_names before s.test_case_started_id s.test_step_id
-refers before (envelope.TestStepFinished s) = Attempt s.test_case_started_id ∷ step_names before s.test_case_started_id s.test_step_id
+refers before (envelope.TestStepStarted s) =
+    Attempt s.test_case_started_id ∷ step_names before s.test_case_started_id s.test_step_id
+refers before (envelope.TestStepFinished s) =
+    Attempt s.test_case_started_id ∷ step_names before s.test_case_started_id s.test_step_id
 refers before (envelope.TestCaseFinished f) = Attempt f.test_case_started_id ∷ []
 refers before (envelope.TestRunFinished f) = map Run (if_any f.test_run_started_id)
-refers before (envelope.TestRunHookStarted s) = map Run (if_any s.test_run_started_id) ++ HookNamed s.hook_id ∷ []
+refers before (envelope.TestRunHookStarted s) =
+    map Run (if_any s.test_run_started_id) ++ HookNamed s.hook_id ∷ []
 refers before (envelope.TestRunHookFinished f) = RunHook f.test_run_hook_started_id ∷ []
-refers before (envelope.Attachment a) = attachment_names before a.test_case_started_id a.test_step_id
+refers before (envelope.Attachment a) =
+    attachment_names before a.test_case_started_id a.test_step_id
 refers before _ = []
 
 -- ---- sources
@@ -244,8 +254,10 @@ move_if b m = if b then Some m else None
 
 abbrev pub move_of : Text → Envelope → Option Move
 move_of a (envelope.TestCaseStarted s) = move_if (bytes_eq a s.id) Started
-move_of a (envelope.TestStepStarted s) = move_if (bytes_eq a s.test_case_started_id) (StepStarted s.test_step_id)
-move_of a (envelope.TestStepFinished s) = move_if (bytes_eq a s.test_case_started_id) (StepFinished s.test_step_id)
+move_of a (envelope.TestStepStarted s) =
+    move_if (bytes_eq a s.test_case_started_id) (StepStarted s.test_step_id)
+move_of a (envelope.TestStepFinished s) =
+    move_if (bytes_eq a s.test_case_started_id) (StepFinished s.test_step_id)
 move_of a (envelope.TestCaseFinished f) = move_if (bytes_eq a f.test_case_started_id) Ended
 move_of a _ = None
 
@@ -259,7 +271,8 @@ whole steps = Started ∷ flat_map (λ s. StepStarted s ∷ StepFinished s ∷ [
 
 -- how an attempt ended: whether it will be retried
 abbrev pub retry_in : Text → Envelope → Option Bool
-retry_in a (envelope.TestCaseFinished f) = if bytes_eq a f.test_case_started_id then Some f.will_be_retried else None
+retry_in a (envelope.TestCaseFinished f) =
+    if bytes_eq a f.test_case_started_id then Some f.will_be_retried else None
 retry_in a _ = None
 
 -- of each end of the attempt, whether it will be retried
@@ -283,7 +296,8 @@ abbrev pub is_final : Text → List Envelope → Bool
 is_final a es = list_any not (ends_of a es)
 
 abbrev pub status_in : Text → Envelope → Option Status
-status_in a (envelope.TestStepFinished s) = if bytes_eq a s.test_case_started_id then Some (kept_status s.test_step_result.status) else None
+status_in a (envelope.TestStepFinished s) =
+    if bytes_eq a s.test_case_started_id then Some (kept_status s.test_step_result.status) else None
 status_in a _ = None
 
 abbrev pub statuses : Text → List Envelope → List Status
@@ -297,7 +311,8 @@ times_finished hook es = count_by (λ f. bytes_eq hook f.test_run_hook_started_i
 
 -- it is finished
 abbrev pub is_hook_finished : Text → List Envelope → Bool
-is_hook_finished hook es = list_any (λ f. bytes_eq hook f.test_run_hook_started_id) (run_hook_ends es)
+is_hook_finished hook es =
+    list_any (λ f. bytes_eq hook f.test_run_hook_started_id) (run_hook_ends es)
 
 -- the statuses of the results of run hooks
 abbrev pub hook_statuses : List Envelope → List Status
@@ -317,8 +332,12 @@ ends_well policy es a = is_final a es && is_good_status policy (worst_of (status
 
 -- the case has a final attempt that is at worst of a good status
 abbrev pub is_good_case : Policy → List Envelope → TestCase → Bool
-is_good_case policy es c = option_map_or (λ s. ends_well policy es s.id) (last_of (starts_of c.id es)) false
+is_good_case policy es c =
+    option_map_or (λ s. ends_well policy es s.id) (last_of (starts_of c.id es)) false
 
 -- each case has a final attempt that is at worst of a good status, each run hook's result is good, and no source is refused
 abbrev pub all_well : Policy → List Envelope → Bool
-all_well policy es = list_all (is_good_case policy es) (cases es) && list_all (is_good_status policy) (hook_statuses es) && list_all (λ s. is_accepted (reads s.content)) (sources es)
+all_well policy es =
+    list_all (is_good_case policy es) (cases es)
+    && list_all (is_good_status policy) (hook_statuses es)
+    && list_all (λ s. is_accepted (reads s.content)) (sources es)

@@ -52,7 +52,7 @@ pub fn table_steps()
     ensures { TableSteps }
 {}
 
-/// Behind lines without a fault, a call of the record of attempts refuses exactly where the line fails one of the checks
+/// After lines without a fault, a call of the record of attempts refuses exactly where the line fails one of the checks
 /// that the call makes, and by that fault.
 pub fn refusals_are_told()
     ensures refused { RefusalsAreTold }

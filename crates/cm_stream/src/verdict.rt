@@ -49,7 +49,7 @@ pub struct Counts {
     pub unrun: u64,
 }
 
-/// What an audit answers. Lines count from 1; a fault at the end has the line behind the last one.
+/// What an audit answers. Lines count from 1; a fault at the end has the line after the last one.
 #[derive(Clone, Copy, Debug, Drop, PartialEq, Eq)]
 pub enum Verdict {
     Good(Counts),

@@ -1,8 +1,8 @@
 //! Feature files written to sinks in memory, some of which fail.
 ghost use Rattle.std.specs.Prelude.{Some};
 
-use cm_audit::{CompileFault, write_all, write_compiled};
-use cm_envelope::{ByteSink, DeviceFailed};
+use cm_compile::{CompileFault, write_compiled};
+use cm_envelope::{ByteSink, DeviceFailed, write_all};
 use gk_tree::{FaultKind, ParseFault};
 use std::alloc::Global;
 use std::process::Abort;
@@ -168,7 +168,7 @@ fn the_bytes_before_a_failed_write_are_written(rt: HostRuntime) -> Result<(), Fa
     Ok(())
 }
 
-/// One byte a write, and the write behind `room` bytes fails or takes nothing: it isn't repeated.
+/// One byte a write, and the write after `room` bytes fails or takes nothing: it isn't repeated.
 fn check_failed(rt: &impl Abort, alloc: Global, room: usize, takes_none: bool) {
     let mut sink = sink_with(alloc, room, 1, takes_none);
     let done = write_compiled(alloc, "a.feature", PLAIN_TEXT, &mut sink);

@@ -83,11 +83,11 @@ one_place n i text _ h = omega arith
 line_fewer : (n : ℕ) (text : List ℕ) → length (line_places (line_of (n, text))) ≤ length text
 line_fewer n [] = let z = nothing_there n (indent_of []) [] in omega arith
 line_fewer n (c ∷ cs) =
-    each_token (λ k. length (line_places (line n (c ∷ cs) (indent_of (c ∷ cs)) k)) ≤ length (c ∷ cs)) (c ∷ cs) (tagged (spaced_piece (c ∷ cs))) (λ k h. let o = one_place n (indent_of (c ∷ cs)) (c ∷ cs) k h in omega arith)
+    each_token (λ k. length (line_places (line n (c ∷ cs) (indent_of (c ∷ cs)) k)) ≤ length (c ∷ cs)) (c ∷ cs) (add_tags (spaced_piece (c ∷ cs))) (λ k h. let o = one_place n (indent_of (c ∷ cs)) (c ∷ cs) k h in omega arith)
   where
-    tagged : (o : Option TagWord) → length (line_places (line n (c ∷ cs) (indent_of (c ∷ cs)) (Tags (tag_list o (tags_of (c ∷ cs)))))) ≤ length (c ∷ cs)
-    tagged None = let w = words_length n (tags_of (c ∷ cs)) in let f = tags_fewer (c ∷ cs) in omega arith
-    tagged (Some w) = omega arith
+    add_tags : (o : Option TagWord) → length (line_places (line n (c ∷ cs) (indent_of (c ∷ cs)) (Tags (tag_list o (tags_of (c ∷ cs)))))) ≤ length (c ∷ cs)
+    add_tags None = let w = words_length n (tags_of (c ∷ cs)) in let f = tags_fewer (c ∷ cs) in omega arith
+    add_tags (Some w) = omega arith
 
 -- ---- the lines of a text
 

@@ -12,40 +12,40 @@ use Rattle.gk_grammar.specs.Tree as tree
 use Rattle.gk_grammar.specs.Tree.{Tag, Location, Argument, DocString}
 use Rattle.gk_document.specs.declared.tree.Argument.TheVariants.{Table, Text as Quoted}
 use Rattle.gk_grammar.specs.Grammar.{Piece, Then, Nothing, Each, AtMostOne, OneLine, comments_of, IsStep, IsStepLine, IsArgument, IsTable, IsRow, IsDocString, is_fence, at, Node, step_nodes, row_nodes, argument_nodes}
-use Rattle.gk_grammar.specs.Machine.{Chunk, Quote, Phase, Tagged, Stepping, Quoting, Listing, State, Bad, next, run, ◌>>=◌, count_of, another_row, step_at, quoted, doc_string, step_fence}
+use Rattle.gk_grammar.specs.Machine.{FlatBlock, OpenDocString, Phase, AfterTags, AfterStep, InDocString, InExamplesTable, State, Bad, next, run, ◌>>=◌, count_of, another_row, step_at, with_doc_string, doc_string, step_fence}
 use Rattle.gk_grammar.proofs.Pieces.{comments_of-append}
 
-abbrev pub state_of : List tree.Comment → ℕ → List Chunk → Phase → State
-state_of cs n ch p = record { comments = cs; nodes = n; chunks = ch; phase = p }
+abbrev pub state_of : List tree.Comment → ℕ → List FlatBlock → Phase → State
+state_of cs n ch p = record { comments = cs; nodes = n; flat_blocks = ch; phase = p }
 
 -- Reading a piece leads from one phase to another, over k nodes from the number n on.
-abbrev pub Reads : Piece → List Chunk → Phase → (n k : ℕ) → List Chunk → Phase → Type 0
+abbrev pub Reads : Piece → List FlatBlock → Phase → (n k : ℕ) → List FlatBlock → Phase → Type 0
 Reads P ch p n k dh q = (ls : List Line) (cs : List tree.Comment) → P ls cs → (before : List tree.Comment) (rest : List Line) →
     run (state_of before n ch p) (ls ++ rest) ≡ run (state_of (before ++ cs) (n + k) dh q) rest
 
 -- a comment or a blank line changes nothing else
 abbrev pub Idle : Phase → Type 0
-Idle p = (cs : List tree.Comment) (n : ℕ) (ch : List Chunk) (l : Line) → IsTrue (is_gap l) → next (state_of cs n ch p) l ≡ Ok (state_of (cs ++ comments_of (l ∷ [])) n ch p)
+Idle p = (cs : List tree.Comment) (n : ℕ) (ch : List FlatBlock) (l : Line) → IsTrue (is_gap l) → next (state_of cs n ch p) l ≡ Ok (state_of (cs ++ comments_of (l ∷ [])) n ch p)
 
-pub idle_tagged : (b : Option Block) (tags : List Tag) → Idle (Tagged b tags)
+pub idle_tagged : (b : Option Block) (tags : List Tag) → Idle (AfterTags b tags)
 idle_tagged b tags cs n ch (line m t i Blank) g = refl
 idle_tagged b tags cs n ch (line m t i Comment) g = refl
 idle_tagged b tags cs n ch (line m t i (Language w)) g = refl
 idle_tagged b tags cs n ch (line m t i _) g = absurd cc
 
-pub idle_stepping : (c : Chunk) (before : List tree.Step) (last : tree.Step) → Idle (Stepping c before last)
+pub idle_stepping : (c : FlatBlock) (before : List tree.Step) (last : tree.Step) → Idle (AfterStep c before last)
 idle_stepping c before last cs n ch (line m t i Blank) g = refl
 idle_stepping c before last cs n ch (line m t i Comment) g = refl
 idle_stepping c before last cs n ch (line m t i (Language w)) g = refl
 idle_stepping c before last cs n ch (line m t i _) g = absurd cc
 
-pub idle_listing : (c : Chunk) (rows : List tree.Row) → Idle (Listing c rows)
+pub idle_listing : (c : FlatBlock) (rows : List tree.Row) → Idle (InExamplesTable c rows)
 idle_listing c rows cs n ch (line m t i Blank) g = refl
 idle_listing c rows cs n ch (line m t i Comment) g = refl
 idle_listing c rows cs n ch (line m t i (Language w)) g = refl
 idle_listing c rows cs n ch (line m t i _) g = absurd cc
 
-pub run_gap : (p : Phase) → Idle p → (ls : List Line) → AllByRecursion (λ l. IsTrue (is_gap l)) ls → (cs : List tree.Comment) (n : ℕ) (ch : List Chunk) (rest : List Line) →
+pub run_gap : (p : Phase) → Idle p → (ls : List Line) → AllByRecursion (λ l. IsTrue (is_gap l)) ls → (cs : List tree.Comment) (n : ℕ) (ch : List FlatBlock) (rest : List Line) →
     run (state_of cs n ch p) (ls ++ rest) ≡ run (state_of (cs ++ comments_of ls) n ch p) rest
 run_gap p idle [] a cs n ch rest = rw append-nil
 run_gap p idle (l ∷ ls) a cs n ch rest =
@@ -53,7 +53,7 @@ run_gap p idle (l ∷ ls) a cs n ch rest =
     ∙ ap (λ (c : List tree.Comment). run (state_of c n ch p) rest) (append_assoc cs (comments_of (l ∷ [])) (comments_of ls) ∙ ap (λ (c : List tree.Comment). cs ++ c) (sym (comments_of-append (l ∷ []) ls)))
 
 -- one piece after another
-pub reads_then : (P Q : Piece) (ch dh eh : List Chunk) (p q r : Phase) (n k j : ℕ) → Reads P ch p n k dh q → Reads Q dh q (n + k) j eh r → Reads (Then P Q) ch p n (k + j) eh r
+pub reads_then : (P Q : Piece) (ch dh eh : List FlatBlock) (p q r : Phase) (n k j : ℕ) → Reads P ch p n k dh q → Reads Q dh q (n + k) j eh r → Reads (Then P Q) ch p n (k + j) eh r
 reads_then P Q ch dh eh p q r n k j f g ls cs t before rest =
     ap (λ (x : List Line). run (state_of before n ch p) x) (ap (λ (x : List Line). x ++ rest) t.cut ∙ append_assoc t.front t.back rest)
     ∙ f t.front t.front_comments t.first before (t.back ++ rest)
@@ -61,13 +61,13 @@ reads_then P Q ch dh eh p q r n k j f g ls cs t before rest =
     ∙ ap (λ (x : List tree.Comment). run (state_of x (n + k + j) eh r) rest) (append_assoc before t.front_comments t.back_comments ∙ ap (λ (x : List tree.Comment). before ++ x) (sym t.comments))
     ∙ ap (λ (x : ℕ). run (state_of (before ++ cs) x eh r) rest) (add_assoc n k j)
 
-pub reads_nothing : (ch : List Chunk) (p : Phase) (n : ℕ) → Reads Nothing ch p n 0 ch p
+pub reads_nothing : (ch : List FlatBlock) (p : Phase) (n : ℕ) → Reads Nothing ch p n 0 ch p
 reads_nothing ch p n ls cs e before rest =
     ap (λ (x : List Line). run (state_of before n ch p) (x ++ rest)) e.0 ∙ ap (λ (x : List tree.Comment). run (state_of x n ch p) rest) (sym (append-nil before) ∙ ap (λ (x : List tree.Comment). before ++ x) (sym e.1))
     ∙ ap (λ (x : ℕ). run (state_of (before ++ cs) x ch p) rest) (sym (add-zero n))
 
--- a line and the gap behind it
-pub reads_line : (P : Line → Type 0) (ch dh : List Chunk) (p q : Phase) (n k : ℕ) →
+-- a line and the gap after it
+pub reads_line : (P : Line → Type 0) (ch dh : List FlatBlock) (p q : Phase) (n k : ℕ) →
     ((l : Line) → P l → (cs : List tree.Comment) → next (state_of cs n ch p) l ≡ Ok (state_of cs (n + k) dh q)) → Idle q → Reads (OneLine P) ch p n k dh q
 reads_line P ch dh p q n k f idle [] cs h before rest = absurd h
 reads_line P ch dh p q n k f idle (l ∷ ls) cs h before rest =
@@ -93,10 +93,10 @@ row_is r s a b c = λ i. record { node = a i; location = b i; cells = c i }
 -- phases that take rows
 pub record TakesRows (phase : List tree.Row → Phase) : Type 0 where
   pub idle : (rows : List tree.Row) → Idle (phase rows)
-  pub row : (rows : List tree.Row) (cs : List tree.Comment) (n : ℕ) (ch : List Chunk) (m i : ℕ) (t : Text) (cells : List Cell) →
+  pub row : (rows : List tree.Row) (cs : List tree.Comment) (n : ℕ) (ch : List FlatBlock) (m i : ℕ) (t : Text) (cells : List Cell) →
       next (state_of cs n ch (phase rows)) (line m t i (Row cells)) ≡ another_row (state_of cs n ch (phase rows)) phase rows m i cells
 
-another_row_is : (phase : List tree.Row → Phase) → TakesRows phase → (rows : List tree.Row) (r : tree.Row) (n : ℕ) (ch : List Chunk) → r.node ≡ n → length r.cells ≡ count_of rows →
+another_row_is : (phase : List tree.Row → Phase) → TakesRows phase → (rows : List tree.Row) (r : tree.Row) (n : ℕ) (ch : List FlatBlock) → r.node ≡ n → length r.cells ≡ count_of rows →
     (l : Line) → IsRow r l → (cs : List tree.Comment) → next (state_of cs n ch (phase rows)) l ≡ Ok (state_of cs (n + 1) ch (phase (rows ++ r ∷ [])))
 another_row_is phase takes rows r n ch e c (line m t i (Row cells)) h cs =
     takes.row rows cs n ch m i t cells
@@ -104,11 +104,11 @@ another_row_is phase takes rows r n ch e c (line m t i (Row cells)) h cs =
     ∙ ap (λ (x : tree.Row). Ok (state_of cs (n + 1) ch (phase (rows ++ x ∷ [])))) (sym (row_is r (record { node = n; location = at m (i + 1); cells = cells }) e h.0 h.1))
 another_row_is phase takes rows r n ch e c (line m t i _) h cs = absurd h
 
-pub to_phase : (P : Piece) (ch dh : List Chunk) (p : Phase) (n k j : ℕ) (q r : Phase) → k ≡ j → q ≡ r → Reads P ch p n k dh q → Reads P ch p n j dh r
+pub to_phase : (P : Piece) (ch dh : List FlatBlock) (p : Phase) (n k j : ℕ) (q r : Phase) → k ≡ j → q ≡ r → Reads P ch p n k dh q → Reads P ch p n j dh r
 to_phase P ch dh p n k j q r e f h ls cs t before rest =
     h ls cs t before rest ∙ ap (λ (x : ℕ). run (state_of (before ++ cs) (n + x) dh q) rest) e ∙ ap (λ (x : Phase). run (state_of (before ++ cs) (n + j) dh x) rest) f
 
-reads_rows : (phase : List tree.Row → Phase) → TakesRows phase → (a : tree.Row) (rs got : List tree.Row) (n : ℕ) (ch : List Chunk) →
+reads_rows : (phase : List tree.Row → Phase) → TakesRows phase → (a : tree.Row) (rs got : List tree.Row) (n : ℕ) (ch : List FlatBlock) →
     AllByRecursion (λ (x : tree.Row). length x.cells ≡ length a.cells) rs → Counts n (row_nodes rs) →
     Reads (Each (λ x. OneLine (IsRow x)) rs) ch (phase (a ∷ got)) n (length rs) ch (phase (a ∷ got ++ rs))
 reads_rows phase takes a [] got n ch e c =
@@ -121,7 +121,7 @@ reads_rows phase takes a (r ∷ rs) got n ch e c =
     (reads_rows phase takes a rs (got ++ r ∷ []) (n + 1) ch e.1 c.1))
 
 -- a whole table, where its first row leads to it
-pub reads_table : (phase : List tree.Row → Phase) → TakesRows phase → (rows : List tree.Row) (p : Phase) (n : ℕ) (ch dh : List Chunk) → Counts n (row_nodes rows) →
+pub reads_table : (phase : List tree.Row → Phase) → TakesRows phase → (rows : List tree.Row) (p : Phase) (n : ℕ) (ch dh : List FlatBlock) → Counts n (row_nodes rows) →
     ((r : tree.Row) (l : Line) → r.node ≡ n → IsRow r l → (cs : List tree.Comment) → next (state_of cs n ch p) l ≡ Ok (state_of cs (n + 1) dh (phase (r ∷ [])))) →
     Reads (IsTable rows) ch p n (length rows) dh (phase rows)
 reads_table phase takes [] p n ch dh c f ls cs t before rest = absurd t
@@ -133,32 +133,32 @@ reads_table phase takes (r ∷ rs) p n ch dh c f ls cs t before rest =
 
 -- ---- doc strings
 
-run_inside : (c : Chunk) (steps : List tree.Step) (last : tree.Step) (q : Quote) (inside got : List Line) → AllByRecursion (λ l. IsFalse (is_fence q.fence l)) inside →
-    (cs : List tree.Comment) (n : ℕ) (ch : List Chunk) (rest : List Line) →
-    run (state_of cs n ch (Quoting c steps last q got)) (inside ++ rest) ≡ run (state_of cs n ch (Quoting c steps last q (got ++ inside))) rest
-run_inside c steps last q [] got a cs n ch rest = ap (λ (x : List Line). run (state_of cs n ch (Quoting c steps last q x)) rest) (sym (append-nil got))
+run_inside : (c : FlatBlock) (steps : List tree.Step) (last : tree.Step) (q : OpenDocString) (inside got : List Line) → AllByRecursion (λ l. IsFalse (is_fence q.fence l)) inside →
+    (cs : List tree.Comment) (n : ℕ) (ch : List FlatBlock) (rest : List Line) →
+    run (state_of cs n ch (InDocString c steps last q got)) (inside ++ rest) ≡ run (state_of cs n ch (InDocString c steps last q (got ++ inside))) rest
+run_inside c steps last q [] got a cs n ch rest = ap (λ (x : List Line). run (state_of cs n ch (InDocString c steps last q x)) rest) (sym (append-nil got))
 run_inside c steps last q (l ∷ ls) got a cs n ch rest =
-    ap (λ (b : Bool). cond b (Ok (state_of cs n ch (Stepping c steps (quoted last q got)))) (Ok (state_of cs n ch (Quoting c steps last q (got ++ l ∷ [])))) >>= λ x. run x (ls ++ rest)) a.0
+    ap (λ (b : Bool). cond b (Ok (state_of cs n ch (AfterStep c steps (with_doc_string last q got)))) (Ok (state_of cs n ch (InDocString c steps last q (got ++ l ∷ [])))) >>= λ x. run x (ls ++ rest)) a.0
     ∙ run_inside c steps last q ls (got ++ l ∷ []) a.1 cs n ch rest
-    ∙ ap (λ (x : List Line). run (state_of cs n ch (Quoting c steps last q x)) rest) (append_assoc got (l ∷ []) ls)
+    ∙ ap (λ (x : List Line). run (state_of cs n ch (InDocString c steps last q x)) rest) (append_assoc got (l ∷ []) ls)
 
 doc_is : (a b : DocString) → a.location ≡ b.location → a.media ≡ b.media → a.content ≡ b.content → a.fence ≡ b.fence → a ≡ b
 doc_is a b p q r s = λ i. record { location = p i; media = q i; content = r i; fence = s i }
 
-reads_doc_string : (c : Chunk) (steps : List tree.Step) (last : tree.Step) → last.argument ≡ None → (d : DocString) (n : ℕ) (ch : List Chunk) →
-    Reads (IsDocString d) ch (Stepping c steps last) n 0 ch (Stepping c steps (record last { argument = Some (Quoted d) }))
+reads_doc_string : (c : FlatBlock) (steps : List tree.Step) (last : tree.Step) → last.argument ≡ None → (d : DocString) (n : ℕ) (ch : List FlatBlock) →
+    Reads (IsDocString d) ch (AfterStep c steps last) n 0 ch (AfterStep c steps (record last { argument = Some (Quoted d) }))
 reads_doc_string c steps last e d n ch [] cs t before rest = absurd t
 reads_doc_string c steps last e d n ch (line m x i (Fenced f media) ∷ ls) cs t before rest =
     let w = t.3 in
-    let q : Quote = record { place = at m (i + 1); fence = f; media = media; indent = i } in
-    ap (λ (a : Option Argument). step_fence (state_of before n ch (Stepping c steps last)) c steps last a m i f media >>= λ y. run y (ls ++ rest)) e
-    ∙ ap (λ (y : List Line). run (state_of before n ch (Quoting c steps last q [])) y) (ap (λ (y : List Line). y ++ rest) w.cut ∙ append_assoc w.inside (w.close ∷ w.gap) rest)
+    let q : OpenDocString = record { place = at m (i + 1); fence = f; media = media; indent = i } in
+    ap (λ (a : Option Argument). step_fence (state_of before n ch (AfterStep c steps last)) c steps last a m i f media >>= λ y. run y (ls ++ rest)) e
+    ∙ ap (λ (y : List Line). run (state_of before n ch (InDocString c steps last q [])) y) (ap (λ (y : List Line). y ++ rest) w.cut ∙ append_assoc w.inside (w.close ∷ w.gap) rest)
     ∙ run_inside c steps last q w.inside [] w.open_yet before n ch (w.close ∷ w.gap ++ rest)
-    ∙ ap (λ (b : Bool). cond b (Ok (state_of before n ch (Stepping c steps (quoted last q w.inside)))) (Ok (state_of before n ch (Quoting c steps last q (w.inside ++ w.close ∷ [])))) >>= λ y. run y (w.gap ++ rest)) w.closed
-    ∙ run_gap (Stepping c steps (quoted last q w.inside)) (idle_stepping c steps (quoted last q w.inside)) w.gap w.behind.0 before n ch rest
-    ∙ ap (λ (y : List tree.Comment). run (state_of (before ++ y) n ch (Stepping c steps (quoted last q w.inside))) rest) (sym w.behind.1)
-    ∙ ap (λ (y : DocString). run (state_of (before ++ cs) n ch (Stepping c steps (record last { argument = Some (Quoted y) }))) rest) (doc_is (doc_string q w.inside) d (sym t.0) (sym t.2) (sym w.value) (sym t.1))
-    ∙ ap (λ (y : ℕ). run (state_of (before ++ cs) y ch (Stepping c steps (record last { argument = Some (Quoted d) }))) rest) (sym (add-zero n))
+    ∙ ap (λ (b : Bool). cond b (Ok (state_of before n ch (AfterStep c steps (with_doc_string last q w.inside)))) (Ok (state_of before n ch (InDocString c steps last q (w.inside ++ w.close ∷ [])))) >>= λ y. run y (w.gap ++ rest)) w.closed
+    ∙ run_gap (AfterStep c steps (with_doc_string last q w.inside)) (idle_stepping c steps (with_doc_string last q w.inside)) w.gap w.behind.0 before n ch rest
+    ∙ ap (λ (y : List tree.Comment). run (state_of (before ++ y) n ch (AfterStep c steps (with_doc_string last q w.inside))) rest) (sym w.behind.1)
+    ∙ ap (λ (y : DocString). run (state_of (before ++ cs) n ch (AfterStep c steps (record last { argument = Some (Quoted y) }))) rest) (doc_is (doc_string q w.inside) d (sym t.0) (sym t.2) (sym w.value) (sym t.1))
+    ∙ ap (λ (y : ℕ). run (state_of (before ++ cs) y ch (AfterStep c steps (record last { argument = Some (Quoted d) }))) rest) (sym (add-zero n))
 reads_doc_string c steps last e d n ch (line m x i _ ∷ ls) cs t before rest = absurd t
 
 -- ---- steps
@@ -170,16 +170,16 @@ step_is a b p q r s t u = λ i. record { node = p i; location = q i; keyword = r
 abbrev pub bare : tree.Step → tree.Step
 bare s = record s { argument = None }
 
-takes_step_rows : (c : Chunk) (steps : List tree.Step) (last : tree.Step) → TakesRows (λ rows. Stepping c steps (record last { argument = Some (Table rows) }))
+takes_step_rows : (c : FlatBlock) (steps : List tree.Step) (last : tree.Step) → TakesRows (λ rows. AfterStep c steps (record last { argument = Some (Table rows) }))
 takes_step_rows c steps last = record { idle = λ rows. idle_stepping c steps (record last { argument = Some (Table rows) }); row = λ rows cs n ch m i t cells. refl }
 
-reads_argument : (c : Chunk) (steps : List tree.Step) (s : tree.Step) (a : Option Argument) (n : ℕ) (ch : List Chunk) → Counts n (argument_nodes a) →
-    Reads (AtMostOne IsArgument a) ch (Stepping c steps (bare s)) n (length (argument_nodes a)) ch (Stepping c steps (record s { argument = a }))
-reads_argument c steps s None n ch k = reads_nothing ch (Stepping c steps (bare s)) n
+reads_argument : (c : FlatBlock) (steps : List tree.Step) (s : tree.Step) (a : Option Argument) (n : ℕ) (ch : List FlatBlock) → Counts n (argument_nodes a) →
+    Reads (AtMostOne IsArgument a) ch (AfterStep c steps (bare s)) n (length (argument_nodes a)) ch (AfterStep c steps (record s { argument = a }))
+reads_argument c steps s None n ch k = reads_nothing ch (AfterStep c steps (bare s)) n
 reads_argument c steps s (Some (Quoted d)) n ch k = reads_doc_string c steps (bare s) refl d n ch
 reads_argument c steps s (Some (Table rows)) n ch k =
-    to_phase (IsTable rows) ch ch (Stepping c steps (bare s)) n (length rows) (length (row_nodes rows)) (Stepping c steps (record s { argument = Some (Table rows) })) (Stepping c steps (record s { argument = Some (Table rows) })) (rows_length rows) refl
-    (reads_table (λ rs. Stepping c steps (record s { argument = Some (Table rs) })) (takes_step_rows c steps s) rows (Stepping c steps (bare s)) n ch ch k
+    to_phase (IsTable rows) ch ch (AfterStep c steps (bare s)) n (length rows) (length (row_nodes rows)) (AfterStep c steps (record s { argument = Some (Table rows) })) (AfterStep c steps (record s { argument = Some (Table rows) })) (rows_length rows) refl
+    (reads_table (λ rs. AfterStep c steps (record s { argument = Some (Table rs) })) (takes_step_rows c steps s) rows (AfterStep c steps (bare s)) n ch ch k
     (λ r l e h cs. first r l e h cs))
   where
     rows_length : (rs : List tree.Row) → length rs ≡ length (row_nodes rs)
@@ -187,39 +187,39 @@ reads_argument c steps s (Some (Table rows)) n ch k =
     rows_length (r ∷ rs) = ap suc (rows_length rs)
 
     first : (r : tree.Row) (l : Line) → r.node ≡ n → IsRow r l → (cs : List tree.Comment) →
-        next (state_of cs n ch (Stepping c steps (bare s))) l ≡ Ok (state_of cs (n + 1) ch (Stepping c steps (record s { argument = Some (Table (r ∷ [])) })))
-    first r (line m t i (Row cells)) e h cs = ap (λ (x : tree.Row). Ok (state_of cs (n + 1) ch (Stepping c steps (record s { argument = Some (Table (x ∷ [])) })))) (sym (row_is r (record { node = n; location = at m (i + 1); cells = cells }) e h.0 h.1))
+        next (state_of cs n ch (AfterStep c steps (bare s))) l ≡ Ok (state_of cs (n + 1) ch (AfterStep c steps (record s { argument = Some (Table (r ∷ [])) })))
+    first r (line m t i (Row cells)) e h cs = ap (λ (x : tree.Row). Ok (state_of cs (n + 1) ch (AfterStep c steps (record s { argument = Some (Table (x ∷ [])) })))) (sym (row_is r (record { node = n; location = at m (i + 1); cells = cells }) e h.0 h.1))
     first r (line m t i _) e h cs = absurd h
 
--- a phase in which a step line begins a step behind these
-abbrev pub Begins : Phase → Chunk → List tree.Step → Type 0
-Begins p c steps = (cs : List tree.Comment) (n : ℕ) (ch : List Chunk) (m i : ℕ) (t k : Text) (y : KeywordType) (x : Text) →
-    next (state_of cs n ch p) (line m t i (Step k y x)) ≡ Ok (state_of cs (n + 1) ch (Stepping c steps (step_at (state_of cs n ch p) m i k y x)))
+-- a phase in which a step line begins a step after these
+abbrev pub Begins : Phase → FlatBlock → List tree.Step → Type 0
+Begins p c steps = (cs : List tree.Comment) (n : ℕ) (ch : List FlatBlock) (m i : ℕ) (t k : Text) (y : KeywordType) (x : Text) →
+    next (state_of cs n ch p) (line m t i (Step k y x)) ≡ Ok (state_of cs (n + 1) ch (AfterStep c steps (step_at (state_of cs n ch p) m i k y x)))
 
-pub reads_step : (p : Phase) (c : Chunk) (steps : List tree.Step) → Begins p c steps → (s : tree.Step) (n : ℕ) (ch : List Chunk) → Counts n (step_nodes s) →
-    Reads (IsStep s) ch p n (length (step_nodes s)) ch (Stepping c steps s)
+pub reads_step : (p : Phase) (c : FlatBlock) (steps : List tree.Step) → Begins p c steps → (s : tree.Step) (n : ℕ) (ch : List FlatBlock) → Counts n (step_nodes s) →
+    Reads (IsStep s) ch p n (length (step_nodes s)) ch (AfterStep c steps s)
 reads_step p c steps b s n ch k =
-    to_phase (IsStep s) ch ch p n (1 + length (argument_nodes s.argument)) (length (step_nodes s)) (Stepping c steps s) (Stepping c steps s) (omega arith) refl
-    (reads_then (OneLine (IsStepLine s)) (AtMostOne IsArgument s.argument) ch ch ch p (Stepping c steps (bare s)) (Stepping c steps s) n 1 (length (argument_nodes s.argument))
-    (reads_line (IsStepLine s) ch ch p (Stepping c steps (bare s)) n 1 (λ l h cs. first l h cs) (idle_stepping c steps (bare s)))
+    to_phase (IsStep s) ch ch p n (1 + length (argument_nodes s.argument)) (length (step_nodes s)) (AfterStep c steps s) (AfterStep c steps s) (omega arith) refl
+    (reads_then (OneLine (IsStepLine s)) (AtMostOne IsArgument s.argument) ch ch ch p (AfterStep c steps (bare s)) (AfterStep c steps s) n 1 (length (argument_nodes s.argument))
+    (reads_line (IsStepLine s) ch ch p (AfterStep c steps (bare s)) n 1 (λ l h cs. first l h cs) (idle_stepping c steps (bare s)))
     (reads_argument c steps s s.argument (n + 1) ch k.1))
   where
-    first : (l : Line) → IsStepLine s l → (cs : List tree.Comment) → next (state_of cs n ch p) l ≡ Ok (state_of cs (n + 1) ch (Stepping c steps (bare s)))
-    first (line m t i (Step kw y x)) h cs = b cs n ch m i t kw y x ∙ ap (λ (z : tree.Step). Ok (state_of cs (n + 1) ch (Stepping c steps z))) (step_is (step_at (state_of cs n ch p) m i kw y x) (bare s) (sym k.0) (sym h.0) (sym h.1) (sym h.2) (sym h.3) refl)
+    first : (l : Line) → IsStepLine s l → (cs : List tree.Comment) → next (state_of cs n ch p) l ≡ Ok (state_of cs (n + 1) ch (AfterStep c steps (bare s)))
+    first (line m t i (Step kw y x)) h cs = b cs n ch m i t kw y x ∙ ap (λ (z : tree.Step). Ok (state_of cs (n + 1) ch (AfterStep c steps z))) (step_is (step_at (state_of cs n ch p) m i kw y x) (bare s) (sym k.0) (sym h.0) (sym h.1) (sym h.2) (sym h.3) refl)
     first (line m t i _) h cs = absurd h
 
--- the phase behind more steps
-abbrev pub behind_steps : Chunk → List tree.Step → tree.Step → List tree.Step → Phase
-behind_steps c steps last [] = Stepping c steps last
+-- the phase after more steps
+abbrev pub behind_steps : FlatBlock → List tree.Step → tree.Step → List tree.Step → Phase
+behind_steps c steps last [] = AfterStep c steps last
 behind_steps c steps last (s ∷ ss) = behind_steps c (steps ++ last ∷ []) s ss
 
 -- more steps
-pub reads_more_steps : (c : Chunk) (steps : List tree.Step) (last : tree.Step) (more : List tree.Step) (n : ℕ) (ch : List Chunk) → Counts n (flat_map step_nodes more) →
-    (q : Phase) → behind_steps c steps last more ≡ q → Reads (Each IsStep more) ch (Stepping c steps last) n (length (flat_map step_nodes more)) ch q
-reads_more_steps c steps last [] n ch k q e = to_phase Nothing ch ch (Stepping c steps last) n 0 0 (Stepping c steps last) q refl e (reads_nothing ch (Stepping c steps last) n)
+pub reads_more_steps : (c : FlatBlock) (steps : List tree.Step) (last : tree.Step) (more : List tree.Step) (n : ℕ) (ch : List FlatBlock) → Counts n (flat_map step_nodes more) →
+    (q : Phase) → behind_steps c steps last more ≡ q → Reads (Each IsStep more) ch (AfterStep c steps last) n (length (flat_map step_nodes more)) ch q
+reads_more_steps c steps last [] n ch k q e = to_phase Nothing ch ch (AfterStep c steps last) n 0 0 (AfterStep c steps last) q refl e (reads_nothing ch (AfterStep c steps last) n)
 reads_more_steps c steps last (s ∷ ss) n ch k q e =
     let ks = counts_apart n (step_nodes s) (flat_map step_nodes ss) k in
-    to_phase (Each IsStep (s ∷ ss)) ch ch (Stepping c steps last) n (length (step_nodes s) + length (flat_map step_nodes ss)) (length (flat_map step_nodes (s ∷ ss))) q q (sym (length-append (step_nodes s) (flat_map step_nodes ss))) refl
-    (reads_then (IsStep s) (Each IsStep ss) ch ch ch (Stepping c steps last) (Stepping c (steps ++ last ∷ []) s) q n (length (step_nodes s)) (length (flat_map step_nodes ss))
-    (reads_step (Stepping c steps last) c (steps ++ last ∷ []) (λ cs m dh a i t kw y x. refl) s n ch ks.0)
+    to_phase (Each IsStep (s ∷ ss)) ch ch (AfterStep c steps last) n (length (step_nodes s) + length (flat_map step_nodes ss)) (length (flat_map step_nodes (s ∷ ss))) q q (sym (length-append (step_nodes s) (flat_map step_nodes ss))) refl
+    (reads_then (IsStep s) (Each IsStep ss) ch ch ch (AfterStep c steps last) (AfterStep c (steps ++ last ∷ []) s) q n (length (step_nodes s)) (length (flat_map step_nodes ss))
+    (reads_step (AfterStep c steps last) c (steps ++ last ∷ []) (λ cs m dh a i t kw y x. refl) s n ch ks.0)
     (reads_more_steps c (steps ++ last ∷ []) s ss (n + length (step_nodes s)) ch ks.1 q e))

@@ -13,7 +13,7 @@ use Rattle.gk_grammar.specs.Token.{Text, Token, Blank, Comment, Language, Tags, 
 use Rattle.gk_grammar.specs.Tree as tree
 use Rattle.gk_grammar.specs.Tree.{Tag, Argument, DocString}
 use Rattle.gk_grammar.specs.Grammar.{Piece, Then, Each, AtMostOne, OneLine, IsRow, IsTable, IsTagLine, IsArgument, IsStepLine, IsStep, IsDocString, IsPlainGap, IsEnglish, stops, is_fence, english}
-use Rattle.gk_grammar.specs.Machine.{Chunk, Phase, Before, Spoken, Tagged, Described, Stepping, Quoting, Listing, State, Bad, next, at_phase, run, initial, follows, takes_tags, leaving, entering, described, stepping, step_row, step_fence, listing, another_row, count_of, beginning, before_feature, spoken, behind_tags, same_text, with_steps, with_rows}
+use Rattle.gk_grammar.specs.Machine.{FlatBlock, Phase, Start, AfterLanguage, AfterTags, InDescription, AfterStep, InDocString, InExamplesTable, State, Bad, next, at_phase, run, initial, follows, takes_tags, close_block, after_description, with_description, after_step, step_row, step_fence, in_examples_table, another_row, count_of, before_first_block, at_start, after_language, after_tags, same_text, with_steps, with_rows}
 use Rattle.gk_grammar.specs.Place.{is_row_or_gap, HasOtherCount, DiffersFromTable, IsFaultAt}
 use Rattle.gk_grammar.proofs.Open.{IsDone, IsOpen, Holds, StateHolds, IsHead, SomeTagLines}
 use Rattle.gk_grammar.proofs.Sound.{run_holds, starts}
@@ -44,7 +44,7 @@ ends_later P Q ls e =
 
 -- ---- rows of another count
 
--- the lines end with one that is no row, behind which comments and blank lines stand
+-- the lines end with one that is no row, after which comments and blank lines stand
 record EndsOther (ls : List Line) : Type 0 where
   earlier : List Line
   at : Line
@@ -78,7 +78,7 @@ no_table cells ls e d = cuts_differ cells d.row d.between d.other d.one_table e.
 no_rows : (cells : List Cell) (ls : List Line) → AllByRecursion (λ l. IsTrue (is_gap l)) ls → DiffersFromTable ls cells → ⊥
 no_rows cells ls g d = row_is_no_gap cells d.row d.other (all_at (λ l. IsTrue (is_gap l)) d.earlier d.row d.between (subst (AllByRecursion (λ l. IsTrue (is_gap l))) d.cut g))
 
--- ---- behind tag lines and doc strings
+-- ---- after tag lines and doc strings
 
 tag_line_other : (tags : List Tag) (l : Line) → IsTagLine tags l → is_row_or_gap l ≡ false
 tag_line_other tags (line n t i (Tags (Ok words))) h = refl
@@ -126,7 +126,7 @@ doc_string_ends d ls e = go e.tail e.cut e.holds
         }
     go (line n t i _ ∷ more) c h = absurd h
 
--- ---- behind rows
+-- ---- after rows
 
 gap_or_row : (l : Line) → IsTrue (is_gap l) → IsTrue (is_row_or_gap l)
 gap_or_row (line n t i Blank) g = refl
@@ -175,7 +175,7 @@ table_differs (r ∷ rs) cells ls e f = go e.holds.1.front e.holds.1.cut e.holds
 
 -- ---- the faults of the machine
 
--- a fault of a line behind these
+-- a fault of a line after these
 abbrev pub IsFaultOf : List Line → Line → Bad → Type 0
 IsFaultOf before l b = (b.line ≡ number l) × IsFaultAt before l b.kind b.column
 
@@ -190,7 +190,7 @@ is_row_line : Line → Bool
 is_row_line (line n t i (Row cells)) = true
 is_row_line l = false
 
-leaving_faults : (before : List Line) (s : State) (c : Chunk) (n : ℕ) (t : List ℕ) (i : ℕ) (k : Token) → ((cells : List Cell) → k ≡ Row cells → ⊥) → ((w : Text) → k ≡ Language w → ⊥) → Faults before (line n t i k) (leaving s c (line n t i k))
+leaving_faults : (before : List Line) (s : State) (c : FlatBlock) (n : ℕ) (t : List ℕ) (i : ℕ) (k : Token) → ((cells : List Cell) → k ≡ Row cells → ⊥) → ((w : Text) → k ≡ Language w → ⊥) → Faults before (line n t i k) (close_block s c (line n t i k))
 leaving_faults before s c n t i (Tags (Ok words)) h g = tt
 leaving_faults before s c n t i (Tags (Err column)) h g = (refl, (refl, refl))
 leaving_faults before s c n t i (Title b k m) h g = cond_faults before (line n t i (Title b k m)) (follows (Some c.block) b) _ _ (λ _. tt) (λ _. (refl, (refl, refl)))
@@ -202,7 +202,7 @@ leaving_faults before s c n t i (Step k y m) h g = (refl, (refl, refl))
 leaving_faults before s c n t i (Fenced f m) h g = (refl, (refl, refl))
 leaving_faults before s c n t i Other h g = (refl, (refl, refl))
 
-entering_faults : (before : List Line) (s : State) (c : Chunk) (l : Line) → stops c.block l ≡ true → Faults before l (entering s c l)
+entering_faults : (before : List Line) (s : State) (c : FlatBlock) (l : Line) → stops c.block l ≡ true → Faults before l (after_description s c l)
 entering_faults before s c (line n t i (Step k y m)) e = tt
 entering_faults before s c (line n t i (Row cells)) e = tt
 entering_faults before s c (line n t i (Language w)) e = absurd (go c.block e)
@@ -226,18 +226,18 @@ another_row_faults : (before : List Line) (s : State) (phase : List tree.Row →
 another_row_faults before s phase rows n t i cells e =
     cond_faults before (line n t i (Row cells)) (length cells == count_of rows) _ _ (λ _. tt) (λ f. (refl, (inl (table_differs rows cells before e f, refl), refl)))
 
-step_row_faults : (before : List Line) (s : State) (c : Chunk) (steps : List tree.Step) (last : tree.Step) (a : Option Argument) (n : ℕ) (t : List ℕ) (i : ℕ) (cells : List Cell) →
+step_row_faults : (before : List Line) (s : State) (c : FlatBlock) (steps : List tree.Step) (last : tree.Step) (a : Option Argument) (n : ℕ) (t : List ℕ) (i : ℕ) (cells : List Cell) →
     Ends (AtMostOne IsArgument a) before → Faults before (line n t i (Row cells)) (step_row s c steps last a n i cells)
 step_row_faults before s c steps last None n t i cells e = tt
-step_row_faults before s c steps last (Some (Table rows)) n t i cells e = another_row_faults before s (λ rs. Stepping c steps (record last { argument = Some (Table rs) })) rows n t i cells e
+step_row_faults before s c steps last (Some (Table rows)) n t i cells e = another_row_faults before s (λ rs. AfterStep c steps (record last { argument = Some (Table rs) })) rows n t i cells e
 step_row_faults before s c steps last (Some (Quoted d)) n t i cells e = (refl, (inr (no_table cells before (doc_string_ends d before e), refl), refl))
 
-step_fence_faults : (before : List Line) (s : State) (c : Chunk) (steps : List tree.Step) (last : tree.Step) (a : Option Argument) (n : ℕ) (t : List ℕ) (i : ℕ) (f : Fence) (m : Text) →
+step_fence_faults : (before : List Line) (s : State) (c : FlatBlock) (steps : List tree.Step) (last : tree.Step) (a : Option Argument) (n : ℕ) (t : List ℕ) (i : ℕ) (f : Fence) (m : Text) →
     Faults before (line n t i (Fenced f m)) (step_fence s c steps last a n i f m)
 step_fence_faults before s c steps last None n t i f m = tt
 step_fence_faults before s c steps last (Some a) n t i f m = (refl, (refl, refl))
 
-stepping_faults : (before : List Line) (s : State) (c : Chunk) (steps : List tree.Step) (last : tree.Step) (l : Line) → Ends (AtMostOne IsArgument last.argument) before → Faults before l (stepping s c steps last l)
+stepping_faults : (before : List Line) (s : State) (c : FlatBlock) (steps : List tree.Step) (last : tree.Step) (l : Line) → Ends (AtMostOne IsArgument last.argument) before → Faults before l (after_step s c steps last l)
 stepping_faults before s c steps last (line n t i (Step k y m)) e = tt
 stepping_faults before s c steps last (line n t i (Row cells)) e = step_row_faults before s c steps last last.argument n t i cells e
 stepping_faults before s c steps last (line n t i (Fenced f m)) e = step_fence_faults before s c steps last last.argument n t i f m
@@ -248,8 +248,8 @@ stepping_faults before s c steps last (line n t i (Tags r)) e = leaving_faults b
 stepping_faults before s c steps last (line n t i (Title b k m)) e = leaving_faults before s (with_steps c (steps ++ last ∷ [])) n t i (Title b k m) (λ cells f. absurd cc) (λ w f. absurd cc)
 stepping_faults before s c steps last (line n t i Other) e = (refl, (refl, refl))
 
-listing_faults : (before : List Line) (s : State) (c : Chunk) (rows : List tree.Row) (l : Line) → Ends (IsTable rows) before → Faults before l (listing s c rows l)
-listing_faults before s c rows (line n t i (Row cells)) e = another_row_faults before s (λ rs. Listing c rs) rows n t i cells e
+listing_faults : (before : List Line) (s : State) (c : FlatBlock) (rows : List tree.Row) (l : Line) → Ends (IsTable rows) before → Faults before l (in_examples_table s c rows l)
+listing_faults before s c rows (line n t i (Row cells)) e = another_row_faults before s (λ rs. InExamplesTable c rs) rows n t i cells e
 listing_faults before s c rows (line n t i Blank) e = tt
 listing_faults before s c rows (line n t i Comment) e = tt
 listing_faults before s c rows (line n t i (Language w)) e = tt
@@ -259,7 +259,7 @@ listing_faults before s c rows (line n t i (Step k y m)) e = (refl, (refl, refl)
 listing_faults before s c rows (line n t i (Fenced f m)) e = (refl, (refl, refl))
 listing_faults before s c rows (line n t i Other) e = (refl, (refl, refl))
 
-behind_tags_faults : (before : List Line) (s : State) (bef : Option Block) (tags : List Tag) (l : Line) → EndsOther before → Faults before l (behind_tags s bef tags l)
+behind_tags_faults : (before : List Line) (s : State) (bef : Option Block) (tags : List Tag) (l : Line) → EndsOther before → Faults before l (after_tags s bef tags l)
 behind_tags_faults before s bef tags (line n t i Blank) e = tt
 behind_tags_faults before s bef tags (line n t i Comment) e = tt
 behind_tags_faults before s bef tags (line n t i (Language w)) e = tt
@@ -273,7 +273,7 @@ behind_tags_faults before s bef tags (line n t i (Fenced f m)) e = (refl, (refl,
 behind_tags_faults before s bef tags (line n t i Other) e = (refl, (refl, refl))
 
 -- no language line comes here
-beginning_faults : (before : List Line) (s : State) (p : Phase) (n : ℕ) (t : List ℕ) (i : ℕ) (k : Token) → ((w : Text) → k ≡ Language w → ⊥) → AllByRecursion (λ l. IsTrue (is_gap l)) before → Faults before (line n t i k) (beginning s p (line n t i k))
+beginning_faults : (before : List Line) (s : State) (p : Phase) (n : ℕ) (t : List ℕ) (i : ℕ) (k : Token) → ((w : Text) → k ≡ Language w → ⊥) → AllByRecursion (λ l. IsTrue (is_gap l)) before → Faults before (line n t i k) (before_first_block s p (line n t i k))
 beginning_faults before s p n t i Blank h g = tt
 beginning_faults before s p n t i Comment h g = tt
 beginning_faults before s p n t i (Language w) h g = absurd (h w refl)
@@ -289,27 +289,27 @@ beginning_faults before s p n t i (Step k y m) h g = (refl, (refl, refl))
 beginning_faults before s p n t i (Fenced f m) h g = (refl, (refl, refl))
 beginning_faults before s p n t i Other h g = (refl, (refl, refl))
 
-before_faults : (before : List Line) (s : State) (l : Line) → AllByRecursion (λ l. IsTrue (is_gap l)) before → Faults before l (before_feature s l)
+before_faults : (before : List Line) (s : State) (l : Line) → AllByRecursion (λ l. IsTrue (is_gap l)) before → Faults before l (at_start s l)
 before_faults before s (line n t i (Language w)) g = cond_faults before (line n t i (Language w)) (same_text w english) _ _ (λ _. tt) (λ _. (refl, (refl, refl)))
-before_faults before s (line n t i Blank) g = beginning_faults before s Before n t i Blank (λ w f. absurd cc) g
-before_faults before s (line n t i Comment) g = beginning_faults before s Before n t i Comment (λ w f. absurd cc) g
-before_faults before s (line n t i (Tags r)) g = beginning_faults before s Before n t i (Tags r) (λ w f. absurd cc) g
-before_faults before s (line n t i (Title b k m)) g = beginning_faults before s Before n t i (Title b k m) (λ w f. absurd cc) g
-before_faults before s (line n t i (Step k y m)) g = beginning_faults before s Before n t i (Step k y m) (λ w f. absurd cc) g
-before_faults before s (line n t i (Row cells)) g = beginning_faults before s Before n t i (Row cells) (λ w f. absurd cc) g
-before_faults before s (line n t i (Fenced f m)) g = beginning_faults before s Before n t i (Fenced f m) (λ w f. absurd cc) g
-before_faults before s (line n t i Other) g = beginning_faults before s Before n t i Other (λ w f. absurd cc) g
+before_faults before s (line n t i Blank) g = beginning_faults before s Start n t i Blank (λ w f. absurd cc) g
+before_faults before s (line n t i Comment) g = beginning_faults before s Start n t i Comment (λ w f. absurd cc) g
+before_faults before s (line n t i (Tags r)) g = beginning_faults before s Start n t i (Tags r) (λ w f. absurd cc) g
+before_faults before s (line n t i (Title b k m)) g = beginning_faults before s Start n t i (Title b k m) (λ w f. absurd cc) g
+before_faults before s (line n t i (Step k y m)) g = beginning_faults before s Start n t i (Step k y m) (λ w f. absurd cc) g
+before_faults before s (line n t i (Row cells)) g = beginning_faults before s Start n t i (Row cells) (λ w f. absurd cc) g
+before_faults before s (line n t i (Fenced f m)) g = beginning_faults before s Start n t i (Fenced f m) (λ w f. absurd cc) g
+before_faults before s (line n t i Other) g = beginning_faults before s Start n t i Other (λ w f. absurd cc) g
 
-spoken_faults : (before : List Line) (s : State) (l : Line) → AllByRecursion (λ l. IsTrue (is_gap l)) before → Faults before l (spoken s l)
+spoken_faults : (before : List Line) (s : State) (l : Line) → AllByRecursion (λ l. IsTrue (is_gap l)) before → Faults before l (after_language s l)
 spoken_faults before s (line n t i (Language w)) g = tt
-spoken_faults before s (line n t i Blank) g = beginning_faults before s Spoken n t i Blank (λ w f. absurd cc) g
-spoken_faults before s (line n t i Comment) g = beginning_faults before s Spoken n t i Comment (λ w f. absurd cc) g
-spoken_faults before s (line n t i (Tags r)) g = beginning_faults before s Spoken n t i (Tags r) (λ w f. absurd cc) g
-spoken_faults before s (line n t i (Title b k m)) g = beginning_faults before s Spoken n t i (Title b k m) (λ w f. absurd cc) g
-spoken_faults before s (line n t i (Step k y m)) g = beginning_faults before s Spoken n t i (Step k y m) (λ w f. absurd cc) g
-spoken_faults before s (line n t i (Row cells)) g = beginning_faults before s Spoken n t i (Row cells) (λ w f. absurd cc) g
-spoken_faults before s (line n t i (Fenced f m)) g = beginning_faults before s Spoken n t i (Fenced f m) (λ w f. absurd cc) g
-spoken_faults before s (line n t i Other) g = beginning_faults before s Spoken n t i Other (λ w f. absurd cc) g
+spoken_faults before s (line n t i Blank) g = beginning_faults before s AfterLanguage n t i Blank (λ w f. absurd cc) g
+spoken_faults before s (line n t i Comment) g = beginning_faults before s AfterLanguage n t i Comment (λ w f. absurd cc) g
+spoken_faults before s (line n t i (Tags r)) g = beginning_faults before s AfterLanguage n t i (Tags r) (λ w f. absurd cc) g
+spoken_faults before s (line n t i (Title b k m)) g = beginning_faults before s AfterLanguage n t i (Title b k m) (λ w f. absurd cc) g
+spoken_faults before s (line n t i (Step k y m)) g = beginning_faults before s AfterLanguage n t i (Step k y m) (λ w f. absurd cc) g
+spoken_faults before s (line n t i (Row cells)) g = beginning_faults before s AfterLanguage n t i (Row cells) (λ w f. absurd cc) g
+spoken_faults before s (line n t i (Fenced f m)) g = beginning_faults before s AfterLanguage n t i (Fenced f m) (λ w f. absurd cc) g
+spoken_faults before s (line n t i Other) g = beginning_faults before s AfterLanguage n t i Other (λ w f. absurd cc) g
 
 -- ---- any phase
 
@@ -328,31 +328,31 @@ spoken_gaps ls cs t = subst (AllByRecursion (λ l. IsTrue (is_gap l))) (sym t.cu
     go [] vs h = absurd h
     go (l ∷ us) vs h = (english_gap l h.0, h.1.0)
 
-last_argument : (s : State) (c : Chunk) (steps : List tree.Step) (last : tree.Step) (ls : List Line) → Holds (Stepping c steps last) s.chunks ls s.comments → Ends (AtMostOne IsArgument last.argument) ls
+last_argument : (s : State) (c : FlatBlock) (steps : List tree.Step) (last : tree.Step) (ls : List Line) → Holds (AfterStep c steps last) s.flat_blocks ls s.comments → Ends (AtMostOne IsArgument last.argument) ls
 last_argument s c steps last ls h =
-    let e = ends_then (IsDone s.chunks) (IsOpen (Stepping c steps last)) ls s.comments h in
+    let e = ends_then (IsDone s.flat_blocks) (IsOpen (AfterStep c steps last)) ls s.comments h in
     ends_later (OneLine (IsStepLine last)) (AtMostOne IsArgument last.argument) ls
     (ends_later (Each IsStep steps) (IsStep last) ls
     (ends_later (IsHead c) (Then (Each IsStep steps) (IsStep last)) ls (record { earlier = e.earlier; tail = e.tail; comments = e.comments; cut = e.cut; holds = e.holds.1 })))
 
-last_table : (s : State) (c : Chunk) (rows : List tree.Row) (ls : List Line) → Holds (Listing c rows) s.chunks ls s.comments → Ends (IsTable rows) ls
+last_table : (s : State) (c : FlatBlock) (rows : List tree.Row) (ls : List Line) → Holds (InExamplesTable c rows) s.flat_blocks ls s.comments → Ends (IsTable rows) ls
 last_table s c rows ls h =
-    let e = ends_then (IsDone s.chunks) (IsOpen (Listing c rows)) ls s.comments h in
+    let e = ends_then (IsDone s.flat_blocks) (IsOpen (InExamplesTable c rows)) ls s.comments h in
     ends_later (IsHead c) (IsTable rows) ls (record { earlier = e.earlier; tail = e.tail; comments = e.comments; cut = e.cut; holds = e.holds.1 })
 
-last_tags : (s : State) (bef : Option Block) (tags : List Tag) (ls : List Line) → Holds (Tagged bef tags) s.chunks ls s.comments → EndsOther ls
+last_tags : (s : State) (bef : Option Block) (tags : List Tag) (ls : List Line) → Holds (AfterTags bef tags) s.flat_blocks ls s.comments → EndsOther ls
 last_tags s bef tags ls h =
-    let e = ends_then (IsDone s.chunks) (SomeTagLines tags) ls s.comments h in
+    let e = ends_then (IsDone s.flat_blocks) (SomeTagLines tags) ls s.comments h in
     tag_lines_end e.holds.0 e.holds.1 ls (record { earlier = e.earlier; tail = e.tail; comments = e.comments; cut = e.cut; holds = e.holds.3 })
 
-at_phase_faults : (s : State) (p : Phase) (l : Line) (ls : List Line) → Holds p s.chunks ls s.comments → Faults ls l (at_phase s p l)
-at_phase_faults s Before l ls h = before_faults ls s l h.1.1.0
-at_phase_faults s Spoken l ls h = spoken_faults ls s l (spoken_gaps ls s.comments h.1)
-at_phase_faults s (Tagged bef tags) l ls h = behind_tags_faults ls s bef tags l (last_tags s bef tags ls h)
-at_phase_faults s (Described c lines) l ls h = cond_faults ls l (stops c.block l) _ _ (λ e. entering_faults ls s (described c lines) l e) (λ _. tt)
-at_phase_faults s (Stepping c steps last) l ls h = stepping_faults ls s c steps last l (last_argument s c steps last ls h)
-at_phase_faults s (Quoting c steps last q inside) l ls h = cond_faults ls l (is_fence q.fence l) _ _ (λ _. tt) (λ _. tt)
-at_phase_faults s (Listing c rows) l ls h = listing_faults ls s c rows l (last_table s c rows ls h)
+at_phase_faults : (s : State) (p : Phase) (l : Line) (ls : List Line) → Holds p s.flat_blocks ls s.comments → Faults ls l (at_phase s p l)
+at_phase_faults s Start l ls h = before_faults ls s l h.1.1.0
+at_phase_faults s AfterLanguage l ls h = spoken_faults ls s l (spoken_gaps ls s.comments h.1)
+at_phase_faults s (AfterTags bef tags) l ls h = behind_tags_faults ls s bef tags l (last_tags s bef tags ls h)
+at_phase_faults s (InDescription c lines) l ls h = cond_faults ls l (stops c.block l) _ _ (λ e. entering_faults ls s (with_description c lines) l e) (λ _. tt)
+at_phase_faults s (AfterStep c steps last) l ls h = stepping_faults ls s c steps last l (last_argument s c steps last ls h)
+at_phase_faults s (InDocString c steps last q inside) l ls h = cond_faults ls l (is_fence q.fence l) _ _ (λ _. tt) (λ _. tt)
+at_phase_faults s (InExamplesTable c rows) l ls h = listing_faults ls s c rows l (last_table s c rows ls h)
 
 -- a line at which the machine stops has the fault that it tells
 pub stop_is_fault : (before : List Line) (l : Line) (s : State) (b : Bad) → run initial before ≡ Ok s → next s l ≡ Err b → IsFaultOf before l b

@@ -9,7 +9,7 @@ pub mod Rows
 pub mod Trees
 pub mod Final
 pub mod Numbers
-pub mod ChunkNumbers
+pub mod FlatBlockNumbers
 pub mod Order
 pub mod Places
 pub mod Forest

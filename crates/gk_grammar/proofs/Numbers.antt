@@ -6,7 +6,7 @@ use Rattle.gk_grammar.specs.Tree.{Location}
 use Rattle.gk_grammar.specs.Grammar.{Node, stands_before, AreNumbered}
 use Rattle.gk_grammar.proofs.Complete.{Counts}
 
--- each stands before all behind it, and none of those before it
+-- each stands before all after it, and none of those before it
 abbrev pub InOrder : List Node → Type 0
 InOrder [] = Unit {0}
 InOrder (x ∷ xs) = (stands_before x.0 x.0 ≡ false) × AllByRecursion (λ (y : Node). (stands_before x.0 y.0 ≡ true) × (stands_before y.0 x.0 ≡ false)) xs × InOrder xs

@@ -12,10 +12,10 @@ use Rattle.gk_grammar.specs.Tree as tree
 use Rattle.gk_grammar.specs.Tree.{Location, Tag, DocString, Argument}
 use Rattle.gk_document.specs.declared.tree.Argument.TheVariants.{Table, Text as Quoted}
 use Rattle.gk_grammar.specs.Grammar.{Piece, Then, ◌⨾◌, Nothing, Each, AtMostOne, OneLine, comments_of, at, TagLines, IsTagLine, place_and_name, tag_at, Titled, IsTitle, stops, IsStep, IsStepLine, IsArgument, IsTable, IsRow, HaveEqualCounts, IsDocString, Closes, is_fence, media_of, IsPlainGap, IsOpening, IsEnglish}
-use Rattle.gk_grammar.specs.Machine.{Body, Bare, Steps, Rows, Chunk, Quote, Phase, Before, Spoken, Tagged, Described, Stepping, Quoting, Listing, State, Bad, stepping, step_row, step_fence, row_at, step_at, count_of, quoted, doc_string, with_steps, with_rows, empty_body, at_phase, leaving, tagged, opened, started, tags_from, follows, listing, takes_tags}
+use Rattle.gk_grammar.specs.Machine.{Body, Bare, Steps, Rows, FlatBlock, OpenDocString, Phase, Start, AfterLanguage, AfterTags, InDescription, AfterStep, InDocString, InExamplesTable, State, Bad, after_step, step_row, step_fence, row_at, step_at, count_of, with_doc_string, doc_string, with_steps, with_rows, empty_body, at_phase, close_block, add_tags, open_block, new_block, tags_from, follows, in_examples_table, takes_tags}
 use Rattle.gk_grammar.proofs.Pieces.{moved, extended, mapped, joined, to_right, then_nothing, each_more, Takes, gap_takes, one_line_takes, then_takes, each_takes, all_more, only_first, then_empty, lengthened}
 
--- ---- the lines of a chunk
+-- ---- the lines of a flat block
 
 -- the rows of a table, or no line
 abbrev pub IsRows : List tree.Row → Piece
@@ -37,23 +37,23 @@ has_steps block.Scenario = true
 has_steps _ = false
 
 -- the tag lines of a block: a background has none, not even one without tags
-abbrev pub ChunkTags : Block → List Tag → Piece
-ChunkTags block.Background tags ls cs = (tags ≡ []) × Nothing ls cs
-ChunkTags _ tags ls cs = TagLines tags ls cs
+abbrev pub FlatBlockTags : Block → List Tag → Piece
+FlatBlockTags block.Background tags ls cs = (tags ≡ []) × Nothing ls cs
+FlatBlockTags _ tags ls cs = TagLines tags ls cs
 
-abbrev pub IsHead : Chunk → Piece
-IsHead c = ChunkTags c.block c.tags ⨾ Titled c.block c.place c.keyword c.name c.description
+abbrev pub IsHead : FlatBlock → Piece
+IsHead c = FlatBlockTags c.block c.tags ⨾ Titled c.block c.place c.keyword c.name c.description
 
-abbrev pub IsChunk : Chunk → Piece
-IsChunk c = IsHead c ⨾ IsBody c.block c.body
+abbrev pub IsFlatBlock : FlatBlock → Piece
+IsFlatBlock c = IsHead c ⨾ IsBody c.block c.body
 
 -- a title line and the lines so far of a description
-abbrev pub TitledYet : Chunk → List Line → Piece
+abbrev pub TitledYet : FlatBlock → List Line → Piece
 TitledYet c ls [] cs = ⊥
 TitledYet c ls (l ∷ xs) cs = IsTitle c.block c.place c.keyword c.name l × AllByRecursion (λ x. IsFalse (stops c.block x)) xs × (ls ≡ xs) × (cs ≡ comments_of xs)
 
 -- an opening line and the lines so far of a doc string
-abbrev pub IsQuote : Quote → List Line → Piece
+abbrev pub IsQuote : OpenDocString → List Line → Piece
 IsQuote q inside [] cs = ⊥
 IsQuote q inside (line n t i (Fenced f media) ∷ ls) cs =
     (q.place ≡ at n (i + 1)) × (q.fence ≡ f) × (q.media ≡ media) × (q.indent ≡ i) × AllByRecursion (λ l. IsFalse (is_fence f l)) ls × (inside ≡ ls) × (cs ≡ [])
@@ -65,27 +65,27 @@ SomeTagLines tags ls cs = (first : List Tag) × (others : List (List Tag)) × (t
 
 -- the lines of what is open
 abbrev pub IsOpen : Phase → Piece
-IsOpen Before ls cs = ⊥
-IsOpen Spoken ls cs = ⊥
-IsOpen (Tagged before tags) ls cs = SomeTagLines tags ls cs
-IsOpen (Described c lines) ls cs = (c.body ≡ empty_body c.block) × (ChunkTags c.block c.tags ⨾ TitledYet c lines) ls cs
-IsOpen (Stepping c before last) ls cs = IsTrue (has_steps c.block) × (IsHead c ⨾ Each IsStep before ⨾ IsStep last) ls cs
-IsOpen (Quoting c before last q inside) ls cs = IsTrue (has_steps c.block) × (last.argument ≡ None) × (IsHead c ⨾ Each IsStep before ⨾ OneLine (IsStepLine last) ⨾ IsQuote q inside) ls cs
-IsOpen (Listing c rows) ls cs = (c.block ≡ block.Examples) × (IsHead c ⨾ IsTable rows) ls cs
+IsOpen Start ls cs = ⊥
+IsOpen AfterLanguage ls cs = ⊥
+IsOpen (AfterTags before tags) ls cs = SomeTagLines tags ls cs
+IsOpen (InDescription c lines) ls cs = (c.body ≡ empty_body c.block) × (FlatBlockTags c.block c.tags ⨾ TitledYet c lines) ls cs
+IsOpen (AfterStep c before last) ls cs = IsTrue (has_steps c.block) × (IsHead c ⨾ Each IsStep before ⨾ IsStep last) ls cs
+IsOpen (InDocString c before last q inside) ls cs = IsTrue (has_steps c.block) × (last.argument ≡ None) × (IsHead c ⨾ Each IsStep before ⨾ OneLine (IsStepLine last) ⨾ IsQuote q inside) ls cs
+IsOpen (InExamplesTable c rows) ls cs = (c.block ≡ block.Examples) × (IsHead c ⨾ IsTable rows) ls cs
 
--- the lines of whole chunks
-abbrev pub IsDone : List Chunk → Piece
-IsDone chunks = IsOpening ⨾ Each IsChunk chunks
+-- the lines of whole flat blocks
+abbrev pub IsDone : List FlatBlock → Piece
+IsDone flat_blocks = IsOpening ⨾ Each IsFlatBlock flat_blocks
 
 -- all lines so far
-abbrev pub Holds : Phase → List Chunk → Piece
-Holds Before chunks ls cs = (chunks ≡ []) × IsPlainGap ls cs
-Holds Spoken chunks ls cs = (chunks ≡ []) × (IsPlainGap ⨾ OneLine IsEnglish) ls cs
-Holds p chunks ls cs = (IsDone chunks ⨾ IsOpen p) ls cs
+abbrev pub Holds : Phase → List FlatBlock → Piece
+Holds Start flat_blocks ls cs = (flat_blocks ≡ []) × IsPlainGap ls cs
+Holds AfterLanguage flat_blocks ls cs = (flat_blocks ≡ []) × (IsPlainGap ⨾ OneLine IsEnglish) ls cs
+Holds p flat_blocks ls cs = (IsDone flat_blocks ⨾ IsOpen p) ls cs
 
 -- a state holds of some lines
 abbrev pub StateHolds : List Line → State → Type 0
-StateHolds ls s = Holds s.phase s.chunks ls s.comments
+StateHolds ls s = Holds s.phase s.flat_blocks ls s.comments
 
 -- ---- lines that add no comment
 
@@ -96,12 +96,12 @@ pub step_line : (s : tree.Step) (l : Line) → IsStepLine s l → s.argument ≡
 step_line s l h e = record { front = l ∷ []; back = []; front_comments = []; back_comments = []; cut = refl; comments = refl; first = (h, (tt, refl)); second = rw e (refl, refl) }
 
 -- the last step joins those before it
-step_joins : (c : Chunk) (before : List tree.Step) (last : tree.Step) (xs : List Line) (ys : List tree.Comment) →
+step_joins : (c : FlatBlock) (before : List tree.Step) (last : tree.Step) (xs : List Line) (ys : List tree.Comment) →
     Then (IsHead c) (Then (Each IsStep before) (IsStep last)) xs ys → Then (IsHead c) (Each IsStep (before ++ last ∷ [])) xs ys
 step_joins c before last xs ys t = mapped (IsHead c) (Then (Each IsStep before) (IsStep last)) (Each IsStep (before ++ last ∷ [])) (λ u v w. each_more IsStep before last u v w) xs ys t
 
-another_step : (c : Chunk) (before : List tree.Step) (last new : tree.Step) (l : Line) → IsStepLine new l → new.argument ≡ None →
-    (xs : List Line) (ys : List tree.Comment) → IsOpen (Stepping c before last) xs ys → IsOpen (Stepping c (before ++ last ∷ []) new) (xs ++ l ∷ []) (ys ++ [])
+another_step : (c : FlatBlock) (before : List tree.Step) (last new : tree.Step) (l : Line) → IsStepLine new l → new.argument ≡ None →
+    (xs : List Line) (ys : List tree.Comment) → IsOpen (AfterStep c before last) xs ys → IsOpen (AfterStep c (before ++ last ∷ []) new) (xs ++ l ∷ []) (ys ++ [])
 another_step c before last new l h e xs ys t = (
   t.0,
   to_right (IsHead c) (Each IsStep (before ++ last ∷ [])) (IsStep new) _ _
@@ -156,7 +156,7 @@ doc_string_takes d (line n t i (Fenced f media) ∷ ls) cs l g p = (p.0, p.1, p.
 doc_string_takes d (line n t i _ ∷ ls) cs l g p = absurd p
 
 -- the closing line
-quote_closes : (q : Quote) (inside : List Line) (l : Line) → IsTrue (is_fence q.fence l) →
+quote_closes : (q : OpenDocString) (inside : List Line) (l : Line) → IsTrue (is_fence q.fence l) →
     (xs : List Line) (ys : List tree.Comment) → IsQuote q inside xs ys → IsDocString (doc_string q inside) (xs ++ l ∷ []) (ys ++ [])
 quote_closes q inside l h [] ys p = absurd p
 quote_closes q inside l h (line n t i (Fenced f media) ∷ ls) ys p = (
@@ -177,7 +177,7 @@ quote_closes q inside l h (line n t i (Fenced f media) ∷ ls) ys p = (
 quote_closes q inside l h (line n t i _ ∷ ls) ys p = absurd p
 
 -- a line of the content
-quote_more : (q : Quote) (inside : List Line) (l : Line) → IsFalse (is_fence q.fence l) →
+quote_more : (q : OpenDocString) (inside : List Line) (l : Line) → IsFalse (is_fence q.fence l) →
     (xs : List Line) (ys : List tree.Comment) → IsQuote q inside xs ys → IsQuote q (inside ++ l ∷ []) (xs ++ l ∷ []) (ys ++ [])
 quote_more q inside l h [] ys p = absurd p
 quote_more q inside l h (line n t i (Fenced f media) ∷ ls) ys p = (p.0, p.1, p.2, p.3, all_more (λ x. IsFalse (is_fence f x)) ls l p.4 (rw (← p.1) h), ap (λ (x : List Line). x ++ l ∷ []) p.5, append-nil ys ∙ p.6)
@@ -192,13 +192,13 @@ step_takes : (s : tree.Step) (a : Option Argument) → Takes (StepWith s a) (Ste
 step_takes s None ls cs l g t = then_nothing (OneLine (IsStepLine s)) _ _ (one_line_takes (IsStepLine s) ls cs l g (only_first (OneLine (IsStepLine s)) ls cs t))
 step_takes s (Some a) ls cs l g t = then_takes (OneLine (IsStepLine s)) (IsArgument a) (argument_takes a) ls cs l g t
 
--- ---- behind a step
+-- ---- after a step
 
-stepping_gap : (s : State) (c : Chunk) (before : List tree.Step) (last : tree.Step) (l : Line) → IsTrue (is_gap l) →
-    (ls : List Line) → Then (IsDone s.chunks) (IsOpen (Stepping c before last)) ls s.comments →
-    Then (IsDone s.chunks) (IsOpen (Stepping c before last)) (ls ++ l ∷ []) (s.comments ++ comments_of (l ∷ []))
+stepping_gap : (s : State) (c : FlatBlock) (before : List tree.Step) (last : tree.Step) (l : Line) → IsTrue (is_gap l) →
+    (ls : List Line) → Then (IsDone s.flat_blocks) (IsOpen (AfterStep c before last)) ls s.comments →
+    Then (IsDone s.flat_blocks) (IsOpen (AfterStep c before last)) (ls ++ l ∷ []) (s.comments ++ comments_of (l ∷ []))
 stepping_gap s c before last l g ls h =
-    extended (IsDone s.chunks) (IsOpen (Stepping c before last)) (IsOpen (Stepping c before last)) (l ∷ []) (comments_of (l ∷ []))
+    extended (IsDone s.flat_blocks) (IsOpen (AfterStep c before last)) (IsOpen (AfterStep c before last)) (l ∷ []) (comments_of (l ∷ []))
     (λ xs ys q. (
       q.0,
       extended (IsHead c) (Then (Each IsStep before) (IsStep last)) (Then (Each IsStep before) (IsStep last)) (l ∷ []) (comments_of (l ∷ []))
@@ -206,7 +206,7 @@ stepping_gap s c before last l g ls h =
     )) ls s.comments h
 
 -- a change of the last step by a line that adds no comment
-last_step : (c : Chunk) (before : List tree.Step) (l : Line) (P Q : Piece) →
+last_step : (c : FlatBlock) (before : List tree.Step) (l : Line) (P Q : Piece) →
     ((xs : List Line) (ys : List tree.Comment) → P xs ys → Q (xs ++ l ∷ []) (ys ++ [])) →
     (xs : List Line) (ys : List tree.Comment) → Then (IsHead c) (Then (Each IsStep before) P) xs ys → Then (IsHead c) (Then (Each IsStep before) Q) (xs ++ l ∷ []) (ys ++ [])
 last_step c before l P Q f xs ys t =
@@ -230,11 +230,11 @@ pub cond_ok : {A : Type 0} (P : A → Type 0) (b : Bool) (x y : Result A Bad) �
 cond_ok P true x y f g = f refl
 cond_ok P false x y f g = g refl
 
-step_row_holds : (s : State) (c : Chunk) (before : List tree.Step) (last : tree.Step) (a : Option Argument) → last.argument ≡ a → (n i : ℕ) (t : Text) (cells : List Cell) (ls : List Line) →
-    Then (IsDone s.chunks) (IsOpen (Stepping c before last)) ls s.comments →
+step_row_holds : (s : State) (c : FlatBlock) (before : List tree.Step) (last : tree.Step) (a : Option Argument) → last.argument ≡ a → (n i : ℕ) (t : Text) (cells : List Cell) (ls : List Line) →
+    Then (IsDone s.flat_blocks) (IsOpen (AfterStep c before last)) ls s.comments →
     IfOk (step_row s c before last a n i cells) (StateHolds (ls ++ line n t i (Row cells) ∷ []))
 step_row_holds s c before last None e n i t cells ls h =
-    lengthened (IsDone s.chunks) (IsOpen (Stepping c before last)) (IsOpen (Stepping c before (record last { argument = Some (Table (row_at s n i cells ∷ [])) }))) (line n t i (Row cells))
+    lengthened (IsDone s.flat_blocks) (IsOpen (AfterStep c before last)) (IsOpen (AfterStep c before (record last { argument = Some (Table (row_at s n i cells ∷ [])) }))) (line n t i (Row cells))
     (λ xs ys q. (
       q.0,
       last_step c before (line n t i (Row cells)) (IsStep last) (StepWith last (Some (Table (row_at s n i cells ∷ []))))
@@ -242,7 +242,7 @@ step_row_holds s c before last None e n i t cells ls h =
     )) ls s.comments h
 step_row_holds s c before last (Some (Table rows)) e n i t cells ls h =
     cond_ok (StateHolds (ls ++ line n t i (Row cells) ∷ [])) (length cells == count_of rows) _ _
-    (λ test. lengthened (IsDone s.chunks) (IsOpen (Stepping c before last)) (IsOpen (Stepping c before (record last { argument = Some (Table (rows ++ row_at s n i cells ∷ [])) }))) (line n t i (Row cells))
+    (λ test. lengthened (IsDone s.flat_blocks) (IsOpen (AfterStep c before last)) (IsOpen (AfterStep c before (record last { argument = Some (Table (rows ++ row_at s n i cells ∷ [])) }))) (line n t i (Row cells))
     (λ xs ys q. (
       q.0,
       last_step c before (line n t i (Row cells)) (IsStep last) (StepWith last (Some (Table (rows ++ row_at s n i cells ∷ []))))
@@ -251,11 +251,11 @@ step_row_holds s c before last (Some (Table rows)) e n i t cells ls h =
     (λ _. tt)
 step_row_holds s c before last (Some (Quoted d)) e n i t cells ls h = tt
 
-step_fence_holds : (s : State) (c : Chunk) (before : List tree.Step) (last : tree.Step) (a : Option Argument) → last.argument ≡ a → (n i : ℕ) (t : Text) (f : Fence) (media : Text) (ls : List Line) →
-    Then (IsDone s.chunks) (IsOpen (Stepping c before last)) ls s.comments →
+step_fence_holds : (s : State) (c : FlatBlock) (before : List tree.Step) (last : tree.Step) (a : Option Argument) → last.argument ≡ a → (n i : ℕ) (t : Text) (f : Fence) (media : Text) (ls : List Line) →
+    Then (IsDone s.flat_blocks) (IsOpen (AfterStep c before last)) ls s.comments →
     IfOk (step_fence s c before last a n i f media) (StateHolds (ls ++ line n t i (Fenced f media) ∷ []))
 step_fence_holds s c before last None e n i t f media ls h =
-    lengthened (IsDone s.chunks) (IsOpen (Stepping c before last)) (IsOpen (Quoting c before last (record { place = at n (i + 1); fence = f; media = media; indent = i }) [])) (line n t i (Fenced f media))
+    lengthened (IsDone s.flat_blocks) (IsOpen (AfterStep c before last)) (IsOpen (InDocString c before last (record { place = at n (i + 1); fence = f; media = media; indent = i }) [])) (line n t i (Fenced f media))
     (λ xs ys q. (
       q.0,
       e,
@@ -264,12 +264,12 @@ step_fence_holds s c before last None e n i t f media ls h =
     )) ls s.comments h
 step_fence_holds s c before last (Some a) e n i t f media ls h = tt
 
--- ---- behind a whole chunk
+-- ---- after a whole flat block
 
-pub done_more : (chunks : List Chunk) (c : Chunk) (ls : List Line) (cs : List tree.Comment) → Then (IsDone chunks) (IsChunk c) ls cs → IsDone (chunks ++ c ∷ []) ls cs
-done_more chunks c ls cs t =
-    mapped IsOpening (Then (Each IsChunk chunks) (IsChunk c)) (Each IsChunk (chunks ++ c ∷ [])) (λ us vs w. each_more IsChunk chunks c us vs w) ls cs
-    (to_right IsOpening (Each IsChunk chunks) (IsChunk c) ls cs t)
+pub done_more : (flat_blocks : List FlatBlock) (c : FlatBlock) (ls : List Line) (cs : List tree.Comment) → Then (IsDone flat_blocks) (IsFlatBlock c) ls cs → IsDone (flat_blocks ++ c ∷ []) ls cs
+done_more flat_blocks c ls cs t =
+    mapped IsOpening (Then (Each IsFlatBlock flat_blocks) (IsFlatBlock c)) (Each IsFlatBlock (flat_blocks ++ c ∷ [])) (λ us vs w. each_more IsFlatBlock flat_blocks c us vs w) ls cs
+    (to_right IsOpening (Each IsFlatBlock flat_blocks) (IsFlatBlock c) ls cs t)
 
 tags_read : (n node : ℕ) (words : List TagText) → map place_and_name (tags_from n node words) ≡ map (tag_at n) words
 tags_read n node [] = refl
@@ -302,38 +302,38 @@ tags_take tags ls cs l g h = (h.0, h.1, h.2, each_takes (λ ts. OneLine (IsTagLi
 pub no_tags : TagLines [] [] []
 no_tags = ([], refl, (refl, refl))
 
-pub no_chunk_tags : (b : Block) → ChunkTags b [] [] []
-no_chunk_tags block.Background = (refl, (refl, refl))
-no_chunk_tags block.Feature = no_tags
-no_chunk_tags block.Rule = no_tags
-no_chunk_tags block.Scenario = no_tags
-no_chunk_tags block.Examples = no_tags
+pub no_flat_block_tags : (b : Block) → FlatBlockTags b [] [] []
+no_flat_block_tags block.Background = (refl, (refl, refl))
+no_flat_block_tags block.Feature = no_tags
+no_flat_block_tags block.Rule = no_tags
+no_flat_block_tags block.Scenario = no_tags
+no_flat_block_tags block.Examples = no_tags
 
-pub chunk_tags : (b : Block) (tags : List Tag) → takes_tags b ≡ true → (xs : List Line) (ys : List tree.Comment) → TagLines tags xs ys → ChunkTags b tags xs ys
-chunk_tags block.Background tags e xs ys h = absurd cc
-chunk_tags block.Feature tags e xs ys h = h
-chunk_tags block.Rule tags e xs ys h = h
-chunk_tags block.Scenario tags e xs ys h = h
-chunk_tags block.Examples tags e xs ys h = h
+pub flat_block_tags : (b : Block) (tags : List Tag) → takes_tags b ≡ true → (xs : List Line) (ys : List tree.Comment) → TagLines tags xs ys → FlatBlockTags b tags xs ys
+flat_block_tags block.Background tags e xs ys h = absurd cc
+flat_block_tags block.Feature tags e xs ys h = h
+flat_block_tags block.Rule tags e xs ys h = h
+flat_block_tags block.Scenario tags e xs ys h = h
+flat_block_tags block.Examples tags e xs ys h = h
 
--- a title line behind tag lines
-pub title_opens : (s : State) (chunks : List Chunk) (b : Block) (tags : List Tag) (n i : ℕ) (t k m : Text) (ls : List Line) →
-    Then (IsDone chunks) (ChunkTags b tags) ls s.comments → StateHolds (ls ++ line n t i (Title b k m) ∷ []) (opened (record s { chunks = chunks }) b tags n i k m)
-title_opens s chunks b tags n i t k m ls h =
-    lengthened (IsDone chunks) (ChunkTags b tags) (IsOpen (Described (started s.nodes b tags n i k m) [])) (line n t i (Title b k m))
-    (λ xs ys q. (refl, joined (ChunkTags b tags) (TitledYet (started s.nodes b tags n i k m) []) xs (line n t i (Title b k m) ∷ []) ys [] q ((refl, refl, refl, refl), tt, refl, refl))) ls s.comments h
+-- a title line after tag lines
+pub title_opens : (s : State) (flat_blocks : List FlatBlock) (b : Block) (tags : List Tag) (n i : ℕ) (t k m : Text) (ls : List Line) →
+    Then (IsDone flat_blocks) (FlatBlockTags b tags) ls s.comments → StateHolds (ls ++ line n t i (Title b k m) ∷ []) (open_block (record s { flat_blocks = flat_blocks }) b tags n i k m)
+title_opens s flat_blocks b tags n i t k m ls h =
+    lengthened (IsDone flat_blocks) (FlatBlockTags b tags) (IsOpen (InDescription (new_block s.nodes b tags n i k m) [])) (line n t i (Title b k m))
+    (λ xs ys q. (refl, joined (FlatBlockTags b tags) (TitledYet (new_block s.nodes b tags n i k m) []) xs (line n t i (Title b k m) ∷ []) ys [] q ((refl, refl, refl, refl), tt, refl, refl))) ls s.comments h
 
-pub tags_open : (s : State) (chunks : List Chunk) (before : Option Block) (tags : List Tag) (n i : ℕ) (t : Text) (words : List TagText) (ls : List Line) →
-    Then (IsDone chunks) (TagLines tags) ls s.comments → StateHolds (ls ++ line n t i (Tags (Ok words)) ∷ []) (tagged (record s { chunks = chunks }) before tags n words)
-tags_open s chunks before tags n i t words ls h =
-    lengthened (IsDone chunks) (TagLines tags) (SomeTagLines (tags ++ tags_from n s.nodes words)) (line n t i (Tags (Ok words))) (λ xs ys q. tag_lines_more tags n s.nodes i t words xs ys q) ls s.comments h
+pub tags_open : (s : State) (flat_blocks : List FlatBlock) (before : Option Block) (tags : List Tag) (n i : ℕ) (t : Text) (words : List TagText) (ls : List Line) →
+    Then (IsDone flat_blocks) (TagLines tags) ls s.comments → StateHolds (ls ++ line n t i (Tags (Ok words)) ∷ []) (add_tags (record s { flat_blocks = flat_blocks }) before tags n words)
+tags_open s flat_blocks before tags n i t words ls h =
+    lengthened (IsDone flat_blocks) (TagLines tags) (SomeTagLines (tags ++ tags_from n s.nodes words)) (line n t i (Tags (Ok words))) (λ xs ys q. tag_lines_more tags n s.nodes i t words xs ys q) ls s.comments h
 
-pub leaving_holds : (s : State) (c : Chunk) (l : Line) (ls : List Line) → Then (IsDone s.chunks) (IsChunk c) ls s.comments → IfOk (leaving s c l) (StateHolds (ls ++ l ∷ []))
-leaving_holds s c (line n t i (Tags (Ok words))) ls h = tags_open s (s.chunks ++ c ∷ []) (Some c.block) [] n i t words ls (then_empty (IsDone (s.chunks ++ c ∷ [])) (TagLines []) ls s.comments (done_more s.chunks c ls s.comments h) no_tags)
+pub leaving_holds : (s : State) (c : FlatBlock) (l : Line) (ls : List Line) → Then (IsDone s.flat_blocks) (IsFlatBlock c) ls s.comments → IfOk (close_block s c l) (StateHolds (ls ++ l ∷ []))
+leaving_holds s c (line n t i (Tags (Ok words))) ls h = tags_open s (s.flat_blocks ++ c ∷ []) (Some c.block) [] n i t words ls (then_empty (IsDone (s.flat_blocks ++ c ∷ [])) (TagLines []) ls s.comments (done_more s.flat_blocks c ls s.comments h) no_tags)
 leaving_holds s c (line n t i (Tags (Err column))) ls h = tt
 leaving_holds s c (line n t i (Title b k m)) ls h =
     cond_ok (StateHolds (ls ++ line n t i (Title b k m) ∷ [])) (follows (Some c.block) b) _ _
-    (λ _. title_opens s (s.chunks ++ c ∷ []) b [] n i t k m ls (then_empty (IsDone (s.chunks ++ c ∷ [])) (ChunkTags b []) ls s.comments (done_more s.chunks c ls s.comments h) (no_chunk_tags b)))
+    (λ _. title_opens s (s.flat_blocks ++ c ∷ []) b [] n i t k m ls (then_empty (IsDone (s.flat_blocks ++ c ∷ [])) (FlatBlockTags b []) ls s.comments (done_more s.flat_blocks c ls s.comments h) (no_flat_block_tags b)))
     (λ _. tt)
 leaving_holds s c (line n t i _) ls h = tt
 
@@ -345,16 +345,16 @@ steps_make block.Feature ss h xs ys p = absurd cc
 steps_make block.Rule ss h xs ys p = absurd cc
 steps_make block.Examples ss h xs ys p = absurd cc
 
-pub steps_close : (s : State) (c : Chunk) (before : List tree.Step) (last : tree.Step) (ls : List Line) →
-    Then (IsDone s.chunks) (IsOpen (Stepping c before last)) ls s.comments → Then (IsDone s.chunks) (IsChunk (with_steps c (before ++ last ∷ []))) ls s.comments
+pub steps_close : (s : State) (c : FlatBlock) (before : List tree.Step) (last : tree.Step) (ls : List Line) →
+    Then (IsDone s.flat_blocks) (IsOpen (AfterStep c before last)) ls s.comments → Then (IsDone s.flat_blocks) (IsFlatBlock (with_steps c (before ++ last ∷ []))) ls s.comments
 steps_close s c before last ls h =
-    mapped (IsDone s.chunks) (IsOpen (Stepping c before last)) (IsChunk (with_steps c (before ++ last ∷ [])))
+    mapped (IsDone s.flat_blocks) (IsOpen (AfterStep c before last)) (IsFlatBlock (with_steps c (before ++ last ∷ [])))
     (λ xs ys q. mapped (IsHead c) (Each IsStep (before ++ last ∷ [])) (IsBody c.block (Steps (before ++ last ∷ []))) (λ us vs r. steps_make c.block (before ++ last ∷ []) q.0 us vs r) xs ys (step_joins c before last xs ys q.1)) ls s.comments h
 
-pub stepping_holds : (s : State) (c : Chunk) (before : List tree.Step) (last : tree.Step) (l : Line) (ls : List Line) →
-    Then (IsDone s.chunks) (IsOpen (Stepping c before last)) ls s.comments → IfOk (stepping s c before last l) (StateHolds (ls ++ l ∷ []))
+pub stepping_holds : (s : State) (c : FlatBlock) (before : List tree.Step) (last : tree.Step) (l : Line) (ls : List Line) →
+    Then (IsDone s.flat_blocks) (IsOpen (AfterStep c before last)) ls s.comments → IfOk (after_step s c before last l) (StateHolds (ls ++ l ∷ []))
 stepping_holds s c before last (line n t i (Step k y m)) ls h =
-    lengthened (IsDone s.chunks) (IsOpen (Stepping c before last)) (IsOpen (Stepping c (before ++ last ∷ []) (step_at s n i k y m))) (line n t i (Step k y m))
+    lengthened (IsDone s.flat_blocks) (IsOpen (AfterStep c before last)) (IsOpen (AfterStep c (before ++ last ∷ []) (step_at s n i k y m))) (line n t i (Step k y m))
     (λ xs ys q. another_step c before last (step_at s n i k y m) (line n t i (Step k y m)) (refl, refl, refl, refl) refl xs ys q) ls s.comments h
 stepping_holds s c before last (line n t i (Row cells)) ls h = step_row_holds s c before last last.argument refl n i t cells ls h
 stepping_holds s c before last (line n t i (Fenced f media)) ls h = step_fence_holds s c before last last.argument refl n i t f media ls h
@@ -367,17 +367,17 @@ stepping_holds s c before last (line n t i Other) ls h = tt
 
 -- ---- in a doc string
 
-pub quoting_holds : (s : State) (c : Chunk) (before : List tree.Step) (last : tree.Step) (q : Quote) (inside : List Line) (l : Line) (ls : List Line) →
-    Then (IsDone s.chunks) (IsOpen (Quoting c before last q inside)) ls s.comments → IfOk (at_phase s (Quoting c before last q inside) l) (StateHolds (ls ++ l ∷ []))
+pub quoting_holds : (s : State) (c : FlatBlock) (before : List tree.Step) (last : tree.Step) (q : OpenDocString) (inside : List Line) (l : Line) (ls : List Line) →
+    Then (IsDone s.flat_blocks) (IsOpen (InDocString c before last q inside)) ls s.comments → IfOk (at_phase s (InDocString c before last q inside) l) (StateHolds (ls ++ l ∷ []))
 quoting_holds s c before last q inside l ls h =
     cond_ok (StateHolds (ls ++ l ∷ [])) (is_fence q.fence l) _ _
-    (λ test. lengthened (IsDone s.chunks) (IsOpen (Quoting c before last q inside)) (IsOpen (Stepping c before (quoted last q inside))) l
+    (λ test. lengthened (IsDone s.flat_blocks) (IsOpen (InDocString c before last q inside)) (IsOpen (AfterStep c before (with_doc_string last q inside))) l
     (λ xs ys r. (
       r.0,
       last_step c before l (Then (OneLine (IsStepLine last)) (IsQuote q inside)) (StepWith last (Some (Quoted (doc_string q inside))))
           (λ us vs w. extended (OneLine (IsStepLine last)) (IsQuote q inside) (IsDocString (doc_string q inside)) (l ∷ []) [] (λ ms bs z. quote_closes q inside l test ms bs z) us vs w) xs ys r.2,
     )) ls s.comments h)
-    (λ test. lengthened (IsDone s.chunks) (IsOpen (Quoting c before last q inside)) (IsOpen (Quoting c before last q (inside ++ l ∷ []))) l
+    (λ test. lengthened (IsDone s.flat_blocks) (IsOpen (InDocString c before last q inside)) (IsOpen (InDocString c before last q (inside ++ l ∷ []))) l
     (λ xs ys r. (
       r.0,
       r.1,
@@ -387,27 +387,27 @@ quoting_holds s c before last q inside l ls h =
 
 -- ---- in an examples table
 
-pub rows_close : (s : State) (c : Chunk) (rows : List tree.Row) (ls : List Line) →
-    Then (IsDone s.chunks) (IsOpen (Listing c rows)) ls s.comments → Then (IsDone s.chunks) (IsChunk (with_rows c rows)) ls s.comments
+pub rows_close : (s : State) (c : FlatBlock) (rows : List tree.Row) (ls : List Line) →
+    Then (IsDone s.flat_blocks) (IsOpen (InExamplesTable c rows)) ls s.comments → Then (IsDone s.flat_blocks) (IsFlatBlock (with_rows c rows)) ls s.comments
 rows_close s c rows ls h =
-    mapped (IsDone s.chunks) (IsOpen (Listing c rows)) (IsChunk (with_rows c rows))
+    mapped (IsDone s.flat_blocks) (IsOpen (InExamplesTable c rows)) (IsFlatBlock (with_rows c rows))
     (λ xs ys q. mapped (IsHead c) (IsTable rows) (IsBody c.block (Rows rows)) (λ us vs r. rw q.0 (table_makes rows us vs r)) xs ys q.1) ls s.comments h
   where
     table_makes : (rs : List tree.Row) (us : List Line) (vs : List tree.Comment) → IsTable rs us vs → IsRows rs us vs
     table_makes [] us vs r = absurd r
     table_makes (x ∷ xs) us vs r = r
 
-listing_gap : (s : State) (c : Chunk) (rows : List tree.Row) (l : Line) → IsTrue (is_gap l) → (ls : List Line) →
-    Then (IsDone s.chunks) (IsOpen (Listing c rows)) ls s.comments → Then (IsDone s.chunks) (IsOpen (Listing c rows)) (ls ++ l ∷ []) (s.comments ++ comments_of (l ∷ []))
+listing_gap : (s : State) (c : FlatBlock) (rows : List tree.Row) (l : Line) → IsTrue (is_gap l) → (ls : List Line) →
+    Then (IsDone s.flat_blocks) (IsOpen (InExamplesTable c rows)) ls s.comments → Then (IsDone s.flat_blocks) (IsOpen (InExamplesTable c rows)) (ls ++ l ∷ []) (s.comments ++ comments_of (l ∷ []))
 listing_gap s c rows l g ls h =
-    extended (IsDone s.chunks) (IsOpen (Listing c rows)) (IsOpen (Listing c rows)) (l ∷ []) (comments_of (l ∷ []))
+    extended (IsDone s.flat_blocks) (IsOpen (InExamplesTable c rows)) (IsOpen (InExamplesTable c rows)) (l ∷ []) (comments_of (l ∷ []))
     (λ xs ys q. (q.0, extended (IsHead c) (IsTable rows) (IsTable rows) (l ∷ []) (comments_of (l ∷ [])) (λ us vs r. table_takes rows us vs l g r) xs ys q.1)) ls s.comments h
 
-pub listing_holds : (s : State) (c : Chunk) (rows : List tree.Row) (l : Line) (ls : List Line) →
-    Then (IsDone s.chunks) (IsOpen (Listing c rows)) ls s.comments → IfOk (listing s c rows l) (StateHolds (ls ++ l ∷ []))
+pub listing_holds : (s : State) (c : FlatBlock) (rows : List tree.Row) (l : Line) (ls : List Line) →
+    Then (IsDone s.flat_blocks) (IsOpen (InExamplesTable c rows)) ls s.comments → IfOk (in_examples_table s c rows l) (StateHolds (ls ++ l ∷ []))
 listing_holds s c rows (line n t i (Row cells)) ls h =
     cond_ok (StateHolds (ls ++ line n t i (Row cells) ∷ [])) (length cells == count_of rows) _ _
-    (λ test. lengthened (IsDone s.chunks) (IsOpen (Listing c rows)) (IsOpen (Listing c (rows ++ row_at s n i cells ∷ []))) (line n t i (Row cells))
+    (λ test. lengthened (IsDone s.flat_blocks) (IsOpen (InExamplesTable c rows)) (IsOpen (InExamplesTable c (rows ++ row_at s n i cells ∷ []))) (line n t i (Row cells))
     (λ xs ys q. (
       q.0,
       extended (IsHead c) (IsTable rows) (IsTable (rows ++ row_at s n i cells ∷ [])) (line n t i (Row cells) ∷ []) []

@@ -59,7 +59,7 @@ before_by_column a b e h = by_column (nat_lt a.line b.line) (a.line == b.line) (
 
 -- ---- places that rise
 
--- each stands before all behind it
+-- each stands before all after it
 abbrev pub Rise : List Location → Type 0
 Rise [] = Unit {0}
 Rise (p ∷ ps) = AllByRecursion (λ (q : Location). stands_before p q ≡ true) ps × Rise ps

@@ -5,7 +5,7 @@ use Rattle.std.proofs.Math.Seq.{take-append-add}
 use Rattle.std.proofs.lemmas.Bool.{ltb-true, ltb-false}
 use Rattle.std.proofs.Math.Dec.{ltb}
 use Rattle.gk_grammar.specs.Token.{Blank, Comment, Language, Tags, Title, Step, Row, Fenced, Other, Line, line, number}
-use Rattle.gk_grammar.specs.Machine.{Chunk, State, Bad, run, closed, initial, next, ◌>>=◌}
+use Rattle.gk_grammar.specs.Machine.{FlatBlock, State, Bad, run, blocks_at_end, initial, next, ◌>>=◌}
 use Rattle.gk_grammar.specs.Place.{Completion, ByNothing, ByFeature, ByScenario, ByQuotes, ByBackticks, completing, IsText, IsFront, IsFirstBad, IsOpenAtEnd, IsFault, IsFaultAt, DiffersFromTable}
 use Rattle.gk_grammar.specs.declared.fault.FaultKind.{FaultKind}
 use Rattle.gk_grammar.specs.declared.fault.FaultKind.TheVariants as kind
@@ -20,9 +20,9 @@ use Rattle.gk_grammar.proofs.Accepted.{accepted, doc_taken}
 -- the machine takes the lines whole
 pub record Whole (ls : List Line) : Type 0 where
   pub end : State
-  pub last : List Chunk
+  pub last : List FlatBlock
   pub runs : run initial ls ≡ Ok end
-  pub ends : closed end.phase ≡ Some last
+  pub ends : blocks_at_end end.phase ≡ Some last
 
 -- where a run stopped
 pub record Stops (s : State) (ls : List Line) (b : Bad) : Type 0 where
@@ -111,8 +111,8 @@ pub stopped_is_no_text : (ls : List Line) (b : Bad) → AreLines 1 ls → run in
 stopped_is_no_text ls b a e t = let w = complete ls a t in let r = w.runs in cc
 
 -- nor where it is at a phase that isn't closed
-pub open_is_no_text : (ls : List Line) (s : State) → AreLines 1 ls → run initial ls ≡ Ok s → closed s.phase ≡ None → IsText ls → ⊥
-open_is_no_text ls s a e c t = let w = complete ls a t in let r = w.runs in let same : s ≡ w.end = cc in let k : closed s.phase ≡ Some w.last = ap (λ (z : State). closed z.phase) same ∙ w.ends in cc
+pub open_is_no_text : (ls : List Line) (s : State) → AreLines 1 ls → run initial ls ≡ Ok s → blocks_at_end s.phase ≡ None → IsText ls → ⊥
+open_is_no_text ls s a e c t = let w = complete ls a t in let r = w.runs in let same : s ≡ w.end = cc in let k : blocks_at_end s.phase ≡ Some w.last = ap (λ (z : State). blocks_at_end z.phase) same ∙ w.ends in cc
 
 -- the place is the line at which the machine stops
 pub stop_is_place : (ls : List Line) (b : Bad) → AreLines 1 ls → (t : Stops initial ls b) → IsFirstBad ls (length t.before + 1)
@@ -128,7 +128,7 @@ stop_is_place ls b a t =
     }
 
 -- where it stops nowhere and the lines are no text, they are open at the end
-pub open_is_place : (ls : List Line) (s : State) → AreLines 1 ls → run initial ls ≡ Ok s → closed s.phase ≡ None → IsOpenAtEnd ls (length ls + 1)
+pub open_is_place : (ls : List Line) (s : State) → AreLines 1 ls → run initial ls ≡ Ok s → blocks_at_end s.phase ≡ None → IsOpenAtEnd ls (length ls + 1)
 open_is_place ls s a e c = record {
   behind = refl;
   fronts = λ m one below. fronts_read ls s a e m;
@@ -150,7 +150,7 @@ stop_has_fault ls b a e =
     inl (record { place = subst (IsFirstBad ls) n (stop_is_place ls b a t); before = t.before; at = t.at; behind = t.behind; cut = t.cut; here = n; what = f.1 })
 
 -- where it is at a phase that isn't closed, the lines end where more must come
-pub open_has_fault : (ls : List Line) (s : State) → AreLines 1 ls → run initial ls ≡ Ok s → closed s.phase ≡ None → IsFault ls kind.UnexpectedEnd (length ls + 1) 1
+pub open_has_fault : (ls : List Line) (s : State) → AreLines 1 ls → run initial ls ≡ Ok s → blocks_at_end s.phase ≡ None → IsFault ls kind.UnexpectedEnd (length ls + 1) 1
 open_has_fault ls s a e c = inr (record { place = open_is_place ls s a e c; what = refl; first_column = refl })
 
 -- a text of the grammar is a front in each of its first lines
@@ -166,12 +166,12 @@ fault_is_no_text ls k n column a (inr f) t = f.place.open_yet t
 pub text_or_fault : (ls : List Line) → AreLines 1 ls → IsText ls ⊎ ((k : FaultKind) × (n : ℕ) × (column : ℕ) × IsFault ls k n column)
 text_or_fault ls a = go (run initial ls) refl
   where
-    ended : (s : State) (o : Option (List Chunk)) → run initial ls ≡ Ok s → closed s.phase ≡ o → IsText ls ⊎ ((k : FaultKind) × (n : ℕ) × (column : ℕ) × IsFault ls k n column)
+    ended : (s : State) (o : Option (List FlatBlock)) → run initial ls ≡ Ok s → blocks_at_end s.phase ≡ o → IsText ls ⊎ ((k : FaultKind) × (n : ℕ) × (column : ℕ) × IsFault ls k n column)
     ended s (Some last) e c = inl (sound ls a (record { end = s; last = last; runs = e; ends = c }))
     ended s None e c = inr (kind.UnexpectedEnd, length ls + 1, 1, open_has_fault ls s a e c)
 
     go : (r : Result State Bad) → run initial ls ≡ r → IsText ls ⊎ ((k : FaultKind) × (n : ℕ) × (column : ℕ) × IsFault ls k n column)
-    go (Ok s) e = ended s (closed s.phase) e refl
+    go (Ok s) e = ended s (blocks_at_end s.phase) e refl
     go (Err b) e = inr (b.kind, b.line, b.column, stop_has_fault ls b a e)
 
 -- ---- one fault at most

@@ -116,11 +116,11 @@ plain_rise n i text (Row cells) h = (tt, tt)
 plain_rise n i text _ h = tt
 
 pub line_rises : (n : ℕ) (text : List ℕ) → Rise (line_places (line_of (n, text)))
-line_rises n text = each_token (λ k. Rise (line_places (line n text (indent_of text) k))) text (tagged (spaced_piece text)) (λ k h. plain_rise n (indent_of text) text k h)
+line_rises n text = each_token (λ k. Rise (line_places (line n text (indent_of text) k))) text (add_tags (spaced_piece text)) (λ k h. plain_rise n (indent_of text) text k h)
   where
-    tagged : (o : Option TagWord) → Rise (line_places (line n text (indent_of text) (Tags (tag_list o (tags_of text)))))
-    tagged None = words_rise n 0 (tags_of text) (tags_rise text)
-    tagged (Some w) = tt
+    add_tags : (o : Option TagWord) → Rise (line_places (line n text (indent_of text) (Tags (tag_list o (tags_of text)))))
+    add_tags None = words_rise n 0 (tags_of text) (tags_rise text)
+    add_tags (Some w) = tt
 
 -- ---- lines
 

@@ -10,7 +10,7 @@ use Rattle.gk_grammar.specs.declared.fault.FaultKind.{FaultKind}
 use Rattle.gk_grammar.specs.declared.fault.FaultKind.TheVariants as kind
 use Rattle.gk_document.specs.declared.tree.KeywordType.TheVariants as keyword_type
 use Rattle.gk_grammar.specs.Token.{Text, TagText, Blank, Comment, Language, Tags, Title, Step, Row, Fenced, Line, line}
-use Rattle.gk_grammar.specs.Machine.{Chunk, State, Bad, run, closed, initial}
+use Rattle.gk_grammar.specs.Machine.{FlatBlock, State, Bad, run, blocks_at_end, initial}
 
 abbrev title : ℕ → ℕ → Block → Line
 title n i b = line n [] i (Title b [] [])
@@ -33,12 +33,12 @@ data Seen : Type 0 where
   Cut : ℕ → Seen
   Fault : FaultKind → (line column : ℕ) → Seen
 
-abbrev seen_end : State → Option (List Chunk) → Seen
-seen_end s (Some last) = Whole s.nodes (map (λ (c : Chunk). (c.block, c.node)) (s.chunks ++ last))
+abbrev seen_end : State → Option (List FlatBlock) → Seen
+seen_end s (Some last) = Whole s.nodes (map (λ (c : FlatBlock). (c.block, c.node)) (s.flat_blocks ++ last))
 seen_end s None = Cut s.nodes
 
 abbrev seen : Result State Bad → Seen
-seen (Ok s) = seen_end s (closed s.phase)
+seen (Ok s) = seen_end s (blocks_at_end s.phase)
 seen (Err b) = Fault b.kind b.line b.column
 
 abbrev of : List Line → Seen
@@ -53,21 +53,21 @@ outline : of (
 outline = refl
 
 -- a step and a row in a feature's description
-in_description : of (title 1 0 block.Feature ∷ a_step 2 2 ∷ a_row 3 2 (a_cell ∷ []) ∷ []) ≡ Whole 0 ((block.Feature, 0) ∷ [])
-in_description = refl
+step_in_description : of (title 1 0 block.Feature ∷ a_step 2 2 ∷ a_row 3 2 (a_cell ∷ []) ∷ []) ≡ Whole 0 ((block.Feature, 0) ∷ [])
+step_in_description = refl
 
 -- a step first
 too_early : of (a_step 1 0 ∷ title 2 0 block.Feature ∷ []) ≡ Fault kind.Unexpected 1 1
 too_early = refl
 
--- a background in a scenario's description, and behind its steps
+-- a background in a scenario's description, and after its steps
 background_text : of (title 1 0 block.Feature ∷ title 2 2 block.Scenario ∷ title 3 2 block.Background ∷ []) ≡ Whole 1 ((block.Feature, 0) ∷ (block.Scenario, 0) ∷ [])
 background_text = refl
 
 background_late : of (title 1 0 block.Feature ∷ title 2 2 block.Scenario ∷ a_step 3 4 ∷ title 4 2 block.Background ∷ []) ≡ Fault kind.Unexpected 4 3
 background_late = refl
 
--- a fence behind a table
+-- a fence after a table
 fence_late : of (title 1 0 block.Feature ∷ title 2 2 block.Scenario ∷ a_step 3 4 ∷ a_row 4 4 (a_cell ∷ []) ∷ line 5 [] 4 (Fenced fence.Quotes []) ∷ []) ≡ Fault kind.Unexpected 5 5
 fence_late = refl
 
@@ -75,7 +75,7 @@ fence_late = refl
 counts_differ : of (title 1 0 block.Feature ∷ title 2 2 block.Scenario ∷ a_step 3 4 ∷ a_row 4 6 (a_cell ∷ a_cell ∷ []) ∷ a_row 5 6 (a_cell ∷ a_cell ∷ a_cell ∷ []) ∷ []) ≡ Fault kind.CellCount 5 7
 counts_differ = refl
 
--- a language line behind tags is a comment, another language than English is refused, one alone is cut
+-- a language line after tags is a comment, another language than English is refused, one alone is cut
 tags_first : of (line 1 [] 0 (Tags (Ok (a_tag 1 ∷ []))) ∷ line 2 [] 0 (Language (102 ∷ 114 ∷ [])) ∷ title 3 0 block.Feature ∷ []) ≡ Whole 1 ((block.Feature, 1) ∷ [])
 tags_first = refl
 
@@ -174,7 +174,7 @@ feature_as_text = refl
 second_feature : of (scenario_with_step ++ title 4 0 block.Feature ∷ []) ≡ Fault kind.Unexpected 4 1
 second_feature = refl
 
--- a language line behind the feature line, and one behind the language line, are comments
+-- a language line after the feature line, and one after the language line, are comments
 french_behind_feature : of (title 1 0 block.Feature ∷ language 2 (102 ∷ 114 ∷ []) ∷ []) ≡ Whole 0 ((block.Feature, 0) ∷ [])
 french_behind_feature = refl
 

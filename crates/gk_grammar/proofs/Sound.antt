@@ -8,20 +8,20 @@ use Rattle.gk_grammar.specs.Token.{Text, Blank, Comment, Language, Tags, Title, 
 use Rattle.gk_grammar.specs.Tree as tree
 use Rattle.gk_grammar.specs.Tree.{Tag}
 use Rattle.gk_grammar.specs.Grammar.{Then, Each, OneLine, comments_of, TagLines, Titled, stops, description_of, IsStep, IsTable, IsPlainGap, IsOpening, IsEnglish, english}
-use Rattle.gk_grammar.specs.Machine.{Chunk, Phase, Before, Spoken, Tagged, Described, Stepping, Quoting, Listing, State, Bad, next, at_phase, run, ◌>>=◌, initial, closed, described, entering, empty_body, step_at, row_at, same_text, beginning, before_feature, spoken, behind_tags, passing, follows, takes_tags}
+use Rattle.gk_grammar.specs.Machine.{FlatBlock, Phase, Start, AfterLanguage, AfterTags, InDescription, AfterStep, InDocString, InExamplesTable, State, Bad, next, at_phase, run, ◌>>=◌, initial, blocks_at_end, with_description, after_description, empty_body, step_at, row_at, same_text, before_first_block, at_start, after_language, after_tags, pass_over, follows, takes_tags}
 use Rattle.gk_grammar.proofs.Pieces.{extended, mapped, joined, then_empty, with_line, lengthened, gap_takes, one_line_takes, all_more, comments_of-append}
-use Rattle.gk_grammar.proofs.Open.{IsBody, has_steps, IsHead, IsChunk, TitledYet, IsOpen, IsDone, Holds, StateHolds, step_line, one_row, cond_ok, ChunkTags, chunk_tags, SomeTagLines, some_are, tags_take, no_tags, title_opens, tags_open, leaving_holds, stepping_holds, quoting_holds, listing_holds}
+use Rattle.gk_grammar.proofs.Open.{IsBody, has_steps, IsHead, IsFlatBlock, TitledYet, IsOpen, IsDone, Holds, StateHolds, step_line, one_row, cond_ok, FlatBlockTags, flat_block_tags, SomeTagLines, some_are, tags_take, no_tags, title_opens, tags_open, leaving_holds, stepping_holds, quoting_holds, listing_holds}
 
--- ---- behind a title line
+-- ---- after a title line
 
-head_is : (c : Chunk) (lines : List Line) (ls : List Line) (cs : List tree.Comment) → Then (ChunkTags c.block c.tags) (TitledYet c lines) ls cs → IsHead (described c lines) ls cs
-head_is c lines ls cs t = mapped (ChunkTags c.block c.tags) (TitledYet c lines) (Titled c.block c.place c.keyword c.name (description_of lines)) (λ xs ys q. go xs ys q) ls cs t
+head_is : (c : FlatBlock) (lines : List Line) (ls : List Line) (cs : List tree.Comment) → Then (FlatBlockTags c.block c.tags) (TitledYet c lines) ls cs → IsHead (with_description c lines) ls cs
+head_is c lines ls cs t = mapped (FlatBlockTags c.block c.tags) (TitledYet c lines) (Titled c.block c.place c.keyword c.name (description_of lines)) (λ xs ys q. go xs ys q) ls cs t
   where
     go : (xs : List Line) (ys : List tree.Comment) → TitledYet c lines xs ys → Titled c.block c.place c.keyword c.name (description_of lines) xs ys
     go [] ys q = absurd q
     go (x ∷ xs) ys q = (q.0, q.1, ap description_of q.2, q.3)
 
-titled_more : (c : Chunk) (lines : List Line) (l : Line) → IsFalse (stops c.block l) →
+titled_more : (c : FlatBlock) (lines : List Line) (l : Line) → IsFalse (stops c.block l) →
     (xs : List Line) (ys : List tree.Comment) → TitledYet c lines xs ys → TitledYet c (lines ++ l ∷ []) (xs ++ l ∷ []) (ys ++ comments_of (l ∷ []))
 titled_more c lines l h [] ys q = absurd q
 titled_more c lines l h (x ∷ xs) ys q =
@@ -49,63 +49,63 @@ no_body block.Scenario = (refl, refl)
 no_body block.Examples = (refl, refl)
 
 -- a block that ends with its description
-pub description_closes : (s : State) (c : Chunk) (lines ls : List Line) →
-    Then (IsDone s.chunks) (IsOpen (Described c lines)) ls s.comments → Then (IsDone s.chunks) (IsChunk (described c lines)) ls s.comments
+pub description_closes : (s : State) (c : FlatBlock) (lines ls : List Line) →
+    Then (IsDone s.flat_blocks) (IsOpen (InDescription c lines)) ls s.comments → Then (IsDone s.flat_blocks) (IsFlatBlock (with_description c lines)) ls s.comments
 description_closes s c lines ls h =
-    mapped (IsDone s.chunks) (IsOpen (Described c lines)) (IsChunk (described c lines))
-    (λ xs ys q. then_empty (IsHead (described c lines)) (IsBody c.block c.body) xs ys (head_is c lines xs ys q.1) (rw q.0 (no_body c.block))) ls s.comments h
+    mapped (IsDone s.flat_blocks) (IsOpen (InDescription c lines)) (IsFlatBlock (with_description c lines))
+    (λ xs ys q. then_empty (IsHead (with_description c lines)) (IsBody c.block c.body) xs ys (head_is c lines xs ys q.1) (rw q.0 (no_body c.block))) ls s.comments h
 
-entering_holds : (s : State) (c : Chunk) (lines : List Line) (l : Line) (ls : List Line) → stops c.block l ≡ true →
-    Then (IsDone s.chunks) (IsOpen (Described c lines)) ls s.comments → IfOk (entering s (described c lines) l) (StateHolds (ls ++ l ∷ []))
+entering_holds : (s : State) (c : FlatBlock) (lines : List Line) (l : Line) (ls : List Line) → stops c.block l ≡ true →
+    Then (IsDone s.flat_blocks) (IsOpen (InDescription c lines)) ls s.comments → IfOk (after_description s (with_description c lines) l) (StateHolds (ls ++ l ∷ []))
 entering_holds s c lines (line n t i (Step k y m)) ls e h =
-    lengthened (IsDone s.chunks) (IsOpen (Described c lines)) (IsOpen (Stepping (described c lines) [] (step_at s n i k y m))) (line n t i (Step k y m))
+    lengthened (IsDone s.flat_blocks) (IsOpen (InDescription c lines)) (IsOpen (AfterStep (with_description c lines) [] (step_at s n i k y m))) (line n t i (Step k y m))
     (λ xs ys q. (
       step_stops c.block n i t k m y e,
-      joined (IsHead (described c lines)) (Then (Each IsStep []) (IsStep (step_at s n i k y m))) xs (line n t i (Step k y m) ∷ []) ys []
+      joined (IsHead (with_description c lines)) (Then (Each IsStep []) (IsStep (step_at s n i k y m))) xs (line n t i (Step k y m) ∷ []) ys []
           (head_is c lines xs ys q.1) (joined (Each IsStep []) (IsStep (step_at s n i k y m)) [] (line n t i (Step k y m) ∷ []) [] [] (refl, refl) (step_line (step_at s n i k y m) (line n t i (Step k y m)) (refl, refl, refl, refl) refl)),
     )) ls s.comments h
 entering_holds s c lines (line n t i (Row cells)) ls e h =
-    lengthened (IsDone s.chunks) (IsOpen (Described c lines)) (IsOpen (Listing (described c lines) (row_at s n i cells ∷ []))) (line n t i (Row cells))
+    lengthened (IsDone s.flat_blocks) (IsOpen (InDescription c lines)) (IsOpen (InExamplesTable (with_description c lines) (row_at s n i cells ∷ []))) (line n t i (Row cells))
     (λ xs ys q. (
       row_stops c.block n i t cells e,
-      joined (IsHead (described c lines)) (IsTable (row_at s n i cells ∷ [])) xs (line n t i (Row cells) ∷ []) ys []
+      joined (IsHead (with_description c lines)) (IsTable (row_at s n i cells ∷ [])) xs (line n t i (Row cells) ∷ []) ys []
           (head_is c lines xs ys q.1) (one_row (row_at s n i cells) (line n t i (Row cells)) (refl, refl)),
     )) ls s.comments h
 entering_holds s c lines (line n t i Blank) ls e h = tt
 entering_holds s c lines (line n t i Comment) ls e h = tt
 entering_holds s c lines (line n t i (Language w)) ls e h = tt
-entering_holds s c lines (line n t i (Tags r)) ls e h = leaving_holds s (described c lines) (line n t i (Tags r)) ls (description_closes s c lines ls h)
-entering_holds s c lines (line n t i (Title b k m)) ls e h = leaving_holds s (described c lines) (line n t i (Title b k m)) ls (description_closes s c lines ls h)
+entering_holds s c lines (line n t i (Tags r)) ls e h = leaving_holds s (with_description c lines) (line n t i (Tags r)) ls (description_closes s c lines ls h)
+entering_holds s c lines (line n t i (Title b k m)) ls e h = leaving_holds s (with_description c lines) (line n t i (Title b k m)) ls (description_closes s c lines ls h)
 entering_holds s c lines (line n t i (Fenced f m)) ls e h = tt
 entering_holds s c lines (line n t i Other) ls e h = tt
 
-described_holds : (s : State) (c : Chunk) (lines : List Line) (l : Line) (ls : List Line) →
-    Then (IsDone s.chunks) (IsOpen (Described c lines)) ls s.comments → IfOk (at_phase s (Described c lines) l) (StateHolds (ls ++ l ∷ []))
+described_holds : (s : State) (c : FlatBlock) (lines : List Line) (l : Line) (ls : List Line) →
+    Then (IsDone s.flat_blocks) (IsOpen (InDescription c lines)) ls s.comments → IfOk (at_phase s (InDescription c lines) l) (StateHolds (ls ++ l ∷ []))
 described_holds s c lines l ls h =
     cond_ok (StateHolds (ls ++ l ∷ [])) (stops c.block l) _ _
     (λ test. entering_holds s c lines l ls test h)
-    (λ test. extended (IsDone s.chunks) (IsOpen (Described c lines)) (IsOpen (Described c (lines ++ l ∷ []))) (l ∷ []) (comments_of (l ∷ []))
-    (λ xs ys q. (q.0, extended (ChunkTags c.block c.tags) (TitledYet c lines) (TitledYet c (lines ++ l ∷ [])) (l ∷ []) (comments_of (l ∷ [])) (λ us vs r. titled_more c lines l test us vs r) xs ys q.1)) ls s.comments h)
+    (λ test. extended (IsDone s.flat_blocks) (IsOpen (InDescription c lines)) (IsOpen (InDescription c (lines ++ l ∷ []))) (l ∷ []) (comments_of (l ∷ []))
+    (λ xs ys q. (q.0, extended (FlatBlockTags c.block c.tags) (TitledYet c lines) (TitledYet c (lines ++ l ∷ [])) (l ∷ []) (comments_of (l ∷ [])) (λ us vs r. titled_more c lines l test us vs r) xs ys q.1)) ls s.comments h)
 
--- ---- behind tag lines
+-- ---- after tag lines
 
 tags_gap : (s : State) (before : Option Block) (tags : List Tag) (l : Line) → IsTrue (is_gap l) → (ls : List Line) →
-    Then (IsDone s.chunks) (IsOpen (Tagged before tags)) ls s.comments → StateHolds (ls ++ l ∷ []) (passing s (Tagged before tags) l)
-tags_gap s before tags l g ls h = extended (IsDone s.chunks) (SomeTagLines tags) (SomeTagLines tags) (l ∷ []) (comments_of (l ∷ [])) (λ xs ys q. tags_take tags xs ys l g q) ls s.comments h
+    Then (IsDone s.flat_blocks) (IsOpen (AfterTags before tags)) ls s.comments → StateHolds (ls ++ l ∷ []) (pass_over s (AfterTags before tags) l)
+tags_gap s before tags l g ls h = extended (IsDone s.flat_blocks) (SomeTagLines tags) (SomeTagLines tags) (l ∷ []) (comments_of (l ∷ [])) (λ xs ys q. tags_take tags xs ys l g q) ls s.comments h
 
-some_tags : (s : State) (tags : List Tag) (ls : List Line) → Then (IsDone s.chunks) (SomeTagLines tags) ls s.comments → Then (IsDone s.chunks) (TagLines tags) ls s.comments
-some_tags s tags ls h = mapped (IsDone s.chunks) (SomeTagLines tags) (TagLines tags) (λ xs ys q. some_are tags xs ys q) ls s.comments h
+some_tags : (s : State) (tags : List Tag) (ls : List Line) → Then (IsDone s.flat_blocks) (SomeTagLines tags) ls s.comments → Then (IsDone s.flat_blocks) (TagLines tags) ls s.comments
+some_tags s tags ls h = mapped (IsDone s.flat_blocks) (SomeTagLines tags) (TagLines tags) (λ xs ys q. some_are tags xs ys q) ls s.comments h
 
 behind_tags_holds : (s : State) (before : Option Block) (tags : List Tag) (l : Line) (ls : List Line) →
-    Then (IsDone s.chunks) (SomeTagLines tags) ls s.comments → IfOk (behind_tags s before tags l) (StateHolds (ls ++ l ∷ []))
+    Then (IsDone s.flat_blocks) (SomeTagLines tags) ls s.comments → IfOk (after_tags s before tags l) (StateHolds (ls ++ l ∷ []))
 behind_tags_holds s before tags (line n t i Blank) ls h = tags_gap s before tags (line n t i Blank) refl ls h
 behind_tags_holds s before tags (line n t i Comment) ls h = tags_gap s before tags (line n t i Comment) refl ls h
 behind_tags_holds s before tags (line n t i (Language w)) ls h = tags_gap s before tags (line n t i (Language w)) refl ls h
-behind_tags_holds s before tags (line n t i (Tags (Ok words))) ls h = tags_open s s.chunks before tags n i t words ls (some_tags s tags ls h)
+behind_tags_holds s before tags (line n t i (Tags (Ok words))) ls h = tags_open s s.flat_blocks before tags n i t words ls (some_tags s tags ls h)
 behind_tags_holds s before tags (line n t i (Tags (Err column))) ls h = tt
 behind_tags_holds s before tags (line n t i (Title b k m)) ls h =
     cond_ok (StateHolds (ls ++ line n t i (Title b k m) ∷ [])) (follows before b) _ _
-    (λ _. cond_ok (StateHolds (ls ++ line n t i (Title b k m) ∷ [])) (takes_tags b) _ _ (λ takes. title_opens s s.chunks b tags n i t k m ls (mapped (IsDone s.chunks) (TagLines tags) (ChunkTags b tags) (λ xs ys q. chunk_tags b tags takes xs ys q) ls s.comments (some_tags s tags ls h))) (λ _. tt)) (λ _. tt)
+    (λ _. cond_ok (StateHolds (ls ++ line n t i (Title b k m) ∷ [])) (takes_tags b) _ _ (λ takes. title_opens s s.flat_blocks b tags n i t k m ls (mapped (IsDone s.flat_blocks) (TagLines tags) (FlatBlockTags b tags) (λ xs ys q. flat_block_tags b tags takes xs ys q) ls s.comments (some_tags s tags ls h))) (λ _. tt)) (λ _. tt)
 behind_tags_holds s before tags (line n t i _) ls h = tt
 
 -- ---- before the feature
@@ -124,43 +124,43 @@ plain_takes : (l : Line) → IsTrue (is_gap l) → IsFalse (is_language l) → (
 plain_takes l g h xs ys q = (all_more (λ z. IsFalse (is_language z)) xs l q.0 h, gap_takes xs ys l g q.1)
 
 -- nothing but the lines before the feature
-opening_done : (chunks : List Chunk) → chunks ≡ [] → (ls : List Line) (cs : List tree.Comment) → IsOpening ls cs → Then (IsDone chunks) (TagLines []) ls cs
-opening_done chunks e ls cs h = then_empty (IsDone chunks) (TagLines []) ls cs (then_empty IsOpening (Each IsChunk chunks) ls cs h (rw e (refl, refl))) no_tags
+opening_done : (flat_blocks : List FlatBlock) → flat_blocks ≡ [] → (ls : List Line) (cs : List tree.Comment) → IsOpening ls cs → Then (IsDone flat_blocks) (TagLines []) ls cs
+opening_done flat_blocks e ls cs h = then_empty (IsDone flat_blocks) (TagLines []) ls cs (then_empty IsOpening (Each IsFlatBlock flat_blocks) ls cs h (rw e (refl, refl))) no_tags
 
-beginning_holds : (s : State) (p : Phase) (l : Line) (ls : List Line) → s.chunks ≡ [] → IsOpening ls s.comments →
-    (IsTrue (is_gap l) → IsFalse (is_language l) → StateHolds (ls ++ l ∷ []) (passing s p l)) → IfOk (beginning s p l) (StateHolds (ls ++ l ∷ []))
+beginning_holds : (s : State) (p : Phase) (l : Line) (ls : List Line) → s.flat_blocks ≡ [] → IsOpening ls s.comments →
+    (IsTrue (is_gap l) → IsFalse (is_language l) → StateHolds (ls ++ l ∷ []) (pass_over s p l)) → IfOk (before_first_block s p l) (StateHolds (ls ++ l ∷ []))
 beginning_holds s p (line n t i Blank) ls e h g = g refl refl
 beginning_holds s p (line n t i Comment) ls e h g = g refl refl
-beginning_holds s p (line n t i (Tags (Ok words))) ls e h g = tags_open s s.chunks None [] n i t words ls (opening_done s.chunks e ls s.comments h)
+beginning_holds s p (line n t i (Tags (Ok words))) ls e h g = tags_open s s.flat_blocks None [] n i t words ls (opening_done s.flat_blocks e ls s.comments h)
 beginning_holds s p (line n t i (Tags (Err column))) ls e h g = tt
-beginning_holds s p (line n t i (Title block.Feature k m)) ls e h g = title_opens s s.chunks block.Feature [] n i t k m ls (opening_done s.chunks e ls s.comments h)
+beginning_holds s p (line n t i (Title block.Feature k m)) ls e h g = title_opens s s.flat_blocks block.Feature [] n i t k m ls (opening_done s.flat_blocks e ls s.comments h)
 beginning_holds s p (line n t i (Title _ k m)) ls e h g = tt
 beginning_holds s p (line n t i _) ls e h g = tt
 
-before_holds : (s : State) (l : Line) (ls : List Line) → s.chunks ≡ [] → IsPlainGap ls s.comments → IfOk (before_feature s l) (StateHolds (ls ++ l ∷ []))
+before_holds : (s : State) (l : Line) (ls : List Line) → s.flat_blocks ≡ [] → IsPlainGap ls s.comments → IfOk (at_start s l) (StateHolds (ls ++ l ∷ []))
 before_holds s (line n t i (Language w)) ls e h =
     cond_ok (StateHolds (ls ++ line n t i (Language w) ∷ [])) (same_text w english) _ _
     (λ test. (e, with_line IsPlainGap (OneLine IsEnglish) (line n t i (Language w)) (same_text_is w english test, (tt, refl)) ls s.comments h))
     (λ _. tt)
-before_holds s (line n t i k) ls e h = beginning_holds s Before (line n t i k) ls e (inl h) (λ g f. (e, plain_takes (line n t i k) g f ls s.comments h))
+before_holds s (line n t i k) ls e h = beginning_holds s Start (line n t i k) ls e (inl h) (λ g f. (e, plain_takes (line n t i k) g f ls s.comments h))
 
-spoken_gap : (s : State) (l : Line) → IsTrue (is_gap l) → (ls : List Line) → s.chunks ≡ [] → Then IsPlainGap (OneLine IsEnglish) ls s.comments → StateHolds (ls ++ l ∷ []) (passing s Spoken l)
+spoken_gap : (s : State) (l : Line) → IsTrue (is_gap l) → (ls : List Line) → s.flat_blocks ≡ [] → Then IsPlainGap (OneLine IsEnglish) ls s.comments → StateHolds (ls ++ l ∷ []) (pass_over s AfterLanguage l)
 spoken_gap s l g ls e h = (e, extended IsPlainGap (OneLine IsEnglish) (OneLine IsEnglish) (l ∷ []) (comments_of (l ∷ [])) (λ xs ys q. one_line_takes IsEnglish xs ys l g q) ls s.comments h)
 
-spoken_holds : (s : State) (l : Line) (ls : List Line) → s.chunks ≡ [] → Then IsPlainGap (OneLine IsEnglish) ls s.comments → IfOk (spoken s l) (StateHolds (ls ++ l ∷ []))
+spoken_holds : (s : State) (l : Line) (ls : List Line) → s.flat_blocks ≡ [] → Then IsPlainGap (OneLine IsEnglish) ls s.comments → IfOk (after_language s l) (StateHolds (ls ++ l ∷ []))
 spoken_holds s (line n t i (Language w)) ls e h = spoken_gap s (line n t i (Language w)) refl ls e h
-spoken_holds s (line n t i k) ls e h = beginning_holds s Spoken (line n t i k) ls e (inr h) (λ g f. spoken_gap s (line n t i k) g ls e h)
+spoken_holds s (line n t i k) ls e h = beginning_holds s AfterLanguage (line n t i k) ls e (inr h) (λ g f. spoken_gap s (line n t i k) g ls e h)
 
 -- ---- any line
 
-at_phase_holds : (s : State) (p : Phase) (l : Line) (ls : List Line) → Holds p s.chunks ls s.comments → IfOk (at_phase s p l) (StateHolds (ls ++ l ∷ []))
-at_phase_holds s Before l ls h = before_holds s l ls h.0 h.1
-at_phase_holds s Spoken l ls h = spoken_holds s l ls h.0 h.1
-at_phase_holds s (Tagged before tags) l ls h = behind_tags_holds s before tags l ls h
-at_phase_holds s (Described c lines) l ls h = described_holds s c lines l ls h
-at_phase_holds s (Stepping c before last) l ls h = stepping_holds s c before last l ls h
-at_phase_holds s (Quoting c before last q inside) l ls h = quoting_holds s c before last q inside l ls h
-at_phase_holds s (Listing c rows) l ls h = listing_holds s c rows l ls h
+at_phase_holds : (s : State) (p : Phase) (l : Line) (ls : List Line) → Holds p s.flat_blocks ls s.comments → IfOk (at_phase s p l) (StateHolds (ls ++ l ∷ []))
+at_phase_holds s Start l ls h = before_holds s l ls h.0 h.1
+at_phase_holds s AfterLanguage l ls h = spoken_holds s l ls h.0 h.1
+at_phase_holds s (AfterTags before tags) l ls h = behind_tags_holds s before tags l ls h
+at_phase_holds s (InDescription c lines) l ls h = described_holds s c lines l ls h
+at_phase_holds s (AfterStep c before last) l ls h = stepping_holds s c before last l ls h
+at_phase_holds s (InDocString c before last q inside) l ls h = quoting_holds s c before last q inside l ls h
+at_phase_holds s (InExamplesTable c rows) l ls h = listing_holds s c rows l ls h
 
 pub run_holds : (ls : List Line) (s : State) (read : List Line) → StateHolds read s → IfOk (run s ls) (StateHolds (read ++ ls))
 run_holds [] s read h = rw append-nil h
@@ -177,5 +177,5 @@ starts = (refl, (tt, (tt, refl)))
 
 -- ---- the end
 
-pub ended : State → List Chunk → Type 0
-ended s last = closed s.phase ≡ Some last
+pub ended : State → List FlatBlock → Type 0
+ended s last = blocks_at_end s.phase ≡ Some last

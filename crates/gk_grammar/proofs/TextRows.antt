@@ -16,7 +16,7 @@ use Rattle.gk_grammar.specs.Token.{Text, token_of}
 use Rattle.gk_grammar.specs.Tree as tree
 use Rattle.gk_grammar.specs.Grammar.{at, Node, feature_nodes}
 use Rattle.gk_grammar.specs.Documents as documents
-use Rattle.gk_grammar.specs.Machine.{Chunk, State, Bad, run, closed, initial}
+use Rattle.gk_grammar.specs.Machine.{FlatBlock, State, Bad, run, blocks_at_end, initial}
 use Rattle.gk_grammar.specs.Assembly.{document_of}
 
 -- what a text comes to: its nodes with their places, and the places of its comments; or its fault
@@ -24,12 +24,12 @@ data Outcome : Type 0 where
   Whole : List Node → List tree.Location → Outcome
   Fault : FaultKind → (line column : ℕ) → Outcome
 
-abbrev ended : State → (lines : ℕ) → Option (List Chunk) → Outcome
+abbrev ended : State → (lines : ℕ) → Option (List FlatBlock) → Outcome
 ended s n None = Fault kind.UnexpectedEnd (n + 1) 1
 ended s n (Some last) = Whole (feature_nodes (document_of s last).feature) (map (λ (c : tree.Comment). c.location) s.comments)
 
 abbrev seen : (lines : ℕ) → Result State Bad → Outcome
-seen n (Ok s) = ended s n (closed s.phase)
+seen n (Ok s) = ended s n (blocks_at_end s.phase)
 seen n (Err b) = Fault b.kind b.line b.column
 
 abbrev outcome : List ℕ → Outcome
@@ -40,12 +40,12 @@ abbrev option_list : {A : Type 0} → Option A → List A
 option_list None = []
 option_list (Some x) = x ∷ []
 
-abbrev last_feature : State → Option (List Chunk) → List tree.Feature
+abbrev last_feature : State → Option (List FlatBlock) → List tree.Feature
 last_feature s None = []
 last_feature s (Some last) = option_list (document_of s last).feature
 
 abbrev run_features : Result State Bad → List tree.Feature
-run_features (Ok s) = last_feature s (closed s.phase)
+run_features (Ok s) = last_feature s (blocks_at_end s.phase)
 run_features (Err b) = []
 
 abbrev features : List ℕ → List tree.Feature
@@ -69,7 +69,7 @@ other_language : outcome (codes "# language: fr\nFeature: x") ≡ Fault kind.Uns
 unfolding documents.lines_read lines.lines_of lines.numbered_lines lines.without_mark str.chars token_of tokens.is_blank_line tokens.begins_by texts.after texts.body_of texts.first_some tokens.title_of tokens.step_of tokens.fence_of tokens.language_of tokens.indent_of lib.Utf8.encode texts.trimmed cells.cells_of cells.units tags.tags_of tags.tag_pieces tags.spaced_piece tags.uncommented doc_strings.doc_line_of doc_strings.outdented
 other_language = refl
 
--- a language line behind the feature line is a comment
+-- a language line after the feature line is a comment
 language_behind_feature : outcome (codes "Feature: x\n# language: fr") ≡ Whole [] (at 2 1 ∷ [])
 unfolding documents.lines_read lines.lines_of lines.numbered_lines lines.without_mark str.chars token_of tokens.is_blank_line tokens.begins_by texts.after texts.body_of texts.first_some tokens.title_of tokens.step_of tokens.fence_of tokens.language_of tokens.indent_of lib.Utf8.encode texts.trimmed cells.cells_of cells.units tags.tags_of tags.tag_pieces tags.spaced_piece tags.uncommented doc_strings.doc_line_of doc_strings.outdented
 language_behind_feature = refl

@@ -1,4 +1,4 @@
--- A tree is its chunks.
+-- A tree is its flat blocks.
 use Rattle.std.proofs.Common.{◌≡◌, true, List, [], ◌∷◌, ◌++◌, length, Option, Some, None, refl, sym, subst, append_assoc}
 use Rattle.std.specs.Prelude.{map}
 use Rattle.std.specs.List.{flat_map}
@@ -9,17 +9,17 @@ use Rattle.gk_grammar.specs.Tree as tree
 use Rattle.gk_grammar.specs.Tree.{Tag, Background, ExampleTable, Examples, Scenario, Rule, Feature}
 use Rattle.gk_grammar.specs.Grammar.{Piece, Then, Each, AtMostOne, TagLines, Titled, IsStep, IsExampleTable, table_rows, IsBackground, IsExamples, IsScenario, IsRule, IsFeature}
 use Rattle.gk_grammar.specs.Assembly.{table_of}
-use Rattle.gk_grammar.specs.Machine.{Bare, Steps, Rows, Chunk, follows}
+use Rattle.gk_grammar.specs.Machine.{Bare, Steps, Rows, FlatBlock, follows}
 use Rattle.gk_grammar.proofs.Pieces.{mapped, to_right, to_left, then_nothing, nothing_then, only_first, each_both, each_apart}
-use Rattle.gk_grammar.proofs.Open.{IsRows, IsHead, IsChunk, ChunkTags}
+use Rattle.gk_grammar.proofs.Open.{IsRows, IsHead, IsFlatBlock, FlatBlockTags}
 use Rattle.gk_grammar.proofs.Whole.{Linked}
 
-abbrev pub background_chunks : Option Background → List Chunk
-background_chunks None = []
-background_chunks (Some b) = record { block = block.Background; node = b.node; place = b.location; tags = []; keyword = b.keyword; name = b.name; description = b.description; body = Steps b.steps } ∷ []
+abbrev pub background_flat_blocks : Option Background → List FlatBlock
+background_flat_blocks None = []
+background_flat_blocks (Some b) = record { block = block.Background; node = b.node; place = b.location; tags = []; keyword = b.keyword; name = b.name; description = b.description; body = Steps b.steps } ∷ []
 
-abbrev pub examples_chunk : Examples → Chunk
-examples_chunk e = record { block = block.Examples; node = e.node; place = e.location; tags = e.tags; keyword = e.keyword; name = e.name; description = e.description; body = Rows (table_rows e.table) }
+abbrev pub examples_flat_block : Examples → FlatBlock
+examples_flat_block e = record { block = block.Examples; node = e.node; place = e.location; tags = e.tags; keyword = e.keyword; name = e.name; description = e.description; body = Rows (table_rows e.table) }
 
 pub rows_table : (rs : List tree.Row) → table_rows (table_of rs) ≡ rs
 rows_table [] = refl
@@ -29,24 +29,24 @@ pub table_again : (t : Option ExampleTable) → table_of (table_rows t) ≡ t
 table_again None = refl
 table_again (Some t) = refl
 
-abbrev pub scenario_chunk : Scenario → Chunk
-scenario_chunk s = record { block = block.Scenario; node = s.node; place = s.location; tags = s.tags; keyword = s.keyword; name = s.name; description = s.description; body = Steps s.steps }
+abbrev pub scenario_flat_block : Scenario → FlatBlock
+scenario_flat_block s = record { block = block.Scenario; node = s.node; place = s.location; tags = s.tags; keyword = s.keyword; name = s.name; description = s.description; body = Steps s.steps }
 
-abbrev pub scenario_chunks : Scenario → List Chunk
-scenario_chunks s = scenario_chunk s ∷ map examples_chunk s.examples
+abbrev pub scenario_flat_blocks : Scenario → List FlatBlock
+scenario_flat_blocks s = scenario_flat_block s ∷ map examples_flat_block s.examples
 
-abbrev pub rule_chunk : Rule → Chunk
-rule_chunk r = record { block = block.Rule; node = r.node; place = r.location; tags = r.tags; keyword = r.keyword; name = r.name; description = r.description; body = Bare }
+abbrev pub rule_flat_block : Rule → FlatBlock
+rule_flat_block r = record { block = block.Rule; node = r.node; place = r.location; tags = r.tags; keyword = r.keyword; name = r.name; description = r.description; body = Bare }
 
-abbrev pub rule_chunks : Rule → List Chunk
-rule_chunks r = rule_chunk r ∷ (background_chunks r.background ++ flat_map scenario_chunks r.scenarios)
+abbrev pub rule_flat_blocks : Rule → List FlatBlock
+rule_flat_blocks r = rule_flat_block r ∷ (background_flat_blocks r.background ++ flat_map scenario_flat_blocks r.scenarios)
 
--- a feature has no number: its chunk has the one that the next node has
-abbrev pub feature_chunk : Feature → Chunk
-feature_chunk f = record { block = block.Feature; node = length f.tags; place = f.location; tags = f.tags; keyword = f.keyword; name = f.name; description = f.description; body = Bare }
+-- a feature has no number: its flat block has the one that the next node has
+abbrev pub feature_flat_block : Feature → FlatBlock
+feature_flat_block f = record { block = block.Feature; node = length f.tags; place = f.location; tags = f.tags; keyword = f.keyword; name = f.name; description = f.description; body = Bare }
 
-abbrev pub feature_chunks : Feature → List Chunk
-feature_chunks f = feature_chunk f ∷ (background_chunks f.background ++ (flat_map scenario_chunks f.scenarios ++ flat_map rule_chunks f.rules))
+abbrev pub feature_flat_blocks : Feature → List FlatBlock
+feature_flat_blocks f = feature_flat_block f ∷ (background_flat_blocks f.background ++ (flat_map scenario_flat_blocks f.scenarios ++ flat_map rule_flat_blocks f.rules))
 
 -- each by each
 each_map : {A B : Type 0} (P : A → Piece) (Q : B → Piece) (f : A → B) → ((x : A) (ls : List Line) (cs : List tree.Comment) → P x ls cs → Q (f x) ls cs) →
@@ -115,12 +115,12 @@ rows_from : (t : Option ExampleTable) (ls : List Line) (cs : List tree.Comment) 
 rows_from None ls cs h = h
 rows_from (Some t) ls cs h = h
 
-examples_to : (e : Examples) (ls : List Line) (cs : List tree.Comment) → IsExamples e ls cs → IsChunk (examples_chunk e) ls cs
+examples_to : (e : Examples) (ls : List Line) (cs : List tree.Comment) → IsExamples e ls cs → IsFlatBlock (examples_flat_block e) ls cs
 examples_to e ls cs t =
     mapped (Then (TagLines e.tags) (Titled block.Examples e.location e.keyword e.name e.description)) (AtMostOne IsExampleTable e.table) (IsRows (table_rows e.table)) (rows_to e.table) ls cs
     (to_left (TagLines e.tags) (Titled block.Examples e.location e.keyword e.name e.description) (AtMostOne IsExampleTable e.table) ls cs t)
 
-examples_from : (e : Examples) (ls : List Line) (cs : List tree.Comment) → IsChunk (examples_chunk e) ls cs → IsExamples e ls cs
+examples_from : (e : Examples) (ls : List Line) (cs : List tree.Comment) → IsFlatBlock (examples_flat_block e) ls cs → IsExamples e ls cs
 examples_from e ls cs t =
     to_right (TagLines e.tags) (Titled block.Examples e.location e.keyword e.name e.description) (AtMostOne IsExampleTable e.table) ls cs
     (mapped (Then (TagLines e.tags) (Titled block.Examples e.location e.keyword e.name e.description)) (IsRows (table_rows e.table)) (AtMostOne IsExampleTable e.table) (rows_from e.table) ls cs t)
@@ -132,15 +132,15 @@ headed P Q R S ls cs t = to_left (Then P Q) R S ls cs (to_left P Q (Then R S) ls
 unheaded : (P Q R S : Piece) (ls : List Line) (cs : List tree.Comment) → Then (Then (Then P Q) R) S ls cs → Then P (Then Q (Then R S)) ls cs
 unheaded P Q R S ls cs t = to_right P Q (Then R S) ls cs (to_right (Then P Q) R S ls cs t)
 
-scenario_to : (s : Scenario) (ls : List Line) (cs : List tree.Comment) → IsScenario s ls cs → Each IsChunk (scenario_chunks s) ls cs
+scenario_to : (s : Scenario) (ls : List Line) (cs : List tree.Comment) → IsScenario s ls cs → Each IsFlatBlock (scenario_flat_blocks s) ls cs
 scenario_to s ls cs t =
-    mapped (IsChunk (scenario_chunk s)) (Each IsExamples s.examples) (Each IsChunk (map examples_chunk s.examples)) (λ us vs r. each_map IsExamples IsChunk examples_chunk examples_to s.examples us vs r) ls cs
+    mapped (IsFlatBlock (scenario_flat_block s)) (Each IsExamples s.examples) (Each IsFlatBlock (map examples_flat_block s.examples)) (λ us vs r. each_map IsExamples IsFlatBlock examples_flat_block examples_to s.examples us vs r) ls cs
     (headed (TagLines s.tags) (Titled block.Scenario s.location s.keyword s.name s.description) (Each IsStep s.steps) (Each IsExamples s.examples) ls cs t)
 
-scenario_from : (s : Scenario) (ls : List Line) (cs : List tree.Comment) → Each IsChunk (scenario_chunks s) ls cs → IsScenario s ls cs
+scenario_from : (s : Scenario) (ls : List Line) (cs : List tree.Comment) → Each IsFlatBlock (scenario_flat_blocks s) ls cs → IsScenario s ls cs
 scenario_from s ls cs t =
     unheaded (TagLines s.tags) (Titled block.Scenario s.location s.keyword s.name s.description) (Each IsStep s.steps) (Each IsExamples s.examples) ls cs
-    (mapped (IsChunk (scenario_chunk s)) (Each IsChunk (map examples_chunk s.examples)) (Each IsExamples s.examples) (λ us vs r. each_unmap IsExamples IsChunk examples_chunk examples_from s.examples us vs r) ls cs t)
+    (mapped (IsFlatBlock (scenario_flat_block s)) (Each IsFlatBlock (map examples_flat_block s.examples)) (Each IsExamples s.examples) (λ us vs r. each_unmap IsExamples IsFlatBlock examples_flat_block examples_from s.examples us vs r) ls cs t)
 
 both : (P P' Q Q' : Piece) → ((ls : List Line) (cs : List tree.Comment) → P ls cs → P' ls cs) → ((ls : List Line) (cs : List tree.Comment) → Q ls cs → Q' ls cs) →
     (ls : List Line) (cs : List tree.Comment) → Then P Q ls cs → Then P' Q' ls cs
@@ -159,61 +159,61 @@ both P P' Q Q' f g ls cs t = record {
 nothing_first : (P Q : Piece) → P [] [] → (ls : List Line) (cs : List tree.Comment) → Q ls cs → Then P Q ls cs
 nothing_first P Q p ls cs q = record { front = []; back = ls; front_comments = []; back_comments = cs; cut = refl; comments = refl; first = p; second = q }
 
-background_to : (b : Option Background) (ls : List Line) (cs : List tree.Comment) → AtMostOne IsBackground b ls cs → Each IsChunk (background_chunks b) ls cs
+background_to : (b : Option Background) (ls : List Line) (cs : List tree.Comment) → AtMostOne IsBackground b ls cs → Each IsFlatBlock (background_flat_blocks b) ls cs
 background_to None ls cs t = t
 background_to (Some b) ls cs t =
-    then_nothing _ ls cs (to_left (ChunkTags block.Background []) (Titled block.Background b.location b.keyword b.name b.description) (Each IsStep b.steps) ls cs
-    (nothing_first (ChunkTags block.Background []) (IsBackground b) (refl, (refl, refl)) ls cs t))
+    then_nothing _ ls cs (to_left (FlatBlockTags block.Background []) (Titled block.Background b.location b.keyword b.name b.description) (Each IsStep b.steps) ls cs
+    (nothing_first (FlatBlockTags block.Background []) (IsBackground b) (refl, (refl, refl)) ls cs t))
 
-background_from : (b : Option Background) (ls : List Line) (cs : List tree.Comment) → Each IsChunk (background_chunks b) ls cs → AtMostOne IsBackground b ls cs
+background_from : (b : Option Background) (ls : List Line) (cs : List tree.Comment) → Each IsFlatBlock (background_flat_blocks b) ls cs → AtMostOne IsBackground b ls cs
 background_from None ls cs t = t
 background_from (Some b) ls cs t =
-    let u = to_right (ChunkTags block.Background []) (Titled block.Background b.location b.keyword b.name b.description) (Each IsStep b.steps) ls cs (only_first _ ls cs t) in
+    let u = to_right (FlatBlockTags block.Background []) (Titled block.Background b.location b.keyword b.name b.description) (Each IsStep b.steps) ls cs (only_first _ ls cs t) in
     nothing_then (IsBackground b) ls cs (record { front = u.front; back = u.back; front_comments = u.front_comments; back_comments = u.back_comments; cut = u.cut; comments = u.comments; first = u.first.1; second = u.second })
 
-rule_to : (r : Rule) (ls : List Line) (cs : List tree.Comment) → IsRule r ls cs → Each IsChunk (rule_chunks r) ls cs
+rule_to : (r : Rule) (ls : List Line) (cs : List tree.Comment) → IsRule r ls cs → Each IsFlatBlock (rule_flat_blocks r) ls cs
 rule_to r ls cs t =
-    both (IsHead (rule_chunk r)) (IsChunk (rule_chunk r)) (Then (AtMostOne IsBackground r.background) (Each IsScenario r.scenarios)) (Each IsChunk (background_chunks r.background ++ flat_map scenario_chunks r.scenarios))
-    (λ us vs h. then_nothing (IsHead (rule_chunk r)) us vs h)
-    (λ us vs h. each_both IsChunk (background_chunks r.background) (flat_map scenario_chunks r.scenarios) us vs
-    (both (AtMostOne IsBackground r.background) (Each IsChunk (background_chunks r.background)) (Each IsScenario r.scenarios) (Each IsChunk (flat_map scenario_chunks r.scenarios))
-    (background_to r.background) (each_flat IsScenario IsChunk scenario_chunks scenario_to r.scenarios) us vs h)) ls cs
+    both (IsHead (rule_flat_block r)) (IsFlatBlock (rule_flat_block r)) (Then (AtMostOne IsBackground r.background) (Each IsScenario r.scenarios)) (Each IsFlatBlock (background_flat_blocks r.background ++ flat_map scenario_flat_blocks r.scenarios))
+    (λ us vs h. then_nothing (IsHead (rule_flat_block r)) us vs h)
+    (λ us vs h. each_both IsFlatBlock (background_flat_blocks r.background) (flat_map scenario_flat_blocks r.scenarios) us vs
+    (both (AtMostOne IsBackground r.background) (Each IsFlatBlock (background_flat_blocks r.background)) (Each IsScenario r.scenarios) (Each IsFlatBlock (flat_map scenario_flat_blocks r.scenarios))
+    (background_to r.background) (each_flat IsScenario IsFlatBlock scenario_flat_blocks scenario_to r.scenarios) us vs h)) ls cs
     (to_left (TagLines r.tags) (Titled block.Rule r.location r.keyword r.name r.description) (Then (AtMostOne IsBackground r.background) (Each IsScenario r.scenarios)) ls cs t)
 
-rule_from : (r : Rule) (ls : List Line) (cs : List tree.Comment) → Each IsChunk (rule_chunks r) ls cs → IsRule r ls cs
+rule_from : (r : Rule) (ls : List Line) (cs : List tree.Comment) → Each IsFlatBlock (rule_flat_blocks r) ls cs → IsRule r ls cs
 rule_from r ls cs t =
     to_right (TagLines r.tags) (Titled block.Rule r.location r.keyword r.name r.description) (Then (AtMostOne IsBackground r.background) (Each IsScenario r.scenarios)) ls cs
-    (both (IsChunk (rule_chunk r)) (IsHead (rule_chunk r)) (Each IsChunk (background_chunks r.background ++ flat_map scenario_chunks r.scenarios)) (Then (AtMostOne IsBackground r.background) (Each IsScenario r.scenarios))
-    (λ us vs h. only_first (IsHead (rule_chunk r)) us vs h)
-    (λ us vs h. both (Each IsChunk (background_chunks r.background)) (AtMostOne IsBackground r.background) (Each IsChunk (flat_map scenario_chunks r.scenarios)) (Each IsScenario r.scenarios)
-    (background_from r.background) (each_unflat IsScenario IsChunk scenario_chunks scenario_from r.scenarios) us vs (each_apart IsChunk (background_chunks r.background) (flat_map scenario_chunks r.scenarios) us vs h)) ls cs t)
+    (both (IsFlatBlock (rule_flat_block r)) (IsHead (rule_flat_block r)) (Each IsFlatBlock (background_flat_blocks r.background ++ flat_map scenario_flat_blocks r.scenarios)) (Then (AtMostOne IsBackground r.background) (Each IsScenario r.scenarios))
+    (λ us vs h. only_first (IsHead (rule_flat_block r)) us vs h)
+    (λ us vs h. both (Each IsFlatBlock (background_flat_blocks r.background)) (AtMostOne IsBackground r.background) (Each IsFlatBlock (flat_map scenario_flat_blocks r.scenarios)) (Each IsScenario r.scenarios)
+    (background_from r.background) (each_unflat IsScenario IsFlatBlock scenario_flat_blocks scenario_from r.scenarios) us vs (each_apart IsFlatBlock (background_flat_blocks r.background) (flat_map scenario_flat_blocks r.scenarios) us vs h)) ls cs t)
 
 -- the parts of a feature below its header
-abbrev below : Feature → List Chunk
-below f = background_chunks f.background ++ (flat_map scenario_chunks f.scenarios ++ flat_map rule_chunks f.rules)
+abbrev below : Feature → List FlatBlock
+below f = background_flat_blocks f.background ++ (flat_map scenario_flat_blocks f.scenarios ++ flat_map rule_flat_blocks f.rules)
 
-pub feature_to : (f : Feature) (ls : List Line) (cs : List tree.Comment) → IsFeature f ls cs → Each IsChunk (feature_chunks f) ls cs
+pub feature_to : (f : Feature) (ls : List Line) (cs : List tree.Comment) → IsFeature f ls cs → Each IsFlatBlock (feature_flat_blocks f) ls cs
 feature_to f ls cs t =
-    both (IsHead (feature_chunk f)) (IsChunk (feature_chunk f)) (Then (AtMostOne IsBackground f.background) (Then (Each IsScenario f.scenarios) (Each IsRule f.rules))) (Each IsChunk (below f))
-    (λ us vs h. then_nothing (IsHead (feature_chunk f)) us vs h)
-    (λ us vs h. each_both IsChunk (background_chunks f.background) (flat_map scenario_chunks f.scenarios ++ flat_map rule_chunks f.rules) us vs
-    (both (AtMostOne IsBackground f.background) (Each IsChunk (background_chunks f.background)) (Then (Each IsScenario f.scenarios) (Each IsRule f.rules)) (Each IsChunk (flat_map scenario_chunks f.scenarios ++ flat_map rule_chunks f.rules))
+    both (IsHead (feature_flat_block f)) (IsFlatBlock (feature_flat_block f)) (Then (AtMostOne IsBackground f.background) (Then (Each IsScenario f.scenarios) (Each IsRule f.rules))) (Each IsFlatBlock (below f))
+    (λ us vs h. then_nothing (IsHead (feature_flat_block f)) us vs h)
+    (λ us vs h. each_both IsFlatBlock (background_flat_blocks f.background) (flat_map scenario_flat_blocks f.scenarios ++ flat_map rule_flat_blocks f.rules) us vs
+    (both (AtMostOne IsBackground f.background) (Each IsFlatBlock (background_flat_blocks f.background)) (Then (Each IsScenario f.scenarios) (Each IsRule f.rules)) (Each IsFlatBlock (flat_map scenario_flat_blocks f.scenarios ++ flat_map rule_flat_blocks f.rules))
     (background_to f.background)
-    (λ as1 bs1 g. each_both IsChunk (flat_map scenario_chunks f.scenarios) (flat_map rule_chunks f.rules) as1 bs1
-    (both (Each IsScenario f.scenarios) (Each IsChunk (flat_map scenario_chunks f.scenarios)) (Each IsRule f.rules) (Each IsChunk (flat_map rule_chunks f.rules))
-    (each_flat IsScenario IsChunk scenario_chunks scenario_to f.scenarios) (each_flat IsRule IsChunk rule_chunks rule_to f.rules) as1 bs1 g)) us vs h)) ls cs
+    (λ as1 bs1 g. each_both IsFlatBlock (flat_map scenario_flat_blocks f.scenarios) (flat_map rule_flat_blocks f.rules) as1 bs1
+    (both (Each IsScenario f.scenarios) (Each IsFlatBlock (flat_map scenario_flat_blocks f.scenarios)) (Each IsRule f.rules) (Each IsFlatBlock (flat_map rule_flat_blocks f.rules))
+    (each_flat IsScenario IsFlatBlock scenario_flat_blocks scenario_to f.scenarios) (each_flat IsRule IsFlatBlock rule_flat_blocks rule_to f.rules) as1 bs1 g)) us vs h)) ls cs
     (to_left (TagLines f.tags) (Titled block.Feature f.location f.keyword f.name f.description) (Then (AtMostOne IsBackground f.background) (Then (Each IsScenario f.scenarios) (Each IsRule f.rules))) ls cs t)
 
-pub feature_from : (f : Feature) (ls : List Line) (cs : List tree.Comment) → Each IsChunk (feature_chunks f) ls cs → IsFeature f ls cs
+pub feature_from : (f : Feature) (ls : List Line) (cs : List tree.Comment) → Each IsFlatBlock (feature_flat_blocks f) ls cs → IsFeature f ls cs
 feature_from f ls cs t =
     to_right (TagLines f.tags) (Titled block.Feature f.location f.keyword f.name f.description) (Then (AtMostOne IsBackground f.background) (Then (Each IsScenario f.scenarios) (Each IsRule f.rules))) ls cs
-    (both (IsChunk (feature_chunk f)) (IsHead (feature_chunk f)) (Each IsChunk (below f)) (Then (AtMostOne IsBackground f.background) (Then (Each IsScenario f.scenarios) (Each IsRule f.rules)))
-    (λ us vs h. only_first (IsHead (feature_chunk f)) us vs h)
-    (λ us vs h. both (Each IsChunk (background_chunks f.background)) (AtMostOne IsBackground f.background) (Each IsChunk (flat_map scenario_chunks f.scenarios ++ flat_map rule_chunks f.rules)) (Then (Each IsScenario f.scenarios) (Each IsRule f.rules))
+    (both (IsFlatBlock (feature_flat_block f)) (IsHead (feature_flat_block f)) (Each IsFlatBlock (below f)) (Then (AtMostOne IsBackground f.background) (Then (Each IsScenario f.scenarios) (Each IsRule f.rules)))
+    (λ us vs h. only_first (IsHead (feature_flat_block f)) us vs h)
+    (λ us vs h. both (Each IsFlatBlock (background_flat_blocks f.background)) (AtMostOne IsBackground f.background) (Each IsFlatBlock (flat_map scenario_flat_blocks f.scenarios ++ flat_map rule_flat_blocks f.rules)) (Then (Each IsScenario f.scenarios) (Each IsRule f.rules))
     (background_from f.background)
-    (λ as1 bs1 g. both (Each IsChunk (flat_map scenario_chunks f.scenarios)) (Each IsScenario f.scenarios) (Each IsChunk (flat_map rule_chunks f.rules)) (Each IsRule f.rules)
-    (each_unflat IsScenario IsChunk scenario_chunks scenario_from f.scenarios) (each_unflat IsRule IsChunk rule_chunks rule_from f.rules) as1 bs1 (each_apart IsChunk (flat_map scenario_chunks f.scenarios) (flat_map rule_chunks f.rules) as1 bs1 g))
-    us vs (each_apart IsChunk (background_chunks f.background) (flat_map scenario_chunks f.scenarios ++ flat_map rule_chunks f.rules) us vs h)) ls cs t)
+    (λ as1 bs1 g. both (Each IsFlatBlock (flat_map scenario_flat_blocks f.scenarios)) (Each IsScenario f.scenarios) (Each IsFlatBlock (flat_map rule_flat_blocks f.rules)) (Each IsRule f.rules)
+    (each_unflat IsScenario IsFlatBlock scenario_flat_blocks scenario_from f.scenarios) (each_unflat IsRule IsFlatBlock rule_flat_blocks rule_from f.rules) as1 bs1 (each_apart IsFlatBlock (flat_map scenario_flat_blocks f.scenarios) (flat_map rule_flat_blocks f.rules) as1 bs1 g))
+    us vs (each_apart IsFlatBlock (background_flat_blocks f.background) (flat_map scenario_flat_blocks f.scenarios ++ flat_map rule_flat_blocks f.rules) us vs h)) ls cs t)
 
 -- ---- the order of the blocks
 
@@ -232,28 +232,28 @@ rule_next block.Scenario = refl
 rule_next block.Examples = refl
 
 -- what may follow any block
-abbrev Anywhere : List Chunk → Type 0
+abbrev Anywhere : List FlatBlock → Type 0
 Anywhere cs = (b : Block) → Linked (Some b) cs
 
-examples_linked : (es : List Examples) (rest : List Chunk) → Anywhere rest → (b : Block) → follows (Some b) block.Examples ≡ true → Linked (Some b) (map examples_chunk es ++ rest)
+examples_linked : (es : List Examples) (rest : List FlatBlock) → Anywhere rest → (b : Block) → follows (Some b) block.Examples ≡ true → Linked (Some b) (map examples_flat_block es ++ rest)
 examples_linked [] rest h b e = h b
 examples_linked (x ∷ es) rest h b e = (e, examples_linked es rest h block.Examples refl)
 
-scenarios_linked : (ss : List Scenario) (rest : List Chunk) → Anywhere rest → Anywhere (flat_map scenario_chunks ss ++ rest)
+scenarios_linked : (ss : List Scenario) (rest : List FlatBlock) → Anywhere rest → Anywhere (flat_map scenario_flat_blocks ss ++ rest)
 scenarios_linked [] rest h b = h b
-scenarios_linked (s ∷ ss) rest h b = (scenario_next b, subst (λ (x : List Chunk). Linked (Some block.Scenario) x) (sym (append_assoc (map examples_chunk s.examples) (flat_map scenario_chunks ss) rest)) (examples_linked s.examples (flat_map scenario_chunks ss ++ rest) (scenarios_linked ss rest h) block.Scenario refl))
+scenarios_linked (s ∷ ss) rest h b = (scenario_next b, subst (λ (x : List FlatBlock). Linked (Some block.Scenario) x) (sym (append_assoc (map examples_flat_block s.examples) (flat_map scenario_flat_blocks ss) rest)) (examples_linked s.examples (flat_map scenario_flat_blocks ss ++ rest) (scenarios_linked ss rest h) block.Scenario refl))
 
-background_linked : (o : Option Background) (rest : List Chunk) → Anywhere rest → (b : Block) → follows (Some b) block.Background ≡ true → Linked (Some b) (background_chunks o ++ rest)
+background_linked : (o : Option Background) (rest : List FlatBlock) → Anywhere rest → (b : Block) → follows (Some b) block.Background ≡ true → Linked (Some b) (background_flat_blocks o ++ rest)
 background_linked None rest h b e = h b
 background_linked (Some x) rest h b e = (e, h block.Background)
 
-rules_linked : (rs : List Rule) → Anywhere (flat_map rule_chunks rs)
+rules_linked : (rs : List Rule) → Anywhere (flat_map rule_flat_blocks rs)
 rules_linked [] b = tt
 rules_linked (r ∷ rs) b = (
   rule_next b,
-  subst (λ (x : List Chunk). Linked (Some block.Rule) x) (sym (append_assoc (background_chunks r.background) (flat_map scenario_chunks r.scenarios) (flat_map rule_chunks rs)))
-      (background_linked r.background (flat_map scenario_chunks r.scenarios ++ flat_map rule_chunks rs) (scenarios_linked r.scenarios (flat_map rule_chunks rs) (rules_linked rs)) block.Rule refl),
+  subst (λ (x : List FlatBlock). Linked (Some block.Rule) x) (sym (append_assoc (background_flat_blocks r.background) (flat_map scenario_flat_blocks r.scenarios) (flat_map rule_flat_blocks rs)))
+      (background_linked r.background (flat_map scenario_flat_blocks r.scenarios ++ flat_map rule_flat_blocks rs) (scenarios_linked r.scenarios (flat_map rule_flat_blocks rs) (rules_linked rs)) block.Rule refl),
 )
 
-pub feature_linked : (f : Feature) → Linked None (feature_chunks f)
-feature_linked f = (refl, background_linked f.background (flat_map scenario_chunks f.scenarios ++ flat_map rule_chunks f.rules) (scenarios_linked f.scenarios (flat_map rule_chunks f.rules) (rules_linked f.rules)) block.Feature refl)
+pub feature_linked : (f : Feature) → Linked None (feature_flat_blocks f)
+feature_linked f = (refl, background_linked f.background (flat_map scenario_flat_blocks f.scenarios ++ flat_map rule_flat_blocks f.rules) (scenarios_linked f.scenarios (flat_map rule_flat_blocks f.rules) (rules_linked f.rules)) block.Feature refl)

@@ -1,6 +1,6 @@
 -- Which lists of lines are texts, and of which tree: the rules of `gherkin.berp`, and the Cucumber Gherkin reference. Each
 -- rule says how a list of lines is cut into the lines of its parts. A line that is no text of a description and no content
--- of a doc string has behind it the comments and blank lines that follow it; a description has those among its lines.
+-- of a doc string has after it the comments and blank lines that follow it; a description has those among its lines.
 use Rattle.std.specs.Prelude.{◌≡◌, ℕ, ◌+◌, Bool, true, false, not, ◌||◌, ◌&&◌, List, [], ◌∷◌, ◌++◌, map, reverse, length, Option, Some, None, Ok, ◌==◌, nat_lt, codes, if◌then◌else◌, IsTrue, IsFalse, ◌⊎◌}
 use Rattle.std.specs.List.{AllByRecursion, count_by, filter, flat_map, join_with_byte}
 use Rattle.std.specs.Str.{encode_utf8_all}
@@ -67,7 +67,7 @@ comments_of ls = map comment_of (filter is_comment ls)
 abbrev pub IsGap : Piece
 IsGap ls cs = AllByRecursion (λ l. IsTrue (is_gap l)) ls × (cs ≡ comments_of ls)
 
--- one line, with the comments and blank lines behind it
+-- one line, with the comments and blank lines after it
 abbrev pub OneLine : (Line → Type 0) → Piece
 OneLine P [] cs = ⊥
 OneLine P (l ∷ gap) cs = P l × IsGap gap cs
@@ -123,7 +123,7 @@ abbrev pub IsTitle : Block → Location → (keyword name : Text) → Line → T
 IsTitle b place keyword name (line n t i (Title c k m)) = (c ≡ b) × (place ≡ at n (i + 1)) × (keyword ≡ k) × (name ≡ m)
 IsTitle b place keyword name _ = ⊥
 
--- a title line and the description behind it
+-- a title line and the description after it
 abbrev pub Titled : Block → Location → (keyword name description : Text) → Piece
 Titled b place keyword name description [] cs = ⊥
 Titled b place keyword name description (l ∷ ls) cs =
@@ -161,7 +161,7 @@ abbrev pub media_of : Text → Option Text
 media_of [] = None
 media_of (c ∷ cs) = Some (c ∷ cs)
 
--- the lines behind the opening one: the content, in which no line starts with the fence, and one that does
+-- the lines after the opening one: the content, in which no line starts with the fence, and one that does
 pub record Closes (f : Fence) (n : ℕ) (content : Text) (ls : List Line) (cs : List tree.Comment) : Type 0 where
   pub inside : List Line
   pub close : Line
@@ -234,11 +234,11 @@ abbrev pub IsEnglish : Line → Type 0
 IsEnglish (line n t i (Language word)) = word ≡ english
 IsEnglish _ = ⊥
 
--- The lines before the first tag line or feature line. The first language line counts, and those behind it are comments.
+-- The lines before the first tag line or feature line. The first language line counts, and those after it are comments.
 abbrev pub IsOpening : Piece
 IsOpening ls cs = IsPlainGap ls cs ⊎ (IsPlainGap ⨾ OneLine IsEnglish) ls cs
 
--- a feature behind its opening, or comments and blank lines alone (`gherkin.berp`: GherkinDocument)
+-- a feature after its opening, or comments and blank lines alone (`gherkin.berp`: GherkinDocument)
 abbrev pub IsFeatureText : Option Feature → Piece
 IsFeatureText None ls cs = IsPlainGap ls cs
 IsFeatureText (Some f) ls cs = (f.language ≡ english) × (IsOpening ⨾ IsFeature f) ls cs

@@ -22,7 +22,7 @@ pub data Body : Type 0 where
   Rows : List tree.Row → Body
 
 -- a block without the blocks below it
-pub record Chunk : Type 0 where
+pub record FlatBlock : Type 0 where
   pub block : Block
   pub node : ℕ
   pub place : Location
@@ -33,7 +33,7 @@ pub record Chunk : Type 0 where
   pub body : Body
 
 -- an open doc string
-pub record Quote : Type 0 where
+pub record OpenDocString : Type 0 where
   pub place : Location
   pub fence : Fence
   pub media : Text
@@ -41,25 +41,25 @@ pub record Quote : Type 0 where
 
 pub data Phase : Type 0 where
   -- before the first tag line or feature line; no language line yet
-  Before : Phase
-  -- the same, behind the language line
-  Spoken : Phase
-  -- behind tag lines; which block stands before them
-  Tagged : (before : Option Block) → List Tag → Phase
+  Start : Phase
+  -- the same, after the language line
+  AfterLanguage : Phase
+  -- after tag lines; which block stands before them
+  AfterTags : (before : Option Block) → List Tag → Phase
   -- in the description of a block, with its lines so far that aren't comments
-  Described : Chunk → List Line → Phase
-  -- behind steps: those before the last, and the last
-  Stepping : Chunk → List tree.Step → tree.Step → Phase
+  InDescription : FlatBlock → List Line → Phase
+  -- after steps: those before the last, and the last
+  AfterStep : FlatBlock → List tree.Step → tree.Step → Phase
   -- in the doc string of the last step, with its lines so far
-  Quoting : Chunk → List tree.Step → tree.Step → Quote → List Line → Phase
-  -- behind rows of an examples table
-  Listing : Chunk → List tree.Row → Phase
+  InDocString : FlatBlock → List tree.Step → tree.Step → OpenDocString → List Line → Phase
+  -- after rows of an examples table
+  InExamplesTable : FlatBlock → List tree.Row → Phase
 
 -- the state between two lines: what was made of the lines so far, and where the pass stands
 pub record State : Type 0 where
   pub comments : List tree.Comment
   pub nodes : ℕ
-  pub chunks : List Chunk
+  pub flat_blocks : List FlatBlock
   pub phase : Phase
 
 -- the fault at which the pass stops
@@ -99,8 +99,8 @@ abbrev unexpected : ℕ → ℕ → Result State Bad
 unexpected n i = Err (record { kind = kind.Unexpected; line = n; column = i + 1 })
 
 -- a comment or a blank line
-abbrev pub passing : State → Phase → Line → State
-passing s p l = record s { comments = s.comments ++ comments_of (l ∷ []); phase = p }
+abbrev pub pass_over : State → Phase → Line → State
+pass_over s p l = record s { comments = s.comments ++ comments_of (l ∷ []); phase = p }
 
 -- what a block has below its description at first
 abbrev pub empty_body : Block → Body
@@ -111,23 +111,23 @@ empty_body block.Scenario = Steps []
 empty_body block.Examples = Rows []
 
 -- the block of a title line, without its description and what is below it
-abbrev pub started : ℕ → Block → List Tag → ℕ → ℕ → (k m : Text) → Chunk
-started node b tags n i k m = record { block = b; node = node; place = at n (i + 1); tags = tags; keyword = k; name = m; description = []; body = empty_body b }
+abbrev pub new_block : ℕ → Block → List Tag → ℕ → ℕ → (k m : Text) → FlatBlock
+new_block node b tags n i k m = record { block = b; node = node; place = at n (i + 1); tags = tags; keyword = k; name = m; description = []; body = empty_body b }
 
 -- a title line
-abbrev pub opened : State → Block → List Tag → ℕ → ℕ → (k m : Text) → State
-opened s b tags n i k m = record s { nodes = s.nodes + own_node b; phase = Described (started s.nodes b tags n i k m) [] }
+abbrev pub open_block : State → Block → List Tag → ℕ → ℕ → (k m : Text) → State
+open_block s b tags n i k m = record s { nodes = s.nodes + own_node b; phase = InDescription (new_block s.nodes b tags n i k m) [] }
 
 -- a tag line
-abbrev pub tagged : State → Option Block → List Tag → ℕ → List TagText → State
-tagged s before tags n words = record s { nodes = s.nodes + length words; phase = Tagged before (tags ++ tags_from n s.nodes words) }
+abbrev pub add_tags : State → Option Block → List Tag → ℕ → List TagText → State
+add_tags s before tags n words = record s { nodes = s.nodes + length words; phase = AfterTags before (tags ++ tags_from n s.nodes words) }
 
--- a line behind a whole block, which isn't part of it
-abbrev pub leaving : State → Chunk → Line → Result State Bad
-leaving s c (line n t i (Tags (Ok words))) = Ok (tagged (record s { chunks = s.chunks ++ c ∷ [] }) (Some c.block) [] n words)
-leaving s c (line n t i (Tags (Err column))) = Err (record { kind = kind.TagSpace; line = n; column = column })
-leaving s c (line n t i (Title b k m)) = cond (follows (Some c.block) b) (Ok (opened (record s { chunks = s.chunks ++ c ∷ [] }) b [] n i k m)) (unexpected n i)
-leaving s c (line n t i _) = unexpected n i
+-- a line after a whole block, which isn't part of it
+abbrev pub close_block : State → FlatBlock → Line → Result State Bad
+close_block s c (line n t i (Tags (Ok words))) = Ok (add_tags (record s { flat_blocks = s.flat_blocks ++ c ∷ [] }) (Some c.block) [] n words)
+close_block s c (line n t i (Tags (Err column))) = Err (record { kind = kind.TagSpace; line = n; column = column })
+close_block s c (line n t i (Title b k m)) = cond (follows (Some c.block) b) (Ok (open_block (record s { flat_blocks = s.flat_blocks ++ c ∷ [] }) b [] n i k m)) (unexpected n i)
+close_block s c (line n t i _) = unexpected n i
 
 -- the step of a step line
 abbrev pub step_at : State → ℕ → ℕ → (k : Text) → KeywordType → (m : Text) → tree.Step
@@ -138,19 +138,19 @@ abbrev pub row_at : State → ℕ → ℕ → List Cell → tree.Row
 row_at s n i cells = record { node = s.nodes; location = at n (i + 1); cells = cells }
 
 -- the block with its description, and with what is below it
-abbrev pub described : Chunk → List Line → Chunk
-described c ls = record c { description = description_of ls }
+abbrev pub with_description : FlatBlock → List Line → FlatBlock
+with_description c ls = record c { description = description_of ls }
 
--- the first line behind a description
-abbrev pub entering : State → Chunk → Line → Result State Bad
-entering s c (line n t i (Step k y m)) = Ok (record s { nodes = s.nodes + 1; phase = Stepping c [] (step_at s n i k y m) })
-entering s c (line n t i (Row cells)) = Ok (record s { nodes = s.nodes + 1; phase = Listing c (row_at s n i cells ∷ []) })
-entering s c l = leaving s c l
+-- the first line after a description
+abbrev pub after_description : State → FlatBlock → Line → Result State Bad
+after_description s c (line n t i (Step k y m)) = Ok (record s { nodes = s.nodes + 1; phase = AfterStep c [] (step_at s n i k y m) })
+after_description s c (line n t i (Row cells)) = Ok (record s { nodes = s.nodes + 1; phase = InExamplesTable c (row_at s n i cells ∷ []) })
+after_description s c l = close_block s c l
 
-abbrev pub with_steps : Chunk → List tree.Step → Chunk
+abbrev pub with_steps : FlatBlock → List tree.Step → FlatBlock
 with_steps c steps = record c { body = Steps steps }
 
-abbrev pub with_rows : Chunk → List tree.Row → Chunk
+abbrev pub with_rows : FlatBlock → List tree.Row → FlatBlock
 with_rows c rows = record c { body = Rows rows }
 
 -- the cells of the first row
@@ -158,57 +158,57 @@ abbrev pub count_of : List tree.Row → ℕ
 count_of [] = 0
 count_of (r ∷ rs) = length r.cells
 
--- a row behind rows
+-- a row after rows
 abbrev pub another_row : State → (List tree.Row → Phase) → List tree.Row → ℕ → ℕ → List Cell → Result State Bad
 another_row s phase rows n i cells =
     cond (length cells == count_of rows)
     (Ok (record s { nodes = s.nodes + 1; phase = phase (rows ++ row_at s n i cells ∷ []) }))
     (Err (record { kind = kind.CellCount; line = n; column = i + 1 }))
 
--- a row behind a step
-abbrev pub step_row : State → Chunk → List tree.Step → tree.Step → Option Argument → ℕ → ℕ → List Cell → Result State Bad
-step_row s c before last None n i cells = Ok (record s { nodes = s.nodes + 1; phase = Stepping c before (record last { argument = Some (Table (row_at s n i cells ∷ [])) }) })
-step_row s c before last (Some (Table rows)) n i cells = another_row s (λ rs. Stepping c before (record last { argument = Some (Table rs) })) rows n i cells
+-- a row after a step
+abbrev pub step_row : State → FlatBlock → List tree.Step → tree.Step → Option Argument → ℕ → ℕ → List Cell → Result State Bad
+step_row s c before last None n i cells = Ok (record s { nodes = s.nodes + 1; phase = AfterStep c before (record last { argument = Some (Table (row_at s n i cells ∷ [])) }) })
+step_row s c before last (Some (Table rows)) n i cells = another_row s (λ rs. AfterStep c before (record last { argument = Some (Table rs) })) rows n i cells
 step_row s c before last (Some (Quoted d)) n i cells = unexpected n i
 
--- a fence behind a step
-abbrev pub step_fence : State → Chunk → List tree.Step → tree.Step → Option Argument → ℕ → ℕ → Fence → Text → Result State Bad
-step_fence s c before last None n i f media = Ok (record s { phase = Quoting c before last (record { place = at n (i + 1); fence = f; media = media; indent = i }) [] })
+-- a fence after a step
+abbrev pub step_fence : State → FlatBlock → List tree.Step → tree.Step → Option Argument → ℕ → ℕ → Fence → Text → Result State Bad
+step_fence s c before last None n i f media = Ok (record s { phase = InDocString c before last (record { place = at n (i + 1); fence = f; media = media; indent = i }) [] })
 step_fence s c before last (Some a) n i f media = unexpected n i
 
 -- the doc string with these lines inside
-abbrev pub doc_string : Quote → List Line → DocString
+abbrev pub doc_string : OpenDocString → List Line → DocString
 doc_string q inside = record { location = q.place; media = media_of q.media; content = join_with_byte line_feed (map (content_line q.fence q.indent) inside); fence = q.fence }
 
-abbrev pub quoted : tree.Step → Quote → List Line → tree.Step
-quoted last q inside = record last { argument = Some (Quoted (doc_string q inside)) }
+abbrev pub with_doc_string : tree.Step → OpenDocString → List Line → tree.Step
+with_doc_string last q inside = record last { argument = Some (Quoted (doc_string q inside)) }
 
--- a line behind steps
-abbrev pub stepping : State → Chunk → List tree.Step → tree.Step → Line → Result State Bad
-stepping s c before last (line n t i (Step k y m)) = Ok (record s { nodes = s.nodes + 1; phase = Stepping c (before ++ last ∷ []) (step_at s n i k y m) })
-stepping s c before last (line n t i (Row cells)) = step_row s c before last last.argument n i cells
-stepping s c before last (line n t i (Fenced f media)) = step_fence s c before last last.argument n i f media
-stepping s c before last (line n t i Blank) = Ok (passing s (Stepping c before last) (line n t i Blank))
-stepping s c before last (line n t i Comment) = Ok (passing s (Stepping c before last) (line n t i Comment))
-stepping s c before last (line n t i (Language w)) = Ok (passing s (Stepping c before last) (line n t i (Language w)))
-stepping s c before last l = leaving s (with_steps c (before ++ last ∷ [])) l
+-- a line after steps
+abbrev pub after_step : State → FlatBlock → List tree.Step → tree.Step → Line → Result State Bad
+after_step s c before last (line n t i (Step k y m)) = Ok (record s { nodes = s.nodes + 1; phase = AfterStep c (before ++ last ∷ []) (step_at s n i k y m) })
+after_step s c before last (line n t i (Row cells)) = step_row s c before last last.argument n i cells
+after_step s c before last (line n t i (Fenced f media)) = step_fence s c before last last.argument n i f media
+after_step s c before last (line n t i Blank) = Ok (pass_over s (AfterStep c before last) (line n t i Blank))
+after_step s c before last (line n t i Comment) = Ok (pass_over s (AfterStep c before last) (line n t i Comment))
+after_step s c before last (line n t i (Language w)) = Ok (pass_over s (AfterStep c before last) (line n t i (Language w)))
+after_step s c before last l = close_block s (with_steps c (before ++ last ∷ [])) l
 
--- a line behind rows of an examples table
-abbrev pub listing : State → Chunk → List tree.Row → Line → Result State Bad
-listing s c rows (line n t i (Row cells)) = another_row s (λ rs. Listing c rs) rows n i cells
-listing s c rows (line n t i Blank) = Ok (passing s (Listing c rows) (line n t i Blank))
-listing s c rows (line n t i Comment) = Ok (passing s (Listing c rows) (line n t i Comment))
-listing s c rows (line n t i (Language w)) = Ok (passing s (Listing c rows) (line n t i (Language w)))
-listing s c rows l = leaving s (with_rows c rows) l
+-- a line after rows of an examples table
+abbrev pub in_examples_table : State → FlatBlock → List tree.Row → Line → Result State Bad
+in_examples_table s c rows (line n t i (Row cells)) = another_row s (λ rs. InExamplesTable c rs) rows n i cells
+in_examples_table s c rows (line n t i Blank) = Ok (pass_over s (InExamplesTable c rows) (line n t i Blank))
+in_examples_table s c rows (line n t i Comment) = Ok (pass_over s (InExamplesTable c rows) (line n t i Comment))
+in_examples_table s c rows (line n t i (Language w)) = Ok (pass_over s (InExamplesTable c rows) (line n t i (Language w)))
+in_examples_table s c rows l = close_block s (with_rows c rows) l
 
 -- before the first tag line or feature line
-abbrev pub beginning : State → Phase → Line → Result State Bad
-beginning s p (line n t i Blank) = Ok (passing s p (line n t i Blank))
-beginning s p (line n t i Comment) = Ok (passing s p (line n t i Comment))
-beginning s p (line n t i (Tags (Ok words))) = Ok (tagged s None [] n words)
-beginning s p (line n t i (Tags (Err column))) = Err (record { kind = kind.TagSpace; line = n; column = column })
-beginning s p (line n t i (Title block.Feature k m)) = Ok (opened s block.Feature [] n i k m)
-beginning s p (line n t i _) = unexpected n i
+abbrev pub before_first_block : State → Phase → Line → Result State Bad
+before_first_block s p (line n t i Blank) = Ok (pass_over s p (line n t i Blank))
+before_first_block s p (line n t i Comment) = Ok (pass_over s p (line n t i Comment))
+before_first_block s p (line n t i (Tags (Ok words))) = Ok (add_tags s None [] n words)
+before_first_block s p (line n t i (Tags (Err column))) = Err (record { kind = kind.TagSpace; line = n; column = column })
+before_first_block s p (line n t i (Title block.Feature k m)) = Ok (open_block s block.Feature [] n i k m)
+before_first_block s p (line n t i _) = unexpected n i
 
 abbrev pub same_text : Text → Text → Bool
 same_text [] [] = true
@@ -216,58 +216,58 @@ same_text (x ∷ xs) (y ∷ ys) = if x == y then same_text xs ys else false
 same_text _ _ = false
 
 -- where a language line still counts
-abbrev pub before_feature : State → Line → Result State Bad
-before_feature s (line n t i (Language w)) = cond (same_text w english) (Ok (record s { phase = Spoken })) (Err (record { kind = kind.UnsupportedLanguage; line = n; column = i + 1 }))
-before_feature s l = beginning s Before l
+abbrev pub at_start : State → Line → Result State Bad
+at_start s (line n t i (Language w)) = cond (same_text w english) (Ok (record s { phase = AfterLanguage })) (Err (record { kind = kind.UnsupportedLanguage; line = n; column = i + 1 }))
+at_start s l = before_first_block s Start l
 
--- behind the language line
-abbrev pub spoken : State → Line → Result State Bad
-spoken s (line n t i (Language w)) = Ok (passing s Spoken (line n t i (Language w)))
-spoken s l = beginning s Spoken l
+-- after the language line
+abbrev pub after_language : State → Line → Result State Bad
+after_language s (line n t i (Language w)) = Ok (pass_over s AfterLanguage (line n t i (Language w)))
+after_language s l = before_first_block s AfterLanguage l
 
--- a line behind tag lines
-abbrev pub behind_tags : State → Option Block → List Tag → Line → Result State Bad
-behind_tags s before tags (line n t i Blank) = Ok (passing s (Tagged before tags) (line n t i Blank))
-behind_tags s before tags (line n t i Comment) = Ok (passing s (Tagged before tags) (line n t i Comment))
-behind_tags s before tags (line n t i (Language w)) = Ok (passing s (Tagged before tags) (line n t i (Language w)))
-behind_tags s before tags (line n t i (Tags (Ok words))) = Ok (tagged s before tags n words)
-behind_tags s before tags (line n t i (Tags (Err column))) = Err (record { kind = kind.TagSpace; line = n; column = column })
-behind_tags s before tags (line n t i (Title b k m)) = cond (follows before b) (cond (takes_tags b) (Ok (opened s b tags n i k m)) (unexpected n i)) (unexpected n i)
-behind_tags s before tags (line n t i _) = unexpected n i
+-- a line after tag lines
+abbrev pub after_tags : State → Option Block → List Tag → Line → Result State Bad
+after_tags s before tags (line n t i Blank) = Ok (pass_over s (AfterTags before tags) (line n t i Blank))
+after_tags s before tags (line n t i Comment) = Ok (pass_over s (AfterTags before tags) (line n t i Comment))
+after_tags s before tags (line n t i (Language w)) = Ok (pass_over s (AfterTags before tags) (line n t i (Language w)))
+after_tags s before tags (line n t i (Tags (Ok words))) = Ok (add_tags s before tags n words)
+after_tags s before tags (line n t i (Tags (Err column))) = Err (record { kind = kind.TagSpace; line = n; column = column })
+after_tags s before tags (line n t i (Title b k m)) = cond (follows before b) (cond (takes_tags b) (Ok (open_block s b tags n i k m)) (unexpected n i)) (unexpected n i)
+after_tags s before tags (line n t i _) = unexpected n i
 
 -- one line
 abbrev pub at_phase : State → Phase → Line → Result State Bad
-at_phase s Before l = before_feature s l
-at_phase s Spoken l = spoken s l
-at_phase s (Tagged before tags) l = behind_tags s before tags l
-at_phase s (Described c ls) l = cond (stops c.block l) (entering s (described c ls) l) (Ok (passing s (Described c (ls ++ l ∷ [])) l))
-at_phase s (Stepping c before last) l = stepping s c before last l
-at_phase s (Quoting c before last q inside) l =
-    cond (is_fence q.fence l) (Ok (record s { phase = Stepping c before (quoted last q inside) })) (Ok (record s { phase = Quoting c before last q (inside ++ l ∷ []) }))
-at_phase s (Listing c rows) l = listing s c rows l
+at_phase s Start l = at_start s l
+at_phase s AfterLanguage l = after_language s l
+at_phase s (AfterTags before tags) l = after_tags s before tags l
+at_phase s (InDescription c ls) l = cond (stops c.block l) (after_description s (with_description c ls) l) (Ok (pass_over s (InDescription c (ls ++ l ∷ [])) l))
+at_phase s (AfterStep c before last) l = after_step s c before last l
+at_phase s (InDocString c before last q inside) l =
+    cond (is_fence q.fence l) (Ok (record s { phase = AfterStep c before (with_doc_string last q inside) })) (Ok (record s { phase = InDocString c before last q (inside ++ l ∷ []) }))
+at_phase s (InExamplesTable c rows) l = in_examples_table s c rows l
 
 abbrev pub next : State → Line → Result State Bad
 next s l = at_phase s s.phase l
 
--- the whole chunks at the end, or none where something is open
-abbrev pub closed : Phase → Option (List Chunk)
-closed Before = Some []
-closed Spoken = None
-closed (Tagged before tags) = None
-closed (Described c ls) = Some (described c ls ∷ [])
-closed (Stepping c before last) = Some (with_steps c (before ++ last ∷ []) ∷ [])
-closed (Quoting c before last q inside) = None
-closed (Listing c rows) = Some (with_rows c rows ∷ [])
+-- the whole flat blocks at the end, or none where something is open
+abbrev pub blocks_at_end : Phase → Option (List FlatBlock)
+blocks_at_end Start = Some []
+blocks_at_end AfterLanguage = None
+blocks_at_end (AfterTags before tags) = None
+blocks_at_end (InDescription c ls) = Some (with_description c ls ∷ [])
+blocks_at_end (AfterStep c before last) = Some (with_steps c (before ++ last ∷ []) ∷ [])
+blocks_at_end (InDocString c before last q inside) = None
+blocks_at_end (InExamplesTable c rows) = Some (with_rows c rows ∷ [])
 
 infixl 10 ◌>>=◌
 abbrev pub ◌>>=◌ : {A B : Type 0} → Result A Bad → (A → Result B Bad) → Result B Bad
 (Ok x) >>= f = f x
 (Err e) >>= f = Err e
 
--- the state behind some lines
+-- the state after some lines
 abbrev pub run : State → List Line → Result State Bad
 run s [] = Ok s
 run s (l ∷ ls) = next s l >>= λ x. run x ls
 
 abbrev pub initial : State
-initial = record { comments = []; nodes = 0; chunks = []; phase = Before }
+initial = record { comments = []; nodes = 0; flat_blocks = []; phase = Start }

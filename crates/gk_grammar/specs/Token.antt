@@ -22,7 +22,7 @@ pub record TagText : Type 0 where
   pub word : Text
   pub column : ℕ
 
--- What a line is read as, behind its indent. The kinds exclude each other; a language line is the one comment that can be more.
+-- What a line is read as, after its indent. The kinds exclude each other; a language line is the one comment that can be more.
 pub data Token : Type 0 where
   Blank : Token
   Comment : Token

@@ -4,3 +4,4 @@ pub mod PlainAnswers
 pub mod PlainKinds
 pub mod PlainNumbers
 pub mod PlainFronts
+pub mod FaultLemmas

@@ -26,34 +26,34 @@ use Rattle.gk_plain.specs.Plain.{kind_of, Has, IsHeading, Is, rule_of}
 
 -- ---- both
 
-and_apart : (a b : Bool) → (a && b) ≡ true → (a ≡ true) × (b ≡ true)
+pub and_apart : (a b : Bool) → (a && b) ≡ true → (a ≡ true) × (b ≡ true)
 and_apart true b e = (refl, e)
 and_apart false b e = absurd cc
 
-and_together : (a b : Bool) → a ≡ true → b ≡ true → (a && b) ≡ true
+pub and_together : (a b : Bool) → a ≡ true → b ≡ true → (a && b) ≡ true
 and_together true b e f = f
 and_together false b e f = absurd cc
 
-not_true : (b : Bool) → not b ≡ true → b ≡ false
+pub not_true : (b : Bool) → not b ≡ true → b ≡ false
 not_true true e = absurd cc
 not_true false e = refl
 
-not_false : (b : Bool) → b ≡ false → not b ≡ true
+pub not_false : (b : Bool) → b ≡ false → not b ≡ true
 not_false true e = absurd cc
 not_false false e = refl
 
 -- ---- all lines
 
-all_from : (P : Line → Type 0) (t : Kind → Bool) → ((l : Line) → t (kind_of l) ≡ true → P l) → (ls : List Line) → list_all t (map kind_of ls) ≡ true → AllByRecursion P ls
+pub all_from : (P : Line → Type 0) (t : Kind → Bool) → ((l : Line) → t (kind_of l) ≡ true → P l) → (ls : List Line) → list_all t (map kind_of ls) ≡ true → AllByRecursion P ls
 all_from P t f [] e = tt
 all_from P t f (l ∷ ls) e = let b = and_apart (t (kind_of l)) (list_all t (map kind_of ls)) e in (f l b.0, all_from P t f ls b.1)
 
-all_to : (P : Line → Type 0) (t : Kind → Bool) → ((l : Line) → P l → t (kind_of l) ≡ true) → (ls : List Line) → AllByRecursion P ls → list_all t (map kind_of ls) ≡ true
+pub all_to : (P : Line → Type 0) (t : Kind → Bool) → ((l : Line) → P l → t (kind_of l) ≡ true) → (ls : List Line) → AllByRecursion P ls → list_all t (map kind_of ls) ≡ true
 all_to P t f [] a = refl
 all_to P t f (l ∷ ls) a = and_together (t (kind_of l)) (list_all t (map kind_of ls)) (f l a.0) (all_to P t f ls a.1)
 
 -- a test of a language line
-language_test : (t : Kind → Bool) (b : Bool) (word : Text) → t kind.English ≡ b → t kind.OtherLanguage ≡ b → t (cond (same_text word english) kind.English kind.OtherLanguage) ≡ b
+pub language_test : (t : Kind → Bool) (b : Bool) (word : Text) → t kind.English ≡ b → t kind.OtherLanguage ≡ b → t (cond (same_text word english) kind.English kind.OtherLanguage) ≡ b
 language_test t b word e f = go (same_text word english)
   where
     go : (c : Bool) → t (cond c kind.English kind.OtherLanguage) ≡ b

@@ -22,7 +22,7 @@ kind_of_token Blank = kind.Blank
 kind_of_token Comment = kind.Comment
 kind_of_token (Language word) = if same_text word english then kind.English else kind.OtherLanguage
 kind_of_token (Tags (Ok words)) = kind.Tags
-kind_of_token (Tags (Err column)) = kind.SpacedTag
+kind_of_token (Tags (Err column)) = kind.SpacedTag column
 kind_of_token (Title b k m) = kind.Title b
 kind_of_token (Step k y m) = kind.Step
 kind_of_token (Row cells) = kind.Row (length cells)
@@ -77,7 +77,8 @@ abbrev pub IsBelowFeature : Option Background × (List Scenario × List Rule) �
 IsBelowFeature x = AtMostOne IsBackground x.0 ⨾ Each IsScenario x.1.0 ⨾ Each IsRule x.1.1
 
 abbrev pub IsUntaggedFeature : Heading × (Option Background × (List Scenario × List Rule)) → Piece
-IsUntaggedFeature x = IsHeading block.Feature x.0 ⨾ AtMostOne IsBackground x.1.0 ⨾ Each IsScenario x.1.1.0 ⨾ Each IsRule x.1.1.1
+IsUntaggedFeature x =
+    IsHeading block.Feature x.0 ⨾ AtMostOne IsBackground x.1.0 ⨾ Each IsScenario x.1.1.0 ⨾ Each IsRule x.1.1.1
 
 -- the front of a text up to the language line, and a feature after its opening
 abbrev pub IsSpokenGap : Unit {0} → Piece

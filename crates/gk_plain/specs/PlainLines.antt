@@ -27,7 +27,7 @@ is_plain _ = false
 -- the line ends a description of the block
 abbrev pub stops : Block → Kind → Bool
 stops b kind.Tags = true
-stops b kind.SpacedTag = true
+stops b (kind.SpacedTag column) = true
 stops b (kind.Title block.Feature) = false
 stops b (kind.Title block.Rule) = true
 stops b (kind.Title block.Scenario) = true

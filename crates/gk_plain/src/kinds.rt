@@ -30,8 +30,8 @@ pub(crate) enum Kind {
     English,
     OtherLanguage,
     Tags,
-    /// A tag line with white space in a tag.
-    SpacedTag,
+    /// A tag line with white space in the tag at this column.
+    SpacedTag(u32),
     Title(Block),
     Step,
     /// A row of so many cells.
@@ -70,7 +70,7 @@ fn tag_kind(alloc: Global, line: Line<'_>) -> Result<Kind, AllocError>
 {
     match tags(alloc, line) {
         Ok(_) => Ok(Kind::Tags),
-        Err(LineFault::TagSpace(_)) => Ok(Kind::SpacedTag),
+        Err(LineFault::TagSpace(column)) => Ok(Kind::SpacedTag(column)),
         Err(LineFault::Memory) => Err(AllocError),
     }
 }

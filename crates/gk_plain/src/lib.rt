@@ -2,8 +2,10 @@
 //! parser is compared with it, with which it shares no reader.
 #![tactic(auto)]
 
+mod faults;
 mod kinds;
 mod parts;
 mod plain;
 
-pub use plain::{has_document, place};
+pub use faults::{PlainFault, fault};
+pub use plain::has_document;

@@ -4,7 +4,7 @@ ghost use Rattle.std.specs.List.{list_all};
 ghost use Rattle.gk_grammar.specs.Token.{Line};
 ghost use Rattle.gk_grammar.specs.Tree.{Document};
 ghost use Rattle.gk_grammar.specs.Place.{IsText, IsFront, IsFirstBad, IsOpenAtEnd};
-ghost use Rattle.gk_grammar.specs.Documents.{lines_read, IsDocumentOf, byte_limit};
+ghost use Rattle.gk_grammar.specs.Documents.{IsDocumentOf, byte_limit};
 ghost use Rattle.gk_plain.specs.Plain.{kind_of, Is};
 ghost use Rattle.gk_plain.specs.PlainLines as spec;
 
@@ -15,7 +15,7 @@ use gk_line::Block;
 use std::alloc::{AllocError, Global};
 
 /// Whether the line is a comment or blank.
-fn is_gap(kind: Kind) -> bool
+pub(crate) fn is_gap(kind: Kind) -> bool
     ensures { result ≡ spec.is_gap kind }
 {
     match kind {
@@ -51,7 +51,7 @@ fn stops(block: Block, kind: Kind) -> bool
     ensures { result ≡ spec.stops block kind }
 {
     match kind {
-        Kind::Tags | Kind::SpacedTag => true,
+        Kind::Tags | Kind::SpacedTag(_) => true,
         Kind::Title(Block::Rule | Block::Scenario) => true,
         Kind::Title(Block::Background) => block == Block::Feature || block == Block::Rule,
         Kind::Title(Block::Examples) => block == Block::Scenario || block == Block::Examples,
@@ -234,7 +234,7 @@ fn is_front(alloc: Global, lines: &[Kind]) -> Result<bool, AllocError>
 
 /// The number of the first line up to which the lines are no front of a text, or of the line after the last one where they
 /// are a front and no text, or none where they are a text.
-fn first_bad(alloc: Global, lines: &[Kind]) -> Result<Option<usize>, AllocError>
+pub(crate) fn first_bad(alloc: Global, lines: &[Kind]) -> Result<Option<usize>, AllocError>
     ensures none { IfOk result (λ n. n ≡ None → (ls : List Line) → map kind_of ls ≡ lines.now
         → IsText ls) }
     ensures some { IfOk result (λ n. IfSome n (λ n. (ls : List Line) → map kind_of ls ≡ lines.now
@@ -262,19 +262,4 @@ pub fn has_document(alloc: Global, text: &str) -> Result<bool, AllocError>
 {
     let kinds = kinds(alloc, text)?;
     Ok(is_feature_file(&kinds))
-}
-
-/// The line of the text's fault, by the definition of its place, and none where the text has a document. It tries all
-/// fronts of the lines with each completion, and is slow.
-///
-/// # Errors
-/// There is no memory for the kinds of the lines.
-pub fn place(alloc: Global, text: &str) -> Result<Option<usize>, AllocError>
-    requires short { length text.now ≤ byte_limit }
-    ensures none { IfOk result (λ n. n ≡ None → IsText (lines_read text.now)) }
-    ensures some { IfOk result (λ n. IfSome n (λ n.
-        IsFirstBad (lines_read text.now) n ⊎ IsOpenAtEnd (lines_read text.now) n)) }
-{
-    let kinds = kinds(alloc, text)?;
-    first_bad(alloc, &kinds)
 }

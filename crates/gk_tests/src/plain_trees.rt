@@ -1,10 +1,10 @@
-//! The parser beside the plain program, and its faults beside what the lines of a text say.
-use gk_plain::{has_document, place};
-use gk_tree::{FaultKind, ParseFault, parse};
+//! The parser beside the plain program of the grammar.
+use gk_plain::{PlainFault, fault, has_document};
+use gk_tree::{ParseFault, parse};
 use std::alloc::Global;
 use std::test::Fail;
 
-/// One line of each sort that a short text can tell apart. No line of these texts has an indent, so each fault stands in column 1.
+/// One line of each sort that a short text can tell apart.
 const LINES: [&str; 12] = [
     "Feature: f",
     "Rule: r",
@@ -20,12 +20,12 @@ const LINES: [&str; 12] = [
     "text",
 ];
 
-/// Other lines, and some of those again, to stand behind the front of a text.
+/// Other lines, and some of those again, to stand after the front of a text. Some have an indent.
 const OTHER_LINES: [&str; 12] = [
-    "| b | c |",
+    "  | b | c |",
     "```",
-    "@a b",
-    "# language: fr",
+    " @a @é @b c",
+    "\t# language: fr",
     "",
     "| a |",
     "\"\"\"",
@@ -33,7 +33,7 @@ const OTHER_LINES: [&str; 12] = [
     "Scenario: s",
     "Given x",
     "@t",
-    "Background:",
+    "   Background:",
 ];
 
 /// The parser's fault.
@@ -47,50 +47,26 @@ fn fault_of(alloc: Global, text: &str) -> Option<ParseFault> {
     }
 }
 
-/// Why a line of these can't stand where it does, if the line before, comments and blank lines aside, is a row or is none.
-fn kind_of(line: &str, is_behind_row: bool) -> FaultKind {
-    match line {
-        "@a b" => FaultKind::TagSpace,
-        "# language: fr" => FaultKind::UnsupportedLanguage,
-        "| a |" | "| b | c |" if is_behind_row => FaultKind::CellCount,
-        _ => FaultKind::Unexpected,
-    }
+/// Whether the parser's fault and the plain program's are of one kind, at one line and column.
+fn is_same(fault: ParseFault, plain: PlainFault) -> bool {
+    fault.kind == plain.kind && fault.line as usize == plain.line && fault.column == plain.column
 }
 
-/// The kind of a fault at a line, whose numbers count from 1. Behind the last line it is `UnexpectedEnd`.
-fn kind_at(text: &str, number: usize) -> FaultKind {
-    let mut is_behind_row = false;
-    for (at, line) in text.lines().enumerate() {
-        if number.checked_sub(1) == Some(at) {
-            return kind_of(line, is_behind_row);
-        }
-        if !line.is_empty() && !line.starts_with('#') {
-            is_behind_row = line.starts_with('|');
-        }
-    }
-    FaultKind::UnexpectedEnd
-}
-
-/// Whether a fault is the one that a text has at the line.
-fn is_fault_at(fault: ParseFault, text: &str, number: usize) -> bool {
-    fault.line as usize == number && fault.column == 1 && fault.kind == kind_at(text, number)
-}
-
-/// Whether the parser and the plain program say the same of the text: whether it has a document, and else where its fault is. Its kind
-/// and column are those that the lines of the text say.
+/// Whether the parser and the plain program say the same of the text: whether it has a document, and else which fault, and
+/// where.
 fn agree(alloc: Global, text: &str) -> Result<bool, Fail> {
     if text.len() > 1_000 {
         return Err(Fail::from("a long text"));
     }
     let has_document = has_document(alloc, text)?;
-    match (fault_of(alloc, text), place(alloc, text)?) {
+    match (fault_of(alloc, text), fault(alloc, text)?) {
         (None, None) => Ok(has_document),
-        (Some(fault), Some(number)) => Ok(!has_document && is_fault_at(fault, text, number)),
+        (Some(found), Some(plain)) => Ok(!has_document && is_same(found, plain)),
         (None, Some(_)) | (Some(_), None) => Ok(false),
     }
 }
 
-/// The lines behind the head whose numbers are the digits of the number in base 12, the lowest first.
+/// The lines after the head whose numbers are the digits of the number in base 12, the lowest first.
 fn text_at(
     alloc: Global,
     head: &str,
@@ -109,7 +85,7 @@ fn text_at(
     Ok(text)
 }
 
-/// Whether they agree on the head and so many of the lines behind it, at all numbers below the bound.
+/// Whether they agree on the head and so many of the lines after it, at all numbers below the bound.
 fn agree_below(
     alloc: Global,
     head: &str,
@@ -126,7 +102,7 @@ fn agree_below(
     Ok(true)
 }
 
-/// Whether they agree on each of these lines with any three behind it.
+/// Whether they agree on each of these lines with any three after it.
 fn agree_behind(alloc: Global, firsts: &[&str]) -> Result<bool, Fail> {
     for first in firsts {
         let mut head = String::new(alloc);

@@ -6,7 +6,7 @@ use Rattle.gk_grammar.specs.Token.{Line, line, line_of, Blank, Comment, Language
 use Rattle.gk_grammar.specs.Tree.{Document}
 use Rattle.gk_grammar.specs.Place.{IsFaultAt}
 use Rattle.gk_grammar.specs.Machine as machine
-use Rattle.gk_grammar.specs.Machine.{State, Bad, run, next, initial, closed, ◌>>=◌}
+use Rattle.gk_grammar.specs.Machine.{State, Bad, run, next, initial, blocks_at_end, ◌>>=◌}
 use Rattle.gk_grammar.specs.Assembly.{document_of}
 use Rattle.gk_grammar.specs.Documents.{lines_read, IsDocumentOf, HasFault, IsTooLong}
 use Rattle.gk_grammar.proofs.LawLemmas.{whole_run, stopped_run, open_run}
@@ -27,9 +27,9 @@ stop_run all s b ls rest x e h k =
 -- ---- the answer
 
 pub whole_answer : (text : List ℕ) (behind : ℕ) (s : State) (r : Result Document ParseFault) → run initial (lines_read text) ≡ Ok s → behind ≡ length (lines_read text) + 1 → Gives (λ (d : Document). d) r (document_at behind s) → Answers text r
-whole_answer text behind s r e b h = go r (closed s.phase) refl h
+whole_answer text behind s r e b h = go r (blocks_at_end s.phase) refl h
   where
-    go : (r : Result Document ParseFault) (o : Option (List machine.Chunk)) → closed s.phase ≡ o → Gives (λ (d : Document). d) r (ended behind o >>= λ last. Ok (document_of s last)) → Answers text r
+    go : (r : Result Document ParseFault) (o : Option (List machine.FlatBlock)) → blocks_at_end s.phase ≡ o → Gives (λ (d : Document). d) r (ended behind o >>= λ last. Ok (document_of s last)) → Answers text r
     go (Ok d) (Some last) f h = let same : document_of s last ≡ d = cc in subst (λ (z : Document). IsDocumentOf text z) same (whole_run text s last e f).doc
     go (Ok d) None f h = absurd cc
     go (Err g) (Some last) f (inl m) = inl m

@@ -18,7 +18,7 @@ use Rattle.gk_grammar.specs.declared.fault.FaultKind.TheVariants as kind
 use Rattle.gk_grammar.specs.Grammar.{stops, is_fence, english}
 use Rattle.gk_grammar.specs.Tree as tree
 use Rattle.gk_grammar.specs.Token.{Text, TagText, Token, Blank, Comment, Language, Tags, Title, Step, Row, Fenced, Other, line, line_of, token_of, comment_token, title_token, step_token, fence_token, word_token, token_or_other, tag_list, tag_text, cell}
-use Rattle.gk_grammar.specs.Machine.{State, Bad, Phase, Before, Spoken, Tagged, Described, Stepping, Quoting, Listing, Chunk, next, at_phase, leaving, another_row, step_row, step_fence, own_node, stepping, listing, beginning, before_feature, spoken, behind_tags, entering, described, with_steps, with_rows, follows, takes_tags, opened, passing, quoted, count_of, row_at, same_text}
+use Rattle.gk_grammar.specs.Machine.{State, Bad, Phase, Start, AfterLanguage, AfterTags, InDescription, AfterStep, InDocString, InExamplesTable, FlatBlock, next, at_phase, close_block, another_row, step_row, step_fence, own_node, after_step, in_examples_table, before_first_block, at_start, after_language, after_tags, after_description, with_description, with_steps, with_rows, follows, takes_tags, open_block, pass_over, with_doc_string, count_of, row_at, same_text}
 use Rattle.gk_tree.proofs.TokenLemmas.{tags_bound, chars_bound}
 
 -- the tags of a tag line, and one node of any other line
@@ -44,11 +44,11 @@ either : (n : ℕ) (b : Bool) (r t : Result State Bad) → IsAtMost n r → IsAt
 either n true r t h k = h
 either n false r t h k = k
 
-leaving_adds : (s : State) (c : Chunk) (n i : ℕ) (cs : List ℕ) (t : Token) → IsAtMost (s.nodes + room t) (leaving s c (line n cs i t))
+leaving_adds : (s : State) (c : FlatBlock) (n i : ℕ) (cs : List ℕ) (t : Token) → IsAtMost (s.nodes + room t) (close_block s c (line n cs i t))
 unfolding IsAtMost room
 leaving_adds s c n i cs (Tags (Ok words)) = omega arith
 leaving_adds s c n i cs (Tags (Err column)) = tt
-leaving_adds s c n i cs (Title b k m) = either (s.nodes + 1) (follows (Some c.block) b) (Ok (opened (record s { chunks = s.chunks ++ c ∷ [] }) b [] n i k m)) (Err (place kind.Unexpected n (i + 1))) (omega (arith, own_at_most b)) tt
+leaving_adds s c n i cs (Title b k m) = either (s.nodes + 1) (follows (Some c.block) b) (Ok (open_block (record s { flat_blocks = s.flat_blocks ++ c ∷ [] }) b [] n i k m)) (Err (place kind.Unexpected n (i + 1))) (omega (arith, own_at_most b)) tt
 leaving_adds s c n i cs Blank = tt
 leaving_adds s c n i cs Comment = tt
 leaving_adds s c n i cs (Language w) = tt
@@ -62,18 +62,18 @@ unfolding IsAtMost
 row_adds s phase rows n i cells =
     either (s.nodes + 1) (length cells == count_of rows) (Ok (record s { nodes = s.nodes + 1; phase = phase (rows ++ row_at s n i cells ∷ []) })) (Err (place kind.CellCount n (i + 1))) (omega arith) tt
 
-step_row_adds : (s : State) (c : Chunk) (before : List tree.Step) (last : tree.Step) (a : Option tree.Argument) (n i : ℕ) (cells : List Cell) → IsAtMost (s.nodes + 1) (step_row s c before last a n i cells)
+step_row_adds : (s : State) (c : FlatBlock) (before : List tree.Step) (last : tree.Step) (a : Option tree.Argument) (n i : ℕ) (cells : List Cell) → IsAtMost (s.nodes + 1) (step_row s c before last a n i cells)
 unfolding IsAtMost
 step_row_adds s c before last None n i cells = omega arith
-step_row_adds s c before last (Some (Table rows)) n i cells = row_adds s (λ rs. Stepping c before (record last { argument = Some (Table rs) })) rows n i cells
+step_row_adds s c before last (Some (Table rows)) n i cells = row_adds s (λ rs. AfterStep c before (record last { argument = Some (Table rs) })) rows n i cells
 step_row_adds s c before last (Some (Quoted d)) n i cells = tt
 
-step_fence_adds : (s : State) (c : Chunk) (before : List tree.Step) (last : tree.Step) (a : Option tree.Argument) (n i : ℕ) (f : Fence) (media : Text) → IsAtMost (s.nodes + 1) (step_fence s c before last a n i f media)
+step_fence_adds : (s : State) (c : FlatBlock) (before : List tree.Step) (last : tree.Step) (a : Option tree.Argument) (n i : ℕ) (f : Fence) (media : Text) → IsAtMost (s.nodes + 1) (step_fence s c before last a n i f media)
 unfolding IsAtMost
 step_fence_adds s c before last None n i f media = omega arith
 step_fence_adds s c before last (Some a) n i f media = tt
 
-stepping_adds : (s : State) (c : Chunk) (before : List tree.Step) (last : tree.Step) (n i : ℕ) (cs : List ℕ) (t : Token) → IsAtMost (s.nodes + room t) (stepping s c before last (line n cs i t))
+stepping_adds : (s : State) (c : FlatBlock) (before : List tree.Step) (last : tree.Step) (n i : ℕ) (cs : List ℕ) (t : Token) → IsAtMost (s.nodes + room t) (after_step s c before last (line n cs i t))
 unfolding IsAtMost room
 stepping_adds s c before last n i cs (Step k y m) = omega arith
 stepping_adds s c before last n i cs (Row cells) = step_row_adds s c before last last.argument n i cells
@@ -85,9 +85,9 @@ stepping_adds s c before last n i cs (Tags r) = leaving_adds s (with_steps c (be
 stepping_adds s c before last n i cs (Title b k m) = leaving_adds s (with_steps c (before ++ last ∷ [])) n i cs (Title b k m)
 stepping_adds s c before last n i cs Other = tt
 
-listing_adds : (s : State) (c : Chunk) (rows : List tree.Row) (n i : ℕ) (cs : List ℕ) (t : Token) → IsAtMost (s.nodes + room t) (listing s c rows (line n cs i t))
+listing_adds : (s : State) (c : FlatBlock) (rows : List tree.Row) (n i : ℕ) (cs : List ℕ) (t : Token) → IsAtMost (s.nodes + room t) (in_examples_table s c rows (line n cs i t))
 unfolding IsAtMost room
-listing_adds s c rows n i cs (Row cells) = row_adds s (λ rs. Listing c rs) rows n i cells
+listing_adds s c rows n i cs (Row cells) = row_adds s (λ rs. InExamplesTable c rs) rows n i cells
 listing_adds s c rows n i cs Blank = omega arith
 listing_adds s c rows n i cs Comment = omega arith
 listing_adds s c rows n i cs (Language w) = omega arith
@@ -97,7 +97,7 @@ listing_adds s c rows n i cs (Step k y m) = tt
 listing_adds s c rows n i cs (Fenced f media) = tt
 listing_adds s c rows n i cs Other = tt
 
-beginning_adds : (s : State) (p : Phase) (n i : ℕ) (cs : List ℕ) (t : Token) → IsAtMost (s.nodes + room t) (beginning s p (line n cs i t))
+beginning_adds : (s : State) (p : Phase) (n i : ℕ) (cs : List ℕ) (t : Token) → IsAtMost (s.nodes + room t) (before_first_block s p (line n cs i t))
 unfolding IsAtMost room
 beginning_adds s p n i cs Blank = omega arith
 beginning_adds s p n i cs Comment = omega arith
@@ -114,31 +114,31 @@ beginning_adds s p n i cs (Row cells) = tt
 beginning_adds s p n i cs (Fenced f media) = tt
 beginning_adds s p n i cs Other = tt
 
-before_adds : (s : State) (n i : ℕ) (cs : List ℕ) (t : Token) → IsAtMost (s.nodes + room t) (before_feature s (line n cs i t))
+before_adds : (s : State) (n i : ℕ) (cs : List ℕ) (t : Token) → IsAtMost (s.nodes + room t) (at_start s (line n cs i t))
 unfolding IsAtMost room
-before_adds s n i cs (Language w) = either (s.nodes + 1) (same_text w english) (Ok (record s { phase = Spoken })) (Err (place kind.UnsupportedLanguage n (i + 1))) (omega arith) tt
-before_adds s n i cs Blank = beginning_adds s Before n i cs Blank
-before_adds s n i cs Comment = beginning_adds s Before n i cs Comment
-before_adds s n i cs (Tags r) = beginning_adds s Before n i cs (Tags r)
-before_adds s n i cs (Title b k m) = beginning_adds s Before n i cs (Title b k m)
+before_adds s n i cs (Language w) = either (s.nodes + 1) (same_text w english) (Ok (record s { phase = AfterLanguage })) (Err (place kind.UnsupportedLanguage n (i + 1))) (omega arith) tt
+before_adds s n i cs Blank = beginning_adds s Start n i cs Blank
+before_adds s n i cs Comment = beginning_adds s Start n i cs Comment
+before_adds s n i cs (Tags r) = beginning_adds s Start n i cs (Tags r)
+before_adds s n i cs (Title b k m) = beginning_adds s Start n i cs (Title b k m)
 before_adds s n i cs (Step k y m) = tt
 before_adds s n i cs (Row cells) = tt
 before_adds s n i cs (Fenced f media) = tt
 before_adds s n i cs Other = tt
 
-spoken_adds : (s : State) (n i : ℕ) (cs : List ℕ) (t : Token) → IsAtMost (s.nodes + room t) (spoken s (line n cs i t))
+spoken_adds : (s : State) (n i : ℕ) (cs : List ℕ) (t : Token) → IsAtMost (s.nodes + room t) (after_language s (line n cs i t))
 unfolding IsAtMost room
 spoken_adds s n i cs (Language w) = omega arith
-spoken_adds s n i cs Blank = beginning_adds s Spoken n i cs Blank
-spoken_adds s n i cs Comment = beginning_adds s Spoken n i cs Comment
-spoken_adds s n i cs (Tags r) = beginning_adds s Spoken n i cs (Tags r)
-spoken_adds s n i cs (Title b k m) = beginning_adds s Spoken n i cs (Title b k m)
+spoken_adds s n i cs Blank = beginning_adds s AfterLanguage n i cs Blank
+spoken_adds s n i cs Comment = beginning_adds s AfterLanguage n i cs Comment
+spoken_adds s n i cs (Tags r) = beginning_adds s AfterLanguage n i cs (Tags r)
+spoken_adds s n i cs (Title b k m) = beginning_adds s AfterLanguage n i cs (Title b k m)
 spoken_adds s n i cs (Step k y m) = tt
 spoken_adds s n i cs (Row cells) = tt
 spoken_adds s n i cs (Fenced f media) = tt
 spoken_adds s n i cs Other = tt
 
-tags_add : (s : State) (before : Option Block) (tags : List tree.Tag) (n i : ℕ) (cs : List ℕ) (t : Token) → IsAtMost (s.nodes + room t) (behind_tags s before tags (line n cs i t))
+tags_add : (s : State) (before : Option Block) (tags : List tree.Tag) (n i : ℕ) (cs : List ℕ) (t : Token) → IsAtMost (s.nodes + room t) (after_tags s before tags (line n cs i t))
 unfolding IsAtMost room
 tags_add s before tags n i cs Blank = omega arith
 tags_add s before tags n i cs Comment = omega arith
@@ -147,14 +147,14 @@ tags_add s before tags n i cs (Tags (Ok words)) = omega arith
 tags_add s before tags n i cs (Tags (Err column)) = tt
 tags_add s before tags n i cs (Title b k m) =
     let here = Err (place kind.Unexpected n (i + 1)) in
-    let inner = either (s.nodes + 1) (takes_tags b) (Ok (opened s b tags n i k m)) here (omega (arith, own_at_most b)) tt in
-    either (s.nodes + 1) (follows before b) (cond (takes_tags b) (Ok (opened s b tags n i k m)) here) here inner tt
+    let inner = either (s.nodes + 1) (takes_tags b) (Ok (open_block s b tags n i k m)) here (omega (arith, own_at_most b)) tt in
+    either (s.nodes + 1) (follows before b) (cond (takes_tags b) (Ok (open_block s b tags n i k m)) here) here inner tt
 tags_add s before tags n i cs (Step k y m) = tt
 tags_add s before tags n i cs (Row cells) = tt
 tags_add s before tags n i cs (Fenced f media) = tt
 tags_add s before tags n i cs Other = tt
 
-entering_adds : (s : State) (c : Chunk) (n i : ℕ) (cs : List ℕ) (t : Token) → IsAtMost (s.nodes + room t) (entering s c (line n cs i t))
+entering_adds : (s : State) (c : FlatBlock) (n i : ℕ) (cs : List ℕ) (t : Token) → IsAtMost (s.nodes + room t) (after_description s c (line n cs i t))
 unfolding IsAtMost room
 entering_adds s c n i cs (Step k y m) = omega arith
 entering_adds s c n i cs (Row cells) = omega arith
@@ -181,17 +181,17 @@ some_room Other = omega arith
 
 line_adds : (s : State) (p : Phase) (n i : ℕ) (cs : List ℕ) (t : Token) → IsAtMost (s.nodes + room t) (at_phase s p (line n cs i t))
 unfolding IsAtMost
-line_adds s Before n i cs t = before_adds s n i cs t
-line_adds s Spoken n i cs t = spoken_adds s n i cs t
-line_adds s (Tagged before tags) n i cs t = tags_add s before tags n i cs t
-line_adds s (Described c ls) n i cs t =
-    either (s.nodes + room t) (stops c.block (line n cs i t)) (entering s (described c ls) (line n cs i t)) (Ok (passing s (Described c (ls ++ line n cs i t ∷ [])) (line n cs i t)))
-    (entering_adds s (described c ls) n i cs t) (omega arith)
-line_adds s (Stepping c before last) n i cs t = stepping_adds s c before last n i cs t
-line_adds s (Quoting c before last q inside) n i cs t =
-    either (s.nodes + room t) (is_fence q.fence (line n cs i t)) (Ok (record s { phase = Stepping c before (quoted last q inside) })) (Ok (record s { phase = Quoting c before last q (inside ++ line n cs i t ∷ []) }))
+line_adds s Start n i cs t = before_adds s n i cs t
+line_adds s AfterLanguage n i cs t = spoken_adds s n i cs t
+line_adds s (AfterTags before tags) n i cs t = tags_add s before tags n i cs t
+line_adds s (InDescription c ls) n i cs t =
+    either (s.nodes + room t) (stops c.block (line n cs i t)) (after_description s (with_description c ls) (line n cs i t)) (Ok (pass_over s (InDescription c (ls ++ line n cs i t ∷ [])) (line n cs i t)))
+    (entering_adds s (with_description c ls) n i cs t) (omega arith)
+line_adds s (AfterStep c before last) n i cs t = stepping_adds s c before last n i cs t
+line_adds s (InDocString c before last q inside) n i cs t =
+    either (s.nodes + room t) (is_fence q.fence (line n cs i t)) (Ok (record s { phase = AfterStep c before (with_doc_string last q inside) })) (Ok (record s { phase = InDocString c before last q (inside ++ line n cs i t ∷ []) }))
     (omega arith) (omega arith)
-line_adds s (Listing c rows) n i cs t = listing_adds s c rows n i cs t
+line_adds s (InExamplesTable c rows) n i cs t = listing_adds s c rows n i cs t
 
 at_most_of : (n m : ℕ) (r : Result State Bad) (x : State) → IsAtMost n r → r ≡ Ok x → n ≤ m → x.nodes ≤ m
 unfolding IsAtMost

@@ -1,4 +1,4 @@
--- What stands behind a block, in the grammar's terms, and the parts of blocks before it.
+-- What stands after a block, in the grammar's terms, and the parts of blocks before it.
 use Rattle.std.specs.Prelude.{List, [], ◌∷◌, reverse}
 use Rattle.gk_grammar.specs.Assembly as assembly
 use Rattle.gk_grammar.specs.Assembly.{with_block}
@@ -7,9 +7,15 @@ use Rattle.gk_tree.specs.declared.assemble.Parts.{Parts}
 
 -- the lists front to back
 abbrev pub parts_view : Parts → assembly.Parts
-parts_view p = record { examples = reverse p.examples.items; background = p.background; scenarios = reverse p.scenarios.items; rules = reverse p.rules.items }
+parts_view p =
+    record {
+      examples = reverse p.examples.items;
+      background = p.background;
+      scenarios = reverse p.scenarios.items;
+      rules = reverse p.rules.items;
+    }
 
 -- the parts with these blocks before them
-abbrev pub parts_behind : List machine.Chunk → assembly.Parts → assembly.Parts
+abbrev pub parts_behind : List machine.FlatBlock → assembly.Parts → assembly.Parts
 parts_behind [] p = p
 parts_behind (c ∷ cs) p = with_block c.block c (parts_behind cs p)

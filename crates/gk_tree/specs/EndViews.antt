@@ -1,9 +1,9 @@
 -- The last block, as the machine has it.
 use Rattle.std.specs.Prelude.{List, [], ◌∷◌, Option, Some, None}
 use Rattle.gk_grammar.specs.Machine as machine
-use Rattle.gk_tree.specs.declared.chunk.Chunk.{Chunk}
-use Rattle.gk_tree.specs.Views.{chunk_of}
+use Rattle.gk_tree.specs.declared.flat_block.FlatBlock.{FlatBlock}
+use Rattle.gk_tree.specs.Views.{flat_block_of}
 
-abbrev pub last_of : Option Chunk → List machine.Chunk
+abbrev pub last_of : Option FlatBlock → List machine.FlatBlock
 last_of None = []
-last_of (Some c) = chunk_of c ∷ []
+last_of (Some c) = flat_block_of c ∷ []

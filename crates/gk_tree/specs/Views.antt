@@ -13,11 +13,11 @@ use Rattle.gk_tree.specs.declared.fault.ParseFault.{ParseFault}
 use Rattle.gk_tree.specs.declared.token.IndentedLine.{IndentedLine}
 use Rattle.gk_tree.specs.declared.token.Token.{Token}
 use Rattle.gk_tree.specs.declared.token.Token.TheVariants as token
-use Rattle.gk_tree.specs.declared.chunk.Body.{Body}
-use Rattle.gk_tree.specs.declared.chunk.Body.TheVariants as body
-use Rattle.gk_tree.specs.declared.chunk.Chunk.{Chunk}
+use Rattle.gk_tree.specs.declared.flat_block.Body.{Body}
+use Rattle.gk_tree.specs.declared.flat_block.Body.TheVariants as body
+use Rattle.gk_tree.specs.declared.flat_block.FlatBlock.{FlatBlock}
 use Rattle.gk_tree.specs.declared.state.Progress.{Progress}
-use Rattle.gk_tree.specs.declared.state.Quote.{Quote}
+use Rattle.gk_tree.specs.declared.state.OpenDocString.{OpenDocString}
 use Rattle.gk_tree.specs.declared.state.Phase.{Phase}
 use Rattle.gk_tree.specs.declared.state.Phase.TheVariants as phase
 use Rattle.gk_tree.specs.declared.state.Parser.{Parser}
@@ -58,28 +58,53 @@ body_of body.Bare = machine.Bare
 body_of (body.Steps steps) = machine.Steps steps
 body_of (body.Rows rows) = machine.Rows rows
 
-abbrev pub chunk_of : Chunk → machine.Chunk
-chunk_of c = record { block = c.block; node = c.node; place = c.location; tags = c.tags; keyword = c.keyword; name = c.name; description = c.description; body = body_of c.body }
+abbrev pub flat_block_of : FlatBlock → machine.FlatBlock
+flat_block_of c =
+    record {
+      block = c.block;
+      node = c.node;
+      place = c.location;
+      tags = c.tags;
+      keyword = c.keyword;
+      name = c.name;
+      description = c.description;
+      body = body_of c.body;
+    }
 
-abbrev pub quote_of : Quote → machine.Quote
-quote_of q = record { place = q.location; fence = q.fence; media = text_of q.media.now; indent = q.indent }
+abbrev pub open_doc_string_of : OpenDocString → machine.OpenDocString
+open_doc_string_of q =
+    record { place = q.location; fence = q.fence; media = text_of q.media.now; indent = q.indent }
 
 abbrev pub phase_of : Phase → machine.Phase
-phase_of phase.Before = machine.Before
-phase_of phase.Spoken = machine.Spoken
-phase_of (phase.Tagged before tags) = machine.Tagged before tags
-phase_of (phase.Described chunk lines) = machine.Described (chunk_of chunk) (map kept_line lines.items)
-phase_of (phase.Stepping s) = machine.Stepping (chunk_of s.chunk) s.before s.last
-phase_of (phase.Quoting s quote lines) = machine.Quoting (chunk_of s.chunk) s.before s.last (quote_of quote) (map kept_line lines.items)
-phase_of (phase.Listing chunk rows) = machine.Listing (chunk_of chunk) rows
+phase_of phase.Start = machine.Start
+phase_of phase.AfterLanguage = machine.AfterLanguage
+phase_of (phase.AfterTags before tags) = machine.AfterTags before tags
+phase_of (phase.InDescription flat_block lines) =
+    machine.InDescription (flat_block_of flat_block) (map kept_line lines.items)
+phase_of (phase.AfterStep s) = machine.AfterStep (flat_block_of s.flat_block) s.before s.last
+phase_of (phase.InDocString s quote lines) =
+    machine.InDocString (flat_block_of s.flat_block) s.before s.last (open_doc_string_of quote)
+    (map kept_line lines.items)
+phase_of (phase.InExamplesTable flat_block rows) =
+    machine.InExamplesTable (flat_block_of flat_block) rows
 
--- before the first block, behind the language line or not
+-- before the first block, after the language line or not
 abbrev pub head_of : Bool → machine.Phase
-head_of true = machine.Spoken
-head_of false = machine.Before
+head_of true = machine.AfterLanguage
+head_of false = machine.Start
 
 abbrev pub state_at : Progress → machine.Phase → State
-state_at p phase = record { comments = p.comments; nodes = p.nodes; chunks = map chunk_of p.chunks; phase = phase }
+state_at p phase =
+    record {
+      comments = p.comments;
+      nodes = p.nodes;
+      flat_blocks = map flat_block_of p.flat_blocks;
+      phase = phase;
+    }
+
+-- what was made so far, where the phase doesn't matter
+abbrev pub made : Progress → State
+made p = state_at p machine.Start
 
 abbrev pub state_in : Progress → Phase → State
 state_in p phase = state_at p (phase_of phase)

@@ -3,10 +3,10 @@ ghost use Rattle.std.specs.Prelude.{◌≡◌, ◌∷◌, map, reverse, IfOk, On
 ghost use Rattle.gk_line.specs.declared.tokens.Block.TheVariants as block;
 ghost use Rattle.gk_grammar.specs.Assembly as assembly;
 ghost use Rattle.gk_grammar.specs.Assembly.{no_parts, with_block, feature_at, rule_at, scenario_at, examples_at, steps_of, rows_of, table_of};
-ghost use Rattle.gk_tree.specs.Views.{chunk_of, body_of};
+ghost use Rattle.gk_tree.specs.Views.{flat_block_of, body_of};
 ghost use Rattle.gk_tree.specs.Assembling.{parts_view};
 
-use crate::chunk::{Body, Chunk};
+use crate::flat_block::{Body, FlatBlock};
 use gk_document::{
     Background, ExampleTable, Examples, Feature, Row, Rule, Scenario, Sequence, Step, Text,
 };
@@ -14,7 +14,7 @@ use gk_line::Block;
 use std::alloc::{AllocError, Global};
 use std::mem::replace;
 
-/// What stands behind a block: the examples of a scenario, a background and scenarios of a feature or rule, and
+/// What stands after a block: the examples of a scenario, a background and scenarios of a feature or rule, and
 /// further rules. The lists are back to front.
 #[derive(Drop)]
 struct Parts {
@@ -40,24 +40,25 @@ fn put_before<T: Drop>(items: &mut Vec<T>, item: T) -> Result<(), AllocError>
 }
 
 /// The feature whose blocks these are, itself the first.
-pub(crate) fn assembled(
+pub(crate) fn build_feature(
     alloc: Global,
-    chunks: Sequence<Chunk>,
+    flat_blocks: Sequence<FlatBlock>,
 ) -> Result<Option<Feature>, AllocError>
-    ensures { IfOk result (λ f. f ≡ assembly.assembled (map chunk_of chunks)) }
+    ensures { IfOk result (λ f. f ≡ assembly.assembled (map flat_block_of flat_blocks)) }
 {
-    let mut chunks = chunks.into_vec();
-    if chunks.is_empty() {
+    let mut flat_blocks = flat_blocks.into_vec();
+    if flat_blocks.is_empty() {
         return Ok(None);
     }
-    let first = chunks.remove(0);
-    let parts = parts_of(alloc, chunks)?;
+    let first = flat_blocks.remove(0);
+    let parts = parts_of(alloc, flat_blocks)?;
     Ok(Some(feature(alloc, first, parts)?))
 }
 
 /// The parts that these blocks make.
-fn parts_of(alloc: Global, mut chunks: Vec<Chunk>) -> Result<Parts, AllocError>
-    ensures { IfOk result (λ p. parts_view p ≡ assembly.parts_of (map chunk_of chunks.items)) }
+fn parts_of(alloc: Global, mut flat_blocks: Vec<FlatBlock>) -> Result<Parts, AllocError>
+    ensures { IfOk result (λ p. parts_view p ≡ assembly.parts_of
+        (map flat_block_of flat_blocks.items)) }
 {
     let mut parts = Parts {
         examples: Vec::new(alloc),
@@ -65,22 +66,22 @@ fn parts_of(alloc: Global, mut chunks: Vec<Chunk>) -> Result<Parts, AllocError>
         scenarios: Vec::new(alloc),
         rules: Vec::new(alloc),
     };
-    while let Some(chunk) = chunks.pop() {
-        add_chunk(alloc, &mut parts, chunk)?;
+    while let Some(flat_block) = flat_blocks.pop() {
+        add_flat_block(alloc, &mut parts, flat_block)?;
     }
     Ok(parts)
 }
 
-fn feature(alloc: Global, chunk: Chunk, parts: Parts) -> Result<Feature, AllocError>
-    ensures { IfOk result (λ f. f ≡ feature_at (chunk_of chunk) (parts_view parts)) }
+fn feature(alloc: Global, flat_block: FlatBlock, parts: Parts) -> Result<Feature, AllocError>
+    ensures { IfOk result (λ f. f ≡ feature_at (flat_block_of flat_block) (parts_view parts)) }
 {
     Ok(Feature {
-        location: chunk.location,
-        tags: chunk.tags,
+        location: flat_block.location,
+        tags: flat_block.tags,
         language: Text::copy_of(alloc, "en")?,
-        keyword: chunk.keyword,
-        name: chunk.name,
-        description: chunk.description,
+        keyword: flat_block.keyword,
+        name: flat_block.name,
+        description: flat_block.description,
         background: parts.background,
         scenarios: in_order(parts.scenarios),
         rules: in_order(parts.rules),
@@ -88,94 +89,100 @@ fn feature(alloc: Global, chunk: Chunk, parts: Parts) -> Result<Feature, AllocEr
 }
 
 /// Adds one block before the parts.
-fn add_chunk(alloc: Global, parts: &mut Parts, chunk: Chunk) -> Result<(), AllocError>
-    ensures { OnOk result (parts_view parts.new ≡ with_block chunk.block (chunk_of chunk) (parts_view parts.old)) }
+fn add_flat_block(alloc: Global, parts: &mut Parts, flat_block: FlatBlock) -> Result<(), AllocError>
+    ensures { OnOk result (parts_view parts.new
+        ≡ with_block flat_block.block (flat_block_of flat_block) (parts_view parts.old)) }
 {
-    match chunk.block {
-        Block::Rule => add_rule(alloc, parts, chunk),
+    match flat_block.block {
+        Block::Rule => add_rule(alloc, parts, flat_block),
         Block::Background => {
-            add_background(alloc, parts, chunk);
+            add_background(alloc, parts, flat_block);
             Ok(())
         }
-        Block::Scenario => add_scenario(alloc, parts, chunk),
-        Block::Examples => put_before(&mut parts.examples, examples_block(chunk)),
+        Block::Scenario => add_scenario(alloc, parts, flat_block),
+        Block::Examples => put_before(&mut parts.examples, examples_block(flat_block)),
         Block::Feature => Ok(()),
     }
 }
 
-/// Adds a rule, which takes the background and the scenarios behind it.
-fn add_rule(alloc: Global, parts: &mut Parts, chunk: Chunk) -> Result<(), AllocError>
-    ensures { OnOk result (parts_view parts.new ≡ with_block block.Rule (chunk_of chunk) (parts_view parts.old)) }
+/// Adds a rule, which takes the background and the scenarios after it.
+fn add_rule(alloc: Global, parts: &mut Parts, flat_block: FlatBlock) -> Result<(), AllocError>
+    ensures { OnOk result (parts_view parts.new
+        ≡ with_block block.Rule (flat_block_of flat_block) (parts_view parts.old)) }
 {
     let background = parts.background.take();
     let scenarios = replace(&mut parts.scenarios, Vec::new(alloc));
-    put_before(&mut parts.rules, rule(chunk, background, scenarios))
+    put_before(&mut parts.rules, rule(flat_block, background, scenarios))
 }
 
 /// The rule with this background and these scenarios, which are back to front.
-fn rule(chunk: Chunk, background: Option<Background>, scenarios: Vec<Scenario>) -> Rule
-    ensures { result ≡ rule_at (chunk_of chunk) (record no_parts { background = background; scenarios = reverse scenarios.items }) }
+fn rule(flat_block: FlatBlock, background: Option<Background>, scenarios: Vec<Scenario>) -> Rule
+    ensures { result ≡ rule_at (flat_block_of flat_block)
+        (record no_parts { background = background; scenarios = reverse scenarios.items }) }
 {
     Rule {
-        node: chunk.node,
-        location: chunk.location,
-        tags: chunk.tags,
-        keyword: chunk.keyword,
-        name: chunk.name,
-        description: chunk.description,
+        node: flat_block.node,
+        location: flat_block.location,
+        tags: flat_block.tags,
+        keyword: flat_block.keyword,
+        name: flat_block.name,
+        description: flat_block.description,
         background,
         scenarios: in_order(scenarios),
     }
 }
 
-fn add_background(alloc: Global, parts: &mut Parts, chunk: Chunk)
-    ensures { parts_view parts.new ≡ with_block block.Background (chunk_of chunk) (parts_view parts.old) }
+fn add_background(alloc: Global, parts: &mut Parts, flat_block: FlatBlock)
+    ensures { parts_view parts.new ≡ with_block block.Background (flat_block_of flat_block)
+        (parts_view parts.old) }
 {
     parts.background = Some(Background {
-        node: chunk.node,
-        location: chunk.location,
-        keyword: chunk.keyword,
-        name: chunk.name,
-        description: chunk.description,
-        steps: steps(alloc, chunk.body),
+        node: flat_block.node,
+        location: flat_block.location,
+        keyword: flat_block.keyword,
+        name: flat_block.name,
+        description: flat_block.description,
+        steps: steps(alloc, flat_block.body),
     });
 }
 
-/// Adds a scenario, which takes the examples behind it.
-fn add_scenario(alloc: Global, parts: &mut Parts, chunk: Chunk) -> Result<(), AllocError>
-    ensures { OnOk result (parts_view parts.new ≡ with_block block.Scenario (chunk_of chunk) (parts_view parts.old)) }
+/// Adds a scenario, which takes the examples after it.
+fn add_scenario(alloc: Global, parts: &mut Parts, flat_block: FlatBlock) -> Result<(), AllocError>
+    ensures { OnOk result (parts_view parts.new
+        ≡ with_block block.Scenario (flat_block_of flat_block) (parts_view parts.old)) }
 {
     let examples = replace(&mut parts.examples, Vec::new(alloc));
-    put_before(&mut parts.scenarios, scenario(alloc, chunk, examples))
+    put_before(&mut parts.scenarios, scenario(alloc, flat_block, examples))
 }
 
 /// The scenario with these examples, which are back to front.
-fn scenario(alloc: Global, chunk: Chunk, examples: Vec<Examples>) -> Scenario
-    ensures { result ≡ scenario_at (chunk_of chunk) (record no_parts { examples = reverse examples.items }) }
+fn scenario(alloc: Global, flat_block: FlatBlock, examples: Vec<Examples>) -> Scenario
+    ensures { result ≡ scenario_at (flat_block_of flat_block)
+        (record no_parts { examples = reverse examples.items }) }
 {
     Scenario {
-        node: chunk.node,
-        location: chunk.location,
-        tags: chunk.tags,
-        keyword: chunk.keyword,
-        name: chunk.name,
-        description: chunk.description,
-        steps: steps(alloc, chunk.body),
+        node: flat_block.node,
+        location: flat_block.location,
+        tags: flat_block.tags,
+        keyword: flat_block.keyword,
+        name: flat_block.name,
+        description: flat_block.description,
+        steps: steps(alloc, flat_block.body),
         examples: in_order(examples),
     }
 }
 
-fn examples_block(chunk: Chunk) -> Examples
-    ensures { result ≡ examples_at (chunk_of chunk) }
+fn examples_block(flat_block: FlatBlock) -> Examples
+    ensures { result ≡ examples_at (flat_block_of flat_block) }
 {
     Examples {
-        node: chunk.node,
-        location: chunk.location,
-        tags: chunk.tags,
-        keyword: chunk.keyword,
-        name: chunk.name,
-        description: chunk.description,
-        table: table(chunk.body),
+        node: flat_block.node,
+        location: flat_block.location,
+        tags: flat_block.tags,
+        keyword: flat_block.keyword,
+        name: flat_block.name,
+        description: flat_block.description,
+        table: table(flat_block.body),
     }
 }
 

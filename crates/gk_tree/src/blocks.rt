@@ -1,17 +1,17 @@
-//! The lines in a description, and those behind a block.
+//! The lines in a description, and those after a block.
 ghost use Rattle.std.specs.Prelude.{◌≡◌, ◌<◌, ◌+◌, ◌^◌, [], ℕ, List, map, cond, Ok, Err};
 ghost use Rattle.gk_line.specs.Views.{line_chars, step_text};
 ghost use Rattle.gk_grammar.specs.declared.fault.FaultKind.TheVariants as kinds;
 ghost use Rattle.gk_grammar.specs.Token as read;
 ghost use Rattle.gk_grammar.specs.Grammar as grammar;
 ghost use Rattle.gk_grammar.specs.Machine as machine;
-ghost use Rattle.gk_tree.specs.Views.{text_of, token_view, line_at, chunk_of, kept_line, state_at, state_in, Gives};
+ghost use Rattle.gk_tree.specs.Views.{text_of, token_view, line_at, flat_block_of, kept_line, made, state_in, Gives};
 ghost use Rattle.gk_tree.specs.Read.{IsRead};
 
-use crate::chunk::{Body, Chunk};
 use crate::fault::ParseFault;
-use crate::header::{commented, opened, pass, spaced_tag, tagged, unexpected};
-use crate::state::{Phase, Progress, Stepped};
+use crate::flat_block::{Body, FlatBlock};
+use crate::headings::{add_tags, keep_comment_and_stay, open_block, pass, spaced_tag, unexpected};
+use crate::state::{BlockWithSteps, Phase, Progress};
 use crate::steps::{add_row, row_at, single_row, step_at};
 use crate::texts::description;
 use crate::token::{IndentedLine, Token};
@@ -19,7 +19,7 @@ use gk_document::{Cell, Row, Sequence};
 use gk_line::{Block, StepLine, Title};
 use std::alloc::Global;
 
-/// Whether the block may stand behind the other one, or be the first.
+/// Whether the block may stand after the other one, or be the first.
 pub(crate) fn follows(before: Option<Block>, block: Block) -> bool
     ensures { result ≡ machine.follows before block }
 {
@@ -36,7 +36,8 @@ pub(crate) fn follows(before: Option<Block>, block: Block) -> bool
 
 /// Whether the line ends a description of the block.
 fn stops(block: Block, token: &Token<'_>) -> bool
-    ensures { (n : ℕ) (text : List ℕ) (i : ℕ) → result ≡ grammar.stops block (read.line n text i (token_view token.now)) }
+    ensures { (n : ℕ) (text : List ℕ) (i : ℕ) → result
+        ≡ grammar.stops block (read.line n text i (token_view token.now)) }
 {
     match token {
         Token::Tags(_) | Token::SpacedTag(_) => true,
@@ -47,22 +48,24 @@ fn stops(block: Block, token: &Token<'_>) -> bool
     }
 }
 
-/// A line behind a whole block, which isn't part of it.
-pub(crate) fn leaving<'a>(
+/// A line after a whole block, which isn't part of it.
+pub(crate) fn close_block<'a>(
     alloc: Global,
     progress: &mut Progress,
-    chunk: Chunk,
+    flat_block: FlatBlock,
     at: IndentedLine<'a>,
     token: Token<'a>,
 ) -> Result<Phase<'a>, ParseFault>
     requires room { progress.old.nodes < 2 ^ 63 }
-    ensures { Gives (state_in progress.new) result (machine.leaving (state_at progress.old machine.Before) (chunk_of chunk) (line_at at.entry token.entry)) }
+    ensures { Gives (state_in progress.new) result
+        (machine.close_block (made progress.old) (flat_block_of flat_block)
+        (line_at at.entry token.entry)) }
 {
-    let block = chunk.block;
-    progress.chunks.push(chunk)?;
+    let block = flat_block.block;
+    progress.flat_blocks.push(flat_block)?;
     match token {
         Token::Tags(words) => {
-            tagged(
+            add_tags(
                 alloc,
                 progress,
                 Some(block),
@@ -77,7 +80,7 @@ pub(crate) fn leaving<'a>(
     }
 }
 
-/// A title line behind a block or before all, without tags.
+/// A title line after a block or before all, without tags.
 pub(crate) fn next_title<'a>(
     alloc: Global,
     progress: &mut Progress,
@@ -88,11 +91,16 @@ pub(crate) fn next_title<'a>(
 ) -> Result<Phase<'a>, ParseFault>
     requires room { progress.old.nodes < 2 ^ 63 }
     ensures { Gives (state_in progress.new) result (cond (machine.follows before next)
-        (Ok (machine.opened (state_at progress.old machine.Before) next [] at.entry.line.number at.entry.indent (text_of title.entry.keyword.now) (text_of title.entry.name.now)))
-        (Err (record { kind = kinds.Unexpected; line = at.entry.line.number; column = at.entry.indent + 1 }))) }
+        (Ok (machine.open_block (made progress.old) next [] at.entry.line.number at.entry.indent
+        (text_of title.entry.keyword.now) (text_of title.entry.name.now)))
+        (Err (record {
+          kind = kinds.Unexpected;
+          line = at.entry.line.number;
+          column = at.entry.indent + 1;
+        }))) }
 {
     if follows(before, next) {
-        opened(alloc, progress, next, Sequence::new(alloc), at, title)
+        open_block(alloc, progress, next, Sequence::new(alloc), at, title)
     } else {
         Err(unexpected(at))
     }
@@ -102,18 +110,20 @@ pub(crate) fn next_title<'a>(
 fn first_step<'a>(
     alloc: Global,
     progress: &mut Progress,
-    chunk: Chunk,
+    flat_block: FlatBlock,
     at: IndentedLine<'a>,
     line: StepLine<'a>,
 ) -> Result<Phase<'a>, ParseFault>
     requires room { progress.old.nodes < 2 ^ 63 }
-    ensures { Gives (state_in progress.new) result (machine.entering (state_at progress.old machine.Before) (chunk_of chunk)
-        (read.line at.entry.line.number (line_chars at.entry.line) at.entry.indent (read.step_token (step_text line.entry)))) }
+    ensures { Gives (state_in progress.new) result
+        (machine.after_description (made progress.old) (flat_block_of flat_block)
+        (read.line at.entry.line.number (line_chars at.entry.line) at.entry.indent
+        (read.step_token (step_text line.entry)))) }
 {
     let last = step_at(alloc, progress.nodes, at, line)?;
     progress.nodes += 1;
-    Ok(Phase::Stepping(Stepped {
-        chunk,
+    Ok(Phase::AfterStep(BlockWithSteps {
+        flat_block,
         before: Sequence::new(alloc),
         last,
     }))
@@ -123,90 +133,102 @@ fn first_step<'a>(
 fn first_row<'a>(
     alloc: Global,
     progress: &mut Progress,
-    chunk: Chunk,
+    flat_block: FlatBlock,
     at: IndentedLine<'a>,
     cells: Sequence<Cell>,
 ) -> Result<Phase<'a>, ParseFault>
     requires room { progress.old.nodes < 2 ^ 63 }
-    ensures { Gives (state_in progress.new) result (machine.entering (state_at progress.old machine.Before) (chunk_of chunk)
-        (read.line at.entry.line.number (line_chars at.entry.line) at.entry.indent (read.Row cells))) }
+    ensures { Gives (state_in progress.new) result
+        (machine.after_description (made progress.old) (flat_block_of flat_block)
+        (read.line at.entry.line.number (line_chars at.entry.line) at.entry.indent
+        (read.Row cells))) }
 {
     let rows = single_row(alloc, row_at(progress.nodes, at, cells))?;
     progress.nodes += 1;
-    Ok(Phase::Listing(chunk, rows))
+    Ok(Phase::InExamplesTable(flat_block, rows))
 }
 
-/// The first line behind a description.
-fn entering<'a>(
+/// The first line after a description.
+fn after_description<'a>(
     alloc: Global,
     progress: &mut Progress,
-    chunk: Chunk,
+    flat_block: FlatBlock,
     at: IndentedLine<'a>,
     token: Token<'a>,
 ) -> Result<Phase<'a>, ParseFault>
     requires room { progress.old.nodes < 2 ^ 63 }
-    ensures { Gives (state_in progress.new) result (machine.entering (state_at progress.old machine.Before) (chunk_of chunk) (line_at at.entry token.entry)) }
+    ensures { Gives (state_in progress.new) result
+        (machine.after_description (made progress.old) (flat_block_of flat_block)
+        (line_at at.entry token.entry)) }
 {
     match token {
-        Token::Step(line) => first_step(alloc, progress, chunk, at, line),
-        Token::Row(cells) => first_row(alloc, progress, chunk, at, cells),
-        token => leaving(alloc, progress, chunk, at, token),
+        Token::Step(line) => first_step(alloc, progress, flat_block, at, line),
+        Token::Row(cells) => first_row(alloc, progress, flat_block, at, cells),
+        token => close_block(alloc, progress, flat_block, at, token),
     }
 }
 
-/// A line in or behind a description.
-pub(crate) fn describing<'a>(
+/// A line in or after a description.
+pub(crate) fn in_description<'a>(
     alloc: Global,
     progress: &mut Progress,
-    mut chunk: Chunk,
+    mut flat_block: FlatBlock,
     mut lines: Vec<IndentedLine<'a>>,
     at: IndentedLine<'a>,
     token: Token<'a>,
 ) -> Result<Phase<'a>, ParseFault>
     requires room { progress.old.nodes < 2 ^ 63 }
     requires read { IsRead at token }
-    ensures { Gives (state_in progress.new) result (machine.at_phase (state_at progress.old machine.Before)
-        (machine.Described (chunk_of chunk) (map kept_line lines.entry.items)) (line_at at.entry token.entry)) }
+    ensures { Gives (state_in progress.new) result (machine.at_phase (made progress.old)
+        (machine.InDescription (flat_block_of flat_block) (map kept_line lines.entry.items))
+        (line_at at.entry token.entry)) }
 {
-    if stops(chunk.block, &token) {
-        chunk.description = description(alloc, &lines)?;
-        return entering(alloc, progress, chunk, at, token);
+    if stops(flat_block.block, &token) {
+        flat_block.description = description(alloc, &lines)?;
+        return after_description(alloc, progress, flat_block, at, token);
     }
     pass(alloc, progress, at, &token)?;
     lines.push(at)?;
-    Ok(Phase::Described(chunk, lines))
+    Ok(Phase::InDescription(flat_block, lines))
 }
 
-/// A line behind rows of an examples table.
-pub(crate) fn listing<'a>(
+/// A line after rows of an examples table.
+pub(crate) fn in_examples_table<'a>(
     alloc: Global,
     progress: &mut Progress,
-    chunk: Chunk,
+    flat_block: FlatBlock,
     mut rows: Sequence<Row>,
     at: IndentedLine<'a>,
     token: Token<'a>,
 ) -> Result<Phase<'a>, ParseFault>
     requires room { progress.old.nodes < 2 ^ 63 }
-    ensures { Gives (state_in progress.new) result (machine.listing (state_at progress.old machine.Before) (chunk_of chunk) rows (line_at at.entry token.entry)) }
+    ensures { Gives (state_in progress.new) result
+        (machine.in_examples_table (made progress.old) (flat_block_of flat_block) rows
+        (line_at at.entry token.entry)) }
 {
     match token {
         Token::Row(cells) => {
             add_row(&mut rows, row_at(progress.nodes, at, cells))?;
             progress.nodes += 1;
-            Ok(Phase::Listing(chunk, rows))
+            Ok(Phase::InExamplesTable(flat_block, rows))
         }
-        Token::Blank => Ok(Phase::Listing(chunk, rows)),
+        Token::Blank => Ok(Phase::InExamplesTable(flat_block, rows)),
         Token::Comment | Token::Language(_) => {
-            commented(alloc, progress, Phase::Listing(chunk, rows), at)
+            keep_comment_and_stay(
+                alloc,
+                progress,
+                Phase::InExamplesTable(flat_block, rows),
+                at,
+            )
         }
-        token => leaving(alloc, progress, with_rows(chunk, rows), at, token),
+        token => close_block(alloc, progress, with_rows(flat_block, rows), at, token),
     }
 }
 
 /// The block with these rows below it.
-pub(crate) fn with_rows(mut chunk: Chunk, rows: Sequence<Row>) -> Chunk
-    ensures { chunk_of result ≡ machine.with_rows (chunk_of chunk) rows }
+pub(crate) fn with_rows(mut flat_block: FlatBlock, rows: Sequence<Row>) -> FlatBlock
+    ensures { flat_block_of result ≡ machine.with_rows (flat_block_of flat_block) rows }
 {
-    chunk.body = Body::Rows(rows);
-    chunk
+    flat_block.body = Body::Rows(rows);
+    flat_block
 }

@@ -2,12 +2,12 @@
 #![tactic(auto)]
 
 mod assemble;
-mod before;
 mod blocks;
-mod chunk;
 mod fault;
-mod header;
-mod one_pass;
+mod flat_block;
+mod headings;
+mod parse_text;
+mod prelude;
 mod read;
 mod state;
 mod steps;
@@ -20,4 +20,4 @@ pub use gk_document::{
     Row, Rule, Scenario, Step, Tag, same_skeleton,
 };
 pub use gk_grammar::FaultKind;
-pub use one_pass::parse;
+pub use parse_text::parse;

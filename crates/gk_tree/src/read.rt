@@ -64,7 +64,8 @@ fn comment_token(line: Line<'_>) -> Token<'_>
 fn tag_token(alloc: Global, line: Line<'_>) -> Result<Token<'_>, AllocError>
     requires tags { IsTrue (begins_by (codes "@") (line_chars line)) }
     requires short { length line.text.now ≤ 16_777_216 }
-    ensures { IfOk result (λ t. token_view t ≡ read.Tags (tag_list (spaced_piece (line_chars line.entry)) (tags_of (line_chars line.entry)))) }
+    ensures { IfOk result (λ t. token_view t ≡ read.Tags
+        (tag_list (spaced_piece (line_chars line.entry)) (tags_of (line_chars line.entry)))) }
 {
     match tags(alloc, line) {
         Ok(words) => Ok(Token::Tags(TagWords { words })),

@@ -1,5 +1,5 @@
 //! The state of the one pass over the lines.
-use crate::chunk::Chunk;
+use crate::flat_block::FlatBlock;
 use crate::token::IndentedLine;
 use gk_document::{Comment, Fence, Location, Row, Sequence, Step, Tag};
 use gk_line::Block;
@@ -9,20 +9,20 @@ use gk_line::Block;
 pub(crate) struct Progress {
     pub comments: Sequence<Comment>,
     pub nodes: u64,
-    pub chunks: Sequence<Chunk>,
+    pub flat_blocks: Sequence<FlatBlock>,
 }
 
 /// A block with the steps below it, of which there is a last one.
 #[derive(Drop)]
-pub(crate) struct Stepped {
-    pub chunk: Chunk,
+pub(crate) struct BlockWithSteps {
+    pub flat_block: FlatBlock,
     pub before: Sequence<Step>,
     pub last: Step,
 }
 
 /// An open doc string.
 #[derive(Clone, Copy)]
-pub(crate) struct Quote<'a> {
+pub(crate) struct OpenDocString<'a> {
     pub location: Location,
     pub fence: Fence,
     pub media: &'a str,
@@ -33,19 +33,19 @@ pub(crate) struct Quote<'a> {
 #[derive(Drop)]
 pub(crate) enum Phase<'a> {
     /// Before the first tag line or feature line; no language line yet.
-    Before,
-    /// The same, behind the language line.
-    Spoken,
-    /// Behind tag lines, and the block before them.
-    Tagged(Option<Block>, Sequence<Tag>),
+    Start,
+    /// After the language line, before the first tag line or feature line.
+    AfterLanguage,
+    /// After tag lines, and the block before them.
+    AfterTags(Option<Block>, Sequence<Tag>),
     /// In the description of a block, with its lines so far.
-    Described(Chunk, Vec<IndentedLine<'a>>),
-    /// Behind steps.
-    Stepping(Stepped),
+    InDescription(FlatBlock, Vec<IndentedLine<'a>>),
+    /// After steps.
+    AfterStep(BlockWithSteps),
     /// In the doc string of the last step, with its lines so far.
-    Quoting(Stepped, Quote<'a>, Vec<IndentedLine<'a>>),
-    /// Behind rows of an examples table.
-    Listing(Chunk, Sequence<Row>),
+    InDocString(BlockWithSteps, OpenDocString<'a>, Vec<IndentedLine<'a>>),
+    /// After rows of an examples table.
+    InExamplesTable(FlatBlock, Sequence<Row>),
 }
 
 /// Between two lines: what was made of those before, and where the pass stands.

@@ -4,16 +4,16 @@ ghost use Rattle.gk_line.specs.Views.{line_chars, step_text};
 ghost use Rattle.gk_grammar.specs.Token as read;
 ghost use Rattle.gk_grammar.specs.Grammar as grammar;
 ghost use Rattle.gk_grammar.specs.Machine as machine;
-ghost use Rattle.gk_tree.specs.Views.{text_of, token_view, line_at, chunk_of, quote_of, kept_line, state_at, state_in, Gives};
+ghost use Rattle.gk_tree.specs.Views.{text_of, token_view, line_at, flat_block_of, open_doc_string_of, kept_line, made, state_in, Gives};
 ghost use Rattle.gk_tree.specs.Rows.{rows_with, row_behind};
 ghost use Rattle.gk_tree.specs.Read.{IsRead};
 ghost use Rattle.gk_tree.specs.declared.state.Progress.{Progress};
 
-use crate::blocks::leaving;
-use crate::chunk::{Body, Chunk};
+use crate::blocks::close_block;
 use crate::fault::ParseFault;
-use crate::header::{commented, fault, location, unexpected};
-use crate::state::{Phase, Progress, Quote, Stepped};
+use crate::flat_block::{Body, FlatBlock};
+use crate::headings::{fault, keep_comment_and_stay, location, unexpected};
+use crate::state::{BlockWithSteps, OpenDocString, Phase, Progress};
 use crate::texts::{content, copied, media_type};
 use crate::token::{IndentedLine, Token};
 use gk_document::{Argument, Cell, DocString, Row, Sequence, Step};
@@ -24,7 +24,12 @@ use std::mem::replace;
 
 /// The row that the line is.
 pub(crate) fn row_at(node: u64, at: IndentedLine<'_>, cells: Sequence<Cell>) -> Row
-    ensures { result ≡ record { node = node; location = grammar.at at.entry.line.number (at.entry.indent + 1); cells = cells } }
+    ensures { result ≡ record {
+      node = node;
+      location = grammar.at at.entry.line.number
+          (at.entry.indent + 1);
+      cells = cells;
+    } }
 {
     Row {
         node,
@@ -90,36 +95,41 @@ fn cell_count(rows: &[Row]) -> usize
 }
 
 /// The block with its steps below it.
-pub(crate) fn with_steps(stepped: Stepped) -> Result<Chunk, AllocError>
-    ensures { IfOk result (λ c. chunk_of c ≡ machine.with_steps (chunk_of stepped.chunk) (stepped.before ++ stepped.last ∷ [])) }
+pub(crate) fn with_steps(stepped: BlockWithSteps) -> Result<FlatBlock, AllocError>
+    ensures { IfOk result (λ c. flat_block_of c
+        ≡ machine.with_steps (flat_block_of stepped.flat_block)
+        (stepped.before ++ stepped.last ∷ [])) }
 {
-    let Stepped {
-        mut chunk,
+    let BlockWithSteps {
+        mut flat_block,
         mut before,
         last,
     } = stepped;
     before.push(last)?;
-    chunk.body = Body::Steps(before);
-    Ok(chunk)
+    flat_block.body = Body::Steps(before);
+    Ok(flat_block)
 }
 
-/// A step line behind steps.
+/// A step line after steps.
 fn next_step<'a>(
     alloc: Global,
     progress: &mut Progress,
-    mut stepped: Stepped,
+    mut stepped: BlockWithSteps,
     at: IndentedLine<'a>,
     line: StepLine<'a>,
 ) -> Result<Phase<'a>, ParseFault>
     requires room { progress.old.nodes < 2 ^ 63 }
-    ensures { Gives (state_in progress.new) result (machine.stepping (state_at progress.old machine.Before) (chunk_of stepped.chunk) stepped.before stepped.last
-        (read.line at.entry.line.number (line_chars at.entry.line) at.entry.indent (read.step_token (step_text line.entry)))) }
+    ensures { Gives (state_in progress.new) result
+        (machine.after_step (made progress.old)
+        (flat_block_of stepped.flat_block) stepped.before stepped.last
+        (read.line at.entry.line.number (line_chars at.entry.line) at.entry.indent
+        (read.step_token (step_text line.entry)))) }
 {
     let step = step_at(alloc, progress.nodes, at, line)?;
     let last = replace(&mut stepped.last, step);
     stepped.before.push(last)?;
     progress.nodes += 1;
-    Ok(Phase::Stepping(stepped))
+    Ok(Phase::AfterStep(stepped))
 }
 
 /// Adds a row to the table of a step, which may be its first row.
@@ -138,81 +148,89 @@ fn add_step_row(alloc: Global, step: &mut Step, row: Row) -> Result<(), ParseFau
     Ok(())
 }
 
-/// A row line behind steps.
+/// A row line after steps.
 fn next_row<'a>(
     alloc: Global,
     progress: &mut Progress,
-    mut stepped: Stepped,
+    mut stepped: BlockWithSteps,
     at: IndentedLine<'a>,
     cells: Sequence<Cell>,
 ) -> Result<Phase<'a>, ParseFault>
     requires room { progress.old.nodes < 2 ^ 63 }
-    ensures { Gives (state_in progress.new) result (machine.stepping (state_at progress.old machine.Before) (chunk_of stepped.chunk) stepped.before stepped.last
-        (read.line at.entry.line.number (line_chars at.entry.line) at.entry.indent (read.Row cells))) }
+    ensures { Gives (state_in progress.new) result
+        (machine.after_step (made progress.old)
+        (flat_block_of stepped.flat_block) stepped.before stepped.last
+        (read.line at.entry.line.number (line_chars at.entry.line) at.entry.indent
+        (read.Row cells))) }
 {
     let row = row_at(progress.nodes, at, cells);
     add_step_row(alloc, &mut stepped.last, row)?;
     progress.nodes += 1;
-    Ok(Phase::Stepping(stepped))
+    Ok(Phase::AfterStep(stepped))
 }
 
-/// A fence behind a step.
+/// A fence after a step.
 fn step_fence<'a>(
     alloc: Global,
-    stepped: Stepped,
+    stepped: BlockWithSteps,
     at: IndentedLine<'a>,
     line: FenceLine<'a>,
 ) -> Result<Phase<'a>, ParseFault>
-    ensures { (p : Progress) → Gives (state_in p) result (machine.step_fence (state_at p machine.Before) (chunk_of stepped.chunk) stepped.before stepped.last
-        stepped.last.argument at.entry.line.number at.entry.indent line.entry.fence (text_of line.entry.media.now)) }
+    ensures { (p : Progress) → Gives (state_in p) result
+        (machine.step_fence (made p) (flat_block_of stepped.flat_block) stepped.before stepped.last
+        stepped.last.argument at.entry.line.number at.entry.indent line.entry.fence
+        (text_of line.entry.media.now)) }
 {
     if stepped.last.argument.is_some() {
         return Err(unexpected(at));
     }
-    let quote = Quote {
+    let quote = OpenDocString {
         location: location(at),
         fence: line.fence,
         media: line.media,
         indent: at.indent,
     };
-    Ok(Phase::Quoting(stepped, quote, Vec::new(alloc)))
+    Ok(Phase::InDocString(stepped, quote, Vec::new(alloc)))
 }
 
-/// A line behind a whole block with steps, which isn't part of it.
+/// A line after a whole block with steps, which isn't part of it.
 fn leaving_steps<'a>(
     alloc: Global,
     progress: &mut Progress,
-    stepped: Stepped,
+    stepped: BlockWithSteps,
     at: IndentedLine<'a>,
     token: Token<'a>,
 ) -> Result<Phase<'a>, ParseFault>
     requires room { progress.old.nodes < 2 ^ 63 }
-    ensures { Gives (state_in progress.new) result (machine.leaving (state_at progress.old machine.Before)
-        (machine.with_steps (chunk_of stepped.chunk) (stepped.before ++ stepped.last ∷ [])) (line_at at.entry token.entry)) }
+    ensures { Gives (state_in progress.new) result (machine.close_block (made progress.old)
+        (machine.with_steps (flat_block_of stepped.flat_block)
+        (stepped.before ++ stepped.last ∷ [])) (line_at at.entry token.entry)) }
 {
-    let chunk = with_steps(stepped)?;
-    leaving(alloc, progress, chunk, at, token)
+    let flat_block = with_steps(stepped)?;
+    close_block(alloc, progress, flat_block, at, token)
 }
 
-/// A line behind steps.
-pub(crate) fn stepping<'a>(
+/// A line after steps.
+pub(crate) fn after_step<'a>(
     alloc: Global,
     progress: &mut Progress,
-    stepped: Stepped,
+    stepped: BlockWithSteps,
     at: IndentedLine<'a>,
     token: Token<'a>,
 ) -> Result<Phase<'a>, ParseFault>
     requires room { progress.old.nodes < 2 ^ 63 }
-    ensures { Gives (state_in progress.new) result (machine.stepping (state_at progress.old machine.Before) (chunk_of stepped.chunk) stepped.before stepped.last
+    ensures { Gives (state_in progress.new) result
+        (machine.after_step (made progress.old)
+        (flat_block_of stepped.flat_block) stepped.before stepped.last
         (line_at at.entry token.entry)) }
 {
     match token {
         Token::Step(line) => next_step(alloc, progress, stepped, at, line),
         Token::Row(cells) => next_row(alloc, progress, stepped, at, cells),
         Token::Fenced(line) => step_fence(alloc, stepped, at, line),
-        Token::Blank => Ok(Phase::Stepping(stepped)),
+        Token::Blank => Ok(Phase::AfterStep(stepped)),
         Token::Comment | Token::Language(_) => {
-            commented(alloc, progress, Phase::Stepping(stepped), at)
+            keep_comment_and_stay(alloc, progress, Phase::AfterStep(stepped), at)
         }
         token => leaving_steps(alloc, progress, stepped, at, token),
     }
@@ -221,10 +239,11 @@ pub(crate) fn stepping<'a>(
 /// The doc string of these lines.
 fn doc_string(
     alloc: Global,
-    quote: Quote<'_>,
+    quote: OpenDocString<'_>,
     lines: &[IndentedLine<'_>],
 ) -> Result<DocString, AllocError>
-    ensures { IfOk result (λ d. d ≡ machine.doc_string (quote_of quote.entry) (map kept_line lines.now)) }
+    ensures { IfOk result (λ d. d ≡ machine.doc_string (open_doc_string_of quote.entry)
+        (map kept_line lines.now)) }
 {
     Ok(DocString {
         location: quote.location,
@@ -235,30 +254,33 @@ fn doc_string(
 }
 
 /// A line in a doc string, or the one that closes it.
-pub(crate) fn quoting<'a>(
+pub(crate) fn in_doc_string<'a>(
     alloc: Global,
-    mut stepped: Stepped,
-    quote: Quote<'a>,
+    mut stepped: BlockWithSteps,
+    quote: OpenDocString<'a>,
     mut lines: Vec<IndentedLine<'a>>,
     at: IndentedLine<'a>,
     token: &Token<'a>,
 ) -> Result<Phase<'a>, ParseFault>
     requires { IsRead at token.now }
-    ensures { (p : Progress) → Gives (state_in p) result (machine.at_phase (state_at p machine.Before)
-        (machine.Quoting (chunk_of stepped.chunk) stepped.before stepped.last (quote_of quote.entry) (map kept_line lines.entry.items)) (line_at at.entry token.now)) }
+    ensures { (p : Progress) → Gives (state_in p) result (machine.at_phase (made p)
+        (machine.InDocString (flat_block_of stepped.flat_block) stepped.before stepped.last
+        (open_doc_string_of quote.entry) (map kept_line lines.entry.items))
+        (line_at at.entry token.now)) }
 {
     if is_fence(quote, token) {
         let text = doc_string(alloc, quote, &lines)?;
         stepped.last.argument = Some(Argument::Text(text));
-        return Ok(Phase::Stepping(stepped));
+        return Ok(Phase::AfterStep(stepped));
     }
     lines.push(at)?;
-    Ok(Phase::Quoting(stepped, quote, lines))
+    Ok(Phase::InDocString(stepped, quote, lines))
 }
 
 /// Whether the line closes the doc string.
-fn is_fence(quote: Quote<'_>, token: &Token<'_>) -> bool
-    ensures { (n : ℕ) (text : List ℕ) (i : ℕ) → result ≡ grammar.is_fence quote.entry.fence (read.line n text i (token_view token.now)) }
+fn is_fence(quote: OpenDocString<'_>, token: &Token<'_>) -> bool
+    ensures { (n : ℕ) (text : List ℕ) (i : ℕ) → result
+        ≡ grammar.is_fence quote.entry.fence (read.line n text i (token_view token.now)) }
 {
     match token {
         Token::Fenced(line) => line.fence == quote.fence,

@@ -51,7 +51,8 @@ fn without_comments<'a>(
     alloc: Global,
     lines: &[IndentedLine<'a>],
 ) -> Result<Vec<IndentedLine<'a>>, AllocError>
-    ensures { IfOk result (λ v. map kept_line v.items ≡ filter (λ l. not (read.is_comment l)) (map kept_line lines.now)) }
+    ensures { IfOk result (λ v. map kept_line v.items
+        ≡ filter (λ l. not (read.is_comment l)) (map kept_line lines.now)) }
 {
     let mut kept = Vec::new(alloc);
     for line in lines {
@@ -86,11 +87,12 @@ fn without_last_blanks<'a, 'l>(lines: &'l [IndentedLine<'a>]) -> &'l [IndentedLi
     &lines[..0]
 }
 
-/// Adds a line, behind a line feed if it isn't the first.
+/// Adds a line, after a line feed if it isn't the first.
 #[tactic(auto, using(crate::proofs::TextLemmas::text_same))]
 fn push_line(text: &mut String, is_first: bool, line: &str) -> Result<(), AllocError>
     ensures { OnOk result (string_bytes text.new
-        ≡ (if is_first then string_bytes text.old ++ text_of line.now else (string_bytes text.old ++ line_feed ∷ []) ++ text_of line.now)) }
+        ≡ (if is_first then string_bytes text.old ++ text_of line.now
+        else (string_bytes text.old ++ line_feed ∷ []) ++ text_of line.now)) }
 {
     if is_first {
         text.push_str(line)?;
@@ -103,7 +105,8 @@ fn push_line(text: &mut String, is_first: bool, line: &str) -> Result<(), AllocE
 
 /// The lines with a line feed between them.
 fn joined(alloc: Global, lines: &[IndentedLine<'_>]) -> Result<Text, AllocError>
-    ensures { IfOk result (λ t. t ≡ join_with_byte line_feed (map bytes (map kept_line lines.now))) }
+    ensures { IfOk result (λ t. t ≡ join_with_byte line_feed
+        (map bytes (map kept_line lines.now))) }
 {
     let mut text = String::new(alloc);
     for (i, line) in lines.iter().enumerate() {
@@ -112,7 +115,7 @@ fn joined(alloc: Global, lines: &[IndentedLine<'_>]) -> Result<Text, AllocError>
     Ok(Text::from(text))
 }
 
-/// Adds what a line says inside a doc string, behind a line feed if it isn't the first.
+/// Adds what a line says inside a doc string, after a line feed if it isn't the first.
 fn push_content_line(
     text: &mut String,
     is_first: bool,
@@ -121,8 +124,10 @@ fn push_content_line(
     indent: u32,
 ) -> Result<(), AllocError>
     ensures { OnOk result (string_bytes text.new
-        ≡ (if is_first then string_bytes text.old ++ content_line fence indent (kept_line line.entry)
-        else (string_bytes text.old ++ line_feed ∷ []) ++ content_line fence indent (kept_line line.entry))) }
+        ≡ (if is_first then string_bytes text.old
+        ++ content_line fence indent (kept_line line.entry)
+        else (string_bytes text.old ++ line_feed ∷ [])
+        ++ content_line fence indent (kept_line line.entry))) }
 {
     if is_first {
         return push_doc_line(text, line.line, fence, indent);
@@ -138,7 +143,8 @@ pub(crate) fn content(
     fence: Fence,
     indent: u32,
 ) -> Result<Text, AllocError>
-    ensures { IfOk result (λ t. t ≡ join_with_byte line_feed (map (content_line fence indent) (map kept_line lines.now))) }
+    ensures { IfOk result (λ t. t ≡ join_with_byte line_feed
+        (map (content_line fence indent) (map kept_line lines.now))) }
 {
     let mut text = String::new(alloc);
     for (i, line) in lines.iter().enumerate() {

@@ -20,7 +20,7 @@ pub(crate) struct TagWords<'a> {
     ghost few: { vec_len words ≤ 16_777_216 },
 }
 
-/// What a line is read as, behind its indent.
+/// What a line is read as, after its indent.
 #[derive(Drop)]
 pub(crate) enum Token<'a> {
     Blank,

@@ -1,7 +1,8 @@
 //! Envelopes, audits and written features in want of memory.
 use crate::devices::{expecting, whole};
 use crate::meeting::{Came, PIECES, SMALL, meet_alone, right_if};
-use cm_audit::{CompileFault, Counts, Verdict, audit, write_compiled};
+use cm_audit::{Counts, Verdict, audit};
+use cm_compile::{CompileFault, write_compiled};
 use cm_envelope::{Envelope, ShapeFault, Trouble, read_envelope};
 use std::alloc::Global;
 use std::test::Fail;

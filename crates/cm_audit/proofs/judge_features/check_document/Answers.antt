@@ -1,7 +1,7 @@
 use Rattle.std.proofs.Common.{◌≡◌, ◌∙◌, refl, ap, sym, true, false, Some, None}
 use Rattle.cm_attempt.specs.Table.{has_text, has_repeat}
 use Rattle.cm_stream.specs.Skeleton.{same_skeleton}
-use Rattle.cm_summary.specs.Findings.{find_source, is_accepted_by}
+use Rattle.cm_state.specs.StateChecks.{find_source, is_accepted_by}
 use Rattle.cm_audit.specs.Kept.{IsAcceptedAt, accepted_row, kept_row, kept_rows}
 use Rattle.cm_audit.specs.State.{summary_of}
 use Rattle.cm_audit.proofs.Judged.{document_again, document_differs, document_fits, document_of_refused, document_repeats, document_unknown, halts, no_answer}

@@ -1,7 +1,7 @@
 use Rattle.std.proofs.Common.{rules, sym}
 use Rattle.std.specs.Str.{bytes_eq}
 use Rattle.cm_refs.proofs.EntryLemmas.{first_entry, no_entry}
-use Rattle.cm_summary.specs.Summary.{one_more}
+use Rattle.cm_state.specs.Summary.{one_more}
 use Rattle.cm_audit.specs.Kept.{kept_row}
 use Rattle.cm_audit.proofs.KeptRows.{more_bare, row_says}
 use Rattle.cm_audit.proofs.judge_features.count_pickle.Goals as goal

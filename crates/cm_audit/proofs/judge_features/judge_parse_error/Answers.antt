@@ -1,7 +1,7 @@
 use Rattle.std.proofs.Common.{◌≡◌, ◌∙◌, refl, ap, sym, true, false, None, Some, Bor}
 use Rattle.std.specs.Prelude.{find, option_map}
 use Rattle.std.specs.Str.{bytes_eq}
-use Rattle.cm_summary.specs.Findings.{is_accepted_by}
+use Rattle.cm_state.specs.StateChecks.{is_accepted_by}
 use Rattle.cm_audit.specs.Kept.{accepted_row, kept_row, kept_rows}
 use Rattle.cm_audit.specs.State.{summary_of}
 use Rattle.cm_audit.specs.declared.source.Kept.{Kept}

@@ -3,7 +3,7 @@ use Rattle.std.specs.Str.{bytes_eq}
 use Rattle.std.specs.String.{string_bytes}
 use Rattle.cm_refs.specs.Declarations.{Declarations, with_pickle}
 use Rattle.cm_envelope.specs.declared.envelope.Envelope.TheVariants.{Pickle}
-use Rattle.cm_summary.specs.Summary.{SourceRow, change_source, one_more}
+use Rattle.cm_state.specs.Summary.{SourceRow, change_source, one_more}
 use Rattle.cm_audit.specs.Kept.{HasMoreAt, kept_rows}
 use Rattle.cm_audit.specs.State.{summary_of}
 use Rattle.cm_audit.specs.Stops.{refused_reference}

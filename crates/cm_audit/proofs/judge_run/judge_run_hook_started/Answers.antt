@@ -2,7 +2,7 @@ use Rattle.std.proofs.Common.{◌≡◌, ◌∙◌, ap, sym, true, false}
 use Rattle.std.specs.Prelude.{is_none, is_some}
 use Rattle.cm_refs.specs.Declarations.{Declarations, find_run_hook, with_run_hook}
 use Rattle.cm_envelope.specs.declared.envelope.Envelope.TheVariants.{TestRunHookStarted}
-use Rattle.cm_summary.specs.Findings.{knows_run_hook}
+use Rattle.cm_state.specs.StateChecks.{knows_run_hook}
 use Rattle.cm_audit.specs.State.{summary_of}
 use Rattle.cm_audit.specs.Stops.{refused_reference}
 use Rattle.cm_audit.proofs.Judged.{free_by, hook_fits, hook_told, is_there, stops}

@@ -5,4 +5,4 @@ use Rattle.gk_tree.proofs.steps.leaving_steps.Goals as goal
 
 pub returns : goal.returns
 returns c =
-    subst (λ (z : machine.Chunk). Gives (state_in c.leaving.new.progress) c.leaving.result (machine.leaving (state_at c.args.progress.now machine.Before) z (line_at c.args.at c.args.token))) c.in_ok-chunk.ensures c.leaving.ensures
+    subst (λ (z : machine.FlatBlock). Gives (state_in c.close_block.new.progress) c.close_block.result (machine.close_block (state_at c.args.progress.now machine.Start) z (line_at c.args.at c.args.token))) c.in_ok-flat_block.ensures c.close_block.ensures

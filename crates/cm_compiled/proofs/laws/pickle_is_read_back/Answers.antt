@@ -1,5 +1,0 @@
-use Rattle.cm_compiled.proofs.Pickles.{pickle_is}
-use Rattle.cm_compiled.proofs.laws.pickle_is_read_back.Goals as goal
-
-pub returns : goal.returns
-returns c = pickle_is

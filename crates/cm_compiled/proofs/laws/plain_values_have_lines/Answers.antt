@@ -1,5 +1,0 @@
-use Rattle.cm_compiled.proofs.Values.{plain_have_lines}
-use Rattle.cm_compiled.proofs.laws.plain_values_have_lines.Goals as goal
-
-pub returns : goal.returns
-returns c = plain_have_lines

@@ -1,5 +1,0 @@
-use Rattle.cm_compiled.proofs.Pickles.{source_is}
-use Rattle.cm_compiled.proofs.laws.source_is_read_back.Goals as goal
-
-pub returns : goal.returns
-returns c = source_is

@@ -1,7 +1,0 @@
-//! Compiling and judging agree.
-ghost use Rattle.cm_good.specs.Law.{CompiledAreGood};
-
-/// The bytes that a text compiles to, with the lines of a run that does nothing behind them, are a good stream.
-pub fn compiled_streams_are_good()
-    ensures { CompiledAreGood }
-{}

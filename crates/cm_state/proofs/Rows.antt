@@ -1,0 +1,134 @@
+-- What one more line changes in what is kept of the sources.
+use Rattle.std.proofs.Common.{◌≡◌, refl, sym, ap, ◌∙◌, List, [], ◌∷◌, ◌++◌, Option, Some, None, true, false, append-nil, subst, map, length, arith}
+use Rattle.std.specs.Prelude.{nat_lt, find}
+use Rattle.std.specs.List.{AllByRecursion, filter, filter_map}
+use Rattle.std.specs.Option.{option_map}
+use Rattle.std.specs.Str.{bytes_eq}
+use Rattle.cm_stream.specs.Texts.{Text}
+use Rattle.cm_stream.specs.Words.{Name, SourceOf, DocumentOf, times_declared, refers, as_source, as_document, as_pickle, sources, documents_of, pickles_of}
+use Rattle.cm_envelope.specs.declared.envelope.Envelope.{Envelope}
+use Rattle.cm_envelope.specs.declared.envelope.Envelope.TheVariants as envelope
+use Rattle.cm_envelope.specs.declared.envelope.Source.{Source}
+use Rattle.cm_envelope.specs.declared.envelope.GherkinDocument.{GherkinDocument}
+use Rattle.cm_envelope.specs.declared.pickle.Pickle.{Pickle}
+use Rattle.cm_stream.proofs.Lists.{or_false, keeps_none, length-both}
+use Rattle.cm_stream.proofs.Found.{bytes_same, bytes_are}
+use Rattle.cm_stream.proofs.Declared.{declares_source, declares_document, document_is, pickle_is}
+use Rattle.cm_stream.proofs.Documents.{documents_both, pickles_both}
+use Rattle.cm_stream.proofs.Passing.{AllPass, front_passes, last_passes}
+use Rattle.cm_stream.proofs.Distinct.{all_distinct, at_most_once}
+use Rattle.cm_stream.proofs.OneRow.{found_more, found_push, map_same, OnlyOne, only_one, change_one}
+use Rattle.cm_stream.proofs.NewRows.{find_none, map_both}
+use Rattle.cm_stream.proofs.EndedRows.{differs_back}
+use Rattle.cm_state.specs.Summary.{SourceRow, first_of, source_row, new_source, with_ids, one_more, change_source}
+use Rattle.cm_state.proofs.Behind.{kept_named, not_found, none_refers}
+
+-- what is kept of the sources
+abbrev pub rows : List Envelope → List SourceRow
+rows es = map (source_row es) (sources es)
+
+row_is : (r q : SourceRow) → r.uri ≡ q.uri → r.reading ≡ q.reading → r.ids ≡ q.ids → r.matched ≡ q.matched → r ≡ q
+row_is r q a b c d = λ i. record { uri = a i; reading = b i; ids = c i; matched = d i }
+
+abbrev ids_of : List GherkinDocument → Option (List Text)
+ids_of ds = option_map (λ d. d.ids) (first_of ds)
+
+-- ---- a line that is none of them
+
+same_row : (es : List Envelope) (e : Envelope) (s : Source) → documents_of s.uri (es ++ e ∷ []) ≡ documents_of s.uri es → pickles_of s.uri (es ++ e ∷ []) ≡ pickles_of s.uri es
+    → source_row (es ++ e ∷ []) s ≡ source_row es s
+same_row es e s d p = row_is (source_row (es ++ e ∷ []) s) (source_row es s) refl refl (ap ids_of d) (ap length p)
+
+documents_stay : (es : List Envelope) (e : Envelope) → as_document e ≡ None → (u : Text) → documents_of u (es ++ e ∷ []) ≡ documents_of u es
+documents_stay es e none u = ap (filter (λ d. bytes_eq u d.uri)) (found_more as_document es e none)
+
+pickles_stay : (es : List Envelope) (e : Envelope) → as_pickle e ≡ None → (u : Text) → pickles_of u (es ++ e ∷ []) ≡ pickles_of u es
+pickles_stay es e none u = ap (filter (λ p. bytes_eq u p.uri)) (found_more as_pickle es e none)
+
+rows_stay : (es : List Envelope) (e : Envelope) → as_document e ≡ None → as_pickle e ≡ None → map (source_row (es ++ e ∷ [])) (sources es) ≡ rows es
+rows_stay es e d p = map_same (source_row (es ++ e ∷ [])) (source_row es) (λ s. same_row es e s (documents_stay es e d s.uri) (pickles_stay es e p s.uri)) (sources es)
+
+pub other_rows : (es : List Envelope) (e : Envelope) → as_source e ≡ None → as_document e ≡ None → as_pickle e ≡ None → rows (es ++ e ∷ []) ≡ rows es
+other_rows es e s d p = ap (map (source_row (es ++ e ∷ []))) (found_more as_source es e s) ∙ rows_stay es e d p
+
+-- ---- a source
+
+document_refers : (front : List Envelope) (here : Envelope) (d : GherkinDocument) → as_document here ≡ Some d → AllByRecursion (λ n. times_declared n front ≡ 1) (refers front here) → times_declared (SourceOf d.uri) front ≡ 1
+document_refers front here d is refs = (subst (λ (e : Envelope). AllByRecursion (λ (n : Name). times_declared n front ≡ 1) (refers front e)) (document_is here d is) refs).0
+
+pickle_refers : (front : List Envelope) (here : Envelope) (p : Pickle) → as_pickle here ≡ Some p → AllByRecursion (λ n. times_declared n front ≡ 1) (refers front here) → times_declared (SourceOf p.uri) front ≡ 1
+pickle_refers front here p is refs = (subst (λ (e : Envelope). AllByRecursion (λ (n : Name). times_declared n front ≡ 1) (refers front e)) (pickle_is here p is) refs).0
+
+-- of a uri that no source has there is no document and no pickle
+no_documents : (es : List Envelope) → AllPass es → (u : Text) → find (λ s. bytes_eq u s.uri) (sources es) ≡ None → documents_of u es ≡ []
+no_documents es pass u none = keeps_none (λ d. bytes_eq u d.uri) (filter_map as_document es)
+    (none_refers es pass SourceOf as_source (λ (s : Source). s.uri) declares_source as_document (λ (d : GherkinDocument). d.uri) document_refers u none)
+
+no_pickles : (es : List Envelope) → AllPass es → (u : Text) → find (λ s. bytes_eq u s.uri) (sources es) ≡ None → pickles_of u es ≡ []
+no_pickles es pass u none = keeps_none (λ p. bytes_eq u p.uri) (filter_map as_pickle es)
+    (none_refers es pass SourceOf as_source (λ (s : Source). s.uri) declares_source as_pickle (λ (p : Pickle). p.uri) pickle_refers u none)
+
+pub source_rows : (es : List Envelope) (s : Source) → AllPass (es ++ envelope.Source s ∷ []) → rows (es ++ envelope.Source s ∷ []) ≡ rows es ++ new_source s ∷ []
+source_rows es s more =
+    let e = envelope.Source s in
+    let pass = front_passes es (e ∷ []) more in
+    let new = (or_false (nat_lt 0 (times_declared (SourceOf s.uri) es)) false ((last_passes es e more).passes).0).0 in
+    let none = not_found (SourceOf s.uri) as_source (λ (x : Source). bytes_eq s.uri x.uri) (declares_source s.uri) es new in
+    let fresh : source_row (es ++ e ∷ []) s ≡ new_source s = row_is (source_row (es ++ e ∷ []) s) (new_source s) refl refl
+    (ap ids_of (documents_stay es e refl s.uri ∙ no_documents es pass s.uri none)) (ap length (pickles_stay es e refl s.uri ∙ no_pickles es pass s.uri none)) in
+    ap (map (source_row (es ++ e ∷ []))) (found_push as_source es e s refl) ∙ map_both (source_row (es ++ e ∷ [])) (sources es) (s ∷ [])
+    ∙ ap (λ rs. rs ++ source_row (es ++ e ∷ []) s ∷ []) (rows_stay es e refl refl)
+    ∙ ap (λ r. rows es ++ r ∷ []) fresh
+
+-- ---- a document, and a pickle
+
+one_source : (es : List Envelope) → AllPass es → (u : Text) → OnlyOne (λ s. bytes_eq u s.uri) (sources es)
+one_source es pass u =
+    let counted : length (filter (λ s. bytes_eq u s.uri) (sources es)) ≡ times_declared (SourceOf u) es = kept_named (SourceOf u) as_source (λ s. bytes_eq u s.uri) (declares_source u) es in
+    only_one (λ s. bytes_eq u s.uri) (sources es) (omega (arith, counted, at_most_once (SourceOf u) es (all_distinct es pass)))
+
+pub document_rows : (es : List Envelope) (d : GherkinDocument) → AllPass (es ++ envelope.GherkinDocument d ∷ [])
+    → rows (es ++ envelope.GherkinDocument d ∷ []) ≡ change_source d.uri (with_ids d.ids) (rows es)
+document_rows es d more =
+    let e = envelope.GherkinDocument d in
+    let pass = front_passes es (e ∷ []) more in
+    let new = (or_false (nat_lt 0 (times_declared (DocumentOf d.uri) es)) false (((last_passes es e more).passes).1).0).0 in
+    let missing = not_found (DocumentOf d.uri) as_document (λ (x : GherkinDocument). bytes_eq d.uri x.uri) (declares_document d.uri) es new in
+    let none : documents_of d.uri es ≡ [] = keeps_none (λ x. bytes_eq d.uri x.uri) (filter_map as_document es) (find_none (λ x. bytes_eq d.uri x.uri) (filter_map as_document es) missing) in
+    ap (map (source_row (es ++ e ∷ []))) (found_more as_source es e refl)
+    ∙ sym (change_one (λ r. bytes_eq d.uri r.uri) (with_ids d.ids) (λ s. bytes_eq d.uri s.uri) (source_row es) (source_row (es ++ e ∷ [])) (λ s. refl) (hit none) other (sources es) (one_source es pass d.uri))
+  where
+    hit : documents_of d.uri es ≡ [] → (s : Source) → bytes_eq d.uri s.uri ≡ true → source_row (es ++ envelope.GherkinDocument d ∷ []) s ≡ with_ids d.ids (source_row es s)
+    hit none s k =
+        let e = envelope.GherkinDocument d in
+        let same : s.uri ≡ d.uri = sym (bytes_are d.uri s.uri k) in
+        let here : documents_of d.uri (e ∷ []) ≡ d ∷ [] = rw (bytes_same d.uri) refl in
+        let all : documents_of s.uri (es ++ e ∷ []) ≡ d ∷ [] = ap (λ u. documents_of u (es ++ e ∷ [])) same ∙ documents_both d.uri es (e ∷ []) ∙ ap (λ ds. ds ++ documents_of d.uri (e ∷ [])) none ∙ here in
+        row_is (source_row (es ++ e ∷ []) s) (with_ids d.ids (source_row es s)) refl refl (ap ids_of all) (ap length (pickles_stay es e refl s.uri))
+
+    other : (s : Source) → bytes_eq d.uri s.uri ≡ false → source_row (es ++ envelope.GherkinDocument d ∷ []) s ≡ source_row es s
+    other s k =
+        let e = envelope.GherkinDocument d in
+        let away : documents_of s.uri (e ∷ []) ≡ [] = rw (differs_back d.uri s.uri k) refl in
+        same_row es e s (documents_both s.uri es (e ∷ []) ∙ ap (λ ds. documents_of s.uri es ++ ds) away ∙ append-nil (documents_of s.uri es)) (pickles_stay es e refl s.uri)
+
+pub pickle_rows : (es : List Envelope) (p : Pickle) → AllPass (es ++ envelope.Pickle p ∷ []) → rows (es ++ envelope.Pickle p ∷ []) ≡ change_source p.uri one_more (rows es)
+pickle_rows es p more =
+    let e = envelope.Pickle p in
+    let pass = front_passes es (e ∷ []) more in
+    ap (map (source_row (es ++ e ∷ []))) (found_more as_source es e refl)
+    ∙ sym (change_one (λ r. bytes_eq p.uri r.uri) one_more (λ s. bytes_eq p.uri s.uri) (source_row es) (source_row (es ++ e ∷ [])) (λ s. refl) hit other (sources es) (one_source es pass p.uri))
+  where
+    hit : (s : Source) → bytes_eq p.uri s.uri ≡ true → source_row (es ++ envelope.Pickle p ∷ []) s ≡ one_more (source_row es s)
+    hit s k =
+        let e = envelope.Pickle p in
+        let same : s.uri ≡ p.uri = sym (bytes_are p.uri s.uri k) in
+        let here : pickles_of s.uri (e ∷ []) ≡ p ∷ [] = rw (same, bytes_same p.uri) refl in
+        let all : pickles_of s.uri (es ++ e ∷ []) ≡ pickles_of s.uri es ++ p ∷ [] = pickles_both s.uri es (e ∷ []) ∙ ap (λ ps. pickles_of s.uri es ++ ps) here in
+        row_is (source_row (es ++ e ∷ []) s) (one_more (source_row es s)) refl refl (ap ids_of (documents_stay es e refl s.uri)) (ap length all ∙ length-both (pickles_of s.uri es) (p ∷ []))
+
+    other : (s : Source) → bytes_eq p.uri s.uri ≡ false → source_row (es ++ envelope.Pickle p ∷ []) s ≡ source_row es s
+    other s k =
+        let e = envelope.Pickle p in
+        let away : pickles_of s.uri (e ∷ []) ≡ [] = rw (differs_back p.uri s.uri k) refl in
+        same_row es e s (documents_stay es e refl s.uri) (pickles_both s.uri es (e ∷ []) ∙ ap (λ ps. pickles_of s.uri es ++ ps) away ∙ append-nil (pickles_of s.uri es))

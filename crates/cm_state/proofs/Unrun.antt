@@ -1,0 +1,177 @@
+-- What one more line changes in the counts, and in the pickles that cases name.
+use Rattle.std.proofs.Common.{◌≡◌, ℕ, ◌+◌, ◌-◌, refl, sym, ap, ◌∙◌, List, [], ◌∷◌, ◌++◌, Option, Some, None, true, false, Bool, not, ◌||◌, subst, map, length, arith}
+use Rattle.std.specs.Prelude.{count_by, if◌then◌else◌}
+use Rattle.std.specs.List.{AllByRecursion, list_any, filter}
+use Rattle.std.specs.Str.{bytes_eq}
+use Rattle.std.proofs.lemmas.List.Folds.{list_any-append}
+use Rattle.std.proofs.lemmas.List.Sums.{length-filter}
+use Rattle.cm_refs.proofs.EntryLemmas.{list_any-map}
+use Rattle.cm_attempt.specs.Table.{has_text}
+use Rattle.cm_stream.specs.Texts.{Text}
+use Rattle.cm_stream.specs.Words.{Name, PickleNamed, Run, times_declared, refers, if_any, as_source, as_pickle, as_case, as_start, sources, pickles, cases, starts}
+use Rattle.cm_stream.specs.Stream.{unrun, counts_of}
+use Rattle.cm_stream.specs.declared.verdict.Counts.{Counts}
+use Rattle.cm_envelope.specs.declared.envelope.Envelope.{Envelope}
+use Rattle.cm_envelope.specs.declared.envelope.Envelope.TheVariants as envelope
+use Rattle.cm_envelope.specs.declared.envelope.TestCase.{TestCase}
+use Rattle.cm_envelope.specs.declared.pickle.Pickle.{Pickle}
+use Rattle.cm_stream.proofs.Lists.{or_false, none_counted, count_cut}
+use Rattle.cm_stream.proofs.Found.{bytes_same, bytes_are}
+use Rattle.cm_stream.proofs.Declared.{declares_pickle, case_is}
+use Rattle.cm_stream.proofs.Passing.{AllPass, front_passes, last_passes}
+use Rattle.cm_stream.proofs.Distinct.{all_refer}
+use Rattle.cm_stream.proofs.Moves.{by_id}
+use Rattle.cm_stream.proofs.OneRow.{found_more, found_push}
+use Rattle.cm_stream.proofs.StepRows.{or_no}
+use Rattle.cm_stream.proofs.EndedRows.{differs_back}
+use Rattle.cm_state.specs.Summary.{with_name, names_from, once_each, source_counted, pickle_counted, case_counted, attempt_counted}
+use Rattle.cm_state.proofs.Behind.{one_if, found_behind, length_behind, same_count, kept_apart, kept_named, not_found, none_refers}
+
+-- ---- names, each once
+
+or_joined : (a b c : Bool) → ((a || b) || c) ≡ (a || (b || c))
+or_joined true b c = refl
+or_joined false b c = refl
+
+or_kept : (a b : Bool) → a ≡ true → (a || b) ≡ a
+or_kept true b h = refl
+or_kept false b h = cc
+
+or_second : (a b : Bool) → b ≡ true → (a || b) ≡ true
+or_second true b h = refl
+or_second false b h = h
+
+has_with : (id : Text) (names : List Text) (name : Text) → has_text id (with_name names name) ≡ (has_text id names || bytes_eq id name)
+has_with id names name = at (has_text name names) refl
+  where
+    at : (b : Bool) → has_text name names ≡ b → has_text id (if b then names else names ++ name ∷ []) ≡ (has_text id names || bytes_eq id name)
+    at true e = by_id id name
+        (λ k. sym (ap (λ b. has_text id names || b) k ∙ or_no (has_text id names)))
+        (λ k. sym (or_kept (has_text id names) (bytes_eq id name) (ap (λ u. has_text u names) k ∙ e)))
+    at false e = list_any-append (bytes_eq id) names (name ∷ []) ∙ ap (λ b. has_text id names || b) (or_no (bytes_eq id name))
+
+has_names : (id : Text) (names more : List Text) → has_text id (names_from names more) ≡ (has_text id names || has_text id more)
+has_names id names [] = sym (or_no (has_text id names))
+has_names id names (name ∷ more) =
+    has_names id (with_name names name) more ∙ ap (λ b. b || has_text id more) (has_with id names name) ∙ or_joined (has_text id names) (bytes_eq id name) (has_text id more)
+
+pub names_push : (names more : List Text) (name : Text) → names_from names (more ++ name ∷ []) ≡ with_name (names_from names more) name
+names_push names [] name = refl
+names_push names (other ∷ more) name = names_push (with_name names other) more name
+
+-- ---- pickles that no case names
+
+abbrev names_it : Text → TestCase → Bool
+names_it id c = bytes_eq id c.pickle_id
+
+abbrev unnamed : List TestCase → Pickle → Bool
+unnamed cs p = not (list_any (names_it p.id) cs)
+
+-- the pickles that these cases name
+abbrev pub named_by : List TestCase → List Text
+named_by cs = once_each (map (λ c. c.pickle_id) cs)
+
+is_named : (id : Text) (cs : List TestCase) → has_text id (named_by cs) ≡ list_any (names_it id) cs
+is_named id cs = has_names id [] (map (λ c. c.pickle_id) cs) ∙ list_any-map (bytes_eq id) (λ (c : TestCase). c.pickle_id) cs
+
+other_unrun : (es : List Envelope) (e : Envelope) → as_case e ≡ None → as_pickle e ≡ None → unrun (es ++ e ∷ []) ≡ unrun es
+other_unrun es e c p = λ i. count_by (unnamed (found_more as_case es e c i)) (found_more as_pickle es e p i)
+
+behind_run : (P : Name → Type 0) (run : Option Text) (name : Name) (more : List Name) → AllByRecursion P (map Run (if_any run) ++ name ∷ more) → P name
+behind_run P None name more h = h.0
+behind_run P (Some id) name more h = (h.1).0
+
+case_refers : (front : List Envelope) (here : Envelope) (c : TestCase) → as_case here ≡ Some c → AllByRecursion (λ n. times_declared n front ≡ 1) (refers front here) → times_declared (PickleNamed c.pickle_id) front ≡ 1
+case_refers front here c is refs =
+    behind_run (λ n. times_declared n front ≡ 1) c.test_run_started_id (PickleNamed c.pickle_id) _
+    (subst (λ (e : Envelope). AllByRecursion (λ (n : Name). times_declared n front ≡ 1) (refers front e)) (case_is here c is) refs)
+
+pickle_unrun : (es : List Envelope) (p : Pickle) → AllPass (es ++ envelope.Pickle p ∷ []) → unrun (es ++ envelope.Pickle p ∷ []) ≡ unrun es + 1
+pickle_unrun es p more =
+    let e = envelope.Pickle p in
+    let pass = front_passes es (e ∷ []) more in
+    let again = or_false _ _ ((((last_passes es e more).passes).1).1).0 in
+    let new = (or_false _ _ again.1).0 in
+    let none = not_found (PickleNamed p.id) as_pickle (λ (x : Pickle). bytes_eq p.id x.id) (declares_pickle p.id) es new in
+    let unused : list_any (names_it p.id) (cases es) ≡ false = none_refers es pass PickleNamed as_pickle (λ (x : Pickle). x.id) declares_pickle as_case (λ (c : TestCase). c.pickle_id) case_refers p.id none in
+    let same : unrun (es ++ e ∷ []) ≡ count_by (unnamed (cases es)) (pickles es ++ p ∷ []) = λ i. count_by (unnamed (found_more as_case es e refl i)) (found_push as_pickle es e p refl i) in
+    let back : count_by (unnamed (cases es)) [] ≡ 0 = none_counted (unnamed (cases es)) [] refl in
+    same ∙ count_cut (unnamed (cases es)) (pickles es) p [] (ap not unused) ∙ tail (unrun es) (count_by (unnamed (cases es)) []) back
+  where
+    tail : (m n : ℕ) → n ≡ 0 → m + 1 + n ≡ m + 1
+    tail m n h = omega (arith, h)
+
+-- a case that names a pickle that another case named, or not
+abbrev unrun_with : (is_named : Bool) → ℕ → ℕ
+unrun_with true n = n
+unrun_with false n = n - 1
+
+case_unrun : (es : List Envelope) (c : TestCase) → AllPass (es ++ envelope.TestCase c ∷ [])
+    → unrun (es ++ envelope.TestCase c ∷ []) ≡ unrun_with (list_any (names_it c.pickle_id) (cases es)) (unrun es)
+case_unrun es c more = go (list_any (names_it c.pickle_id) (cases es)) refl
+  where
+    same : unrun (es ++ envelope.TestCase c ∷ []) ≡ count_by (unnamed (cases es ++ c ∷ [])) (pickles es)
+    same = λ i. count_by (unnamed (found_push as_case es (envelope.TestCase c) c refl i)) (found_more as_pickle es (envelope.TestCase c) refl i)
+
+    with_it : (p : Pickle) → unnamed (cases es ++ c ∷ []) p ≡ not (list_any (names_it p.id) (cases es) || bytes_eq p.id c.pickle_id)
+    with_it p = ap not (list_any-append (names_it p.id) (cases es) (c ∷ []) ∙ ap (λ b. list_any (names_it p.id) (cases es) || b) (or_no (bytes_eq p.id c.pickle_id)))
+
+    away : (p : Pickle) → bytes_eq p.id c.pickle_id ≡ false → unnamed (cases es ++ c ∷ []) p ≡ unnamed (cases es) p
+    away p k = with_it p ∙ ap not (ap (λ b. list_any (names_it p.id) (cases es) || b) k ∙ or_no (list_any (names_it p.id) (cases es)))
+
+    again : list_any (names_it c.pickle_id) (cases es) ≡ true → (p : Pickle) → unnamed (cases es ++ c ∷ []) p ≡ unnamed (cases es) p
+    again e p = by_id p.id c.pickle_id (away p)
+        (λ k. with_it p ∙ ap not (or_kept (list_any (names_it p.id) (cases es)) (bytes_eq p.id c.pickle_id) (ap (λ u. list_any (names_it u) (cases es)) k ∙ e)))
+
+    first : list_any (names_it c.pickle_id) (cases es) ≡ false → (p : Pickle) → bytes_eq c.pickle_id p.id ≡ true → (unnamed (cases es) p ≡ true) × (unnamed (cases es ++ c ∷ []) p ≡ false)
+    first e p k =
+        let id : p.id ≡ c.pickle_id = sym (bytes_are c.pickle_id p.id k) in
+        let here : bytes_eq p.id c.pickle_id ≡ true = ap (bytes_eq p.id) (sym id) ∙ bytes_same p.id in
+        (ap not (ap (λ u. list_any (names_it u) (cases es)) id ∙ e), with_it p ∙ ap not (or_second (list_any (names_it p.id) (cases es)) (bytes_eq p.id c.pickle_id) here))
+
+    one : length (filter (λ p. bytes_eq c.pickle_id p.id) (pickles es)) ≡ 1
+    one = kept_named (PickleNamed c.pickle_id) as_pickle (λ p. bytes_eq c.pickle_id p.id) (declares_pickle c.pickle_id) es
+        ∙ case_refers es (envelope.TestCase c) c refl (all_refer (es ++ envelope.TestCase c ∷ []) more es (envelope.TestCase c) [] refl)
+
+    less : (m n k : ℕ) → m ≡ n + k → k ≡ 1 → n ≡ m - 1
+    less m n k h e = omega (arith, h, e)
+
+    go : (b : Bool) → list_any (names_it c.pickle_id) (cases es) ≡ b → unrun (es ++ envelope.TestCase c ∷ []) ≡ unrun_with b (unrun es)
+    go true e = same ∙ same_count (unnamed (cases es ++ c ∷ [])) (unnamed (cases es)) (again e) (pickles es)
+    go false e =
+        let parts = kept_apart (unnamed (cases es)) (unnamed (cases es ++ c ∷ [])) (λ p. bytes_eq c.pickle_id p.id) (first e) (λ p k. sym (away p (differs_back c.pickle_id p.id k))) (pickles es) in
+        let all : unrun es ≡ count_by (unnamed (cases es ++ c ∷ [])) (pickles es) + length (filter (λ p. bytes_eq c.pickle_id p.id) (pickles es)) =
+        sym (length-filter (unnamed (cases es)) (pickles es)) ∙ parts ∙ ap (λ n. n + length (filter (λ (p : Pickle). bytes_eq c.pickle_id p.id) (pickles es))) (length-filter (unnamed (cases es ++ c ∷ [])) (pickles es)) in
+        same ∙ less (unrun es) (count_by (unnamed (cases es ++ c ∷ [])) (pickles es)) (length (filter (λ p. bytes_eq c.pickle_id p.id) (pickles es))) all one
+
+-- ---- all counts
+
+abbrev pub counts_after : List Text → Counts → Envelope → Counts
+counts_after names n (envelope.Source s) = source_counted n
+counts_after names n (envelope.Pickle p) = pickle_counted n
+counts_after names n (envelope.TestCase c) = case_counted (has_text c.pickle_id names) n
+counts_after names n (envelope.TestCaseStarted s) = attempt_counted n
+counts_after names n _ = n
+
+counts_with : (es : List Envelope) (e : Envelope) (n : ℕ) → unrun (es ++ e ∷ []) ≡ n
+    → counts_of (es ++ e ∷ []) ≡ record { sources = one_if (length (sources es)) (as_source e); pickles = one_if (length (pickles es)) (as_pickle e); cases = one_if (length (cases es)) (as_case e); attempts = one_if (length (starts es)) (as_start e); unrun = n }
+counts_with es e n h = λ i. record {
+  sources = (ap length (found_behind as_source es e) ∙ length_behind (sources es) (as_source e)) i;
+  pickles = (ap length (found_behind as_pickle es e) ∙ length_behind (pickles es) (as_pickle e)) i;
+  cases = (ap length (found_behind as_case es e) ∙ length_behind (cases es) (as_case e)) i;
+  attempts = (ap length (found_behind as_start es e) ∙ length_behind (starts es) (as_start e)) i;
+  unrun = h i;
+}
+
+case_counts : (n : Counts) (b : Bool) → record n { cases = n.cases + 1; unrun = unrun_with b n.unrun } ≡ case_counted b n
+case_counts n true = refl
+case_counts n false = refl
+
+pub counts_step : (es : List Envelope) (e : Envelope) → AllPass (es ++ e ∷ []) → counts_of (es ++ e ∷ []) ≡ counts_after (named_by (cases es)) (counts_of es) e
+counts_step es (envelope.Source s) h = counts_with es (envelope.Source s) (unrun es) (other_unrun es (envelope.Source s) refl refl)
+counts_step es (envelope.Pickle p) h = counts_with es (envelope.Pickle p) (unrun es + 1) (pickle_unrun es p h)
+counts_step es (envelope.TestCase c) h =
+    counts_with es (envelope.TestCase c) (unrun_with (list_any (names_it c.pickle_id) (cases es)) (unrun es)) (case_unrun es c h)
+    ∙ case_counts (counts_of es) (list_any (names_it c.pickle_id) (cases es)) ∙ ap (λ b. case_counted b (counts_of es)) (sym (is_named c.pickle_id (cases es)))
+counts_step es (envelope.TestCaseStarted s) h = counts_with es (envelope.TestCaseStarted s) (unrun es) (other_unrun es (envelope.TestCaseStarted s) refl refl)
+counts_step es e h = counts_with es e (unrun es) (other_unrun es e refl refl)

@@ -1,0 +1,57 @@
+-- Judging a stream line by line, by what is kept of the lines before, is judging it over all its lines.
+use Rattle.std.specs.Prelude.{◌≡◌, ℕ, ◌+◌, List, [], ◌∷◌, ◌++◌, Option, Some, None, Result, Ok, Err}
+use Rattle.cm_envelope.specs.Reading.{Fault as LineFault}
+use Rattle.cm_envelope.specs.declared.envelope.Envelope.{Envelope}
+use Rattle.cm_envelope.specs.declared.feed.Trouble.{Trouble}
+use Rattle.cm_attempt.specs.declared.settings.Settings.{Settings}
+use Rattle.cm_stream.specs.Checks.{fault}
+use Rattle.cm_stream.specs.Findings.{Finding, IsBad, fault_of_line}
+use Rattle.cm_stream.specs.Stream.{Answer, GoodWith, Found, Failed, shown, told_of, answer_for}
+use Rattle.cm_stream.specs.Told.{IsFaultless}
+use Rattle.cm_state.specs.Summary.{Summary, seen, nothing_seen, after}
+use Rattle.cm_state.specs.StateChecks.{finding, finding_at_end}
+
+-- ---- one line
+
+-- the finding of a line is its fault over all the lines before it
+abbrev pub FindingsAreFaults : Type 0
+FindingsAreFaults =
+    (settings : Settings) (es : List Envelope) (e : Envelope) → IsFaultless settings es
+    → finding settings (seen settings.first_attempt es) e ≡ fault settings es e
+
+-- what is kept changes by a line
+abbrev pub SummariesStep : Type 0
+SummariesStep =
+    (settings : Settings) (es : List Envelope) (e : Envelope) → IsFaultless settings (es ++ e ∷ [])
+    → seen settings.first_attempt (es ++ e ∷ []) ≡ after (seen settings.first_attempt es) e
+
+-- ---- a stream
+
+abbrev pub at_end : ℕ → Summary → Option Finding → Answer
+at_end n s None = GoodWith s.counts s.success
+at_end n s (Some f) = Found n f
+
+-- a finding at this line, or the answer after it
+abbrev pub at_line : ℕ → Option Finding → Answer → Answer
+at_line n None more = more
+at_line n (Some f) more = Found n f
+
+abbrev pub judged_line : Settings → Summary → ℕ → Option (Result Envelope LineFault)
+    → (Summary → Answer) → Answer
+judged_line settings s n None more = more s
+judged_line settings s n (Some (Err b)) more = Found n (IsBad (fault_of_line b))
+judged_line settings s n (Some (Ok e)) more = at_line n (finding settings s e) (more (after s e))
+
+-- the answer for these lines, the first of which has the number n, and then the trouble or the end
+abbrev pub judged_of : Settings → Summary → ℕ → List (List ℕ) → Option Trouble → Answer
+judged_of settings s n [] (Some t) = Failed t
+judged_of settings s n [] None = at_end n s (finding_at_end s)
+judged_of settings s n (l ∷ ls) t =
+    judged_line settings s n (shown l) (λ (now : Summary). judged_of settings now (n + 1) ls t)
+
+-- the answer is that for what is told of the lines
+abbrev pub JudgedIsTold : Type 0
+JudgedIsTold =
+    (settings : Settings) (lines : List (List ℕ)) (t : Option Trouble)
+    → judged_of settings (nothing_seen settings.first_attempt) 1 lines t
+    ≡ answer_for (told_of settings [] 1 lines t)

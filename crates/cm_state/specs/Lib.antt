@@ -1,0 +1,3 @@
+pub mod Summary
+pub mod StateChecks
+pub mod Laws

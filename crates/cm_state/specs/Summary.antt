@@ -1,0 +1,194 @@
+-- What an audit keeps of the lines so far.
+use Rattle.std.specs.Prelude.{ℕ, ◌+◌, ◌-◌, Bool, false, true, List, [], ◌∷◌, ◌++◌, Option, Some, None, if◌then◌else◌, map, length}
+use Rattle.std.specs.List.{filter_map}
+use Rattle.std.specs.Option.{option_map}
+use Rattle.std.specs.Str.{bytes_eq}
+use Rattle.cm_refs.specs.Declarations.{Declarations, PickleRow, RunHookRow, no_declarations, with_source, with_document, with_pickle, with_definition, with_hook, with_run_hook, with_finished}
+use Rattle.cm_attempt.specs.Table.{Table, table_from, change_first, has_text}
+use Rattle.cm_attempt.specs.Worst.{with_status, worst_so_far}
+use Rattle.cm_attempt.specs.declared.status.Status.{Status}
+use Rattle.cm_stream.specs.Statuses.{kept_status}
+use Rattle.cm_stream.specs.Texts.{Text}
+use Rattle.cm_stream.specs.Readings.{Reading}
+use Rattle.cm_stream.specs.OnePass.{reads}
+use Rattle.cm_stream.specs.Words.{as_document, sources, pickles, cases, run_hooks, hook_statuses, documents_of, pickles_of, has_run_finished, run_succeeded, is_hook_finished}
+use Rattle.cm_stream.specs.Stream.{counts_of}
+use Rattle.cm_stream.specs.Seen.{table_of, changed}
+use Rattle.cm_envelope.specs.declared.envelope.Envelope.{Envelope}
+use Rattle.cm_envelope.specs.declared.envelope.Envelope.TheVariants as envelope
+use Rattle.cm_envelope.specs.declared.envelope.Source.{Source}
+use Rattle.cm_envelope.specs.declared.envelope.TestRunStarted.{TestRunStarted}
+use Rattle.cm_envelope.specs.declared.envelope.TestRunHookStarted.{TestRunHookStarted}
+use Rattle.cm_envelope.specs.declared.pickle.Pickle.{Pickle}
+use Rattle.cm_stream.specs.declared.verdict.Counts.{Counts}
+
+-- a source: what its text is read as, the ids of its document once that came, and how many of its pickles came
+pub record SourceRow : Type 0 where
+  pub uri : Text
+  pub reading : Reading
+  pub ids : Option (List Text)
+  pub matched : ℕ
+
+pub record Summary : Type 0 where
+  pub declared : Declarations
+  pub table : Table
+  pub sources : List SourceRow
+  -- the pickles that cases name, each once
+  pub named : List Text
+  -- the start of the run, once it came
+  pub run : Option TestRunStarted
+  pub is_finished : Bool
+  -- the end of the run said success
+  pub success : Bool
+  -- the worst status of the run hooks, which is absent while none is finished
+  pub hooks_worst : Option Status
+  pub counts : Counts
+
+-- ---- of all the lines so far
+
+abbrev pub as_definition : Envelope → Option Text
+as_definition (envelope.StepDefinition d) = Some d.id
+as_definition _ = None
+
+abbrev pub as_hook : Envelope → Option Text
+as_hook (envelope.Hook h) = Some h.id
+as_hook _ = None
+
+abbrev pub as_run : Envelope → Option TestRunStarted
+as_run (envelope.TestRunStarted r) = Some r
+as_run _ = None
+
+abbrev pub first_of : {X : Type 0} → List X → Option X
+first_of [] = None
+first_of (x ∷ xs) = Some x
+
+abbrev pub pickle_row : Pickle → PickleRow
+pickle_row p = record { id = p.id; steps = map (λ s. s.id) p.steps }
+
+abbrev pub run_hook_row : List Envelope → TestRunHookStarted → RunHookRow
+run_hook_row es s = record { id = s.id; is_finished = is_hook_finished s.id es }
+
+abbrev pub declared_in : List Envelope → Declarations
+declared_in es = record {
+  sources = map (λ s. s.uri) (sources es);
+  documents = map (λ d. d.uri) (filter_map as_document es);
+  pickles = map pickle_row (pickles es);
+  definitions = filter_map as_definition es;
+  hooks = filter_map as_hook es;
+  run_hooks = map (run_hook_row es) (run_hooks es);
+}
+
+abbrev pub source_row : List Envelope → Source → SourceRow
+source_row es s = record {
+  uri = s.uri;
+  reading = reads s.content;
+  ids = option_map (λ d. d.ids) (first_of (documents_of s.uri es));
+  matched = length (pickles_of s.uri es);
+}
+
+-- the names, and this one after them if it isn't among them
+abbrev pub with_name : List Text → Text → List Text
+with_name names name = if has_text name names then names else names ++ name ∷ []
+
+abbrev pub names_from : List Text → List Text → List Text
+names_from names [] = names
+names_from names (name ∷ more) = names_from (with_name names name) more
+
+-- each of the texts once, in order
+abbrev pub once_each : List Text → List Text
+once_each texts = names_from [] texts
+
+-- where the attempts of a case are numbered from the first number
+abbrev pub seen : (first : ℕ) → List Envelope → Summary
+seen first es = record {
+  declared = declared_in es;
+  table = table_of first es;
+  sources = map (source_row es) (sources es);
+  named = once_each (map (λ c. c.pickle_id) (cases es));
+  run = first_of (filter_map as_run es);
+  is_finished = has_run_finished es;
+  success = run_succeeded es;
+  hooks_worst = worst_so_far (hook_statuses es);
+  counts = counts_of es;
+}
+
+-- ---- line by line
+
+abbrev pub nothing_seen : (first : ℕ) → Summary
+nothing_seen first = record {
+  declared = no_declarations;
+  table = table_from first;
+  sources = [];
+  named = [];
+  run = None;
+  is_finished = false;
+  success = false;
+  hooks_worst = None;
+  counts = record { sources = 0; pickles = 0; cases = 0; attempts = 0; unrun = 0 };
+}
+
+abbrev pub new_source : Source → SourceRow
+new_source s = record { uri = s.uri; reading = reads s.content; ids = None; matched = 0 }
+
+abbrev pub with_ids : List Text → SourceRow → SourceRow
+with_ids ids r = record r { ids = Some ids }
+
+abbrev pub one_more : SourceRow → SourceRow
+one_more r = record r { matched = r.matched + 1 }
+
+abbrev pub change_source : Text → (SourceRow → SourceRow) → List SourceRow → List SourceRow
+change_source uri f = change_first (λ r. bytes_eq uri r.uri) f
+
+abbrev pub source_counted : Counts → Counts
+source_counted n = record n { sources = n.sources + 1 }
+
+abbrev pub pickle_counted : Counts → Counts
+pickle_counted n = record n { pickles = n.pickles + 1; unrun = n.unrun + 1 }
+
+-- a case whose pickle another case named, or not
+abbrev pub case_counted : (is_named : Bool) → Counts → Counts
+case_counted true n = record n { cases = n.cases + 1 }
+case_counted false n = record n { cases = n.cases + 1; unrun = n.unrun - 1 }
+
+abbrev pub attempt_counted : Counts → Counts
+attempt_counted n = record n { attempts = n.attempts + 1 }
+
+-- what a line makes of it
+abbrev pub after : Summary → Envelope → Summary
+after s (envelope.Source x) =
+    record s {
+      declared = with_source x.uri s.declared;
+      sources = s.sources ++ new_source x ∷ [];
+      counts = source_counted s.counts;
+    }
+after s (envelope.GherkinDocument d) =
+    record s {
+      declared = with_document d.uri s.declared;
+      sources = change_source d.uri (with_ids d.ids) s.sources;
+    }
+after s (envelope.Pickle p) = record s {
+  declared = with_pickle p.id (map (λ x. x.id) p.steps) s.declared;
+  sources = change_source p.uri one_more s.sources;
+  counts = pickle_counted s.counts;
+}
+after s (envelope.StepDefinition d) = record s { declared = with_definition d.id s.declared }
+after s (envelope.Hook h) = record s { declared = with_hook h.id s.declared }
+after s (envelope.TestCase c) = record s {
+  table = changed s.table (envelope.TestCase c);
+  named = with_name s.named c.pickle_id;
+  counts = case_counted (has_text c.pickle_id s.named) s.counts;
+}
+after s (envelope.TestRunStarted r) = record s { run = Some r }
+after s (envelope.TestCaseStarted x) =
+    record s {
+      table = changed s.table (envelope.TestCaseStarted x);
+      counts = attempt_counted s.counts;
+    }
+after s (envelope.TestRunHookStarted x) = record s { declared = with_run_hook x.id s.declared }
+after s (envelope.TestRunHookFinished f) =
+    record s {
+      declared = with_finished f.test_run_hook_started_id s.declared;
+      hooks_worst = with_status s.hooks_worst (kept_status f.result.status);
+    }
+after s (envelope.TestRunFinished f) = record s { is_finished = true; success = f.success }
+after s e = record s { table = changed s.table e }

@@ -1,3 +1,0 @@
-pub mod Summary
-pub mod Findings
-pub mod Laws

@@ -1,0 +1,203 @@
+//! The one pass over the lines of a text.
+ghost use Rattle.std.specs.Prelude.{◌≡◌, ◌≢◌, ◌≤◌, ◌<◌, ◌+◌, ◌^◌, ◌↔◌, None, Ok, Err, length, IfOk, IfErr, IfSome};
+ghost use Rattle.gk_line.specs.Views.{numbered_line};
+ghost use Rattle.gk_grammar.specs.declared.fault.FaultKind.TheVariants as kind;
+ghost use Rattle.gk_grammar.specs.Documents.{lines_read, IsDocumentOf, HasFault, IsTooLong, byte_limit, line_limit};
+ghost use Rattle.gk_grammar.specs.Token.{line_of};
+ghost use Rattle.gk_grammar.specs.Machine as machine;
+ghost use Rattle.gk_tree.specs.Views.{line_at, state_of, state_in, phase_of, Gives, out_of_memory, too_long};
+ghost use Rattle.gk_tree.specs.Read.{IsRead};
+ghost use Rattle.gk_tree.specs.Ends.{ended, document_at, Answers};
+ghost use Rattle.gk_tree.specs.EndViews.{last_of};
+
+use crate::assemble::build_feature;
+use crate::blocks::{in_description, in_examples_table, with_rows};
+use crate::fault::ParseFault;
+use crate::flat_block::FlatBlock;
+use crate::prelude::{after_language, after_tags, at_start};
+use crate::read::{indented, token};
+use crate::state::{Parser, Phase, Progress};
+use crate::steps::{after_step, in_doc_string, with_steps};
+use crate::texts::description;
+use crate::token::{IndentedLine, Token};
+use gk_document::{Document, Sequence};
+use gk_grammar::FaultKind;
+use gk_line::{Line, lines};
+use std::alloc::Global;
+
+/// The most bytes of a text.
+const MAX_BYTES: usize = 16_777_216;
+
+/// The most lines of a text.
+const MAX_LINES: u32 = 1_000_000;
+
+/// The document of a feature file.
+///
+/// # Errors
+/// The fault of a text that is no feature file. A text of more than 16,777,216 bytes or 1,000,000 lines is too long,
+/// whatever else is wrong with it, and no memory is taken for it.
+pub fn parse(alloc: Global, text: &str) -> Result<Document, ParseFault>
+    ensures ok { IfOk result (λ d. IsDocumentOf text.now d) }
+    ensures fault { IfErr result (λ f. f.kind ≢ kind.Memory → f.kind ≢ kind.TooLong
+        → HasFault text.now f.kind f.line f.column) }
+    ensures too_long { (result ≡ Err too_long) ↔ IsTooLong text.now }
+    ensures at_limits { IfErr result (λ f. f.kind ≡ kind.TooLong → f ≡ too_long) }
+    ensures memory { IfErr result (λ f. f.kind ≡ kind.Memory → f ≡ out_of_memory) }
+{
+    let Some(count) = line_count(text) else {
+        return Err(ParseFault {
+            kind: FaultKind::TooLong,
+            line: 0,
+            column: 0,
+        });
+    };
+    within_limits(alloc, text, count + 1)
+}
+
+/// How many lines the text has, if it isn't too long.
+#[tactic(auto, unfolding(gk_grammar::specs::Documents::lines_read))]
+fn line_count(text: &str) -> Option<u32>
+    ensures some { IfSome result (λ count. (count ≡ length (lines_read text.now))
+        × (count ≤ line_limit) × (length text.now ≤ byte_limit)) }
+    ensures none { (result ≡ None) ↔ IsTooLong text.now }
+{
+    if text.len() > MAX_BYTES {
+        return None;
+    }
+    let mut count = 0;
+    for _line in lines(text) {
+        if count == MAX_LINES {
+            return None;
+        }
+        count += 1;
+    }
+    Some(count)
+}
+
+/// The document of a text within the limits, whose last line is before `end_line`.
+fn within_limits(alloc: Global, text: &str, end_line: u32) -> Result<Document, ParseFault>
+    requires short { length text.now ≤ byte_limit }
+    requires few { length (lines_read text.now) ≤ line_limit }
+    requires end_line { end_line ≡ length (lines_read text.now) + 1 }
+    ensures { Answers text.now result }
+{
+    let parser = read_lines(alloc, text)?;
+    finish(alloc, parser, end_line)
+}
+
+/// Reads all lines.
+#[tactic(auto, unfolding(gk_grammar::specs::Documents::lines_read))]
+fn read_lines<'a>(alloc: Global, text: &'a str) -> Result<Parser<'a>, ParseFault>
+    requires short { length text.now ≤ byte_limit }
+    requires few { length (lines_read text.now) ≤ line_limit }
+    ensures { Gives state_of result (machine.run machine.initial (lines_read text.now)) }
+{
+    let mut progress = Progress {
+        comments: Sequence::new(alloc),
+        nodes: 0,
+        flat_blocks: Sequence::new(alloc),
+    };
+    let mut phase = Phase::Start;
+    for line in lines(text) {
+        phase = read_line(alloc, &mut progress, phase, line)?;
+    }
+    Ok(Parser { progress, phase })
+}
+
+/// Reads one line, and gives the phase after it.
+fn read_line<'a>(
+    alloc: Global,
+    progress: &mut Progress,
+    phase: Phase<'a>,
+    line: Line<'a>,
+) -> Result<Phase<'a>, ParseFault>
+    requires short { length line.text.now ≤ 16_777_216 }
+    requires room { progress.old.nodes < 2 ^ 63 }
+    ensures { Gives (state_in progress.new) result
+        (machine.next (state_in progress.old phase.entry) (line_of (numbered_line line.entry))) }
+{
+    let at = indented(line);
+    let token = token(alloc, line)?;
+    read_token(alloc, progress, phase, at, token)
+}
+
+/// One line, read as this token.
+fn read_token<'a>(
+    alloc: Global,
+    progress: &mut Progress,
+    phase: Phase<'a>,
+    at: IndentedLine<'a>,
+    token: Token<'a>,
+) -> Result<Phase<'a>, ParseFault>
+    requires room { progress.old.nodes < 2 ^ 63 }
+    requires read { IsRead at token }
+    ensures { Gives (state_in progress.new) result
+        (machine.next (state_in progress.old phase.entry) (line_at at.entry token.entry)) }
+{
+    match phase {
+        Phase::Start => at_start(alloc, progress, at, token),
+        Phase::AfterLanguage => after_language(alloc, progress, at, token),
+        Phase::AfterTags(before, tags) => after_tags(alloc, progress, before, tags, at, token),
+        Phase::InDescription(flat_block, lines) => in_description(
+            alloc, progress, flat_block, lines, at, token,
+        ),
+        Phase::AfterStep(stepped) => after_step(alloc, progress, stepped, at, token),
+        Phase::InDocString(stepped, quote, lines) => in_doc_string(
+            alloc, stepped, quote, lines, at, &token,
+        ),
+        Phase::InExamplesTable(flat_block, rows) => in_examples_table(
+            alloc, progress, flat_block, rows, at, token,
+        ),
+    }
+}
+
+/// The last block, where the text may end at this phase. Elsewhere the fault stands at the line after the last one.
+fn last_block(
+    alloc: Global,
+    phase: Phase<'_>,
+    end_line: u32,
+) -> Result<Option<FlatBlock>, ParseFault>
+    ensures { Gives last_of result (ended end_line (machine.blocks_at_end (phase_of phase.entry))) }
+{
+    match phase {
+        Phase::Start => Ok(None),
+        Phase::InDescription(mut flat_block, lines) => {
+            flat_block.description = description(alloc, &lines)?;
+            Ok(Some(flat_block))
+        }
+        Phase::AfterStep(stepped) => Ok(Some(with_steps(stepped)?)),
+        Phase::InExamplesTable(flat_block, rows) => Ok(Some(with_rows(flat_block, rows))),
+        _ => Err(early_end(end_line)),
+    }
+}
+
+/// The fault of a text that ends where it may not, told at the line after the last one.
+fn early_end(end_line: u32) -> ParseFault
+    ensures { result ≡ record { kind = kind.UnexpectedEnd; line = end_line; column = 1 } }
+{
+    ParseFault {
+        kind: FaultKind::UnexpectedEnd,
+        line: end_line,
+        column: 1,
+    }
+}
+
+/// The document, where the text may end there.
+fn finish(alloc: Global, parser: Parser<'_>, end_line: u32) -> Result<Document, ParseFault>
+    ensures { Gives (λ d. d) result (document_at end_line (state_of parser.entry)) }
+{
+    let Parser { progress, phase } = parser;
+    let Progress {
+        comments,
+        nodes,
+        mut flat_blocks,
+    } = progress;
+    if let Some(flat_block) = last_block(alloc, phase, end_line)? {
+        flat_blocks.push(flat_block)?;
+    }
+    Ok(Document {
+        feature: build_feature(alloc, flat_blocks)?,
+        comments,
+        nodes,
+    })
+}
