@@ -17,11 +17,9 @@ use Rattle.cm_stream.specs.Refusals as stream
 use Rattle.cm_stream.specs.Refusals.{refused}
 use Rattle.cm_stream.specs.Seen.{changed}
 use Rattle.cm_stream.specs.Stream.{Told, NoFault, at_line as at_told, fed}
-use Rattle.cm_results.specs.Joining.{calls_of}
-use Rattle.cm_results.specs.FirstFault.{fault, told_line, told_of, told}
-use Rattle.cm_results.proofs.Joined.{tables_have_results}
-use Rattle.cm_results.proofs.Faults.{refused_for_checks}
-use Rattle.cm_results.proofs.Changes.{tables_change}
+use Rattle.cm_stream.specs.Calls.{calls_of}
+use Rattle.cm_stream.specs.Results.{fault, told_line, told_of, told}
+use Rattle.cm_stream.proofs.Tables.{tables_have_results, refused_for_faults, tables_change}
 use Rattle.ck_commands.specs.Faults.{Fault, refusal_fault, unread_fault}
 use Rattle.ck_commands.specs.Outcome.{unless_fault, after_envelope, at_line, after_lines, Outcome, outcome_at, outcome_of, case_text, text_of, status_of}
 use Rattle.ck_commands.specs.Run.{TellsOrNoMemory}
@@ -78,7 +76,7 @@ shown first before n t (l ∷ ls) end taken = go (is_blank l) refl (shown first 
     on_fault e o k rec = by o k
       where
         failed : (o : Option Fault) → option_and_then refusal_fault (refused t e) ≡ o → fault first before e ≡ option_map finding_of o
-        failed o k = sym (refused_for_checks first before t taken e) ∙ sym (told_is (refused t e)) ∙ ap (option_map finding_of) k
+        failed o k = sym (refused_for_faults first before t taken e) ∙ sym (told_is (refused t e)) ∙ ap (option_map finding_of) k
 
         by : (o : Option Fault) → option_and_then refusal_fault (refused t e) ≡ o
             → Shown (at_told (n + 1) (fault first before e) (told_of first (before ++ e ∷ []) (n + 1 + 1) ls end)) (outcome_at (at_line (n + 1) (unless_fault o (changed t e)) >>= λ next. after_lines (n + 1) next ls) end)

@@ -9,7 +9,7 @@ use Rattle.cm_attempt.specs.declared.status.Status.{Status}
 use Rattle.cm_stream.specs.Findings as bad
 use Rattle.cm_stream.specs.Findings.{Finding, IsBad}
 use Rattle.cm_stream.specs.Stream.{Told, At, Troubled, NoFault}
-use Rattle.cm_results.specs.Results.{results_of}
+use Rattle.cm_stream.specs.Results.{results_of}
 use Rattle.ck_commands.specs.Faults.{Fault, label, not_json_value, bad_shape, bad_field, duplicate_id, unknown_reference, attempt_number, attempt_overlap, step_order, finished_early}
 use Rattle.ck_commands.specs.Outcome.{trouble_name}
 use Rattle.ck_commands.specs.Statuses.{reported_word}

@@ -1,7 +1,7 @@
 //! One command, from the words to the status.
 ghost use Rattle.std.specs.Prelude.{◌≡◌, ◌≢◌, ◌∷◌, ◌++◌, ℕ, Bool, List, IfOk, IfSome, None, Some, codes, map};
 ghost use Rattle.cm_attempt.specs.declared.settings.Settings.{Settings};
-ghost use Rattle.cm_results.specs.FirstFault.{told};
+ghost use Rattle.cm_stream.specs.Results.{told};
 ghost use Rattle.cm_stream.specs.Stream as stream;
 ghost use Rattle.cm_stream.specs.Stream.{answer_for};
 ghost use Rattle.ck_commands.specs.Answer.{AnswersOrNoMemory};

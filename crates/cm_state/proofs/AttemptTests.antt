@@ -12,7 +12,8 @@ use Rattle.cm_attempt.specs.Worst.{worst_of}
 use Rattle.cm_attempt.specs.declared.policy.Policy.{Policy}
 use Rattle.cm_attempt.proofs.WorstLemmas.{is_known, good_worst}
 use Rattle.cm_stream.specs.Texts.{Text}
-use Rattle.cm_stream.specs.Words.{Attempt, Step, if_any, attachment_names, cases, starts, starts_of, find_case, Ended, is_ended, retry_in, ends_of, statuses, last_of, is_good_case, all_well, hook_statuses, moves}
+use Rattle.cm_stream.specs.Words.{Attempt, Step, if_any, attachment_names, cases, starts, starts_of, find_case, is_ended, retry_in, ends_of, statuses, is_good_case, all_well, hook_statuses, moves}
+use Rattle.cm_attempt.specs.Calls.{Ended, last_of}
 use Rattle.cm_stream.specs.Seen.{attempt_row, case_row, cursor_at, is_step_start, last_state, state_of, table_of}
 use Rattle.cm_stream.specs.Checks.{is_next_move}
 use Rattle.cm_stream.specs.Good.{is_unknown, has_unknown_result}

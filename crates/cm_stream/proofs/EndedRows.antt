@@ -8,7 +8,8 @@ use Rattle.std.proofs.lemmas.List.Elements.{filter_map-append, filter-append}
 use Rattle.std.proofs.lemmas.List.Folds.{list_any-append}
 use Rattle.cm_stream.specs.Texts.{Text}
 use Rattle.cm_attempt.specs.Table.{AttemptRow, change_attempt, change_case, find_attempt, finished_at, ended, outcome, with_last}
-use Rattle.cm_stream.specs.Words.{Attempt, as_case, as_start, cases, starts, starts_of, Ended, move_of, moves, is_end, retry_in, ends_of, is_retried, status_in, last_of}
+use Rattle.cm_stream.specs.Words.{Attempt, as_case, as_start, cases, starts, starts_of, move_of, moves, retry_in, ends_of, is_retried, status_in}
+use Rattle.cm_attempt.specs.Calls.{Ended, is_end, last_of}
 use Rattle.cm_stream.specs.Checks.{is_next_move}
 use Rattle.cm_stream.specs.Seen.{attempt_row, state_of, last_state, case_row, table_of, changed}
 use Rattle.cm_envelope.specs.declared.envelope.Envelope.{Envelope}

@@ -10,7 +10,8 @@ use Rattle.cm_stream.specs.Texts.{Text, same_list}
 use Rattle.cm_stream.specs.Readings.{Reading, Accepted, Refused, OtherLanguage, TooLong}
 use Rattle.cm_stream.specs.OnePass.{reads}
 use Rattle.cm_stream.specs.Sources.{is_due}
-use Rattle.cm_stream.specs.Words.{as_source, as_document, as_pickle, as_case, as_start, as_run_hook_end, sources, cases, starts, hook_statuses, starts_of, documents_of, pickles_of, is_run_started, is_judged, has_run_started, StepStarted, StepFinished, Ended, move_of, moves, whole, is_end, is_ended, retry_in, ends_of, status_in, statuses, ends_well, is_good_case, last_of, all_well, steps_of}
+use Rattle.cm_stream.specs.Words.{as_source, as_document, as_pickle, as_case, as_start, as_run_hook_end, sources, cases, starts, hook_statuses, starts_of, documents_of, pickles_of, is_run_started, is_judged, has_run_started, move_of, moves, is_ended, retry_in, ends_of, status_in, statuses, ends_well, is_good_case, all_well, steps_of}
+use Rattle.cm_attempt.specs.Calls.{StepStarted, StepFinished, Ended, whole, is_end, last_of}
 use Rattle.cm_stream.specs.Good.{Good, Sound, MeetsSource}
 use Rattle.cm_attempt.specs.declared.policy.Policy.{Policy}
 use Rattle.cm_attempt.specs.declared.settings.Settings.{Settings}

@@ -31,3 +31,7 @@ pub mod Steps
 pub mod StepRefuses
 pub mod RunHooks
 pub mod Released
+pub mod CallWords
+pub mod CallChecks
+pub mod Tables
+pub mod ResultsFaults

@@ -7,9 +7,11 @@ use Rattle.std.specs.Str.{bytes_eq}
 use Rattle.std.proofs.lemmas.List.Elements.{filter_map-append}
 use Rattle.std.proofs.lemmas.List.Folds.{find-append}
 use Rattle.cm_stream.specs.Texts.{Text}
-use Rattle.cm_stream.specs.Words.{Case, Attempt, times_declared, declares_it, as_case, as_start, starts, find_case, steps_of, Move, Started, StepStarted, StepFinished, Ended, move_of, moves, whole, is_end, is_ended}
+use Rattle.cm_stream.specs.Words.{Case, Attempt, times_declared, declares_it, as_case, as_start, starts, find_case, steps_of, move_of, moves, is_ended}
+use Rattle.cm_attempt.specs.Calls.{Move, Started, StepStarted, StepFinished, Ended, whole, is_end}
 use Rattle.cm_stream.specs.Good.{AttemptsGood, AttemptGood}
-use Rattle.cm_stream.specs.Checks.{same_move, steps_of_attempt, is_next_move, declares_again}
+use Rattle.cm_stream.specs.Checks.{steps_of_attempt, is_next_move, declares_again}
+use Rattle.cm_attempt.specs.CallFaults.{same_move}
 use Rattle.cm_envelope.specs.declared.envelope.Envelope.{Envelope}
 use Rattle.cm_envelope.specs.declared.envelope.Envelope.TheVariants as envelope
 use Rattle.cm_envelope.specs.declared.envelope.TestCase.{TestCase}

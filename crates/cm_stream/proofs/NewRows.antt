@@ -8,7 +8,8 @@ use Rattle.std.proofs.lemmas.List.Elements.{filter-append}
 use Rattle.std.proofs.lemmas.List.Sums.{length-filter}
 use Rattle.cm_stream.specs.Texts.{Text}
 use Rattle.cm_attempt.specs.Table.{opened, new_attempt}
-use Rattle.cm_stream.specs.Words.{Case, times_declared, declares_it, as_case, as_start, cases, starts, starts_of, Started, StepStarted, StepFinished, Ended, move_of, moves, is_end, retry_in, ends_of, status_in, statuses, last_of}
+use Rattle.cm_stream.specs.Words.{Case, times_declared, declares_it, as_case, as_start, cases, starts, starts_of, move_of, moves, retry_in, ends_of, status_in, statuses}
+use Rattle.cm_attempt.specs.Calls.{Started, StepStarted, StepFinished, Ended, is_end, last_of}
 use Rattle.cm_stream.specs.Seen.{attempt_row, case_row, table_of, changed}
 use Rattle.cm_envelope.specs.declared.envelope.Envelope.{Envelope}
 use Rattle.cm_envelope.specs.declared.envelope.Envelope.TheVariants as envelope

@@ -7,7 +7,8 @@ use Rattle.std.specs.Str.{bytes_eq}
 use Rattle.std.proofs.lemmas.Bool.Decides.{nat_tests}
 use Rattle.cm_stream.specs.Texts.{Text}
 use Rattle.cm_attempt.specs.Table.{start_fault_at, find_case as case_in, find_attempt, is_closed_to_new}
-use Rattle.cm_stream.specs.Words.{Name, Attempt, Case, find_case, times_declared, declares_it, as_case, as_start, cases, starts, starts_of, ends_of, is_retried, last_of, statuses}
+use Rattle.cm_stream.specs.Words.{Name, Attempt, Case, find_case, times_declared, declares_it, as_case, as_start, cases, starts, starts_of, ends_of, is_retried, statuses}
+use Rattle.cm_attempt.specs.Calls.{last_of}
 use Rattle.cm_attempt.specs.Worst.{worst_of}
 use Rattle.cm_stream.specs.Checks.{◌if◌, first_failed, refers_to_unknown, declares_again}
 use Rattle.cm_stream.specs.Seen.{attempt_row, case_row, last_state, state_of, table_of}
@@ -26,7 +27,8 @@ use Rattle.cm_stream.proofs.Found.{bytes_are, bytes_same}
 use Rattle.cm_stream.proofs.Moves.{by_id, is_of}
 use Rattle.std.proofs.lemmas.List.Elements.{filter_map-append}
 use Rattle.cm_stream.specs.Checks.{is_next_move}
-use Rattle.cm_stream.specs.Words.{Ended, retry_in}
+use Rattle.cm_stream.specs.Words.{retry_in}
+use Rattle.cm_attempt.specs.Calls.{Ended}
 use Rattle.cm_stream.specs.Refusals.{told_refusal, refused, own_checks}
 use Rattle.cm_stream.specs.Findings.{Finding, IsBad}
 use Rattle.cm_stream.specs.Findings as bad

@@ -10,7 +10,8 @@ use Rattle.cm_attempt.specs.Worst.{worst_of}
 use Rattle.cm_attempt.specs.declared.policy.Policy.{Policy}
 use Rattle.cm_attempt.specs.declared.settings.Settings.{Settings}
 use Rattle.cm_stream.specs.Readings.{Accepted}
-use Rattle.cm_stream.specs.Words.{as_source, as_pickle, as_case, as_start, sources, pickles, cases, starts, starts_of, documents_of, find_pickle, find_case, pickle_step_ids, steps_of, moves, whole, is_final, statuses, last_of, ends_well, is_good_case, says_success, run_succeeded}
+use Rattle.cm_stream.specs.Words.{as_source, as_pickle, as_case, as_start, sources, pickles, cases, starts, starts_of, documents_of, find_pickle, find_case, pickle_step_ids, steps_of, moves, is_final, statuses, ends_well, is_good_case, says_success, run_succeeded}
+use Rattle.cm_attempt.specs.Calls.{whole, last_of}
 use Rattle.cm_stream.specs.Good.{Good, SuccessGood, AllWell, IsAccepted, MeetsSource}
 use Rattle.cm_stream.specs.Stream.{envelopes, unrun}
 use Rattle.cm_stream.specs.Release.{hold_of, is_named, EachNamed, IsReleasedStream, IsCompiled, Ran, EachSourceIsCompiled, EachPickleRan, ReleasedIsNotHeld, ReleasedRan}

@@ -8,8 +8,8 @@ use Rattle.std.proofs.lemmas.Bool.Decides.{nat_tests}
 use Rattle.cm_attempt.specs.Table.{may_start, may_finish}
 use Rattle.cm_attempt.specs.declared.rows.Cursor.{Cursor}
 use Rattle.cm_stream.specs.Texts.{Text}
-use Rattle.cm_stream.specs.Words.{Move, Started, StepStarted, StepFinished, Ended, is_end, whole, last_of}
-use Rattle.cm_stream.specs.Checks.{same_move}
+use Rattle.cm_attempt.specs.Calls.{Move, Started, StepStarted, StepFinished, Ended, is_end, whole, last_of}
+use Rattle.cm_attempt.specs.CallFaults.{same_move}
 use Rattle.cm_stream.specs.Seen.{is_step_start, cursor_at}
 use Rattle.cm_stream.proofs.Lists.{length-both}
 use Rattle.cm_stream.proofs.Moves.{at_end}

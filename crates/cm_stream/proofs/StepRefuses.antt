@@ -11,9 +11,11 @@ use Rattle.cm_attempt.specs.declared.fault.TrackFault.TheVariants as refusal
 use Rattle.cm_stream.specs.Texts.{Text}
 use Rattle.cm_stream.specs.Findings as bad
 use Rattle.cm_stream.specs.Findings.{Finding, IsBad}
-use Rattle.cm_stream.specs.Words.{has_run_started, Attempt, Case, Step, same_name, declares, times_declared, step_names, as_case, as_start, cases, starts, find_case, Move, Started, StepStarted, StepFinished, Ended, moves, is_end, is_ended, whole, last_of, statuses}
+use Rattle.cm_stream.specs.Words.{has_run_started, Attempt, Case, Step, same_name, declares, times_declared, step_names, as_case, as_start, cases, starts, find_case, moves, is_ended, statuses}
+use Rattle.cm_attempt.specs.Calls.{Move, Started, StepStarted, StepFinished, Ended, is_end, whole, last_of}
 use Rattle.cm_stream.specs.Good.{has_same_names, is_unknown}
-use Rattle.cm_stream.specs.Checks.{checks_of, ◌if◌, ◌unsupported_if◌, has_steps_of_pickle, first_failed, refers_to_unknown, declares_again, same_move, is_next_move, steps_of_attempt}
+use Rattle.cm_stream.specs.Checks.{checks_of, ◌if◌, ◌unsupported_if◌, has_steps_of_pickle, first_failed, refers_to_unknown, declares_again, is_next_move, steps_of_attempt}
+use Rattle.cm_attempt.specs.CallFaults.{same_move}
 use Rattle.cm_stream.specs.Seen.{attempt_row, case_row, cursor_at, is_step_start, table_of}
 use Rattle.cm_stream.specs.Refusals.{told_refusal, refused, own_checks, OwnAreChecks}
 use Rattle.cm_stream.specs.declared.verdict.Reason.TheVariants as reason

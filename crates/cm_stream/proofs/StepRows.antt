@@ -10,8 +10,10 @@ use Rattle.cm_stream.specs.Texts.{Text}
 use Rattle.cm_stream.specs.Statuses.{kept_status}
 use Rattle.cm_attempt.specs.Table.{running_cursor, after_step, Table, running, step_done}
 use Rattle.cm_attempt.specs.Worst.{with_status}
-use Rattle.cm_stream.specs.Words.{Attempt, times_declared, as_case, as_start, cases, starts, starts_of, Move, Started, StepStarted, StepFinished, move_of, moves, is_end, is_ended, retry_in, ends_of, status_in, statuses, last_of, whole}
-use Rattle.cm_stream.specs.Checks.{is_next_move, same_move, steps_of_attempt}
+use Rattle.cm_stream.specs.Words.{Attempt, times_declared, as_case, as_start, cases, starts, starts_of, move_of, moves, is_ended, retry_in, ends_of, status_in, statuses}
+use Rattle.cm_attempt.specs.Calls.{Move, Started, StepStarted, StepFinished, is_end, last_of, whole}
+use Rattle.cm_stream.specs.Checks.{is_next_move, steps_of_attempt}
+use Rattle.cm_attempt.specs.CallFaults.{same_move}
 use Rattle.cm_stream.specs.Seen.{cursor_at, is_step_start, attempt_row, last_state, case_row, table_of, changed}
 use Rattle.cm_envelope.specs.declared.envelope.Envelope.{Envelope}
 use Rattle.cm_envelope.specs.declared.envelope.Envelope.TheVariants as envelope

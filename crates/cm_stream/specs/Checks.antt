@@ -5,6 +5,7 @@ use Rattle.std.specs.Option.{option_map_or}
 use Rattle.std.specs.Str.{bytes_eq}
 use Rattle.cm_stream.specs.Texts.{Text, same_texts}
 use Rattle.cm_attempt.specs.Table.{has_repeat}
+use Rattle.cm_attempt.specs.CallFaults.{same_move}
 use Rattle.cm_attempt.specs.declared.policy.Policy.{Policy}
 use Rattle.cm_attempt.specs.declared.settings.Settings.{Settings}
 use Rattle.gk_document.specs.declared.tree.Document.{Document}
@@ -13,7 +14,8 @@ use Rattle.cm_stream.specs.Readings.{Reading, Accepted, OtherLanguage, TooLong}
 use Rattle.cm_stream.specs.OnePass.{reads}
 use Rattle.cm_stream.specs.Skeleton.{same_skeleton}
 use Rattle.cm_stream.specs.Sources.{DuePickle, plain, is_due}
-use Rattle.cm_stream.specs.Words.{declares, times_declared, refers, sources, run_hooks, documents_of, pickles_of, starts, starts_of, case_of, has_run_started, has_run_finished, is_judged, is_accepted, reading_of, find_pickle, pickle_step_ids, steps_of, Move, Started, StepStarted, StepFinished, Ended, moves, whole, is_ended, is_retried, is_hook_finished, all_well}
+use Rattle.cm_stream.specs.Words.{declares, times_declared, refers, sources, run_hooks, documents_of, pickles_of, starts, starts_of, case_of, has_run_started, has_run_finished, is_judged, is_accepted, reading_of, find_pickle, pickle_step_ids, steps_of, moves, is_ended, is_retried, is_hook_finished, all_well}
+use Rattle.cm_attempt.specs.Calls.{Move, Started, StepStarted, StepFinished, Ended, whole}
 use Rattle.cm_stream.specs.Good.{is_unknown, has_same_names}
 use Rattle.cm_envelope.specs.declared.envelope.Envelope.{Envelope}
 use Rattle.cm_envelope.specs.declared.envelope.Envelope.TheVariants as envelope
@@ -99,13 +101,6 @@ abbrev pub has_steps_of_pickle : List Envelope → TestCase → Bool
 has_steps_of_pickle before c =
     option_map_or (λ p. same_texts (map (λ s. s.id) p.steps) (pickle_step_ids c))
     (find_pickle c.pickle_id before) false
-
-abbrev pub same_move : Move → Move → Bool
-same_move Started Started = true
-same_move (StepStarted a) (StepStarted b) = bytes_eq a b
-same_move (StepFinished a) (StepFinished b) = bytes_eq a b
-same_move Ended Ended = true
-same_move _ _ = false
 
 -- the steps of the attempt's case
 abbrev pub steps_of_attempt : Text → List Envelope → List Text

@@ -13,7 +13,8 @@ use Rattle.gk_document.specs.Skeleton.{skeleton}
 use Rattle.gk_pickle.specs.Pickles.{pickles as compiled}
 use Rattle.cm_stream.specs.Readings.{Reading, Accepted, Refused, OtherLanguage, TooLong, IsReading}
 use Rattle.cm_stream.specs.Sources.{plain, is_due}
-use Rattle.cm_stream.specs.Words.{cases, sources, hook_statuses, is_good_case, times_finished, Name, same_name, declares, times_declared, refers, sources_of, documents_of, pickles_of, starts_of, has_run_started, is_run_started, is_run_finished, is_judged, find_pickle, pickle_step_ids, steps_of, moves, whole, is_retried}
+use Rattle.cm_stream.specs.Words.{cases, sources, hook_statuses, is_good_case, times_finished, Name, same_name, declares, times_declared, refers, sources_of, documents_of, pickles_of, starts_of, has_run_started, is_run_started, is_run_finished, is_judged, find_pickle, pickle_step_ids, steps_of, moves, is_retried}
+use Rattle.cm_attempt.specs.Calls.{whole}
 use Rattle.cm_envelope.specs.declared.envelope.Envelope.{Envelope}
 use Rattle.cm_envelope.specs.declared.envelope.Envelope.TheVariants as envelope
 use Rattle.cm_envelope.specs.declared.envelope.Source.{Source}

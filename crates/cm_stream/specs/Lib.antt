@@ -5,6 +5,7 @@ pub mod Readings
 pub mod OnePass
 pub mod Sources
 pub mod Statuses
+pub mod Calls
 pub mod Words
 pub mod Good
 pub mod Checks
@@ -14,3 +15,4 @@ pub mod Seen
 pub mod Told
 pub mod Refusals
 pub mod Release
+pub mod Results

@@ -2,9 +2,12 @@
 use Rattle.std.specs.Prelude.{◌≡◌, ℕ, ◌+◌, ◌==◌, not, List, [], ◌∷◌, ◌++◌, Option, Some, None, map, length}
 use Rattle.std.specs.List.{list_all}
 use Rattle.std.specs.Option.{option_and_then}
-use Rattle.cm_stream.specs.Words.{StepStarted, StepFinished, Ended, starts_of, is_ended, is_retried}
+use Rattle.cm_stream.specs.Words.{starts_of, is_ended, is_retried}
+use Rattle.cm_attempt.specs.Calls.{StepStarted, StepFinished, Ended}
 use Rattle.cm_stream.specs.Checks.{Check, checks_of, ◌if◌, first_failed, refers_to_unknown, declares_again, is_next_move}
-use Rattle.cm_attempt.specs.Table.{Table, add_case_fault, start_fault, step_start_fault, step_finish_fault, finish_fault}
+use Rattle.cm_attempt.specs.Table.{Table}
+use Rattle.cm_attempt.specs.Calls.{refusal_of}
+use Rattle.cm_stream.specs.Calls.{call_of}
 use Rattle.cm_stream.specs.Seen.{table_of}
 use Rattle.cm_attempt.specs.declared.settings.Settings.{Settings}
 use Rattle.cm_stream.specs.Told.{IsFaultless}
@@ -27,14 +30,9 @@ told_refusal refusal.StepOrder = Some (IsBad bad.StepOrder)
 told_refusal refusal.FinishedEarly = Some (IsBad bad.FinishedEarly)
 told_refusal refusal.Memory = None
 
--- what the call for a line refuses
+-- why a table refuses the call for a line
 abbrev pub refused : Table → Envelope → Option TrackFault
-refused t (envelope.TestCase c) = add_case_fault t c.id (map (λ s. s.id) c.test_steps)
-refused t (envelope.TestCaseStarted s) = start_fault t s.id s.test_case_id s.attempt
-refused t (envelope.TestStepStarted s) = step_start_fault t s.test_case_started_id s.test_step_id
-refused t (envelope.TestStepFinished s) = step_finish_fault t s.test_case_started_id s.test_step_id
-refused t (envelope.TestCaseFinished f) = finish_fault t f.test_case_started_id
-refused t _ = None
+refused t e = option_and_then (refusal_of t) (call_of e)
 
 -- the checks of a line that its call makes, where the attempts of a case are numbered from the first number
 abbrev pub own_checks : (first : ℕ) → List Envelope → Envelope → List Check

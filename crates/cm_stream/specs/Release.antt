@@ -12,7 +12,8 @@ use Rattle.gk_pickle.specs.Pickles.{pickles as compiled}
 use Rattle.cm_stream.specs.Texts.{same_list}
 use Rattle.cm_stream.specs.Readings.{Accepted, IsReading}
 use Rattle.cm_stream.specs.Sources.{is_due}
-use Rattle.cm_stream.specs.Words.{sources, pickles, cases, documents_of, pickles_of, starts_of, find_case, pickle_step_ids, moves, whole, is_final, statuses, last_of, run_succeeded}
+use Rattle.cm_stream.specs.Words.{sources, pickles, cases, documents_of, pickles_of, starts_of, find_case, pickle_step_ids, moves, is_final, statuses, run_succeeded}
+use Rattle.cm_attempt.specs.Calls.{whole, last_of}
 use Rattle.cm_stream.specs.Good.{Good}
 use Rattle.cm_stream.specs.Stream.{IsRead, IsGoodRun, envelopes, counts_of}
 use Rattle.cm_envelope.specs.declared.envelope.Envelope.{Envelope}

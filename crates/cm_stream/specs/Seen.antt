@@ -1,13 +1,16 @@
 -- What the record of attempts shows, as one function of the lines so far.
+use Rattle.std.specs.Option.{option_map_or}
 use Rattle.std.specs.Prelude.{ℕ, Bool, true, false, List, [], ◌∷◌, Option, Some, None, map, length}
-use Rattle.cm_attempt.specs.Table.{CaseRow, AttemptRow, Table, with_case, started, change_attempt, running, step_done, finished}
+use Rattle.cm_attempt.specs.Table.{CaseRow, AttemptRow, Table}
+use Rattle.cm_attempt.specs.Calls.{after_call}
+use Rattle.cm_stream.specs.Calls.{call_of}
 use Rattle.cm_attempt.specs.Worst.{worst_so_far, worst_of}
-use Rattle.cm_stream.specs.Words.{cases, starts, starts_of, Move, StepStarted, moves, is_ended, ends_of, statuses, last_of}
+use Rattle.cm_stream.specs.Words.{cases, starts, starts_of, moves, is_ended, ends_of, statuses}
+use Rattle.cm_attempt.specs.Calls.{Move, StepStarted, last_of}
 use Rattle.cm_envelope.specs.declared.envelope.Envelope.{Envelope}
 use Rattle.cm_envelope.specs.declared.envelope.Envelope.TheVariants as envelope
 use Rattle.cm_attempt.specs.declared.status.Status.{Status}
 use Rattle.cm_attempt.specs.declared.rows.Cursor.{Cursor}
-use Rattle.cm_stream.specs.Statuses.{kept_status}
 use Rattle.cm_envelope.specs.declared.envelope.TestCase.{TestCase}
 use Rattle.cm_envelope.specs.declared.envelope.TestCaseStarted.{TestCaseStarted}
 use Rattle.cm_attempt.specs.declared.rows.Last.{Last}
@@ -59,12 +62,6 @@ table_of first es =
       first = first;
     }
 
--- what the calls make of a table at a line
+-- the table after the call for a line
 abbrev pub changed : Table → Envelope → Table
-changed t (envelope.TestCase c) = with_case c.id (map (λ s. s.id) c.test_steps) t
-changed t (envelope.TestCaseStarted s) = started s.id s.test_case_id t
-changed t (envelope.TestStepStarted s) = change_attempt s.test_case_started_id running t
-changed t (envelope.TestStepFinished s) =
-    change_attempt s.test_case_started_id (step_done (kept_status s.test_step_result.status)) t
-changed t (envelope.TestCaseFinished f) = finished f.test_case_started_id f.will_be_retried t
-changed t _ = t
+changed t e = option_map_or (after_call t) (call_of e) t

@@ -2,7 +2,7 @@
 -- The envelopes and their members are those of the Cucumber Messages schemas (`Envelope` and what it names).
 use Rattle.std.specs.Prelude.{ℕ, ◌&&◌, Bool, true, false, not, List, [], ◌∷◌, ◌++◌, Option, Some, None, if◌then◌else◌, map, find, count_by}
 use Rattle.std.specs.List.{list_any, list_all, filter, filter_map, flat_map}
-use Rattle.std.specs.Option.{option_map, option_map_or}
+use Rattle.std.specs.Option.{option_and_then, option_map, option_map_or}
 use Rattle.std.specs.Str.{bytes_eq}
 use Rattle.cm_stream.specs.Texts.{Text}
 use Rattle.cm_stream.specs.Readings.{Reading, Accepted}
@@ -21,6 +21,9 @@ use Rattle.cm_envelope.specs.declared.envelope.TestRunHookFinished.{TestRunHookF
 use Rattle.cm_attempt.specs.declared.status.Status.{Status}
 use Rattle.cm_stream.specs.Statuses.{kept_status}
 use Rattle.cm_attempt.specs.Worst.{worst_of}
+use Rattle.cm_attempt.specs.Calls as call
+use Rattle.cm_attempt.specs.Calls.{Move, is_end, last_of}
+use Rattle.cm_stream.specs.Calls.{call_of}
 use Rattle.cm_attempt.specs.Table.{is_good_status}
 use Rattle.cm_attempt.specs.declared.policy.Policy.{Policy}
 
@@ -242,46 +245,21 @@ steps_of case es = option_map_or (λ c. map (λ s. s.id) c.test_steps) (find_cas
 
 -- ---- attempts
 
--- what happens to an attempt
-pub data Move : Type 0 where
-  Started : Move
-  StepStarted : Text → Move
-  StepFinished : Text → Move
-  Ended : Move
-
-abbrev pub move_if : Bool → Move → Option Move
-move_if b m = if b then Some m else None
-
+-- what an envelope says of an attempt
 abbrev pub move_of : Text → Envelope → Option Move
-move_of a (envelope.TestCaseStarted s) = move_if (bytes_eq a s.id) Started
-move_of a (envelope.TestStepStarted s) =
-    move_if (bytes_eq a s.test_case_started_id) (StepStarted s.test_step_id)
-move_of a (envelope.TestStepFinished s) =
-    move_if (bytes_eq a s.test_case_started_id) (StepFinished s.test_step_id)
-move_of a (envelope.TestCaseFinished f) = move_if (bytes_eq a f.test_case_started_id) Ended
-move_of a _ = None
+move_of a e = option_and_then (call.move_of a) (call_of e)
 
 -- the envelopes that name an attempt, attachments aside
 abbrev pub moves : Text → List Envelope → List Move
 moves a es = filter_map (move_of a) es
 
--- what an attempt of a case with these steps has to go through
-abbrev pub whole : List Text → List Move
-whole steps = Started ∷ flat_map (λ s. StepStarted s ∷ StepFinished s ∷ []) steps ++ Ended ∷ []
-
 -- how an attempt ended: whether it will be retried
 abbrev pub retry_in : Text → Envelope → Option Bool
-retry_in a (envelope.TestCaseFinished f) =
-    if bytes_eq a f.test_case_started_id then Some f.will_be_retried else None
-retry_in a _ = None
+retry_in a e = option_and_then (call.retry_in a) (call_of e)
 
 -- of each end of the attempt, whether it will be retried
 abbrev pub ends_of : Text → List Envelope → List Bool
 ends_of a es = filter_map (retry_in a) es
-
-abbrev pub is_end : Move → Bool
-is_end Ended = true
-is_end _ = false
 
 -- it is finished
 abbrev pub is_ended : Text → List Envelope → Bool
@@ -295,10 +273,9 @@ is_retried a es = list_any (λ r. r) (ends_of a es)
 abbrev pub is_final : Text → List Envelope → Bool
 is_final a es = list_any not (ends_of a es)
 
+-- the status of a step that finished
 abbrev pub status_in : Text → Envelope → Option Status
-status_in a (envelope.TestStepFinished s) =
-    if bytes_eq a s.test_case_started_id then Some (kept_status s.test_step_result.status) else None
-status_in a _ = None
+status_in a e = option_and_then (call.status_in a) (call_of e)
 
 abbrev pub statuses : Text → List Envelope → List Status
 statuses a es = filter_map (status_in a) es
@@ -319,12 +296,6 @@ abbrev pub hook_statuses : List Envelope → List Status
 hook_statuses es = map (λ f. kept_status f.result.status) (run_hook_ends es)
 
 -- ---- success (Messages: TestRunFinished, TestStepResultStatus)
-
--- the last of a list
-abbrev pub last_of : {A : Type 0} → List A → Option A
-last_of [] = None
-last_of (x ∷ []) = Some x
-last_of (x ∷ y ∷ more) = last_of (y ∷ more)
 
 -- the attempt is finished, won't be retried, and is at worst of a good status
 abbrev pub ends_well : Policy → List Envelope → Text → Bool

@@ -4,6 +4,8 @@ ghost use Rattle.cm_stream.specs.OnePass.{EachTextIsRead};
 ghost use Rattle.cm_stream.specs.Readings.{OneReading};
 ghost use Rattle.cm_stream.specs.Refusals.{OwnAreChecks, RefusalsAreTold};
 ghost use Rattle.cm_stream.specs.Release.{ReleasedIsNotHeld, ReleasedRan};
+ghost use Rattle.cm_stream.specs.Results.{FaultsAreChecks, FaultsAreExact, FaultsAreFirst, FrontsAreWellOrdered, NoFaultIsExact};
+ghost use Rattle.cm_stream.specs.Results.{RefusedForFaults, TablesChange, TablesHaveResults, TroublesAreLast, WellOrderedAreAccepted};
 ghost use Rattle.cm_stream.specs.Told.{AnswersAreRight, FoundIsNotGood, GoodIsNoFault, NoFaultIsGood, NoneBeginsSo, TableSteps};
 
 /// Each text is accepted with one document, refused, in another language, or too long, and never two of these.
@@ -68,4 +70,52 @@ pub fn released_is_not_held()
 /// them ran: its case's last attempt went through each step in order, finished, and is at worst of a good status.
 pub fn released_scenarios_ran()
     ensures { ReleasedRan }
+{}
+
+/// Where no call for the envelopes is refused, their attempts are well ordered, and the table reports of each case, in order
+/// of declaration, the worst status of its final attempt.
+pub fn tables_have_results()
+    ensures { TablesHaveResults }
+{}
+
+/// Where the attempts of the envelopes are well ordered, no call for them is refused.
+pub fn well_ordered_are_accepted()
+    ensures { WellOrderedAreAccepted }
+{}
+
+/// Each front of envelopes whose attempts are well ordered is such a list too.
+pub fn fronts_are_well_ordered()
+    ensures { FrontsAreWellOrdered }
+{}
+
+/// After accepted envelopes an envelope is refused exactly for the fault that it has by what those before it say, and that is
+/// the first failed of the checks which the audit leaves to the record of attempts.
+pub fn refusals_are_faults()
+    ensures refused { RefusedForFaults }
+    ensures checks { FaultsAreChecks }
+{}
+
+/// After accepted envelopes one without a fault changes the table as its call does.
+pub fn tables_change()
+    ensures { TablesChange }
+{}
+
+/// After well ordered attempts an envelope has a fault exactly where they aren't well ordered with it.
+pub fn faults_are_exact()
+    ensures { FaultsAreExact }
+{}
+
+/// No fault is reported exactly of streams that are read as envelopes whose attempts are well ordered.
+pub fn results_without_fault_are_exact()
+    ensures { NoFaultIsExact }
+{}
+
+/// A fault that is reported is that of the first line without an envelope, or with which the attempts aren't well ordered.
+pub fn results_faults_are_first()
+    ensures { FaultsAreFirst }
+{}
+
+/// A trouble is reported only where no line has a fault.
+pub fn results_troubles_are_last()
+    ensures { TroublesAreLast }
 {}

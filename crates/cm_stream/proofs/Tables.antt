@@ -1,28 +1,27 @@
--- What one more envelope makes of the table, and of attempts that come as they must.
+-- What one more envelope makes of the table, and of attempts that are well ordered.
 use Rattle.std.proofs.Common.{◌≡◌, ◌+◌, ℕ, refl, sym, ap, ◌∙◌, List, [], ◌∷◌, ◌++◌, Option, Some, None, true, false, Bool, not, ◌||◌, ◌==◌, length, map, ◌↔◌, unwrap_or}
 use Rattle.std.specs.Prelude.{is_some, if◌then◌else◌}
-use Rattle.std.specs.List.{list_all}
-use Rattle.std.specs.Option.{option_and_then}
+use Rattle.std.specs.List.{list_all, cons_option}
+use Rattle.std.specs.Option.{option_and_then, option_map_or}
 use Rattle.std.proofs.lemmas.List.Elements.{filter_map-append}
-use Rattle.cm_attempt.specs.Table.{Text, Table, table_from, has_text, has_repeat}
+use Rattle.cm_attempt.specs.Table.{Text, Table, table_from, has_text, has_repeat, reported_of}
 use Rattle.cm_attempt.specs.Calls as call
+use Rattle.cm_attempt.specs.Calls.{DeclaredCase, cases, result_of}
 use Rattle.cm_attempt.specs.Calls.{Call, AddCase, Start, StartStep, FinishStep, Finish, Move, refusal_of, after_call, unless_refused, left_by, table_after}
 use Rattle.cm_attempt.specs.CallFaults as calls
 use Rattle.cm_attempt.specs.CallFaults.{fault_of, step_fault}
 use Rattle.cm_attempt.specs.declared.fault.TrackFault.{TrackFault}
 use Rattle.cm_attempt.specs.declared.fault.TrackFault.TheVariants as refusal
 use Rattle.cm_attempt.proofs.Refused.{refused_for_fault}
-use Rattle.cm_stream.specs.Statuses.{kept_status}
+use Rattle.cm_attempt.proofs.Accepted.{come_in_order, has_cases, reports, cut_at}
+use Rattle.cm_attempt.proofs.Converse.{are_accepted}
+use Rattle.cm_stream.proofs.CallWords.{map_twice, map_same}
 use Rattle.cm_stream.specs.Findings.{Finding}
-use Rattle.cm_stream.specs.Checks.{first_failed}
-use Rattle.cm_stream.specs.Refusals.{told_refusal, refused, own_checks}
+use Rattle.cm_stream.specs.Refusals.{told_refusal, refused}
 use Rattle.cm_stream.specs.Seen.{changed}
 use Rattle.cm_envelope.specs.declared.envelope.Envelope.{Envelope}
-use Rattle.cm_envelope.specs.declared.envelope.Envelope.TheVariants as envelope
-use Rattle.cm_results.specs.Results.{AttemptsComeWell}
-use Rattle.cm_results.specs.Joining.{call_of, calls_of, TablesChange, FaultsAreExact}
-use Rattle.cm_results.proofs.Joined.{tables_have_results, well_come_is_taken}
-use Rattle.cm_results.proofs.Faults.{refused_for_checks}
+use Rattle.cm_stream.specs.Results.{AreWellOrdered, results_of, fault, TablesHaveResults, RefusedForFaults, TablesChange, WellOrderedAreAccepted, FrontsAreWellOrdered, FaultsAreExact}
+use Rattle.cm_stream.specs.Calls.{call_of, calls_of}
 
 abbrev told : TrackFault → Option Finding
 told f = told_refusal f
@@ -69,12 +68,18 @@ refusal_told : (first : ℕ) (cs : List Call) (t : Table) → table_after first 
 refusal_told first cs t taken c h = let same = refused_for_fault first cs t taken c in same ∙ fault_told first cs c (ap (option_and_then told) (sym same) ∙ h)
 
 not_refused : (first : ℕ) (es : List Envelope) (t : Table) → table_after first (calls_of es) ≡ Some t → (e : Envelope) → option_and_then told (refused t e) ≡ None → refused t e ≡ None
-not_refused first es t taken (envelope.TestCase c) h = refusal_told first (calls_of es) t taken (AddCase c.id (map (λ s. s.id) c.test_steps)) h
-not_refused first es t taken (envelope.TestCaseStarted s) h = refusal_told first (calls_of es) t taken (Start s.id s.test_case_id s.attempt) h
-not_refused first es t taken (envelope.TestStepStarted s) h = refusal_told first (calls_of es) t taken (StartStep s.test_case_started_id s.test_step_id) h
-not_refused first es t taken (envelope.TestStepFinished s) h = refusal_told first (calls_of es) t taken (FinishStep s.test_case_started_id s.test_step_id (kept_status s.test_step_result.status)) h
-not_refused first es t taken (envelope.TestCaseFinished f) h = refusal_told first (calls_of es) t taken (Finish f.test_case_started_id f.will_be_retried) h
-not_refused first es t taken _ h = refl
+not_refused first es t taken e h = go (call_of e) h
+  where
+    go : (o : Option Call) → option_and_then told (option_and_then (refusal_of t) o) ≡ None → option_and_then (refusal_of t) o ≡ None
+    go None k = refl
+    go (Some c) k = refusal_told first (calls_of es) t taken c k
+
+pub refused_for_faults : RefusedForFaults
+refused_for_faults first es t taken e = go (call_of e)
+  where
+    go : (o : Option Call) → option_and_then told (option_and_then (refusal_of t) o) ≡ option_and_then told (option_and_then (fault_of first (calls_of es)) o)
+    go None = refl
+    go (Some c) = ap (option_and_then told) (refused_for_fault first (calls_of es) t taken c)
 
 -- ---- one more envelope
 
@@ -87,35 +92,55 @@ left_both (c ∷ xs) ys t u e = go (refusal_of t c) refl e (left_both xs ys (aft
     go (Some f) k l rec = cc
 
 left_one : (first : ℕ) (es : List Envelope) (t : Table) → table_after first (calls_of es) ≡ Some t → (e : Envelope) → table_after first (calls_of (es ++ e ∷ [])) ≡ unless_refused (refused t e) (Some (changed t e))
-left_one first es t taken e = ap (table_after first) (filter_map-append call_of es (e ∷ [])) ∙ left_both (calls_of es) (calls_of (e ∷ [])) (table_from first) t taken ∙ go e
+left_one first es t taken e = ap (table_after first) (filter_map-append call_of es (e ∷ [])) ∙ left_both (calls_of es) (calls_of (e ∷ [])) (table_from first) t taken ∙ go (call_of e)
   where
-    go : (e : Envelope) → left_by t (calls_of (e ∷ [])) ≡ unless_refused (refused t e) (Some (changed t e))
-    go (envelope.TestCase c) = refl
-    go (envelope.TestCaseStarted s) = refl
-    go (envelope.TestStepStarted s) = refl
-    go (envelope.TestStepFinished s) = refl
-    go (envelope.TestCaseFinished f) = refl
-    go _ = refl
+    go : (o : Option Call) → left_by t (cons_option o []) ≡ unless_refused (option_and_then (refusal_of t) o) (Some (option_map_or (after_call t) o t))
+    go None = refl
+    go (Some c) = refl
 
 pub tables_change : TablesChange
 tables_change first es t taken e none =
-    let fine : refused t e ≡ None = not_refused first es t taken e (refused_for_checks first es t taken e ∙ none) in
+    let fine : refused t e ≡ None = not_refused first es t taken e (refused_for_faults first es t taken e ∙ none) in
     left_one first es t taken e ∙ ap (λ o. unless_refused o (Some (changed t e))) fine
 
--- ---- exactly where they don't come as they must
+-- ---- the results
+
+table_results : (first : ℕ) (es : List Envelope) (t : Table) → table_after first (calls_of es) ≡ Some t → map (λ c. (c.id, reported_of t c.id)) t.cases ≡ results_of es
+table_results first es t e =
+    sym (map_twice (λ (id : Text). (id, reported_of t id)) (λ c. c.id) t.cases)
+    ∙ ap (map (λ (id : Text). (id, reported_of t id))) (has_cases first (calls_of es) t e)
+    ∙ map_twice (λ (id : Text). (id, reported_of t id)) (λ (c : DeclaredCase). c.id) (cases (calls_of es))
+    ∙ map_same (λ (c : DeclaredCase). (c.id, reported_of t c.id)) (λ (c : DeclaredCase). (c.id, result_of c.id (calls_of es))) (λ c. ap (λ r. (c.id, r)) (reports first (calls_of es) t e c.id)) (cases (calls_of es))
+
+pub tables_have_results : TablesHaveResults
+tables_have_results first es t e = (come_in_order first (calls_of es) t e, table_results first es t e)
+
+pub well_ordered_are_accepted : WellOrderedAreAccepted
+well_ordered_are_accepted first es well = are_accepted first (calls_of es) well
+
+pub fronts_are_well_ordered : FrontsAreWellOrdered
+fronts_are_well_ordered first before after well = go (table_after first (calls_of (before ++ after))) refl (well_ordered_are_accepted first (before ++ after) well)
+  where
+    go : (o : Option Table) → table_after first (calls_of (before ++ after)) ≡ o → is_some o ≡ true → AreWellOrdered first before
+    go None e k = cc
+    go (Some t) e k =
+        let parts = cut_at (calls_of before) (calls_of after) (table_from first) t (ap (table_after first) (sym (filter_map-append call_of before after)) ∙ e) in
+        come_in_order first (calls_of before) parts.0 parts.1
+
+-- ---- exactly where they aren't well ordered any more
 
 accepted_one : (o : Option TrackFault) (l : Option Table) → is_some (unless_refused o l) ≡ true → o ≡ None
 accepted_one None l h = refl
 accepted_one (Some f) l h = cc
 
 pub faults_are_exact : FaultsAreExact
-faults_are_exact first es well e = go (table_after first (calls_of es)) refl (well_come_is_taken first es well)
+faults_are_exact first es well e = go (table_after first (calls_of es)) refl (well_ordered_are_accepted first es well)
   where
-    go : (o : Option Table) → table_after first (calls_of es) ≡ o → is_some o ≡ true → (first_failed (own_checks first es e) ≡ None) ↔ AttemptsComeWell first (es ++ e ∷ [])
+    go : (o : Option Table) → table_after first (calls_of es) ≡ o → is_some o ≡ true → (fault first es e ≡ None) ↔ AreWellOrdered first (es ++ e ∷ [])
     go None taken k = cc
     go (Some t) taken k = (
       λ none. (tables_have_results first (es ++ e ∷ []) (changed t e) (tables_change first es t taken e none)).0,
       λ more.
-          let all : is_some (unless_refused (refused t e) (Some (changed t e))) ≡ true = ap is_some (sym (left_one first es t taken e)) ∙ well_come_is_taken first (es ++ e ∷ []) more in
-          sym (refused_for_checks first es t taken e) ∙ ap (option_and_then told) (accepted_one (refused t e) (Some (changed t e)) all),
+          let all : is_some (unless_refused (refused t e) (Some (changed t e))) ≡ true = ap is_some (sym (left_one first es t taken e)) ∙ well_ordered_are_accepted first (es ++ e ∷ []) more in
+          sym (refused_for_faults first es t taken e) ∙ ap (option_and_then told) (accepted_one (refused t e) (Some (changed t e)) all),
     )

@@ -1,19 +1,19 @@
--- What envelopes tell is what their calls tell.
-use Rattle.std.proofs.Common.{◌≡◌, refl, sym, ap, ◌∙◌, List, [], ◌∷◌, ◌++◌, Option, Some, None, true, false, Bool, map}
+-- The cases, attempts and moves of envelopes are those of their calls.
+use Rattle.std.proofs.Common.{◌≡◌, refl, sym, ap, ◌∙◌, List, [], ◌∷◌, ◌++◌, Option, Some, None, true, false, Bool, map, length, is_some, ◌+◌, ℕ, suc, ◌&&◌}
 use Rattle.std.specs.Prelude.{find, filter, filter_map, option_map, if◌then◌else◌}
-use Rattle.std.specs.List.{flat_map, cons_option}
+use Rattle.std.specs.List.{list_any, list_all, cons_option}
 use Rattle.std.specs.Option.{option_map_or, option_and_then}
 use Rattle.std.specs.Str.{bytes_eq}
 use Rattle.cm_attempt.specs.Calls as call
 use Rattle.cm_attempt.specs.Calls.{Call, DeclaredCase, StartedAttempt}
 use Rattle.cm_stream.specs.Texts.{Text}
-use Rattle.cm_stream.specs.Words.{as_case, as_start, cases, starts, starts_of, find_case, steps_of, Move, Started, StepStarted, StepFinished, Ended, move_of, moves, whole, retry_in, ends_of, status_in, statuses}
+use Rattle.cm_stream.specs.Words.{as_case, as_start, cases, starts, starts_of, find_case, steps_of, move_of, moves, retry_in, ends_of, is_retried}
 use Rattle.cm_stream.specs.Checks.{steps_of_attempt}
 use Rattle.cm_envelope.specs.declared.envelope.Envelope.{Envelope}
 use Rattle.cm_envelope.specs.declared.envelope.Envelope.TheVariants as envelope
 use Rattle.cm_envelope.specs.declared.envelope.TestCase.{TestCase}
 use Rattle.cm_envelope.specs.declared.envelope.TestCaseStarted.{TestCaseStarted}
-use Rattle.cm_results.specs.Joining.{call_of, calls_of}
+use Rattle.cm_stream.specs.Calls.{call_of, calls_of}
 
 -- ---- kept through two maps
 
@@ -112,65 +112,42 @@ attempt_steps_told a es = ap (λ o. option_map_or (λ (s : StartedAttempt). call
 
 -- ---- what an attempt goes through
 
-abbrev pub move_told : Move → call.Move
-move_told Started = call.Started
-move_told (StepStarted s) = call.StepStarted s
-move_told (StepFinished s) = call.StepFinished s
-move_told Ended = call.Ended
-
-abbrev pub move_back : call.Move → Move
-move_back call.Started = Started
-move_back (call.StepStarted s) = StepStarted s
-move_back (call.StepFinished s) = StepFinished s
-move_back call.Ended = Ended
-
-pub there_and_back : (ms : List Move) → map move_back (map move_told ms) ≡ ms
-there_and_back [] = refl
-there_and_back (Started ∷ ms) = ap (λ xs. Started ∷ xs) (there_and_back ms)
-there_and_back (StepStarted s ∷ ms) = ap (λ xs. StepStarted s ∷ xs) (there_and_back ms)
-there_and_back (StepFinished s ∷ ms) = ap (λ xs. StepFinished s ∷ xs) (there_and_back ms)
-there_and_back (Ended ∷ ms) = ap (λ xs. Ended ∷ xs) (there_and_back ms)
-
-if_told : (b : Bool) (m : Move) → (if b then Some (move_told m) else None) ≡ option_map move_told (if b then Some m else None)
-if_told true m = refl
-if_told false m = refl
-
-move_same : (a : Text) (e : Envelope) → option_and_then (call.move_of a) (call_of e) ≡ option_map move_told (move_of a e)
-move_same a (envelope.TestCase c) = refl
-move_same a (envelope.TestCaseStarted s) = if_told (bytes_eq a s.id) Started
-move_same a (envelope.TestStepStarted s) = if_told (bytes_eq a s.test_case_started_id) (StepStarted s.test_step_id)
-move_same a (envelope.TestStepFinished s) = if_told (bytes_eq a s.test_case_started_id) (StepFinished s.test_step_id)
-move_same a (envelope.TestCaseFinished f) = if_told (bytes_eq a f.test_case_started_id) Ended
-move_same a _ = refl
-
-pub moves_told : (a : Text) (es : List Envelope) → call.moves a (calls_of es) ≡ map move_told (moves a es)
-moves_told a es = kept_twice call_of (call.move_of a) (λ e. option_map move_told (move_of a e)) (move_same a) es ∙ kept_map (move_of a) move_told es
-
-through_told : (steps : List Text) → map move_told (flat_map (λ s. StepStarted s ∷ StepFinished s ∷ []) steps ++ Ended ∷ []) ≡ call.through steps ++ call.Ended ∷ []
-through_told [] = refl
-through_told (s ∷ steps) = ap (λ ms. call.StepStarted s ∷ call.StepFinished s ∷ ms) (through_told steps)
-
-pub whole_told : (steps : List Text) → map move_told (whole steps) ≡ call.whole steps
-whole_told steps = ap (λ ms. call.Started ∷ ms) (through_told steps)
-
-retry_same : (a : Text) (e : Envelope) → option_and_then (call.retry_in a) (call_of e) ≡ retry_in a e
-retry_same a (envelope.TestCase c) = refl
-retry_same a (envelope.TestCaseStarted s) = refl
-retry_same a (envelope.TestStepStarted s) = refl
-retry_same a (envelope.TestStepFinished s) = refl
-retry_same a (envelope.TestCaseFinished f) = refl
-retry_same a _ = refl
+pub moves_told : (a : Text) (es : List Envelope) → call.moves a (calls_of es) ≡ moves a es
+moves_told a es = kept_twice call_of (call.move_of a) (move_of a) (λ e. refl) es
 
 pub ends_told : (a : Text) (es : List Envelope) → call.ends_of a (calls_of es) ≡ ends_of a es
-ends_told a es = kept_twice call_of (call.retry_in a) (retry_in a) (retry_same a) es
+ends_told a es = kept_twice call_of (call.retry_in a) (retry_in a) (λ e. refl) es
 
-status_same : (a : Text) (e : Envelope) → option_and_then (call.status_in a) (call_of e) ≡ status_in a e
-status_same a (envelope.TestCase c) = refl
-status_same a (envelope.TestCaseStarted s) = refl
-status_same a (envelope.TestStepStarted s) = refl
-status_same a (envelope.TestStepFinished s) = refl
-status_same a (envelope.TestCaseFinished f) = refl
-status_same a _ = refl
+-- ---- ids, and each start
 
-pub statuses_told : (a : Text) (es : List Envelope) → call.statuses a (calls_of es) ≡ statuses a es
-statuses_told a es = kept_twice call_of (call.status_in a) (status_in a) (status_same a) es
+pub map_twice : {X Y Z : Type 0} (f : Y → Z) (g : X → Y) (xs : List X) → map f (map g xs) ≡ map (λ x. f (g x)) xs
+map_twice f g [] = refl
+map_twice f g (x ∷ xs) = ap (λ zs. f (g x) ∷ zs) (map_twice f g xs)
+
+pub map_same : {X Y : Type 0} (f g : X → Y) → ((x : X) → f x ≡ g x) → (xs : List X) → map f xs ≡ map g xs
+map_same f g h [] = refl
+map_same f g h (x ∷ xs) = λ i. h x i ∷ map_same f g h xs i
+
+map_long : {X Y : Type 0} (f : X → Y) (xs : List X) → length (map f xs) ≡ length xs
+map_long f [] = refl
+map_long f (x ∷ xs) = ap (λ n. suc n) (map_long f xs)
+
+pub some_mapped : {X Y : Type 0} (f : X → Y) (o : Option X) → is_some (option_map f o) ≡ is_some o
+some_mapped f None = refl
+some_mapped f (Some x) = refl
+
+pub case_ids : (es : List Envelope) → map (λ (c : DeclaredCase). c.id) (call.cases (calls_of es)) ≡ map (λ (c : TestCase). c.id) (cases es)
+case_ids es = ap (map (λ (c : DeclaredCase). c.id)) (cases_told es) ∙ map_twice (λ (c : DeclaredCase). c.id) case_told (cases es)
+
+pub some_told : (case : Text) (es : List Envelope) → is_some (call.declared case (calls_of es)) ≡ is_some (find_case case es)
+some_told case es = ap is_some (declared_told case es) ∙ some_mapped case_told (find_case case es)
+
+pub long_told : (case : Text) (es : List Envelope) → length (call.starts_of case (calls_of es)) ≡ length (starts_of case es)
+long_told case es = ap length (starts_of_told case es) ∙ map_long start_told (starts_of case es)
+
+pub retried_told : (case : Text) (es : List Envelope) → list_all (λ (s : StartedAttempt). call.is_retried s.id (calls_of es)) (call.starts_of case (calls_of es)) ≡ list_all (λ (s : TestCaseStarted). is_retried s.id es) (starts_of case es)
+retried_told case es = ap (list_all (λ (s : StartedAttempt). call.is_retried s.id (calls_of es))) (starts_of_told case es) ∙ go (starts_of case es)
+  where
+    go : (ss : List TestCaseStarted) → list_all (λ (s : StartedAttempt). call.is_retried s.id (calls_of es)) (map start_told ss) ≡ list_all (λ (s : TestCaseStarted). is_retried s.id es) ss
+    go [] = refl
+    go (s ∷ ss) = λ i. list_any (λ r. r) (ends_told s.id es i) && go ss i

@@ -1,4 +1,4 @@
--- Why the call for an envelope is refused, in the words of the stream's checks.
+-- The fault of an envelope's call is the first failed of the checks that the audit leaves to the record of attempts.
 use Rattle.std.proofs.Common.{◌≡◌, ◌+◌, ℕ, zero, suc, arith, refl, sym, ap, ◌∙◌, List, [], ◌∷◌, Option, Some, None, true, false, Bool, not, ◌||◌, ◌==◌, map, length}
 use Rattle.std.specs.Prelude.{find, is_some, nat_lt, slice_get, option_map, if◌then◌else◌}
 use Rattle.std.specs.List.{list_any, list_all}
@@ -12,13 +12,14 @@ use Rattle.cm_attempt.specs.CallFaults as calls
 use Rattle.cm_attempt.specs.CallFaults.{fault_of, step_fault}
 use Rattle.cm_attempt.specs.declared.fault.TrackFault.{TrackFault}
 use Rattle.cm_attempt.specs.declared.fault.TrackFault.TheVariants as refusal
-use Rattle.cm_attempt.proofs.Refused.{refused_for_fault}
 use Rattle.cm_stream.specs.Texts.{Text}
 use Rattle.cm_stream.specs.Statuses.{kept_status}
 use Rattle.cm_stream.specs.Findings as bad
 use Rattle.cm_stream.specs.Findings.{Finding, IsBad}
-use Rattle.cm_stream.specs.Words.{Attempt, Case, Step, times_declared, step_names, as_case, as_start, cases, starts, starts_of, find_case, Move, Started, StepStarted, StepFinished, Ended, moves, is_end, is_ended, is_retried, whole}
-use Rattle.cm_stream.specs.Checks.{◌if◌, first_failed, refers_to_unknown, declares_again, same_move, is_next_move, steps_of_attempt}
+use Rattle.cm_stream.specs.Words.{Attempt, Case, Step, times_declared, step_names, as_case, as_start, cases, starts, starts_of, find_case, moves, is_ended, is_retried}
+use Rattle.cm_attempt.specs.Calls.{Move, Started, StepStarted, StepFinished, Ended, is_end, whole}
+use Rattle.cm_stream.specs.Checks.{◌if◌, first_failed, refers_to_unknown, declares_again, is_next_move, steps_of_attempt}
+use Rattle.cm_attempt.specs.CallFaults.{same_move}
 use Rattle.cm_stream.specs.Refusals.{told_refusal, refused, own_checks}
 use Rattle.cm_stream.specs.Seen.{case_row, table_of}
 use Rattle.cm_stream.proofs.Declared.{declares_attempt, declares_case}
@@ -34,9 +35,10 @@ use Rattle.cm_envelope.specs.declared.envelope.Envelope.TheVariants as envelope
 use Rattle.cm_envelope.specs.declared.envelope.TestCase.{TestCase}
 use Rattle.cm_envelope.specs.declared.envelope.TestCaseStarted.{TestCaseStarted}
 use Rattle.cm_envelope.specs.declared.envelope.TestCaseFinished.{TestCaseFinished}
-use Rattle.cm_results.specs.Joining.{calls_of, RefusedForChecks}
-use Rattle.cm_results.proofs.Told.{start_told, start_of_told, attempt_steps_told, move_told, moves_told, whole_told}
-use Rattle.cm_results.proofs.Joined.{some_told, some_mapped, long_told, retried_told, tables_have_results}
+use Rattle.cm_stream.specs.Results.{FaultsAreChecks, fault}
+use Rattle.cm_stream.specs.Calls.{calls_of}
+use Rattle.cm_stream.proofs.CallWords.{start_told, start_of_told, attempt_steps_told, moves_told, case_ids, some_told, some_mapped, long_told, retried_told}
+use Rattle.cm_attempt.proofs.Accepted.{ids_distinct}
 
 abbrev told : TrackFault → Option Finding
 told f = told_refusal f
@@ -50,47 +52,11 @@ or_no false = refl
 start_seen : (a : Text) (es : List Envelope) → is_some (call.start_of a (calls_of es)) ≡ is_some (find (is_of a) (starts es))
 start_seen a es = ap is_some (start_of_told a es) ∙ some_mapped start_told (find (is_of a) (starts es))
 
-same_told : (m n : Move) → calls.same_move (move_told m) (move_told n) ≡ same_move m n
-same_told Started Started = refl
-same_told (StepStarted a) (StepStarted b) = refl
-same_told (StepFinished a) (StepFinished b) = refl
-same_told Ended Ended = refl
-same_told _ _ = refl
-
-got_mapped : {X Y : Type 0} (f : X → Y) (xs : List X) (n : ℕ) → slice_get (map f xs) n ≡ option_map f (slice_get xs n)
-got_mapped f [] n = refl
-got_mapped f (x ∷ xs) zero = refl
-got_mapped f (x ∷ xs) (suc n) = got_mapped f xs n
-
-next_told : (m : Move) (a : Text) (es : List Envelope) → calls.is_next_move (move_told m) a (calls_of es) ≡ is_next_move m a es
-next_told m a es =
-    (λ i. option_map_or (calls.same_move (move_told m)) (slice_get (all i) (many i)) false)
-    ∙ ap (λ o. option_map_or (calls.same_move (move_told m)) o false) (got_mapped move_told (whole (steps_of_attempt a es)) (length (moves a es)))
-    ∙ go (slice_get (whole (steps_of_attempt a es)) (length (moves a es)))
-  where
-    all : call.whole (call.steps_of_attempt a (calls_of es)) ≡ map move_told (whole (steps_of_attempt a es))
-    all = ap call.whole (attempt_steps_told a es) ∙ sym (whole_told (steps_of_attempt a es))
-
-    long : (ms : List Move) → length (map move_told ms) ≡ length ms
-    long [] = refl
-    long (x ∷ ms) = ap (λ n. suc n) (long ms)
-
-    many : length (call.moves a (calls_of es)) ≡ length (moves a es)
-    many = ap length (moves_told a es) ∙ long (moves a es)
-
-    go : (o : Option Move) → option_map_or (calls.same_move (move_told m)) (option_map move_told o) false ≡ option_map_or (same_move m) o false
-    go None = refl
-    go (Some n) = same_told m n
+next_told : (m : Move) (a : Text) (es : List Envelope) → calls.is_next_move m a (calls_of es) ≡ is_next_move m a es
+next_told m a es = λ i. option_map_or (same_move m) (slice_get (whole (attempt_steps_told a es i)) (length (moves_told a es i))) false
 
 ended_told : (a : Text) (es : List Envelope) → call.is_ended a (calls_of es) ≡ is_ended a es
-ended_told a es = ap (list_any call.is_end) (moves_told a es) ∙ go (moves a es)
-  where
-    go : (ms : List Move) → list_any call.is_end (map move_told ms) ≡ list_any is_end ms
-    go [] = refl
-    go (Started ∷ ms) = go ms
-    go (StepStarted s ∷ ms) = go ms
-    go (StepFinished s ∷ ms) = go ms
-    go (Ended ∷ ms) = refl
+ended_told a es = ap (list_any is_end) (moves_told a es)
 
 -- ---- a case
 
@@ -153,7 +119,7 @@ two_tests true false = refl
 two_tests false n = refl
 
 step_checked : (es : List Envelope) → has_repeat (map (λ (c : TestCase). c.id) (cases es)) ≡ false → (a step : Text) (m : Move)
-    → option_and_then told (step_fault (calls_of es) a step (move_told m)) ≡ first_failed (bad.UnknownReference if asks_unknown es a step ∷ bad.StepOrder if not (is_next_move m a es) ∷ [])
+    → option_and_then told (step_fault (calls_of es) a step m) ≡ first_failed (bad.UnknownReference if asks_unknown es a step ∷ bad.StepOrder if not (is_next_move m a es) ∷ [])
 step_checked es distinct a step m = go (find (is_of a) (starts es)) refl
   where
     seen_as : (b : Bool) → is_some (find (is_of a) (starts es)) ≡ b → is_some (call.start_of a (calls_of es)) ≡ b
@@ -167,7 +133,7 @@ step_checked es distinct a step m = go (find (is_of a) (starts es)) refl
         let steps : has_text step (call.steps_of_attempt a (calls_of es)) ≡ has_text step (step_ids c) = ap (has_text step) (attempt_steps_told a es) ∙ rw (e, k) refl in
         references es a step t e ∙ step_known es t.test_case_id step c (one_of t.test_case_id (cases es) distinct) k ∙ ap not (sym steps)
 
-    go : (o : Option TestCaseStarted) → find (is_of a) (starts es) ≡ o → option_and_then told (step_fault (calls_of es) a step (move_told m)) ≡ first_failed (bad.UnknownReference if asks_unknown es a step ∷ bad.StepOrder if not (is_next_move m a es) ∷ [])
+    go : (o : Option TestCaseStarted) → find (is_of a) (starts es) ≡ o → option_and_then told (step_fault (calls_of es) a step m) ≡ first_failed (bad.UnknownReference if asks_unknown es a step ∷ bad.StepOrder if not (is_next_move m a es) ∷ [])
     go None e = rw (seen_as false (ap is_some e), no_references es a step e) refl
     go (Some t) e =
         rw (seen_as true (ap is_some e), next_told m a es)
@@ -192,19 +158,16 @@ end_checked first es f =
 
 -- ---- each envelope
 
-pub refused_for_checks : RefusedForChecks
-refused_for_checks first es t taken e = go e
+pub faults_are_checks : FaultsAreChecks
+faults_are_checks first es t taken e = go e
   where
     distinct : has_repeat (map (λ (c : TestCase). c.id) (cases es)) ≡ false
-    distinct = (tables_have_results first es t taken).0.cases_distinct
+    distinct = ap has_repeat (sym (case_ids es)) ∙ (ids_distinct first (calls_of es) t taken).of_cases
 
-    why : (c : Call) → option_and_then told (refusal_of t c) ≡ option_and_then told (fault_of first (calls_of es) c)
-    why c = ap (option_and_then told) (refused_for_fault first (calls_of es) t taken c)
-
-    go : (e : Envelope) → option_and_then told (refused t e) ≡ first_failed (own_checks first es e)
-    go (envelope.TestCase c) = why (call.AddCase c.id (step_ids c)) ∙ case_checked first es c
-    go (envelope.TestCaseStarted s) = why (call.Start s.id s.test_case_id s.attempt) ∙ start_checked first es s
-    go (envelope.TestStepStarted s) = why (call.StartStep s.test_case_started_id s.test_step_id) ∙ step_checked es distinct s.test_case_started_id s.test_step_id (StepStarted s.test_step_id)
-    go (envelope.TestStepFinished s) = why (call.FinishStep s.test_case_started_id s.test_step_id (kept_status s.test_step_result.status)) ∙ step_checked es distinct s.test_case_started_id s.test_step_id (StepFinished s.test_step_id)
-    go (envelope.TestCaseFinished f) = why (call.Finish f.test_case_started_id f.will_be_retried) ∙ end_checked first es f
+    go : (e : Envelope) → fault first es e ≡ first_failed (own_checks first es e)
+    go (envelope.TestCase c) = case_checked first es c
+    go (envelope.TestCaseStarted s) = start_checked first es s
+    go (envelope.TestStepStarted s) = step_checked es distinct s.test_case_started_id s.test_step_id (StepStarted s.test_step_id)
+    go (envelope.TestStepFinished s) = step_checked es distinct s.test_case_started_id s.test_step_id (StepFinished s.test_step_id)
+    go (envelope.TestCaseFinished f) = end_checked first es f
     go _ = refl

@@ -1,3 +1,0 @@
-pub mod Results
-pub mod Joining
-pub mod FirstFault
