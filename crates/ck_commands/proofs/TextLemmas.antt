@@ -1,7 +1,7 @@
 -- What was read of a source.
 use Rattle.std.proofs.Common.{◌≡◌, ◌∙◌, ◌≤◌, ℕ, List, Option, Some, None, length, subst, IsUtf8}
 use Rattle.std.specs.Prelude.{IfSome}
-use Rattle.ck_commands.specs.Texts.{IsTextOf}
+use Rattle.ck_commands.specs.TextInput.{IsTextOf}
 
 -- all bytes, as a text
 pub text_of_all : (a : Option (List ℕ)) (text bytes : List ℕ) → IsUtf8 text → text ≡ bytes → length bytes ≤ 16777216

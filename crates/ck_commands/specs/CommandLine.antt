@@ -1,6 +1,7 @@
 -- The command line `cukecheck COMMAND`, as the crate `clap` reads it.
 use Rattle.std.specs.Prelude.{◌≡◌, true, false, ℕ, Bool, List, [], ◌∷◌, Option, Some, None, Result, Ok, Err, IsErr, codes}
-use Rattle.std.specs.Prelude.{if◌then◌else◌, option_and_then, option_map}
+use Rattle.std.specs.Prelude.{if◌then◌else◌, map, option_and_then, option_map}
+use Rattle.std.specs.Borrow.{Bor}
 use Rattle.std.specs.Option.{option_map_or}
 use Rattle.std.specs.Str.{bytes_eq}
 use Rattle.clap.specs.Words.{App, Row, Rule, Text, fault_of, first_of, new_app, new_rule, subcommand_of, with_rule, with_subcommand}
@@ -154,6 +155,14 @@ where_none (x ∷ xs) found = None
 -- What the words ask for, the program's name first: the command that they name, where the command line has no fault.
 unfoldable pub command_of : List Text → Option Command
 command_of words = where_none (fault_of command_app words) (named (subcommand_of command_app words))
+
+-- the words after the program's name ask for this command
+abbrev pub Asks : List (Bor Text) → Command → Type 0
+Asks words command = command_of (codes "cukecheck" ∷ map (λ w. w.now) words) ≡ Some command
+
+-- they ask for no command
+abbrev pub AsksNothing : List (Bor Text) → Type 0
+AsksNothing words = command_of (codes "cukecheck" ∷ map (λ w. w.now) words) ≡ None
 
 -- the words gave this command, or memory ran out; words that ask for no command gave none
 abbrev pub Chooses : Option Command → Result Choice Refusal → Type 0

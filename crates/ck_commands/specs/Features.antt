@@ -1,4 +1,4 @@
--- What the bytes of a source are as a feature file, and how that is told.
+-- What the bytes of a source are as a feature file, and what is printed of it.
 use Rattle.std.specs.Prelude.{◌≡◌, ◌<◌, ◌≤◌, ◌⊎◌, ⊤, ℕ, List, [], ◌∷◌, ◌++◌, length, Bool, true, false, Result, Ok, Err, codes, decimal}
 use Rattle.std.specs.Str.{IsUtf8}
 use Rattle.cm_envelope.specs.Lines.{line_feed}
@@ -8,10 +8,12 @@ use Rattle.gk_grammar.specs.declared.fault.FaultKind.{FaultKind}
 use Rattle.gk_grammar.specs.declared.fault.FaultKind.TheVariants as kind
 use Rattle.gk_tree.specs.Views.{too_long}
 use Rattle.gk_tree.specs.declared.fault.ParseFault.{ParseFault}
-use Rattle.ck_commands.specs.declared.text.TextFault.{TextFault}
-use Rattle.ck_commands.specs.declared.text.TextFault.TheVariants as text
-use Rattle.ck_commands.specs.declared.feature.FeatureFault.{FeatureFault}
-use Rattle.ck_commands.specs.declared.feature.FeatureFault.TheVariants.{Refused, ReadFailed, NotUtf8, Memory}
+use Rattle.ck_commands.specs.Output.{Report, trouble_text}
+use Rattle.ck_commands.specs.declared.output.ExitStatus.TheVariants as exit
+use Rattle.ck_commands.specs.declared.text_input.TextFault.{TextFault}
+use Rattle.ck_commands.specs.declared.text_input.TextFault.TheVariants as text
+use Rattle.ck_commands.specs.declared.feature_input.FeatureFault.{FeatureFault}
+use Rattle.ck_commands.specs.declared.feature_input.FeatureFault.TheVariants.{Refused, ReadFailed, NotUtf8, Memory}
 
 -- ---- what the bytes are
 
@@ -41,11 +43,11 @@ IsFaultOf bytes ReadFailed = ⊥
 IsFaultOf bytes Memory = ⊤
 
 -- what the bytes are, where they could all be read
-abbrev pub IsAnswer : List ℕ → Result Document FeatureFault → Type 0
-IsAnswer bytes (Ok d) = IsReadable bytes × IsDocumentOf bytes d
-IsAnswer bytes (Err fault) = IsFaultOf bytes fault
+abbrev pub IsFeatureOf : List ℕ → Result Document FeatureFault → Type 0
+IsFeatureOf bytes (Ok d) = IsReadable bytes × IsDocumentOf bytes d
+IsFeatureOf bytes (Err fault) = IsFaultOf bytes fault
 
--- ---- how it is told
+-- ---- what is printed of it
 
 -- the number and the name of a fault's kind
 abbrev pub kind_label : FaultKind → List ℕ
@@ -69,26 +71,17 @@ document_text d =
     codes "ok nodes=" ++ decimal d.nodes ++ codes " comments=" ++ decimal (length d.comments)
     ++ line_feed ∷ []
 
-abbrev pub fault_text : FeatureFault → List ℕ
-fault_text (Refused f) = refused_text f
-fault_text ReadFailed = codes "trouble ReadFailed" ++ line_feed ∷ []
-fault_text NotUtf8 = codes "trouble NotUtf8" ++ line_feed ∷ []
-fault_text Memory = codes "trouble Memory" ++ line_feed ∷ []
+-- why a feature file gives no document
+abbrev pub fault_report : FeatureFault → Report
+fault_report (Refused f) = record { text = refused_text f; status = exit.Refused }
+fault_report ReadFailed = record { text = trouble_text (codes "ReadFailed"); status = exit.Trouble }
+fault_report NotUtf8 = record { text = trouble_text (codes "NotUtf8"); status = exit.Trouble }
+fault_report Memory = record { text = trouble_text (codes "Memory"); status = exit.Trouble }
 
-abbrev pub fault_status : FeatureFault → ℕ
-fault_status (Refused f) = 1
-fault_status ReadFailed = 3
-fault_status NotUtf8 = 3
-fault_status Memory = 3
-
--- what the command `parse` writes, and its status
-abbrev pub answer_text : Result Document FeatureFault → List ℕ
-answer_text (Ok d) = document_text d
-answer_text (Err fault) = fault_text fault
-
-abbrev pub answer_status : Result Document FeatureFault → ℕ
-answer_status (Ok d) = 0
-answer_status (Err fault) = fault_status fault
+-- what the command `parse` prints
+abbrev pub parse_report : Result Document FeatureFault → Report
+parse_report (Ok d) = record { text = document_text d; status = exit.Done }
+parse_report (Err fault) = fault_report fault
 
 -- ---- how the code's faults become one
 
@@ -106,6 +99,6 @@ abbrev pub of_parse : ParseFault → FeatureFault
 of_parse f = of_kind f.kind f
 
 -- a read failed
-abbrev pub has_no_bytes : {A : Type 0} → Result A FeatureFault → Bool
-has_no_bytes (Err ReadFailed) = true
-has_no_bytes _ = false
+abbrev pub is_failed_read : {A : Type 0} → Result A FeatureFault → Bool
+is_failed_read (Err ReadFailed) = true
+is_failed_read _ = false

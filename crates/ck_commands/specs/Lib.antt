@@ -1,11 +1,11 @@
-pub mod Answer
 pub mod CommandLine
-pub mod Faults
 pub mod Features
+pub mod Gate
 pub mod Outcome
+pub mod Output
 pub mod Reading
+pub mod Results
 pub mod Run
 pub mod Statuses
-pub mod Texts
-pub mod Audited
-pub mod Gated
+pub mod TextInput
+pub mod Verdicts

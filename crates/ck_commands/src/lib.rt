@@ -1,21 +1,31 @@
-//! The commands of `cukecheck`: each reads Cucumber Messages or a feature file from a source, and tells of them to a sink.
+//! The commands of `cukecheck`: each reads Cucumber Messages or a feature file from a source, and prints what it finds to a
+//! sink.
+//!
+//! ```
+//! // The line of `cukecheck audit` on a stream, and whether the stream is good.
+//! fn is_good<S: ByteSource, T: ByteSink>(alloc: Global, report: &mut S, out: &mut T) -> bool {
+//!     run(alloc, &["audit"], report, out) == ExitStatus::Done.code()
+//! }
+//! ```
+//!
+//! `run` is the program with its words, a source in place of standard input, and a sink in place of standard output;
+//! `ExitStatus` has the codes that it gives. `read_text` reads a source as a text.
 #![tactic(auto)]
 
-mod audited;
+mod attempts;
+mod command_audit;
+mod command_compile;
+mod command_gate;
 mod command_line;
-mod compiled;
-mod fault;
-mod feature;
-mod gated;
+mod command_parse;
+mod command_results;
+mod commands;
+mod feature_input;
 mod help;
-mod parsed;
-mod report;
-mod running;
-mod status;
-mod stream;
-mod text;
-mod write;
+mod output;
+mod status_words;
+mod text_input;
 
-pub use running::run;
-pub use text::{TextFault, read_text};
-pub use write::TROUBLE_STATUS;
+pub use commands::run;
+pub use output::ExitStatus;
+pub use text_input::{TextFault, read_text};

@@ -3,7 +3,7 @@ use crate::devices::{Endless, Source, whole};
 use crate::lines::{RETRIED, stream_of};
 use ck_commands::{TextFault, read_text};
 use cm_audit::{Bad, Counts, Reason, Verdict, audit};
-use cm_envelope::{ByteSource, Trouble};
+use cm_envelope::{ByteSource, LineFault, Trouble};
 use std::alloc::Global;
 use std::process::Abort;
 use std::test::Fail;
@@ -50,7 +50,7 @@ fn other_streams_have_a_line_and_why(rt: HostRuntime) -> Result<(), Fail> {
     expect_verdict(&rt, rt.alloc(), words, early)?;
     let field = Verdict::Bad {
         line: 1,
-        fault: Bad::Field("pickle", "id"),
+        fault: Bad::NoEnvelope(LineFault::Field("pickle", "id")),
     };
     expect_verdict(&rt, rt.alloc(), "empty_pickle", field)?;
     let language = Verdict::Unsupported {

@@ -44,7 +44,7 @@ tracked_from xs (c ∷ cs) t u h e = go (refusal_of t c) refl e (tracked_from (x
 pub tracked : (first : ℕ) (calls : List Call) (t : Table) → table_after first calls ≡ Some t → Tracked calls t
 tracked first calls t e = tracked_from [] calls (table_from first) t (none_tracked first) e
 
--- the first of the calls were accepted, and so were the others behind them
+-- the first of the calls were accepted, and so were the others after them
 pub cut_at : (xs ys : List Call) (t u : Table) → left_by t (xs ++ ys) ≡ Some u → (v : Table) × (left_by t xs ≡ Some v) × (left_by v ys ≡ Some u)
 cut_at [] ys t u e = (t, refl, e)
 cut_at (c ∷ xs) ys t u e = go (refusal_of t c) refl e (cut_at xs ys (after_call t c) u)

@@ -64,6 +64,7 @@ found_new p xs x none here = rw (find-append p xs (x ∷ []), none, here) refl
 pub found_past : {X : Type 0} (p : X → Bool) (xs : List X) (x : X) → p x ≡ false → find p (xs ++ x ∷ []) ≡ find p xs
 found_past p xs x e = rw (find-append p xs (x ∷ []), e) (or_none (find p xs))
 
+-- what is found passes the test
 pub find_passes : {X : Type 0} (p : X → Bool) (xs : List X) (x : X) → find p xs ≡ Some x → p x ≡ true
 find_passes p [] x h = cc
 find_passes {X} p (y ∷ xs) x h = go (p y) refl (find_passes p xs x)

@@ -10,3 +10,4 @@ pub mod NextCall
 pub mod Accepted
 pub mod Converse
 pub mod Refused
+mod Listed

@@ -1,4 +1,4 @@
--- What one more call that isn't refused makes of what the calls tell, and of the table.
+-- What one more call that isn't refused makes of what the calls say, and of the table.
 use Rattle.std.proofs.Common.{◌≡◌, ℕ, ◌+◌, refl, sym, ap, ◌∙◌, subst, List, [], ◌∷◌, ◌++◌, Option, Some, None, true, false, Bool, length, length-append, map}
 use Rattle.std.specs.Prelude.{find, is_some, option_map, unwrap_or}
 use Rattle.std.specs.List.{AllByRecursion}

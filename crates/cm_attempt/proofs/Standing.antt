@@ -17,7 +17,7 @@ use Rattle.cm_attempt.proofs.Growing.{at_end, bytes_are}
 abbrev pub cursor_at : ℕ → Bool → Cursor
 cursor_at finished is_running = record { finished = finished; is_running = is_running }
 
--- Where an attempt of a case with these steps stands behind these moves and ends: between two steps, in one, or at its end.
+-- Where an attempt of a case with these steps is after these moves and ends: between two steps, in one, or at its end.
 pub data Stands (steps : List Text) (ms : List Move) (rs : List Bool) (o : Option Cursor) : Type 0 where
   between : (done todo : List Text) → steps ≡ done ++ todo → ms ≡ Started ∷ through done → rs ≡ [] → o ≡ Some (cursor_at (length done) false) → Stands steps ms rs o
   inside : (done : List Text) (s : Text) (todo : List Text) → steps ≡ done ++ s ∷ todo → ms ≡ Started ∷ through done ++ StepStarted s ∷ [] → rs ≡ [] → o ≡ Some (cursor_at (length done) true) → Stands steps ms rs o

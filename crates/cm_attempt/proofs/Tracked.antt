@@ -1,4 +1,4 @@
--- What the calls so far tell, against the rows of the table that they left.
+-- What the calls so far say, against the rows of the table that they left.
 use Rattle.std.proofs.Common.{◌≡◌, refl, sym, ap, ◌∙◌, subst, List, [], ◌∷◌, ◌++◌, Option, Some, None, true, false, Bool, length, map, append-nil}
 use Rattle.std.specs.Prelude.{find, unwrap_or, option_map, filter}
 use Rattle.std.specs.List.{AllByRecursion}
@@ -59,7 +59,7 @@ abbrev pub left_as : Bool → Status → Last
 left_as true worst = last.Retried worst
 left_as false worst = last.Final worst
 
--- how these attempts of a case stand, by the state of the last
+-- how these attempts of a case are, by the state of the last
 pub data Latest (calls : List Call) (case : Text) (ss : List StartedAttempt) (l : Last) : Type 0 where
   none_yet : ss ≡ [] → l ≡ last.NotStarted → Latest calls case ss l
   one_open : (front : List StartedAttempt) (s : StartedAttempt) → ss ≡ front ++ s ∷ [] → AllByRecursion (Retried calls) front → start_of s.id calls ≡ Some s → s.case_id ≡ case → ends_of s.id calls ≡ [] → l ≡ last.Open → Latest calls case ss l

@@ -1,4 +1,4 @@
--- Why a call behind accepted calls is refused, by what the calls before it tell.
+-- Why a call after accepted calls is refused, by what the calls before it say.
 use Rattle.std.specs.Prelude.{◌≡◌, ◌==◌, ◌+◌, ℕ, Bool, true, false, not, ◌||◌, List, Option, Some, None, is_some, length, slice_get, if◌then◌else◌}
 use Rattle.std.specs.List.{list_all}
 use Rattle.std.specs.Option.{option_map_or}
@@ -17,7 +17,9 @@ same_move _ _ = false
 
 -- it is what the attempt has to go through next
 abbrev pub is_next_move : Move → Text → List Call → Bool
-is_next_move m a calls = option_map_or (same_move m) (slice_get (whole (steps_of_attempt a calls)) (length (moves a calls))) false
+is_next_move m a calls =
+    option_map_or (same_move m)
+    (slice_get (whole (steps_of_attempt a calls)) (length (moves a calls))) false
 
 -- the first fault of a move of a step
 abbrev pub step_fault : List Call → Text → Text → Move → Option TrackFault
@@ -26,14 +28,16 @@ step_fault calls a step m =
     else (if not (has_text step (steps_of_attempt a calls)) then Some UnknownStep
     else (if is_next_move m a calls then None else Some StepOrder))
 
--- the first fault of a call behind these calls, where attempts are counted from the first number
+-- the first fault of a call after these calls, where attempts are counted from the first number
 abbrev pub fault_of : ℕ → List Call → Call → Option TrackFault
-fault_of first calls (AddCase id steps) = if is_some (declared id calls) || has_repeat steps then Some DuplicateId else None
+fault_of first calls (AddCase id steps) =
+    if is_some (declared id calls) || has_repeat steps then Some DuplicateId else None
 fault_of first calls (Start id case number) =
     if not (is_some (declared case calls)) then Some UnknownCase
     else (if is_some (start_of id calls) then Some DuplicateId
     else (if not (number == first + length (starts_of case calls)) then Some AttemptNumber
-    else (if not (list_all (λ s. is_retried s.id calls) (starts_of case calls)) then Some AttemptOverlap else None)))
+    else (if not (list_all (λ s. is_retried s.id calls) (starts_of case calls))
+    then Some AttemptOverlap else None)))
 fault_of first calls (StartStep a step) = step_fault calls a step (StepStarted step)
 fault_of first calls (FinishStep a step status) = step_fault calls a step (StepFinished step)
 fault_of first calls (Finish a will_be_retried) =
@@ -41,7 +45,7 @@ fault_of first calls (Finish a will_be_retried) =
     else (if is_ended a calls then Some StepOrder
     else (if is_next_move Ended a calls then None else Some FinishedEarly))
 
--- behind accepted calls a call is refused for its first fault
+-- after accepted calls a call is refused for its first fault
 abbrev pub RefusedForFault : Type 0
 RefusedForFault = (first : ℕ) (calls : List Call) (t : Table) → table_after first calls ≡ Some t
     → (c : Call) → refusal_of t c ≡ fault_of first calls c

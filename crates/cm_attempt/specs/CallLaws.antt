@@ -1,4 +1,4 @@
--- What the calls of a run tell where none is refused, for every interleaving of attempts, and what their table shows of it.
+-- What the calls of a run say where none is refused, for every interleaving of attempts, and what their table shows of it.
 use Rattle.std.specs.Prelude.{◌≡◌, ◌+◌, ℕ, true, false, not, List, ◌∷◌, ◌++◌, map, length, Some, is_some, count_by}
 use Rattle.std.specs.List.{list_all, AllByRecursion}
 use Rattle.cm_attempt.specs.Table.{Text, Table, has_repeat, open_count, reported_of}
@@ -10,7 +10,8 @@ IsFront {A} front all = (rest : List A) × (all ≡ front ++ rest)
 
 -- what holds of each start and the calls before it
 abbrev pub AtEachStart : (List Call → (id test_case : Text) → ℕ → Type 0) → List Call → Type 0
-AtEachStart P calls = (before : List Call) (id case : Text) (number : ℕ) (after : List Call) → calls ≡ before ++ Start id case number ∷ after → P before id case number
+AtEachStart P calls = (before : List Call) (id case : Text) (number : ℕ) (after : List Call)
+    → calls ≡ before ++ Start id case number ∷ after → P before id case number
 
 -- an attempt is of a case that was declared
 abbrev pub CasesKnown : List Call → Type 0
@@ -18,20 +19,25 @@ CasesKnown = AtEachStart (λ before id case number. is_some (declared case befor
 
 -- the attempts of a case are numbered from the first number on, in order of start
 abbrev pub AreNumbered : ℕ → List Call → Type 0
-AreNumbered first = AtEachStart (λ before id case number. number ≡ first + length (starts_of case before))
+AreNumbered first =
+    AtEachStart (λ before id case number. number ≡ first + length (starts_of case before))
 
 -- each attempt of a case but the last is finished and will be retried before the next starts
 abbrev pub NoneOverlaps : List Call → Type 0
-NoneOverlaps = AtEachStart (λ before id case number. list_all (λ s. is_retried s.id before) (starts_of case before) ≡ true)
+NoneOverlaps = AtEachStart
+    (λ before id case number. list_all (λ s. is_retried s.id before) (starts_of case before) ≡ true)
 
 -- Each attempt went through a front of what it has to: it started, each step of its case started and finished in order, and it
 -- ended. Of what wasn't started there is no move.
 abbrev pub StepsInOrder : List Call → Type 0
-StepsInOrder calls = (attempt : Text) → IsFront (moves attempt calls) (whole (steps_of_attempt attempt calls))
+StepsInOrder calls = (attempt : Text)
+    → IsFront (moves attempt calls) (whole (steps_of_attempt attempt calls))
 
 -- An attempt that is finished went through the whole, and it finished once.
 abbrev pub FinishedAreWhole : List Call → Type 0
-FinishedAreWhole calls = (attempt : Text) → is_ended attempt calls ≡ true → (moves attempt calls ≡ whole (steps_of_attempt attempt calls)) × (length (ends_of attempt calls) ≡ 1)
+FinishedAreWhole calls = (attempt : Text) → is_ended attempt calls ≡ true
+    → (moves attempt calls ≡ whole (steps_of_attempt attempt calls))
+    × (length (ends_of attempt calls) ≡ 1)
 
 -- no two cases, no two steps of a case and no two attempts have one id
 pub record IdsDistinct (calls : List Call) : Type 0 where
@@ -51,7 +57,8 @@ pub record ComeInOrder (first : ℕ) (calls : List Call) : Type 0 where
 
 -- what holds of the calls of each run without a refusal, by the number that attempts are counted from
 abbrev pub WhereAcceptedFrom : (ℕ → List Call → Type 0) → Type 0
-WhereAcceptedFrom P = (first : ℕ) (calls : List Call) (t : Table) → table_after first calls ≡ Some t → P first calls
+WhereAcceptedFrom P = (first : ℕ) (calls : List Call) (t : Table)
+    → table_after first calls ≡ Some t → P first calls
 
 -- what holds of them from whatever number attempts are counted
 abbrev pub WhereAccepted : (List Call → Type 0) → Type 0
@@ -59,7 +66,8 @@ WhereAccepted P = WhereAcceptedFrom (λ first calls. P calls)
 
 -- what holds of them and their table
 abbrev pub OfTheirTable : (List Call → Table → Type 0) → Type 0
-OfTheirTable P = (first : ℕ) (calls : List Call) (t : Table) → table_after first calls ≡ Some t → P calls t
+OfTheirTable P = (first : ℕ) (calls : List Call) (t : Table)
+    → table_after first calls ≡ Some t → P calls t
 
 -- the table has the declared cases in order
 abbrev pub HasCases : List Call → Table → Type 0
@@ -78,4 +86,5 @@ abbrev pub AcceptedComeInOrder : Type 0
 AcceptedComeInOrder = WhereAcceptedFrom ComeInOrder
 
 abbrev pub InOrderAreAccepted : Type 0
-InOrderAreAccepted = (first : ℕ) (calls : List Call) → ComeInOrder first calls → is_some (table_after first calls) ≡ true
+InOrderAreAccepted = (first : ℕ) (calls : List Call) → ComeInOrder first calls
+    → is_some (table_after first calls) ≡ true

@@ -1,4 +1,4 @@
--- Calls of a `Track` in a row, and what they tell: the cases, the attempts in order of start, and what each attempt went
+-- Calls of a `Track` in a row, and what they say: the cases, the attempts in order of start, and what each attempt went
 -- through. The calls are the Messages' `testCase`, `testCaseStarted`, `testStepStarted`, `testStepFinished` and
 -- `testCaseFinished`. Only `left_by` knows a table.
 use Rattle.std.specs.Prelude.{ℕ, Bool, true, false, not, List, [], ◌∷◌, ◌++◌, Option, Some, None, if◌then◌else◌, find}
@@ -87,7 +87,8 @@ abbrev pub steps_of : Text → List Call → List Text
 steps_of case calls = option_map_or (λ c. c.steps) (declared case calls) []
 
 abbrev pub steps_of_attempt : Text → List Call → List Text
-steps_of_attempt attempt calls = option_map_or (λ s. steps_of s.case_id calls) (start_of attempt calls) []
+steps_of_attempt attempt calls =
+    option_map_or (λ s. steps_of s.case_id calls) (start_of attempt calls) []
 
 -- ---- what an attempt goes through
 
@@ -100,7 +101,8 @@ pub data Move : Type 0 where
 abbrev pub move_of : Text → Call → Option Move
 move_of a (Start id case number) = if bytes_eq a id then Some Started else None
 move_of a (StartStep attempt step) = if bytes_eq a attempt then Some (StepStarted step) else None
-move_of a (FinishStep attempt step status) = if bytes_eq a attempt then Some (StepFinished step) else None
+move_of a (FinishStep attempt step status) =
+    if bytes_eq a attempt then Some (StepFinished step) else None
 move_of a (Finish attempt will_be_retried) = if bytes_eq a attempt then Some Ended else None
 move_of a _ = None
 
@@ -117,7 +119,8 @@ abbrev pub whole : List Text → List Move
 whole steps = Started ∷ through steps ++ Ended ∷ []
 
 abbrev pub retry_in : Text → Call → Option Bool
-retry_in a (Finish attempt will_be_retried) = if bytes_eq a attempt then Some will_be_retried else None
+retry_in a (Finish attempt will_be_retried) =
+    if bytes_eq a attempt then Some will_be_retried else None
 retry_in a _ = None
 
 -- of each end of the attempt, whether it will be retried

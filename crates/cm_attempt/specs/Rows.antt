@@ -1,4 +1,4 @@
--- The rows of the table that the entries of the maps stand for.
+-- The rows of the table, as the entries of the maps have them.
 use Rattle.std.specs.Prelude.{ℕ, List, String, map}
 use Rattle.std.specs.String.{string_bytes}
 use Rattle.std.specs.declared.alloc.Global.{Global}

@@ -98,7 +98,7 @@ abbrev pub add_case_fault : Table → Text → List Text → Option TrackFault
 add_case_fault t id steps =
     if is_some (find_case t id) || has_repeat steps then Some fault.DuplicateId else None
 
--- a new attempt would stand beside an open one, or after the final one
+-- a new attempt would be beside an open one, or after the final one
 abbrev pub is_closed_to_new : Last → Bool
 is_closed_to_new last.Open = true
 is_closed_to_new (last.Final status) = true
@@ -135,7 +135,8 @@ abbrev pub step_fault_at : Table → Text → (Option Cursor → List Text → B
     → Option TrackFault
 step_fault_at t step is_in_order None = Some fault.UnknownAttempt
 step_fault_at t step is_in_order (Some a) =
-    step_fault_of (has_text step (steps_of t a.case_id)) (is_in_order a.cursor (steps_of t a.case_id))
+    step_fault_of (has_text step (steps_of t a.case_id))
+    (is_in_order a.cursor (steps_of t a.case_id))
 
 abbrev pub step_start_fault : Table → Text → Text → Option TrackFault
 step_start_fault t attempt step = step_fault_at t step (may_start step) (find_attempt t attempt)

@@ -47,7 +47,8 @@ pub(crate) fn add_attempt(
     requires { find (λ a. bytes_eq id.now a.id) (attempt_rows attempts.old.entries) ≡ None }
     ensures ok { OnOk result (attempt_rows attempts.new.entries
         ≡ attempt_rows attempts.old.entries ++ new_row id.now case_id.now ∷ []) }
-    ensures err { OnErr result (attempt_rows attempts.new.entries ≡ attempt_rows attempts.old.entries) }
+    ensures err { OnErr result
+        (attempt_rows attempts.new.entries ≡ attempt_rows attempts.old.entries) }
     ensures len { OnOk result (index_map_len attempts.new ≡ index_map_len attempts.old + 1) }
     ensures len_err { OnErr result (index_map_len attempts.new ≡ index_map_len attempts.old) }
 {

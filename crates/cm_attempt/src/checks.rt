@@ -85,7 +85,8 @@ pub(crate) fn check_new(
     case: &str,
     number: u64,
 ) -> Result<(), TrackFault>
-    ensures { MatchOption (start_fault (table_of first cases.now.entries attempts.now.entries) id.now case.now number)
+    ensures { MatchOption
+        (start_fault (table_of first cases.now.entries attempts.now.entries) id.now case.now number)
         (result ≡ Ok tt) (λ fault. result ≡ Err fault) }
 {
     let Some(found) = find_case(cases, case) else {
@@ -110,7 +111,8 @@ pub(crate) fn check_start(
     id: &str,
     step: &str,
 ) -> Result<(), TrackFault>
-    ensures { MatchOption (step_start_fault (table_of 0 cases.now.entries attempts.now.entries) id.now step.now)
+    ensures { MatchOption
+        (step_start_fault (table_of 0 cases.now.entries attempts.now.entries) id.now step.now)
         (result ≡ Ok tt) (λ fault. result ≡ Err fault) }
 {
     let Some(attempt) = find_attempt(attempts, id) else {
@@ -128,7 +130,8 @@ fn check_running(
     steps: &[String],
     step: &str,
 ) -> Result<Cursor, TrackFault>
-    ensures answer { MatchOption (step_fault_of is_known (ends_in_order step.now cursor (map string_bytes steps.now)))
+    ensures answer { MatchOption
+        (step_fault_of is_known (ends_in_order step.now cursor (map string_bytes steps.now)))
         (IsOk result) (λ fault. result ≡ Err fault) }
     ensures next { IfOk result (λ next. option_map after_step cursor ≡ Some next) }
 {
@@ -148,7 +151,8 @@ pub(crate) fn check_finish(
     id: &str,
     step: &str,
 ) -> Result<Cursor, TrackFault>
-    ensures answer { MatchOption (step_finish_fault (table_of 0 cases.now.entries attempts.now.entries) id.now step.now)
+    ensures answer { MatchOption
+        (step_finish_fault (table_of 0 cases.now.entries attempts.now.entries) id.now step.now)
         (IsOk result) (λ fault. result ≡ Err fault) }
     ensures next { IfOk result (λ next. IfSome
         (row_of (table_of 0 cases.now.entries attempts.now.entries) id.now)
@@ -164,7 +168,8 @@ pub(crate) fn check_finish(
 
 /// Whether the attempt may end.
 pub(crate) fn check_end(cases: &Cases, attempt: &Attempt) -> Result<(), TrackFault>
-    ensures { MatchOption (finish_fault_at (table_of 0 cases.now.entries []) (Some (attempt_row [] attempt.now)))
+    ensures { MatchOption
+        (finish_fault_at (table_of 0 cases.now.entries []) (Some (attempt_row [] attempt.now)))
         (result ≡ Ok tt) (λ fault. result ≡ Err fault) }
 {
     let Some(cursor) = attempt.cursor else {

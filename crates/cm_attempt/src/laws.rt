@@ -24,7 +24,7 @@ pub fn finished_attempts_are_whole()
     ensures { WhereAccepted FinishedAreWhole }
 {}
 
-/// What is reported of a case is the worst status of its final attempt, and none where it has none. The cases stand in order
+/// What is reported of a case is the worst status of its final attempt, and none where it has none. The cases are in order
 /// of declaration.
 pub fn final_attempts_are_reported()
     ensures cases { OfTheirTable HasCases }
@@ -43,7 +43,7 @@ pub fn accepted_is_in_order()
     ensures distinct { WhereAccepted IdsDistinct }
 {}
 
-/// A call behind accepted calls is refused exactly for the first fault that it has by what those calls tell.
+/// A call after accepted calls is refused exactly for the first fault that it has by what those calls say.
 pub fn calls_are_refused_for_faults()
     ensures { RefusedForFault }
 {}

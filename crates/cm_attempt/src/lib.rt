@@ -1,4 +1,23 @@
 //! Test cases, their attempts, and the statuses that the attempts gave.
+//!
+//! ```
+//! use cm_attempt::{Status, Track, TrackFault};
+//! use std::alloc::Global;
+//!
+//! fn run_once(alloc: Global, steps: &[String]) -> Result<Option<Status>, TrackFault> {
+//!     let mut track = Track::new(alloc);
+//!     track.add_case("case-1", steps)?;
+//!     track.start("attempt-1", "case-1", 0)?;
+//!     track.step_started("attempt-1", "step-1")?;
+//!     track.step_finished("attempt-1", "step-1", Status::Passed)?;
+//!     track.finish("attempt-1", false)?;
+//!     Ok(track.reported("case-1"))
+//! }
+//! ```
+//!
+//! A call out of order is refused, and the `Track` is then as it was. `Policy` says which statuses are good, and `worst`
+//! which of some statuses is reported. The other functions are laws of the calls: they do nothing, and their contracts say
+//! what holds of each run whose calls were accepted.
 #![tactic(auto)]
 
 mod changes;
@@ -22,4 +41,4 @@ pub use laws::{
 pub use policy::Policy;
 pub use settings::Settings;
 pub use status::{Status, worst, worst_with};
-pub use track::Track;
+pub use track::{CaseResult, Track};

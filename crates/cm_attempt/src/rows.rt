@@ -68,7 +68,8 @@ pub(crate) fn find_attempt<'a>(attempts: &'a Attempts, id: &str) -> Option<&'a A
 /// The steps of the case, and none of an unknown case.
 pub(crate) fn steps_of<'a>(cases: &'a Cases, id: &str) -> &'a [String]
     ensures { map string_bytes result.now
-        ≡ option_map_or (λ c. c.steps) (find (λ c. bytes_eq id.now c.id) (case_rows cases.now.entries)) [] }
+        ≡ option_map_or (λ c. c.steps)
+        (find (λ c. bytes_eq id.now c.id) (case_rows cases.now.entries)) [] }
 {
     match find_case(cases, id) {
         Some(case) => case.steps.as_slice(),
@@ -143,7 +144,8 @@ pub(crate) fn count_open(attempts: &Attempts) -> u64
 
 /// Whether there is such an attempt and its case has the step.
 pub(crate) fn attempt_has_step(cases: &Cases, attempts: &Attempts, id: &str, step: &str) -> bool
-    ensures { result ≡ has_step (table_of 0 cases.now.entries attempts.now.entries) id.now step.now }
+    ensures { result
+        ≡ has_step (table_of 0 cases.now.entries attempts.now.entries) id.now step.now }
 {
     match find_attempt(attempts, id) {
         Some(attempt) => case_has_step(cases, attempt.case_id.as_str(), step),

@@ -64,7 +64,7 @@ fn finish_step(
     }
 }
 
-// The answer to the call that a line tells; a line with no call gives `Memory`, which no table wants.
+// The answer to the call that a line names; a line with no call gives `Memory`, which no table wants.
 fn answer(track: &mut Track, alloc: Global, told: &str) -> Result<(), TrackFault> {
     let (call, rest) = cut(told);
     let (id, steps) = cut(rest);
@@ -245,7 +245,7 @@ fn attempts_are_counted_from_one(rt: HostRuntime) {
     drop(track);
 }
 
-// Behind the greatest number no other attempt of the case can come.
+// After the greatest number no other attempt of the case can come.
 const FROM_THE_GREATEST: &str = "ok case c
 AttemptNumber start a c 0
 AttemptNumber start a c 18446744073709551614

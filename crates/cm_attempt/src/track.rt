@@ -1,7 +1,8 @@
 //! The record of test cases and attempts.
-ghost use Rattle.std.specs.Prelude.{◌≡◌, ◌+◌, ◌⊎◌, IfSome, IsErrAnd, IsOk, IsOkUnless, MatchOption, OnErr, OnOk, is_some, map};
+ghost use Rattle.std.specs.Prelude.{◌≡◌, ◌+◌, ◌⊎◌, IfOk, IfSome, IsErrAnd, IsOk, IsOkUnless, MatchOption, OnErr, OnOk, is_some, map};
 ghost use Rattle.std.specs.List.{list_all};
 ghost use Rattle.std.specs.String.{string_bytes};
+ghost use Rattle.cm_attempt.specs.Results.{case_results, result_view};
 ghost use Rattle.cm_attempt.specs.Table.{HasDistinctIds, add_case_fault, change_attempt, empty_table, table_from};
 ghost use Rattle.cm_attempt.specs.Table.{find_attempt as row_of, find_case as case_of};
 ghost use Rattle.cm_attempt.specs.Table.{finish_fault, finished, has_step, is_good_case, open_count};
@@ -21,11 +22,19 @@ use crate::rows::{
 use crate::status::Status;
 use cm_refs::distinct_texts;
 use indexmap::IndexMap;
-use std::alloc::Global;
+use std::alloc::{AllocError, Global};
 use std::marker::Model;
 
+/// The result of a case: the worst status of its final attempt, which is one that ended and is not retried, and none where
+/// there is no such attempt.
+#[derive(Clone, Copy, Debug)]
+pub struct CaseResult<'a> {
+    pub id: &'a str,
+    pub status: Option<Status>,
+}
+
 /// The test cases of a run and their attempts, as the Messages' `testCase`, `testCaseStarted`,
-/// `testStepStarted`, `testStepFinished` and `testCaseFinished` tell them. A refused call leaves
+/// `testStepStarted`, `testStepFinished` and `testCaseFinished` report them. A refused call leaves
 /// it as it was.
 #[derive(Drop)]
 pub struct Track {
@@ -77,13 +86,14 @@ impl Track {
     /// `DuplicateId` where the id is that of a case or two steps are equal, `Memory` where a
     /// growth is refused.
     pub fn add_case(&mut self, id: &str, steps: &[String]) -> Result<(), TrackFault>
-        // Equal steps are found with memory, so want of it may stand in their place.
+        // Equal steps are found with memory, so want of it may be reported in their place.
         ensures repeated_id { IfSome (case_of self.old id.now)
             (λ _. result ≡ Err TrackFault.DuplicateId) }
         ensures answer { MatchOption (add_case_fault self.old id.now (map string_bytes steps.now))
             (IsOkUnless result TrackFault.Memory)
             (λ fault. IsErrAnd result (λ e. (e ≡ fault) ⊎ (e ≡ TrackFault.Memory))) }
-        ensures ok { OnOk result (self.new ≡ with_case id.now (map string_bytes steps.now) self.old) }
+        ensures ok { OnOk result
+            (self.new ≡ with_case id.now (map string_bytes steps.now) self.old) }
         ensures err { OnErr result (self.new ≡ self.old) }
         ensures open_count { open_count self.new ≡ open_count self.old }
     {
@@ -150,7 +160,8 @@ impl Track {
     ) -> Result<(), TrackFault>
         ensures answer { MatchOption (step_finish_fault self.old attempt.now step.now)
             (IsOk result) (λ fault. result ≡ Err fault) }
-        ensures ok { OnOk result (self.new ≡ change_attempt attempt.now (step_done status) self.old) }
+        ensures ok { OnOk result
+            (self.new ≡ change_attempt attempt.now (step_done status) self.old) }
         ensures err { OnErr result (self.new ≡ self.old) }
         ensures open_count { open_count self.new ≡ open_count self.old }
     {
@@ -191,6 +202,22 @@ impl Track {
         ensures distinct { HasDistinctIds self.now }
     {
         final_status(find_case(&self.cases, case)?.last)
+    }
+
+    /// Each case in order of declaration, with its status as `reported` gives it.
+    ///
+    /// # Errors
+    /// Only where there is no memory for the list.
+    pub fn results(&self) -> Result<Vec<CaseResult<'_>>, AllocError>
+        ensures { IfOk result (λ all. map result_view all.items ≡ case_results self.now) }
+    {
+        let mut results = Vec::new(self.alloc);
+        for id in self.cases.keys() {
+            let id = id.as_str();
+            let status = self.reported(id);
+            results.push(CaseResult { id, status })?;
+        }
+        Ok(results)
     }
 
     /// How many attempts have not ended.

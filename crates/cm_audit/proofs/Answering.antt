@@ -1,10 +1,10 @@
--- What the steps of an audit leave, for sources that tell their bytes.
+-- What the steps of an audit leave, for sources that show their bytes.
 use Rattle.std.proofs.Common.{◌≡◌, ℕ, ◌+◌, refl, sym, ap, ◌∙◌, subst, List, Option, Some, None, Result, Ok, Err, true, false, inl, inr, arith}
 use Rattle.std.specs.Prelude.{IfSome}
 use Rattle.cm_envelope.specs.Lines.{is_blank}
-use Rattle.cm_envelope.specs.Reading.{Fault as LineFault, Fails, envelope_of_line}
-use Rattle.cm_envelope.specs.declared.fault.ShapeFault.{ShapeFault}
-use Rattle.cm_envelope.specs.declared.fault.ShapeFault.TheVariants as shape
+use Rattle.cm_envelope.specs.Reading.{LineFault, Fails, envelope_of_line}
+use Rattle.cm_envelope.specs.declared.fault.EnvelopeFault.{EnvelopeFault}
+use Rattle.cm_envelope.specs.declared.fault.EnvelopeFault.TheVariants as shape
 use Rattle.cm_envelope.specs.Feeds.{Stored, new_feed, GivesLine, Gives, WhereTold}
 use Rattle.cm_envelope.specs.declared.envelope.Envelope.{Envelope}
 use Rattle.cm_envelope.specs.declared.feed.Trouble.{Trouble}
@@ -51,14 +51,12 @@ stops settings feed later old new n line a b c p q why k =
     told_first {P = λ xs zs. AnswersAs (judged settings xs) (audited_at (n + 1) why)} a c (told_then a b c p q (λ xs ys zs h i. found_at settings xs ys zs feed later n old new line h.read h.judges i why k)) (λ xs zs h. h)
 
 -- a line that isn't read
-unread : (settings : Settings) (old : State) (fault : ShapeFault) (r : Result Envelope LineFault) → Fails fault r → TakesLine settings old old (Some r) (Err (unread_line fault))
-unread settings old shape.NotJson r h = rw h refl
-unread settings old shape.Shape r h = rw h refl
-unread settings old (shape.Field kind member) r h = rw h refl
+unread : (settings : Settings) (old : State) (fault : EnvelopeFault) (r : Result Envelope LineFault) → Fails fault r → TakesLine settings old old (Some r) (Err (unread_line fault))
+unread settings old (shape.Line line) r h = rw h refl
 unread settings old shape.Memory (Ok e) h = refl
 unread settings old shape.Memory (Err b) h = refl
 
-pub not_read : (settings : Settings) (old : State) (line : List ℕ) → is_blank line ≡ false → (fault : ShapeFault) → Fails fault (envelope_of_line line) → (why : Stop) → why ≡ unread_line fault → TakesLine settings old old (shown line) (Err why)
+pub not_read : (settings : Settings) (old : State) (line : List ℕ) → is_blank line ≡ false → (fault : EnvelopeFault) → Fails fault (envelope_of_line line) → (why : Stop) → why ≡ unread_line fault → TakesLine settings old old (shown line) (Err why)
 not_read settings old line filled fault h why e = rw (filled, e) (unread settings old fault (envelope_of_line line) h)
 
 pub not_failed : (n : ℕ) (why : Stop) → is_failed_read (audited_at n why) ≡ false

@@ -51,9 +51,9 @@ same_further [] n id ids h = cc
 same_further (s ∷ ss) zero id ids h = rw h refl
 same_further (s ∷ ss) (suc n) id ids h = same_further ss n id ids h
 
-pub same_behind : (ss : List Key) (n : ℕ) (id : Text) (ids : List Text) → is_at ss n id ≡ true
+pub same_after : (ss : List Key) (n : ℕ) (id : Text) (ids : List Text) → is_at ss n id ≡ true
     → same_texts (map string_bytes (drop n ss)) (id ∷ ids) ≡ same_texts (map string_bytes (drop (n + 1) ss)) ids
-same_behind ss n id ids h = rw add-one (same_further ss n id ids h)
+same_after ss n id ids h = rw add-one (same_further ss n id ids h)
 
 -- ---- names
 

@@ -2,7 +2,7 @@
 use Rattle.std.proofs.Common.{ℕ, ◌+◌, sym, ap, subst, Option, Some, None, Result, Ok, Err, true, false, Bool, arith}
 use Rattle.cm_attempt.specs.Table.{has_text}
 use Rattle.cm_attempt.specs.declared.settings.Settings.{Settings}
-use Rattle.cm_envelope.specs.Reading.{Fault as LineFault}
+use Rattle.cm_envelope.specs.Reading.{LineFault}
 use Rattle.cm_envelope.specs.declared.envelope.Envelope.{Envelope}
 use Rattle.cm_envelope.specs.declared.envelope.Envelope.TheVariants as envelope
 use Rattle.cm_stream.specs.declared.verdict.Counts.{Counts}

@@ -36,7 +36,7 @@ use Rattle.cm_audit.specs.declared.stop.Stop.{Stop}
 use Rattle.cm_audit.specs.declared.stop.Stop.TheVariants as stop
 use Rattle.cm_audit.proofs.KeptRows.{moved_row}
 
--- the finding is told, and what is kept is as it was
+-- the finding is reported, and what is kept is as it was
 pub refuses : (f : Option Finding) (old new : State) (why : Stop) → StopsFor f why → summary_of new ≡ summary_of old → Refuses f old new why
 refuses f old new (stop.Bad b) told same = told
 refuses f old new (stop.Unsupported r) told same = told

@@ -10,7 +10,7 @@ use Rattle.cm_stream.specs.Checks.{due_pickles}
 use Rattle.cm_stream.specs.Sources.{DuePickle, is_due}
 use Rattle.cm_envelope.specs.declared.pickle.Pickle.{Pickle}
 use Rattle.cm_state.specs.StateChecks.{is_next_of}
-use Rattle.cm_stream.specs.Words.{is_accepted}
+use Rattle.cm_stream.specs.References.{is_accepted}
 use Rattle.cm_audit.specs.Kept.{HasMore, kept_row}
 use Rattle.cm_audit.specs.declared.source.Kept.{Kept}
 use Rattle.cm_audit.specs.declared.source.Kept.TheVariants as kept

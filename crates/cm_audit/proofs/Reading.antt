@@ -3,16 +3,16 @@ use Rattle.std.proofs.Common.{◌≡◌, ◌≤◌, ◌<◌, ℕ, ◌+◌, refl,
 use Rattle.std.specs.Prelude.{IfSome, if◌then◌else◌}
 use Rattle.std.specs.List.{flat_map}
 use Rattle.cm_envelope.specs.Lines.{Line, Fed, size, line_feed, line_then, nothing, trouble_alone}
-use Rattle.cm_envelope.specs.Reading.{Fault as LineFault}
+use Rattle.cm_envelope.specs.Reading.{LineFault}
 use Rattle.cm_envelope.specs.Feeds.{Stored, ShowNothing, written, given_line, not_given, left, new_feed, GivesLine, IsNextLine, WhereTold}
 use Rattle.cm_envelope.specs.declared.envelope.Envelope.{Envelope}
 use Rattle.cm_envelope.specs.declared.feed.Trouble.{Trouble}
 use Rattle.cm_envelope.specs.declared.feed.Trouble.TheVariants.{ReadFailed}
 use Rattle.cm_attempt.specs.declared.settings.Settings.{Settings}
-use Rattle.cm_stream.specs.Findings.{IsBad, named, fault_of_line}
+use Rattle.cm_stream.specs.Findings.{IsBad, named, NoEnvelope}
 use Rattle.cm_stream.specs.Stream.{Answer, Found, Failed, fed, shown}
 use Rattle.cm_stream.proofs.Lists.{length-both}
-use Rattle.cm_stream.proofs.NewRows.{map_both}
+use Rattle.std.proofs.lemmas.List.{map-append}
 use Rattle.cm_state.specs.Summary.{Summary, nothing_seen}
 use Rattle.cm_state.specs.StateChecks.{finding_at_end}
 use Rattle.cm_state.specs.Laws.{at_end, judged_line, judged_of}
@@ -35,7 +35,7 @@ abbrev pub bytes_of : List Line → List (List ℕ)
 bytes_of lines = map (λ (l : Line). l.bytes) lines
 
 one_more : (lines : List Line) (l : Line) (more : List (List ℕ)) → bytes_of (lines ++ l ∷ []) ++ more ≡ bytes_of lines ++ l.bytes ∷ more
-one_more lines l more = ap (λ ls. ls ++ more) (map_both (λ (x : Line). x.bytes) lines (l ∷ [])) ∙ append_assoc (bytes_of lines) (l.bytes ∷ []) more
+one_more lines l more = ap (λ ls. ls ++ more) (map-append (λ (x : Line). x.bytes) lines (l ∷ [])) ∙ append_assoc (bytes_of lines) (l.bytes ∷ []) more
 
 as_long : (l : Line) → length (written l) ≡ size l
 as_long l = go l.has_end
@@ -92,7 +92,7 @@ next_judged settings before ys zs feed later n old new line h i g k = record { r
 found : (settings : Settings) (old new : State) (n : ℕ) (r : Option (Result Envelope LineFault)) (more : Summary → Answer) (why : Stop) → TakesLine settings old new r (Err why)
     → AnswersAs (judged_line settings (summary_of old) n r more) (audited_at n why)
 found settings old new n None more why k = absurd k
-found settings old new n (Some (Err b)) more (stop.Bad f) k = let same : IsBad (fault_of_line b) ≡ IsBad (named f) = cc in ap (Found n) (sym same)
+found settings old new n (Some (Err b)) more (stop.Bad f) k = let same : IsBad (NoEnvelope b) ≡ IsBad (named f) = cc in ap (Found n) (sym same)
 found settings old new n (Some (Err b)) more (stop.Unsupported r) k = cc
 found settings old new n (Some (Err b)) more stop.Memory k = tt
 found settings old new n (Some (Ok e)) more (stop.Bad f) k = rw k refl
@@ -119,9 +119,11 @@ at_trouble {n = n} {s = s} settings r h t e = judged_left settings r h ∙ ap (�
 
 -- ---- how far it reads
 
-first_lines : {before ys : List ℕ} {feed : Stored} {n : ℕ} (r : HasRead before ys feed n) (behind rest : List ℕ) → not_given feed ys ≡ behind ++ rest → Begins before r.lines behind rest
-first_lines {before} {ys} {feed} r behind rest e = record {
-  cut = r.cut ∙ ap (λ b. flat_map written r.lines ++ b) e ∙ sym (append_assoc (flat_map written r.lines) behind rest);
+first_lines : {before ys : List ℕ} {feed : Stored} {n : ℕ} (r : HasRead before ys feed n) (ahead rest : List ℕ) → not_given feed ys ≡ ahead ++ rest → Begins before r.lines ahead rest
+first_lines {before} {ys} {feed} r ahead rest e = record {
+  read = flat_map written r.lines ++ ahead;
+  cut = r.cut ∙ ap (λ b. flat_map written r.lines ++ b) e ∙ sym (append_assoc (flat_map written r.lines) ahead rest);
+  has_read = refl;
   more = (left feed ys).lines;
   first = ap (λ (f : Fed). f.lines) r.fed;
 }
@@ -151,13 +153,13 @@ pub held_no_fault : (settings : Settings) (before ys zs : List ℕ) (feed after_
     → not_given feed ys ≡ after_it.held ++ zs → ShowNothing feed.line_limit feed.stream_limit feed.given after_it.held → HoldNoFault settings before zs
 held_no_fault settings before ys zs feed after_it n s r h line stream e shows = record {
   lines = r.lines;
-  held = after_it.held;
+  ahead = after_it.held;
   begins = first_lines r after_it.held zs e;
   faultless = ap (λ ls. judged_of settings (nothing_seen settings.first_attempt) 1 ls (Some ReadFailed)) (sym (append-nil (bytes_of r.lines))) ∙ h [] (Some ReadFailed);
   nothing = rw (r.long, ← line, ← stream) shows;
 }
 
--- ---- sources that tell their bytes
+-- ---- sources that show their bytes
 
 pub told_then : {P Q R : List ℕ → List ℕ → Type 0} (a b c : Option (List ℕ)) → WhereTold a b P → WhereTold b c Q → ((xs ys zs : List ℕ) → P xs ys → Q ys zs → R xs zs) → WhereTold a c R
 told_then None b c p q f = tt

@@ -4,7 +4,7 @@ use Rattle.std.specs.List.{list_all, list_any}
 use Rattle.std.specs.Map.{values_of}
 use Rattle.std.specs.String.{string_bytes}
 use Rattle.cm_stream.specs.Texts.{Text}
-use Rattle.cm_stream.specs.Words.{is_accepted}
+use Rattle.cm_stream.specs.References.{is_accepted}
 use Rattle.cm_refs.proofs.EntryLemmas.{Key}
 use Rattle.cm_attempt.proofs.EntryLemmas.{list_all-rows}
 use Rattle.cm_state.specs.Summary.{SourceRow}

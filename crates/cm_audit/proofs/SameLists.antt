@@ -2,7 +2,7 @@
 use Rattle.std.proofs.Common.{◌≡◌, ◌&&◌, ℕ, List, [], ◌∷◌, refl, ap}
 use Rattle.cm_stream.specs.Texts.{Text, same_list, same_texts}
 use Rattle.cm_stream.specs.Sources.{ids_at}
-use Rattle.cm_audit.specs.Due.{is_id}
+use Rattle.cm_audit.specs.Matching.{is_id}
 
 -- the texts are the ids of the nodes, compared node by node
 pub same_ids : (ids : List Text) (xs : List Text) (nodes : List ℕ) → same_list (is_id ids) xs nodes ≡ same_texts xs (ids_at ids nodes)

@@ -6,27 +6,18 @@ use Rattle.cm_envelope.specs.Feeds.{WhereTold}
 use Rattle.cm_envelope.specs.declared.feed.Trouble.{Trouble}
 use Rattle.cm_envelope.specs.declared.feed.Trouble.TheVariants.{ReadFailed, LineTooLong, StreamTooLong, Memory}
 use Rattle.cm_attempt.specs.declared.settings.Settings.{Settings}
-use Rattle.cm_stream.specs.Stream.{Told, At, Troubled, NoFault, Failed, answer_for, fed, told, verdict_in, GoodOnlyForGood, GoodRunIn, GoodRunsOnly, NoneIsGood}
+use Rattle.cm_stream.specs.Stream.{FirstFault, At, Troubled, NoFault, Failed, answer_for, fed, first_fault, verdict_in, GoodOnlyForGood, GoodRunIn, GoodRunsOnly, NoneIsGood}
 use Rattle.cm_stream.specs.declared.verdict.Audited.{Audited}
 use Rattle.cm_stream.specs.declared.verdict.Verdict.{Verdict}
 use Rattle.cm_stream.specs.declared.verdict.Verdict.TheVariants as verdict
-use Rattle.cm_stream.proofs.Passing.{plain_passes}
 use Rattle.cm_stream.proofs.Streams.{answers_are_right}
-use Rattle.cm_state.specs.Laws.{JudgedIsTold}
-use Rattle.cm_state.proofs.Checked.{findings_are_faults}
 use Rattle.cm_state.proofs.Judged.{judged_is_told}
-use Rattle.cm_state.proofs.Steps.{summaries_step}
 use Rattle.cm_audit.specs.Audit.{AnswersAs, AnswersTold, ShowNoFault, VerdictTold, is_failed_read}
 use Rattle.cm_audit.specs.Judging.{judged, HoldNoFault}
 
-by_lines : JudgedIsTold
-by_lines = judged_is_told
-    (λ settings es e h. findings_are_faults settings es e (plain_passes settings es h))
-    (λ settings es e h. summaries_step settings.first_attempt es e (plain_passes settings (es ++ e ∷ []) h))
-
 module _ (settings : Settings) where
-  same : (bytes : List ℕ) → judged settings bytes ≡ answer_for (told settings bytes)
-  same bytes = by_lines settings (fed bytes).lines (fed bytes).trouble
+  same : (bytes : List ℕ) → judged settings bytes ≡ answer_for (first_fault settings bytes)
+  same bytes = judged_is_told settings (fed bytes).lines (fed bytes).trouble
 
   as_told : (bytes : List ℕ) (answer : Result Audited Trouble) → AnswersAs (judged settings bytes) answer → AnswersTold settings bytes answer
   as_told bytes (Ok v) h = h ∙ same bytes
@@ -80,7 +71,7 @@ failed_read_in (Err Memory) = refl
 
 -- ---- a failed read
 
-is_troubled : (w : Told) (t : Trouble) → answer_for w ≡ Failed t → w ≡ Troubled t
+is_troubled : (w : FirstFault) (t : Trouble) → answer_for w ≡ Failed t → w ≡ Troubled t
 is_troubled (At n f) t h = cc
 is_troubled (Troubled u) t h = let same_trouble : u ≡ t = cc in ap Troubled same_trouble
 is_troubled (NoFault es) t h = cc
@@ -88,9 +79,9 @@ is_troubled (NoFault es) t h = cc
 shown : (settings : Settings) (before after : List ℕ) → HoldNoFault settings before after → ShowNoFault settings before after
 shown settings before after h = record {
   lines = h.lines;
-  held = h.held;
+  ahead = h.ahead;
   begins = h.begins;
-  faultless = is_troubled _ ReadFailed (sym (by_lines settings (map (λ (l : Line). l.bytes) h.lines) (Some ReadFailed)) ∙ h.faultless);
+  faultless = is_troubled _ ReadFailed (sym (judged_is_told settings (map (λ (l : Line). l.bytes) h.lines) (Some ReadFailed)) ∙ h.faultless);
   nothing = h.nothing;
 }
 

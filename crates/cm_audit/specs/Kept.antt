@@ -5,7 +5,7 @@ use Rattle.std.specs.String.{string_bytes}
 use Rattle.std.specs.declared.alloc.Global.{Global}
 use Rattle.cm_stream.specs.Texts.{Text}
 use Rattle.cm_stream.specs.Readings.{Reading, Accepted, Refused, OtherLanguage, TooLong}
-use Rattle.cm_stream.specs.Words.{is_accepted}
+use Rattle.cm_stream.specs.References.{is_accepted}
 use Rattle.cm_stream.specs.Checks.{due_pickles}
 use Rattle.cm_stream.specs.declared.verdict.Reason.TheVariants as reason
 use Rattle.cm_state.specs.Summary.{SourceRow}
@@ -39,7 +39,7 @@ IsAcceptedAt uri rows =
 abbrev pub HasMoreAt : Text → List SourceRow → Type 0
 HasMoreAt uri rows = IfSome (find (λ r. bytes_eq uri r.uri) rows) HasMore
 
--- a text that is read so was kept or told so, unless memory was refused
+-- a text that is read so is kept, or is no text that is judged, unless memory was refused
 abbrev pub ReadsAs : Reading → Result Kept Stop → Type 0
 ReadsAs reading (Ok k) =
     kept_row [] k ≡ record { uri = []; reading = reading; ids = None; matched = 0 }

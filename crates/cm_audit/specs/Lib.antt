@@ -1,7 +1,8 @@
-pub mod Due
+pub mod Matching
 pub mod Stops
 pub mod AcceptedSource
 pub mod Kept
 pub mod State
 pub mod Audit
 pub mod Judging
+pub mod Record

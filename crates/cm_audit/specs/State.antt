@@ -50,23 +50,21 @@ abbrev pub Checks : State → Envelope → Result ⊤ Stop → Type 0
 Checks s e (Ok done) = plain_finding (summary_of s) e ≡ None
 Checks s e (Err why) = StopsFor (plain_finding (summary_of s) e) why
 
--- a line was taken by the checks that are made whatever statuses are good, or it has the finding
+-- a line without a finding is taken, and any other is refused for its finding, unless memory was refused
+abbrev pub TakesUnless : Option Finding → (old new : State) → Envelope → Result ⊤ Stop → Type 0
+TakesUnless found old new e (Ok done) =
+    (found ≡ None) × (summary_of new ≡ after (summary_of old) e) × IsListed new
+TakesUnless found old new e (Err why) = Refuses found old new why
+
+-- by the checks that are made whatever statuses are good
 abbrev pub Judges : (old new : State) → Envelope → Result ⊤ Stop → Type 0
-Judges old new e (Ok done) =
-    (plain_finding (summary_of old) e ≡ None) × (summary_of new ≡ after (summary_of old) e)
-    × IsListed new
-Judges old new e (Err why) = Refuses (plain_finding (summary_of old) e) old new why
+Judges old new e result = TakesUnless (plain_finding (summary_of old) e) old new e result
 
--- a line of which no check comes after the end of the run was taken, or it has the finding
+-- by all checks but the one that the run isn't over
 abbrev pub JudgesBy : Policy → (old new : State) → Envelope → Result ⊤ Stop → Type 0
-JudgesBy policy old new e (Ok done) =
-    (finding_inside policy (summary_of old) e ≡ None) × (summary_of new ≡ after (summary_of old) e)
-    × IsListed new
-JudgesBy policy old new e (Err why) = Refuses (finding_inside policy (summary_of old) e) old new why
+JudgesBy policy old new e result =
+    TakesUnless (finding_inside policy (summary_of old) e) old new e result
 
--- a line was taken, or it has the finding
+-- by all checks
 abbrev pub Takes : Settings → (old new : State) → Envelope → Result ⊤ Stop → Type 0
-Takes settings old new e (Ok done) =
-    (finding settings (summary_of old) e ≡ None) × (summary_of new ≡ after (summary_of old) e)
-    × IsListed new
-Takes settings old new e (Err why) = Refuses (finding settings (summary_of old) e) old new why
+Takes settings old new e result = TakesUnless (finding settings (summary_of old) e) old new e result

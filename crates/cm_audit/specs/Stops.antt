@@ -1,11 +1,11 @@
--- Why an audit ends at a line, and how the refusals of what it keeps are told.
+-- Why an audit ends at a line, and what it reports where what it keeps refuses one.
 use Rattle.std.specs.Prelude.{◌≡◌, Option, Some}
 use Rattle.cm_refs.specs.declared.fault.RefFault.{RefFault}
 use Rattle.cm_refs.specs.declared.fault.RefFault.TheVariants as reference
 use Rattle.cm_attempt.specs.declared.fault.TrackFault.{TrackFault}
 use Rattle.cm_attempt.specs.declared.fault.TrackFault.TheVariants as track
-use Rattle.cm_envelope.specs.declared.fault.ShapeFault.{ShapeFault}
-use Rattle.cm_envelope.specs.declared.fault.ShapeFault.TheVariants as line
+use Rattle.cm_envelope.specs.declared.fault.EnvelopeFault.{EnvelopeFault}
+use Rattle.cm_envelope.specs.declared.fault.EnvelopeFault.TheVariants as line
 use Rattle.cm_stream.specs.declared.verdict.Bad.TheVariants as bad
 use Rattle.cm_stream.specs.Findings.{Finding, IsBad, IsUnsupported, named}
 use Rattle.cm_audit.specs.declared.stop.Stop.{Stop}
@@ -35,8 +35,6 @@ refused_call track.StepOrder = stop.Bad bad.StepOrder
 refused_call track.FinishedEarly = stop.Bad bad.FinishedEarly
 refused_call track.Memory = stop.Memory
 
-abbrev pub unread_line : ShapeFault → Stop
-unread_line line.NotJson = stop.Bad bad.NotJson
-unread_line line.Shape = stop.Bad bad.Shape
-unread_line (line.Field kind member) = stop.Bad (bad.Field kind member)
+abbrev pub unread_line : EnvelopeFault → Stop
+unread_line (line.Line fault) = stop.Bad (bad.NoEnvelope fault)
 unread_line line.Memory = stop.Memory

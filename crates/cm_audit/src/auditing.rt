@@ -1,6 +1,6 @@
 //! The audit of a stream of Cucumber Messages.
 ghost use Rattle.std.specs.Prelude.{◌≡◌, Err, IfSome};
-ghost use Rattle.cm_envelope.specs.Device.{Counts as Rises};
+ghost use Rattle.cm_envelope.specs.Device.{CountsFailure};
 ghost use Rattle.cm_envelope.specs.Feeds.{WhereTold};
 ghost use Rattle.cm_envelope.specs.declared.feed.Trouble.TheVariants.{ReadFailed};
 ghost use Rattle.cm_attempt.specs.Settings.{settings_of};
@@ -12,7 +12,7 @@ ghost use Rattle.cm_audit.specs.State.{AreFewer, IsListed, summary_of};
 ghost use Rattle.cm_state.specs.Summary.{nothing_seen};
 
 use crate::judge::judge;
-use crate::judge_features::MOST;
+use crate::limits::MOST;
 use crate::state::State;
 use crate::stop::Stop;
 use cm_attempt::{Policy, Settings};
@@ -45,8 +45,8 @@ fn unsuccessful(verdict: Verdict) -> Audited
     }
 }
 
-/// The answer where an audit ends at a line.
-fn audited_at(stop: Stop, line: u64) -> Result<Audited, Trouble>
+/// The answer where the reading ends at the line of this number, counted from 1.
+pub fn audited_at(stop: Stop, line: u64) -> Result<Audited, Trouble>
     ensures { result ≡ audited_at line stop }
 {
     match stop {
@@ -67,7 +67,7 @@ fn judge_lines<R: ByteSource>(
     requires listed { IsListed state.old }
     ensures judged { IfSome (R.to_come source.old)
         (λ bytes. AnswersAs (judged settings bytes) result) }
-    ensures failures { Rises (is_failed_read result) (R.failed_calls source.old)
+    ensures failures { CountsFailure (is_failed_read result) (R.failed_calls source.old)
         (R.failed_calls source.new) }
     ensures read_failed { result ≡ Err ReadFailed
         → WhereTold (R.to_come source.old) (R.to_come source.new) (HoldNoFault settings) }
@@ -110,8 +110,8 @@ fn judge_lines<R: ByteSource>(
 ///
 /// The verdict is Good with the stream's counts, or the first line that has a fault, or that shows why the stream is not
 /// judged. Lines count from 1, with the blank ones; a fault at the end has the line after the last one. Judging stops at
-/// that line: no more than 65,536 bytes after it are read. Each envelope is dropped once it is judged. Beside a Good verdict
-/// stands whether the run says success.
+/// that line: no more than 65,536 bytes after it are read. Each envelope is dropped once it is judged. With a Good verdict
+/// comes whether the run says success.
 ///
 /// # Errors
 /// Why no further line could be read, where no line before has a fault. No read is repeated.
@@ -129,8 +129,8 @@ pub fn audit_run<R: ByteSource>(
     // The verdict is that of the first line that has a fault.
     ensures told { IfSome (R.to_come source.old) (λ bytes. AnswersTold settings bytes result) }
 
-    // A failed read is told, and only where the lines before it show no fault.
-    ensures failures { Rises (is_failed_read result) (R.failed_calls source.old)
+    // A failed read is reported, and only where the lines before it show no fault.
+    ensures failures { CountsFailure (is_failed_read result) (R.failed_calls source.old)
         (R.failed_calls source.new) }
     ensures read_failed { result ≡ Err ReadFailed
         → WhereTold (R.to_come source.old) (R.to_come source.new) (ShowNoFault settings) }
@@ -167,7 +167,7 @@ pub fn audit_by<R: ByteSource>(
     ensures bad { IfSome (R.to_come source.old) (λ bytes. NoneIsGood settings bytes result) }
     ensures told { IfSome (R.to_come source.old) (λ bytes. VerdictTold settings bytes result) }
 
-    ensures failures { Rises (is_failed_read result) (R.failed_calls source.old)
+    ensures failures { CountsFailure (is_failed_read result) (R.failed_calls source.old)
         (R.failed_calls source.new) }
     ensures read_failed { result ≡ Err ReadFailed
         → WhereTold (R.to_come source.old) (R.to_come source.new) (ShowNoFault settings) }
@@ -193,7 +193,7 @@ pub fn audit_with<R: ByteSource>(
     ensures told { IfSome (R.to_come source.old)
         (λ bytes. VerdictTold (settings_of policy) bytes result) }
 
-    ensures failures { Rises (is_failed_read result) (R.failed_calls source.old)
+    ensures failures { CountsFailure (is_failed_read result) (R.failed_calls source.old)
         (R.failed_calls source.new) }
     ensures read_failed { result ≡ Err ReadFailed
         → WhereTold (R.to_come source.old) (R.to_come source.new)
@@ -216,7 +216,7 @@ pub fn audit<R: ByteSource>(alloc: Global, source: &mut R) -> Result<Verdict, Tr
     ensures told { IfSome (R.to_come source.old)
         (λ bytes. VerdictTold (settings_of Policy.Strict) bytes result) }
 
-    ensures failures { Rises (is_failed_read result) (R.failed_calls source.old)
+    ensures failures { CountsFailure (is_failed_read result) (R.failed_calls source.old)
         (R.failed_calls source.new) }
     ensures read_failed { result ≡ Err ReadFailed
         → WhereTold (R.to_come source.old) (R.to_come source.new)

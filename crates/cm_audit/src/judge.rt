@@ -1,18 +1,18 @@
 //! One line of a stream.
 ghost use Rattle.std.specs.Prelude.{◌≡◌};
-ghost use Rattle.cm_stream.specs.Words.{is_judged};
+ghost use Rattle.cm_stream.specs.References.{is_judged};
 ghost use Rattle.cm_audit.specs.State.{AreFewer, IsListed, JudgesBy, Takes};
 
 use crate::judge_cases::judge_case;
 use crate::judge_features::{
-    MOST, judge_definition, judge_document, judge_hook, judge_parse_error, judge_pickle,
-    judge_source,
+    judge_definition, judge_document, judge_hook, judge_parse_error, judge_pickle, judge_source,
 };
 use crate::judge_run::{
     judge_attachment, judge_attempt_finished, judge_attempt_started, judge_run_finished,
     judge_run_hook_finished, judge_run_hook_started, judge_run_started, judge_step_finished,
     judge_step_started,
 };
+use crate::limits::MOST;
 use crate::state::State;
 use crate::stop::Stop;
 use cm_attempt::{Policy, Settings};

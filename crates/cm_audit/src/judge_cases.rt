@@ -9,33 +9,20 @@ ghost use Rattle.cm_attempt.specs.Table.{has_text};
 ghost use Rattle.cm_refs.specs.Declarations.{find_pickle, steps_of};
 ghost use Rattle.cm_envelope.specs.declared.envelope.Envelope.TheVariants as Envelope;
 ghost use Rattle.cm_stream.specs.Texts.{same_texts};
-ghost use Rattle.cm_stream.specs.Words.{pickle_step_ids};
+ghost use Rattle.cm_stream.specs.References.{pickle_step_ids};
 ghost use Rattle.cm_state.specs.Summary.{case_counted, with_name};
-ghost use Rattle.cm_state.specs.StateChecks.{is_among, knows_case, knows_run, knows_step};
+ghost use Rattle.cm_state.specs.StateChecks.{is_among, knows_case, knows_step};
 ghost use Rattle.cm_audit.specs.State.{AreFewer, IsListed, Judges, summary_of};
 
-use crate::judge_features::MOST;
-use crate::state::{Names, State};
+use crate::limits::MOST;
+use crate::record::add_case;
+use crate::state::{Names, State, knows_run};
 use crate::stop::Stop;
 use cm_envelope::{TestCase, TestStep};
 use cm_refs::Declared;
 use cm_stream::{Bad, Counts};
-use gk_document::{Sequence, Text};
-use std::alloc::{AllocError, AllocFailed, Global};
-
-/// Whether no run is named, or the one that started.
-pub(crate) fn knows_run(state: &State, id: &Option<Text>) -> bool
-    ensures { result ≡ knows_run (summary_of state.now) id.now }
-{
-    match (id, &state.run) {
-        (None, _) => true,
-        (Some(_), None) => false,
-        (Some(id), Some(run)) => match &run.id {
-            Some(started) => id == started,
-            None => false,
-        },
-    }
-}
+use gk_document::Text;
+use std::alloc::AllocFailed;
 
 /// Whether the step names no hook, or a declared one.
 fn knows_hook(declared: &Declared, step: &TestStep) -> bool
@@ -136,18 +123,7 @@ fn has_steps_of_pickle(declared: &Declared, case: &TestCase) -> bool
     }
 }
 
-/// The ids of the steps, without a copy.
-fn step_ids(alloc: Global, steps: Sequence<TestStep>) -> Result<Vec<String>, AllocError>
-    ensures { IfOk result (λ ids. map string_bytes ids.items ≡ map (λ step. step.id) steps) }
-{
-    let mut ids = Vec::new(alloc);
-    for step in steps.into_vec() {
-        ids.push(step.id.into_string())?;
-    }
-    Ok(ids)
-}
-
-/// Adds the pickle that a case names, and answers whether no case named it before.
+/// Adds the pickle that a case names, and gives whether no case named it before.
 fn add_name(named: &mut Names, pickle: String) -> Result<bool, AllocFailed<String>>
     ensures named { OnOk result (map string_bytes named.new.keys
         ≡ with_name (map string_bytes named.old.keys) (string_bytes pickle)) }
@@ -188,9 +164,8 @@ pub(crate) fn judge_case(state: &mut State, case: TestCase) -> Result<(), Stop>
         test_steps,
         ..
     } = case;
-    let steps = step_ids(state.alloc, test_steps)?;
     state.named.reserve(1)?;
-    state.track.add_case(id.as_str(), steps.as_slice())?;
+    add_case(state.alloc, &mut state.track, &id, test_steps)?;
     let is_first = add_name(&mut state.named, pickle_id.into_string())?;
     count_case(&mut state.counts, is_first);
     Ok(())

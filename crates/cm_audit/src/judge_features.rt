@@ -1,6 +1,5 @@
 //! The envelopes that say what a run is to execute: sources, documents, parse errors, pickles, definitions and hooks.
 ghost use Rattle.std.specs.Prelude.{◌≡◌, ◌&&◌, IfErr, IfOk, OnOk, false, map, true};
-ghost use Rattle.std.specs.String.{string_bytes};
 ghost use Rattle.cm_attempt.specs.Table.{has_repeat, has_text};
 ghost use Rattle.cm_envelope.specs.declared.envelope.Envelope.TheVariants as envelope;
 ghost use Rattle.cm_state.specs.StateChecks.{plain_finding, is_next_by};
@@ -9,10 +8,12 @@ ghost use Rattle.cm_audit.specs.Kept.{HasMoreAt, IsAcceptedAt, kept_rows};
 ghost use Rattle.cm_audit.specs.State.{AreFewer, Checks, IsListed, Judges, summary_of};
 ghost use Rattle.cm_audit.specs.Stops.{StopsFor};
 
+use crate::ids::step_ids;
+use crate::limits::MOST;
 use crate::source::{Kept, read_source};
 use crate::state::{Sources, State, find_source};
 use crate::stop::Stop;
-use cm_envelope::{GherkinDocument, Hook, ParseError, Pickle, PickleStep, Source, StepDefinition};
+use cm_envelope::{GherkinDocument, Hook, ParseError, Pickle, Source, StepDefinition};
 use cm_stream::{Bad, Reason};
 use gk_document::{Sequence, Text};
 use indexmap::IndexSet;
@@ -20,9 +21,6 @@ use std::alloc::{AllocError, Global};
 
 /// The media type of plain Gherkin.
 const PLAIN: &str = "text/x.cucumber.gherkin+plain";
-
-/// The number that no count of an audit reaches.
-pub(crate) const MOST: u64 = 1_073_741_825;
 
 /// A source has a uri of its own and holds plain Gherkin, and what its text is read as is kept.
 pub(crate) fn judge_source(state: &mut State, source: Source) -> Result<(), Stop>
@@ -134,7 +132,7 @@ pub(crate) fn judge_document(state: &mut State, document: GherkinDocument) -> Re
     Ok(())
 }
 
-/// A parse error is told of a source that is refused.
+/// A parse error is reported of a source that is refused.
 pub(crate) fn judge_parse_error(state: &State, error: &ParseError) -> Result<(), Stop>
     requires listed { IsListed state.now }
     ensures { Judges state.now state.now (envelope.ParseError error.now) result }
@@ -144,17 +142,6 @@ pub(crate) fn judge_parse_error(state: &State, error: &ParseError) -> Result<(),
         Some(Kept::Accepted(_)) => Err(Stop::Bad(Bad::ParseErrorOfGoodSource)),
         Some(Kept::Refused) => Ok(()),
     }
-}
-
-/// The ids of the steps, without a copy.
-fn pickle_step_ids(alloc: Global, steps: Sequence<PickleStep>) -> Result<Vec<String>, AllocError>
-    ensures { IfOk result (λ ids. map string_bytes ids.items ≡ map (λ step. step.id) steps) }
-{
-    let mut ids = Vec::new(alloc);
-    for step in steps.into_vec() {
-        ids.push(step.id.into_string())?;
-    }
-    Ok(ids)
 }
 
 /// Whether the pickle is the next one of its source. Its ids aren't looked at.
@@ -189,7 +176,7 @@ pub(crate) fn judge_pickle(state: &mut State, pickle: Pickle) -> Result<(), Stop
 {
     check_pickle(state, &pickle)?;
     let Pickle { id, uri, steps, .. } = pickle;
-    let steps = pickle_step_ids(state.alloc, steps)?;
+    let steps = step_ids(state.alloc, steps)?;
     state
         .declared
         .declare_pickle(id.as_str(), steps.as_slice())?;

@@ -1,20 +1,19 @@
-//! The envelopes that tell what was run: the run, its hooks, attempts and their steps, and attachments.
+//! The envelopes that report what was run: the run, its hooks, attempts and their steps, and attachments.
 ghost use Rattle.std.specs.Prelude.{◌≡◌, ◌&&◌, [], not, unwrap_or};
 ghost use Rattle.std.specs.List.{list_all, list_any};
 ghost use Rattle.cm_envelope.specs.declared.envelope.Envelope.TheVariants as Envelope;
 ghost use Rattle.indexmap.specs.IndexMap.{values};
 ghost use Rattle.cm_attempt.specs.Table.{is_good_status};
 ghost use Rattle.cm_stream.specs.Checks.{same_flag};
-ghost use Rattle.cm_stream.specs.Words.{is_accepted};
+ghost use Rattle.cm_stream.specs.References.{is_accepted};
 ghost use Rattle.cm_state.specs.StateChecks.{is_well, knows_place, knows_run_hook, lacks_by};
 ghost use Rattle.cm_audit.specs.Kept.{kept_row};
 ghost use Rattle.cm_audit.specs.State.{AreFewer, IsListed, Judges, JudgesBy, summary_of};
 
-use crate::judge_cases::knows_run;
-use crate::judge_features::MOST;
+use crate::limits::MOST;
+use crate::record::{finish_attempt, finish_step, kept_status, start_attempt, start_step};
 use crate::source::Kept;
-use crate::state::{Sources, State};
-use crate::status::kept_status;
+use crate::state::{Sources, State, knows_run};
 use crate::stop::Stop;
 use cm_attempt::{Policy, Status, worst_with};
 use cm_envelope::{
@@ -92,10 +91,7 @@ pub(crate) fn judge_attempt_started(
     if state.run.is_none() {
         return Err(Stop::Bad(Bad::OutsideRun));
     }
-    let case = started.test_case_id.as_str();
-    state
-        .track
-        .start(started.id.as_str(), case, started.attempt)?;
+    start_attempt(&mut state.track, started)?;
     state.counts.attempts += 1;
     Ok(())
 }
@@ -105,10 +101,7 @@ pub(crate) fn judge_step_started(state: &mut State, started: &TestStepStarted) -
     requires listed { IsListed state.old }
     ensures { Judges state.old state.new (Envelope.TestStepStarted started.now) result }
 {
-    let attempt = started.test_case_started_id.as_str();
-    state
-        .track
-        .step_started(attempt, started.test_step_id.as_str())?;
+    start_step(&mut state.track, started)?;
     Ok(())
 }
 
@@ -120,11 +113,8 @@ pub(crate) fn judge_step_finished(
     requires listed { IsListed state.old }
     ensures { Judges state.old state.new (Envelope.TestStepFinished finished.now) result }
 {
-    let attempt = finished.test_case_started_id.as_str();
-    let step = finished.test_step_id.as_str();
-    let status = kept_status(finished.test_step_result.status);
-    state.track.step_finished(attempt, step, status)?;
-    if status == Status::Unknown {
+    finish_step(&mut state.track, finished)?;
+    if kept_status(finished.test_step_result.status) == Status::Unknown {
         return Err(Stop::Unsupported(Reason::UnknownStatus));
     }
     Ok(())
@@ -138,8 +128,7 @@ pub(crate) fn judge_attempt_finished(
     requires listed { IsListed state.old }
     ensures { Judges state.old state.new (Envelope.TestCaseFinished finished.now) result }
 {
-    let attempt = finished.test_case_started_id.as_str();
-    state.track.finish(attempt, finished.will_be_retried)?;
+    finish_attempt(&mut state.track, finished)?;
     Ok(())
 }
 
@@ -208,15 +197,15 @@ fn is_well(state: &State, policy: Policy) -> bool
         && are_accepted(&state.sources)
 }
 
-/// Whether the run's end tells its success as it is.
-fn tells_success(state: &State, finished: &TestRunFinished, policy: Policy) -> bool
+/// Whether the run's end reports its success as it is.
+fn reports_success(state: &State, finished: &TestRunFinished, policy: Policy) -> bool
     ensures { result ≡ same_flag finished.now.success
         (is_well policy (summary_of state.now) && not finished.now.has_exception) }
 {
     finished.success == (is_well(state, policy) && !finished.has_exception)
 }
 
-/// A run that started finishes with nothing open or lacking, and tells its success as it is.
+/// A run that started finishes with nothing open or lacking, and reports its success as it is.
 pub(crate) fn judge_run_finished(
     state: &mut State,
     finished: &TestRunFinished,
@@ -240,7 +229,7 @@ pub(crate) fn judge_run_finished(
     if is_incomplete(state) {
         return Err(Stop::Bad(Bad::SourceIncomplete));
     }
-    if !tells_success(state, finished, policy) {
+    if !reports_success(state, finished, policy) {
         return Err(Stop::Bad(Bad::SuccessDiffers));
     }
     state.is_finished = true;

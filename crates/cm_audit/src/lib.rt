@@ -1,18 +1,38 @@
-//! The audit of a stream of Cucumber Messages.
+//! The audit of a stream of Cucumber Messages, read line by line from a source of bytes.
+//!
+//! ```
+//! use cm_audit::{Policy, Settings, Verdict, audit_run};
+//! use cm_envelope::{Reader, Trouble};
+//! use std::alloc::Global;
+//! use std::io::Read;
+//!
+//! fn has_succeeded<R: Read + Drop>(alloc: Global, report: R) -> Result<bool, Trouble> {
+//!     let settings = Settings::from(Policy::Strict);
+//!     let audited = audit_run(alloc, &mut Reader::new(report), settings)?;
+//!     Ok(matches!(audited.verdict, Verdict::Good(_)) && audited.success)
+//! }
+//! ```
+//!
+//! `audit_run` is the audit, by settings; `audit_by`, `audit_with` and `audit` give its verdict alone, by settings, by a
+//! policy and by the strict one. `audited_at` is the answer where the reading ends at a line, for a `Stop`. `track` takes
+//! an envelope into a record of attempts, and `kept_status` gives the status that such a record keeps.
 #![tactic(auto)]
 
 mod auditing;
-mod due;
+mod ids;
 mod judge;
 mod judge_cases;
 mod judge_features;
 mod judge_run;
+mod limits;
+mod matching;
+mod record;
 mod source;
 mod state;
-mod status;
 mod stop;
 
-pub use auditing::{audit, audit_by, audit_run, audit_with};
+pub use auditing::{audit, audit_by, audit_run, audit_with, audited_at};
 pub use cm_attempt::{Policy, Settings};
 pub use cm_stream::{Audited, Bad, Counts, Reason, Verdict};
-pub use status::kept_status;
+pub use record::{kept_status, track};
+pub use stop::Stop;

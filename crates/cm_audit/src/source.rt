@@ -4,12 +4,12 @@ ghost use Rattle.gk_pickle.specs.Pickles.{pickles};
 ghost use Rattle.cm_stream.specs.Readings.{Accepted as accepted_text};
 ghost use Rattle.cm_stream.specs.Skeleton.{same_skeleton as have_one_skeleton};
 ghost use Rattle.cm_stream.specs.OnePass.{reads};
-ghost use Rattle.cm_stream.specs.Words.{is_accepted};
+ghost use Rattle.cm_stream.specs.References.{is_accepted};
 ghost use Rattle.cm_state.specs.StateChecks.{is_next_of, lacks_by};
 ghost use Rattle.cm_state.specs.Summary.{one_more, with_ids};
 ghost use Rattle.cm_audit.specs.Kept.{HasMore, ReadsAs, accepted_row, kept_row};
 
-use crate::due::is_due_pickle;
+use crate::matching::is_due_pickle;
 use crate::stop::Stop;
 use cm_envelope::Pickle;
 use cm_stream::Reason;

@@ -1,6 +1,7 @@
 //! What an audit keeps of the lines so far.
 ghost use Rattle.std.specs.Prelude.{◌≡◌, find, option_map};
 ghost use Rattle.std.specs.Str.{bytes_eq};
+ghost use Rattle.cm_state.specs.StateChecks.{knows_run};
 ghost use Rattle.cm_state.specs.Summary.{nothing_seen};
 ghost use Rattle.cm_audit.specs.Kept.{kept_row, kept_rows};
 ghost use Rattle.cm_audit.specs.State.{IsListed, summary_of};
@@ -10,6 +11,7 @@ use cm_attempt::{Status, Track};
 use cm_envelope::TestRunStarted;
 use cm_refs::Declared;
 use cm_stream::Counts;
+use gk_document::Text;
 use indexmap::{IndexMap, IndexSet};
 use std::alloc::Global;
 
@@ -66,4 +68,18 @@ pub(crate) fn find_source<'a>(sources: &'a Sources, uri: &str) -> Option<&'a Kep
         ≡ find (λ r. bytes_eq uri.now r.uri) (kept_rows sources.now.entries) }
 {
     sources.get(uri)
+}
+
+/// Whether no run is named, or the one that started.
+pub(crate) fn knows_run(state: &State, id: &Option<Text>) -> bool
+    ensures { result ≡ knows_run (summary_of state.now) id.now }
+{
+    match (id, &state.run) {
+        (None, _) => true,
+        (Some(_), None) => false,
+        (Some(id), Some(run)) => match &run.id {
+            Some(started) => id == started,
+            None => false,
+        },
+    }
 }

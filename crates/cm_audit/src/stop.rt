@@ -2,16 +2,19 @@
 ghost use Rattle.cm_audit.specs.Stops.{refused_reference, refused_call, unread_line};
 
 use cm_attempt::TrackFault;
-use cm_envelope::ShapeFault;
+use cm_envelope::EnvelopeFault;
 use cm_refs::RefFault;
 use cm_stream::{Bad, Reason};
 use std::alloc::{AllocError, AllocFailed};
 
-/// Why an audit ends at a line.
+/// Why the reading of a stream ends at a line.
 #[derive(Clone, Copy, Debug)]
-pub(crate) enum Stop {
+pub enum Stop {
+    /// The line has a fault.
     Bad(Bad),
+    /// The line shows why the stream is not judged.
     Unsupported(Reason),
+    /// Memory was refused.
     Memory,
 }
 
@@ -73,17 +76,15 @@ impl From<TrackFault> for Stop {
     }
 }
 
-impl From<ShapeFault> for Stop {
+impl From<EnvelopeFault> for Stop {
     ghost use Rattle.std.specs.Prelude.{◌≡◌};
 
     ghost from_gives = { λ f e. e ≡ unread_line f };
 
-    fn from(fault: ShapeFault) -> Stop {
+    fn from(fault: EnvelopeFault) -> Stop {
         match fault {
-            ShapeFault::NotJson => Stop::Bad(Bad::NotJson),
-            ShapeFault::Shape => Stop::Bad(Bad::Shape),
-            ShapeFault::Field(kind, member) => Stop::Bad(Bad::Field(kind, member)),
-            ShapeFault::Memory => Stop::Memory,
+            EnvelopeFault::Line(fault) => Stop::Bad(Bad::NoEnvelope(fault)),
+            EnvelopeFault::Memory => Stop::Memory,
         }
     }
 }

@@ -7,7 +7,7 @@ use Rattle.gk_line.specs.Cells.{CellUnit, CellText, plain, unit_or, escaped, uni
 use Rattle.cm_compiled_good.proofs.Scalars.{Scalars, split_all}
 
 abbrev UnitFits : CellUnit → Type 0
-UnitFits u = IsScalar u.stands_for
+UnitFits u = IsScalar u.meaning
 
 abbrev OptionFits : Option ℕ → Type 0
 OptionFits None = ⊤
@@ -54,7 +54,7 @@ dropped_fit (u ∷ us) h = go (is_space u && length (drop_spaces us) == 0) (drop
     go true k = tt
     go false k = (h.0, k)
 
-values_fit : (us : List CellUnit) → AllByRecursion UnitFits us → Scalars (map (λ (u : CellUnit). u.stands_for) us)
+values_fit : (us : List CellUnit) → AllByRecursion UnitFits us → Scalars (map (λ (u : CellUnit). u.meaning) us)
 values_fit [] h = tt
 values_fit (u ∷ us) h = (h.0, values_fit us h.1)
 

@@ -9,10 +9,11 @@ use Rattle.gk_line.specs.declared.tokens.Block.{Block}
 use Rattle.gk_document.specs.declared.tree.Cell.{Cell}
 use Rattle.gk_document.specs.declared.tree.Fence.{Fence}
 use Rattle.gk_document.specs.declared.tree.Argument.TheVariants.{Table, Text as Quoted}
+use Rattle.gk_document.specs.MediaType.{unless_empty as media_of}
 use Rattle.gk_grammar.specs.Token.{Text, TagText, Tags, Title, Step, Row, Fenced, Line, line, bytes, is_blank, is_comment}
 use Rattle.gk_grammar.specs.Tree as tree
 use Rattle.gk_grammar.specs.Tree.{Location, Tag, DocString, Argument, Background, ExampleTable, Examples, Scenario, Rule, Feature, Document}
-use Rattle.gk_grammar.specs.Grammar.{Piece, Then, Each, AtMostOne, OneLine, comment_of, comments_of, place_and_name, tag_at, IsTagLine, TagLines, Titled, from_text, description_of, IsRow, IsTable, content_line, media_of, IsDocString, IsArgument, IsStepLine, IsStep}
+use Rattle.gk_grammar.specs.Grammar.{Piece, Then, Each, AtMostOne, OneLine, comment_of, comments_of, place_and_name, tag_at, IsTagLine, TagLines, Titled, from_text, description_of, IsRow, IsTable, content_line, IsDocString, IsArgument, IsStepLine, IsStep}
 use Rattle.cm_compiled_good.proofs.Fine.{Fits64, clean, TagOf, CellOf, RowOf, MediaOf, DocStringOf, ArgumentOf, StepOf}
 use Rattle.cm_compiled_good.proofs.Scalars.{encoded, doc_line_fits}
 use Rattle.cm_compiled_good.proofs.Tokens.{WordOk, CellOk, LineOk}

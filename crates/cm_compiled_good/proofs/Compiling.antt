@@ -18,7 +18,8 @@ use Rattle.gk_document.specs.declared.tree.Feature.{Feature}
 use Rattle.gk_document.specs.declared.tree.Document.{Document}
 use Rattle.gk_pickle.specs.Around.{Around, Filling, unfilled}
 use Rattle.gk_pickle.specs.Fill.{filled}
-use Rattle.gk_pickle.specs.Steps.{media_type, filled_by, filled_row, filled_argument, steps_after, keywords, pickle_steps}
+use Rattle.gk_document.specs.MediaType.{unless_empty as media_type}
+use Rattle.gk_pickle.specs.Steps.{filled_by, filled_row, filled_argument, steps_after, keywords, pickle_steps}
 use Rattle.gk_pickle.specs.Pickles.{pickle_tag, pickle_of, row_filling, table_pickles, examples_pickles, outline_pickles, scenario_pickles, background_steps, in_feature, in_rule, rule_pickles, pickles_in, pickles}
 use Rattle.cm_compiled_good.proofs.Fine.{Wanted, TagFine, MediaFine, ArgumentFine, StepFine, PickleFine, TagOf, CellOf, RowOf, MediaOf, ArgumentOf, StepOf, BackgroundOf, TableOf, ExamplesOf, ScenarioOf, RuleOf, FeatureOf}
 

@@ -12,7 +12,7 @@ use Rattle.gk_pickle.specs.declared.pickle.PickleArgument.{PickleArgument}
 use Rattle.gk_pickle.specs.declared.pickle.PickleArgument.TheVariants.{Table, Text}
 use Rattle.gk_pickle.specs.declared.pickle.PickleStep.{PickleStep}
 use Rattle.gk_pickle.specs.declared.pickle.Pickle.{Pickle}
-use Rattle.gk_pickle.specs.Steps.{media_type}
+use Rattle.gk_document.specs.MediaType.{unless_empty as media_type}
 use Rattle.cm_stream.specs.Texts.{same_list, same_option, same_texts}
 use Rattle.cm_stream.specs.Sources.{ids_at, is_type, has_cells, is_argument, is_due_step, is_due_tag, is_due}
 use Rattle.cm_stream.proofs.Found.{bytes_same}

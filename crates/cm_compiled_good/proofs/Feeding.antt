@@ -8,7 +8,7 @@ use Rattle.cm_envelope.specs.Feeds.{has_line_feed}
 use Rattle.cm_envelope.specs.Lines.{Line, is_blank, lines_of, trouble_of, size, feed_lines, unless_trouble}
 use Rattle.cm_envelope.specs.Reading.{envelope_of_line}
 use Rattle.cm_envelope.proofs.Lines.{lines_of-whole}
-use Rattle.cm_stream.specs.Stream.{line_limit, stream_limit, fed, numbered, read_line, as_read, IsRead, envelopes}
+use Rattle.cm_stream.specs.Stream.{max_line_bytes, max_stream_bytes, fed, numbered, read_line, as_read, IsRead, envelopes}
 
 -- a text is a line that is read as the envelope, and a LF
 pub record IsLineWith (text : List ℕ) (e : Envelope) : Type 0 where
@@ -67,5 +67,5 @@ all_read n (t ∷ ts) (e ∷ es) h = rw (first_line t e (concat ts) h.0, h.0.fil
 pub they_are_read : (ts : List (List ℕ)) (es : List Envelope) → AreLinesWith ts es → (fed (concat ts)).trouble ≡ None → IsRead (concat ts) (with_numbers 1 es)
 they_are_read ts es h fits = record {
   no_trouble = fits;
-  read = ap (λ ls. map read_line (numbered 1 ls)) (all_fed line_limit stream_limit 0 (lines_of (concat ts)) fits) ∙ all_read 1 ts es h;
+  read = ap (λ ls. map read_line (numbered 1 ls)) (all_fed max_line_bytes max_stream_bytes 0 (lines_of (concat ts)) fits) ∙ all_read 1 ts es h;
 }

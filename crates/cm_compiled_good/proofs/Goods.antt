@@ -9,7 +9,7 @@ use Rattle.gk_pickle.specs.Pickles.{pickles as compiled}
 use Rattle.cm_attempt.specs.declared.settings.Settings.{Settings}
 use Rattle.cm_stream.specs.Good.{Good}
 use Rattle.cm_stream.specs.Stream.{fed, IsRead, IsGoodStream, envelopes, counts_of, unrun}
-use Rattle.cm_stream.specs.Words.{sources, pickles, cases, starts, as_source, as_case, as_start}
+use Rattle.cm_stream.specs.References.{sources, pickles, cases, starts, as_source, as_case, as_start}
 use Rattle.cm_stream.proofs.FaultlessGood.{faultless_are_good}
 use Rattle.cm_read_back.specs.Documents.{IsReadable}
 use Rattle.cm_compile.specs.Compiled.{id_count}

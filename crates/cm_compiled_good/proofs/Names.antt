@@ -9,7 +9,7 @@ use Rattle.cm_envelope.specs.declared.envelope.Envelope.{Envelope}
 use Rattle.cm_envelope.specs.declared.envelope.Envelope.TheVariants as envelope
 use Rattle.cm_envelope.specs.declared.pickle.PickleStep.{PickleStep}
 use Rattle.cm_stream.specs.Texts.{Text}
-use Rattle.cm_stream.specs.Words.{Name, PickleNamed, PickleStep as StepOf, same_name, declares, declares_it, times_declared}
+use Rattle.cm_stream.specs.References.{Name, PickleNamed, PickleStep as StepOf, same_name, declares, declares_it, times_declared}
 use Rattle.cm_stream.specs.Good.{has_same_names}
 use Rattle.cm_stream.specs.Checks.{declares_again}
 use Rattle.cm_stream.proofs.Declared.{none_of}

@@ -7,7 +7,7 @@ use Rattle.std.specs.List.{between, concat}
 use Rattle.std.specs.Prelude.{Result, Ok, Err, OnErr}
 use Rattle.std.specs.Io.KnownBytes.{Appends}
 use Rattle.std.proofs.KnownBytes.{Appends-trans}
-use Rattle.cm_envelope.specs.Device.{Counts, write_failed}
+use Rattle.cm_envelope.specs.Device.{CountsFailure, is_failed_write}
 use Rattle.cm_envelope.specs.Writing.{AppendsFront}
 
 -- what was written so far, and what is left
@@ -22,7 +22,7 @@ wrote_more a b c all rest n w q =
 
 -- a write that took something hasn't failed
 pub no_failed_write : {E : Type 0} (r : Result ℕ E) (n : ℕ) (bytes : List ℕ) (old new : ℕ) → r ≡ Ok n → (n ≡ 0 → ⊥)
-    → Counts (write_failed r bytes) old new → new ≡ old
+    → CountsFailure (is_failed_write r bytes) old new → new ≡ old
 no_failed_write r n bytes old new is some counts =
     rw (is, ne_eqb n 0 some) at counts
 

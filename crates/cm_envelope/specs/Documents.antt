@@ -1,6 +1,6 @@
 -- Reading a feature's tree, in which the nodes have ids (Messages: GherkinDocument and its parts). A reading takes the ids
--- of the nodes before it, and gives what was read and the ids up to its end: a node's number is how many ids stand before
--- its own. Columns aren't read, and stand as 0; nor are descriptions, comments, fences and keyword types.
+-- of the nodes before it, and gives what was read and the ids up to its end: a node's number is how many ids are before
+-- its own. Columns aren't read, and are 0; nor are descriptions, comments, fences and keyword types.
 use Rattle.std.specs.Prelude.{◌≡◌, ℕ, ◌^◌, List, [], ◌∷◌, ◌++◌, length, Bool, true, false, not, ◌&&◌, ◌||◌, if◌then◌else◌, nat_lt, nat_le, max, unwrap_or, option_map, Option, Some, None, is_some, option_and_then, Result, Ok, Err, codes}
 use Rattle.serde_json.specs.Data.{Data, Items, no_items, item}
 use Rattle.serde_json.specs.Find.{as_str, as_object}
@@ -22,7 +22,7 @@ use Rattle.gk_document.specs.declared.tree.Rule.{Rule}
 use Rattle.gk_document.specs.declared.tree.Feature.{Feature}
 use Rattle.cm_envelope.specs.declared.fault.MemberFault.{MemberFault}
 use Rattle.cm_envelope.specs.declared.envelope.GherkinDocument.{GherkinDocument}
-use Rattle.cm_envelope.specs.declared.documents.DataTable.{DataTable}
+use Rattle.cm_envelope.specs.declared.read_documents.DataTable.{DataTable}
 use Rattle.cm_envelope.specs.Member.{◌>>=◌, Fails, all_items, good, required, nested, optional_nested, list_of, items_in, present, rule, has_both, media_type, as_whole_number}
 
 abbrev pub Ids : Type 0

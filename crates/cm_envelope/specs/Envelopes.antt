@@ -1,4 +1,4 @@
--- The members of each envelope, in the order in which they are read. They stand in the JSON schemas of the Cucumber Messages,
+-- The members of each envelope, in the order in which they are read. They are in the JSON schemas of the Cucumber Messages,
 -- one of each name (Source, TestCase, TestStepFinished ..).
 use Rattle.std.specs.Prelude.{ℕ, List, false, if◌then◌else◌, Option, Some, None, is_some, option_and_then, Result, Ok, codes, bytes_eq}
 use Rattle.serde_json.specs.Data.{Data}

@@ -1,5 +1,6 @@
 -- What a feed stores between two calls, and what one call does to it.
 use Rattle.std.specs.Prelude.{ℕ, ◌≡◌, ◌+◌, ◌<◌, ◌≤◌, ◌⊎◌, ⊤, Bool, true, false, not, IsTrue, ◌||◌, ◌==◌, List, [], ◌∷◌, ◌++◌, length, Option, Some, None, Result, Ok, Err, IsSome, if◌then◌else◌}
+use Rattle.std.specs.Io.KnownBytes.{IsAtEnd}
 use Rattle.cm_envelope.specs.Lines.{Line, Fed, size, line_feed, lines_of, feed_lines, trouble_of, nothing, trouble_alone, line_then}
 use Rattle.cm_envelope.specs.declared.feed.Trouble.{Trouble}
 use Rattle.cm_envelope.specs.declared.feed.Trouble.TheVariants.{ReadFailed, LineTooLong, StreamTooLong, Memory}
@@ -32,7 +33,7 @@ new_feed line_limit stream_limit =
       over = None;
     }
 
--- what a call answers: a line, the end, or a trouble
+-- what a call gives: a line, the end, or a trouble
 abbrev pub Answer : Type 0
 Answer = Result (Option (List ℕ)) Trouble
 
@@ -66,18 +67,10 @@ written l = l.bytes ++ (if l.has_end then line_feed ∷ [] else [])
 abbrev pub NeedsNoRead : Stored → Type 0
 NeedsNoRead s = IsSome s.over ⊎ (IsTrue s.is_ended ⊎ IsTrue (has_line_feed s.held))
 
--- the trouble is that a read failed
-abbrev pub is_read_failed : Trouble → Bool
-is_read_failed ReadFailed = true
-is_read_failed LineTooLong = false
-is_read_failed StreamTooLong = false
-is_read_failed Memory = false
-
--- this call's own read failed
-abbrev pub own_read_failed : Option Over → Answer → Bool
-own_read_failed (Some over) answer = false
-own_read_failed None (Ok line) = false
-own_read_failed None (Err t) = is_read_failed t
+-- it is that a read failed
+abbrev pub is_failed_read : {A : Type 0} → Result A Trouble → Bool
+is_failed_read (Err ReadFailed) = true
+is_failed_read _ = false
 
 -- the bytes not yet given: those held, and those to come where the end wasn't read yet
 abbrev pub not_given : Stored → List ℕ → List ℕ
@@ -86,6 +79,26 @@ not_given s to_come = if s.is_ended then s.held else s.held ++ to_come
 -- what is left to answer
 abbrev pub left : Stored → List ℕ → Fed
 left s to_come = feed_lines s.line_limit s.stream_limit s.given (lines_of (not_given s to_come))
+
+-- the first of some lines, or where there is none their trouble or the end
+abbrev pub first_of : List (List ℕ) → Option Trouble → Answer
+first_of (line ∷ more) trouble = Ok (Some line)
+first_of [] (Some t) = Err t
+first_of [] None = Ok None
+
+-- the answer is the first of what is left, unless a read failed or memory was refused
+abbrev pub AnswersFirst : Fed → Answer → Type 0
+AnswersFirst fed (Err ReadFailed) = ⊤
+AnswersFirst fed (Err Memory) = ⊤
+AnswersFirst fed answer = answer ≡ first_of fed.lines fed.trouble
+
+-- a line has no LF, and no more bytes than the limit
+abbrev pub IsLineWithin : ℕ → List ℕ → Type 0
+IsLineWithin limit line = (has_line_feed line ≡ false) × (length line ≤ limit)
+
+-- where the end was read, the source is at its end: nothing is left to come
+abbrev pub EndsWithSource : Stored → Option (List ℕ) → Type 0
+EndsWithSource s to_come = s.is_ended ≡ true → IsAtEnd to_come
 
 -- these bytes are no whole line, and no limit is passed in them
 pub record ShowNothing (line_limit stream_limit before : ℕ) (bytes : List ℕ) : Type 0 where
@@ -125,7 +138,7 @@ Gives old new before after (Err LineTooLong) = left old before ≡ trouble_alone
 Gives old new before after (Err StreamTooLong) = left old before ≡ trouble_alone StreamTooLong
 Gives old new before after (Err Memory) = ⊤
 
--- P of the bytes to come before and after, where the source tells them
+-- P of the bytes to come before and after, where the source shows them
 abbrev pub WhereTold : Option (List ℕ) → Option (List ℕ) → (List ℕ → List ℕ → Type 0) → Type 0
 WhereTold None after P = ⊤
 WhereTold (Some xs) None P = ⊥
@@ -140,8 +153,14 @@ OnLine (Err t) P = ⊤
 -- what one call leaves
 pub record Leaves (old new : Stored) (before after : Option (List ℕ))
     (answer : Answer) : Type 0 where
+  -- the limits stay
   pub line_limit : new.line_limit ≡ old.line_limit
   pub stream_limit : new.stream_limit ≡ old.stream_limit
+  -- the end and a trouble are answered for good, and the end only once it was read
   pub over : new.over ≡ over_after answer
+  pub ended : answer ≡ Ok None → new.is_ended ≡ true
+  -- once the end was read, nothing is left to come of the source
+  pub source : EndsWithSource old before → EndsWithSource new after
+  -- what is counted and held after a line, and what is left to answer after any call
   pub line : old.over ≡ None → OnLine answer (λ line. GivesLine old new line)
   pub gives : old.over ≡ None → WhereTold before after (λ xs ys. Gives old new xs ys answer)

@@ -74,7 +74,7 @@ abbrev pub unless_trouble : Option Trouble → List ℕ → Fed → Fed
 unless_trouble (Some t) l fed = trouble_alone t
 unless_trouble None l fed = line_then l fed
 
--- the lines before the first that is too long, and then that line's trouble, where `before` bytes stand before them
+-- the lines before the first that is too long, and then that line's trouble, where `before` bytes are before them
 abbrev pub feed_lines : (line_limit stream_limit before : ℕ) → List Line → Fed
 feed_lines line_limit stream_limit before [] = nothing
 feed_lines line_limit stream_limit before (l ∷ ls) =

@@ -2,6 +2,7 @@
 use Rattle.std.specs.Prelude.{◌≡◌, ℕ, List, [], ◌∷◌, codes, Bool, true, not, ◌&&◌, if◌then◌else◌, Option, Some, None, is_some, option_map, option_and_then, unwrap_or, Result, Ok, Err, ⊤}
 use Rattle.serde_json.specs.Data.{Data, Items, no_items, item}
 use Rattle.serde_json.specs.Find.{get, as_str, as_null, as_number, as_u64, as_array, as_object}
+use Rattle.gk_document.specs.MediaType.{unless_empty}
 use Rattle.cm_envelope.specs.declared.fault.MemberFault.{MemberFault}
 use Rattle.cm_envelope.specs.declared.fault.MemberFault.TheVariants.{Bad, Memory}
 
@@ -58,17 +59,11 @@ optional_or absent type name d = do
   found ← optional type name d
   Ok (unwrap_or found absent)
 
--- an empty text is none
-abbrev pub unless_empty : Option (List ℕ) → Option (List ℕ)
-unless_empty None = None
-unless_empty (Some []) = None
-unless_empty (Some (c ∷ cs)) = Some (c ∷ cs)
-
 -- the media type of a doc string, which is none where it is empty
 abbrev pub media_type : Data → Result (Option (List ℕ)) (List ℕ)
 media_type d = do
   media ← optional as_str (codes "mediaType") d
-  Ok (unless_empty media)
+  Ok (option_and_then unless_empty media)
 
 -- ---- objects and lists
 

@@ -12,18 +12,20 @@ use Rattle.cm_envelope.specs.declared.envelope.Envelope.{Envelope}
 use Rattle.cm_envelope.specs.declared.envelope.Envelope.TheVariants as envelope
 use Rattle.cm_envelope.specs.declared.kind.Kind.{Kind}
 use Rattle.cm_envelope.specs.declared.kind.Kind.TheVariants.{Source, GherkinDocument, ParseError, Pickle, StepDefinition, Hook, TestCase, TestRunStarted, TestCaseStarted, TestStepStarted, TestStepFinished, TestCaseFinished, TestRunFinished, Attachment, TestRunHookStarted, TestRunHookFinished}
-use Rattle.cm_envelope.specs.declared.fault.ShapeFault.{ShapeFault}
-use Rattle.cm_envelope.specs.declared.fault.ShapeFault.TheVariants as faults
+use Rattle.cm_envelope.specs.declared.fault.LineFault as line_fault
+use Rattle.cm_envelope.specs.declared.fault.LineFault.TheVariants as line_faults
+use Rattle.cm_envelope.specs.declared.fault.EnvelopeFault.{EnvelopeFault}
+use Rattle.cm_envelope.specs.declared.fault.EnvelopeFault.TheVariants as faults
 use Rattle.cm_envelope.specs.Member.{◌>>=◌, present}
 use Rattle.cm_envelope.specs.Documents.{gherkin_document}
 use Rattle.cm_envelope.specs.Pickles.{pickle}
 use Rattle.cm_envelope.specs.Envelopes.{source, parse_error, step_definition, hook, test_case, test_run_started, test_case_started, test_step_started, test_step_finished, test_case_finished, test_run_finished, attachment, test_run_hook_started, test_run_hook_finished}
 
 -- Why a line has no envelope: no JSON, no shape, or the kind and its first bad member.
-pub data Fault : Type 0 where
-  not_json : Fault
-  shape : Fault
-  field : List ℕ → List ℕ → Fault
+pub data LineFault : Type 0 where
+  not_json : LineFault
+  shape : LineFault
+  field : List ℕ → List ℕ → LineFault
 
 -- the judged kinds
 abbrev pub kinds : List Kind
@@ -81,52 +83,57 @@ judged_in ks d = filter_map (λ k. option_map (λ v. (k, v)) (present (kind_name
 abbrev pub judged : Data → List (Kind × Data)
 judged d = judged_in kinds d
 
-abbrev pub in_kind : {A : Type 0} → Kind → Result A (List ℕ) → Result A Fault
+abbrev pub in_kind : {A : Type 0} → Kind → Result A (List ℕ) → Result A LineFault
 in_kind k (Ok x) = Ok x
 in_kind k (Err name) = Err (field (kind_name k) name)
 
 -- An object has at most one judged kind.
-abbrev pub the_one : {A : Type 0} → List A → Result (Option A) Fault
+abbrev pub the_one : {A : Type 0} → List A → Result (Option A) LineFault
 the_one [] = Ok None
 the_one (x ∷ []) = Ok (Some x)
 the_one (x ∷ y ∷ more) = Err shape
 
-abbrev pub envelope_in : Kind → Data → Result Envelope Fault
+abbrev pub envelope_in : Kind → Data → Result Envelope LineFault
 envelope_in k v = if is_some (as_object v) then in_kind k (members k v) else Err shape
 
-abbrev pub envelope_in_one : Option (Kind × Data) → Result Envelope Fault
+abbrev pub envelope_in_one : Option (Kind × Data) → Result Envelope LineFault
 envelope_in_one None = Ok envelope.Other
 envelope_in_one (Some j) = envelope_in j.0 j.1
 
-abbrev pub envelope_of : Data → Result Envelope Fault
+abbrev pub envelope_of : Data → Result Envelope LineFault
 envelope_of d = if is_some (as_object d) then the_one (judged d) >>= envelope_in_one else Err shape
 
 -- the JSON value that the line is
 abbrev pub value_of_line : List ℕ → Option Data
 value_of_line line = if is_utf8 line then read line else None
 
-abbrev pub json_or_fault : Option Data → Result Data Fault
+abbrev pub json_or_fault : Option Data → Result Data LineFault
 json_or_fault None = Err not_json
 json_or_fault (Some d) = Ok d
 
-abbrev pub json_of_line : List ℕ → Result Data Fault
+abbrev pub json_of_line : List ℕ → Result Data LineFault
 json_of_line line = json_or_fault (value_of_line line)
 
-abbrev pub envelope_of_line : List ℕ → Result Envelope Fault
+abbrev pub envelope_of_line : List ℕ → Result Envelope LineFault
 envelope_of_line line = json_of_line line >>= envelope_of
 
--- What a function returned, seen by view, is what the reading gives, unless memory ran out.
-abbrev pub Fails : {A : Type 0} → ShapeFault → Result A Fault → Type 0
-Fails faults.NotJson reading = reading ≡ Err not_json
-Fails faults.Shape reading = reading ≡ Err shape
-Fails (faults.Field kind name) reading = reading ≡ Err (field kind.now name.now)
+-- the fault that the code names
+abbrev pub fault_named : line_fault.LineFault → LineFault
+fault_named line_faults.NotJson = not_json
+fault_named line_faults.Shape = shape
+fault_named (line_faults.Field kind name) = field kind.now name.now
+
+-- The reading has this fault, unless memory ran out.
+abbrev pub Fails : {A : Type 0} → EnvelopeFault → Result A LineFault → Type 0
+Fails (faults.Line fault) reading = reading ≡ Err (fault_named fault)
 Fails faults.Memory reading = Unit {0}
 
-abbrev pub GivesOf : {A B : Type 0} → (A → B) → Result A ShapeFault → Result B Fault → Type 0
+-- What a function returned, seen by view, is what the reading gives, unless memory ran out.
+abbrev pub GivesOf : {A B : Type 0} → (A → B) → Result A EnvelopeFault → Result B LineFault → Type 0
 GivesOf view (Ok x) reading = reading ≡ Ok (view x)
 GivesOf view (Err e) reading = Fails e reading
 
-abbrev pub Gives : {A : Type 0} → Result A ShapeFault → Result A Fault → Type 0
+abbrev pub Gives : {A : Type 0} → Result A EnvelopeFault → Result A LineFault → Type 0
 Gives result reading = GivesOf (λ x. x) result reading
 
 -- a judged kind and its value, as the code holds them

@@ -1,7 +1,7 @@
-//! Devices that tell their bytes and count their failed calls, over std's readers and writers.
-ghost use Rattle.std.specs.Prelude.{◌≡◌, ℕ, Option, List, IfOk, ◌≤◌, length};
+//! Devices that show their bytes and count their failed calls, over std's readers and writers.
+ghost use Rattle.std.specs.Prelude.{◌≡◌, ℕ, Option, List, IfOk, ◌≤◌, is_err, length};
 ghost use Rattle.std.specs.Io.KnownBytes.{Keeps, ReadConsumes, WriteAppends};
-ghost use Rattle.cm_envelope.specs.Device.{Counts, call_failed, write_failed};
+ghost use Rattle.cm_envelope.specs.Device.{CountsFailure, is_failed_write};
 
 use std::io::{Read, Write};
 use thiserror::Error;
@@ -11,36 +11,36 @@ use thiserror::Error;
 #[error("the device failed")]
 pub struct DeviceFailed;
 
-/// What bytes are read from. Contracts see the bytes that it still has to come, where it tells them, and how many of its
-/// calls have failed: the count rises by one with each, up to 18446744073709551615, and with nothing else.
+/// What bytes are read from. Contracts see the bytes that are still to come, where the source shows them, and how many of
+/// its calls have failed: the count rises by one with each, up to 18446744073709551615, and with nothing else.
 pub trait ByteSource {
-    /// The bytes that are still to come, where the source tells them.
+    /// The bytes that are still to come, where the source shows them.
     ghost to_come: { Self → Option (List ℕ) };
 
     /// How many calls have failed.
     ghost failed_calls: { Self → ℕ };
 
-    /// Reads some bytes into the front of `piece`, and answers how many. 0 for a piece that isn't empty is the end.
+    /// Reads some bytes into the front of `piece`, and gives how many. 0 for a piece that isn't empty is the end.
     ///
     /// # Errors
     /// The read failed. Then no byte was taken from the source.
     fn read_some(&mut self, piece: &mut [u8]) -> Result<usize, DeviceFailed>
         ensures count { IfOk result (λ n. n ≤ length piece.new) }
         ensures bytes { ReadConsumes (to_come self.old) (to_come self.new) result piece.new }
-        ensures failures { Counts (call_failed result) (failed_calls self.old)
+        ensures failures { CountsFailure (is_err result) (failed_calls self.old)
             (failed_calls self.new) };
 }
 
-/// What bytes are written to. Contracts see the bytes that it has taken, where it tells them, and how many of its calls
+/// What bytes are written to. Contracts see the bytes that it has taken, where it shows them, and how many of its calls
 /// have failed: the count rises by one with each, up to 18446744073709551615, and with nothing else.
 pub trait ByteSink {
-    /// The bytes that were taken, where the sink tells them.
+    /// The bytes that were taken, where the sink shows them.
     ghost taken: { Self → Option (List ℕ) };
 
     /// How many calls have failed.
     ghost failed_calls: { Self → ℕ };
 
-    /// Takes some of the bytes, from the first on, and answers how many. To take none of a slice that isn't empty counts
+    /// Takes some of the bytes, from the first on, and gives how many. To take none of a slice that isn't empty counts
     /// as a failed call.
     ///
     /// # Errors
@@ -48,7 +48,7 @@ pub trait ByteSink {
     fn write_some(&mut self, bytes: &[u8]) -> Result<usize, DeviceFailed>
         ensures count { IfOk result (λ n. n ≤ length bytes.now) }
         ensures bytes { WriteAppends (taken self.old) (taken self.new) result bytes.now }
-        ensures failures { Counts (write_failed result bytes.now) (failed_calls self.old)
+        ensures failures { CountsFailure (is_failed_write result bytes.now) (failed_calls self.old)
             (failed_calls self.new) };
 
     /// Passes on what was taken.
@@ -57,7 +57,7 @@ pub trait ByteSink {
     /// The flush failed.
     fn flush(&mut self) -> Result<(), DeviceFailed>
         ensures bytes { Keeps (taken self.old) (taken self.new) }
-        ensures failures { Counts (call_failed result) (failed_calls self.old)
+        ensures failures { CountsFailure (is_err result) (failed_calls self.old)
             (failed_calls self.new) };
 }
 

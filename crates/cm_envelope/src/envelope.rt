@@ -50,7 +50,7 @@ pub struct ParseError {
     pub source: SourceReference,
 }
 
-/// Where a parse error stands.
+/// The feature file that a parse error is of.
 #[derive(Debug, PartialEq, Eq, Drop)]
 pub struct SourceReference {
     pub uri: Text,

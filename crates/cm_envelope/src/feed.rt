@@ -1,11 +1,11 @@
 //! The lines of a stream, within limits.
-ghost use Rattle.std.specs.Prelude.{◌≡◌, ◌≤◌, ◌<◌, ◌-◌, ◌+◌, ◌++◌, ℕ, List, length, true, false, [], None, Some, IfSome};
+ghost use Rattle.std.specs.Prelude.{◌≡◌, ◌≤◌, ◌<◌, ◌-◌, ◌+◌, ◌++◌, ◌&&◌, ℕ, List, length, true, false, [], None, Some, Ok, IfNone, IfSome, is_none};
 ghost use Rattle.std.specs.Borrow.{sem};
 ghost use Rattle.std.specs.Io.BufRead.{Rests};
-ghost use Rattle.cm_envelope.specs.Device.{Counts, call_failed};
-ghost use Rattle.cm_envelope.specs.Feeds.{has_line_feed, new_feed, answer_of, last_answer, NeedsNoRead, own_read_failed, Leaves};
-ghost use Rattle.cm_envelope.specs.Held.{items, FindsEnd, Judges, Finds, read_failed};
-ghost use Rattle.std.specs.Io.KnownBytes.{Consumes};
+ghost use Rattle.cm_envelope.specs.Device.{CountsFailure};
+ghost use Rattle.cm_envelope.specs.Feeds.{has_line_feed, new_feed, answer_of, last_answer, left, is_failed_read, NeedsNoRead, AnswersFirst, OnLine, IsLineWithin, EndsWithSource, Leaves};
+ghost use Rattle.cm_envelope.specs.Held.{items, FindsEnd, Judges, Finds};
+ghost use Rattle.std.specs.Io.KnownBytes.{Consumes, IsAtEnd};
 ghost use Rattle.cm_envelope.specs.contracts.feed.Feed.{the_row};
 
 use crate::device::{ByteSource, DeviceFailed};
@@ -67,9 +67,11 @@ pub struct Feed {
 }
 
 impl Model for Feed {
-    ghost use Rattle.std.specs.Prelude.{◌≡◌, ◌≤◌, [], None, true, length};
+    ghost use Rattle.std.specs.Prelude.{◌≡◌, ◌≤◌, [], None, Some, true, length};
     ghost use Rattle.cm_envelope.specs.Feeds.{Stored};
     ghost use Rattle.cm_envelope.specs.Held.{items};
+    ghost use Rattle.cm_envelope.specs.declared.feed.Over.TheVariants.{Ended};
+    ghost use Rattle.cm_envelope.specs.declared.feed.TheConstants.{LINE_LIMIT, STREAM_LIMIT};
 
     ghost Value = { Stored };
 
@@ -82,21 +84,21 @@ impl Model for Feed {
       over = a.over;
     } };
 
-    ghost invariant = { λ a. (a.line_limit ≤ 67108864) × (a.stream_limit ≤ 1073741824)
-        × (a.given ≤ a.stream_limit)
+    ghost invariant = { λ a. (a.line_limit ≤ LINE_LIMIT) × (a.stream_limit ≤ STREAM_LIMIT)
+        × (a.given ≤ a.stream_limit) × (a.over ≡ Some Ended → a.is_ended ≡ true)
         × (a.over ≡ None → (length (items a.window) ≤ 65536)
         × (a.is_ended ≡ true → items a.window ≡ [])) };
 }
 
 impl Feed {
-    /// A feed of a stream's lines of up to 67,108,864 bytes, within its first 1,073,741,824 bytes.
+    /// A feed of a stream's lines of up to `LINE_LIMIT` bytes, within its first `STREAM_LIMIT` bytes.
     pub fn new(alloc: Global) -> Self
         ensures { result ≡ new_feed LINE_LIMIT STREAM_LIMIT }
     {
         Feed::with_limits(alloc, LINE_LIMIT, STREAM_LIMIT)
     }
 
-    /// A feed with limits of its own, in bytes.
+    /// A feed with limits of its own, in bytes: a line's without its LF, the stream's with all LFs.
     pub fn with_limits(alloc: Global, line: u64, stream: u64) -> Self
         requires line { line ≤ LINE_LIMIT }
         requires stream { stream ≤ STREAM_LIMIT }
@@ -121,10 +123,23 @@ impl Feed {
     /// A trouble, which is then answered for good. Of a line that is too long for both limits, the limit whose byte comes
     /// first in the stream counts; where it is one byte, the stream's.
     pub fn next_line<S: ByteSource>(&mut self, source: &mut S) -> Result<Option<&[u8]>, Trouble>
+        // A feed that is over answers the same again, and any other the first of what is left.
         ensures repeats { IfSome self.old.over (λ over. answer_of result ≡ last_answer over) }
+        ensures first { IfNone self.old.over (IfSome (S.to_come source.old)
+            (λ bytes. AnswersFirst (left self.old bytes) (answer_of result))) }
+        ensures line { OnLine (answer_of result) (IsLineWithin self.old.line_limit) }
+
+        // It reads only where it must, and each failed read is counted and reported.
         ensures unread { NeedsNoRead self.old → source.new ≡ source.old }
-        ensures failures { Counts (own_read_failed self.old.over (answer_of result))
+        ensures failures { CountsFailure
+            (is_none self.old.over && is_failed_read (answer_of result))
             (S.failed_calls source.old) (S.failed_calls source.new) }
+
+        // At the end nothing is left to come.
+        ensures end { EndsWithSource self.old (S.to_come source.old) → answer_of result ≡ Ok None
+            → IsAtEnd (S.to_come source.new) }
+
+        // What the feed is like once the line is let go.
         ensures* leaves { sem 𝓛 (Rests the_row self.entry (λ new.
             Leaves self.old new (S.to_come source.old) (S.to_come source.new) (answer_of result))) }
     {
@@ -178,7 +193,7 @@ fn find_line<S: ByteSource>(
         × Consumes (S.to_come source.old) (S.to_come source.new) read
         × Finds line_limit room (items window.new) (S.to_come source.new) result }
     ensures unread { has_line_feed (items window.old) ≡ true → source.new ≡ source.old }
-    ensures failures { Counts (read_failed result) (S.failed_calls source.old)
+    ensures failures { CountsFailure (is_failed_read result) (S.failed_calls source.old)
         (S.failed_calls source.new) }
 {
     let mut searched = 0;

@@ -1,19 +1,36 @@
-//! The devices that a message stream is read from and written to, writing to them, its lines, and the envelopes of its lines.
+//! Streams of Cucumber Messages: the devices that they are read from and written to, their lines, and the envelopes of the
+//! lines.
+//!
+//! ```
+//! use cm_envelope::{ByteSource, Envelope, Feed, EnvelopeFault, read_envelope};
+//! use std::alloc::Global;
+//!
+//! fn first<S: ByteSource>(alloc: Global, source: &mut S) -> Result<Option<Envelope>, EnvelopeFault> {
+//!     let mut feed = Feed::new(alloc);
+//!     match feed.next_line(source) {
+//!         Ok(Some(line)) => Ok(Some(read_envelope(alloc, line)?)),
+//!         Ok(None) | Err(_) => Ok(None),
+//!     }
+//! }
+//! ```
+//!
+//! `Reader` and `Writer` make a device of a reader and a writer of std, `Feed` cuts the bytes into lines within limits,
+//! `is_blank_line` finds the lines that have no envelope, and `write_all` and `write_lines` write.
 #![tactic(auto)]
 
 mod blank;
 mod device;
-mod documents;
 mod envelope;
-mod envelopes;
 mod fault;
 mod feed;
 mod kind;
 mod member;
 mod object;
 mod pickle;
-mod pickles;
-mod reading;
+mod read_documents;
+mod read_envelopes;
+mod read_line;
+mod read_pickles;
 mod window;
 mod write;
 
@@ -25,11 +42,11 @@ pub use envelope::{
     TestRunHookFinished, TestRunHookStarted, TestRunStarted, TestStep, TestStepFinished,
     TestStepResult, TestStepStarted,
 };
-pub use fault::ShapeFault;
+pub use fault::{EnvelopeFault, LineFault};
 pub use feed::{Feed, LINE_LIMIT, STREAM_LIMIT, Trouble};
 pub use pickle::{
     Pickle, PickleArgument, PickleCell, PickleDocString, PickleRow, PickleStep, PickleTable,
     PickleTag, StepKind,
 };
-pub use reading::read_envelope;
+pub use read_line::read_envelope;
 pub use write::{write_all, write_lines};

@@ -1,8 +1,9 @@
 //! Members of a JSON object, by name. Null is absence.
-ghost use Rattle.std.specs.Prelude.{◌≡◌, option_map};
+ghost use Rattle.std.specs.Prelude.{◌≡◌, option_map, option_and_then};
 ghost use Rattle.serde_json.specs.Find.{as_str, as_bool};
 ghost use Rattle.serde_json.specs.View.{view};
-ghost use Rattle.cm_envelope.specs.Member.{Gives, present as present_member, required, optional, optional_or, as_whole_number, has_both as has_both_members, media_type as media_type_member, unless_empty};
+ghost use Rattle.cm_envelope.specs.Member.{Gives, present as present_member, required, optional, optional_or, as_whole_number, has_both as has_both_members, media_type as media_type_member};
+ghost use Rattle.gk_document.specs.MediaType.{unless_empty};
 
 use crate::fault::MemberFault;
 use gk_document::Text;
@@ -89,10 +90,10 @@ pub(crate) fn media_type(alloc: Global, object: &Value) -> Result<Option<Text>, 
 }
 
 fn unless_empty(text: Option<Text>) -> Option<Text>
-    ensures { result ≡ unless_empty text }
+    ensures { result ≡ option_and_then unless_empty text }
 {
     match text {
-        Some(text) if !text.as_str().is_empty() => Some(text),
-        _ => None,
+        Some(text) => gk_document::media_type(text),
+        None => None,
     }
 }

@@ -1,5 +1,5 @@
 //! Objects within an envelope, and lists of them.
-ghost use Rattle.std.specs.Prelude.{◌≡◌, List, Result, ℕ};
+ghost use Rattle.std.specs.Prelude.{List, Result, ℕ};
 ghost use Rattle.serde_json.specs.Data.{Data};
 ghost use Rattle.serde_json.specs.Find.{as_str};
 ghost use Rattle.serde_json.specs.View.{view, items_view};

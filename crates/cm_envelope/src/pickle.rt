@@ -41,7 +41,7 @@ pub enum StepKind {
     Outcome,
 }
 
-/// What stands below a step.
+/// The data table or doc string below a step.
 #[derive(Debug, PartialEq, Eq, Drop)]
 pub enum PickleArgument {
     Table(PickleTable),

@@ -1,7 +1,7 @@
 //! The bytes of a source that were read and not yet given, and room for more after them.
-ghost use Rattle.std.specs.Prelude.{◌≡◌, ℕ, ◌+◌, ◌-◌, ◌<◌, ◌≤◌, List, [], ◌++◌, length, vec_len, slice_range, IfOk, OnOk, OnErr};
+ghost use Rattle.std.specs.Prelude.{◌≡◌, ℕ, ◌+◌, ◌-◌, ◌<◌, ◌≤◌, List, [], ◌++◌, length, vec_len, slice_range, is_err, IfOk, OnOk, OnErr};
 ghost use Rattle.std.specs.Io.KnownBytes.{Keeps, Consumes, IsAtEnd};
-ghost use Rattle.cm_envelope.specs.Device.{Counts, call_failed};
+ghost use Rattle.cm_envelope.specs.Device.{CountsFailure};
 
 use crate::device::{ByteSource, DeviceFailed};
 use std::alloc::{AllocError, Global};
@@ -87,7 +87,7 @@ impl Window {
         ensures end { IfOk result (λ n. n ≡ 0 → IsAtEnd (S.to_come source.new)) }
         ensures err { OnErr result ((items self.new ≡ items self.old)
             × Keeps (S.to_come source.old) (S.to_come source.new)) }
-        ensures failures { Counts (call_failed result) (S.failed_calls source.old)
+        ensures failures { CountsFailure (is_err result) (S.failed_calls source.old)
             (S.failed_calls source.new) }
     {
         let end = self.end;

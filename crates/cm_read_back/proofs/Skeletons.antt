@@ -5,12 +5,13 @@ use Rattle.std.specs.List.{AllByRecursion}
 use Rattle.gk_document.specs.declared.tree.Cell.{Cell}
 use Rattle.gk_document.specs.declared.tree.Argument.TheVariants.{Table, Text as Quoted}
 use Rattle.gk_document.specs.Skeleton.{bare_tag, bare_cell, bare_row, bare_doc_string, bare_argument, bare_step, bare_background, bare_table, bare_examples, bare_scenario, bare_rule, bare_feature}
+use Rattle.gk_document.specs.MediaType.{unless_empty as media_of}
 use Rattle.gk_grammar.specs.Token.{Text, Fenced, Line, line}
 use Rattle.gk_grammar.specs.Tree as tree
 use Rattle.gk_grammar.specs.Tree.{Tag, DocString, Argument, Background, ExampleTable, Examples, Scenario, Rule, Feature}
-use Rattle.gk_grammar.specs.Grammar.{Piece, Each, AtMostOne, media_of, IsDocString, IsArgument, IsStep, IsBackground, IsScenario, IsRule, IsFeature, IsFeatureText}
+use Rattle.gk_grammar.specs.Grammar.{Piece, Each, AtMostOne, IsDocString, IsArgument, IsStep, IsBackground, IsScenario, IsRule, IsFeature, IsFeatureText}
 use Rattle.gk_grammar.specs.Documents.{lines_read}
-use Rattle.gk_pickle.specs.Steps.{media_type}
+use Rattle.gk_document.specs.MediaType.{unless_empty as media_type}
 use Rattle.cm_read_back.specs.Documents.{tag_kept, row_kept, doc_string_kept, argument_kept, step_kept, background_kept, table_kept, examples_kept, scenario_kept, rule_kept, feature_kept}
 use Rattle.cm_read_back.specs.Laws.{ParsedHaveSkeletons}
 

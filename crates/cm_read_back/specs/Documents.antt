@@ -21,7 +21,7 @@ use Rattle.gk_document.specs.declared.tree.Document.{Document}
 use Rattle.gk_document.specs.Skeleton.{line_alone, bare_cell}
 use Rattle.gk_grammar.specs.Grammar.{Node, feature_nodes}
 use Rattle.gk_pickle.specs.Order.{document_steps}
-use Rattle.gk_pickle.specs.Steps.{media_type}
+use Rattle.gk_document.specs.MediaType.{unless_empty as media_type}
 use Rattle.cm_envelope.specs.declared.envelope.GherkinDocument.{GherkinDocument}
 
 -- ---- what is kept

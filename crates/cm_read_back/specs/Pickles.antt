@@ -8,7 +8,7 @@ use Rattle.gk_pickle.specs.declared.pickle.PickleArgument as written_argument
 use Rattle.gk_pickle.specs.declared.pickle.PickleArgument.TheVariants as written
 use Rattle.gk_pickle.specs.declared.pickle.PickleStep as written_step
 use Rattle.gk_pickle.specs.declared.pickle.Pickle as written_pickle
-use Rattle.gk_pickle.specs.Steps.{media_type}
+use Rattle.gk_document.specs.MediaType.{unless_empty as media_type}
 use Rattle.cm_envelope.specs.declared.envelope.Source.{Source}
 use Rattle.cm_envelope.specs.declared.pickle.StepKind.{StepKind}
 use Rattle.cm_envelope.specs.declared.pickle.StepKind.TheVariants.{Unknown, Context, Action, Outcome}

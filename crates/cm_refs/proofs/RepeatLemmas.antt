@@ -46,7 +46,7 @@ has_repeat-front (x ∷ xs) ys h =
     ap (λ b. b || has_repeat (xs ++ ys)) (list_any-append (bytes_eq x) xs ys)
     ∙ or_front (has_text x xs) (has_text x ys) (has_repeat xs) (has_repeat (xs ++ ys)) h (has_repeat-front xs ys)
 
--- a text that stands before its place too
+-- a text that is before its place too
 pub repeat_at : (xs : List Text) (i : ℕ) (d : Text) → i < length xs → has_text (get_or xs i d) (take i xs) ≡ true → has_repeat xs ≡ true
 repeat_at xs i d lt there =
     let front : has_repeat (take (i + 1) xs) ≡ true =

@@ -122,4 +122,5 @@ finished r = record r { is_finished = true }
 
 -- the run hook is finished; nothing else changes
 abbrev pub with_finished : Text → Declarations → Declarations
-with_finished id d = record d { run_hooks = change_first (λ r. bytes_eq id r.id) finished d.run_hooks }
+with_finished id d =
+    record d { run_hooks = change_first (λ r. bytes_eq id r.id) finished d.run_hooks }

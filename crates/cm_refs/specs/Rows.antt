@@ -1,4 +1,4 @@
--- The rows that the entries of the maps of pickles and of run hooks stand for.
+-- The rows of pickles and of run hooks, as the entries of their maps have them.
 use Rattle.std.specs.Prelude.{Bool, List, String, map}
 use Rattle.std.specs.String.{string_bytes}
 use Rattle.std.specs.declared.alloc.Global.{Global}

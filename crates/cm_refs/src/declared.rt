@@ -94,13 +94,14 @@ impl Declared {
     /// `DuplicateId` where the id is that of a pickle or two of the step ids are equal, `Memory`
     /// where a growth is refused.
     pub fn declare_pickle(&mut self, id: &str, steps: &[String]) -> Result<(), RefFault>
-        // Equal steps are found with memory, so want of it may stand in their place.
+        // Equal steps are found with memory, so want of it may be reported in their place.
         ensures repeated_id { IfSome (find_pickle self.old id.now)
             (λ _. result ≡ Err RefFault.DuplicateId) }
         ensures answer { MatchOption (pickle_fault self.old id.now (map string_bytes steps.now))
             (IsOkUnless result RefFault.Memory)
             (λ fault. IsErrAnd result (λ e. (e ≡ fault) ⊎ (e ≡ RefFault.Memory))) }
-        ensures ok { OnOk result (self.new ≡ with_pickle id.now (map string_bytes steps.now) self.old) }
+        ensures ok { OnOk result
+            (self.new ≡ with_pickle id.now (map string_bytes steps.now) self.old) }
         ensures err { OnErr result (self.new ≡ self.old) }
     {
         if steps_of(&self.pickles, id).is_some() {

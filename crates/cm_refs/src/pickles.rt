@@ -23,7 +23,8 @@ pub(crate) fn steps_of<'a>(pickles: &'a Pickles, id: &str) -> Option<&'a Names>
 /// Whether there is such a pickle and it has the step.
 pub(crate) fn has_step(pickles: &Pickles, id: &str, step: &str) -> bool
     ensures { result ≡ has_text step.now
-        (option_map_or (λ p. p.steps) (find (λ p. bytes_eq id.now p.id) (pickle_rows pickles.now.entries)) []) }
+        (option_map_or (λ p. p.steps)
+        (find (λ p. bytes_eq id.now p.id) (pickle_rows pickles.now.entries)) []) }
 {
     match steps_of(pickles, id) {
         Some(steps) => contains(steps, step),

@@ -23,7 +23,8 @@ pub(crate) fn append(run_hooks: &mut RunHooks, alloc: Global, id: &str) -> Resul
     requires { find (λ r. bytes_eq id.now r.id) (run_hook_rows run_hooks.old.entries) ≡ None }
     ensures ok { OnOk result (run_hook_rows run_hooks.new.entries
         ≡ run_hook_rows run_hooks.old.entries ++ new_run_hook id.now ∷ []) }
-    ensures err { OnErr result (run_hook_rows run_hooks.new.entries ≡ run_hook_rows run_hooks.old.entries) }
+    ensures err { OnErr result
+        (run_hook_rows run_hooks.new.entries ≡ run_hook_rows run_hooks.old.entries) }
 {
     let id = String::from_str(alloc, id)?;
     run_hooks.insert(id, false)?;

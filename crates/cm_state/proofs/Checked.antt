@@ -1,11 +1,10 @@
--- What is told of a line by what is kept of the lines before it is the line's fault over all of them.
+-- What is reported of a line by what is kept of the lines before it is the line's fault over all of them.
 use Rattle.std.proofs.Common.{◌≡◌, ℕ, refl, sym, ap, ◌∙◌, List, [], ◌∷◌, ◌++◌, Option, Some, true, false, Bool, not, ◌&&◌, ◌||◌, ◌==◌}
 use Rattle.std.specs.Prelude.{is_some, nat_lt, if◌then◌else◌}
 use Rattle.cm_attempt.specs.declared.policy.Policy.{Policy}
-use Rattle.cm_attempt.specs.declared.settings.Settings.{Settings}
 use Rattle.cm_stream.specs.Readings.{Reading}
-use Rattle.cm_stream.specs.Words.{Name, SourceOf, DocumentOf, Definition, HookNamed, RunHook, times_declared, is_judged, has_run_started, has_run_finished}
-use Rattle.cm_stream.specs.Checks.{Check, ◌if◌, checks_of, success_check, first_failed, fault, refers_to_unknown, has_skeleton_of, has_steps_of_pickle, same_flag}
+use Rattle.cm_stream.specs.References.{Name, SourceOf, DocumentOf, Definition, HookNamed, RunHook, times_declared, is_judged, has_run_started, has_run_finished}
+use Rattle.cm_stream.specs.Checks.{Check, ◌if◌, checks_of, success_check, first_failed, refers_to_unknown, has_skeleton_of, has_steps_of_pickle, same_flag}
 use Rattle.cm_stream.specs.Refusals.{own_checks}
 use Rattle.cm_stream.specs.Findings as bad
 use Rattle.cm_stream.specs.Findings.{IsBad}
@@ -13,16 +12,18 @@ use Rattle.cm_refs.specs.Declarations.{find_run_hook}
 use Rattle.cm_attempt.specs.Table.{has_text}
 use Rattle.cm_envelope.specs.declared.envelope.Envelope.{Envelope}
 use Rattle.cm_envelope.specs.declared.envelope.Envelope.TheVariants as envelope
-use Rattle.cm_stream.proofs.Passing.{AllPass}
-use Rattle.cm_stream.proofs.StepRows.{or_no}
-use Rattle.cm_stream.proofs.StepRefuses.{all_refused}
+use Rattle.cm_stream.proofs.Passing.{AllPass, plain_passes}
+use Rattle.cm_stream.proofs.TableSteps.{AreAccepted, none_is_refused, own_refused}
+use Rattle.cm_stream.proofs.TableWords.{none_open}
 use Rattle.cm_state.specs.Summary.{declared_in, seen}
-use Rattle.cm_state.specs.StateChecks.{checks_before, checks_behind, success_by, plain_finding, or_else, finding, finding_inside}
+use Rattle.cm_state.specs.Laws.{FindingsAreFaults}
+use Rattle.cm_state.specs.StateChecks.{checks_before, checks_after, success_by, plain_finding, or_else, finding_inside}
 use Rattle.cm_state.proofs.Tests.{IsDeclaredIf, source_declared, document_declared, definition_declared, hook_declared, run_hook_declared, started_is, run_known}
 use Rattle.cm_state.proofs.StepTests.{both_known, pickle_again, case_known, steps_are}
 use Rattle.cm_state.proofs.SourceTests.{same_reading, same_accepted, same_next, same_incomplete}
-use Rattle.cm_state.proofs.AttemptTests.{none_open, same_well, place_known}
+use Rattle.cm_state.proofs.AttemptTests.{same_well, place_known}
 use Rattle.cm_state.proofs.RunHooks.{hook_finished_by, no_hook_open, hook_start_known}
+use Rattle.cm_stream.proofs.Lists.{or_no}
 
 -- ---- checks in turn
 
@@ -34,7 +35,7 @@ in_turn (c ∷ xs) ys = go c.fails refl (in_turn xs ys)
     go true e rec = rw e refl
     go false e rec = rw e rec
 
--- the checks tell the same, and a line fails the same of them
+-- the checks report the same, and a line fails the same of them
 abbrev AreSame : List Check → List Check → Type 0
 AreSame [] [] = Unit {0}
 AreSame (x ∷ xs) (y ∷ ys) = (x.finding ≡ y.finding) × (x.fails ≡ y.fails) × AreSame xs ys
@@ -59,7 +60,7 @@ checks_first first es (envelope.TestStepFinished s) = []
 checks_first first es (envelope.TestCaseFinished f) = []
 checks_first first es e = checks_of first es e
 
-in_parts : (first : ℕ) (es : List Envelope) (e : Envelope) → checks_of first es e ≡ checks_first first es e ++ (own_checks first es e ++ checks_behind e)
+in_parts : (first : ℕ) (es : List Envelope) (e : Envelope) → checks_of first es e ≡ checks_first first es e ++ (own_checks first es e ++ checks_after e)
 in_parts first es (envelope.TestCase c) = refl
 in_parts first es (envelope.TestCaseStarted s) = refl
 in_parts first es (envelope.TestStepStarted s) = refl
@@ -77,59 +78,60 @@ again_one name es b k = sym k.again ∙ sym (or_no (nat_lt 0 (times_declared nam
 
 -- ---- each line
 
-agree : (first : ℕ) (es : List Envelope) → AllPass es → (e : Envelope) → AreSame (checks_before (seen first es) e) (checks_first first es e)
-agree first es pass (envelope.Source x) =
+agree : (first : ℕ) (es : List Envelope) → AllPass es → AreAccepted first es → (e : Envelope) → AreSame (checks_before (seen first es) e) (checks_first first es e)
+agree first es pass accepted (envelope.Source x) =
     (refl, again_one (SourceOf x.uri) es (has_text x.uri (declared_in es).sources) (source_declared x.uri es), (refl, refl, (refl, refl, (refl, refl, tt))))
-agree first es pass (envelope.GherkinDocument d) =
+agree first es pass accepted (envelope.GherkinDocument d) =
     let source = unknown_one (SourceOf d.uri) es (has_text d.uri (declared_in es).sources) (source_declared d.uri es) in
     let document = again_one (DocumentOf d.uri) es (has_text d.uri (declared_in es).documents) (document_declared d.uri es) in
     let accepted = ap not (same_accepted first es d.uri) in
     let skeleton = ap (λ (r : Option Reading). not (has_skeleton_of d.document r)) (same_reading first es d.uri) in
     (refl, source, (refl, document, (refl, accepted, (refl, skeleton, (refl, refl, tt)))))
-agree first es pass (envelope.ParseError p) =
+agree first es pass accepted (envelope.ParseError p) =
     let source = unknown_one (SourceOf p.source.uri) es (has_text p.source.uri (declared_in es).sources) (source_declared p.source.uri es) in
     (refl, source, (refl, same_accepted first es p.source.uri, tt))
-agree first es pass (envelope.Pickle p) =
+agree first es pass accepted (envelope.Pickle p) =
     let source = (source_declared p.uri es).unknown in
     let document = unknown_one (DocumentOf p.uri) es (has_text p.uri (declared_in es).documents) (document_declared p.uri es) in
     let both = both_known (has_text p.uri (declared_in es).sources) (has_text p.uri (declared_in es).documents) in
     (refl, sym both ∙ (λ i. sym source i || document i), (refl, ap not (same_next first es p), (refl, pickle_again es p, tt)))
-agree first es pass (envelope.StepDefinition d) = (refl, again_one (Definition d.id) es (has_text d.id (declared_in es).definitions) (definition_declared d.id es), tt)
-agree first es pass (envelope.Hook h) = (refl, again_one (HookNamed h.id) es (has_text h.id (declared_in es).hooks) (hook_declared h.id es), tt)
-agree first es pass (envelope.TestCase c) = (refl, sym (case_known first es pass c), (refl, ap not (steps_are first es c), tt))
-agree first es pass (envelope.TestRunStarted r) = (refl, started_is es, tt)
-agree first es pass (envelope.TestCaseStarted x) = (refl, ap not (started_is es), tt)
-agree first es pass (envelope.TestRunFinished f) =
+agree first es pass accepted (envelope.StepDefinition d) = (refl, again_one (Definition d.id) es (has_text d.id (declared_in es).definitions) (definition_declared d.id es), tt)
+agree first es pass accepted (envelope.Hook h) = (refl, again_one (HookNamed h.id) es (has_text h.id (declared_in es).hooks) (hook_declared h.id es), tt)
+agree first es pass accepted (envelope.TestCase c) = (refl, sym (case_known first es pass c), (refl, ap not (steps_are first es c), tt))
+agree first es pass accepted (envelope.TestRunStarted r) = (refl, started_is es, tt)
+agree first es pass accepted (envelope.TestCaseStarted x) = (refl, ap not (started_is es), tt)
+agree first es pass accepted (envelope.TestRunFinished f) =
     let run = sym (run_known first es pass f.test_run_started_id) in
-    (refl, ap not (started_is es), (refl, run, (refl, ap not (none_open first es), (refl, ap not (no_hook_open es), (refl, same_incomplete es, tt)))))
-agree first es pass (envelope.Attachment a) = (refl, sym (place_known first es pass a.test_case_started_id a.test_step_id), tt)
-agree first es pass (envelope.TestRunHookStarted x) =
+    (refl, ap not (started_is es), (refl, run, (refl, ap not (none_open first es accepted), (refl, ap not (no_hook_open es), (refl, same_incomplete es, tt)))))
+agree first es pass accepted (envelope.Attachment a) = (refl, sym (place_known first es accepted a.test_case_started_id a.test_step_id), tt)
+agree first es pass accepted (envelope.TestRunHookStarted x) =
     let again = again_one (RunHook x.id) es (is_some (find_run_hook (declared_in es) x.id)) (run_hook_declared x.id es) in
     (refl, ap not (started_is es), (refl, sym (hook_start_known first es pass x), (refl, again, tt)))
-agree first es pass (envelope.TestRunHookFinished f) =
+agree first es pass accepted (envelope.TestRunHookFinished f) =
     let known = unknown_one (RunHook f.test_run_hook_started_id) es (is_some (find_run_hook (declared_in es) f.test_run_hook_started_id)) (run_hook_declared f.test_run_hook_started_id es) in
     (refl, known, (refl, hook_finished_by first es pass f.test_run_hook_started_id, (refl, refl, tt)))
-agree first es pass _ = tt
+agree first es pass accepted _ = tt
 
-agree_last : (policy : Policy) (first : ℕ) (es : List Envelope) → AllPass es → (e : Envelope) → AreSame (success_by policy (seen first es) e) (success_check policy es e)
-agree_last policy first es pass (envelope.TestRunFinished f) = (refl, ap (λ (b : Bool). not (same_flag f.success (b && not f.has_exception))) (same_well policy first es pass), tt)
-agree_last policy first es pass _ = tt
+agree_last : (policy : Policy) (first : ℕ) (es : List Envelope) → AllPass es → AreAccepted first es → (e : Envelope) → AreSame (success_by policy (seen first es) e) (success_check policy es e)
+agree_last policy first es pass accepted (envelope.TestRunFinished f) = (refl, ap (λ (b : Bool). not (same_flag f.success (b && not f.has_exception))) (same_well policy first es pass accepted), tt)
+agree_last policy first es pass accepted _ = tt
 
-plainly : (first : ℕ) (es : List Envelope) (e : Envelope) → AllPass es → plain_finding (seen first es) e ≡ first_failed (checks_of first es e)
-plainly first es e pass =
-    let front = same_failed (checks_before (seen first es) e) (checks_first first es e) (agree first es pass e) in
-    let own = all_refused first es e pass in
-    (λ i. or_else (front i) (or_else (own i) (first_failed (checks_behind e))))
-    ∙ ap (or_else (first_failed (checks_first first es e))) (sym (in_turn (own_checks first es e) (checks_behind e)))
-    ∙ sym (in_turn (checks_first first es e) (own_checks first es e ++ checks_behind e))
+plainly : (first : ℕ) (es : List Envelope) (e : Envelope) → AllPass es → AreAccepted first es → plain_finding (seen first es) e ≡ first_failed (checks_of first es e)
+plainly first es e pass accepted =
+    let front = same_failed (checks_before (seen first es) e) (checks_first first es e) (agree first es pass accepted e) in
+    let own = own_refused first es e accepted in
+    (λ i. or_else (front i) (or_else (own i) (first_failed (checks_after e))))
+    ∙ ap (or_else (first_failed (checks_first first es e))) (sym (in_turn (own_checks first es e) (checks_after e)))
+    ∙ sym (in_turn (checks_first first es e) (own_checks first es e ++ checks_after e))
     ∙ ap first_failed (sym (in_parts first es e))
 
-inside : (policy : Policy) (first : ℕ) (es : List Envelope) (e : Envelope) → AllPass es → finding_inside policy (seen first es) e ≡ first_failed (checks_of first es e ++ success_check policy es e)
-inside policy first es e pass =
-    let plain = plainly first es e pass in
-    let last = same_failed (success_by policy (seen first es) e) (success_check policy es e) (agree_last policy first es pass e) in
+inside : (policy : Policy) (first : ℕ) (es : List Envelope) (e : Envelope) → AllPass es → AreAccepted first es → finding_inside policy (seen first es) e ≡ first_failed (checks_of first es e ++ success_check policy es e)
+inside policy first es e pass accepted =
+    let plain = plainly first es e pass accepted in
+    let last = same_failed (success_by policy (seen first es) e) (success_check policy es e) (agree_last policy first es pass accepted e) in
     (λ i. or_else (plain i) (last i)) ∙ sym (in_turn (checks_of first es e) (success_check policy es e))
 
-pub findings_are_faults : (settings : Settings) (es : List Envelope) (e : Envelope) → AllPass es → finding settings (seen settings.first_attempt es) e ≡ fault settings es e
-findings_are_faults settings es e pass =
-    ap (λ o. if is_judged e && has_run_finished es then Some (IsBad bad.AfterRunFinished) else o) (inside settings.policy settings.first_attempt es e pass)
+pub findings_are_faults : FindingsAreFaults
+findings_are_faults settings es e none =
+    let told = inside settings.policy settings.first_attempt es e (plain_passes settings es none) (none_is_refused settings es none) in
+    ap (λ o. if is_judged e && has_run_finished es then Some (IsBad bad.AfterRunFinished) else o) told

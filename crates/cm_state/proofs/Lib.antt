@@ -4,7 +4,7 @@ pub mod StepTests
 pub mod SourceTests
 pub mod AttemptTests
 pub mod Checked
-pub mod Behind
+pub mod OneMore
 pub mod Rows
 pub mod Unrun
 pub mod RunHooks

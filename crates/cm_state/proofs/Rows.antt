@@ -4,24 +4,23 @@ use Rattle.std.specs.Prelude.{nat_lt, find}
 use Rattle.std.specs.List.{AllByRecursion, filter, filter_map}
 use Rattle.std.specs.Option.{option_map}
 use Rattle.std.specs.Str.{bytes_eq}
+use Rattle.std.proofs.lemmas.List.{map-append}
 use Rattle.cm_stream.specs.Texts.{Text}
-use Rattle.cm_stream.specs.Words.{Name, SourceOf, DocumentOf, times_declared, refers, as_source, as_document, as_pickle, sources, documents_of, pickles_of}
+use Rattle.cm_stream.specs.References.{Name, SourceOf, DocumentOf, times_declared, refers, as_source, as_document, as_pickle, sources, documents_of, pickles_of}
 use Rattle.cm_envelope.specs.declared.envelope.Envelope.{Envelope}
 use Rattle.cm_envelope.specs.declared.envelope.Envelope.TheVariants as envelope
 use Rattle.cm_envelope.specs.declared.envelope.Source.{Source}
 use Rattle.cm_envelope.specs.declared.envelope.GherkinDocument.{GherkinDocument}
 use Rattle.cm_envelope.specs.declared.pickle.Pickle.{Pickle}
-use Rattle.cm_stream.proofs.Lists.{or_false, keeps_none, length-both}
-use Rattle.cm_stream.proofs.Found.{bytes_same, bytes_are}
+use Rattle.cm_stream.proofs.Lists.{or_false, keeps_none, length-both, find_none, found_more, found_push, map_same}
+use Rattle.cm_stream.proofs.Found.{bytes_same, bytes_are, differs_back}
 use Rattle.cm_stream.proofs.Declared.{declares_source, declares_document, document_is, pickle_is}
 use Rattle.cm_stream.proofs.Documents.{documents_both, pickles_both}
 use Rattle.cm_stream.proofs.Passing.{AllPass, front_passes, last_passes}
 use Rattle.cm_stream.proofs.Distinct.{all_distinct, at_most_once}
-use Rattle.cm_stream.proofs.OneRow.{found_more, found_push, map_same, OnlyOne, only_one, change_one}
-use Rattle.cm_stream.proofs.NewRows.{find_none, map_both}
-use Rattle.cm_stream.proofs.EndedRows.{differs_back}
+use Rattle.cm_stream.proofs.OneRow.{OnlyOne, only_one, change_one}
 use Rattle.cm_state.specs.Summary.{SourceRow, first_of, source_row, new_source, with_ids, one_more, change_source}
-use Rattle.cm_state.proofs.Behind.{kept_named, not_found, none_refers}
+use Rattle.cm_state.proofs.OneMore.{kept_named, not_found, none_refers}
 
 -- what is kept of the sources
 abbrev pub rows : List Envelope → List SourceRow
@@ -76,7 +75,7 @@ source_rows es s more =
     let none = not_found (SourceOf s.uri) as_source (λ (x : Source). bytes_eq s.uri x.uri) (declares_source s.uri) es new in
     let fresh : source_row (es ++ e ∷ []) s ≡ new_source s = row_is (source_row (es ++ e ∷ []) s) (new_source s) refl refl
     (ap ids_of (documents_stay es e refl s.uri ∙ no_documents es pass s.uri none)) (ap length (pickles_stay es e refl s.uri ∙ no_pickles es pass s.uri none)) in
-    ap (map (source_row (es ++ e ∷ []))) (found_push as_source es e s refl) ∙ map_both (source_row (es ++ e ∷ [])) (sources es) (s ∷ [])
+    ap (map (source_row (es ++ e ∷ []))) (found_push as_source es e s refl) ∙ map-append (source_row (es ++ e ∷ [])) (sources es) (s ∷ [])
     ∙ ap (λ rs. rs ++ source_row (es ++ e ∷ []) s ∷ []) (rows_stay es e refl refl)
     ∙ ap (λ r. rows es ++ r ∷ []) fresh
 

@@ -1,4 +1,4 @@
--- What is kept of run hooks: what one more line changes in it, and what it tells of a line.
+-- What is kept of run hooks: what one more line changes in it, and what it says of a line.
 use Rattle.std.proofs.Common.{◌≡◌, ℕ, refl, sym, ap, ◌∙◌, List, [], ◌∷◌, ◌++◌, Option, Some, None, true, false, Bool, not, ◌||◌, ◌==◌, map, length, arith}
 use Rattle.std.specs.Prelude.{nat_lt, find}
 use Rattle.std.specs.List.{AllByRecursion, list_any, list_all, filter}
@@ -8,8 +8,9 @@ use Rattle.std.proofs.lemmas.List.Folds.{list_any-append}
 use Rattle.std.proofs.lemmas.List.Sums.{fold_push}
 use Rattle.cm_refs.specs.Declarations.{RunHookRow, change_first, finished, new_run_hook, open_count}
 use Rattle.cm_refs.proofs.EntryLemmas.{list_any-map}
+use Rattle.std.proofs.lemmas.List.{map-append}
 use Rattle.cm_stream.specs.Texts.{Text}
-use Rattle.cm_stream.specs.Words.{HookNamed, Run, RunHook, times_declared, refers, if_any, as_run_hook, as_run_hook_end, run_hooks, run_hook_ends, hook_statuses, is_hook_finished}
+use Rattle.cm_stream.specs.References.{HookNamed, Run, RunHook, times_declared, refers, if_any, as_run_hook, as_run_hook_end, run_hooks, run_hook_ends, hook_statuses, is_hook_finished}
 use Rattle.cm_stream.specs.Statuses.{kept_status}
 use Rattle.cm_attempt.specs.Worst.{with_status, worst_so_far}
 use Rattle.cm_attempt.specs.declared.status.Status.{Status}
@@ -18,19 +19,15 @@ use Rattle.cm_envelope.specs.declared.envelope.Envelope.{Envelope}
 use Rattle.cm_envelope.specs.declared.envelope.Envelope.TheVariants as envelope
 use Rattle.cm_envelope.specs.declared.envelope.TestRunHookStarted.{TestRunHookStarted}
 use Rattle.cm_envelope.specs.declared.envelope.TestRunHookFinished.{TestRunHookFinished}
-use Rattle.cm_stream.proofs.Lists.{or_false}
-use Rattle.cm_stream.proofs.Found.{bytes_same, bytes_are}
+use Rattle.cm_stream.proofs.Lists.{or_false, or_no, none_counts, none_or_all, find_map, found_more, found_push, map_same}
+use Rattle.cm_stream.proofs.Found.{bytes_same, bytes_are, differs_back}
 use Rattle.cm_stream.proofs.Declared.{declares_run_hook}
 use Rattle.cm_stream.proofs.Passing.{AllPass, front_passes, last_passes}
 use Rattle.cm_stream.proofs.Distinct.{all_distinct, at_most_once}
-use Rattle.cm_stream.proofs.OneRow.{found_more, found_push, map_same, OnlyOne, only_one, change_one}
-use Rattle.cm_stream.proofs.NewRows.{map_both}
-use Rattle.cm_stream.proofs.StepRows.{or_no}
-use Rattle.cm_stream.proofs.EndedRows.{differs_back, find_map}
+use Rattle.cm_stream.proofs.OneRow.{OnlyOne, only_one, change_one}
 use Rattle.cm_state.specs.Summary.{declared_in, run_hook_row, seen}
 use Rattle.cm_state.specs.StateChecks.{is_hook_finished_by, knows_run_hook}
-use Rattle.cm_state.proofs.AttemptTests.{none_counts, none_or_all}
-use Rattle.cm_state.proofs.Behind.{found_behind, push_if, kept_named, not_found, none_refers}
+use Rattle.cm_state.proofs.OneMore.{found_after, push_if, kept_named, not_found, none_refers}
 use Rattle.cm_state.proofs.StepTests.{both_known}
 use Rattle.cm_state.proofs.Tests.{hook_declared, run_known, unknown}
 
@@ -73,7 +70,7 @@ start_rows es s more =
     let new = (or_false (nat_lt 0 (times_declared (RunHook s.id) es)) false ((((last_passes es e more).passes).1).1).0).0 in
     let none = not_found (RunHook s.id) as_run_hook (λ (x : TestRunHookStarted). bytes_eq s.id x.id) (declares_run_hook s.id) es new in
     let fresh : run_hook_row (es ++ e ∷ []) s ≡ new_run_hook s.id = row_is s.id (is_hook_finished s.id (es ++ e ∷ [])) false (finish_stays es e refl s.id ∙ never_finished es pass s.id none) in
-    ap (map (run_hook_row (es ++ e ∷ []))) (found_push as_run_hook es e s refl) ∙ map_both (run_hook_row (es ++ e ∷ [])) (run_hooks es) (s ∷ [])
+    ap (map (run_hook_row (es ++ e ∷ []))) (found_push as_run_hook es e s refl) ∙ map-append (run_hook_row (es ++ e ∷ [])) (run_hooks es) (s ∷ [])
     ∙ ap (λ rs. rs ++ run_hook_row (es ++ e ∷ []) s ∷ []) (rows_stay es e refl)
     ∙ ap (λ r. hook_rows es ++ r ∷ []) fresh
 
@@ -90,8 +87,8 @@ finish_rows es f more =
     ap (map (run_hook_row (es ++ e ∷ []))) (found_more as_run_hook es e refl)
     ∙ sym (change_one (λ r. bytes_eq f.test_run_hook_started_id r.id) finished (λ s. bytes_eq f.test_run_hook_started_id s.id) (run_hook_row es) (run_hook_row (es ++ e ∷ [])) (λ s. refl) hit other (run_hooks es) (one_hook es pass f.test_run_hook_started_id))
   where
-    behind : (u : Text) → is_hook_finished u (es ++ envelope.TestRunHookFinished f ∷ []) ≡ (is_hook_finished u es || (bytes_eq u f.test_run_hook_started_id || false))
-    behind u =
+    one_more : (u : Text) → is_hook_finished u (es ++ envelope.TestRunHookFinished f ∷ []) ≡ (is_hook_finished u es || (bytes_eq u f.test_run_hook_started_id || false))
+    one_more u =
         ap (list_any (λ (x : TestRunHookFinished). bytes_eq u x.test_run_hook_started_id)) (found_push as_run_hook_end es (envelope.TestRunHookFinished f) f refl)
         ∙ list_any-append (λ (x : TestRunHookFinished). bytes_eq u x.test_run_hook_started_id) (run_hook_ends es) (f ∷ [])
 
@@ -99,11 +96,11 @@ finish_rows es f more =
     hit s k =
         let same : s.id ≡ f.test_run_hook_started_id = sym (bytes_are f.test_run_hook_started_id s.id k) in
         let here : bytes_eq s.id f.test_run_hook_started_id ≡ true = ap (λ u. bytes_eq u f.test_run_hook_started_id) same ∙ bytes_same f.test_run_hook_started_id in
-        row_is s.id (is_hook_finished s.id (es ++ envelope.TestRunHookFinished f ∷ [])) true (behind s.id ∙ ap (λ b. is_hook_finished s.id es || (b || false)) here ∙ or_yes (is_hook_finished s.id es))
+        row_is s.id (is_hook_finished s.id (es ++ envelope.TestRunHookFinished f ∷ [])) true (one_more s.id ∙ ap (λ b. is_hook_finished s.id es || (b || false)) here ∙ or_yes (is_hook_finished s.id es))
 
     other : (s : TestRunHookStarted) → bytes_eq f.test_run_hook_started_id s.id ≡ false → run_hook_row (es ++ envelope.TestRunHookFinished f ∷ []) s ≡ run_hook_row es s
     other s k = row_is s.id (is_hook_finished s.id (es ++ envelope.TestRunHookFinished f ∷ [])) (is_hook_finished s.id es)
-        (behind s.id ∙ ap (λ b. is_hook_finished s.id es || (b || false)) (differs_back f.test_run_hook_started_id s.id k) ∙ or_no (is_hook_finished s.id es))
+        (one_more s.id ∙ ap (λ b. is_hook_finished s.id es || (b || false)) (differs_back f.test_run_hook_started_id s.id k) ∙ or_no (is_hook_finished s.id es))
 
 abbrev pub hook_rows_after : List RunHookRow → Envelope → List RunHookRow
 hook_rows_after rs (envelope.TestRunHookStarted s) = rs ++ new_run_hook s.id ∷ []
@@ -120,13 +117,13 @@ hooks_worst_after worst None = worst
 hooks_worst_after worst (Some f) = with_status worst (kept_status f.result.status)
 
 pub hooks_worst_step : (es : List Envelope) (e : Envelope) → worst_so_far (hook_statuses (es ++ e ∷ [])) ≡ hooks_worst_after (worst_so_far (hook_statuses es)) (as_run_hook_end e)
-hooks_worst_step es e = ap (λ fs. worst_so_far (map (λ (f : TestRunHookFinished). kept_status f.result.status) fs)) (found_behind as_run_hook_end es e) ∙ go (as_run_hook_end e)
+hooks_worst_step es e = ap (λ fs. worst_so_far (map (λ (f : TestRunHookFinished). kept_status f.result.status) fs)) (found_after as_run_hook_end es e) ∙ go (as_run_hook_end e)
   where
     go : (o : Option TestRunHookFinished) → worst_so_far (map (λ (f : TestRunHookFinished). kept_status f.result.status) (push_if (run_hook_ends es) o)) ≡ hooks_worst_after (worst_so_far (hook_statuses es)) o
     go None = refl
-    go (Some f) = ap worst_so_far (map_both (λ (x : TestRunHookFinished). kept_status x.result.status) (run_hook_ends es) (f ∷ [])) ∙ fold_push with_status None (hook_statuses es) (kept_status f.result.status)
+    go (Some f) = ap worst_so_far (map-append (λ (x : TestRunHookFinished). kept_status x.result.status) (run_hook_ends es) (f ∷ [])) ∙ fold_push with_status None (hook_statuses es) (kept_status f.result.status)
 
--- ---- what is told of a line
+-- ---- what is reported of a line
 
 pub hook_finished_by : (first : ℕ) (es : List Envelope) → AllPass es → (u : Text) → is_hook_finished_by (seen first es) u ≡ is_hook_finished u es
 hook_finished_by first es pass u =

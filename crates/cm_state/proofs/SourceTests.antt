@@ -1,5 +1,5 @@
 -- What sources are read as and what of them came, by what is kept of the lines.
-use Rattle.std.proofs.Common.{◌≡◌, ℕ, suc, refl, sym, ap, ◌∙◌, List, [], ◌∷◌, Option, Some, None, true, false, Bool, ◌||◌, ◌==◌, length, map, arith}
+use Rattle.std.proofs.Common.{◌≡◌, ℕ, suc, refl, sym, ap, ◌∙◌, List, [], ◌∷◌, Option, Some, None, false, Bool, ◌||◌, ◌==◌, length, map, arith}
 use Rattle.std.specs.Prelude.{nat_lt, find, slice_get, is_none, unwrap_or}
 use Rattle.std.specs.List.{list_any, list_all}
 use Rattle.std.specs.Option.{option_map, option_map_or}
@@ -8,11 +8,12 @@ use Rattle.std.proofs.lemmas.Bool.Decides.{nat_tests}
 use Rattle.std.proofs.lemmas.List.Folds.{list_all-map}
 use Rattle.cm_refs.proofs.EntryLemmas.{list_any-map}
 use Rattle.gk_pickle.specs.Pickles.{pickles as compiled}
+use Rattle.cm_attempt.proofs.Growing.{find_passes}
 use Rattle.cm_stream.specs.Texts.{Text}
 use Rattle.cm_stream.specs.Readings.{Reading, Accepted}
 use Rattle.cm_stream.specs.OnePass.{reads}
 use Rattle.cm_stream.specs.Sources.{is_due}
-use Rattle.cm_stream.specs.Words.{sources, documents_of, pickles_of, is_accepted, reading_of}
+use Rattle.cm_stream.specs.References.{sources, documents_of, pickles_of, is_accepted, reading_of}
 use Rattle.cm_stream.specs.Checks.{is_uri_accepted, due_pickles, first_ids, document_ids, is_next_pickle, lacks, is_incomplete}
 use Rattle.cm_envelope.specs.declared.envelope.Envelope.{Envelope}
 use Rattle.cm_envelope.specs.declared.envelope.Source.{Source}
@@ -20,9 +21,9 @@ use Rattle.cm_envelope.specs.declared.envelope.GherkinDocument.{GherkinDocument}
 use Rattle.cm_envelope.specs.declared.pickle.Pickle.{Pickle}
 use Rattle.cm_stream.proofs.Found.{bytes_are}
 use Rattle.cm_stream.proofs.Declared.{same_any}
-use Rattle.cm_stream.proofs.EndedRows.{find_map}
 use Rattle.cm_state.specs.Summary.{SourceRow, first_of, source_row, seen}
 use Rattle.cm_state.specs.StateChecks.{find_source, reading_by, is_accepted_by, is_next_of, is_next_by, lacks_by}
+use Rattle.cm_stream.proofs.Lists.{find_map}
 
 abbrev of_uri : Text → Source → Bool
 of_uri uri s = bytes_eq uri s.uri
@@ -41,17 +42,6 @@ pub same_accepted : (first : ℕ) (es : List Envelope) (uri : Text) → is_accep
 same_accepted first es uri = ap (λ o. option_map_or is_accepted o false) (same_reading first es uri)
 
 -- ---- the next pickle
-
-find_passes : {X : Type 0} (p : X → Bool) (xs : List X) (x : X) → find p xs ≡ Some x → p x ≡ true
-find_passes p [] x h = cc
-find_passes {X} p (y ∷ xs) x h = go (p y) refl (find_passes p xs x)
-  where
-    go : (b : Bool) → p y ≡ b → (find p xs ≡ Some x → p x ≡ true) → p x ≡ true
-    go true e rec =
-        let here : Some y ≡ Some x = rw e at h in
-        let same : y ≡ x = cc in
-        ap p (sym same) ∙ e
-    go false e rec = rec (rw e at h)
 
 ids_are : (ds : List GherkinDocument) → unwrap_or (option_map (λ (d : GherkinDocument). d.ids) (first_of ds)) [] ≡ first_ids ds
 ids_are [] = refl

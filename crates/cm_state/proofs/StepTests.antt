@@ -8,7 +8,7 @@ use Rattle.std.proofs.lemmas.List.Folds.{list_any-append}
 use Rattle.cm_refs.specs.Declarations.{PickleRow, find_pickle, has_text, has_repeat, pickle_fault}
 use Rattle.cm_refs.specs.declared.fault.RefFault.TheVariants as fault
 use Rattle.cm_stream.specs.Texts.{Text, same_texts}
-use Rattle.cm_stream.specs.Words.{PickleNamed, PickleStep, Definition, HookNamed, Step, Run, same_name, declares, declares_it, times_declared, if_any, as_pickle, pickles, find_pickle as pickle_in, pickle_step_ids, test_step_names}
+use Rattle.cm_stream.specs.References.{PickleNamed, PickleStep, Definition, HookNamed, Step, Run, same_name, declares, declares_it, times_declared, if_any, as_pickle, pickles, find_pickle as pickle_in, pickle_step_ids, test_step_names}
 use Rattle.cm_stream.specs.Good.{has_same_names}
 use Rattle.cm_stream.specs.Checks.{refers_to_unknown, declares_again, has_steps_of_pickle}
 use Rattle.cm_envelope.specs.declared.envelope.Envelope.{Envelope}
@@ -17,18 +17,15 @@ use Rattle.cm_envelope.specs.declared.envelope.TestCase.{TestCase}
 use Rattle.cm_envelope.specs.declared.envelope.TestStep.{TestStep}
 use Rattle.cm_envelope.specs.declared.pickle.Pickle.{Pickle}
 use Rattle.cm_envelope.specs.declared.pickle.PickleStep as pickle_step
-use Rattle.cm_stream.proofs.Declared.{none_of}
-use Rattle.cm_stream.proofs.Found.{bytes_same}
+use Rattle.cm_stream.proofs.Declared.{none_of, known}
+use Rattle.cm_stream.proofs.Found.{bytes_same, eq_back}
 use Rattle.cm_stream.proofs.Passing.{AllPass}
-use Rattle.cm_stream.proofs.Moves.{by_id}
 use Rattle.cm_stream.proofs.OneRow.{one_pickle}
-use Rattle.cm_stream.proofs.StepRows.{or_no}
-use Rattle.cm_stream.proofs.EndedRows.{find_map, differs_back}
-use Rattle.cm_stream.proofs.Refuses.{known, found_any}
 use Rattle.cm_stream.proofs.Steps.{one_with, none_with}
 use Rattle.cm_state.specs.Summary.{pickle_row, declared_in, seen}
 use Rattle.cm_state.specs.StateChecks.{is_among, steps_by, knows_run, knows_step, knows_case, has_steps_by}
 use Rattle.cm_state.proofs.Tests.{IsDeclaredIf, by_same, by_test, pickle_declared, definition_declared, hook_declared, unknown, run_known}
+use Rattle.cm_stream.proofs.Lists.{or_no, find_map, found_any}
 
 -- ---- the steps of a pickle
 
@@ -77,9 +74,6 @@ step_declared first es pass pickle step = go (pickle_in pickle es) refl
         by_same (PickleStep pickle step) es (list_any (has_step_of pickle step) (pickles es)) (has_text step (steps_by (seen first es) pickle)) (some ∙ sym (ap (has_text step) (its (Some p) e))) k
 
 -- ---- a pickle that is declared again
-
-eq_back : (a b : Text) → bytes_eq a b ≡ bytes_eq b a
-eq_back a b = by_id a b (λ n. n ∙ sym (differs_back a b n)) (λ same. ap (bytes_eq a) (sym same) ∙ ap (λ z. bytes_eq z a) same)
 
 no_pickle : (id : Text) (ss : List pickle_step.PickleStep) → list_any (λ later. same_name later (PickleNamed id)) (map (λ s. PickleStep id s.id) ss) ≡ false
 no_pickle id [] = refl

@@ -5,23 +5,23 @@ use Rattle.std.specs.Option.{option_map}
 use Rattle.std.proofs.lemmas.List.Folds.{list_any-append}
 use Rattle.cm_refs.specs.Declarations.{Declarations}
 use Rattle.cm_stream.specs.Texts.{Text}
-use Rattle.cm_stream.specs.Words.{as_source, as_document, as_pickle, as_case, as_run_hook_end, sources, pickles, cases, is_run_finished, has_run_started, has_run_finished, says_success, run_succeeded}
-use Rattle.cm_stream.specs.Seen.{changed}
+use Rattle.cm_stream.specs.References.{as_source, as_document, as_pickle, as_case, as_run_hook_end, sources, pickles, cases, is_run_finished, has_run_started, has_run_finished, says_success, run_succeeded}
+use Rattle.cm_stream.specs.Record.{changed}
 use Rattle.cm_envelope.specs.declared.envelope.Envelope.{Envelope}
 use Rattle.cm_envelope.specs.declared.envelope.Envelope.TheVariants as envelope
 use Rattle.cm_envelope.specs.declared.envelope.Source.{Source}
 use Rattle.cm_envelope.specs.declared.envelope.GherkinDocument.{GherkinDocument}
 use Rattle.cm_envelope.specs.declared.envelope.TestCase.{TestCase}
 use Rattle.cm_envelope.specs.declared.envelope.TestRunStarted.{TestRunStarted}
-use Rattle.cm_stream.proofs.Passing.{LinePasses, AllPass, last_passes}
-use Rattle.cm_stream.proofs.OneRow.{found_more, found_push}
-use Rattle.cm_stream.proofs.StepRows.{or_no}
+use Rattle.cm_stream.proofs.Passing.{LinePasses, AllPass, plain_passes, last_passes}
 use Rattle.cm_stream.proofs.TableSteps.{table_steps}
 use Rattle.cm_state.specs.Summary.{SourceRow, Summary, as_definition, as_hook, as_run, first_of, pickle_row, declared_in, with_name, once_each, seen, new_source, with_ids, one_more, change_source, after}
-use Rattle.cm_state.proofs.Behind.{push_if, found_behind, map_behind}
+use Rattle.cm_state.specs.Laws.{SummariesStep}
+use Rattle.cm_state.proofs.OneMore.{push_if, found_after, map_after}
 use Rattle.cm_state.proofs.Rows.{rows, other_rows, source_rows, document_rows, pickle_rows}
 use Rattle.cm_state.proofs.RunHooks.{hook_rows_after, hook_rows_step, hooks_worst_after, hooks_worst_step}
 use Rattle.cm_state.proofs.Unrun.{named_by, names_push, counts_after, counts_step}
+use Rattle.cm_stream.proofs.Lists.{or_no, found_more, found_push}
 
 -- ---- each of what is kept
 
@@ -37,11 +37,11 @@ declared_after d e = record {
 
 declared_step : (es : List Envelope) (e : Envelope) → AllPass (es ++ e ∷ []) → declared_in (es ++ e ∷ []) ≡ declared_after (declared_in es) e
 declared_step es e h = λ i. record {
-  sources = (ap (map (λ (s : Source). s.uri)) (found_behind as_source es e) ∙ map_behind (λ (s : Source). s.uri) (sources es) (as_source e)) i;
-  documents = (ap (map (λ (d : GherkinDocument). d.uri)) (found_behind as_document es e) ∙ map_behind (λ (d : GherkinDocument). d.uri) (filter_map as_document es) (as_document e)) i;
-  pickles = (ap (map pickle_row) (found_behind as_pickle es e) ∙ map_behind pickle_row (pickles es) (as_pickle e)) i;
-  definitions = found_behind as_definition es e i;
-  hooks = found_behind as_hook es e i;
+  sources = (ap (map (λ (s : Source). s.uri)) (found_after as_source es e) ∙ map_after (λ (s : Source). s.uri) (sources es) (as_source e)) i;
+  documents = (ap (map (λ (d : GherkinDocument). d.uri)) (found_after as_document es e) ∙ map_after (λ (d : GherkinDocument). d.uri) (filter_map as_document es) (as_document e)) i;
+  pickles = (ap (map pickle_row) (found_after as_pickle es e) ∙ map_after pickle_row (pickles es) (as_pickle e)) i;
+  definitions = found_after as_definition es e i;
+  hooks = found_after as_hook es e i;
   run_hooks = hook_rows_step es e h i;
 }
 
@@ -62,11 +62,11 @@ named_after names None = names
 named_after names (Some c) = with_name names c.pickle_id
 
 named_step : (es : List Envelope) (e : Envelope) → named_by (cases (es ++ e ∷ [])) ≡ named_after (named_by (cases es)) (as_case e)
-named_step es e = ap named_by (found_behind as_case es e) ∙ go (as_case e)
+named_step es e = ap named_by (found_after as_case es e) ∙ go (as_case e)
   where
     go : (o : Option TestCase) → named_by (push_if (cases es) o) ≡ named_after (named_by (cases es)) o
     go None = refl
-    go (Some c) = ap once_each (map_behind (λ (x : TestCase). x.pickle_id) (cases es) (Some c)) ∙ names_push [] (map (λ x. x.pickle_id) (cases es)) c.pickle_id
+    go (Some c) = ap once_each (map_after (λ (x : TestCase). x.pickle_id) (cases es) (Some c)) ∙ names_push [] (map (λ x. x.pickle_id) (cases es)) c.pickle_id
 
 abbrev run_after : Option TestRunStarted → Option TestRunStarted → Option TestRunStarted
 run_after run None = run
@@ -138,13 +138,19 @@ after_is s (envelope.TestRunHookFinished f) = refl
 after_is s (envelope.TestRunFinished f) = refl
 after_is s e = refl
 
-pub summaries_step : (first : ℕ) (es : List Envelope) (e : Envelope) → AllPass (es ++ e ∷ []) → seen first (es ++ e ∷ []) ≡ after (seen first es) e
-summaries_step first es e h = all ∙ after_is (seen first es) e
+pub summaries_step : SummariesStep
+summaries_step settings es e none = all ∙ after_is (seen first es) e
   where
+    first : ℕ
+    first = settings.first_attempt
+
+    h : AllPass (es ++ e ∷ [])
+    h = plain_passes settings (es ++ e ∷ []) none
+
     all : seen first (es ++ e ∷ []) ≡ kept_after (seen first es) e
     all = λ i. record {
       declared = declared_step es e h i;
-      table = table_steps first es e h i;
+      table = table_steps first es e i;
       sources = rows_step es e h i;
       named = named_step es e i;
       run = run_step es e (last_passes es e h) i;

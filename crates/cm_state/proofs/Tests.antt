@@ -6,10 +6,10 @@ use Rattle.std.specs.Option.{option_map_or}
 use Rattle.std.specs.Str.{bytes_eq}
 use Rattle.cm_refs.specs.Declarations.{PickleRow, RunHookRow, find_pickle, find_run_hook}
 use Rattle.cm_refs.proofs.EntryLemmas.{list_any-map}
-use Rattle.cm_attempt.specs.Table.{AttemptRow, find_attempt, has_text}
+use Rattle.cm_attempt.specs.Table.{find_attempt, has_text}
 use Rattle.cm_stream.specs.Texts.{Text}
-use Rattle.cm_stream.specs.Words.{Name, SourceOf, DocumentOf, PickleNamed, PickleStep, Definition, HookNamed, Step, Run, Attempt, RunHook, same_name, declares_it, times_declared, if_any, as_source, as_document, as_pickle, as_start, as_run_hook, pickles, starts, run_hooks, has_run_started}
-use Rattle.cm_stream.specs.Seen.{attempt_row, table_of}
+use Rattle.cm_stream.specs.References.{Name, SourceOf, DocumentOf, PickleNamed, PickleStep, Definition, HookNamed, Step, Run, Attempt, RunHook, same_name, declares_it, times_declared, if_any, as_source, as_document, as_pickle, as_start, as_run_hook, pickles, starts, run_hooks, has_run_started}
+use Rattle.cm_stream.specs.Record.{table_of}
 use Rattle.cm_envelope.specs.declared.envelope.Envelope.{Envelope}
 use Rattle.cm_envelope.specs.declared.envelope.Envelope.TheVariants as envelope
 use Rattle.cm_envelope.specs.declared.envelope.Source.{Source}
@@ -17,13 +17,13 @@ use Rattle.cm_envelope.specs.declared.envelope.GherkinDocument.{GherkinDocument}
 use Rattle.cm_envelope.specs.declared.envelope.TestStep.{TestStep}
 use Rattle.cm_envelope.specs.declared.pickle.Pickle.{Pickle}
 use Rattle.cm_envelope.specs.declared.pickle.PickleStep as pickle_step
-use Rattle.cm_stream.proofs.Declared.{none_of, declares_source, declares_document, declares_pickle, declares_attempt, declares_run_hook}
+use Rattle.cm_stream.proofs.Declared.{none_of, declares_source, declares_document, declares_pickle, declares_attempt, declares_run_hook, known}
+use Rattle.cm_stream.proofs.TableSteps.{AreAccepted}
+use Rattle.cm_stream.proofs.TableWords.{attempt_told}
 use Rattle.cm_stream.proofs.Passing.{AllPass, last_passes, by_lines}
-use Rattle.cm_stream.proofs.OneRow.{found_more, found_push}
-use Rattle.cm_stream.proofs.StepRows.{or_no}
-use Rattle.cm_stream.proofs.Refuses.{known, found_any}
 use Rattle.cm_state.specs.Summary.{as_definition, as_hook, as_run, first_of, pickle_row, run_hook_row, declared_in, seen}
 use Rattle.cm_state.specs.StateChecks.{is_run, knows_run}
+use Rattle.cm_stream.proofs.Lists.{or_no, found_any, found_more, found_push}
 
 -- the lines declare the name exactly if b
 pub record IsDeclaredIf (name : Name) (es : List Envelope) (b : Bool) : Type 0 where
@@ -56,10 +56,10 @@ pickle_declared id es =
     (sym (list_any-map (λ (r : PickleRow). bytes_eq id r.id) pickle_row (pickles es)) ∙ sym (found_any (λ (r : PickleRow). bytes_eq id r.id) (map pickle_row (pickles es))))
     (by_test (PickleNamed id) as_pickle (λ p. bytes_eq id p.id) (declares_pickle id) es)
 
-pub attempt_declared : (id : Text) (first : ℕ) (es : List Envelope) → IsDeclaredIf (Attempt id) es (is_some (find_attempt (table_of first es) id))
-attempt_declared id first es =
+pub attempt_declared : (id : Text) (first : ℕ) (es : List Envelope) → AreAccepted first es → IsDeclaredIf (Attempt id) es (is_some (find_attempt (table_of first es) id))
+attempt_declared id first es accepted =
     by_same (Attempt id) es (list_any (λ s. bytes_eq id s.id) (starts es)) (is_some (find_attempt (table_of first es) id))
-    (sym (list_any-map (λ (r : AttemptRow). bytes_eq id r.id) (attempt_row es) (starts es)) ∙ sym (found_any (λ (r : AttemptRow). bytes_eq id r.id) (map (attempt_row es) (starts es))))
+    (sym (found_any (λ s. bytes_eq id s.id) (starts es)) ∙ sym (attempt_told first es accepted id))
     (by_test (Attempt id) as_start (λ s. bytes_eq id s.id) (declares_attempt id) es)
 
 pub run_hook_declared : (id : Text) (es : List Envelope) → IsDeclaredIf (RunHook id) es (is_some (find_run_hook (declared_in es) id))

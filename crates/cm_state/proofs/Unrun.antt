@@ -8,24 +8,20 @@ use Rattle.std.proofs.lemmas.List.Sums.{length-filter}
 use Rattle.cm_refs.proofs.EntryLemmas.{list_any-map}
 use Rattle.cm_attempt.specs.Table.{has_text}
 use Rattle.cm_stream.specs.Texts.{Text}
-use Rattle.cm_stream.specs.Words.{Name, PickleNamed, Run, times_declared, refers, if_any, as_source, as_pickle, as_case, as_start, sources, pickles, cases, starts}
+use Rattle.cm_stream.specs.References.{Name, PickleNamed, Run, times_declared, refers, if_any, as_source, as_pickle, as_case, as_start, sources, pickles, cases, starts}
 use Rattle.cm_stream.specs.Stream.{unrun, counts_of}
 use Rattle.cm_stream.specs.declared.verdict.Counts.{Counts}
 use Rattle.cm_envelope.specs.declared.envelope.Envelope.{Envelope}
 use Rattle.cm_envelope.specs.declared.envelope.Envelope.TheVariants as envelope
 use Rattle.cm_envelope.specs.declared.envelope.TestCase.{TestCase}
 use Rattle.cm_envelope.specs.declared.pickle.Pickle.{Pickle}
-use Rattle.cm_stream.proofs.Lists.{or_false, none_counted, count_cut}
-use Rattle.cm_stream.proofs.Found.{bytes_same, bytes_are}
+use Rattle.cm_stream.proofs.Lists.{or_false, none_counted, count_cut, or_no, found_more, found_push}
+use Rattle.cm_stream.proofs.Found.{bytes_same, bytes_are, by_id, differs_back}
 use Rattle.cm_stream.proofs.Declared.{declares_pickle, case_is}
 use Rattle.cm_stream.proofs.Passing.{AllPass, front_passes, last_passes}
 use Rattle.cm_stream.proofs.Distinct.{all_refer}
-use Rattle.cm_stream.proofs.Moves.{by_id}
-use Rattle.cm_stream.proofs.OneRow.{found_more, found_push}
-use Rattle.cm_stream.proofs.StepRows.{or_no}
-use Rattle.cm_stream.proofs.EndedRows.{differs_back}
 use Rattle.cm_state.specs.Summary.{with_name, names_from, once_each, source_counted, pickle_counted, case_counted, attempt_counted}
-use Rattle.cm_state.proofs.Behind.{one_if, found_behind, length_behind, same_count, kept_apart, kept_named, not_found, none_refers}
+use Rattle.cm_state.proofs.OneMore.{one_if, found_after, length_after, same_count, kept_apart, kept_named, not_found, none_refers}
 
 -- ---- names, each once
 
@@ -77,13 +73,13 @@ is_named id cs = has_names id [] (map (λ c. c.pickle_id) cs) ∙ list_any-map (
 other_unrun : (es : List Envelope) (e : Envelope) → as_case e ≡ None → as_pickle e ≡ None → unrun (es ++ e ∷ []) ≡ unrun es
 other_unrun es e c p = λ i. count_by (unnamed (found_more as_case es e c i)) (found_more as_pickle es e p i)
 
-behind_run : (P : Name → Type 0) (run : Option Text) (name : Name) (more : List Name) → AllByRecursion P (map Run (if_any run) ++ name ∷ more) → P name
-behind_run P None name more h = h.0
-behind_run P (Some id) name more h = (h.1).0
+after_run : (P : Name → Type 0) (run : Option Text) (name : Name) (more : List Name) → AllByRecursion P (map Run (if_any run) ++ name ∷ more) → P name
+after_run P None name more h = h.0
+after_run P (Some id) name more h = (h.1).0
 
 case_refers : (front : List Envelope) (here : Envelope) (c : TestCase) → as_case here ≡ Some c → AllByRecursion (λ n. times_declared n front ≡ 1) (refers front here) → times_declared (PickleNamed c.pickle_id) front ≡ 1
 case_refers front here c is refs =
-    behind_run (λ n. times_declared n front ≡ 1) c.test_run_started_id (PickleNamed c.pickle_id) _
+    after_run (λ n. times_declared n front ≡ 1) c.test_run_started_id (PickleNamed c.pickle_id) _
     (subst (λ (e : Envelope). AllByRecursion (λ (n : Name). times_declared n front ≡ 1) (refers front e)) (case_is here c is) refs)
 
 pickle_unrun : (es : List Envelope) (p : Pickle) → AllPass (es ++ envelope.Pickle p ∷ []) → unrun (es ++ envelope.Pickle p ∷ []) ≡ unrun es + 1
@@ -156,10 +152,10 @@ counts_after names n _ = n
 counts_with : (es : List Envelope) (e : Envelope) (n : ℕ) → unrun (es ++ e ∷ []) ≡ n
     → counts_of (es ++ e ∷ []) ≡ record { sources = one_if (length (sources es)) (as_source e); pickles = one_if (length (pickles es)) (as_pickle e); cases = one_if (length (cases es)) (as_case e); attempts = one_if (length (starts es)) (as_start e); unrun = n }
 counts_with es e n h = λ i. record {
-  sources = (ap length (found_behind as_source es e) ∙ length_behind (sources es) (as_source e)) i;
-  pickles = (ap length (found_behind as_pickle es e) ∙ length_behind (pickles es) (as_pickle e)) i;
-  cases = (ap length (found_behind as_case es e) ∙ length_behind (cases es) (as_case e)) i;
-  attempts = (ap length (found_behind as_start es e) ∙ length_behind (starts es) (as_start e)) i;
+  sources = (ap length (found_after as_source es e) ∙ length_after (sources es) (as_source e)) i;
+  pickles = (ap length (found_after as_pickle es e) ∙ length_after (pickles es) (as_pickle e)) i;
+  cases = (ap length (found_after as_case es e) ∙ length_after (cases es) (as_case e)) i;
+  attempts = (ap length (found_after as_start es e) ∙ length_after (starts es) (as_start e)) i;
   unrun = h i;
 }
 

@@ -1,13 +1,13 @@
 -- Judging a stream line by line, by what is kept of the lines before, is judging it over all its lines.
 use Rattle.std.specs.Prelude.{◌≡◌, ℕ, ◌+◌, List, [], ◌∷◌, ◌++◌, Option, Some, None, Result, Ok, Err}
-use Rattle.cm_envelope.specs.Reading.{Fault as LineFault}
+use Rattle.cm_envelope.specs.Reading.{LineFault}
 use Rattle.cm_envelope.specs.declared.envelope.Envelope.{Envelope}
 use Rattle.cm_envelope.specs.declared.feed.Trouble.{Trouble}
 use Rattle.cm_attempt.specs.declared.settings.Settings.{Settings}
 use Rattle.cm_stream.specs.Checks.{fault}
-use Rattle.cm_stream.specs.Findings.{Finding, IsBad, fault_of_line}
-use Rattle.cm_stream.specs.Stream.{Answer, GoodWith, Found, Failed, shown, told_of, answer_for}
-use Rattle.cm_stream.specs.Told.{IsFaultless}
+use Rattle.cm_stream.specs.Findings.{Finding, IsBad, NoEnvelope}
+use Rattle.cm_stream.specs.Stream.{Answer, GoodWith, Found, Failed, shown, first_fault_of, answer_for}
+use Rattle.cm_stream.specs.FaultlessLines.{IsFaultless}
 use Rattle.cm_state.specs.Summary.{Summary, seen, nothing_seen, after}
 use Rattle.cm_state.specs.StateChecks.{finding, finding_at_end}
 
@@ -39,7 +39,7 @@ at_line n (Some f) more = Found n f
 abbrev pub judged_line : Settings → Summary → ℕ → Option (Result Envelope LineFault)
     → (Summary → Answer) → Answer
 judged_line settings s n None more = more s
-judged_line settings s n (Some (Err b)) more = Found n (IsBad (fault_of_line b))
+judged_line settings s n (Some (Err b)) more = Found n (IsBad (NoEnvelope b))
 judged_line settings s n (Some (Ok e)) more = at_line n (finding settings s e) (more (after s e))
 
 -- the answer for these lines, the first of which has the number n, and then the trouble or the end
@@ -49,9 +49,9 @@ judged_of settings s n [] None = at_end n s (finding_at_end s)
 judged_of settings s n (l ∷ ls) t =
     judged_line settings s n (shown l) (λ (now : Summary). judged_of settings now (n + 1) ls t)
 
--- the answer is that for what is told of the lines
+-- the answer is that for what is reported of the lines
 abbrev pub JudgedIsTold : Type 0
 JudgedIsTold =
     (settings : Settings) (lines : List (List ℕ)) (t : Option Trouble)
     → judged_of settings (nothing_seen settings.first_attempt) 1 lines t
-    ≡ answer_for (told_of settings [] 1 lines t)
+    ≡ answer_for (first_fault_of settings [] 1 lines t)

@@ -1,4 +1,4 @@
--- What is told of a line, by what an audit keeps of the lines before it.
+-- What is reported of a line, by what an audit keeps of the lines before it.
 use Rattle.std.specs.Prelude.{◌==◌, ◌&&◌, ◌||◌, nat_lt, Bool, true, false, not, List, [], ◌∷◌, Option, Some, None, is_some, is_none, if◌then◌else◌, map, length, find, slice_get, unwrap_or}
 use Rattle.std.specs.List.{list_any, list_all}
 use Rattle.std.specs.Option.{option_map, option_map_or, option_and_then}
@@ -13,10 +13,10 @@ use Rattle.cm_stream.specs.Texts.{Text, same_texts}
 use Rattle.cm_stream.specs.Readings.{Reading, Accepted}
 use Rattle.cm_stream.specs.OnePass.{reads}
 use Rattle.cm_stream.specs.Sources.{plain, is_due}
-use Rattle.cm_stream.specs.Words.{is_judged, is_accepted, pickle_step_ids}
+use Rattle.cm_stream.specs.References.{is_judged, is_accepted, pickle_step_ids}
 use Rattle.cm_stream.specs.Good.{is_unknown}
 use Rattle.cm_stream.specs.Checks.{Check, ◌if◌, ◌unsupported_if◌, first_failed, is_too_long, is_other_language, has_skeleton_of, due_pickles, same_flag}
-use Rattle.cm_stream.specs.Refusals.{told_refusal, refused}
+use Rattle.cm_stream.specs.Refusals.{refusal_finding, refused}
 use Rattle.cm_envelope.specs.declared.envelope.Envelope.{Envelope}
 use Rattle.cm_envelope.specs.declared.envelope.Envelope.TheVariants as envelope
 use Rattle.cm_envelope.specs.declared.envelope.TestCase.{TestCase}
@@ -156,12 +156,12 @@ checks_before s (envelope.TestRunHookFinished f) =
     ∷ reason.UnknownStatus unsupported_if is_unknown f.result.status ∷ []
 checks_before s _ = []
 
-abbrev pub checks_behind : Envelope → List Check
-checks_behind (envelope.TestStepFinished x) =
+abbrev pub checks_after : Envelope → List Check
+checks_after (envelope.TestStepFinished x) =
     reason.UnknownStatus unsupported_if is_unknown x.test_step_result.status ∷ []
-checks_behind _ = []
+checks_after _ = []
 
--- the last check of the run's end: it tells success as it is
+-- the last check of the run's end: success is as the run says
 abbrev pub success_by : Policy → Summary → Envelope → List Check
 success_by policy s (envelope.TestRunFinished f) =
     bad.SuccessDiffers if not (same_flag f.success (is_well policy s && not f.has_exception)) ∷ []
@@ -176,7 +176,7 @@ or_else (Some f) later = Some f
 abbrev pub plain_finding : Summary → Envelope → Option Finding
 plain_finding s e =
     or_else (first_failed (checks_before s e))
-    (or_else (option_and_then told_refusal (refused s.table e)) (first_failed (checks_behind e)))
+    (or_else (option_and_then refusal_finding (refused s.table e)) (first_failed (checks_after e)))
 
 -- the finding of a line of which no check comes after the end of the run
 abbrev pub finding_inside : Policy → Summary → Envelope → Option Finding

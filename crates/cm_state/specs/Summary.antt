@@ -11,9 +11,9 @@ use Rattle.cm_stream.specs.Statuses.{kept_status}
 use Rattle.cm_stream.specs.Texts.{Text}
 use Rattle.cm_stream.specs.Readings.{Reading}
 use Rattle.cm_stream.specs.OnePass.{reads}
-use Rattle.cm_stream.specs.Words.{as_document, sources, pickles, cases, run_hooks, hook_statuses, documents_of, pickles_of, has_run_finished, run_succeeded, is_hook_finished}
+use Rattle.cm_stream.specs.References.{as_document, sources, pickles, cases, run_hooks, hook_statuses, documents_of, pickles_of, has_run_finished, run_succeeded, is_hook_finished}
 use Rattle.cm_stream.specs.Stream.{counts_of}
-use Rattle.cm_stream.specs.Seen.{table_of, changed}
+use Rattle.cm_stream.specs.Record.{table_of, changed}
 use Rattle.cm_envelope.specs.declared.envelope.Envelope.{Envelope}
 use Rattle.cm_envelope.specs.declared.envelope.Envelope.TheVariants as envelope
 use Rattle.cm_envelope.specs.declared.envelope.Source.{Source}

@@ -1,7 +1,7 @@
 //! Laws of the definitions.
 ghost use Rattle.cm_state.specs.Laws.{FindingsAreFaults, JudgedIsTold, SummariesStep};
 
-/// After lines without a fault, what is told of a line by what is kept of them is the line's fault over all of them.
+/// After lines without a fault, what is reported of a line by what is kept of them is the line's fault over all of them.
 pub fn findings_are_faults()
     ensures { FindingsAreFaults }
 {}
@@ -11,7 +11,7 @@ pub fn summaries_step()
     ensures { SummariesStep }
 {}
 
-/// The answer line by line is the answer for what is told of the stream over all its lines.
+/// The answer line by line is the answer for what is reported of the stream over all its lines.
 pub fn judged_is_told()
     ensures { JudgedIsTold }
 {}

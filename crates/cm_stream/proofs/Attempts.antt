@@ -4,7 +4,7 @@ use Rattle.std.specs.Prelude.{find, slice_get}
 use Rattle.std.specs.List.{list_any, filter_map, flat_map}
 use Rattle.std.specs.Str.{bytes_eq}
 use Rattle.cm_stream.specs.Texts.{Text}
-use Rattle.cm_stream.specs.Words.{Case, Attempt, times_declared, as_case, as_start, find_case, steps_of, move_of, moves, is_ended}
+use Rattle.cm_stream.specs.References.{Case, Attempt, times_declared, as_case, as_start, find_case, steps_of, move_of, moves, is_ended}
 use Rattle.cm_attempt.specs.Calls.{Move, Started, StepStarted, StepFinished, Ended, whole, is_end}
 use Rattle.cm_stream.specs.Good.{Sound}
 use Rattle.cm_stream.specs.Checks.{steps_of_attempt, is_next_move}

@@ -1,19 +1,20 @@
 -- The cases, attempts and moves of envelopes are those of their calls.
-use Rattle.std.proofs.Common.{◌≡◌, refl, sym, ap, ◌∙◌, List, [], ◌∷◌, ◌++◌, Option, Some, None, true, false, Bool, map, length, is_some, ◌+◌, ℕ, suc, ◌&&◌}
-use Rattle.std.specs.Prelude.{find, filter, filter_map, option_map, if◌then◌else◌}
+use Rattle.std.proofs.Common.{◌≡◌, refl, sym, ap, ◌∙◌, List, [], ◌∷◌, Option, Some, None, true, false, Bool, map, length, is_some, suc, not, ◌&&◌}
+use Rattle.std.specs.Prelude.{find, filter, filter_map, option_map}
 use Rattle.std.specs.List.{list_any, list_all, cons_option}
 use Rattle.std.specs.Option.{option_map_or, option_and_then}
 use Rattle.std.specs.Str.{bytes_eq}
 use Rattle.cm_attempt.specs.Calls as call
-use Rattle.cm_attempt.specs.Calls.{Call, DeclaredCase, StartedAttempt}
+use Rattle.cm_attempt.specs.Calls.{Call, DeclaredCase, StartedAttempt, is_end}
 use Rattle.cm_stream.specs.Texts.{Text}
-use Rattle.cm_stream.specs.Words.{as_case, as_start, cases, starts, starts_of, find_case, steps_of, move_of, moves, retry_in, ends_of, is_retried}
+use Rattle.cm_stream.specs.References.{as_case, as_start, cases, starts, starts_of, find_case, steps_of, move_of, moves, is_ended, retry_in, ends_of, is_retried, is_final, status_in, statuses}
 use Rattle.cm_stream.specs.Checks.{steps_of_attempt}
 use Rattle.cm_envelope.specs.declared.envelope.Envelope.{Envelope}
 use Rattle.cm_envelope.specs.declared.envelope.Envelope.TheVariants as envelope
 use Rattle.cm_envelope.specs.declared.envelope.TestCase.{TestCase}
 use Rattle.cm_envelope.specs.declared.envelope.TestCaseStarted.{TestCaseStarted}
 use Rattle.cm_stream.specs.Calls.{call_of, calls_of}
+use Rattle.cm_stream.proofs.Lists.{find_map, map_twice}
 
 -- ---- kept through two maps
 
@@ -40,14 +41,6 @@ kept_map {X} {Y} k f (x ∷ xs) = go (k x) refl (kept_map k f xs)
     go : (o : Option Y) → k x ≡ o → filter_map (λ x. option_map f (k x)) xs ≡ map f (filter_map k xs) → filter_map (λ x. option_map f (k x)) (x ∷ xs) ≡ map f (filter_map k (x ∷ xs))
     go None e rec = rw e rec
     go (Some y) e rec = rw e (ap (λ ys. f y ∷ ys) rec)
-
-find_mapped : {X Y : Type 0} (f : X → Y) (p : Y → Bool) (xs : List X) → find p (map f xs) ≡ option_map f (find (λ x. p (f x)) xs)
-find_mapped f p [] = refl
-find_mapped f p (x ∷ xs) = go (p (f x)) refl (find_mapped f p xs)
-  where
-    go : (b : Bool) → p (f x) ≡ b → find p (map f xs) ≡ option_map f (find (λ x. p (f x)) xs) → find p (map f (x ∷ xs)) ≡ option_map f (find (λ x. p (f x)) (x ∷ xs))
-    go true e rec = rw e refl
-    go false e rec = rw e rec
 
 filter_mapped : {X Y : Type 0} (f : X → Y) (p : Y → Bool) (xs : List X) → filter p (map f xs) ≡ map f (filter (λ x. p (f x)) xs)
 filter_mapped f p [] = refl
@@ -88,10 +81,10 @@ pub starts_told : (es : List Envelope) → call.starts (calls_of es) ≡ map sta
 starts_told es = kept_twice call_of call.as_start (λ e. option_map start_told (as_start e)) start_same es ∙ kept_map as_start start_told es
 
 pub declared_told : (case : Text) (es : List Envelope) → call.declared case (calls_of es) ≡ option_map case_told (find_case case es)
-declared_told case es = ap (find (λ (c : DeclaredCase). bytes_eq case c.id)) (cases_told es) ∙ find_mapped case_told (λ c. bytes_eq case c.id) (cases es)
+declared_told case es = ap (find (λ (c : DeclaredCase). bytes_eq case c.id)) (cases_told es) ∙ find_map (λ c. bytes_eq case c.id) case_told (cases es)
 
 pub start_of_told : (a : Text) (es : List Envelope) → call.start_of a (calls_of es) ≡ option_map start_told (find (λ s. bytes_eq a s.id) (starts es))
-start_of_told a es = ap (find (λ (s : StartedAttempt). bytes_eq a s.id)) (starts_told es) ∙ find_mapped start_told (λ s. bytes_eq a s.id) (starts es)
+start_of_told a es = ap (find (λ (s : StartedAttempt). bytes_eq a s.id)) (starts_told es) ∙ find_map (λ s. bytes_eq a s.id) start_told (starts es)
 
 pub starts_of_told : (case : Text) (es : List Envelope) → call.starts_of case (calls_of es) ≡ map start_told (starts_of case es)
 starts_of_told case es = ap (filter (λ (s : StartedAttempt). bytes_eq case s.case_id)) (starts_told es) ∙ filter_mapped start_told (λ s. bytes_eq case s.case_id) (starts es)
@@ -115,18 +108,19 @@ attempt_steps_told a es = ap (λ o. option_map_or (λ (s : StartedAttempt). call
 pub moves_told : (a : Text) (es : List Envelope) → call.moves a (calls_of es) ≡ moves a es
 moves_told a es = kept_twice call_of (call.move_of a) (move_of a) (λ e. refl) es
 
+pub ended_told : (a : Text) (es : List Envelope) → call.is_ended a (calls_of es) ≡ is_ended a es
+ended_told a es = ap (list_any is_end) (moves_told a es)
+
+pub statuses_told : (a : Text) (es : List Envelope) → call.statuses a (calls_of es) ≡ statuses a es
+statuses_told a es = kept_twice call_of (call.status_in a) (status_in a) (λ e. refl) es
+
 pub ends_told : (a : Text) (es : List Envelope) → call.ends_of a (calls_of es) ≡ ends_of a es
 ends_told a es = kept_twice call_of (call.retry_in a) (retry_in a) (λ e. refl) es
 
+pub final_told : (a : Text) (es : List Envelope) → call.is_final a (calls_of es) ≡ is_final a es
+final_told a es = ap (list_any not) (ends_told a es)
+
 -- ---- ids, and each start
-
-pub map_twice : {X Y Z : Type 0} (f : Y → Z) (g : X → Y) (xs : List X) → map f (map g xs) ≡ map (λ x. f (g x)) xs
-map_twice f g [] = refl
-map_twice f g (x ∷ xs) = ap (λ zs. f (g x) ∷ zs) (map_twice f g xs)
-
-pub map_same : {X Y : Type 0} (f g : X → Y) → ((x : X) → f x ≡ g x) → (xs : List X) → map f xs ≡ map g xs
-map_same f g h [] = refl
-map_same f g h (x ∷ xs) = λ i. h x i ∷ map_same f g h xs i
 
 map_long : {X Y : Type 0} (f : X → Y) (xs : List X) → length (map f xs) ≡ length xs
 map_long f [] = refl

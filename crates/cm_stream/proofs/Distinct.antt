@@ -6,7 +6,7 @@ use Rattle.std.proofs.lemmas.List.Folds.{list_any-append}
 use Rattle.std.proofs.lemmas.List.Sums.{length-filter}
 use Rattle.std.proofs.lemmas.Bool.Decides.{nat_tests}
 use Rattle.cm_stream.specs.Texts.{Text}
-use Rattle.cm_stream.specs.Words.{Name, SourceOf, DocumentOf, PickleNamed, PickleStep, Definition, HookNamed, Case, Step, Run, Attempt, RunHook, same_name, declares, declares_it, times_declared, refers, if_any, is_run_started, has_run_started}
+use Rattle.cm_stream.specs.References.{Name, SourceOf, DocumentOf, PickleNamed, PickleStep, Definition, HookNamed, Case, Step, Run, Attempt, RunHook, same_name, declares, declares_it, times_declared, refers, if_any, is_run_started, has_run_started}
 use Rattle.cm_stream.specs.Good.{has_same_names, ReferencesGood}
 use Rattle.cm_stream.specs.Checks.{declares_again}
 use Rattle.cm_envelope.specs.declared.envelope.Envelope.{Envelope}
@@ -17,7 +17,7 @@ use Rattle.cm_envelope.specs.declared.envelope.TestRunStarted.{TestRunStarted}
 use Rattle.cm_stream.proofs.Lists.{or_false, and_true, any_front, any_back, count_none}
 use Rattle.cm_stream.proofs.Found.{bytes_same, bytes_are}
 use Rattle.cm_stream.proofs.Declared.{none_of}
-use Rattle.cm_stream.proofs.Refuted.{declared_append, names_behind, cut_at}
+use Rattle.cm_stream.proofs.Refuted.{declared_append, names_after, cut_at}
 use Rattle.cm_stream.proofs.Passing.{LinePasses, AllPass, front_passes, last_passes, by_lines, no_unknown}
 
 -- ---- names
@@ -169,8 +169,8 @@ not_twice name ns ms h some =
     let same : name ≡ at.here = names_are name at.here at.passes in
     let parts : has_same_names (at.front ++ (at.here ∷ (at.back ++ ms))) ≡ false =
     ap has_same_names (sym (append_assoc at.front (at.here ∷ at.back) ms)) ∙ ap (λ xs. has_same_names (xs ++ ms)) (sym at.cut) ∙ h in
-    let behind = (or_false _ _ (names_behind at.front (at.here ∷ (at.back ++ ms)) parts)).0 in
-    let others = any_back (λ later. same_name later at.here) at.back ms behind in
+    let none_later = (or_false _ _ (names_after at.front (at.here ∷ (at.back ++ ms)) parts)).0 in
+    let others = any_back (λ later. same_name later at.here) at.back ms none_later in
     let turned : list_any (same_name at.here) ms ≡ false = any_weaker (λ later. same_name later at.here) (same_name at.here) (λ x k. not_same_back x at.here k) ms others in
     ap (λ n. list_any (same_name n) ms) same ∙ turned
 
@@ -186,7 +186,7 @@ at_most_once name es h = kept es h
 
     few : (xs : List Envelope) → has_same_names (flat_map declares xs) ≡ false → length (filter (declares_it name) xs) ≤ 1
     few [] k = omega arith
-    few (x ∷ xs) k = go (declares_it name x) refl (few xs (names_behind (declares x) (flat_map declares xs) k))
+    few (x ∷ xs) k = go (declares_it name x) refl (few xs (names_after (declares x) (flat_map declares xs) k))
       where
         go : (b : Bool) → declares_it name x ≡ b → length (filter (declares_it name) xs) ≤ 1 → length (filter (declares_it name) (x ∷ xs)) ≤ 1
         go false e rec = let same : length (filter (declares_it name) (x ∷ xs)) ≡ length (filter (declares_it name) xs) = rw e refl in omega (arith, same, rec)

@@ -11,7 +11,7 @@ use Rattle.cm_attempt.specs.Table.{has_repeat}
 use Rattle.cm_stream.specs.Readings.{Reading, Accepted, Refused, OtherLanguage, TooLong}
 use Rattle.cm_stream.specs.OnePass.{reads}
 use Rattle.cm_stream.specs.Sources.{is_due}
-use Rattle.cm_stream.specs.Words.{SourceOf, DocumentOf, PickleNamed, times_declared, as_source, as_document, as_pickle, sources, sources_of, documents_of, pickles_of, is_accepted, reading_of, find_pickle, pickle_step_ids}
+use Rattle.cm_stream.specs.References.{SourceOf, DocumentOf, PickleNamed, times_declared, as_source, as_document, as_pickle, sources, sources_of, documents_of, pickles_of, is_accepted, reading_of, find_pickle, pickle_step_ids}
 use Rattle.cm_stream.specs.Good.{Sound, MeetsSource}
 use Rattle.cm_stream.specs.Checks.{is_uri_accepted, has_skeleton_of, first_ids, document_ids, is_next_pickle, has_steps_of_pickle}
 use Rattle.cm_envelope.specs.declared.envelope.Envelope.{Envelope}
@@ -28,7 +28,7 @@ use Rattle.cm_stream.proofs.Lists.{or_false, and_true}
 use Rattle.cm_stream.proofs.Found.{FoundAt, still_found, bytes_same, bytes_are}
 use Rattle.cm_stream.proofs.Declared.{declarer, declares_source, declares_document, declares_pickle, source_is}
 
--- the source of a uri, before a line: where it stands in the whole, and what it is read as
+-- the source of a uri, before a line: where it is in the whole, and what it is read as
 pub record HasSource (es before rest : List Envelope) (of : Text) : Type 0 where
   pub front : List Envelope
   pub source : Source
@@ -100,18 +100,18 @@ document_passes es before d after good cut =
         → MeetsSource es s.front s.source (s.back ++ envelope.GherkinDocument d ∷ after) r → DocumentPasses before d
     go s Refused read h =
         let all : documents_of d.uri before ++ d ∷ documents_of d.uri after ≡ [] =
-        ap (λ xs. documents_of d.uri before ++ xs) (sym (documents_here d after)) ∙ sym (documents_both d.uri before (envelope.GherkinDocument d ∷ after)) ∙ ap (documents_of d.uri) (sym cut) ∙ ap (λ u. documents_of u es) (sym s.uri) ∙ h.0 in
+        ap (λ xs. documents_of d.uri before ++ xs) (sym (documents_here d after)) ∙ sym (documents_both d.uri before (envelope.GherkinDocument d ∷ after)) ∙ ap (documents_of d.uri) (sym cut) ∙ ap (λ u. documents_of u es) (sym s.uri) ∙ h.no_document in
         absurd (some_isnt_none (documents_of d.uri before) d (documents_of d.uri after) all)
     go s OtherLanguage read h = absurd h
     go s TooLong read h = absurd h
     go s (Accepted due) read h =
-        let one : documents_of d.uri s.back ++ d ∷ documents_of d.uri after ≡ h.0 ∷ [] =
-        ap (λ xs. documents_of d.uri s.back ++ xs) (sym (documents_here d after)) ∙ sym (documents_both d.uri s.back (envelope.GherkinDocument d ∷ after)) ∙ ap (λ u. documents_of u (s.back ++ envelope.GherkinDocument d ∷ after)) (sym s.uri) ∙ h.2 in
-        let same : d ≡ h.0 = (the_only (documents_of d.uri s.back) d (documents_of d.uri after) h.0 one).0 in
+        let one : documents_of d.uri s.back ++ d ∷ documents_of d.uri after ≡ h.document ∷ [] =
+        ap (λ xs. documents_of d.uri s.back ++ xs) (sym (documents_here d after)) ∙ sym (documents_both d.uri s.back (envelope.GherkinDocument d ∷ after)) ∙ ap (λ u. documents_of u (s.back ++ envelope.GherkinDocument d ∷ after)) (sym s.uri) ∙ h.one_after in
+        let same : d ≡ h.document = (the_only (documents_of d.uri s.back) d (documents_of d.uri after) h.document one).0 in
         record {
           accepted = rw read refl;
-          skeleton = rw read (same_skeletons d.document due (ap (λ x. skeleton x.document) same ∙ h.3));
-          distinct = ap (λ x. has_repeat x.ids) same ∙ h.4;
+          skeleton = rw read (same_skeletons d.document due (ap (λ x. skeleton x.document) same ∙ h.same_skeleton));
+          distinct = ap (λ x. has_repeat x.ids) same ∙ h.distinct_ids;
         }
 
 -- ---- ParseErrorOfGoodSource
@@ -138,7 +138,7 @@ refused_indeed es before p after good cut =
 
 -- ---- PickleDiffers
 
--- what stands at a place of one list, and what at that place of the other
+-- what is at a place of one list, and what at that place of the other
 same_list_at : {A B : Type 0} (same : A → B → Bool) (xs : List A) (x : A) (more : List A) (ys : List B) → same_list same (xs ++ x ∷ more) ys ≡ true → option_map_or (same x) (slice_get ys (length xs)) false ≡ true
 same_list_at same [] x more [] h = cc
 same_list_at same [] x more (y ∷ ys) h = (and_true (same x y) (same_list same more ys) h).0
@@ -157,14 +157,14 @@ pickle_is_next es before p after good cut =
 
     go : (s : HasSource es before (envelope.Pickle p ∷ after) p.uri) (at : FoundAt as_document (λ x. bytes_eq p.uri x.uri) before) (r : Reading) → reading_of p.uri before ≡ Some r
         → MeetsSource es s.front s.source (s.back ++ envelope.Pickle p ∷ after) r → is_next_pickle before p ≡ true
-    go s at Refused read h = absurd (some_isnt_none (pickles_of p.uri before) p (pickles_of p.uri after) (sym all_pickles ∙ ap (λ u. pickles_of u es) (sym s.uri) ∙ h.1))
+    go s at Refused read h = absurd (some_isnt_none (pickles_of p.uri before) p (pickles_of p.uri after) (sym all_pickles ∙ ap (λ u. pickles_of u es) (sym s.uri) ∙ h.no_pickle))
     go s at OtherLanguage read h = absurd h
     go s at TooLong read h = absurd h
     go s at (Accepted d) read h =
-        let g = h.0 in
+        let g = h.document in
         let u = s.source.uri in
         let all : documents_of u es ≡ g ∷ [] =
-        ap (documents_of u) s.cut ∙ documents_both u s.front (envelope.Source s.source ∷ (s.back ++ envelope.Pickle p ∷ after)) ∙ ap (λ xs. xs ++ documents_of u (s.back ++ envelope.Pickle p ∷ after)) h.1 ∙ h.2 in
+        ap (documents_of u) s.cut ∙ documents_both u s.front (envelope.Source s.source ∷ (s.back ++ envelope.Pickle p ∷ after)) ∙ ap (λ xs. xs ++ documents_of u (s.back ++ envelope.Pickle p ∷ after)) h.none_before ∙ h.one_after in
         let its : documents_of p.uri before ++ documents_of p.uri (envelope.Pickle p ∷ after) ≡ g ∷ [] = sym (documents_both p.uri before (envelope.Pickle p ∷ after)) ∙ ap (documents_of p.uri) (sym cut) ∙ ap (λ w. documents_of w es) (sym s.uri) ∙ all in
         let some : documents_of p.uri before ≡ documents_of p.uri at.front ++ at.value ∷ documents_of p.uri at.back =
         ap (documents_of p.uri) at.cut ∙ documents_both p.uri at.front (at.here ∷ at.back) ∙ ap (λ xs. documents_of p.uri at.front ++ xs) (rw (at.is, at.passes) refl) in
@@ -172,7 +172,7 @@ pickle_is_next es before p after good cut =
         sym (append_assoc (documents_of p.uri at.front) (at.value ∷ documents_of p.uri at.back) (documents_of p.uri (envelope.Pickle p ∷ after))) ∙ ap (λ xs. xs ++ documents_of p.uri (envelope.Pickle p ∷ after)) (sym some) ∙ its in
         let only = the_only (documents_of p.uri at.front) at.value (documents_of p.uri at.back ++ documents_of p.uri (envelope.Pickle p ∷ after)) g both in
         let ids : document_ids p.uri before ≡ g.ids = ap first_ids (some ∙ ap (λ xs. xs ++ at.value ∷ documents_of p.uri at.back) only.1) ∙ ap (λ x. x.ids) only.0 in
-        let matched : same_list (is_due g.ids) (pickles_of p.uri before ++ p ∷ pickles_of p.uri after) (compiled d) ≡ true = ap (λ ps. same_list (is_due g.ids) ps (compiled d)) (sym all_pickles ∙ ap (λ w. pickles_of w es) (sym s.uri)) ∙ h.5 in
+        let matched : same_list (is_due g.ids) (pickles_of p.uri before ++ p ∷ pickles_of p.uri after) (compiled d) ≡ true = ap (λ ps. same_list (is_due g.ids) ps (compiled d)) (sym all_pickles ∙ ap (λ w. pickles_of w es) (sym s.uri)) ∙ h.same_pickles in
         let here = same_list_at (is_due g.ids) (pickles_of p.uri before) p (pickles_of p.uri after) (compiled d) matched in
         rw (read, ids) here
 

@@ -10,7 +10,7 @@ use Rattle.cm_stream.specs.Texts.{Text, same_list}
 use Rattle.cm_stream.specs.Readings.{Reading, Accepted, Refused, OtherLanguage, TooLong}
 use Rattle.cm_stream.specs.OnePass.{reads}
 use Rattle.cm_stream.specs.Sources.{is_due}
-use Rattle.cm_stream.specs.Words.{as_source, as_document, as_pickle, as_case, as_start, as_run_hook_end, sources, cases, starts, hook_statuses, starts_of, documents_of, pickles_of, is_run_started, is_judged, has_run_started, move_of, moves, is_ended, retry_in, ends_of, status_in, statuses, ends_well, is_good_case, all_well, steps_of}
+use Rattle.cm_stream.specs.References.{as_source, as_document, as_pickle, as_case, as_start, as_run_hook_end, sources, cases, starts, hook_statuses, starts_of, documents_of, pickles_of, is_run_started, is_judged, has_run_started, move_of, moves, is_ended, retry_in, ends_of, status_in, statuses, ends_well, is_good_case, all_well, steps_of}
 use Rattle.cm_attempt.specs.Calls.{StepStarted, StepFinished, Ended, whole, is_end, last_of}
 use Rattle.cm_stream.specs.Good.{Good, Sound, MeetsSource}
 use Rattle.cm_attempt.specs.declared.policy.Policy.{Policy}
@@ -49,8 +49,8 @@ unjudged_nothing h other (e ∷ es) none =
 module _ (es before : List Envelope) (f : TestRunFinished) (after : List Envelope) (run : EndsRun es before f after) where
   pub till_end : {X : Type 0} (h : Envelope → Option X) → h envelope.Other ≡ None → h (envelope.TestRunFinished f) ≡ None → filter_map h es ≡ filter_map h before
   till_end h other here =
-      let behind : filter_map h (envelope.TestRunFinished f ∷ after) ≡ [] = rw here (unjudged_nothing h other after run.none) in
-      ap (filter_map h) run.cut ∙ filter_map-append h before (envelope.TestRunFinished f ∷ after) ∙ ap (λ xs. filter_map h before ++ xs) behind ∙ append-nil (filter_map h before)
+      let nothing : filter_map h (envelope.TestRunFinished f ∷ after) ≡ [] = rw here (unjudged_nothing h other after run.none) in
+      ap (filter_map h) run.cut ∙ filter_map-append h before (envelope.TestRunFinished f ∷ after) ∙ ap (λ xs. filter_map h before ++ xs) nothing ∙ append-nil (filter_map h before)
 
   -- ---- OutsideRun, of the end
 
@@ -120,8 +120,8 @@ module _ (es before : List Envelope) (f : TestRunFinished) (after : List Envelop
           let parts : documents_of s.uri es ≡ documents_of s.uri front ++ documents_of s.uri (back ++ envelope.TestRunFinished f ∷ after) =
           ap (documents_of s.uri) cut ∙ ap (filter (λ x. bytes_eq s.uri x.uri)) (filter_map-append as_document front (envelope.Source s ∷ (back ++ envelope.TestRunFinished f ∷ after)))
           ∙ filter-append (λ x. bytes_eq s.uri x.uri) (filter_map as_document front) (filter_map as_document (back ++ envelope.TestRunFinished f ∷ after)) in
-          let one : documents_of s.uri before ≡ h.0 ∷ [] = sym same_documents ∙ parts ∙ ap (λ xs. xs ++ documents_of s.uri (back ++ envelope.TestRunFinished f ∷ after)) h.1 ∙ h.2 in
-          let long : length (pickles_of s.uri before) ≡ length (compiled d) = ap length (sym same_pickles) ∙ same_length (is_due (h.0).ids) (pickles_of s.uri es) (compiled d) h.5 in
+          let one : documents_of s.uri before ≡ h.document ∷ [] = sym same_documents ∙ parts ∙ ap (λ xs. xs ++ documents_of s.uri (back ++ envelope.TestRunFinished f ∷ after)) h.none_before ∙ h.one_after in
+          let long : length (pickles_of s.uri before) ≡ length (compiled d) = ap length (sym same_pickles) ∙ same_length (is_due (h.document).ids) (pickles_of s.uri es) (compiled d) h.same_pickles in
           rw (one, not_fewer (length (pickles_of s.uri before)) (length (compiled d)) long) refl
 
       each : (front : List Envelope) (here : Envelope) (back : List Envelope) (s : Source) → before ≡ front ++ here ∷ back → as_source here ≡ Some s → is_incomplete before s ≡ false

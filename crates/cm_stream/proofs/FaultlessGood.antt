@@ -4,7 +4,7 @@ use Rattle.cm_stream.proofs.Passing.{plain_passes, success_passes}
 use Rattle.cm_stream.proofs.Distinct.{all_distinct, all_refer}
 use Rattle.cm_stream.proofs.Order.{the_end, in_order}
 use Rattle.cm_stream.proofs.Parts.{all_cases, all_retries, all_numbers, all_known, success_said}
-use Rattle.cm_stream.proofs.Moves.{all_attempts}
+use Rattle.cm_stream.proofs.WholeAttempts.{all_attempts}
 use Rattle.cm_stream.proofs.Sourced.{all_sources}
 use Rattle.cm_stream.proofs.RunHooks.{all_hooks}
 
@@ -17,7 +17,7 @@ faultless_are_good settings es h =
         references = all_refer es pass;
         sources = all_sources es pass end;
         cases = all_cases es pass;
-        attempts = all_attempts es pass end;
+        attempts = all_attempts settings es h.lines end;
         retries = all_retries es pass;
         distinct = all_distinct es pass;
         order = in_order es pass end;

@@ -1,15 +1,15 @@
 -- A good list has no fault.
-use Rattle.std.proofs.Common.{◌≡◌, ℕ, refl, ap, List, [], ◌∷◌, ◌++◌, None, false, map, not}
+use Rattle.std.proofs.Common.{◌≡◌, ℕ, refl, ap, List, ◌∷◌, ◌++◌, false, map, not}
 use Rattle.std.specs.List.{AllByRecursion, flat_map}
-use Rattle.cm_stream.specs.Words.{Run, PickleNamed, times_declared, if_any, test_step_names}
+use Rattle.cm_stream.specs.References.{Run, PickleNamed, times_declared, if_any, test_step_names}
 use Rattle.cm_stream.specs.Good.{Good, Sound, NumbersGood}
 use Rattle.cm_attempt.specs.declared.settings.Settings.{Settings}
-use Rattle.cm_stream.specs.Checks.{Check, checks_of, success_check, plain_checks, checks, first_failed}
+use Rattle.cm_stream.specs.Checks.{Check, checks_of, success_check, plain_checks, checks}
 use Rattle.cm_stream.specs.Laws.{GoodHaveNoFault}
 use Rattle.cm_envelope.specs.declared.envelope.Envelope.{Envelope}
 use Rattle.cm_envelope.specs.declared.envelope.Envelope.TheVariants as envelope
 use Rattle.cm_stream.proofs.Lists.{all_here}
-use Rattle.cm_stream.proofs.Passing.{both_pass}
+use Rattle.cm_stream.proofs.Passing.{both_pass, none_failed}
 use Rattle.cm_stream.proofs.Refuted.{no_unknown_reference, no_repeat, no_second_run, run_started, hook_inside, number_is_next, no_overlap, status_known, not_after, run_finished, media_plain, is_supported}
 use Rattle.cm_stream.proofs.Attempts.{step_starts_next, step_finishes_next, not_early, not_ended_yet}
 use Rattle.cm_stream.proofs.Ends.{EndsRun, end_inside, none_open, none_lacks, success_right}
@@ -59,16 +59,12 @@ passes first es before (envelope.TestRunHookFinished f) after good numbers cut =
     (no_unknown_reference es before (envelope.TestRunHookFinished f) after good cut, (not_finished_yet es before f after good cut, (status_known es before (envelope.TestRunHookFinished f) after good cut, tt)))
 passes first es before envelope.Other after good numbers cut = tt
 
--- success is told as it is
+-- success is as the run says
 tells_success : (settings : Settings) (es before : List Envelope) (e : Envelope) (after : List Envelope) → Good settings es → es ≡ before ++ e ∷ after → AllByRecursion (λ (c : Check). c.fails ≡ false) (success_check settings.policy before e)
 tells_success settings es before (envelope.TestRunFinished f) after good cut =
     let run : EndsRun es before f after = record { cut = cut; none = good.sound.order.finish_last before (envelope.TestRunFinished f) after cut } in
     (success_right es before f after run settings good, tt)
 tells_success settings es before _ after good cut = tt
-
-none_failed : (cs : List Check) → AllByRecursion (λ (c : Check). c.fails ≡ false) cs → first_failed cs ≡ None
-none_failed [] h = refl
-none_failed (c ∷ cs) h = rw (h.0) (none_failed cs h.1)
 
 pub good_have_no_fault : GoodHaveNoFault
 good_have_no_fault settings es good = record {

@@ -9,7 +9,7 @@ use Rattle.gk_grammar.specs.Machine.{FlatBlock, State, Bad, run, blocks_at_end, 
 use Rattle.gk_grammar.proofs.LawLemmas.{one_document_holds, no_document_with_fault_holds, one_fault_holds, whole_run, stopped_run, open_run}
 use Rattle.cm_stream.specs.Texts.{Text}
 use Rattle.cm_stream.specs.Readings.{Reading, Accepted, Refused, OtherLanguage, TooLong, IsReading, OneReading}
-use Rattle.cm_stream.specs.OnePass.{passes_limits, refused_for, reading_at_end, reading_behind, reads, EachTextIsRead}
+use Rattle.cm_stream.specs.OnePass.{passes_limits, refused_for, reading_at_end, reading_after, reads, EachTextIsRead}
 
 -- ---- limits
 
@@ -43,7 +43,7 @@ fault_read text fits kind.UnexpectedEnd n c h = (fits, record { kind = kind.Unex
 fault_read text fits kind.TooLong n c h = (fits, record { kind = kind.TooLong; line = n; column = c; fault = h; other = λ e. cc })
 fault_read text fits kind.Memory n c h = (fits, record { kind = kind.Memory; line = n; column = c; fault = h; other = λ e. cc })
 
-pass_read : (text : Text) → (IsTooLong text → ⊥) → (r : Result State Bad) → run initial (lines_read text) ≡ r → IsReading text (reading_behind r)
+pass_read : (text : Text) → (IsTooLong text → ⊥) → (r : Result State Bad) → run initial (lines_read text) ≡ r → IsReading text (reading_after r)
 pass_read text fits (Err b) e = fault_read text fits b.kind b.line b.column (stopped_run text b e)
 pass_read text fits (Ok s) e = go (blocks_at_end s.phase) refl
   where

@@ -1,32 +1,19 @@
--- One row of a table among many.
-use Rattle.std.proofs.Common.{◌≡◌, suc, ◌≤◌, refl, sym, ap, ◌∙◌, List, [], ◌∷◌, ◌++◌, Option, Some, None, true, false, Bool, append-nil, map, length, arith}
+-- At most one element of a list that passes a test, and the one row that a change is about.
+use Rattle.std.proofs.Common.{◌≡◌, suc, ◌≤◌, refl, sym, ap, ◌∙◌, List, [], ◌∷◌, ◌++◌, Some, true, false, Bool, map, length, arith}
 use Rattle.std.specs.Prelude.{find}
-use Rattle.std.specs.List.{list_any, filter, filter_map}
+use Rattle.std.specs.List.{list_any, filter}
 use Rattle.std.specs.Option.{option_map_or}
 use Rattle.std.specs.Str.{bytes_eq}
-use Rattle.std.proofs.lemmas.List.Elements.{filter_map-append}
 use Rattle.std.proofs.lemmas.List.Sums.{length-filter}
 use Rattle.cm_stream.specs.Texts.{Text}
 use Rattle.cm_attempt.specs.Table.{change_first}
-use Rattle.cm_stream.specs.Words.{Attempt, PickleNamed, times_declared, declares_it, as_start, as_pickle, starts, pickles}
+use Rattle.cm_stream.specs.References.{Case, PickleNamed, times_declared, declares_it, as_case, as_pickle, cases, pickles}
 use Rattle.cm_envelope.specs.declared.envelope.Envelope.{Envelope}
 use Rattle.cm_stream.proofs.Lists.{or_false, any_here}
-use Rattle.cm_stream.proofs.Declared.{declares_attempt, declares_pickle}
+use Rattle.cm_stream.proofs.Declared.{declares_case, declares_pickle}
 use Rattle.cm_stream.proofs.Passing.{AllPass}
 use Rattle.cm_stream.proofs.Distinct.{all_distinct, at_most_once}
 use Rattle.cm_stream.proofs.Sourced.{kept_count, same_kept}
-
-pub found_more : {X Y : Type 0} (h : X → Option Y) (xs : List X) (x : X) → h x ≡ None → filter_map h (xs ++ x ∷ []) ≡ filter_map h xs
-found_more h xs x e = filter_map-append h xs (x ∷ []) ∙ rw e (append-nil (filter_map h xs))
-
-pub found_push : {X Y : Type 0} (h : X → Option Y) (xs : List X) (x : X) (y : Y) → h x ≡ Some y → filter_map h (xs ++ x ∷ []) ≡ filter_map h xs ++ y ∷ []
-found_push h xs x y e = filter_map-append h xs (x ∷ []) ∙ rw e refl
-
-pub map_same : {X Y : Type 0} (f g : X → Y) → ((x : X) → f x ≡ g x) → (xs : List X) → map f xs ≡ map g xs
-map_same f g h [] = refl
-map_same f g h (x ∷ xs) = λ i. h x i ∷ map_same f g h xs i
-
--- ---- one row among many
 
 -- at most one element passes
 abbrev pub OnlyOne : {X : Type 0} → (X → Bool) → List X → Type 0
@@ -65,17 +52,17 @@ change_one {X} {Y} p f q g h test hit other (x ∷ xs) one = go (q x) refl (chan
     go true e rec = rw (test x, e) (λ i. sym (hit x e) i ∷ unchanged q g h other xs (one.0 e) i)
     go false e rec = rw (test x, e) (λ i. sym (other x e) i ∷ rec i)
 
-pub one_attempt : (es : List Envelope) → AllPass es → (a : Text) → OnlyOne (λ s. bytes_eq a s.id) (starts es)
-one_attempt es pass a =
-    let counted : length (filter (λ s. bytes_eq a s.id) (starts es)) ≡ times_declared (Attempt a) es =
-    kept_count as_start (λ s. bytes_eq a s.id) es ∙ ap length (sym (same_kept (declares_it (Attempt a)) (λ x. option_map_or (λ s. bytes_eq a s.id) (as_start x) false) (declares_attempt a) es)) ∙ length-filter (declares_it (Attempt a)) es in
-    only_one (λ s. bytes_eq a s.id) (starts es) (omega (arith, counted, at_most_once (Attempt a) es (all_distinct es pass)))
-
 pub one_pickle : (es : List Envelope) → AllPass es → (id : Text) → OnlyOne (λ p. bytes_eq id p.id) (pickles es)
 one_pickle es pass id =
     let counted : length (filter (λ p. bytes_eq id p.id) (pickles es)) ≡ times_declared (PickleNamed id) es =
     kept_count as_pickle (λ p. bytes_eq id p.id) es ∙ ap length (sym (same_kept (declares_it (PickleNamed id)) (λ x. option_map_or (λ p. bytes_eq id p.id) (as_pickle x) false) (declares_pickle id) es)) ∙ length-filter (declares_it (PickleNamed id)) es in
     only_one (λ p. bytes_eq id p.id) (pickles es) (omega (arith, counted, at_most_once (PickleNamed id) es (all_distinct es pass)))
+
+pub one_case : (es : List Envelope) → AllPass es → (a : Text) → OnlyOne (λ c. bytes_eq a c.id) (cases es)
+one_case es pass a =
+    let counted : length (filter (λ c. bytes_eq a c.id) (cases es)) ≡ times_declared (Case a) es =
+    kept_count as_case (λ c. bytes_eq a c.id) es ∙ ap length (sym (same_kept (declares_it (Case a)) (λ x. option_map_or (λ c. bytes_eq a c.id) (as_case x) false) (declares_case a) es)) ∙ length-filter (declares_it (Case a)) es in
+    only_one (λ c. bytes_eq a c.id) (cases es) (omega (arith, counted, at_most_once (Case a) es (all_distinct es pass)))
 
 -- an element that passes is the one that is found
 pub only_here : {X : Type 0} (q : X → Bool) (front : List X) (x : X) (back : List X) → OnlyOne q (front ++ x ∷ back) → q x ≡ true → find q (front ++ x ∷ back) ≡ Some x

@@ -1,9 +1,9 @@
--- Lines that pass their checks stand in order.
+-- Lines that pass their checks come in order.
 use Rattle.std.proofs.Common.{◌≡◌, ◌+◌, ◌≤◌, refl, sym, ap, ◌∙◌, List, [], ◌∷◌, ◌++◌, Some, None, true, false, Bool, append_assoc, ◌&&◌, ◌||◌, arith}
 use Rattle.std.specs.Prelude.{count_by}
 use Rattle.std.specs.List.{list_any}
-use Rattle.cm_stream.specs.Words.{is_run_started, is_run_finished, is_judged, has_run_started, has_run_finished}
-use Rattle.cm_stream.specs.Good.{OrderGood, StartsInside, NothingBehind}
+use Rattle.cm_stream.specs.References.{is_run_started, is_run_finished, is_judged, has_run_started, has_run_finished}
+use Rattle.cm_stream.specs.Good.{OrderGood, StartsInside, NothingAfter}
 use Rattle.cm_stream.specs.Checks.{fault_at_end}
 use Rattle.cm_envelope.specs.declared.envelope.Envelope.{Envelope}
 use Rattle.cm_envelope.specs.declared.envelope.Envelope.TheVariants as envelope
@@ -23,8 +23,8 @@ finished_is (envelope.TestRunFinished f) h = (f, refl)
 finished_is _ h = cc
 
 -- nothing judged comes after the end of the run
-pub behind_end : (es : List Envelope) → AllPass es → (before : List Envelope) (f : TestRunFinished) (after : List Envelope) → es ≡ before ++ envelope.TestRunFinished f ∷ after → list_any is_judged after ≡ false
-behind_end es pass before f after cut = everywhere_none is_judged after each
+pub after_end : (es : List Envelope) → AllPass es → (before : List Envelope) (f : TestRunFinished) (after : List Envelope) → es ≡ before ++ envelope.TestRunFinished f ∷ after → list_any is_judged after ≡ false
+after_end es pass before f after cut = everywhere_none is_judged after each
   where
     each : (b : List Envelope) (x : Envelope) (a : List Envelope) → after ≡ b ++ x ∷ a → is_judged x ≡ false
     each b x a c =
@@ -69,7 +69,7 @@ the_end es pass none = go (has_run_finished es) refl
           before = at.front;
           end = is.0;
           after = at.back;
-          run = record { cut = cut; none = behind_end es pass at.front is.0 at.back cut };
+          run = record { cut = cut; none = after_end es pass at.front is.0 at.back cut };
           line = line;
           first = line.inside;
         }
@@ -128,6 +128,6 @@ in_order es pass end = record {
     inside before (envelope.TestRunHookStarted s) h = was_not (has_run_started before) h.passes.0
     inside before _ h = tt
 
-    last : (before : List Envelope) (e : Envelope) (after : List Envelope) → es ≡ before ++ e ∷ after → NothingBehind e after
-    last before (envelope.TestRunFinished f) after cut = behind_end es pass before f after cut
+    last : (before : List Envelope) (e : Envelope) (after : List Envelope) → es ≡ before ++ e ∷ after → NothingAfter e after
+    last before (envelope.TestRunFinished f) after cut = after_end es pass before f after cut
     last before _ after cut = tt

@@ -5,7 +5,8 @@ use Rattle.std.specs.Option.{option_map_or}
 use Rattle.std.specs.Str.{bytes_eq}
 use Rattle.std.proofs.lemmas.Bool.Decides.{nat_tests}
 use Rattle.cm_stream.specs.Texts.{Text, same_list, same_texts}
-use Rattle.cm_stream.specs.Words.{is_retried, starts_of, all_well, find_pickle, pickle_step_ids, as_pickle}
+use Rattle.cm_stream.specs.FaultlessLines.{IsFaultless}
+use Rattle.cm_stream.specs.References.{is_retried, starts_of, all_well, find_pickle, pickle_step_ids, as_pickle}
 use Rattle.cm_stream.specs.Good.{CasesGood, CaseGood, RetriesGood, RetryGood, NumbersGood, NumberGood, SuccessGood, SuccessOf, has_unknown_result}
 use Rattle.cm_stream.specs.Checks.{plain_checks, success_check, same_flag}
 use Rattle.cm_attempt.specs.declared.policy.Policy.{Policy}
@@ -18,8 +19,8 @@ use Rattle.cm_stream.proofs.Readings.{success_is}
 use Rattle.cm_stream.proofs.Lists.{and_true}
 use Rattle.cm_stream.proofs.Found.{bytes_are, still_found}
 use Rattle.cm_stream.proofs.Ends.{EndsRun, same_well}
-use Rattle.cm_stream.proofs.Passing.{Passes, LinePasses, AllPass, NoneFails, SuccessPasses, plain_pass, was_not}
-use Rattle.cm_stream.proofs.Order.{everywhere_none, behind_end}
+use Rattle.cm_stream.proofs.Passing.{Passes, LinePasses, AllPass, SuccessPasses, plain_pass, was_not}
+use Rattle.cm_stream.proofs.Order.{everywhere_none, after_end}
 
 -- ---- cases
 
@@ -61,7 +62,7 @@ all_retries es pass before e after cut = at e (pass before e after cut)
 numbers_are : (m n : ℕ) → not (m == n) ≡ false → m ≡ n
 numbers_are m n h = grind (arith, nat_tests)
 
-pub all_numbers : (settings : Settings) (es : List Envelope) → NoneFails settings es → NumbersGood settings.first_attempt es
+pub all_numbers : (settings : Settings) (es : List Envelope) → IsFaultless settings es → NumbersGood settings.first_attempt es
 all_numbers settings es h before e after cut = at e (plain_pass settings es h before e after cut)
   where
     at : (e : Envelope) → Passes (plain_checks settings.first_attempt before e) → NumberGood settings.first_attempt before e
@@ -91,6 +92,6 @@ success_said policy es pass said before e after cut = at e cut (said before e af
   where
     at : (e : Envelope) → es ≡ before ++ e ∷ after → Passes (success_check policy before e) → SuccessOf policy es e
     at (envelope.TestRunFinished f) cut h =
-        let run : EndsRun es before f after = record { cut = cut; none = behind_end es pass before f after cut } in
+        let run : EndsRun es before f after = record { cut = cut; none = after_end es pass before f after cut } in
         success_is policy es f (flags_are f.success (all_well policy before && not f.has_exception) h.0 ∙ ap (λ b. b && not f.has_exception) (sym (same_well es before f after run policy)))
     at _ cut h = tt

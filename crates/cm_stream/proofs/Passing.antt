@@ -4,7 +4,8 @@ use Rattle.std.specs.List.{AllByRecursion}
 use Rattle.cm_stream.specs.Checks.{Check, checks_of, success_check, plain_checks, checks, first_failed, refers_to_unknown}
 use Rattle.cm_attempt.specs.declared.policy.Policy.{Policy}
 use Rattle.cm_attempt.specs.declared.settings.Settings.{Settings}
-use Rattle.cm_stream.specs.Words.{is_judged, has_run_finished}
+use Rattle.cm_stream.specs.FaultlessLines.{IsFaultless}
+use Rattle.cm_stream.specs.References.{is_judged, has_run_finished}
 use Rattle.cm_stream.specs.Laws.{HasNoFault}
 use Rattle.cm_envelope.specs.declared.envelope.Envelope.{Envelope}
 use Rattle.cm_envelope.specs.declared.envelope.Envelope.TheVariants as envelope
@@ -24,6 +25,10 @@ passed (c ∷ cs) h = go c.fails refl (passed cs)
     go true e rec = let no : Some c.finding ≡ None = rw e at h in cc
     go false e rec = let rest : first_failed cs ≡ None = rw e at h in (e, rec rest)
 
+pub none_failed : (cs : List Check) → Passes cs → first_failed cs ≡ None
+none_failed [] h = refl
+none_failed (c ∷ cs) h = rw (h.0) (none_failed cs h.1)
+
 -- the line passes its checks, where the attempts of a case are numbered from some number
 pub record LinePasses (before : List Envelope) (e : Envelope) : Type 0 where
   pub first : ℕ
@@ -35,11 +40,11 @@ abbrev pub AllPass : List Envelope → Type 0
 AllPass es = (before : List Envelope) (e : Envelope) (after : List Envelope) → es ≡ before ++ e ∷ after → LinePasses before e
 
 -- the checks before others, and those after
-front_of : (cs ds : List Check) → Passes (cs ++ ds) → Passes cs
+pub front_of : (cs ds : List Check) → Passes (cs ++ ds) → Passes cs
 front_of [] ds h = tt
 front_of (c ∷ cs) ds h = (h.0, front_of cs ds h.1)
 
-back_of : (cs ds : List Check) → Passes (cs ++ ds) → Passes ds
+pub back_of : (cs ds : List Check) → Passes (cs ++ ds) → Passes ds
 back_of [] ds h = h
 back_of (c ∷ cs) ds h = back_of cs ds h.1
 
@@ -47,15 +52,11 @@ pub both_pass : (cs ds : List Check) → Passes cs → Passes ds → Passes (cs 
 both_pass [] ds h k = k
 both_pass (c ∷ cs) ds h k = (h.0, both_pass cs ds h.1 k)
 
--- each line has no fault after those before it
-abbrev pub NoneFails : Settings → List Envelope → Type 0
-NoneFails settings es = (before : List Envelope) (e : Envelope) (after : List Envelope) → es ≡ before ++ e ∷ after → first_failed (checks settings before e) ≡ None
-
 -- the checks that are made whatever statuses are good, and the last one
-pub plain_pass : (settings : Settings) (es : List Envelope) → NoneFails settings es → (before : List Envelope) (e : Envelope) (after : List Envelope) → es ≡ before ++ e ∷ after → Passes (plain_checks settings.first_attempt before e)
+pub plain_pass : (settings : Settings) (es : List Envelope) → IsFaultless settings es → (before : List Envelope) (e : Envelope) (after : List Envelope) → es ≡ before ++ e ∷ after → Passes (plain_checks settings.first_attempt before e)
 plain_pass settings es h before e after cut = front_of (plain_checks settings.first_attempt before e) (success_check settings.policy before e) (passed (checks settings before e) (h before e after cut))
 
-pub plain_passes : (settings : Settings) (es : List Envelope) → NoneFails settings es → AllPass es
+pub plain_passes : (settings : Settings) (es : List Envelope) → IsFaultless settings es → AllPass es
 plain_passes settings es h before e after cut =
     let all = plain_pass settings es h before e after cut in
     record { first = settings.first_attempt; inside = all.0; passes = all.1 }

@@ -4,7 +4,7 @@ use Rattle.std.specs.Prelude.{◌↔◌}
 use Rattle.std.specs.List.{AllByRecursion, list_any, list_all}
 use Rattle.cm_stream.specs.Readings.{Reading, Accepted, Refused, OtherLanguage, TooLong, IsReading}
 use Rattle.cm_stream.specs.OnePass.{reads}
-use Rattle.cm_stream.specs.Words.{sources, cases, hook_statuses, is_accepted, is_good_case, all_well}
+use Rattle.cm_stream.specs.References.{sources, cases, hook_statuses, is_accepted, is_good_case, all_well}
 use Rattle.cm_attempt.specs.Table.{is_good_status}
 use Rattle.cm_attempt.specs.declared.policy.Policy.{Policy}
 use Rattle.cm_stream.specs.Good.{SourceGood, MeetsSource, IsAccepted, AllWell}
@@ -17,7 +17,7 @@ use Rattle.cm_stream.proofs.OnePass.{is_read, reads_it}
 
 -- a good source meets what one pass makes of its text
 pub source_meets : (es before : List Envelope) (s : Source) (after : List Envelope) → SourceGood es before (envelope.Source s) after → MeetsSource es before s after (reads s.content)
-source_meets es before s after g = subst (MeetsSource es before s after) (sym (reads_it s.content g.1 g.2)) g.3
+source_meets es before s after g = subst (MeetsSource es before s after) (sym (reads_it s.content g.reading g.is_read)) g.meets
 
 pub accepted_read : (s : Source) → is_accepted (reads s.content) ≡ true → IsAccepted s
 accepted_read s = go (reads s.content) (is_read s.content)

@@ -6,9 +6,9 @@ use Rattle.std.specs.Str.{bytes_eq}
 use Rattle.cm_stream.specs.Readings.{Reading, Accepted, Refused, OtherLanguage, TooLong}
 use Rattle.cm_stream.specs.OnePass.{reads}
 use Rattle.cm_stream.specs.Sources.{plain}
-use Rattle.cm_stream.specs.Words
-use Rattle.cm_stream.specs.Words.{Name, same_name, declares, declares_it, times_declared, refers, is_run_started, is_run_finished, is_judged, has_run_started, has_run_finished, starts_of}
-use Rattle.cm_stream.specs.Good.{Sound, NumbersGood, MeetsSource, has_same_names, has_unknown_result, NothingBehind}
+use Rattle.cm_stream.specs.References
+use Rattle.cm_stream.specs.References.{Name, same_name, declares, declares_it, times_declared, refers, is_run_started, is_run_finished, is_judged, has_run_started, has_run_finished, starts_of}
+use Rattle.cm_stream.specs.Good.{Sound, NumbersGood, MeetsSource, has_same_names, has_unknown_result, NothingAfter}
 use Rattle.cm_stream.specs.Checks.{refers_to_unknown, declares_again, is_too_long, is_other_language}
 use Rattle.cm_envelope.specs.declared.envelope.Envelope.{Envelope}
 use Rattle.cm_envelope.specs.declared.envelope.Envelope.TheVariants as envelope
@@ -30,9 +30,9 @@ no_unknown_reference es before e after good cut = none_unknown before (refers be
 
 -- ---- DuplicateId and DuplicateUri
 
-pub names_behind : (ns ms : List Name) → has_same_names (ns ++ ms) ≡ false → has_same_names ms ≡ false
-names_behind [] ms h = h
-names_behind (n ∷ ns) ms h = names_behind ns ms (or_false _ _ h).1
+pub names_after : (ns ms : List Name) → has_same_names (ns ++ ms) ≡ false → has_same_names ms ≡ false
+names_after [] ms h = h
+names_after (n ∷ ns) ms h = names_after ns ms (or_false _ _ h).1
 
 names_before : (ns ms : List Name) → has_same_names (ns ++ ms) ≡ false → has_same_names ns ≡ false
 names_before [] ms h = refl
@@ -73,7 +73,7 @@ pub no_repeat : (es before : List Envelope) (e : Envelope) (after : List Envelop
 no_repeat es before e after good cut =
     let parts : flat_map declares es ≡ flat_map declares before ++ (declares e ++ flat_map declares after) = ap (flat_map declares) cut ∙ declared_append before (e ∷ after) in
     let distinct : has_same_names (flat_map declares before ++ (declares e ++ flat_map declares after)) ≡ false = ap has_same_names (sym parts) ∙ good.distinct in
-    let own : has_same_names (declares e) ≡ false = names_before (declares e) (flat_map declares after) (names_behind (flat_map declares before) (declares e ++ flat_map declares after) distinct) in
+    let own : has_same_names (declares e) ≡ false = names_before (declares e) (flat_map declares after) (names_after (flat_map declares before) (declares e ++ flat_map declares after) distinct) in
     rw (own, none_again before [] (declares e) (flat_map declares after) distinct) refl
 
 -- ---- SecondRunStarted
@@ -102,7 +102,7 @@ pub number_is_next : (first : ℕ) (es before : List Envelope) (s : TestCaseStar
 number_is_next first es before s after numbers cut = same_number s.attempt (first + length (starts_of s.test_case_id before)) (numbers before (envelope.TestCaseStarted s) after cut)
 
 pub no_overlap : (es before : List Envelope) (s : TestCaseStarted) (after : List Envelope) → Sound es → es ≡ before ++ envelope.TestCaseStarted s ∷ after
-    → not (list_all (λ x. Words.is_retried x.id before) (starts_of s.test_case_id before)) ≡ false
+    → not (list_all (λ x. References.is_retried x.id before) (starts_of s.test_case_id before)) ≡ false
 no_overlap es before s after good cut = ap not (good.retries before (envelope.TestCaseStarted s) after cut)
 
 -- ---- UnknownStatus
@@ -131,9 +131,9 @@ cut_at {X} p (x ∷ xs) h = go (p x) refl (cut_at p xs)
         let c = rec (sym rest ∙ h) in
         record { front = x ∷ c.front; here = c.here; back = c.back; cut = ap (λ ys. x ∷ ys) c.cut; passes = c.passes }
 
-nothing_behind : (e : Envelope) (after : List Envelope) → is_run_finished e ≡ true → NothingBehind e after → list_any is_judged after ≡ false
-nothing_behind (envelope.TestRunFinished f) after is h = h
-nothing_behind _ after is h = cc
+nothing_after : (e : Envelope) (after : List Envelope) → is_run_finished e ≡ true → NothingAfter e after → list_any is_judged after ≡ false
+nothing_after (envelope.TestRunFinished f) after is h = h
+nothing_after _ after is h = cc
 
 pub not_after : (es before : List Envelope) (e : Envelope) (after : List Envelope) → Sound es → es ≡ before ++ e ∷ after → (is_judged e && has_run_finished before) ≡ false
 not_after es before e after good cut = go (is_judged e) refl (has_run_finished before) refl
@@ -144,7 +144,7 @@ not_after es before e after good cut = go (is_judged e) refl (has_run_finished b
     go true ej true eb =
         let c = cut_at is_run_finished before eb in
         let whole_cut : es ≡ c.front ++ c.here ∷ (c.back ++ e ∷ after) = cut ∙ ap (λ xs. xs ++ e ∷ after) c.cut ∙ append_assoc c.front (c.here ∷ c.back) (e ∷ after) in
-        let none = nothing_behind c.here (c.back ++ e ∷ after) c.passes (good.order.finish_last c.front c.here (c.back ++ e ∷ after) whole_cut) in
+        let none = nothing_after c.here (c.back ++ e ∷ after) c.passes (good.order.finish_last c.front c.here (c.back ++ e ∷ after) whole_cut) in
         let no : is_judged e ≡ false = any_here is_judged c.back e after none in
         cc
 
@@ -160,7 +160,7 @@ run_finished es good = go (has_run_finished es) refl
 -- ---- MediaType, SourceTooLong and Language
 
 pub media_plain : (es before : List Envelope) (s : Source) (after : List Envelope) → Sound es → es ≡ before ++ envelope.Source s ∷ after → not (bytes_eq s.media_type plain) ≡ false
-media_plain es before s after good cut = ap not (good.sources before (envelope.Source s) after cut).0
+media_plain es before s after good cut = ap not (good.sources before (envelope.Source s) after cut).is_plain
 
 judged_reading : (es before : List Envelope) (s : Source) (after : List Envelope) (r : Reading) → MeetsSource es before s after r → (is_too_long r ≡ false) × (is_other_language r ≡ false)
 judged_reading es before s after (Accepted d) h = (refl, refl)

@@ -10,7 +10,7 @@ use Rattle.cm_attempt.specs.Worst.{worst_of}
 use Rattle.cm_attempt.specs.declared.policy.Policy.{Policy}
 use Rattle.cm_attempt.specs.declared.settings.Settings.{Settings}
 use Rattle.cm_stream.specs.Readings.{Accepted}
-use Rattle.cm_stream.specs.Words.{as_source, as_pickle, as_case, as_start, sources, pickles, cases, starts, starts_of, documents_of, find_pickle, find_case, pickle_step_ids, steps_of, moves, is_final, statuses, ends_well, is_good_case, says_success, run_succeeded}
+use Rattle.cm_stream.specs.References.{as_source, as_pickle, as_case, as_start, sources, pickles, cases, starts, starts_of, documents_of, find_pickle, find_case, pickle_step_ids, steps_of, moves, is_final, statuses, ends_well, is_good_case, says_success, run_succeeded}
 use Rattle.cm_attempt.specs.Calls.{whole, last_of}
 use Rattle.cm_stream.specs.Good.{Good, SuccessGood, AllWell, IsAccepted, MeetsSource}
 use Rattle.cm_stream.specs.Stream.{envelopes, unrun}
@@ -25,7 +25,7 @@ use Rattle.cm_envelope.specs.declared.envelope.TestCaseStarted.{TestCaseStarted}
 use Rattle.cm_envelope.specs.declared.envelope.TestRunFinished.{TestRunFinished}
 use Rattle.cm_envelope.specs.declared.pickle.Pickle.{Pickle}
 use Rattle.cm_stream.specs.declared.verdict.Counts.{Counts}
-use Rattle.cm_stream.proofs.Lists.{and_true, all_here, none_any, each_false, count_none, none_counted, found_cut}
+use Rattle.cm_stream.proofs.Lists.{and_true, all_here, none_any, each_false, count_none, none_counted, found_cut, any_found}
 use Rattle.cm_stream.proofs.Found.{bytes_are, bytes_same, found_at, each_found}
 use Rattle.cm_stream.proofs.Declared.{source_is, case_is, start_is}
 use Rattle.cm_stream.proofs.OnePass.{reads_it}
@@ -33,9 +33,7 @@ use Rattle.cm_stream.proofs.Readings.{source_meets}
 use Rattle.cm_stream.proofs.Refuted.{cut_at}
 use Rattle.cm_stream.proofs.Documents.{documents_both}
 use Rattle.cm_stream.proofs.Passing.{AllPass, plain_passes, was_not}
-use Rattle.cm_stream.proofs.OneRow.{OnlyOne, one_pickle, only_here}
-use Rattle.cm_stream.proofs.NewRows.{one_case}
-use Rattle.cm_stream.proofs.Refuses.{any_found}
+use Rattle.cm_stream.proofs.OneRow.{OnlyOne, one_pickle, only_here, one_case}
 use Rattle.cm_stream.proofs.NoFault.{good_have_no_fault}
 use Rattle.cm_stream.proofs.Streams.{read_is_told}
 
@@ -110,7 +108,7 @@ released_is_not_held settings allows_unrun bytes counts success run = (released,
           read = run.read;
           good = run.good;
           exact = run.exact;
-          succeeded = sym run.told ∙ p.succeeded;
+          succeeded = sym run.said ∙ p.succeeded;
           some_case = some_there (cases es) (ap (λ (n : Counts). n.cases == 0) (sym run.exact) ∙ p.some_case);
           each_named = λ k. all_named es (ap (λ (n : Counts). n.unrun) (sym run.exact) ∙ is_zero counts.unrun (p.each k));
         }
@@ -122,7 +120,7 @@ released_is_not_held settings allows_unrun bytes counts success run = (released,
         let there = read_is_told settings bytes r.lines r.read r.good in
         let same : envelopes run.lines ≡ es = cc in
         is_not_held allows_unrun success (counts.cases == 0) (counts.unrun == 0) (record {
-          succeeded = run.told ∙ ap run_succeeded same ∙ r.succeeded;
+          succeeded = run.said ∙ ap run_succeeded same ∙ r.succeeded;
           some_case = ap (λ (n : Counts). n.cases == 0) r.exact ∙ none_empty (cases es) r.some_case;
           each = λ k. zero_is counts.unrun (ap (λ (n : Counts). n.unrun) r.exact ∙ none_unrun es (r.each_named k));
         })
@@ -181,10 +179,10 @@ module _ (settings : Settings) (es : List Envelope) (good : Good settings es) (w
       record {
         document = accepted.0;
         accepted = accepted.1;
-        told = its.0;
-        one_document = ap (documents_of s.uri) cut ∙ documents_both s.uri front (envelope.Source s ∷ back) ∙ ap (λ xs. xs ++ documents_of s.uri back) its.1 ∙ its.2;
-        same_skeleton = its.3;
-        same_pickles = its.5;
+        found = its.document;
+        one_document = ap (documents_of s.uri) cut ∙ documents_both s.uri front (envelope.Source s ∷ back) ∙ ap (λ xs. xs ++ documents_of s.uri back) its.none_before ∙ its.one_after;
+        same_skeleton = its.same_skeleton;
+        same_pickles = its.same_pickles;
       }
 
   each_compiled : EachSourceIsCompiled es

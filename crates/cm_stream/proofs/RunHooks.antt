@@ -4,21 +4,19 @@ use Rattle.std.specs.Prelude.{count_by}
 use Rattle.std.specs.List.{list_any, list_all, AllByRecursion}
 use Rattle.std.specs.Str.{bytes_eq}
 use Rattle.cm_stream.specs.Texts.{Text}
-use Rattle.cm_stream.specs.Words.{RunHook, as_run_hook, as_run_hook_end, run_hooks, run_hook_ends, times_finished, is_hook_finished}
+use Rattle.cm_stream.specs.References.{RunHook, as_run_hook, as_run_hook_end, run_hooks, run_hook_ends, times_finished, is_hook_finished}
 use Rattle.cm_stream.specs.Good.{Sound, HookGood, HooksGood}
 use Rattle.cm_envelope.specs.declared.envelope.Envelope.{Envelope}
 use Rattle.cm_envelope.specs.declared.envelope.Envelope.TheVariants as envelope
 use Rattle.cm_envelope.specs.declared.envelope.TestRunFinished.{TestRunFinished}
 use Rattle.cm_envelope.specs.declared.envelope.TestRunHookStarted.{TestRunHookStarted}
 use Rattle.cm_envelope.specs.declared.envelope.TestRunHookFinished.{TestRunHookFinished}
-use Rattle.cm_stream.proofs.Lists.{all_here, all_true, each_true, none_counted, count_none, count_cut, count_past, found_cut}
-use Rattle.cm_stream.proofs.Found.{bytes_are, bytes_same, each_found}
+use Rattle.cm_stream.proofs.Lists.{all_here, all_true, each_true, none_counted, count_none, count_cut, count_past, found_cut, found_more, found_push}
+use Rattle.cm_stream.proofs.Found.{bytes_are, bytes_same, each_found, by_id}
 use Rattle.cm_stream.proofs.Declared.{declarer, declares_run_hook, is_any, run_hook_is}
 use Rattle.cm_stream.proofs.Ends.{EndsRun, till_end}
 use Rattle.cm_stream.proofs.Passing.{AllPass, was_not, by_lines, last_passes}
 use Rattle.cm_stream.proofs.Order.{TheEnd}
-use Rattle.cm_stream.proofs.Moves.{by_id}
-use Rattle.cm_stream.proofs.OneRow.{found_more, found_push}
 
 -- how many of the ends are of the run hook
 abbrev many : Text → List TestRunHookFinished → ℕ

@@ -15,7 +15,7 @@ use Rattle.cm_attempt.specs.Table.{has_repeat}
 use Rattle.cm_stream.specs.Readings.{Reading, Accepted, Refused, OtherLanguage, TooLong}
 use Rattle.cm_stream.specs.OnePass.{reads}
 use Rattle.cm_stream.specs.Sources.{DuePickle, plain, is_due}
-use Rattle.cm_stream.specs.Words.{SourceOf, DocumentOf, times_declared, declares_it, refers, as_source, as_document, as_pickle, sources, sources_of, documents_of, pickles_of, is_accepted, reading_of}
+use Rattle.cm_stream.specs.References.{SourceOf, DocumentOf, times_declared, declares_it, refers, as_source, as_document, as_pickle, sources, sources_of, documents_of, pickles_of, is_accepted, reading_of}
 use Rattle.cm_stream.specs.Good.{SourcesGood, SourceGood, MeetsSource}
 use Rattle.cm_stream.specs.Checks.{is_too_long, is_other_language, is_uri_accepted, has_skeleton_of, due_pickles, first_ids, document_ids, is_next_pickle, lacks, is_incomplete}
 use Rattle.cm_envelope.specs.declared.envelope.Envelope.{Envelope}
@@ -28,13 +28,12 @@ use Rattle.cm_stream.proofs.OnePass.{is_read}
 use Rattle.cm_stream.proofs.Readings.{each_refused}
 use Rattle.cm_stream.proofs.Skeletons.{skeletons_are}
 use Rattle.cm_stream.proofs.Lists.{or_false, and_true, none_any, each_false}
-use Rattle.cm_stream.proofs.Found.{still_found, each_found, bytes_same, bytes_are}
+use Rattle.cm_stream.proofs.Found.{still_found, each_found, bytes_same, bytes_are, by_id, none_found}
 use Rattle.cm_stream.proofs.Declared.{declarer, declares_source, declares_document, source_is, document_is, pickle_is, same_any}
 use Rattle.cm_stream.proofs.Documents.{documents_both, pickles_both, the_only}
 use Rattle.cm_stream.proofs.Ends.{till_end}
 use Rattle.cm_stream.proofs.Passing.{LinePasses, AllPass, was_not}
 use Rattle.cm_stream.proofs.Distinct.{all_distinct, all_refer, not_counted, at_most_once}
-use Rattle.cm_stream.proofs.Moves.{none_found, by_id}
 use Rattle.cm_stream.proofs.Order.{TheEnd}
 
 -- ---- lists
@@ -207,7 +206,7 @@ module _ (es : List Envelope) (pass : AllPass es) where
   pickles_more : (u : Text) (xs : List Envelope) (e : Envelope) → pickles_of u (xs ++ e ∷ []) ≡ pickles_of u xs ++ pickles_of u (e ∷ [])
   pickles_more u xs e = pickles_both u xs (e ∷ [])
 
-  -- the ids of the one document, where it stands before
+  -- the ids of the one document, where it comes before
   ids_before : (u : Text) (g : GherkinDocument) → documents_of u es ≡ g ∷ [] → (before : List Envelope) (rest : List Envelope) → es ≡ before ++ rest → times_declared (DocumentOf u) before ≡ 1 → document_ids u before ≡ g.ids
   ids_before u g all before rest cut one =
       let at = declarer (DocumentOf u) as_document (λ x. bytes_eq u x.uri) (declares_document u) before one in
@@ -284,9 +283,6 @@ module _ (es : List Envelope) (pass : AllPass es) where
 
   -- ---- each source
 
-  not_short : (m n : ℕ) → m ≡ n → (n == 0) ≡ false → (m == 0) ≡ false
-  not_short m n h k = ap (λ x. x == 0) h ∙ k
-
   whole_list : (done rest : List DuePickle) (n : ℕ) → n ≡ length done → nat_lt n (length (done ++ rest)) ≡ false → rest ≡ []
   whole_list done [] n h k = refl
   whole_list done (x ∷ rest) n h k = absurd (longer done n h k)
@@ -304,7 +300,7 @@ module _ (es : List Envelope) (pass : AllPass es) where
     meets before s after cut Refused read long other =
         let only = the_source before s after cut in
         let none : documents_of s.uri es ≡ [] = go (documents_of s.uri es) (documents_fit s only) in
-        (none, no_pickle s.uri none)
+        record { no_document = none; no_pickle = no_pickle s.uri none }
       where
         go : (ds : List GherkinDocument) → AllByRecursion (DocumentFits s) ds → ds ≡ []
         go [] h = refl
@@ -328,7 +324,14 @@ module _ (es : List Envelope) (pass : AllPass es) where
         let long : length (pickles_of s.uri es) ≡ length m.done = lists_same_length (is_due (one.0).ids) (pickles_of s.uri es) m.done m.same in
         let enough : nat_lt (length (pickles_of s.uri es)) (length (m.done ++ m.rest)) ≡ false = ap (λ ds. nat_lt (length (pickles_of s.uri es)) (length ds)) (sym m.parts) ∙ ap (λ ps. nat_lt (length ps) (length (compiled d))) same_pickles ∙ parts.1 in
         let all : compiled d ≡ m.done = m.parts ∙ ap (λ r. m.done ++ r) (whole_list m.done m.rest (length (pickles_of s.uri es)) long enough) ∙ append-nil m.done in
-        (one.0, early, later, skeletons_are (one.0).document d (ap (λ r. has_skeleton_of (one.0).document (Some r)) (sym read) ∙ fits.skeleton), fits.distinct, ap (same_list (is_due (one.0).ids) (pickles_of s.uri es)) all ∙ m.same)
+        record {
+          document = one.0;
+          none_before = early;
+          one_after = later;
+          same_skeleton = skeletons_are (one.0).document d (ap (λ r. has_skeleton_of (one.0).document (Some r)) (sym read) ∙ fits.skeleton);
+          distinct_ids = fits.distinct;
+          same_pickles = ap (same_list (is_due (one.0).ids) (pickles_of s.uri es)) all ∙ m.same;
+        }
 
     refused : (before : List Envelope) (p : ParseError) (after : List Envelope) → es ≡ before ++ envelope.ParseError p ∷ after → list_any (λ s. is_accepted (reads s.content)) (sources_of p.source.uri es) ≡ false
     refused before p after cut =
@@ -351,6 +354,11 @@ module _ (es : List Envelope) (pass : AllPass es) where
         at : (e : Envelope) → es ≡ before ++ e ∷ after → SourceGood es before e after
         at (envelope.Source s) cut =
             let h = (passes_at before (envelope.Source s) after cut).passes in
-            (was_not (bytes_eq s.media_type plain) (h.1).0, reads s.content, is_read s.content, meets before s after cut (reads s.content) refl ((h.1).1).0 (((h.1).1).1).0)
+            record {
+              is_plain = was_not (bytes_eq s.media_type plain) (h.1).0;
+              reading = reads s.content;
+              is_read = is_read s.content;
+              meets = meets before s after cut (reads s.content) refl ((h.1).1).0 (((h.1).1).1).0;
+            }
         at (envelope.ParseError p) cut = each_refused (sources_of p.source.uri es) (each_false (λ s. is_accepted (reads s.content)) (sources_of p.source.uri es) (refused before p after cut))
         at _ cut = tt

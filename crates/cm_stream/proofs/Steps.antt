@@ -6,17 +6,15 @@ use Rattle.std.specs.Option.{option_map_or}
 use Rattle.std.specs.Str.{bytes_eq}
 use Rattle.cm_attempt.specs.Table.{has_text}
 use Rattle.cm_stream.specs.Texts.{Text}
-use Rattle.cm_stream.specs.Words.{PickleStep, Step, Run, same_name, declares_it, times_declared, if_any, as_case, cases, find_case}
+use Rattle.cm_stream.specs.References.{PickleStep, Step, Run, same_name, declares_it, times_declared, if_any, as_case, cases, find_case}
 use Rattle.cm_envelope.specs.declared.envelope.Envelope.{Envelope}
 use Rattle.cm_envelope.specs.declared.envelope.Envelope.TheVariants as envelope
 use Rattle.cm_envelope.specs.declared.pickle.PickleStep as pickle_step
 use Rattle.cm_envelope.specs.declared.envelope.TestCase.{TestCase}
 use Rattle.cm_envelope.specs.declared.envelope.TestStep.{TestStep}
-use Rattle.cm_stream.proofs.Lists.{or_false}
-use Rattle.cm_stream.proofs.Declared.{none_of}
-use Rattle.cm_stream.proofs.Moves.{step_ids}
+use Rattle.cm_stream.proofs.Lists.{or_false, or_no, found_any}
+use Rattle.cm_stream.proofs.Declared.{none_of, known, step_ids}
 use Rattle.cm_stream.proofs.OneRow.{OnlyOne}
-use Rattle.cm_stream.proofs.Refuses.{known, found_any}
 
 -- the case has this id and this step
 abbrev pub has_step_of : Text → Text → TestCase → Bool
@@ -47,10 +45,6 @@ both_none p q [] h = refl
 both_none p q (x ∷ xs) h =
     let k = or_false (p x) (list_any p xs) h in
     rw (k.0, both_none p q xs k.1) refl
-
-or_no : (b : Bool) → (b || false) ≡ b
-or_no true = refl
-or_no false = refl
 
 pub one_with : {X : Type 0} (p q : X → Bool) (xs : List X) (y : X) → OnlyOne p xs → find p xs ≡ Some y → list_any (λ x. p x && q x) xs ≡ q y
 one_with p q [] y one found = cc

@@ -12,7 +12,7 @@ use Rattle.cm_attempt.specs.declared.policy.Policy.{Policy}
 use Rattle.cm_attempt.specs.declared.settings.Settings.{Settings}
 use Rattle.cm_attempt.specs.declared.policy.Policy.TheVariants.{Strict}
 use Rattle.cm_stream.specs.Checks.{fault, fault_at_end}
-use Rattle.cm_stream.specs.Stream.{Told, At, NoFault, at_line, at_end, counts_of}
+use Rattle.cm_stream.specs.Stream.{FirstFault, At, NoFault, at_line, at_end, counts_of}
 use Rattle.cm_envelope.specs.declared.envelope.Envelope.{Envelope}
 use Rattle.cm_envelope.specs.declared.envelope.Envelope.TheVariants as envelope
 use Rattle.cm_envelope.specs.declared.envelope.Status.{Status}
@@ -137,9 +137,9 @@ no_steps_front =
 abbrev pub empty_case : Envelope
 empty_case = envelope.TestCase (record { id = codes "c1"; pickle_id = codes "4"; test_run_started_id = None; test_steps = [] })
 
--- ---- what is told
+-- ---- what is reported
 
--- what is told of lines that are all envelopes, by its counts or its fault
+-- what is reported of lines that are all envelopes, by its counts or its fault
 pub data Shown : Type 0 where
   Good : Counts → Shown
   Fault : ℕ → Finding → Shown
@@ -149,11 +149,11 @@ pub data Shown : Type 0 where
 abbrev pub by : Policy → (first : ℕ) → Settings
 by policy first = record { policy = policy; first_attempt = first }
 
-abbrev pub told_from : Settings → List Envelope → ℕ → List Envelope → Told
+abbrev pub told_from : Settings → List Envelope → ℕ → List Envelope → FirstFault
 told_from settings before n [] = at_end n before (fault_at_end before)
 told_from settings before n (e ∷ es) = at_line n (fault settings before e) (told_from settings (before ++ e ∷ []) (suc n) es)
 
-abbrev pub show : Told → Shown
+abbrev pub show : FirstFault → Shown
 show (NoFault es) = Good (counts_of es)
 show (At n f) = Fault n f
 show _ = Other

@@ -1,4 +1,4 @@
--- What is told of a stream, and good streams.
+-- What is reported of a stream, and good streams.
 use Rattle.std.proofs.Common.{◌≡◌, ℕ, ◌+◌, ◌<◌, ◌≤◌, refl, sym, ap, ◌∙◌, List, [], ◌∷◌, ◌++◌, Option, Some, None, Result, Ok, Err, true, false, Bool, append_assoc, append-nil, map, length, arith, subst}
 use Rattle.cm_attempt.specs.declared.settings.Settings.{Settings}
 use Rattle.cm_stream.specs.Checks.{fault, fault_at_end}
@@ -6,13 +6,13 @@ use Rattle.cm_stream.specs.Laws.{HasNoFault}
 use Rattle.cm_stream.specs.declared.verdict.Verdict.{Verdict}
 use Rattle.cm_stream.specs.declared.verdict.Verdict.TheVariants as verdict
 use Rattle.cm_stream.specs.Findings.{Finding}
-use Rattle.cm_stream.specs.Told.{FoundIsNotGood, AnswersAreRight}
+use Rattle.cm_stream.specs.StreamLaws.{FoundIsNotGood, AnswersAreRight}
 use Rattle.cm_stream.specs.Good.{Good}
-use Rattle.cm_stream.specs.Words.{run_succeeded}
-use Rattle.cm_stream.specs.Stream.{Told, Troubled, GoodWith, answer_in, answer_for, GoodRunIn, NoneIsGood, fed, numbered, read_line, as_read, envelopes, counts_of, IsRead, IsGoodStream, IsGoodRun, At, NoFault, at_end, at_line, shown, told_line, told_of, told, HaveFirstLines}
+use Rattle.cm_stream.specs.References.{run_succeeded}
+use Rattle.cm_stream.specs.Stream.{FirstFault, Troubled, GoodWith, answer_in, answer_for, GoodRunIn, NoneIsGood, fed, numbered, read_line, as_read, envelopes, counts_of, IsRead, IsGoodStream, IsGoodRun, At, NoFault, at_end, at_line, shown, first_fault_line, first_fault_of, first_fault, HaveFirstLines}
 use Rattle.cm_envelope.specs.declared.envelope.Envelope.{Envelope}
 use Rattle.cm_envelope.specs.Lines.{is_blank}
-use Rattle.cm_envelope.specs.Reading.{Fault as LineFault, envelope_of_line}
+use Rattle.cm_envelope.specs.Reading.{LineFault, envelope_of_line}
 use Rattle.cm_envelope.specs.declared.feed.Trouble.{Trouble}
 use Rattle.cm_stream.specs.declared.verdict.Counts.{Counts}
 use Rattle.cm_stream.proofs.NoFault.{good_have_no_fault}
@@ -32,7 +32,7 @@ module _ (settings : Settings) where
   empty_isnt [] e a h = cc
   empty_isnt (x ∷ b) e a h = cc
 
-  clean : (before : List Envelope) (n : ℕ) (ls : List (List ℕ)) (t : Option Trouble) (es : List Envelope) → told_of settings before n ls t ≡ NoFault es → Clean before n ls t es
+  clean : (before : List Envelope) (n : ℕ) (ls : List (List ℕ)) (t : Option Trouble) (es : List Envelope) → first_fault_of settings before n ls t ≡ NoFault es → Clean before n ls t es
   clean before n [] (Some t) es h = cc
   clean before n [] None es h = go (fault_at_end before) refl h
     where
@@ -60,25 +60,25 @@ module _ (settings : Settings) where
               let rest : envelopes c.lines ≡ b ++ x ∷ a = cc in
               ap (λ bs. fault settings bs x) (ap (λ z. before ++ z ∷ b) (sym first) ∙ sym (append_assoc before (e ∷ []) b)) ∙ c.none b x a rest
 
-      on_fault : (e : Envelope) → is_blank l ≡ false → envelope_of_line l ≡ Ok e → (o : Option Finding) → fault settings before e ≡ o → at_line n o (told_of settings (before ++ e ∷ []) (n + 1) ls t) ≡ NoFault es
-          → (told_of settings (before ++ e ∷ []) (n + 1) ls t ≡ NoFault es → Clean (before ++ e ∷ []) (n + 1) ls t es) → Clean before n (l ∷ ls) t es
+      on_fault : (e : Envelope) → is_blank l ≡ false → envelope_of_line l ≡ Ok e → (o : Option Finding) → fault settings before e ≡ o → at_line n o (first_fault_of settings (before ++ e ∷ []) (n + 1) ls t) ≡ NoFault es
+          → (first_fault_of settings (before ++ e ∷ []) (n + 1) ls t ≡ NoFault es → Clean (before ++ e ∷ []) (n + 1) ls t es) → Clean before n (l ∷ ls) t es
       on_fault e filled is (Some f) k told rec = cc
       on_fault e filled is None k told rec = line e filled is k (rec told)
 
-      on_read : is_blank l ≡ false → (r : Result Envelope LineFault) → envelope_of_line l ≡ r → told_line settings before n (Some r) (λ (now : List Envelope). told_of settings now (n + 1) ls t) ≡ NoFault es
-          → ((e : Envelope) → told_of settings (before ++ e ∷ []) (n + 1) ls t ≡ NoFault es → Clean (before ++ e ∷ []) (n + 1) ls t es) → Clean before n (l ∷ ls) t es
+      on_read : is_blank l ≡ false → (r : Result Envelope LineFault) → envelope_of_line l ≡ r → first_fault_line settings before n (Some r) (λ (now : List Envelope). first_fault_of settings now (n + 1) ls t) ≡ NoFault es
+          → ((e : Envelope) → first_fault_of settings (before ++ e ∷ []) (n + 1) ls t ≡ NoFault es → Clean (before ++ e ∷ []) (n + 1) ls t es) → Clean before n (l ∷ ls) t es
       on_read filled (Err b) is told rec = cc
       on_read filled (Ok e) is told rec = on_fault e filled is (fault settings before e) refl told (rec e)
 
-      go : (b : Bool) → is_blank l ≡ b → (told_of settings before (n + 1) ls t ≡ NoFault es → Clean before (n + 1) ls t es)
-          → ((e : Envelope) → told_of settings (before ++ e ∷ []) (n + 1) ls t ≡ NoFault es → Clean (before ++ e ∷ []) (n + 1) ls t es) → Clean before n (l ∷ ls) t es
+      go : (b : Bool) → is_blank l ≡ b → (first_fault_of settings before (n + 1) ls t ≡ NoFault es → Clean before (n + 1) ls t es)
+          → ((e : Envelope) → first_fault_of settings (before ++ e ∷ []) (n + 1) ls t ≡ NoFault es → Clean (before ++ e ∷ []) (n + 1) ls t es) → Clean before n (l ∷ ls) t es
       go true e skip rec =
           let c = skip (rw e at h) in
           record { lines = c.lines; no_trouble = c.no_trouble; read = rw e c.read; all = c.all; none = c.none; end = c.end }
       go false e skip rec = on_read e (envelope_of_line l) refl (rw e at h) rec
 
   -- Good only for good streams, which say this of success
-  good_run : (bytes : List ℕ) (es : List Envelope) → told settings bytes ≡ NoFault es → IsGoodRun settings bytes (counts_of es) (run_succeeded es)
+  good_run : (bytes : List ℕ) (es : List Envelope) → first_fault settings bytes ≡ NoFault es → IsGoodRun settings bytes (counts_of es) (run_succeeded es)
   good_run bytes es h =
       let c = clean [] 1 (fed bytes).lines (fed bytes).trouble es h in
       let faultless : HasNoFault settings (envelopes c.lines) = record { lines = λ b e a cut. c.none b e a cut; end = ap fault_at_end (sym c.all) ∙ c.end } in
@@ -87,21 +87,21 @@ module _ (settings : Settings) where
         read = record { no_trouble = c.no_trouble; read = c.read };
         good = faultless_are_good settings (envelopes c.lines) faultless;
         exact = ap counts_of c.all;
-        told = ap run_succeeded c.all;
+        said = ap run_succeeded c.all;
       }
 
   -- the stream of a run
   pub stream_of : (bytes : List ℕ) (counts : Counts) (success : Bool) → IsGoodRun settings bytes counts success → IsGoodStream settings bytes counts
   stream_of bytes counts success r = record { lines = r.lines; read = r.read; good = r.good; exact = r.exact }
 
-  pub good_only : (bytes : List ℕ) (es : List Envelope) → told settings bytes ≡ NoFault es → IsGoodStream settings bytes (counts_of es)
+  pub good_only : (bytes : List ℕ) (es : List Envelope) → first_fault settings bytes ≡ NoFault es → IsGoodStream settings bytes (counts_of es)
   good_only bytes es h = stream_of bytes (counts_of es) (run_succeeded es) (good_run bytes es h)
 
   -- ---- the other direction
 
   told_good : (before : List Envelope) (n : ℕ) (ls : List (List ℕ)) (lines : List (ℕ × Envelope)) → map read_line (numbered n ls) ≡ map as_read lines
       → ((b : List Envelope) (e : Envelope) (a : List Envelope) → envelopes lines ≡ b ++ e ∷ a → fault settings (before ++ b) e ≡ None) → fault_at_end (before ++ envelopes lines) ≡ None
-      → told_of settings before n ls None ≡ NoFault (before ++ envelopes lines)
+      → first_fault_of settings before n ls None ≡ NoFault (before ++ envelopes lines)
   told_good before n [] [] read none end =
       let here : fault_at_end before ≡ None = ap fault_at_end (sym (append-nil before)) ∙ end in
       rw here (ap NoFault (sym (append-nil before)))
@@ -112,8 +112,8 @@ module _ (settings : Settings) where
           → ((b : List Envelope) (e : Envelope) (a : List Envelope) → envelopes lines ≡ b ++ e ∷ a → fault settings (before ++ b) e ≡ None) → fault_at_end (before ++ envelopes lines) ≡ None
           → ((e : Envelope) (more : List (ℕ × Envelope)) → map read_line (numbered (n + 1) ls) ≡ map as_read more
           → ((b : List Envelope) (x : Envelope) (a : List Envelope) → envelopes more ≡ b ++ x ∷ a → fault settings ((before ++ e ∷ []) ++ b) x ≡ None) → fault_at_end ((before ++ e ∷ []) ++ envelopes more) ≡ None
-          → told_of settings (before ++ e ∷ []) (n + 1) ls None ≡ NoFault ((before ++ e ∷ []) ++ envelopes more))
-          → told_of settings before n (l ∷ ls) None ≡ NoFault (before ++ envelopes lines)
+          → first_fault_of settings (before ++ e ∷ []) (n + 1) ls None ≡ NoFault ((before ++ e ∷ []) ++ envelopes more))
+          → first_fault_of settings before n (l ∷ ls) None ≡ NoFault (before ++ envelopes lines)
       filled is [] read none end rec = cc
       filled is (x ∷ lines) read none end rec =
           let first : ◌≡◌ {A = ℕ × Result Envelope LineFault} (n, envelope_of_line l) (as_read x) = cc in
@@ -126,91 +126,91 @@ module _ (settings : Settings) where
 
       go : (b : Bool) → is_blank l ≡ b
           → (map read_line (numbered (n + 1) ls) ≡ map as_read lines → ((b : List Envelope) (e : Envelope) (a : List Envelope) → envelopes lines ≡ b ++ e ∷ a → fault settings (before ++ b) e ≡ None)
-          → fault_at_end (before ++ envelopes lines) ≡ None → told_of settings before (n + 1) ls None ≡ NoFault (before ++ envelopes lines))
+          → fault_at_end (before ++ envelopes lines) ≡ None → first_fault_of settings before (n + 1) ls None ≡ NoFault (before ++ envelopes lines))
           → ((e : Envelope) (more : List (ℕ × Envelope)) → map read_line (numbered (n + 1) ls) ≡ map as_read more
           → ((b : List Envelope) (x : Envelope) (a : List Envelope) → envelopes more ≡ b ++ x ∷ a → fault settings ((before ++ e ∷ []) ++ b) x ≡ None) → fault_at_end ((before ++ e ∷ []) ++ envelopes more) ≡ None
-          → told_of settings (before ++ e ∷ []) (n + 1) ls None ≡ NoFault ((before ++ e ∷ []) ++ envelopes more))
-          → told_of settings before n (l ∷ ls) None ≡ NoFault (before ++ envelopes lines)
+          → first_fault_of settings (before ++ e ∷ []) (n + 1) ls None ≡ NoFault ((before ++ e ∷ []) ++ envelopes more))
+          → first_fault_of settings before n (l ∷ ls) None ≡ NoFault (before ++ envelopes lines)
       go true e skip rec = rw e (skip (rw e at read) none end)
       go false e skip rec = filled e lines (rw e at read) none end rec
 
-  -- A good list of lines is told as such.
-  pub read_is_told : (bytes : List ℕ) (lines : List (ℕ × Envelope)) → IsRead bytes lines → Good settings (envelopes lines) → told settings bytes ≡ NoFault (envelopes lines)
+  -- A good list of lines is reported as such.
+  pub read_is_told : (bytes : List ℕ) (lines : List (ℕ × Envelope)) → IsRead bytes lines → Good settings (envelopes lines) → first_fault settings bytes ≡ NoFault (envelopes lines)
   read_is_told bytes lines read good =
       let faultless = good_have_no_fault settings (envelopes lines) good in
-      let here : told_of settings [] 1 (fed bytes).lines None ≡ NoFault (envelopes lines) = told_good [] 1 (fed bytes).lines lines read.read (λ b e a c. faultless.lines b e a c) faultless.end in
-      ap (told_of settings [] 1 (fed bytes).lines) read.no_trouble ∙ here
+      let here : first_fault_of settings [] 1 (fed bytes).lines None ≡ NoFault (envelopes lines) = told_good [] 1 (fed bytes).lines lines read.read (λ b e a c. faultless.lines b e a c) faultless.end in
+      ap (first_fault_of settings [] 1 (fed bytes).lines) read.no_trouble ∙ here
 
-  pub good_is_told : (bytes : List ℕ) (counts : Counts) → IsGoodStream settings bytes counts → (es : List Envelope) × (told settings bytes ≡ NoFault es) × (counts ≡ counts_of es)
+  pub good_is_told : (bytes : List ℕ) (counts : Counts) → IsGoodStream settings bytes counts → (es : List Envelope) × (first_fault settings bytes ≡ NoFault es) × (counts ≡ counts_of es)
   good_is_told bytes counts g = (envelopes g.lines, read_is_told bytes g.lines g.read g.good, g.exact)
 
   -- the answer for a good run
-  run_is_told : (bytes : List ℕ) (counts : Counts) (success : Bool) → IsGoodRun settings bytes counts success → answer_for (told settings bytes) ≡ GoodWith counts success
+  run_is_told : (bytes : List ℕ) (counts : Counts) (success : Bool) → IsGoodRun settings bytes counts success → answer_for (first_fault settings bytes) ≡ GoodWith counts success
   run_is_told bytes counts success r =
       let here = read_is_told bytes r.lines r.read r.good in
       let exact = r.exact in
-      let said = r.told in
+      let said = r.said in
       cc
 
   -- ---- a finding is read from the lines up to its own
 
-  at_is_behind : (before : List Envelope) (n : ℕ) (ls : List (List ℕ)) (t : Option Trouble) (m : ℕ) (f : Finding) → told_of settings before n ls t ≡ At m f → n ≤ m
-  at_is_behind before n [] (Some t) m f h = cc
-  at_is_behind before n [] None m f h = go (fault_at_end before) h
+  at_is_after : (before : List Envelope) (n : ℕ) (ls : List (List ℕ)) (t : Option Trouble) (m : ℕ) (f : Finding) → first_fault_of settings before n ls t ≡ At m f → n ≤ m
+  at_is_after before n [] (Some t) m f h = cc
+  at_is_after before n [] None m f h = go (fault_at_end before) h
     where
       go : (o : Option Finding) → at_end n before o ≡ At m f → n ≤ m
       go None k = cc
       go (Some g) k = let same : n ≡ m = cc in omega arith
-  at_is_behind before n (l ∷ ls) t m f h = go (shown l) h (at_is_behind before (n + 1) ls t m f) (λ e. at_is_behind (before ++ e ∷ []) (n + 1) ls t m f)
+  at_is_after before n (l ∷ ls) t m f h = go (shown l) h (at_is_after before (n + 1) ls t m f) (λ e. at_is_after (before ++ e ∷ []) (n + 1) ls t m f)
     where
-      on_fault : (e : Envelope) (o : Option Finding) → at_line n o (told_of settings (before ++ e ∷ []) (n + 1) ls t) ≡ At m f → (told_of settings (before ++ e ∷ []) (n + 1) ls t ≡ At m f → n + 1 ≤ m) → n ≤ m
+      on_fault : (e : Envelope) (o : Option Finding) → at_line n o (first_fault_of settings (before ++ e ∷ []) (n + 1) ls t) ≡ At m f → (first_fault_of settings (before ++ e ∷ []) (n + 1) ls t ≡ At m f → n + 1 ≤ m) → n ≤ m
       on_fault e None k rec = let later = rec k in omega arith
       on_fault e (Some g) k rec = let same : n ≡ m = cc in omega arith
 
-      go : (o : Option (Result Envelope LineFault)) → told_line settings before n o (λ (now : List Envelope). told_of settings now (n + 1) ls t) ≡ At m f → (told_of settings before (n + 1) ls t ≡ At m f → n + 1 ≤ m)
-          → ((e : Envelope) → told_of settings (before ++ e ∷ []) (n + 1) ls t ≡ At m f → n + 1 ≤ m) → n ≤ m
+      go : (o : Option (Result Envelope LineFault)) → first_fault_line settings before n o (λ (now : List Envelope). first_fault_of settings now (n + 1) ls t) ≡ At m f → (first_fault_of settings before (n + 1) ls t ≡ At m f → n + 1 ≤ m)
+          → ((e : Envelope) → first_fault_of settings (before ++ e ∷ []) (n + 1) ls t ≡ At m f → n + 1 ≤ m) → n ≤ m
       go None k skip rec = let later = skip k in omega arith
       go (Some (Err b)) k skip rec = let same : n ≡ m = cc in omega arith
       go (Some (Ok e)) k skip rec = on_fault e (fault settings before e) k (rec e)
 
-  told_by_front : (before : List Envelope) (n : ℕ) (front behind more : List (List ℕ)) (t u : Option Trouble) (m : ℕ) (f : Finding) → told_of settings before n (front ++ behind) t ≡ At m f → m < n + length front
-      → told_of settings before n (front ++ more) u ≡ At m f
-  told_by_front before n [] behind more t u m f h lt = let le = at_is_behind before n behind t m f h in absurd (omega arith)
-  told_by_front before n (l ∷ front) behind more t u m f h lt =
-      go (shown l) h (λ k. told_by_front before (n + 1) front behind more t u m f k (omega arith)) (λ e k. told_by_front (before ++ e ∷ []) (n + 1) front behind more t u m f k (omega arith))
+  told_by_front : (before : List Envelope) (n : ℕ) (front later more : List (List ℕ)) (t u : Option Trouble) (m : ℕ) (f : Finding) → first_fault_of settings before n (front ++ later) t ≡ At m f → m < n + length front
+      → first_fault_of settings before n (front ++ more) u ≡ At m f
+  told_by_front before n [] later more t u m f h lt = let le = at_is_after before n later t m f h in absurd (omega arith)
+  told_by_front before n (l ∷ front) later more t u m f h lt =
+      go (shown l) h (λ k. told_by_front before (n + 1) front later more t u m f k (omega arith)) (λ e k. told_by_front (before ++ e ∷ []) (n + 1) front later more t u m f k (omega arith))
     where
-      on_fault : (e : Envelope) (o : Option Finding) → at_line n o (told_of settings (before ++ e ∷ []) (n + 1) (front ++ behind) t) ≡ At m f
-          → (told_of settings (before ++ e ∷ []) (n + 1) (front ++ behind) t ≡ At m f → told_of settings (before ++ e ∷ []) (n + 1) (front ++ more) u ≡ At m f) → at_line n o (told_of settings (before ++ e ∷ []) (n + 1) (front ++ more) u) ≡ At m f
+      on_fault : (e : Envelope) (o : Option Finding) → at_line n o (first_fault_of settings (before ++ e ∷ []) (n + 1) (front ++ later) t) ≡ At m f
+          → (first_fault_of settings (before ++ e ∷ []) (n + 1) (front ++ later) t ≡ At m f → first_fault_of settings (before ++ e ∷ []) (n + 1) (front ++ more) u ≡ At m f) → at_line n o (first_fault_of settings (before ++ e ∷ []) (n + 1) (front ++ more) u) ≡ At m f
       on_fault e None k rec = rec k
       on_fault e (Some g) k rec = k
 
-      go : (o : Option (Result Envelope LineFault)) → told_line settings before n o (λ (now : List Envelope). told_of settings now (n + 1) (front ++ behind) t) ≡ At m f
-          → (told_of settings before (n + 1) (front ++ behind) t ≡ At m f → told_of settings before (n + 1) (front ++ more) u ≡ At m f)
-          → ((e : Envelope) → told_of settings (before ++ e ∷ []) (n + 1) (front ++ behind) t ≡ At m f → told_of settings (before ++ e ∷ []) (n + 1) (front ++ more) u ≡ At m f)
-          → told_line settings before n o (λ (now : List Envelope). told_of settings now (n + 1) (front ++ more) u) ≡ At m f
+      go : (o : Option (Result Envelope LineFault)) → first_fault_line settings before n o (λ (now : List Envelope). first_fault_of settings now (n + 1) (front ++ later) t) ≡ At m f
+          → (first_fault_of settings before (n + 1) (front ++ later) t ≡ At m f → first_fault_of settings before (n + 1) (front ++ more) u ≡ At m f)
+          → ((e : Envelope) → first_fault_of settings (before ++ e ∷ []) (n + 1) (front ++ later) t ≡ At m f → first_fault_of settings (before ++ e ∷ []) (n + 1) (front ++ more) u ≡ At m f)
+          → first_fault_line settings before n o (λ (now : List Envelope). first_fault_of settings now (n + 1) (front ++ more) u) ≡ At m f
       go None k skip rec = skip k
       go (Some (Err b)) k skip rec = k
       go (Some (Ok e)) k skip rec = on_fault e (fault settings before e) k (rec e)
 
   -- No good stream has the lines up to a finding.
-  pub none_is_good : (bytes other : List ℕ) (n : ℕ) (f : Finding) (counts : Counts) → told settings bytes ≡ At n f → HaveFirstLines n bytes other → IsGoodStream settings other counts → ⊥
+  pub none_is_good : (bytes other : List ℕ) (n : ℕ) (f : Finding) (counts : Counts) → first_fault settings bytes ≡ At n f → HaveFirstLines n bytes other → IsGoodStream settings other counts → ⊥
   none_is_good bytes other n f counts h begins good =
       let more = begins.other_rest in
       let front = begins.first in
-      let behind = begins.rest in
-      let mine : told_of settings [] 1 (front ++ behind) (fed bytes).trouble ≡ At n f = ap (λ ls. told_of settings [] 1 ls (fed bytes).trouble) (sym begins.here) ∙ h in
+      let later = begins.rest in
+      let mine : first_fault_of settings [] 1 (front ++ later) (fed bytes).trouble ≡ At n f = ap (λ ls. first_fault_of settings [] 1 ls (fed bytes).trouble) (sym begins.here) ∙ h in
       let long : length front ≡ n = begins.count in
-      let its : told_of settings [] 1 (front ++ more) (fed other).trouble ≡ At n f = told_by_front [] 1 front behind more (fed bytes).trouble (fed other).trouble n f mine (omega arith) in
-      let told_other : told settings other ≡ At n f = ap (λ ls. told_of settings [] 1 ls (fed other).trouble) begins.there ∙ its in
+      let its : first_fault_of settings [] 1 (front ++ more) (fed other).trouble ≡ At n f = told_by_front [] 1 front later more (fed bytes).trouble (fed other).trouble n f mine (omega arith) in
+      let told_other : first_fault settings other ≡ At n f = ap (λ ls. first_fault_of settings [] 1 ls (fed other).trouble) begins.there ∙ its in
       let good_other = (good_is_told other counts good).1 in
       cc
 
-  pub not_good : (bytes : List ℕ) (n : ℕ) (f : Finding) (counts : Counts) → told settings bytes ≡ At n f → IsGoodStream settings bytes counts → ⊥
+  pub not_good : (bytes : List ℕ) (n : ℕ) (f : Finding) (counts : Counts) → first_fault settings bytes ≡ At n f → IsGoodStream settings bytes counts → ⊥
   not_good bytes n f counts h good = let told_good = (good_is_told bytes counts good).1 in cc
 
   -- ---- answers
 
-  right_so : (bytes : List ℕ) (v : Verdict) (success : Bool) (t : Told) → told settings bytes ≡ t → answer_in v success ≡ answer_for t → GoodRunIn settings bytes v success × NoneIsGood settings bytes (Ok v)
+  right_so : (bytes : List ℕ) (v : Verdict) (success : Bool) (t : FirstFault) → first_fault settings bytes ≡ t → answer_in v success ≡ answer_for t → GoodRunIn settings bytes v success × NoneIsGood settings bytes (Ok v)
   right_so bytes (verdict.Good counts) success (NoFault es) h e =
       let same : counts ≡ counts_of es = cc in
       let said : success ≡ run_succeeded es = cc in
@@ -219,7 +219,7 @@ module _ (settings : Settings) where
   right_so bytes (verdict.Good counts) success (Troubled t) h e = absurd cc
   right_so bytes (verdict.Bad n b) success (At m f) h e =
       let same : n ≡ m = cc in
-      let here : told settings bytes ≡ At n f = h ∙ ap (λ z. At z f) (sym same) in
+      let here : first_fault settings bytes ≡ At n f = h ∙ ap (λ z. At z f) (sym same) in
       (tt, (λ other counts begins good. none_is_good bytes other n f counts here begins good, λ counts good. not_good bytes n f counts here good))
   right_so bytes (verdict.Bad n b) success (NoFault es) h e = absurd cc
   right_so bytes (verdict.Bad n b) success (Troubled t) h e = absurd cc
@@ -233,6 +233,6 @@ found_is_not_good = record {
 
 pub answers_are_right : AnswersAreRight
 answers_are_right settings bytes (Ok a) e =
-    let both = right_so settings bytes a.verdict a.success (told settings bytes) refl e in
+    let both = right_so settings bytes a.verdict a.success (first_fault settings bytes) refl e in
     record { good = both.0; bad = both.1; decided = λ counts success run. e ∙ run_is_told settings bytes counts success run }
 answers_are_right settings bytes (Err t) e = record { good = tt; bad = tt; decided = λ counts success run. e ∙ run_is_told settings bytes counts success run }

@@ -1,6 +1,6 @@
 -- What one more envelope makes of the table, and of attempts that are well ordered.
 use Rattle.std.proofs.Common.{◌≡◌, ◌+◌, ℕ, refl, sym, ap, ◌∙◌, List, [], ◌∷◌, ◌++◌, Option, Some, None, true, false, Bool, not, ◌||◌, ◌==◌, length, map, ◌↔◌, unwrap_or}
-use Rattle.std.specs.Prelude.{is_some, if◌then◌else◌}
+use Rattle.std.specs.Prelude.{is_some}
 use Rattle.std.specs.List.{list_all, cons_option}
 use Rattle.std.specs.Option.{option_and_then, option_map_or}
 use Rattle.std.proofs.lemmas.List.Elements.{filter_map-append}
@@ -11,54 +11,51 @@ use Rattle.cm_attempt.specs.Calls.{Call, AddCase, Start, StartStep, FinishStep, 
 use Rattle.cm_attempt.specs.CallFaults as calls
 use Rattle.cm_attempt.specs.CallFaults.{fault_of, step_fault}
 use Rattle.cm_attempt.specs.declared.fault.TrackFault.{TrackFault}
-use Rattle.cm_attempt.specs.declared.fault.TrackFault.TheVariants as refusal
 use Rattle.cm_attempt.proofs.Refused.{refused_for_fault}
 use Rattle.cm_attempt.proofs.Accepted.{come_in_order, has_cases, reports, cut_at}
 use Rattle.cm_attempt.proofs.Converse.{are_accepted}
-use Rattle.cm_stream.proofs.CallWords.{map_twice, map_same}
 use Rattle.cm_stream.specs.Findings.{Finding}
-use Rattle.cm_stream.specs.Refusals.{told_refusal, refused}
-use Rattle.cm_stream.specs.Seen.{changed}
+use Rattle.cm_stream.specs.Refusals.{refusal_finding, refused}
+use Rattle.cm_stream.specs.Record.{changed}
 use Rattle.cm_envelope.specs.declared.envelope.Envelope.{Envelope}
 use Rattle.cm_stream.specs.Results.{AreWellOrdered, results_of, fault, TablesHaveResults, RefusedForFaults, TablesChange, WellOrderedAreAccepted, FrontsAreWellOrdered, FaultsAreExact}
 use Rattle.cm_stream.specs.Calls.{call_of, calls_of}
+use Rattle.cm_stream.proofs.Lists.{map_twice, map_same}
+use Rattle.cm_stream.proofs.CallChecks.{case_fault, start_fault, move_fault, end_fault}
 
 abbrev told : TrackFault → Option Finding
-told f = told_refusal f
+told f = refusal_finding f
 
 -- ---- want of memory is none of the refusals
 
-one : (a : Bool) → option_and_then told (if a then Some refusal.DuplicateId else None) ≡ None → (if a then Some refusal.DuplicateId else None) ≡ None
-one true h = cc
-one false h = refl
+case_told_none : (again : Bool) → option_and_then told (case_fault again) ≡ None → case_fault again ≡ None
+case_told_none true h = cc
+case_told_none false h = refl
 
-start_told_none : (u d n o : Bool) → option_and_then told (if u then Some refusal.UnknownCase else (if d then Some refusal.DuplicateId else (if n then Some refusal.AttemptNumber else (if o then Some refusal.AttemptOverlap else None)))) ≡ None
-    → (if u then Some refusal.UnknownCase else (if d then Some refusal.DuplicateId else (if n then Some refusal.AttemptNumber else (if o then Some refusal.AttemptOverlap else None)))) ≡ None
+start_told_none : (unknown again misnumbered overlaps : Bool) → option_and_then told (start_fault unknown again misnumbered overlaps) ≡ None → start_fault unknown again misnumbered overlaps ≡ None
 start_told_none true d n o h = cc
 start_told_none false true n o h = cc
 start_told_none false false true o h = cc
 start_told_none false false false true h = cc
 start_told_none false false false false h = refl
 
-step_told_none : (u k n : Bool) → option_and_then told (if u then Some refusal.UnknownAttempt else (if k then Some refusal.UnknownStep else (if n then None else Some refusal.StepOrder))) ≡ None
-    → (if u then Some refusal.UnknownAttempt else (if k then Some refusal.UnknownStep else (if n then None else Some refusal.StepOrder))) ≡ None
-step_told_none true k n h = cc
-step_told_none false true n h = cc
-step_told_none false false false h = cc
-step_told_none false false true h = refl
+move_told_none : (unknown no_step is_next : Bool) → option_and_then told (move_fault unknown no_step is_next) ≡ None → move_fault unknown no_step is_next ≡ None
+move_told_none true k n h = cc
+move_told_none false true n h = cc
+move_told_none false false false h = cc
+move_told_none false false true h = refl
 
-end_told_none : (u o n : Bool) → option_and_then told (if u then Some refusal.UnknownAttempt else (if o then Some refusal.StepOrder else (if n then None else Some refusal.FinishedEarly))) ≡ None
-    → (if u then Some refusal.UnknownAttempt else (if o then Some refusal.StepOrder else (if n then None else Some refusal.FinishedEarly))) ≡ None
+end_told_none : (unknown ended is_next : Bool) → option_and_then told (end_fault unknown ended is_next) ≡ None → end_fault unknown ended is_next ≡ None
 end_told_none true o n h = cc
 end_told_none false true n h = cc
 end_told_none false false false h = cc
 end_told_none false false true h = refl
 
 step_told : (cs : List Call) (a step : Text) (m : Move) → option_and_then told (step_fault cs a step m) ≡ None → step_fault cs a step m ≡ None
-step_told cs a step m h = step_told_none (not (is_some (call.start_of a cs))) (not (has_text step (call.steps_of_attempt a cs))) (calls.is_next_move m a cs) h
+step_told cs a step m h = move_told_none (not (is_some (call.start_of a cs))) (not (has_text step (call.steps_of_attempt a cs))) (calls.is_next_move m a cs) h
 
 fault_told : (first : ℕ) (cs : List Call) (c : Call) → option_and_then told (fault_of first cs c) ≡ None → fault_of first cs c ≡ None
-fault_told first cs (AddCase id steps) h = one (is_some (call.declared id cs) || has_repeat steps) h
+fault_told first cs (AddCase id steps) h = case_told_none (is_some (call.declared id cs) || has_repeat steps) h
 fault_told first cs (Start id case number) h = start_told_none (not (is_some (call.declared case cs))) (is_some (call.start_of id cs)) (not (number == first + length (call.starts_of case cs))) (not (list_all (λ s. call.is_retried s.id cs) (call.starts_of case cs))) h
 fault_told first cs (StartStep a step) h = step_told cs a step (call.StepStarted step) h
 fault_told first cs (FinishStep a step status) h = step_told cs a step (call.StepFinished step) h

@@ -58,7 +58,7 @@ interleaved_attempts : shown (one_pickle ++ run_started ∷ case (codes "c1") �
 unfolding reads lines_read lines_of numbered_lines without_mark chars after body_of first_some trimmed begins_by fence_of indent_of is_blank_line language_of step_of title_of token_of cells_of units pickles replaced_after same_skeleton encode
 interleaved_attempts = refl
 
--- A case stands before its pickle.
+-- A case comes before its pickle.
 case_before_its_pickle : shown (source (codes "a") one_step ∷ document (codes "a") one_step (codes "0" ∷ codes "1" ∷ []) ∷ case (codes "c1") ∷ pickle (codes "a") (codes "3") (codes "0" ∷ []) (codes "2") (codes "a") (codes "1" ∷ []) ∷ run_started ∷ run_finished false ∷ []) ≡ Fault 3 (IsBad fault.UnknownReference)
 unfolding reads lines_read lines_of numbered_lines without_mark chars after body_of first_some trimmed begins_by fence_of indent_of is_blank_line language_of step_of title_of token_of cells_of units pickles replaced_after same_skeleton encode
 case_before_its_pickle = refl
@@ -109,9 +109,9 @@ unfolding reads lines_read lines_of numbered_lines without_mark chars after body
 overlapping_attempts = refl
 
 -- An attempt starts after the final one.
-attempt_behind_the_final : shown (one_pickle ++ run_started ∷ case (codes "c1") ∷ started (codes "a1") (codes "c1") 0 ∷ step_started (codes "a1") ∷ step_finished (codes "a1") status.Failed ∷ finished (codes "a1") true ∷ started (codes "a2") (codes "c1") 1 ∷ step_started (codes "a2") ∷ step_finished (codes "a2") status.Passed ∷ finished (codes "a2") false ∷ started (codes "a3") (codes "c1") 2 ∷ []) ≡ Fault 14 (IsBad fault.AttemptOverlap)
+attempt_after_the_final : shown (one_pickle ++ run_started ∷ case (codes "c1") ∷ started (codes "a1") (codes "c1") 0 ∷ step_started (codes "a1") ∷ step_finished (codes "a1") status.Failed ∷ finished (codes "a1") true ∷ started (codes "a2") (codes "c1") 1 ∷ step_started (codes "a2") ∷ step_finished (codes "a2") status.Passed ∷ finished (codes "a2") false ∷ started (codes "a3") (codes "c1") 2 ∷ []) ≡ Fault 14 (IsBad fault.AttemptOverlap)
 unfolding reads lines_read lines_of numbered_lines without_mark chars after body_of first_some trimmed begins_by fence_of indent_of is_blank_line language_of step_of title_of token_of cells_of units pickles replaced_after same_skeleton encode
-attempt_behind_the_final = refl
+attempt_after_the_final = refl
 
 -- A step finishes that did not start.
 step_not_started : shown (one_pickle ++ run_started ∷ case (codes "c1") ∷ started (codes "a1") (codes "c1") 0 ∷ step_finished (codes "a1") status.Failed ∷ []) ≡ Fault 7 (IsBad fault.StepOrder)

@@ -1,4 +1,4 @@
--- The call of the record of attempts that an envelope stands for: what is said of calls is said of envelopes through it.
+-- The call on the record of attempts that an envelope makes: what is said of calls is said of envelopes through it.
 use Rattle.std.specs.Prelude.{List, map, Option, Some, None}
 use Rattle.std.specs.List.{filter_map}
 use Rattle.cm_attempt.specs.Calls.{Call, AddCase, Start, StartStep, FinishStep, Finish}

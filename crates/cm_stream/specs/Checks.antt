@@ -1,4 +1,4 @@
--- The checks of each line in order, over the lines before it: which fault stands first in a stream.
+-- The checks of each line in order, over the lines before it: which fault comes first in a stream.
 use Rattle.std.specs.Prelude.{ℕ, ◌+◌, ◌==◌, nat_lt, Bool, true, false, not, ◌&&◌, ◌||◌, List, [], ◌∷◌, ◌++◌, Option, Some, None, if◌then◌else◌, map, length, slice_get}
 use Rattle.std.specs.List.{list_any, list_all}
 use Rattle.std.specs.Option.{option_map_or}
@@ -14,8 +14,8 @@ use Rattle.cm_stream.specs.Readings.{Reading, Accepted, OtherLanguage, TooLong}
 use Rattle.cm_stream.specs.OnePass.{reads}
 use Rattle.cm_stream.specs.Skeleton.{same_skeleton}
 use Rattle.cm_stream.specs.Sources.{DuePickle, plain, is_due}
-use Rattle.cm_stream.specs.Words.{declares, times_declared, refers, sources, run_hooks, documents_of, pickles_of, starts, starts_of, case_of, has_run_started, has_run_finished, is_judged, is_accepted, reading_of, find_pickle, pickle_step_ids, steps_of, moves, is_ended, is_retried, is_hook_finished, all_well}
-use Rattle.cm_attempt.specs.Calls.{Move, Started, StepStarted, StepFinished, Ended, whole}
+use Rattle.cm_stream.specs.References.{declares, times_declared, refers, sources, run_hooks, documents_of, pickles_of, starts, starts_of, case_of, has_run_started, has_run_finished, is_judged, is_accepted, reading_of, find_pickle, pickle_step_ids, steps_of, moves, is_ended, is_retried, is_hook_finished, all_well}
+use Rattle.cm_attempt.specs.Calls.{Move, StepStarted, StepFinished, Ended, whole}
 use Rattle.cm_stream.specs.Good.{is_unknown, has_same_names}
 use Rattle.cm_envelope.specs.declared.envelope.Envelope.{Envelope}
 use Rattle.cm_envelope.specs.declared.envelope.Envelope.TheVariants as envelope
@@ -32,7 +32,7 @@ abbrev pub same_flag : Bool → Bool → Bool
 same_flag true b = b
 same_flag false b = not b
 
--- a check of a line: what it tells, and whether the line fails it
+-- a check of a line: what it reports, and whether the line fails it
 pub record Check : Type 0 where
   pub finding : Finding
   pub fails : Bool
@@ -166,7 +166,8 @@ checks_of first before (envelope.TestStepStarted s) =
     ∷ []
 checks_of first before (envelope.TestStepFinished s) =
     bad.UnknownReference if refers_to_unknown before (envelope.TestStepFinished s)
-    ∷ bad.StepOrder if not (is_next_move (StepFinished s.test_step_id) s.test_case_started_id before)
+    ∷ bad.StepOrder
+    if not (is_next_move (StepFinished s.test_step_id) s.test_case_started_id before)
     ∷ reason.UnknownStatus unsupported_if is_unknown s.test_step_result.status ∷ []
 checks_of first before (envelope.TestCaseFinished f) =
     bad.UnknownReference if refers_to_unknown before (envelope.TestCaseFinished f)
@@ -190,7 +191,7 @@ checks_of first before (envelope.TestRunHookFinished f) =
     ∷ reason.UnknownStatus unsupported_if is_unknown f.result.status ∷ []
 checks_of first before envelope.Other = []
 
--- the last check of the run's end: it tells success as it is
+-- the last check of the run's end: success is as the run says
 abbrev pub success_check : Policy → List Envelope → Envelope → List Check
 success_check policy before (envelope.TestRunFinished f) =
     bad.SuccessDiffers if not (same_flag f.success (all_well policy before && not f.has_exception))

@@ -1,15 +1,12 @@
--- What a check of a line tells.
-use Rattle.std.specs.Prelude.{ℕ, List}
-use Rattle.cm_envelope.specs.Reading.{Fault as LineFault, not_json, shape, field}
+-- What a check of a line reports.
+use Rattle.cm_envelope.specs.Reading.{LineFault, fault_named}
 use Rattle.cm_stream.specs.declared.verdict.Bad.{Bad}
 use Rattle.cm_stream.specs.declared.verdict.Bad.TheVariants as declared
 use Rattle.cm_stream.specs.declared.verdict.Reason.{Reason}
 
--- Why a stream is bad. A bad member is told by the names of its kind and of the member.
+-- Why a stream is bad.
 pub data Fault : Type 0 where
-  NotJson : Fault
-  Shape : Fault
-  Field : List ℕ → List ℕ → Fault
+  NoEnvelope : LineFault → Fault
   DuplicateId : Fault
   DuplicateUri : Fault
   UnknownReference : Fault
@@ -32,22 +29,14 @@ pub data Fault : Type 0 where
   RunHookOpen : Fault
   RunHookTwice : Fault
 
--- what is told of a line: it makes the stream bad, or the stream is not judged
+-- what is reported of a line: it makes the stream bad, or the stream is not judged
 pub data Finding : Type 0 where
   IsBad : Fault → Finding
   IsUnsupported : Reason → Finding
 
--- why a line has no envelope, as a fault of the stream
-abbrev pub fault_of_line : LineFault → Fault
-fault_of_line not_json = NotJson
-fault_of_line shape = Shape
-fault_of_line (field kind member) = Field kind member
-
 -- the fault that a program's answer names
 abbrev pub named : Bad → Fault
-named declared.NotJson = NotJson
-named declared.Shape = Shape
-named (declared.Field kind member) = Field kind.now member.now
+named (declared.NoEnvelope fault) = NoEnvelope (fault_named fault)
 named declared.DuplicateId = DuplicateId
 named declared.DuplicateUri = DuplicateUri
 named declared.UnknownReference = UnknownReference

@@ -13,7 +13,7 @@ use Rattle.gk_document.specs.Skeleton.{skeleton}
 use Rattle.gk_pickle.specs.Pickles.{pickles as compiled}
 use Rattle.cm_stream.specs.Readings.{Reading, Accepted, Refused, OtherLanguage, TooLong, IsReading}
 use Rattle.cm_stream.specs.Sources.{plain, is_due}
-use Rattle.cm_stream.specs.Words.{cases, sources, hook_statuses, is_good_case, times_finished, Name, same_name, declares, times_declared, refers, sources_of, documents_of, pickles_of, starts_of, has_run_started, is_run_started, is_run_finished, is_judged, find_pickle, pickle_step_ids, steps_of, moves, is_retried}
+use Rattle.cm_stream.specs.References.{cases, sources, hook_statuses, is_good_case, times_finished, Name, same_name, declares, times_declared, refers, sources_of, documents_of, pickles_of, starts_of, has_run_started, is_run_started, is_run_finished, is_judged, find_pickle, pickle_step_ids, steps_of, moves, is_retried}
 use Rattle.cm_attempt.specs.Calls.{whole}
 use Rattle.cm_envelope.specs.declared.envelope.Envelope.{Envelope}
 use Rattle.cm_envelope.specs.declared.envelope.Envelope.TheVariants as envelope
@@ -35,15 +35,27 @@ ReferencesGood es =
     Everywhere (λ before e after. AllByRecursion (λ name. times_declared name before ≡ 1)
     (refers before e)) es
 
--- One later document has the source's uri, with the skeleton of its text and distinct ids, and the pickles of the uri
--- are those of that document in order; of a refused source there is no document and no pickle.
+-- One document has the source's uri, after the source, with the skeleton of its text and distinct ids, and the pickles of
+-- the uri are those of that document in order.
+pub record HasDocument (es before : List Envelope) (s : Source) (after : List Envelope)
+    (text : Document) : Type 0 where
+  pub document : GherkinDocument
+  pub none_before : documents_of s.uri before ≡ []
+  pub one_after : documents_of s.uri after ≡ document ∷ []
+  pub same_skeleton : skeleton document.document ≡ skeleton text
+  pub distinct_ids : has_repeat document.ids ≡ false
+  pub same_pickles : same_list (is_due document.ids) (pickles_of s.uri es) (compiled text) ≡ true
+
+-- The source's uri has no document and no pickle.
+pub record HasNoDocument (es : List Envelope) (s : Source) : Type 0 where
+  pub no_document : documents_of s.uri es ≡ []
+  pub no_pickle : pickles_of s.uri es ≡ []
+
+-- what a source has, by what its text is read as: an accepted one its document and pickles, a refused one none of them
 abbrev pub MeetsSource : List Envelope → (before : List Envelope) → Source → (after : List Envelope)
     → Reading → Type 0
-MeetsSource es before s after (Accepted d) =
-    (g : GherkinDocument) × (documents_of s.uri before ≡ []) × (documents_of s.uri after ≡ g ∷ [])
-    × (skeleton g.document ≡ skeleton d) × (has_repeat g.ids ≡ false)
-    × (same_list (is_due g.ids) (pickles_of s.uri es) (compiled d) ≡ true)
-MeetsSource es before s after Refused = (documents_of s.uri es ≡ []) × (pickles_of s.uri es ≡ [])
+MeetsSource es before s after (Accepted text) = HasDocument es before s after text
+MeetsSource es before s after Refused = HasNoDocument es s
 MeetsSource es before s after OtherLanguage = ⊥
 MeetsSource es before s after TooLong = ⊥
 
@@ -51,12 +63,17 @@ MeetsSource es before s after TooLong = ⊥
 abbrev pub IsAccepted : Source → Type 0
 IsAccepted s = (d : Document) × IsReading s.content (Accepted d)
 
--- A source is plain Gherkin within the limits and in English, and has its document and pickles; parse errors name only
--- sources that are refused.
+-- A source is plain Gherkin within the limits and in English, and has its document and pickles.
+pub record IsGoodSource (es before : List Envelope) (s : Source)
+    (after : List Envelope) : Type 0 where
+  pub is_plain : bytes_eq s.media_type plain ≡ true
+  pub reading : Reading
+  pub is_read : IsReading s.content reading
+  pub meets : MeetsSource es before s after reading
+
+-- Each source is a good one, and parse errors name only sources that are refused.
 abbrev pub SourceGood : List Envelope → List Envelope → Envelope → List Envelope → Type 0
-SourceGood es before (envelope.Source s) after =
-    (bytes_eq s.media_type plain ≡ true) × (r : Reading) × IsReading s.content r
-    × MeetsSource es before s after r
+SourceGood es before (envelope.Source s) after = IsGoodSource es before s after
 SourceGood es before (envelope.ParseError p) after =
     AllByRecursion (λ s. IsAccepted s → ⊥) (sources_of p.source.uri es)
 SourceGood es before _ after = Unit {0}
@@ -136,16 +153,16 @@ StartsInside before (envelope.TestCaseStarted s) = has_run_started before ≡ tr
 StartsInside before (envelope.TestRunHookStarted s) = has_run_started before ≡ true
 StartsInside before _ = Unit {0}
 
-abbrev pub NothingBehind : Envelope → List Envelope → Type 0
-NothingBehind (envelope.TestRunFinished f) after = list_any is_judged after ≡ false
-NothingBehind _ after = Unit {0}
+abbrev pub NothingAfter : Envelope → List Envelope → Type 0
+NothingAfter (envelope.TestRunFinished f) after = list_any is_judged after ≡ false
+NothingAfter _ after = Unit {0}
 
 -- The run starts once, before each attempt and each run hook, and finishes once, after every other judged envelope.
 pub record OrderGood (es : List Envelope) : Type 0 where
   pub one_start : count_by is_run_started es ≡ 1
   pub one_finish : count_by is_run_finished es ≡ 1
   pub starts_inside : Everywhere (λ before e after. StartsInside before e) es
-  pub finish_last : Everywhere (λ before e after. NothingBehind e after) es
+  pub finish_last : Everywhere (λ before e after. NothingAfter e after) es
 
 abbrev pub is_unknown : Status → Bool
 is_unknown Unknown = true

@@ -6,13 +6,14 @@ pub mod OnePass
 pub mod Sources
 pub mod Statuses
 pub mod Calls
-pub mod Words
+pub mod References
 pub mod Good
 pub mod Checks
 pub mod Stream
+pub mod Record
+pub mod FaultlessLines
 pub mod Laws
-pub mod Seen
-pub mod Told
+pub mod StreamLaws
 pub mod Refusals
 pub mod Release
 pub mod Results

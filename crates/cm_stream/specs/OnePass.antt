@@ -20,13 +20,13 @@ abbrev pub reading_at_end : State → Option (List FlatBlock) → Reading
 reading_at_end s None = Refused
 reading_at_end s (Some last) = Accepted (document_of s last)
 
-abbrev pub reading_behind : Result State Bad → Reading
-reading_behind (Err b) = refused_for b.kind
-reading_behind (Ok s) = reading_at_end s (blocks_at_end s.phase)
+abbrev pub reading_after : Result State Bad → Reading
+reading_after (Err b) = refused_for b.kind
+reading_after (Ok s) = reading_at_end s (blocks_at_end s.phase)
 
 -- what one pass over the lines of a text makes of it
 unfoldable pub reads : Text → Reading
-reads text = if passes_limits text then TooLong else reading_behind (run initial (lines_read text))
+reads text = if passes_limits text then TooLong else reading_after (run initial (lines_read text))
 
 -- what the one pass makes of a text is what the grammar says of it
 abbrev pub EachTextIsRead : Type 0

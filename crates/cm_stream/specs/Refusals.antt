@@ -1,16 +1,16 @@
 -- What a record of attempts refuses, as the first failed of the checks that are its own.
-use Rattle.std.specs.Prelude.{◌≡◌, ℕ, ◌+◌, ◌==◌, not, List, [], ◌∷◌, ◌++◌, Option, Some, None, map, length}
+use Rattle.std.specs.Prelude.{◌≡◌, ℕ, ◌+◌, ◌==◌, not, List, [], ◌∷◌, ◌++◌, Option, Some, None, length}
 use Rattle.std.specs.List.{list_all}
 use Rattle.std.specs.Option.{option_and_then}
-use Rattle.cm_stream.specs.Words.{starts_of, is_ended, is_retried}
+use Rattle.cm_stream.specs.References.{starts_of, is_ended, is_retried}
 use Rattle.cm_attempt.specs.Calls.{StepStarted, StepFinished, Ended}
 use Rattle.cm_stream.specs.Checks.{Check, checks_of, ◌if◌, first_failed, refers_to_unknown, declares_again, is_next_move}
 use Rattle.cm_attempt.specs.Table.{Table}
 use Rattle.cm_attempt.specs.Calls.{refusal_of}
 use Rattle.cm_stream.specs.Calls.{call_of}
-use Rattle.cm_stream.specs.Seen.{table_of}
+use Rattle.cm_stream.specs.Record.{table_of}
 use Rattle.cm_attempt.specs.declared.settings.Settings.{Settings}
-use Rattle.cm_stream.specs.Told.{IsFaultless}
+use Rattle.cm_stream.specs.FaultlessLines.{IsFaultless}
 use Rattle.cm_envelope.specs.declared.envelope.Envelope.{Envelope}
 use Rattle.cm_envelope.specs.declared.envelope.Envelope.TheVariants as envelope
 use Rattle.cm_stream.specs.Findings as bad
@@ -18,17 +18,17 @@ use Rattle.cm_stream.specs.Findings.{Fault, Finding, IsBad}
 use Rattle.cm_attempt.specs.declared.fault.TrackFault.{TrackFault}
 use Rattle.cm_attempt.specs.declared.fault.TrackFault.TheVariants as refusal
 
--- How a refusal is told. Want of memory is no fault of the stream.
-abbrev pub told_refusal : TrackFault → Option Finding
-told_refusal refusal.UnknownCase = Some (IsBad bad.UnknownReference)
-told_refusal refusal.UnknownAttempt = Some (IsBad bad.UnknownReference)
-told_refusal refusal.UnknownStep = Some (IsBad bad.UnknownReference)
-told_refusal refusal.DuplicateId = Some (IsBad bad.DuplicateId)
-told_refusal refusal.AttemptNumber = Some (IsBad bad.AttemptNumber)
-told_refusal refusal.AttemptOverlap = Some (IsBad bad.AttemptOverlap)
-told_refusal refusal.StepOrder = Some (IsBad bad.StepOrder)
-told_refusal refusal.FinishedEarly = Some (IsBad bad.FinishedEarly)
-told_refusal refusal.Memory = None
+-- How a refusal is reported. Want of memory is no fault of the stream.
+abbrev pub refusal_finding : TrackFault → Option Finding
+refusal_finding refusal.UnknownCase = Some (IsBad bad.UnknownReference)
+refusal_finding refusal.UnknownAttempt = Some (IsBad bad.UnknownReference)
+refusal_finding refusal.UnknownStep = Some (IsBad bad.UnknownReference)
+refusal_finding refusal.DuplicateId = Some (IsBad bad.DuplicateId)
+refusal_finding refusal.AttemptNumber = Some (IsBad bad.AttemptNumber)
+refusal_finding refusal.AttemptOverlap = Some (IsBad bad.AttemptOverlap)
+refusal_finding refusal.StepOrder = Some (IsBad bad.StepOrder)
+refusal_finding refusal.FinishedEarly = Some (IsBad bad.FinishedEarly)
+refusal_finding refusal.Memory = None
 
 -- why a table refuses the call for a line
 abbrev pub refused : Table → Envelope → Option TrackFault
@@ -46,20 +46,22 @@ own_checks first es (envelope.TestCaseStarted s) =
     ∷ []
 own_checks first es (envelope.TestStepStarted s) =
     bad.UnknownReference if refers_to_unknown es (envelope.TestStepStarted s)
-    ∷ bad.StepOrder if not (is_next_move (StepStarted s.test_step_id) s.test_case_started_id es) ∷ []
+    ∷ bad.StepOrder
+    if not (is_next_move (StepStarted s.test_step_id) s.test_case_started_id es) ∷ []
 own_checks first es (envelope.TestStepFinished s) =
     bad.UnknownReference if refers_to_unknown es (envelope.TestStepFinished s)
-    ∷ bad.StepOrder if not (is_next_move (StepFinished s.test_step_id) s.test_case_started_id es) ∷ []
+    ∷ bad.StepOrder
+    if not (is_next_move (StepFinished s.test_step_id) s.test_case_started_id es) ∷ []
 own_checks first es (envelope.TestCaseFinished f) =
     bad.UnknownReference if refers_to_unknown es (envelope.TestCaseFinished f)
     ∷ bad.StepOrder if is_ended f.test_case_started_id es
     ∷ bad.FinishedEarly if not (is_next_move Ended f.test_case_started_id es) ∷ []
 own_checks first es _ = []
 
--- after lines without a fault the call refuses what the first failed of these checks tells
+-- after lines without a fault the call is refused for what the first failed of these checks reports
 abbrev pub RefusalsAre : Envelope → Type 0
 RefusalsAre e = (settings : Settings) (es : List Envelope) → IsFaultless settings es
-    → option_and_then told_refusal (refused (table_of settings.first_attempt es) e)
+    → option_and_then refusal_finding (refused (table_of settings.first_attempt es) e)
     ≡ first_failed (own_checks settings.first_attempt es e)
 
 -- they are checks of the line, one after another

@@ -12,7 +12,7 @@ use Rattle.gk_pickle.specs.Pickles.{pickles as compiled}
 use Rattle.cm_stream.specs.Texts.{same_list}
 use Rattle.cm_stream.specs.Readings.{Accepted, IsReading}
 use Rattle.cm_stream.specs.Sources.{is_due}
-use Rattle.cm_stream.specs.Words.{sources, pickles, cases, documents_of, pickles_of, starts_of, find_case, pickle_step_ids, moves, is_final, statuses, run_succeeded}
+use Rattle.cm_stream.specs.References.{sources, pickles, cases, documents_of, pickles_of, starts_of, find_case, pickle_step_ids, moves, is_final, statuses, run_succeeded}
 use Rattle.cm_attempt.specs.Calls.{whole, last_of}
 use Rattle.cm_stream.specs.Good.{Good}
 use Rattle.cm_stream.specs.Stream.{IsRead, IsGoodRun, envelopes, counts_of}
@@ -61,10 +61,10 @@ pub record IsReleasedStream (settings : Settings) (allows_unrun : Bool) (bytes :
 pub record IsCompiled (es : List Envelope) (s : Source) : Type 0 where
   pub document : Document
   pub accepted : IsReading s.content (Accepted document)
-  pub told : GherkinDocument
-  pub one_document : documents_of s.uri es ≡ told ∷ []
-  pub same_skeleton : skeleton told.document ≡ skeleton document
-  pub same_pickles : same_list (is_due told.ids) (pickles_of s.uri es) (compiled document) ≡ true
+  pub found : GherkinDocument
+  pub one_document : documents_of s.uri es ≡ found ∷ []
+  pub same_skeleton : skeleton found.document ≡ skeleton document
+  pub same_pickles : same_list (is_due found.ids) (pickles_of s.uri es) (compiled document) ≡ true
 
 -- The pickle ran: it has a test case, whose steps, hooks aside, are the pickle's. The case's last attempt started, started
 -- and finished each step of the case in order, and finished; it won't be retried, and is at worst of a good status.

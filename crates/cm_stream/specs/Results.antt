@@ -1,8 +1,8 @@
 -- The results of a stream, which streams have results, and where another has its first fault. All of it is said of the calls of the
--- record of attempts that the envelopes stand for (Cucumber Messages: testCase to testCaseFinished).
+-- record of attempts that the envelopes make (Cucumber Messages: testCase to testCaseFinished).
 use Rattle.std.specs.Prelude.{◌≡◌, ◌↔◌, ℕ, ◌+◌, List, [], ◌∷◌, ◌++◌, map, Option, Some, None, is_some, true, Result, Ok, Err}
 use Rattle.std.specs.Option.{option_and_then}
-use Rattle.cm_envelope.specs.Reading.{Fault as LineFault, envelope_of_line}
+use Rattle.cm_envelope.specs.Reading.{LineFault, envelope_of_line}
 use Rattle.cm_envelope.specs.declared.envelope.Envelope.{Envelope}
 use Rattle.cm_envelope.specs.declared.feed.Trouble.{Trouble}
 use Rattle.cm_attempt.specs.Table.{Table, reported_of}
@@ -13,10 +13,10 @@ use Rattle.cm_attempt.specs.declared.status.Status.{Status}
 use Rattle.cm_stream.specs.Texts.{Text}
 use Rattle.cm_stream.specs.Calls.{call_of, calls_of}
 use Rattle.cm_stream.specs.Checks.{first_failed}
-use Rattle.cm_stream.specs.Findings.{Finding, IsBad, fault_of_line}
-use Rattle.cm_stream.specs.Refusals.{told_refusal, refused, own_checks}
-use Rattle.cm_stream.specs.Seen.{changed}
-use Rattle.cm_stream.specs.Stream.{Told, At, Troubled, NoFault, at_line, shown, fed, numbered, read_line, as_read, envelopes, IsRead}
+use Rattle.cm_stream.specs.Findings.{Finding, IsBad, NoEnvelope}
+use Rattle.cm_stream.specs.Refusals.{refusal_finding, refused, own_checks}
+use Rattle.cm_stream.specs.Record.{changed}
+use Rattle.cm_stream.specs.Stream.{FirstFault, At, Troubled, NoFault, at_line, shown, fed, numbered, read_line, as_read, envelopes, IsRead}
 
 -- ---- the results
 
@@ -33,26 +33,27 @@ results_of es = map (λ c. (c.id, result_of c.id (calls_of es))) (cases (calls_o
 -- the fault of a line after these envelopes, whose attempts are well ordered: the first fault of its call
 abbrev pub fault : (first : ℕ) → List Envelope → Envelope → Option Finding
 fault first before e =
-    option_and_then told_refusal (option_and_then (fault_of first (calls_of before)) (call_of e))
+    option_and_then refusal_finding (option_and_then (fault_of first (calls_of before)) (call_of e))
 
-abbrev pub told_line : (first : ℕ) → (before : List Envelope) → (n : ℕ)
-    → Option (Result Envelope LineFault) → (List Envelope → Told) → Told
-told_line first before n None more = more before
-told_line first before n (Some (Err b)) more = At n (IsBad (fault_of_line b))
-told_line first before n (Some (Ok e)) more =
+abbrev pub first_fault_line : (first : ℕ) → (before : List Envelope) → (n : ℕ)
+    → Option (Result Envelope LineFault) → (List Envelope → FirstFault) → FirstFault
+first_fault_line first before n None more = more before
+first_fault_line first before n (Some (Err b)) more = At n (IsBad (NoEnvelope b))
+first_fault_line first before n (Some (Ok e)) more =
     at_line n (fault first before e) (more (before ++ e ∷ []))
 
 -- of these lines, the first of which has the number n, and then the trouble or the end, after envelopes without a fault
-abbrev pub told_of : (first : ℕ) → (before : List Envelope) → (n : ℕ) → List (List ℕ)
-    → Option Trouble → Told
-told_of first before n [] (Some t) = Troubled t
-told_of first before n [] None = NoFault before
-told_of first before n (l ∷ ls) t =
-    told_line first before n (shown l) (λ (now : List Envelope). told_of first now (n + 1) ls t)
+abbrev pub first_fault_of : (first : ℕ) → (before : List Envelope) → (n : ℕ) → List (List ℕ)
+    → Option Trouble → FirstFault
+first_fault_of first before n [] (Some t) = Troubled t
+first_fault_of first before n [] None = NoFault before
+first_fault_of first before n (l ∷ ls) t =
+    first_fault_line first before n (shown l)
+    (λ (now : List Envelope). first_fault_of first now (n + 1) ls t)
 
 -- the first line with a fault, why no further line could be read, or the envelopes
-abbrev pub told : (first : ℕ) → List ℕ → Told
-told first bytes = told_of first [] 1 (fed bytes).lines (fed bytes).trouble
+abbrev pub first_fault : (first : ℕ) → List ℕ → FirstFault
+first_fault first bytes = first_fault_of first [] 1 (fed bytes).lines (fed bytes).trouble
 
 -- ---- that it is right
 
@@ -65,7 +66,7 @@ pub record IsWell (first : ℕ) (bytes : List ℕ) (es : List Envelope) : Type 0
 
 -- the line has no envelope, or with it the attempts aren't well ordered any more
 abbrev pub FaultOf : (first : ℕ) → List Envelope → Result Envelope LineFault → Finding → Type 0
-FaultOf first before (Err b) f = f ≡ IsBad (fault_of_line b)
+FaultOf first before (Err b) f = f ≡ IsBad (NoEnvelope b)
 FaultOf first before (Ok e) f =
     (fault first before e ≡ Some f) × (AreWellOrdered first (before ++ e ∷ []) → ⊥)
 
@@ -89,21 +90,21 @@ pub record IsTroubled (first : ℕ) (bytes : List ℕ) (t : Trouble) : Type 0 wh
 
 -- No fault is reported exactly of streams that are read as envelopes whose attempts are well ordered.
 pub record NoFaultIsExact : Type 0 where
-  pub well : (first : ℕ) (bytes : List ℕ) (es : List Envelope) → told first bytes ≡ NoFault es
-      → IsWell first bytes es
-  pub told : (first : ℕ) (bytes : List ℕ) (es : List Envelope) → IsWell first bytes es
-      → told first bytes ≡ NoFault es
+  pub well : (first : ℕ) (bytes : List ℕ) (es : List Envelope)
+      → first_fault first bytes ≡ NoFault es → IsWell first bytes es
+  pub exact : (first : ℕ) (bytes : List ℕ) (es : List Envelope) → IsWell first bytes es
+      → first_fault first bytes ≡ NoFault es
 
 -- a fault that is reported is that of the first line with one
 abbrev pub FaultsAreFirst : Type 0
 FaultsAreFirst =
-    (first : ℕ) (bytes : List ℕ) (n : ℕ) (f : Finding) → told first bytes ≡ At n f
+    (first : ℕ) (bytes : List ℕ) (n : ℕ) (f : Finding) → first_fault first bytes ≡ At n f
     → IsFirstFault first bytes n f
 
 -- a trouble is reported where no line has a fault
 abbrev pub TroublesAreLast : Type 0
 TroublesAreLast =
-    (first : ℕ) (bytes : List ℕ) (t : Trouble) → told first bytes ≡ Troubled t
+    (first : ℕ) (bytes : List ℕ) (t : Trouble) → first_fault first bytes ≡ Troubled t
     → IsTroubled first bytes t
 
 -- ---- the table of the record
@@ -122,7 +123,7 @@ TablesHaveResults = AfterAccepted (λ first es t.
 -- an envelope is refused for its fault
 abbrev pub RefusedForFaults : Type 0
 RefusedForFaults = AfterAccepted (λ first es t.
-    (e : Envelope) → option_and_then told_refusal (refused t e) ≡ fault first es e)
+    (e : Envelope) → option_and_then refusal_finding (refused t e) ≡ fault first es e)
 
 -- that is the first failed of the checks that the audit leaves to the record
 abbrev pub FaultsAreChecks : Type 0

@@ -10,7 +10,7 @@ use Rattle.gk_pickle.specs.declared.pickle.PickleStep as due_step
 use Rattle.gk_pickle.specs.declared.pickle.PickleTag as due_tag
 use Rattle.cm_stream.specs.Texts.{Text, same_list, same_texts, same_option}
 use Rattle.cm_envelope.specs.declared.pickle.StepKind.{StepKind}
-use Rattle.cm_envelope.specs.declared.pickle.StepKind.TheVariants as told
+use Rattle.cm_envelope.specs.declared.pickle.StepKind.TheVariants as line
 use Rattle.cm_envelope.specs.declared.pickle.PickleCell.{PickleCell}
 use Rattle.cm_envelope.specs.declared.pickle.PickleRow.{PickleRow}
 use Rattle.cm_envelope.specs.declared.pickle.PickleArgument.{PickleArgument}
@@ -44,10 +44,10 @@ abbrev pub ids_at : List Text → List ℕ → List Text
 ids_at ids nodes = map (λ n. unwrap_or (slice_get ids n) []) nodes
 
 abbrev pub is_type : StepKind → StepType → Bool
-is_type told.Unknown due_kind.Unknown = true
-is_type told.Context due_kind.Context = true
-is_type told.Action due_kind.Action = true
-is_type told.Outcome due_kind.Outcome = true
+is_type line.Unknown due_kind.Unknown = true
+is_type line.Context due_kind.Context = true
+is_type line.Action due_kind.Action = true
+is_type line.Outcome due_kind.Outcome = true
 is_type _ _ = false
 
 -- an absent step type isn't compared

@@ -4,29 +4,30 @@ use Rattle.std.specs.Prelude.{◌≡◌, ℕ, ◌+◌, Bool, not, List, [], ◌�
 use Rattle.std.specs.List.{list_any}
 use Rattle.std.specs.Str.{bytes_eq}
 use Rattle.cm_envelope.specs.Lines.{Fed, feed, is_blank}
+use Rattle.cm_envelope.specs.declared.feed.TheConstants.{LINE_LIMIT, STREAM_LIMIT}
 use Rattle.cm_envelope.specs.declared.feed.Trouble.{Trouble}
-use Rattle.cm_envelope.specs.Reading.{Fault as LineFault, envelope_of_line}
+use Rattle.cm_envelope.specs.Reading.{LineFault, envelope_of_line}
 use Rattle.cm_attempt.specs.declared.settings.Settings.{Settings}
-use Rattle.cm_stream.specs.Words.{sources, pickles, cases, starts, run_succeeded}
+use Rattle.cm_stream.specs.References.{sources, pickles, cases, starts, run_succeeded}
 use Rattle.cm_stream.specs.Good.{Good}
 use Rattle.cm_stream.specs.Checks.{fault, fault_at_end}
 use Rattle.cm_envelope.specs.declared.envelope.Envelope.{Envelope}
-use Rattle.cm_stream.specs.Findings.{Finding, IsBad, IsUnsupported, named, fault_of_line}
+use Rattle.cm_stream.specs.Findings.{Finding, IsBad, IsUnsupported, named, NoEnvelope}
 use Rattle.cm_stream.specs.declared.verdict.Audited.{Audited}
 use Rattle.cm_stream.specs.declared.verdict.Counts.{Counts}
 use Rattle.cm_stream.specs.declared.verdict.Verdict.{Verdict}
 use Rattle.cm_stream.specs.declared.verdict.Verdict.TheVariants as verdict
 
 -- the most bytes that a line may have without its LF, and that a stream may have
-abbrev pub line_limit : ℕ
-line_limit = 67_108_864
+abbrev pub max_line_bytes : ℕ
+max_line_bytes = LINE_LIMIT
 
-abbrev pub stream_limit : ℕ
-stream_limit = 1_073_741_824
+abbrev pub max_stream_bytes : ℕ
+max_stream_bytes = STREAM_LIMIT
 
 -- a stream's lines within the limits
 abbrev pub fed : List ℕ → Fed
-fed bytes = feed bytes line_limit stream_limit
+fed bytes = feed bytes max_line_bytes max_stream_bytes
 
 -- the lines that aren't blank, each with its number
 abbrev pub numbered : ℕ → List (List ℕ) → List (ℕ × List ℕ)
@@ -75,22 +76,22 @@ pub record IsGoodRun (settings : Settings) (bytes : List ℕ) (counts : Counts)
   pub read : IsRead bytes lines
   pub good : Good settings (envelopes lines)
   pub exact : counts ≡ counts_of (envelopes lines)
-  pub told : success ≡ run_succeeded (envelopes lines)
+  pub said : success ≡ run_succeeded (envelopes lines)
 
 -- ---- the first fault
 
--- what is told of a stream: a finding at a line, a trouble, or none
-pub data Told : Type 0 where
-  At : ℕ → Finding → Told
-  Troubled : Trouble → Told
-  NoFault : List Envelope → Told
+-- what is reported of a stream: a finding at a line, a trouble, or none
+pub data FirstFault : Type 0 where
+  At : ℕ → Finding → FirstFault
+  Troubled : Trouble → FirstFault
+  NoFault : List Envelope → FirstFault
 
-abbrev pub at_end : ℕ → List Envelope → Option Finding → Told
+abbrev pub at_end : ℕ → List Envelope → Option Finding → FirstFault
 at_end n before None = NoFault before
 at_end n before (Some f) = At n f
 
--- a finding at this line, or what is told after it
-abbrev pub at_line : ℕ → Option Finding → Told → Told
+-- a finding at this line, or what is reported after it
+abbrev pub at_line : ℕ → Option Finding → FirstFault → FirstFault
 at_line n None more = more
 at_line n (Some f) more = At n f
 
@@ -98,24 +99,24 @@ at_line n (Some f) more = At n f
 abbrev pub shown : List ℕ → Option (Result Envelope LineFault)
 shown line = if is_blank line then None else Some (envelope_of_line line)
 
-abbrev pub told_line : Settings → (before : List Envelope) → (n : ℕ)
-    → Option (Result Envelope LineFault) → (List Envelope → Told) → Told
-told_line settings before n None more = more before
-told_line settings before n (Some (Err b)) more = At n (IsBad (fault_of_line b))
-told_line settings before n (Some (Ok e)) more =
+abbrev pub first_fault_line : Settings → (before : List Envelope) → (n : ℕ)
+    → Option (Result Envelope LineFault) → (List Envelope → FirstFault) → FirstFault
+first_fault_line settings before n None more = more before
+first_fault_line settings before n (Some (Err b)) more = At n (IsBad (NoEnvelope b))
+first_fault_line settings before n (Some (Ok e)) more =
     at_line n (fault settings before e) (more (before ++ e ∷ []))
 
 -- of these lines, the first of which has the number n, and then the trouble or the end, after envelopes without a fault
-abbrev pub told_of : Settings → (before : List Envelope) → (n : ℕ) → List (List ℕ) → Option Trouble
-    → Told
-told_of settings before n [] (Some t) = Troubled t
-told_of settings before n [] None = at_end n before (fault_at_end before)
-told_of settings before n (l ∷ ls) t =
-    told_line settings before n (shown l) (λ (now : List Envelope). told_of settings now
-    (n + 1) ls t)
+abbrev pub first_fault_of : Settings → (before : List Envelope) → (n : ℕ) → List (List ℕ)
+    → Option Trouble → FirstFault
+first_fault_of settings before n [] (Some t) = Troubled t
+first_fault_of settings before n [] None = at_end n before (fault_at_end before)
+first_fault_of settings before n (l ∷ ls) t =
+    first_fault_line settings before n (shown l)
+    (λ (now : List Envelope). first_fault_of settings now (n + 1) ls t)
 
-abbrev pub told : Settings → List ℕ → Told
-told settings bytes = told_of settings [] 1 (fed bytes).lines (fed bytes).trouble
+abbrev pub first_fault : Settings → List ℕ → FirstFault
+first_fault settings bytes = first_fault_of settings [] 1 (fed bytes).lines (fed bytes).trouble
 
 -- ---- what an audit promises
 
@@ -138,8 +139,8 @@ abbrev pub verdict_in : Result Audited Trouble → Result Verdict Trouble
 verdict_in (Ok a) = Ok a.verdict
 verdict_in (Err t) = Err t
 
--- the answer for what is told
-abbrev pub answer_for : Told → Answer
+-- the answer for what is reported
+abbrev pub answer_for : FirstFault → Answer
 answer_for (At n f) = Found n f
 answer_for (Troubled t) = Failed t
 answer_for (NoFault es) = GoodWith (counts_of es) (run_succeeded es)

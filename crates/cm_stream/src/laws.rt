@@ -6,7 +6,8 @@ ghost use Rattle.cm_stream.specs.Refusals.{OwnAreChecks, RefusalsAreTold};
 ghost use Rattle.cm_stream.specs.Release.{ReleasedIsNotHeld, ReleasedRan};
 ghost use Rattle.cm_stream.specs.Results.{FaultsAreChecks, FaultsAreExact, FaultsAreFirst, FrontsAreWellOrdered, NoFaultIsExact};
 ghost use Rattle.cm_stream.specs.Results.{RefusedForFaults, TablesChange, TablesHaveResults, TroublesAreLast, WellOrderedAreAccepted};
-ghost use Rattle.cm_stream.specs.Told.{AnswersAreRight, FoundIsNotGood, GoodIsNoFault, NoFaultIsGood, NoneBeginsSo, TableSteps};
+ghost use Rattle.cm_stream.specs.FaultlessLines.{NoneIsRefused, TableSteps, TablesAgree};
+ghost use Rattle.cm_stream.specs.StreamLaws.{AnswersAreRight, FoundIsNotGood, GoodIsNoFault, NoFaultIsGood, NoneBeginsSo};
 
 /// Each text is accepted with one document, refused, in another language, or too long, and never two of these.
 pub fn each_text_has_one_reading()
@@ -24,34 +25,42 @@ pub fn streams_without_fault_are_good()
     ensures { FaultlessAreGood }
 {}
 
-/// Where no fault is told of a stream, it is good.
+/// Where no fault is reported of a stream, it is good.
 pub fn no_fault_is_good()
     ensures { NoFaultIsGood }
 {}
 
-/// Of a good stream no fault is told.
+/// Of a good stream no fault is reported.
 pub fn good_is_no_fault()
     ensures { GoodIsNoFault }
 {}
 
-/// Where a fault is told at a line, no good stream begins with the lines up to it.
+/// Where a fault is reported at a line, no good stream begins with the lines up to it.
 pub fn none_begins_so()
     ensures { NoneBeginsSo }
 {}
 
-/// A stream of which a fault is told isn't good, also where the fault stands past the last line.
+/// A stream of which a fault is reported isn't good, also where the fault is past the last line.
 pub fn found_is_not_good()
     ensures { FoundIsNotGood }
 {}
 
-/// An audit that answers what is told of the stream's bytes is right in both directions.
+/// An audit that answers what is reported of the stream's bytes is right in both directions.
 pub fn answers_are_right()
     ensures { AnswersAreRight }
 {}
 
-/// The table of attempts is a function of the lines so far, and a line changes it as the call for it changes a table.
+/// The table of attempts is a function of the lines so far: a line changes it as the call for it changes a table, and after
+/// lines without a fault it is the one that their calls leave, none of which is refused.
 pub fn table_steps()
-    ensures { TableSteps }
+    ensures steps { TableSteps }
+    ensures accepted { NoneIsRefused }
+{}
+
+/// After lines without a fault the table has the attempts that were started, with the steps of their cases; one of them is
+/// open exactly where it isn't finished, and the cases are good by their rows exactly where they are good by the lines.
+pub fn tables_agree()
+    ensures { TablesAgree }
 {}
 
 /// After lines without a fault, a call of the record of attempts refuses exactly where the line fails one of the checks

@@ -1,12 +1,11 @@
-//! What is told of a stream.
+//! The answers of an audit.
+use cm_envelope::LineFault;
 
 /// Why a stream is bad.
 #[derive(Clone, Copy, Debug, Drop, PartialEq, Eq)]
 pub enum Bad {
-    NotJson,
-    Shape,
-    /// A judged kind and its first bad member in the order of its members, both by their names in JSON.
-    Field(&'static str, &'static str),
+    /// A line has no envelope.
+    NoEnvelope(LineFault),
     DuplicateId,
     DuplicateUri,
     UnknownReference,

@@ -1,20 +1,20 @@
 //! The envelopes of single lines.
-use cm_envelope::{Envelope, ShapeFault, Status, TestCase, read_envelope};
+use cm_envelope::{Envelope, EnvelopeFault, LineFault, Status, TestCase, read_envelope};
 use std::alloc::{AllocError, Global};
 use std::process::Abort;
 use std::test::Fail;
 
 // The names of a fault and of its field.
-fn names_of(fault: &ShapeFault) -> (&'static str, &'static str) {
+fn names_of(fault: &EnvelopeFault) -> (&'static str, &'static str) {
     match fault {
-        ShapeFault::NotJson => ("NotJson", ""),
-        ShapeFault::Shape => ("Shape", ""),
-        ShapeFault::Field(kind, field) => (kind, field),
-        ShapeFault::Memory => ("Memory", ""),
+        EnvelopeFault::Line(LineFault::NotJson) => ("NotJson", ""),
+        EnvelopeFault::Line(LineFault::Shape) => ("Shape", ""),
+        EnvelopeFault::Line(LineFault::Field(kind, field)) => (kind, field),
+        EnvelopeFault::Memory => ("Memory", ""),
     }
 }
 
-fn expect_fault(rt: &impl Abort, read: &Result<Envelope, ShapeFault>, kind: &str, field: &str) {
+fn expect_fault(rt: &impl Abort, read: &Result<Envelope, EnvelopeFault>, kind: &str, field: &str) {
     match read {
         Err(fault) => {
             let (found_kind, found_field) = names_of(fault);
@@ -36,7 +36,7 @@ enum Wanted<'a> {
     Status(&'a str),
 }
 
-fn expect_read(rt: &impl Abort, read: &Result<Envelope, ShapeFault>, wanted: Wanted<'_>) {
+fn expect_read(rt: &impl Abort, read: &Result<Envelope, EnvelopeFault>, wanted: Wanted<'_>) {
     match wanted {
         Wanted::Fault(kind, field) => expect_fault(rt, read, kind, field),
         Wanted::Good => assert!(rt; read.is_ok()),
@@ -152,7 +152,7 @@ null 0
 -0 -
 18446744073709551616 -"#;
 
-fn expect_attempt(rt: &impl Abort, read: &Result<Envelope, ShapeFault>, wanted: &str) {
+fn expect_attempt(rt: &impl Abort, read: &Result<Envelope, EnvelopeFault>, wanted: &str) {
     match read {
         Ok(Envelope::TestCaseStarted(started)) => {
             assert!(rt; wanted.parse::<u64>() == Ok(started.attempt));
@@ -187,7 +187,7 @@ fn expect_case(rt: &impl Abort, case: &TestCase) {
     assert!(rt; steps[0].hook_id.is_none());
 }
 
-fn expect_case_read(rt: &impl Abort, read: &Result<Envelope, ShapeFault>) {
+fn expect_case_read(rt: &impl Abort, read: &Result<Envelope, EnvelopeFault>) {
     match read {
         Ok(Envelope::TestCase(case)) => expect_case(rt, case),
         _ => assert!(rt; false, "no test case"),
@@ -213,7 +213,7 @@ pub(crate) fn word_of(status: Status) -> &'static str {
     }
 }
 
-fn expect_status(rt: &impl Abort, read: &Result<Envelope, ShapeFault>, word: &str) {
+fn expect_status(rt: &impl Abort, read: &Result<Envelope, EnvelopeFault>, word: &str) {
     match read {
         Ok(Envelope::TestStepFinished(step)) => {
             assert!(rt; word_of(step.test_step_result.status) == word);

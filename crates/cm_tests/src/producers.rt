@@ -1,8 +1,8 @@
 //! Lines as today's producers write them, with members that aren't judged.
 use crate::envelopes::word_of;
 use cm_envelope::{
-    Envelope, GherkinDocument, Pickle, PickleStep, ShapeFault, StepKind, TestCase, TestRunFinished,
-    TestStep, read_envelope,
+    Envelope, EnvelopeFault, GherkinDocument, Pickle, PickleStep, StepKind, TestCase,
+    TestRunFinished, TestStep, read_envelope,
 };
 use gk_document::Text;
 use std::alloc::{AllocError, Global};
@@ -212,7 +212,7 @@ testRunFinished|6|false|true = {"testRunFinished":{"testRunStartedId":"6","succe
 fn expect_envelope(
     rt: &impl Abort,
     alloc: Global,
-    read: &Result<Envelope, ShapeFault>,
+    read: &Result<Envelope, EnvelopeFault>,
     wanted: &str,
 ) -> Result<(), AllocError> {
     match read {

@@ -1,6 +1,6 @@
 //! Documents of a stream beside the document of a text.
 use crate::compiled::PLAIN_TEXT;
-use cm_envelope::{Envelope, ShapeFault, read_envelope};
+use cm_envelope::{Envelope, EnvelopeFault, read_envelope};
 use gk_document::{Document, same_skeleton};
 use gk_tree::parse;
 use std::alloc::Global;
@@ -22,7 +22,7 @@ no {"gherkinDocument":{"comments":[],"feature":{"children":[{"scenario":{"descri
 no {"gherkinDocument":{"comments":[],"feature":{"children":[{"scenario":{"description":"","examples":[{"id":"2","keyword":"Examples","location":{"line":5},"name":""}],"id":"0","keyword":"Scenario","location":{"column":3,"line":3},"name":"s","steps":[{"id":"1","keyword":"Given ","keywordType":"Context","location":{"column":5,"line":4},"text":"a"}],"tags":[]}}],"description":"","keyword":"Feature","language":"en","location":{"column":1,"line":1},"name":"f","tags":[]},"uri":"a.feature"}}"#;
 
 // Whether a document was read with the skeleton of this one.
-fn is_alike(read: &Result<Envelope, ShapeFault>, document: &Document) -> Option<bool> {
+fn is_alike(read: &Result<Envelope, EnvelopeFault>, document: &Document) -> Option<bool> {
     match read {
         Ok(Envelope::GherkinDocument(read)) => Some(same_skeleton(document, &read.document)),
         _ => None,

@@ -1,7 +1,7 @@
-//! `cukecheck`: reads Cucumber Messages or a feature file from standard input, and tells of them on standard output.
+//! `cukecheck`: reads Cucumber Messages or a feature file from standard input, and prints what it finds to standard output.
 #![tactic(auto)]
 
-use ck_commands::{TROUBLE_STATUS, run};
+use ck_commands::{ExitStatus, run};
 use cm_envelope::{Reader, Writer};
 use std::alloc::{AllocError, Global};
 use std::process::ExitCode;
@@ -12,7 +12,7 @@ const NOT_UTF8: &str = "cukecheck: an argument isn't UTF-8";
 
 const NO_MEMORY: &str = "cukecheck: there is no memory for the arguments";
 
-const TOLD: &str = "cukecheck: standard output says why, unless it couldn't be written";
+const SAID: &str = "cukecheck: standard output says why, unless it couldn't be written";
 
 fn words_after_first(alloc: Global, given: &Vec<String>) -> Result<Vec<&str>, AllocError> {
     let mut words = Vec::new(alloc);
@@ -44,10 +44,10 @@ fn status_of(rt: &HostRuntime) -> Result<u8, &'static str> {
 
 fn main(rt: HostRuntime) -> ExitCode {
     let (status, trouble) = match status_of(&rt) {
-        Ok(status) => (status, TOLD),
-        Err(trouble) => (TROUBLE_STATUS, trouble),
+        Ok(status) => (status, SAID),
+        Err(trouble) => (ExitStatus::Trouble.code(), trouble),
     };
-    if status == TROUBLE_STATUS {
+    if status == ExitStatus::Trouble.code() {
         let _ = rt.eprintln(trouble).is_ok();
     }
     ExitCode::from(status)

@@ -1,1 +1,2 @@
+pub mod MediaType
 pub mod Skeleton

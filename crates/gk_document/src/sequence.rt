@@ -42,7 +42,7 @@ impl<T> Sequence<T> {
         self.items.is_empty()
     }
 
-    /// Adds a value behind the others.
+    /// Adds a value after the others.
     ///
     /// # Errors
     /// Only where there is no memory for it; then the values are as before.
@@ -62,7 +62,7 @@ impl<T> Sequence<T> {
         self.items.as_slice()
     }
 
-    /// The `Vec` that the values stand in. It takes no memory.
+    /// The values as a `Vec`. It takes no memory.
     pub fn into_vec(self) -> Vec<T>
         ensures { result.items ≡ self }
     {

@@ -1,4 +1,7 @@
 //! The tree of a feature file, as `gherkin.berp` and the Messages' `gherkinDocument` have it.
+ghost use Rattle.std.specs.Prelude.{◌≡◌};
+ghost use Rattle.gk_document.specs.MediaType.{unless_empty};
+
 use crate::sequence::Sequence;
 use crate::text::Text;
 
@@ -20,7 +23,7 @@ pub struct Tag {
 /// A cell of a table row.
 #[derive(Clone, Debug, PartialEq, Eq, Drop)]
 pub struct Cell {
-    /// The cell's text, in which escapes stand for their characters.
+    /// The cell's text, with the characters that its escapes mean.
     pub value: Text,
     /// Where the cell's text begins, or its closing bar where that is empty.
     pub column: u32,
@@ -43,7 +46,7 @@ pub enum Fence {
     Backticks,
 }
 
-/// A doc string. An empty media type is none.
+/// A doc string. An empty media type is none, as [`media_type`] has it.
 #[derive(Debug, PartialEq, Eq, Drop)]
 pub struct DocString {
     pub location: Location,
@@ -52,7 +55,14 @@ pub struct DocString {
     pub fence: Fence,
 }
 
-/// What stands below a step.
+/// The media type that a fence or a member gives by this text: none where the text is empty. It takes no memory.
+pub fn media_type(text: Text) -> Option<Text>
+    ensures { result ≡ unless_empty text }
+{
+    if text.is_empty() { None } else { Some(text) }
+}
+
+/// What is below a step: a data table, or a doc string.
 #[derive(Debug, PartialEq, Eq, Drop)]
 pub enum Argument {
     Table(Sequence<Row>),
@@ -87,7 +97,7 @@ pub struct Step {
     pub argument: Option<Argument>,
 }
 
-/// Steps that stand before those of each scenario.
+/// Steps that are run before those of each scenario.
 #[derive(Debug, PartialEq, Eq, Drop)]
 pub struct Background {
     pub node: u64,

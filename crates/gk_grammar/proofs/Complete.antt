@@ -9,7 +9,7 @@ use Rattle.gk_grammar.specs.declared.fault.FaultKind.TheVariants as kind
 use Rattle.gk_document.specs.declared.tree.KeywordType.{KeywordType}
 use Rattle.gk_grammar.specs.Token.{Text, Blank, Comment, Language, Step, Row, Fenced, Line, line, is_gap}
 use Rattle.gk_grammar.specs.Tree as tree
-use Rattle.gk_grammar.specs.Tree.{Tag, Location, Argument, DocString}
+use Rattle.gk_grammar.specs.Tree.{Tag, Argument, DocString}
 use Rattle.gk_document.specs.declared.tree.Argument.TheVariants.{Table, Text as Quoted}
 use Rattle.gk_grammar.specs.Grammar.{Piece, Then, Nothing, Each, AtMostOne, OneLine, comments_of, IsStep, IsStepLine, IsArgument, IsTable, IsRow, IsDocString, is_fence, at, Node, step_nodes, row_nodes, argument_nodes}
 use Rattle.gk_grammar.specs.Machine.{FlatBlock, OpenDocString, Phase, AfterTags, AfterStep, InDocString, InExamplesTable, State, Bad, next, run, ◌>>=◌, count_of, another_row, step_at, with_doc_string, doc_string, step_fence}

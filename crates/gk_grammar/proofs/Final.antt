@@ -3,7 +3,7 @@ use Rattle.std.proofs.Common.{◌≡◌, ℕ, ◌+◌, List, [], ◌∷◌, ◌+
 use Rattle.std.specs.Prelude.{IfOk, ◌⊎◌}
 use Rattle.gk_grammar.specs.Token.{Line}
 use Rattle.gk_grammar.specs.Tree as tree
-use Rattle.gk_grammar.specs.Tree.{Feature, Document}
+use Rattle.gk_grammar.specs.Tree.{Feature}
 use Rattle.gk_grammar.specs.Grammar.{Piece, Then, IsPlainGap, IsFeatureText}
 use Rattle.gk_grammar.specs.Machine.{FlatBlock, Phase, Start, AfterLanguage, AfterTags, InDescription, AfterStep, InDocString, InExamplesTable, State, Bad, run, blocks_at_end, initial, with_description, with_steps, with_rows, ◌>>=◌}
 use Rattle.gk_grammar.specs.Place.{Completion, completing}

@@ -7,11 +7,12 @@ use Rattle.gk_document.specs.declared.tree.Cell.{Cell}
 use Rattle.gk_line.specs.declared.tokens.Block.{Block}
 use Rattle.gk_line.specs.declared.tokens.Block.TheVariants as block
 use Rattle.gk_document.specs.declared.tree.Fence.{Fence}
+use Rattle.gk_document.specs.MediaType.{unless_empty}
 use Rattle.gk_grammar.specs.Token.{Text, TagText, Blank, Comment, Language, Tags, Title, Step, Row, Fenced, Other, Line, line, is_gap}
 use Rattle.gk_grammar.specs.Tree as tree
 use Rattle.gk_grammar.specs.Tree.{Location, Tag, DocString, Argument}
 use Rattle.gk_document.specs.declared.tree.Argument.TheVariants.{Table, Text as Quoted}
-use Rattle.gk_grammar.specs.Grammar.{Piece, Then, ◌⨾◌, Nothing, Each, AtMostOne, OneLine, comments_of, at, TagLines, IsTagLine, place_and_name, tag_at, Titled, IsTitle, stops, IsStep, IsStepLine, IsArgument, IsTable, IsRow, HaveEqualCounts, IsDocString, Closes, is_fence, media_of, IsPlainGap, IsOpening, IsEnglish}
+use Rattle.gk_grammar.specs.Grammar.{Piece, Then, ◌⨾◌, Nothing, Each, AtMostOne, OneLine, comments_of, at, TagLines, IsTagLine, place_and_name, tag_at, Titled, IsTitle, stops, IsStep, IsStepLine, IsArgument, IsTable, IsRow, HaveEqualCounts, IsDocString, Closes, is_fence, IsPlainGap, IsOpening, IsEnglish}
 use Rattle.gk_grammar.specs.Machine.{Body, Bare, Steps, Rows, FlatBlock, OpenDocString, Phase, Start, AfterLanguage, AfterTags, InDescription, AfterStep, InDocString, InExamplesTable, State, Bad, after_step, step_row, step_fence, row_at, step_at, count_of, with_doc_string, doc_string, with_steps, with_rows, empty_body, at_phase, close_block, add_tags, open_block, new_block, tags_from, follows, in_examples_table, takes_tags}
 use Rattle.gk_grammar.proofs.Pieces.{moved, extended, mapped, joined, to_right, then_nothing, each_more, Takes, gap_takes, one_line_takes, then_takes, each_takes, all_more, only_first, then_empty, lengthened}
 
@@ -162,7 +163,7 @@ quote_closes q inside l h [] ys p = absurd p
 quote_closes q inside l h (line n t i (Fenced f media) ∷ ls) ys p = (
   p.0,
   p.1,
-  ap media_of p.2,
+  ap unless_empty p.2,
   record {
     inside = ls;
     close = l;

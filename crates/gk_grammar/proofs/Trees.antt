@@ -6,7 +6,7 @@ use Rattle.gk_line.specs.declared.tokens.Block.{Block}
 use Rattle.gk_line.specs.declared.tokens.Block.TheVariants as block
 use Rattle.gk_grammar.specs.Token.{Line}
 use Rattle.gk_grammar.specs.Tree as tree
-use Rattle.gk_grammar.specs.Tree.{Tag, Background, ExampleTable, Examples, Scenario, Rule, Feature}
+use Rattle.gk_grammar.specs.Tree.{Background, ExampleTable, Examples, Scenario, Rule, Feature}
 use Rattle.gk_grammar.specs.Grammar.{Piece, Then, Each, AtMostOne, TagLines, Titled, IsStep, IsExampleTable, table_rows, IsBackground, IsExamples, IsScenario, IsRule, IsFeature}
 use Rattle.gk_grammar.specs.Assembly.{table_of}
 use Rattle.gk_grammar.specs.Machine.{Bare, Steps, Rows, FlatBlock, follows}

@@ -2,6 +2,7 @@
 use Rattle.std.specs.Prelude.{ℕ, ◌<◌, ◌⊎◌, List, map, length}
 use Rattle.std.specs.Str.{chars}
 use Rattle.gk_line.specs.Lines.{lines_of}
+use Rattle.gk_line.specs.declared.limit.TheConstants.{FEATURE_LIMIT}
 use Rattle.gk_grammar.specs.Token.{Line, line_of}
 use Rattle.gk_grammar.specs.Tree.{Document}
 use Rattle.gk_grammar.specs.Grammar.{Doc}
@@ -16,13 +17,13 @@ lines_read text = map line_of (lines_of (chars text))
 abbrev pub IsDocumentOf : List ℕ → Document → Type 0
 IsDocumentOf text d = Doc (lines_read text) d
 
--- the text is none of the grammar, and this fault stands at this line and column
+-- the text is none of the grammar, and this fault is at this line and column
 abbrev pub HasFault : List ℕ → FaultKind → (line column : ℕ) → Type 0
 HasFault text kind line column = IsFault (lines_read text) kind line column
 
 -- the most bytes and lines that a feature file may have
 abbrev pub byte_limit : ℕ
-byte_limit = 16_777_216
+byte_limit = FEATURE_LIMIT
 
 abbrev pub line_limit : ℕ
 line_limit = 1_000_000

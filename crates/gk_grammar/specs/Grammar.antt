@@ -5,6 +5,7 @@ use Rattle.std.specs.Prelude.{◌≡◌, ℕ, ◌+◌, Bool, true, false, not, �
 use Rattle.std.specs.List.{AllByRecursion, count_by, filter, flat_map, join_with_byte}
 use Rattle.std.specs.Str.{encode_utf8_all}
 use Rattle.gk_line.specs.DocStrings.{doc_line_of}
+use Rattle.gk_document.specs.MediaType.{unless_empty}
 use Rattle.gk_line.specs.declared.tokens.Block.{Block}
 use Rattle.gk_line.specs.declared.tokens.Block.TheVariants as block
 use Rattle.gk_document.specs.declared.tree.Fence.{Fence}
@@ -89,7 +90,9 @@ IsTagLine tags _ = ⊥
 
 -- tag lines, whose tags together are these (`gherkin.berp`: Tags)
 abbrev pub TagLines : List Tag → Piece
-TagLines tags ls cs = (lines : List (List Tag)) × (tags ≡ flat_map (λ ts. ts) lines) × Each (λ ts. OneLine (IsTagLine ts)) lines ls cs
+TagLines tags ls cs =
+    (lines : List (List Tag)) × (tags ≡ flat_map (λ ts. ts) lines)
+    × Each (λ ts. OneLine (IsTagLine ts)) lines ls cs
 
 -- The lines that end a block's description. All others are text, even where they look like steps or rows.
 abbrev pub stops : Block → Line → Bool
@@ -114,20 +117,25 @@ from_text (l ∷ ls) = if is_blank l then from_text ls else l ∷ ls
 abbrev pub line_feed : ℕ
 line_feed = 10
 
--- The text of a description (`gherkin.berp`: Description), of which comments are no part, and which they don't end: its lines without comments, without blank lines at both ends
+-- The text of a description (`gherkin.berp`: Description), of which comments are no part, and which they don't end: its lines
+-- without comments, without blank lines at both ends
 abbrev pub description_of : List Line → Text
-description_of ls = join_with_byte line_feed (map bytes (reverse (from_text (reverse (from_text (filter (λ l. not (is_comment l)) ls))))))
+description_of ls =
+    join_with_byte line_feed (map bytes
+    (reverse (from_text (reverse (from_text (filter (λ l. not (is_comment l)) ls))))))
 
 -- the title line of a block
 abbrev pub IsTitle : Block → Location → (keyword name : Text) → Line → Type 0
-IsTitle b place keyword name (line n t i (Title c k m)) = (c ≡ b) × (place ≡ at n (i + 1)) × (keyword ≡ k) × (name ≡ m)
+IsTitle b place keyword name (line n t i (Title c k m)) =
+    (c ≡ b) × (place ≡ at n (i + 1)) × (keyword ≡ k) × (name ≡ m)
 IsTitle b place keyword name _ = ⊥
 
 -- a title line and the description after it
 abbrev pub Titled : Block → Location → (keyword name description : Text) → Piece
 Titled b place keyword name description [] cs = ⊥
 Titled b place keyword name description (l ∷ ls) cs =
-    IsTitle b place keyword name l × AllByRecursion (λ x. IsFalse (stops b x)) ls × (description ≡ description_of ls) × (cs ≡ comments_of ls)
+    IsTitle b place keyword name l × AllByRecursion (λ x. IsFalse (stops b x)) ls
+    × (description ≡ description_of ls) × (cs ≡ comments_of ls)
 
 -- ---- steps
 
@@ -156,13 +164,9 @@ is_fence _ _ = false
 abbrev pub content_line : Fence → (indent : ℕ) → Line → Text
 content_line f indent l = encode_utf8_all (doc_line_of f indent (text l))
 
--- an empty media type is none
-abbrev pub media_of : Text → Option Text
-media_of [] = None
-media_of (c ∷ cs) = Some (c ∷ cs)
-
 -- the lines after the opening one: the content, in which no line starts with the fence, and one that does
-pub record Closes (f : Fence) (n : ℕ) (content : Text) (ls : List Line) (cs : List tree.Comment) : Type 0 where
+pub record Closes (f : Fence) (n : ℕ) (content : Text)
+    (ls : List Line) (cs : List tree.Comment) : Type 0 where
   pub inside : List Line
   pub close : Line
   pub gap : List Line
@@ -176,17 +180,19 @@ pub record Closes (f : Fence) (n : ℕ) (content : Text) (ls : List Line) (cs : 
 abbrev pub IsDocString : DocString → Piece
 IsDocString d [] cs = ⊥
 IsDocString d (line n t i (Fenced f media) ∷ ls) cs =
-    (d.location ≡ at n (i + 1)) × (d.fence ≡ f) × (d.media ≡ media_of media) × Closes f i d.content ls cs
+    (d.location ≡ at n (i + 1)) × (d.fence ≡ f) × (d.media ≡ unless_empty media)
+    × Closes f i d.content ls cs
 IsDocString d _ cs = ⊥
 
--- what may stand below a step line
+-- what may be below a step line
 abbrev pub IsArgument : Argument → Piece
 IsArgument (Table rows) = IsTable rows
 IsArgument (Quoted d) = IsDocString d
 
 -- the line of a step
 abbrev pub IsStepLine : tree.Step → Line → Type 0
-IsStepLine s (line n t i (Step k y m)) = (s.location ≡ at n (i + 1)) × (s.keyword ≡ k) × (s.kind ≡ y) × (s.text ≡ m)
+IsStepLine s (line n t i (Step k y m)) =
+    (s.location ≡ at n (i + 1)) × (s.keyword ≡ k) × (s.kind ≡ y) × (s.text ≡ m)
 IsStepLine s _ = ⊥
 
 -- a step line, and a table or a doc string or neither (`gherkin.berp`: Step)
@@ -197,7 +203,8 @@ IsStep s = OneLine (IsStepLine s) ⨾ AtMostOne IsArgument s.argument
 
 -- a title, a description and steps (`gherkin.berp`: Background)
 abbrev pub IsBackground : Background → Piece
-IsBackground b = Titled block.Background b.location b.keyword b.name b.description ⨾ Each IsStep b.steps
+IsBackground b =
+    Titled block.Background b.location b.keyword b.name b.description ⨾ Each IsStep b.steps
 
 -- a table whose header is the first row
 abbrev pub IsExampleTable : ExampleTable → Piece
@@ -205,19 +212,27 @@ IsExampleTable t = IsTable (t.header ∷ t.body)
 
 -- tags, a title, a description, and a table at most once (`gherkin.berp`: ExamplesDefinition)
 abbrev pub IsExamples : Examples → Piece
-IsExamples e = TagLines e.tags ⨾ Titled block.Examples e.location e.keyword e.name e.description ⨾ AtMostOne IsExampleTable e.table
+IsExamples e =
+    TagLines e.tags ⨾ Titled block.Examples e.location e.keyword e.name e.description
+    ⨾ AtMostOne IsExampleTable e.table
 
 -- tags, a title, a description, steps, and examples blocks (`gherkin.berp`: ScenarioDefinition)
 abbrev pub IsScenario : Scenario → Piece
-IsScenario s = TagLines s.tags ⨾ Titled block.Scenario s.location s.keyword s.name s.description ⨾ Each IsStep s.steps ⨾ Each IsExamples s.examples
+IsScenario s =
+    TagLines s.tags ⨾ Titled block.Scenario s.location s.keyword s.name s.description
+    ⨾ Each IsStep s.steps ⨾ Each IsExamples s.examples
 
 -- tags, a title, a description, a background at most once, and scenarios (`gherkin.berp`: Rule)
 abbrev pub IsRule : Rule → Piece
-IsRule r = TagLines r.tags ⨾ Titled block.Rule r.location r.keyword r.name r.description ⨾ AtMostOne IsBackground r.background ⨾ Each IsScenario r.scenarios
+IsRule r =
+    TagLines r.tags ⨾ Titled block.Rule r.location r.keyword r.name r.description
+    ⨾ AtMostOne IsBackground r.background ⨾ Each IsScenario r.scenarios
 
 -- tags, a title, a description, a background at most once, scenarios, and rules (`gherkin.berp`: Feature)
 abbrev pub IsFeature : Feature → Piece
-IsFeature f = TagLines f.tags ⨾ Titled block.Feature f.location f.keyword f.name f.description ⨾ AtMostOne IsBackground f.background ⨾ Each IsScenario f.scenarios ⨾ Each IsRule f.rules
+IsFeature f =
+    TagLines f.tags ⨾ Titled block.Feature f.location f.keyword f.name f.description
+    ⨾ AtMostOne IsBackground f.background ⨾ Each IsScenario f.scenarios ⨾ Each IsRule f.rules
 
 -- ---- documents
 
@@ -283,22 +298,30 @@ abbrev pub examples_nodes : Examples → List Node
 examples_nodes e = tag_nodes e.tags ++ (e.location, e.node) ∷ row_nodes (table_rows e.table)
 
 abbrev pub scenario_nodes : Scenario → List Node
-scenario_nodes s = tag_nodes s.tags ++ (s.location, s.node) ∷ (flat_map step_nodes s.steps ++ flat_map examples_nodes s.examples)
+scenario_nodes s =
+    tag_nodes s.tags ++ (s.location, s.node)
+    ∷ (flat_map step_nodes s.steps ++ flat_map examples_nodes s.examples)
 
 abbrev pub rule_nodes : Rule → List Node
-rule_nodes r = tag_nodes r.tags ++ (r.location, r.node) ∷ (background_nodes r.background ++ flat_map scenario_nodes r.scenarios)
+rule_nodes r =
+    tag_nodes r.tags ++ (r.location, r.node)
+    ∷ (background_nodes r.background ++ flat_map scenario_nodes r.scenarios)
 
 abbrev pub feature_nodes : Option Feature → List Node
 feature_nodes None = []
-feature_nodes (Some f) = tag_nodes f.tags ++ (background_nodes f.background ++ (flat_map scenario_nodes f.scenarios ++ flat_map rule_nodes f.rules))
+feature_nodes (Some f) =
+    tag_nodes f.tags ++ (background_nodes f.background
+    ++ (flat_map scenario_nodes f.scenarios ++ flat_map rule_nodes f.rules))
 
 -- the one place comes before the other, by line and column
 abbrev pub stands_before : Location → Location → Bool
 stands_before a b = nat_lt a.line b.line || (a.line == b.line && nat_lt a.column b.column)
 
--- a node's number is how many nodes stand before it
+-- a node's number is how many nodes are before it
 abbrev pub AreNumbered : List Node → Type 0
-AreNumbered nodes = AllByRecursion (λ (x : Node). x.1 ≡ count_by (λ (y : Node). stands_before y.0 x.0) nodes) nodes
+AreNumbered nodes =
+    AllByRecursion
+    (λ (x : Node). x.1 ≡ count_by (λ (y : Node). stands_before y.0 x.0) nodes) nodes
 
 -- the lines are a text of the grammar, and this is its document
 pub record Doc (ls : List Line) (d : Document) : Type 0 where

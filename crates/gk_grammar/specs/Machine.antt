@@ -1,9 +1,10 @@
 -- How one pass over the lines goes: a state that is finite but for the tree under construction. The grammar needs none of
 -- this; a parser is proved to take these steps, and these steps to take exactly the texts of the grammar.
-use Rattle.std.specs.Prelude.{ℕ, ◌+◌, Bool, true, false, cond, List, [], ◌∷◌, ◌++◌, map, length, Option, Some, None, Result, Ok, Err, ◌==◌, if◌then◌else◌, codes}
+use Rattle.std.specs.Prelude.{ℕ, ◌+◌, Bool, true, false, List, [], ◌∷◌, ◌++◌, map, length, Option, Some, None, Result, Ok, Err, ◌==◌, if◌then◌else◌, codes}
 use Rattle.gk_document.specs.declared.tree.Cell.{Cell}
 use Rattle.gk_line.specs.declared.tokens.Block.{Block}
 use Rattle.gk_line.specs.declared.tokens.Block.TheVariants as block
+use Rattle.gk_document.specs.MediaType.{unless_empty}
 use Rattle.gk_document.specs.declared.tree.Fence.{Fence}
 use Rattle.gk_document.specs.declared.tree.KeywordType.{KeywordType}
 use Rattle.gk_grammar.specs.declared.fault.FaultKind.{FaultKind}
@@ -12,10 +13,10 @@ use Rattle.gk_grammar.specs.Token.{Text, TagText, Blank, Comment, Language, Tags
 use Rattle.gk_grammar.specs.Tree as tree
 use Rattle.gk_grammar.specs.Tree.{Location, Tag, DocString, Argument}
 use Rattle.gk_document.specs.declared.tree.Argument.TheVariants.{Table, Text as Quoted}
-use Rattle.gk_grammar.specs.Grammar.{at, comments_of, stops, description_of, is_fence, content_line, line_feed, media_of, english}
+use Rattle.gk_grammar.specs.Grammar.{at, comments_of, stops, description_of, is_fence, content_line, line_feed, english}
 use Rattle.std.specs.List.{join_with_byte}
 
--- what stands below the description of a block
+-- what is below the description of a block
 pub data Body : Type 0 where
   Bare : Body
   Steps : List tree.Step → Body
@@ -44,7 +45,7 @@ pub data Phase : Type 0 where
   Start : Phase
   -- the same, after the language line
   AfterLanguage : Phase
-  -- after tag lines; which block stands before them
+  -- after tag lines; which block is before them
   AfterTags : (before : Option Block) → List Tag → Phase
   -- in the description of a block, with its lines so far that aren't comments
   InDescription : FlatBlock → List Line → Phase
@@ -55,7 +56,7 @@ pub data Phase : Type 0 where
   -- after rows of an examples table
   InExamplesTable : FlatBlock → List tree.Row → Phase
 
--- the state between two lines: what was made of the lines so far, and where the pass stands
+-- the state between two lines: what was made of the lines so far, and where the pass is
 pub record State : Type 0 where
   pub comments : List tree.Comment
   pub nodes : ℕ
@@ -92,11 +93,17 @@ own_node _ = 1
 -- the tags of these words in line n, numbered from this node on
 abbrev pub tags_from : ℕ → ℕ → List TagText → List Tag
 tags_from n node [] = []
-tags_from n node (w ∷ ws) = record { node = node; location = at n w.column; name = codes "@" ++ w.word } ∷ tags_from n (node + 1) ws
+tags_from n node (w ∷ ws) =
+    record { node = node; location = at n w.column; name = codes "@" ++ w.word }
+    ∷ tags_from n (node + 1) ws
 
--- line n, whose indent is i, can't stand here
+-- line n, whose indent is i, is not allowed here
 abbrev unexpected : ℕ → ℕ → Result State Bad
 unexpected n i = Err (record { kind = kind.Unexpected; line = n; column = i + 1 })
+
+-- a tag line with white space in the tag at this column
+abbrev spaced_tag : ℕ → ℕ → Result State Bad
+spaced_tag n column = Err (record { kind = kind.TagSpace; line = n; column = column })
 
 -- a comment or a blank line
 abbrev pub pass_over : State → Phase → Line → State
@@ -112,26 +119,59 @@ empty_body block.Examples = Rows []
 
 -- the block of a title line, without its description and what is below it
 abbrev pub new_block : ℕ → Block → List Tag → ℕ → ℕ → (k m : Text) → FlatBlock
-new_block node b tags n i k m = record { block = b; node = node; place = at n (i + 1); tags = tags; keyword = k; name = m; description = []; body = empty_body b }
+new_block node b tags n i k m = record {
+  block = b;
+  node = node;
+  place = at n (i + 1);
+  tags = tags;
+  keyword = k;
+  name = m;
+  description = [];
+  body = empty_body b;
+}
 
 -- a title line
 abbrev pub open_block : State → Block → List Tag → ℕ → ℕ → (k m : Text) → State
-open_block s b tags n i k m = record s { nodes = s.nodes + own_node b; phase = InDescription (new_block s.nodes b tags n i k m) [] }
+open_block s b tags n i k m = record s {
+  nodes = s.nodes + own_node b;
+  phase = InDescription (new_block s.nodes b tags n i k m) [];
+}
 
 -- a tag line
 abbrev pub add_tags : State → Option Block → List Tag → ℕ → List TagText → State
-add_tags s before tags n words = record s { nodes = s.nodes + length words; phase = AfterTags before (tags ++ tags_from n s.nodes words) }
+add_tags s before tags n words = record s {
+  nodes = s.nodes + length words;
+  phase = AfterTags before (tags ++ tags_from n s.nodes words);
+}
+
+-- a block that is whole
+abbrev pub add_block : State → FlatBlock → State
+add_block s c = record s { flat_blocks = s.flat_blocks ++ c ∷ [] }
+
+-- a line of one node, and the phase after it
+abbrev pub add_node : State → Phase → State
+add_node s phase = record s { nodes = s.nodes + 1; phase = phase }
 
 -- a line after a whole block, which isn't part of it
 abbrev pub close_block : State → FlatBlock → Line → Result State Bad
-close_block s c (line n t i (Tags (Ok words))) = Ok (add_tags (record s { flat_blocks = s.flat_blocks ++ c ∷ [] }) (Some c.block) [] n words)
-close_block s c (line n t i (Tags (Err column))) = Err (record { kind = kind.TagSpace; line = n; column = column })
-close_block s c (line n t i (Title b k m)) = cond (follows (Some c.block) b) (Ok (open_block (record s { flat_blocks = s.flat_blocks ++ c ∷ [] }) b [] n i k m)) (unexpected n i)
+close_block s c (line n t i (Tags (Ok words))) =
+    Ok (add_tags (add_block s c) (Some c.block) [] n words)
+close_block s c (line n t i (Tags (Err column))) = spaced_tag n column
+close_block s c (line n t i (Title b k m)) =
+    if follows (Some c.block) b then Ok (open_block (add_block s c) b [] n i k m)
+    else unexpected n i
 close_block s c (line n t i _) = unexpected n i
 
 -- the step of a step line
 abbrev pub step_at : State → ℕ → ℕ → (k : Text) → KeywordType → (m : Text) → tree.Step
-step_at s n i k y m = record { node = s.nodes; location = at n (i + 1); keyword = k; kind = y; text = m; argument = None }
+step_at s n i k y m = record {
+  node = s.nodes;
+  location = at n (i + 1);
+  keyword = k;
+  kind = y;
+  text = m;
+  argument = None;
+}
 
 -- the row of a table line
 abbrev pub row_at : State → ℕ → ℕ → List Cell → tree.Row
@@ -143,8 +183,10 @@ with_description c ls = record c { description = description_of ls }
 
 -- the first line after a description
 abbrev pub after_description : State → FlatBlock → Line → Result State Bad
-after_description s c (line n t i (Step k y m)) = Ok (record s { nodes = s.nodes + 1; phase = AfterStep c [] (step_at s n i k y m) })
-after_description s c (line n t i (Row cells)) = Ok (record s { nodes = s.nodes + 1; phase = InExamplesTable c (row_at s n i cells ∷ []) })
+after_description s c (line n t i (Step k y m)) =
+    Ok (add_node s (AfterStep c [] (step_at s n i k y m)))
+after_description s c (line n t i (Row cells)) =
+    Ok (add_node s (InExamplesTable c (row_at s n i cells ∷ [])))
 after_description s c l = close_block s c l
 
 abbrev pub with_steps : FlatBlock → List tree.Step → FlatBlock
@@ -159,46 +201,73 @@ count_of [] = 0
 count_of (r ∷ rs) = length r.cells
 
 -- a row after rows
-abbrev pub another_row : State → (List tree.Row → Phase) → List tree.Row → ℕ → ℕ → List Cell → Result State Bad
+abbrev pub another_row : State → (List tree.Row → Phase) → List tree.Row
+    → ℕ → ℕ → List Cell → Result State Bad
 another_row s phase rows n i cells =
-    cond (length cells == count_of rows)
-    (Ok (record s { nodes = s.nodes + 1; phase = phase (rows ++ row_at s n i cells ∷ []) }))
-    (Err (record { kind = kind.CellCount; line = n; column = i + 1 }))
+    if length cells == count_of rows
+    then Ok (add_node s (phase (rows ++ row_at s n i cells ∷ [])))
+    else Err (record { kind = kind.CellCount; line = n; column = i + 1 })
+
+abbrev pub with_table : tree.Step → List tree.Row → tree.Step
+with_table last rows = record last { argument = Some (Table rows) }
 
 -- a row after a step
-abbrev pub step_row : State → FlatBlock → List tree.Step → tree.Step → Option Argument → ℕ → ℕ → List Cell → Result State Bad
-step_row s c before last None n i cells = Ok (record s { nodes = s.nodes + 1; phase = AfterStep c before (record last { argument = Some (Table (row_at s n i cells ∷ [])) }) })
-step_row s c before last (Some (Table rows)) n i cells = another_row s (λ rs. AfterStep c before (record last { argument = Some (Table rs) })) rows n i cells
+abbrev pub step_row : State → FlatBlock → List tree.Step → tree.Step → Option Argument
+    → ℕ → ℕ → List Cell → Result State Bad
+step_row s c before last None n i cells =
+    Ok (add_node s (AfterStep c before (with_table last (row_at s n i cells ∷ []))))
+step_row s c before last (Some (Table rows)) n i cells =
+    another_row s (λ rs. AfterStep c before (with_table last rs)) rows n i cells
 step_row s c before last (Some (Quoted d)) n i cells = unexpected n i
 
+abbrev pub open_doc_string : ℕ → ℕ → Fence → Text → OpenDocString
+open_doc_string n i f media = record { place = at n (i + 1); fence = f; media = media; indent = i }
+
 -- a fence after a step
-abbrev pub step_fence : State → FlatBlock → List tree.Step → tree.Step → Option Argument → ℕ → ℕ → Fence → Text → Result State Bad
-step_fence s c before last None n i f media = Ok (record s { phase = InDocString c before last (record { place = at n (i + 1); fence = f; media = media; indent = i }) [] })
+abbrev pub step_fence : State → FlatBlock → List tree.Step → tree.Step → Option Argument
+    → ℕ → ℕ → Fence → Text → Result State Bad
+step_fence s c before last None n i f media =
+    Ok (record s { phase = InDocString c before last (open_doc_string n i f media) [] })
 step_fence s c before last (Some a) n i f media = unexpected n i
 
 -- the doc string with these lines inside
 abbrev pub doc_string : OpenDocString → List Line → DocString
-doc_string q inside = record { location = q.place; media = media_of q.media; content = join_with_byte line_feed (map (content_line q.fence q.indent) inside); fence = q.fence }
+doc_string q inside = record {
+  location = q.place;
+  media = unless_empty q.media;
+  content = join_with_byte line_feed (map (content_line q.fence q.indent) inside);
+  fence = q.fence;
+}
 
 abbrev pub with_doc_string : tree.Step → OpenDocString → List Line → tree.Step
 with_doc_string last q inside = record last { argument = Some (Quoted (doc_string q inside)) }
 
 -- a line after steps
 abbrev pub after_step : State → FlatBlock → List tree.Step → tree.Step → Line → Result State Bad
-after_step s c before last (line n t i (Step k y m)) = Ok (record s { nodes = s.nodes + 1; phase = AfterStep c (before ++ last ∷ []) (step_at s n i k y m) })
-after_step s c before last (line n t i (Row cells)) = step_row s c before last last.argument n i cells
-after_step s c before last (line n t i (Fenced f media)) = step_fence s c before last last.argument n i f media
-after_step s c before last (line n t i Blank) = Ok (pass_over s (AfterStep c before last) (line n t i Blank))
-after_step s c before last (line n t i Comment) = Ok (pass_over s (AfterStep c before last) (line n t i Comment))
-after_step s c before last (line n t i (Language w)) = Ok (pass_over s (AfterStep c before last) (line n t i (Language w)))
+after_step s c before last (line n t i (Step k y m)) =
+    Ok (add_node s (AfterStep c (before ++ last ∷ []) (step_at s n i k y m)))
+after_step s c before last (line n t i (Row cells)) =
+    step_row s c before last last.argument n i cells
+after_step s c before last (line n t i (Fenced f media)) =
+    step_fence s c before last last.argument n i f media
+after_step s c before last (line n t i Blank) =
+    Ok (pass_over s (AfterStep c before last) (line n t i Blank))
+after_step s c before last (line n t i Comment) =
+    Ok (pass_over s (AfterStep c before last) (line n t i Comment))
+after_step s c before last (line n t i (Language w)) =
+    Ok (pass_over s (AfterStep c before last) (line n t i (Language w)))
 after_step s c before last l = close_block s (with_steps c (before ++ last ∷ [])) l
 
 -- a line after rows of an examples table
 abbrev pub in_examples_table : State → FlatBlock → List tree.Row → Line → Result State Bad
-in_examples_table s c rows (line n t i (Row cells)) = another_row s (λ rs. InExamplesTable c rs) rows n i cells
-in_examples_table s c rows (line n t i Blank) = Ok (pass_over s (InExamplesTable c rows) (line n t i Blank))
-in_examples_table s c rows (line n t i Comment) = Ok (pass_over s (InExamplesTable c rows) (line n t i Comment))
-in_examples_table s c rows (line n t i (Language w)) = Ok (pass_over s (InExamplesTable c rows) (line n t i (Language w)))
+in_examples_table s c rows (line n t i (Row cells)) =
+    another_row s (λ rs. InExamplesTable c rs) rows n i cells
+in_examples_table s c rows (line n t i Blank) =
+    Ok (pass_over s (InExamplesTable c rows) (line n t i Blank))
+in_examples_table s c rows (line n t i Comment) =
+    Ok (pass_over s (InExamplesTable c rows) (line n t i Comment))
+in_examples_table s c rows (line n t i (Language w)) =
+    Ok (pass_over s (InExamplesTable c rows) (line n t i (Language w)))
 in_examples_table s c rows l = close_block s (with_rows c rows) l
 
 -- before the first tag line or feature line
@@ -206,8 +275,9 @@ abbrev pub before_first_block : State → Phase → Line → Result State Bad
 before_first_block s p (line n t i Blank) = Ok (pass_over s p (line n t i Blank))
 before_first_block s p (line n t i Comment) = Ok (pass_over s p (line n t i Comment))
 before_first_block s p (line n t i (Tags (Ok words))) = Ok (add_tags s None [] n words)
-before_first_block s p (line n t i (Tags (Err column))) = Err (record { kind = kind.TagSpace; line = n; column = column })
-before_first_block s p (line n t i (Title block.Feature k m)) = Ok (open_block s block.Feature [] n i k m)
+before_first_block s p (line n t i (Tags (Err column))) = spaced_tag n column
+before_first_block s p (line n t i (Title block.Feature k m)) =
+    Ok (open_block s block.Feature [] n i k m)
 before_first_block s p (line n t i _) = unexpected n i
 
 abbrev pub same_text : Text → Text → Bool
@@ -217,22 +287,31 @@ same_text _ _ = false
 
 -- where a language line still counts
 abbrev pub at_start : State → Line → Result State Bad
-at_start s (line n t i (Language w)) = cond (same_text w english) (Ok (record s { phase = AfterLanguage })) (Err (record { kind = kind.UnsupportedLanguage; line = n; column = i + 1 }))
+at_start s (line n t i (Language w)) =
+    if same_text w english then Ok (record s { phase = AfterLanguage })
+    else Err (record { kind = kind.UnsupportedLanguage; line = n; column = i + 1 })
 at_start s l = before_first_block s Start l
 
 -- after the language line
 abbrev pub after_language : State → Line → Result State Bad
-after_language s (line n t i (Language w)) = Ok (pass_over s AfterLanguage (line n t i (Language w)))
+after_language s (line n t i (Language w)) =
+    Ok (pass_over s AfterLanguage (line n t i (Language w)))
 after_language s l = before_first_block s AfterLanguage l
 
 -- a line after tag lines
 abbrev pub after_tags : State → Option Block → List Tag → Line → Result State Bad
-after_tags s before tags (line n t i Blank) = Ok (pass_over s (AfterTags before tags) (line n t i Blank))
-after_tags s before tags (line n t i Comment) = Ok (pass_over s (AfterTags before tags) (line n t i Comment))
-after_tags s before tags (line n t i (Language w)) = Ok (pass_over s (AfterTags before tags) (line n t i (Language w)))
+after_tags s before tags (line n t i Blank) =
+    Ok (pass_over s (AfterTags before tags) (line n t i Blank))
+after_tags s before tags (line n t i Comment) =
+    Ok (pass_over s (AfterTags before tags) (line n t i Comment))
+after_tags s before tags (line n t i (Language w)) =
+    Ok (pass_over s (AfterTags before tags) (line n t i (Language w)))
 after_tags s before tags (line n t i (Tags (Ok words))) = Ok (add_tags s before tags n words)
-after_tags s before tags (line n t i (Tags (Err column))) = Err (record { kind = kind.TagSpace; line = n; column = column })
-after_tags s before tags (line n t i (Title b k m)) = cond (follows before b) (cond (takes_tags b) (Ok (open_block s b tags n i k m)) (unexpected n i)) (unexpected n i)
+after_tags s before tags (line n t i (Tags (Err column))) = spaced_tag n column
+after_tags s before tags (line n t i (Title b k m)) =
+    if follows before b
+    then (if takes_tags b then Ok (open_block s b tags n i k m) else unexpected n i)
+    else unexpected n i
 after_tags s before tags (line n t i _) = unexpected n i
 
 -- one line
@@ -240,10 +319,14 @@ abbrev pub at_phase : State → Phase → Line → Result State Bad
 at_phase s Start l = at_start s l
 at_phase s AfterLanguage l = after_language s l
 at_phase s (AfterTags before tags) l = after_tags s before tags l
-at_phase s (InDescription c ls) l = cond (stops c.block l) (after_description s (with_description c ls) l) (Ok (pass_over s (InDescription c (ls ++ l ∷ [])) l))
+at_phase s (InDescription c ls) l =
+    if stops c.block l then after_description s (with_description c ls) l
+    else Ok (pass_over s (InDescription c (ls ++ l ∷ [])) l)
 at_phase s (AfterStep c before last) l = after_step s c before last l
 at_phase s (InDocString c before last q inside) l =
-    cond (is_fence q.fence l) (Ok (record s { phase = AfterStep c before (with_doc_string last q inside) })) (Ok (record s { phase = InDocString c before last q (inside ++ l ∷ []) }))
+    if is_fence q.fence l
+    then Ok (record s { phase = AfterStep c before (with_doc_string last q inside) })
+    else Ok (record s { phase = InDocString c before last q (inside ++ l ∷ []) })
 at_phase s (InExamplesTable c rows) l = in_examples_table s c rows l
 
 abbrev pub next : State → Line → Result State Bad

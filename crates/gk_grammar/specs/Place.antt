@@ -1,4 +1,4 @@
--- Where a list of lines stops being the front of a text, and which fault stands there.
+-- Where a list of lines stops being the front of a text, and which fault is there.
 use Rattle.std.specs.Prelude.{◌≡◌, ◌≢◌, ℕ, ◌+◌, ◌≤◌, ◌<◌, Bool, true, List, [], ◌∷◌, ◌++◌, length, take, codes, Err, IsTrue, ◌⊎◌}
 use Rattle.std.specs.List.{AllByRecursion}
 use Rattle.gk_document.specs.declared.tree.Cell.{Cell}
@@ -45,7 +45,7 @@ pub record IsOpenAtEnd (ls : List Line) (n : ℕ) : Type 0 where
   pub fronts : (m : ℕ) → 1 ≤ m → m ≤ length ls → IsFront (take m ls)
   pub open_yet : IsText ls → ⊥
 
--- a row or what may stand between rows
+-- a row or what may be between rows
 abbrev pub is_row_or_gap : Line → Bool
 is_row_or_gap (line n t i (Row cells)) = true
 is_row_or_gap l = is_gap l
@@ -54,7 +54,7 @@ abbrev pub HasOtherCount : List Cell → Line → Type 0
 HasOtherCount cells (line n t i (Row others)) = length others ≢ length cells
 HasOtherCount cells _ = ⊥
 
--- a row with another count stands before, with nothing but rows, comments and blank lines between
+-- a row with another count is before, with nothing but rows, comments and blank lines between
 pub record DiffersFromTable (before : List Line) (cells : List Cell) : Type 0 where
   pub earlier : List Line
   pub row : Line
@@ -66,9 +66,12 @@ pub record DiffersFromTable (before : List Line) (cells : List Cell) : Type 0 wh
 -- the kind and the column of the fault at a line, by the line and those before it
 abbrev pub IsFaultAt : List Line → Line → FaultKind → ℕ → Type 0
 IsFaultAt before (line n t i (Tags (Err c))) k column = (k ≡ kind.TagSpace) × (column ≡ c)
-IsFaultAt before (line n t i (Language w)) k column = (k ≡ kind.UnsupportedLanguage) × (column ≡ i + 1)
+IsFaultAt before (line n t i (Language w)) k column =
+    (k ≡ kind.UnsupportedLanguage) × (column ≡ i + 1)
 IsFaultAt before (line n t i (Row cells)) k column =
-    ((DiffersFromTable before cells × (k ≡ kind.CellCount)) ⊎ ((DiffersFromTable before cells → ⊥) × (k ≡ kind.Unexpected))) × (column ≡ i + 1)
+    ((DiffersFromTable before cells × (k ≡ kind.CellCount))
+    ⊎ ((DiffersFromTable before cells → ⊥) × (k ≡ kind.Unexpected)))
+    × (column ≡ i + 1)
 IsFaultAt before (line n t i _) k column = (k ≡ kind.Unexpected) × (column ≡ i + 1)
 
 -- a fault at one of the lines: the line is cut out of the list

@@ -121,7 +121,7 @@ abbrev pub is_blank : Line → Bool
 is_blank (line n t i Blank) = true
 is_blank _ = false
 
--- what may stand between two lines
+-- what may be between two lines
 abbrev pub is_gap : Line → Bool
 is_gap (line n t i Blank) = true
 is_gap (line n t i Comment) = true

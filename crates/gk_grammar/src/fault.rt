@@ -3,7 +3,7 @@
 /// What is wrong at the place of a fault.
 #[derive(Clone, Copy, Debug, PartialEq, Eq)]
 pub enum FaultKind {
-    /// A line that can't stand where it does.
+    /// A line that is not allowed where it is.
     Unexpected,
     /// A tag line with white space in a tag.
     TagSpace,

@@ -1,4 +1,18 @@
-//! The grammar of feature files: which texts are of it, and of which tree.
+//! The grammar of feature files: which texts are of it, and of which tree. `specs/Documents.antt` has the definitions that
+//! contracts cite, as `IsDocumentOf text document`, and the functions here are laws of them.
+//!
+//! ```
+//! ghost use Rattle.gk_grammar.specs.Laws.{OneDocument};
+//!
+//! use gk_grammar::one_document;
+//!
+//! /// Whatever reads a text, it can find one document only.
+//! pub fn readers_agree()
+//!     ensures { OneDocument }
+//! {
+//!     one_document()
+//! }
+//! ```
 #![tactic(auto)]
 
 mod fault;

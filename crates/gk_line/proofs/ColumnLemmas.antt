@@ -155,7 +155,7 @@ cells-rise low high column (part ∷ next ∷ more) l h =
 bar-width : (u : CellUnit) → is_bar u ≡ true → widths (u ∷ []) ≡ 1
 bar-width u e = by_pair u.is_pair refl where
   by_pair : (p : Bool) → u.is_pair ≡ p → widths (u ∷ []) ≡ 1
-  by_pair true is = absurd (false≢true (sym (ap (λ p. not p && u.stands_for == vertical_bar) is) ∙ e))
+  by_pair true is = absurd (false≢true (sym (ap (λ p. not p && u.meaning == vertical_bar) is) ∙ e))
   by_pair false is = ap (λ p. cond p 2 1 + 0) is
 
 reach-split : (us : List CellUnit) → reach (slice_split is_bar us) ≡ widths us + 1

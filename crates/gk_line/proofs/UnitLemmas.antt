@@ -3,8 +3,8 @@ use Rattle.std.proofs.Common.{◌≡◌, ℕ, ◌+◌, ◌<◌, Bool, true, fals
 use Rattle.std.proofs.lemmas.List.{append_assoc, append-nil}
 use Rattle.std.specs.Prelude.{◌&&◌, ◌⊎◌, ◌==◌, if◌then◌else◌, map}
 use Rattle.std.specs.Char.{is_whitespace, IsScalar}
-use Rattle.std.specs.List.{prefix_len, slice_split}
-use Rattle.std.specs.Str.{skip_leading_whitespace, drop_trailing_whitespace, NonePass}
+use Rattle.std.specs.List.{prefix_len, slice_split, AllByRecursion}
+use Rattle.std.specs.Str.{skip_leading_whitespace, drop_trailing_whitespace, NonePass, IsUtf8}
 use Rattle.std.proofs.lemmas.Bool.{ne_eqb, eqb-true, eq-eqb, false≢true}
 use Rattle.std.proofs.lemmas.Grind.{common_steps}
 use Rattle.gk_line.specs.Texts.{trimmed, after, body_of}
@@ -16,7 +16,7 @@ use Rattle.gk_document.specs.declared.tree.Cell.{Cell}
 use Rattle.gk_line.specs.Tokens.{begins_by}
 use Rattle.std.specs.Prelude.{is_some}
 use Rattle.gk_line.proofs.TextLemmas.{after-some}
-use Rattle.gk_line.specs.Cells.{CellText, CellUnit, plain, pair, escaped, unit_or, units, is_bar, is_space, skip_spaces, drop_spaces, widths, NoBar, IsCutAtBar, cell_at, cells_from, cells_of, without_first}
+use Rattle.gk_line.specs.Cells.{CellText, CellUnit, plain, pair, escaped, unit_or, units, is_bar, is_space, skip_spaces, drop_spaces, widths, meanings, NoBar, IsCutAtBar, cell_at, cells_from, cells_of, without_first}
 use Rattle.gk_line.specs.Characters.{backslash, letter_n, line_feed, vertical_bar}
 
 -- the units that begin here, where a backslash stands just before or not
@@ -218,13 +218,9 @@ run-step c cs true h = unit_or-append (escaped c) c (run cs false)
 run-step c cs false (inl e) = absurd (cc)
 run-step c cs false (inr e) = rw e refl
 
--- what the units stand for
-abbrev pub meanings : List CellUnit → List ℕ
-meanings us = map (λ u. u.stands_for) us
-
 meanings-append : (us vs : List CellUnit) → meanings (us ++ vs) ≡ meanings us ++ meanings vs
 meanings-append [] vs = refl
-meanings-append (u ∷ us) vs = ap (λ q. u.stands_for ∷ q) (meanings-append us vs)
+meanings-append (u ∷ us) vs = ap (λ q. u.meaning ∷ q) (meanings-append us vs)
 
 pub alone_means : (c : ℕ) → meanings (units (c ∷ [])) ≡ c ∷ []
 unfolding units
@@ -328,6 +324,11 @@ turn_cell old cell column count row part rest whole cut is_cell is_count inv =
       texts-append : (old : List Cell) (cell : Cell) → map cell_text (old ++ cell ∷ []) ≡ map cell_text old ++ cell_text cell ∷ []
       texts-append [] cell = refl
       texts-append (o ∷ old) cell = ap (λ q. cell_text o ∷ q) (texts-append old cell)
+
+-- one more cell whose value is UTF-8
+pub utf8_more : (old : List Cell) (cell : Cell) → AllByRecursion (λ (c : Cell). IsUtf8 c.value) old → IsUtf8 cell.value → AllByRecursion (λ (c : Cell). IsUtf8 c.value) (old ++ cell ∷ [])
+utf8_more [] cell h u = (u, tt)
+utf8_more (o ∷ old) cell h u = (h.0, utf8_more old cell h.1 u)
 
 pub cells-end : (old : List Cell) (column : ℕ) (row : List CellUnit) (whole : List CellText) → NoBar row → map cell_text old ++ cells_from column (slice_split is_bar row) ≡ whole → map cell_text old ≡ whole
 cells-end old column row whole none inv =

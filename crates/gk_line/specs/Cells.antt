@@ -4,20 +4,24 @@ use Rattle.std.specs.Char.{is_whitespace}
 use Rattle.std.specs.List.{prefix_len, slice_split, AllByRecursion}
 use Rattle.gk_line.specs.Characters.{backslash, letter_n, line_feed, vertical_bar}
 
--- what a row is written in: a character by itself, or a pair of a backslash and another character, which stands for one
+-- what a row is written in: a character by itself, or a pair of a backslash and another character, which means one
 pub record CellUnit : Type 0 where
-  pub stands_for : ℕ
+  pub meaning : ℕ
   pub is_pair : Bool
 
 abbrev pub plain : ℕ → CellUnit
-plain c = record { stands_for = c; is_pair = false }
+plain c = record { meaning = c; is_pair = false }
 
 abbrev pub pair : ℕ → CellUnit
-pair c = record { stands_for = c; is_pair = true }
+pair c = record { meaning = c; is_pair = true }
 
--- what a backslash and c stand for: `\|` a bar, `\\` a backslash, `\n` a line feed
+-- what a backslash and c mean: `\|` a bar, `\\` a backslash, `\n` a line feed
 abbrev pub escaped : ℕ → Option ℕ
-escaped c = if c == vertical_bar then Some vertical_bar else if c == backslash then Some backslash else if c == letter_n then Some line_feed else None
+escaped c =
+    if c == vertical_bar then Some vertical_bar
+    else if c == backslash then Some backslash
+    else if c == letter_n then Some line_feed
+    else None
 
 -- the units of a row, where a backslash before any other character is by itself
 abbrev pub unit_or : Option ℕ → List CellUnit → List CellUnit → List CellUnit
@@ -27,13 +31,18 @@ unit_or (Some c) alone rest = pair c ∷ rest
 unfoldable pub units : List ℕ → List CellUnit
 units [] = []
 units (c ∷ []) = plain c ∷ []
-units (c ∷ d ∷ cs) = unit_or (if c == backslash then escaped d else None) (plain c ∷ units (d ∷ cs)) (units cs)
+units (c ∷ d ∷ cs) =
+    unit_or (if c == backslash then escaped d else None) (plain c ∷ units (d ∷ cs)) (units cs)
+
+-- the characters that the units mean
+abbrev pub meanings : List CellUnit → List ℕ
+meanings us = map (λ u. u.meaning) us
 
 abbrev pub is_bar : CellUnit → Bool
-is_bar u = not u.is_pair && u.stands_for == vertical_bar
+is_bar u = not u.is_pair && u.meaning == vertical_bar
 
 abbrev pub is_space : CellUnit → Bool
-is_space u = not u.is_pair && is_whitespace u.stands_for
+is_space u = not u.is_pair && is_whitespace u.meaning
 
 -- how many characters write the units
 abbrev pub width : CellUnit → ℕ
@@ -59,19 +68,23 @@ pub record CellText : Type 0 where
 -- the cell that is written in these units from this column on: its own column is that of the first unit that is no space,
 -- and where there is none, of the bar that follows
 abbrev pub cell_at : ℕ → List CellUnit → CellText
-cell_at column part = record { value = map (λ u. u.stands_for) (drop_spaces (skip_spaces part)); column = column + prefix_len is_space part }
+cell_at column part = record {
+  value = meanings (drop_spaces (skip_spaces part));
+  column = column + prefix_len is_space part;
+}
 
 -- the cells of the parts that a bar follows
 abbrev pub cells_from : ℕ → List (List CellUnit) → List CellText
 cells_from column [] = []
 cells_from column (part ∷ []) = []
-cells_from column (part ∷ next ∷ more) = cell_at column part ∷ cells_from (column + widths part + 1) (next ∷ more)
+cells_from column (part ∷ next ∷ more) =
+    cell_at column part ∷ cells_from (column + widths part + 1) (next ∷ more)
 
 abbrev pub without_first : {X : Type 0} → List X → List X
 without_first [] = []
 without_first (x ∷ xs) = xs
 
--- the cells of a row: what stands before its first bar is no cell
+-- the cells of a row: what is before its first bar is no cell
 unfoldable pub cells_of : List ℕ → List CellText
 cells_of line = without_first (cells_from 1 (slice_split is_bar (units line)))
 
@@ -79,7 +92,7 @@ cells_of line = without_first (cells_from 1 (slice_split is_bar (units line)))
 abbrev pub NoBar : List CellUnit → Type 0
 NoBar us = AllByRecursion (λ u. is_bar u ≡ false) us
 
--- part and rest are what stands before and after the first bar
+-- part and rest are what is before and after the first bar
 pub record IsCutAtBar (row part rest : List CellUnit) : Type 0 where
   pub parts : row ≡ part ++ plain vertical_bar ∷ rest
   pub first : NoBar part

@@ -22,12 +22,13 @@ fence_characters fence = fence_mark fence ∷ fence_mark fence ∷ fence_mark fe
 abbrev pub escaped_mark : ℕ → List ℕ
 escaped_mark mark = backslash ∷ mark ∷ backslash ∷ mark ∷ backslash ∷ mark ∷ []
 
--- the text with each escaped fence, left to right, in place of which the fence stands; `skip` characters are of a fence already
+-- the text with the fence in place of each escaped fence, left to right; `skip` characters are of a fence already
 abbrev pub fences_unescaped : ℕ → ℕ → List ℕ → List ℕ
 fences_unescaped mark skip [] = []
 fences_unescaped mark (suc skip) (c ∷ cs) = fences_unescaped mark skip cs
 fences_unescaped mark zero (c ∷ cs) =
-    if is_some (after (escaped_mark mark) (c ∷ cs)) then mark ∷ mark ∷ mark ∷ fences_unescaped mark 5 cs
+    if is_some (after (escaped_mark mark) (c ∷ cs))
+    then mark ∷ mark ∷ mark ∷ fences_unescaped mark 5 cs
     else c ∷ fences_unescaped mark 0 cs
 
 unfoldable pub doc_line_of : Fence → ℕ → List ℕ → List ℕ

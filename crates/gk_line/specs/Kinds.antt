@@ -24,8 +24,10 @@ is_of_kind DocStringFence line = is_some (fence_of line)
 
 -- no line is of two kinds
 abbrev pub KindsExclude : Type 0
-KindsExclude = (line : List ℕ) (k l : Kind) → is_of_kind k line ≡ true → is_of_kind l line ≡ true → k ≡ l
+KindsExclude =
+    (line : List ℕ) (k l : Kind) → is_of_kind k line ≡ true → is_of_kind l line ≡ true → k ≡ l
 
 -- a language line is also a comment
 abbrev pub LanguageIsComment : Type 0
-LanguageIsComment = (line : List ℕ) → is_some (language_of line) ≡ true → is_of_kind Comment line ≡ true
+LanguageIsComment =
+    (line : List ℕ) → is_some (language_of line) ≡ true → is_of_kind Comment line ≡ true

@@ -21,7 +21,7 @@ abbrev pub written : List (List ℕ × LineEnd) → List ℕ
 written [] = []
 written (cut ∷ rest) = cut.0 ++ (end_text cut.1 ++ written rest)
 
--- Whether a line with this end may stand before the rest. Only the last line may end with the text, and then it is not
+-- Whether a line with this end may come before the rest. Only the last line may end with the text, and then it is not
 -- empty. A line that a line feed alone ends does not end in a carriage return, since that would be of the end.
 abbrev pub EndFits : LineEnd → List ℕ → List (List ℕ × LineEnd) → Type 0
 EndFits EndOfText line rest = (line ≢ []) × (rest ≡ [])
@@ -43,8 +43,12 @@ line_texts cuts = map (λ cut. cut.0) cuts
 
 -- each text can be cut to lines with their ends, and the lines of a text are those
 abbrev pub LinesAreCut : Type 0
-LinesAreCut = (text : List ℕ) → (cuts : List (List ℕ × LineEnd)) × AreLines (without_mark text) cuts × (lines_of text ≡ enumerate_from 1 (line_texts cuts))
+LinesAreCut =
+    (text : List ℕ) → (cuts : List (List ℕ × LineEnd)) × AreLines (without_mark text) cuts
+    × (lines_of text ≡ enumerate_from 1 (line_texts cuts))
 
 -- in one way only
 abbrev pub CutIsOne : Type 0
-CutIsOne = (text : List ℕ) (cuts : List (List ℕ × LineEnd)) → AreLines (without_mark text) cuts → lines_of text ≡ enumerate_from 1 (line_texts cuts)
+CutIsOne =
+    (text : List ℕ) (cuts : List (List ℕ × LineEnd)) → AreLines (without_mark text) cuts
+    → lines_of text ≡ enumerate_from 1 (line_texts cuts)

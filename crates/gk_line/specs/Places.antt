@@ -1,9 +1,10 @@
--- Where the texts of a token stand in their line.
+-- Where the texts of a token are in their line.
 use Rattle.std.specs.Prelude.{ℕ, ◌≡◌, ◌≤◌, ◌+◌, true, List, [], ◌∷◌, ◌++◌, length, ⊤}
 use Rattle.std.specs.Char.{is_whitespace}
 use Rattle.std.specs.List.{list_all}
 
--- The mark stands in the line at this column, counted in characters from 1. Behind it, after white space at most, stands the text.
+-- The mark is in the line at this column, counted in characters from 1. After it, with white space between them at most, is
+-- the text.
 pub record StandsAt (line mark text : List ℕ) (column : ℕ) : Type 0 where
   pub front : List ℕ
   pub gap : List ℕ

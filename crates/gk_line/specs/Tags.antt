@@ -9,7 +9,8 @@ use Rattle.gk_line.specs.Characters.{at_sign}
 -- the line up to the first white space that `#` follows
 unfoldable pub uncommented : List ℕ → List ℕ
 uncommented [] = []
-uncommented (c ∷ cs) = if is_whitespace c && is_some (after (codes "#") cs) then [] else c ∷ uncommented cs
+uncommented (c ∷ cs) =
+    if is_whitespace c && is_some (after (codes "#") cs) then [] else c ∷ uncommented cs
 
 pub record TagWord : Type 0 where
   pub word : List ℕ
@@ -21,9 +22,10 @@ piece_at column piece = record { word = trimmed piece; column = column }
 
 abbrev pub pieces_from : ℕ → List (List ℕ) → List TagWord
 pieces_from column [] = []
-pieces_from column (piece ∷ more) = piece_at column piece ∷ pieces_from (column + length piece + 1) more
+pieces_from column (piece ∷ more) =
+    piece_at column piece ∷ pieces_from (column + length piece + 1) more
 
--- what stands before the first `@`, which would have column 0, is no piece
+-- what is before the first `@`, which would have column 0, is no piece
 unfoldable pub tag_pieces : List ℕ → List TagWord
 tag_pieces line = without_first (pieces_from 0 (slice_split (λ c. c == at_sign) (uncommented line)))
 

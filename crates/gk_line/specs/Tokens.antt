@@ -34,7 +34,8 @@ abbrev pub keywords : Block → List (List ℕ)
 keywords Feature = codes "Feature" ∷ codes "Business Need" ∷ codes "Ability" ∷ []
 keywords Rule = codes "Rule" ∷ []
 keywords Background = codes "Background" ∷ []
-keywords Scenario = codes "Example" ∷ codes "Scenario" ∷ codes "Scenario Outline" ∷ codes "Scenario Template" ∷ []
+keywords Scenario =
+    codes "Example" ∷ codes "Scenario" ∷ codes "Scenario Outline" ∷ codes "Scenario Template" ∷ []
 keywords Examples = codes "Examples" ∷ codes "Scenarios" ∷ []
 
 unfoldable pub title_of : Block → List ℕ → Option TitleText
@@ -61,7 +62,12 @@ unfoldable pub step_of : List ℕ → Option StepText
 step_of line =
     first_some
     (λ (word, kind). option_map
-    (λ rest. record { keyword = word ++ codes " "; kind = kind; text = trimmed rest; column = indent_of line + 1 })
+    (λ rest. record {
+      keyword = word ++ codes " ";
+      kind = kind;
+      text = trimmed rest;
+      column = indent_of line + 1;
+    })
     (after (word ++ codes " ") (body_of line)))
     step_words
 
@@ -72,7 +78,9 @@ pub record FenceText : Type 0 where
   pub column : ℕ
 
 abbrev pub fences : List (List ℕ × Fence)
-fences = (quotation_mark ∷ quotation_mark ∷ quotation_mark ∷ [], Quotes) ∷ (backtick ∷ backtick ∷ backtick ∷ [], Backticks) ∷ []
+fences =
+    (quotation_mark ∷ quotation_mark ∷ quotation_mark ∷ [], Quotes)
+    ∷ (backtick ∷ backtick ∷ backtick ∷ [], Backticks) ∷ []
 
 unfoldable pub fence_of : List ℕ → Option FenceText
 fence_of line =

@@ -24,7 +24,12 @@ abbrev pub title_text : Title → TitleText
 title_text t = record { keyword = chars t.keyword.now; name = chars t.name.now; column = t.column }
 
 abbrev pub step_text : StepLine → StepText
-step_text s = record { keyword = chars s.keyword.now; kind = s.kind; text = chars s.text.now; column = s.column }
+step_text s = record {
+  keyword = chars s.keyword.now;
+  kind = s.kind;
+  text = chars s.text.now;
+  column = s.column;
+}
 
 abbrev pub fence_text : FenceLine → FenceText
 fence_text f = record { fence = f.fence; media = chars f.media.now; column = f.column }

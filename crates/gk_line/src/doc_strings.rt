@@ -1,9 +1,10 @@
 //! The lines inside a doc string.
-ghost use Rattle.std.specs.Prelude.{◌≡◌, ◌≤◌, ◌∷◌, [], ◌+◌, ◌++◌, drop, length, IfOk, IsOk, OnErr, OnOk, IsTrue};
+ghost use Rattle.std.specs.Prelude.{◌≡◌, ◌≤◌, ◌∷◌, ◌+◌, ◌++◌, drop, length, IfOk, IsOk, OnErr, OnOk, IsTrue};
 ghost use Rattle.std.specs.Char.{is_ascii};
 ghost use Rattle.std.specs.List.{list_all};
 ghost use Rattle.std.specs.Str.{chars};
 ghost use Rattle.std.specs.String.{string_bytes, string_capacity, string_len};
+ghost use Rattle.gk_line.specs.declared.limit.TheConstants.{FEATURE_LIMIT};
 ghost use Rattle.gk_line.specs.DocStrings.{doc_line_of, outdented, fences_unescaped, fence_characters, fence_mark, escaped_mark};
 ghost use Rattle.gk_line.specs.Characters.{backslash};
 ghost use Rattle.gk_line.specs.Views.{line_chars};
@@ -16,7 +17,7 @@ use std::alloc::{AllocError, Global};
 /// What a line inside a doc string says, where the opening line has this fence and this indent (in characters).
 ///
 /// The line loses as many leading characters as the indent has, or its own indent where that is less. Then each
-/// fence that is written with a backslash before each of its characters stands for the fence. Takes time linear in
+/// fence that is written with a backslash before each of its characters is read as the fence. Takes time linear in
 /// the line.
 ///
 /// # Errors
@@ -29,15 +30,16 @@ pub fn doc_line(
     fence: Fence,
     indent: u32,
 ) -> Result<String, AllocError>
-    requires { length line.text.now ≤ 16_777_216 }
-    ensures { IfOk result (λ text. chars (string_bytes text) ≡ doc_line_of fence indent (line_chars line.entry)) }
+    requires { length line.text.now ≤ FEATURE_LIMIT }
+    ensures { IfOk result (λ text. chars (string_bytes text)
+        ≡ doc_line_of fence indent (line_chars line.entry)) }
 {
     let mut text = String::new(alloc);
     push_doc_line(&mut text, line, fence, indent)?;
     Ok(text)
 }
 
-/// Adds what a line inside a doc string says, as [`doc_line`] tells it, to the end of a text.
+/// Adds what a line inside a doc string says, as [`doc_line`] gives it, to the end of a text.
 ///
 /// # Errors
 /// Only where there is no memory for the text, which is then as it was: room is made first, and what the line says is no
@@ -51,7 +53,7 @@ pub fn push_doc_line(
     fence: Fence,
     indent: u32,
 ) -> Result<(), AllocError>
-    requires { length line.text.now ≤ 16_777_216 }
+    requires { length line.text.now ≤ FEATURE_LIMIT }
     ensures ok { OnOk result (chars (string_bytes text.new)
         ≡ chars (string_bytes text.old) ++ doc_line_of fence indent (line_chars line.entry)) }
     ensures err { OnErr result (string_bytes text.new ≡ string_bytes text.old) }
@@ -66,7 +68,8 @@ fn push_unescaped(value: &mut String, text: &str, fence: Fence) -> Result<(), Al
     requires room { string_len value.old + length text.now ≤ string_capacity value.old }
     ensures fits { IsOk result }
     ensures value { OnOk result (chars (string_bytes value.new)
-        ≡ chars (string_bytes value.old) ++ fences_unescaped (fence_mark fence) 0 (chars text.now)) }
+        ≡ chars (string_bytes value.old)
+        ++ fences_unescaped (fence_mark fence) 0 (chars text.now)) }
 {
     let mut rest = text;
     while let Some((front, next)) = cut(rest, b'\\') {
@@ -106,7 +109,7 @@ fn plain_fence(fence: Fence) -> &'static str
 /// The text without as many leading characters, or without its indent where that is shorter.
 #[tactic(auto, unfolding(crate::specs::DocStrings::outdented, crate::specs::Tokens::indent_of))]
 fn outdent(text: &str, indent: u32) -> &str
-    requires { length text.now ≤ 16_777_216 }
+    requires { length text.now ≤ FEATURE_LIMIT }
     ensures { chars result.now ≡ outdented indent (chars text.now) }
 {
     if leading_space(text) < indent {

@@ -1,7 +1,8 @@
-//! The indent of a line, and the kinds that its first characters tell.
+//! The indent of a line, and the kinds that its first characters decide.
 ghost use Rattle.std.specs.Prelude.{◌≡◌, ◌≤◌, ◌+◌, length, codes, IsTrue};
 ghost use Rattle.std.specs.Char.{is_ascii};
 ghost use Rattle.std.specs.List.{list_all};
+ghost use Rattle.gk_line.specs.declared.limit.TheConstants.{FEATURE_LIMIT};
 ghost use Rattle.gk_line.specs.Tokens.{indent_of, is_blank_line, begins_by};
 ghost use Rattle.gk_line.specs.Views.{line_chars};
 
@@ -13,18 +14,18 @@ use crate::tokens::Line;
 /// White space is what Unicode's White_Space property says, as for `char::is_whitespace`.
 #[tactic(auto, unfolding(crate::specs::Tokens::indent_of))]
 pub fn indent(line: Line<'_>) -> u32
-    requires { length line.text.now ≤ 16_777_216 }
+    requires { length line.text.now ≤ FEATURE_LIMIT }
     ensures value { result ≡ indent_of (line_chars line.entry) }
-    ensures bound { result ≤ 16_777_216 }
+    ensures bound { result ≤ FEATURE_LIMIT }
 {
     line.text.chars().take_while(|c| c.is_whitespace()).count() as u32
 }
 
 /// The column of the first character after the indent.
 pub(crate) fn column(line: Line<'_>) -> u32
-    requires { length line.text.now ≤ 16_777_216 }
+    requires { length line.text.now ≤ FEATURE_LIMIT }
     ensures value { result ≡ indent_of (line_chars line.entry) + 1 }
-    ensures bound { result ≤ 16_777_217 }
+    ensures bound { result ≤ FEATURE_LIMIT + 1 }
 {
     indent(line) + 1
 }

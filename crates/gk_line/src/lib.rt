@@ -1,24 +1,44 @@
-//! The lines of a feature file and what each of them reads as.
+//! The lines of a feature file, and what each of them reads as by itself: blank, comment, tags, row, title, step, fence or
+//! language line, with its texts and their columns.
+//!
+//! ```
+//! use gk_line::{FEATURE_LIMIT, lines, step};
+//!
+//! /// The number of the first line that is a step.
+//! fn first_step(text: &str) -> Option<u32> {
+//!     if text.len() > FEATURE_LIMIT {
+//!         return None;
+//!     }
+//!     for line in lines(text) {
+//!         if step(line).is_some() {
+//!             return Some(line.number);
+//!         }
+//!     }
+//!     None
+//! }
+//! ```
 #![tactic(auto)]
 
 mod cut_lines;
 mod doc_strings;
+mod keyword_lines;
 mod kinds;
 mod laws;
+mod limit;
 mod line_ends;
 mod rows;
 mod tag_lines;
 mod texts;
-mod titles;
 mod tokens;
 
 pub use cut_lines::lines;
 pub use doc_strings::{doc_line, push_doc_line};
 pub use gk_document::{Cell, Fence, KeywordType, Sequence, Text};
+pub use keyword_lines::{fence, language, step, title};
 pub use kinds::{indent, is_blank, is_comment, is_row, is_tags};
 pub use laws::{columns_rise, kinds_exclude, lines_are_cut};
+pub use limit::FEATURE_LIMIT;
 pub use line_ends::Lines;
 pub use rows::cells;
 pub use tag_lines::tags;
-pub use titles::{fence, language, step, title};
 pub use tokens::{Block, FenceLine, Line, LineFault, StepLine, TagText, Title};

@@ -3,6 +3,7 @@ ghost use Rattle.std.specs.Prelude.{◌≡◌, ◌≤◌, ◌<◌, ◌+◌, ◌�
 ghost use Rattle.std.specs.Iterator.{item_count};
 ghost use Rattle.std.specs.Str.{chars, IsUtf8};
 ghost use Rattle.std.specs.Str.Lines.{lines, strip_carriage_return};
+ghost use Rattle.gk_line.specs.declared.limit.TheConstants.{FEATURE_LIMIT};
 
 use crate::tokens::Line;
 use memchr::memchr;
@@ -14,7 +15,7 @@ pub struct Lines<'a> {
     rest: &'a str,
     number: u32,
     ghost counted: { 1 ≤ number },
-    ghost in_range: { number + length rest.now ≤ 16_777_217 },
+    ghost in_range: { number + length rest.now ≤ FEATURE_LIMIT + 1 },
 }
 
 impl<'a> Lines<'a> {
@@ -22,7 +23,7 @@ impl<'a> Lines<'a> {
     ghost use Rattle.gk_line.specs.LinesLeft.{lines_left};
 
     pub(crate) fn new(text: &'a str) -> Lines<'a>
-        requires { length text.now ≤ 16_777_216 }
+        requires { length text.now ≤ FEATURE_LIMIT }
         ensures { lines_left result ≡ lines_of (chars text.now) }
     {
         Lines {

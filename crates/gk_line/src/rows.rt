@@ -1,11 +1,11 @@
 //! The cells of a table row.
 ghost use Rattle.std.specs.Prelude.{◌≡◌, ◌≤◌, ◌<◌, ◌+◌, ◌∷◌, ◌++◌, ◌^◌, map, length, IfOk, IfSome, OnOk, MatchOption, [], if◌then◌else◌, codes, IsTrue};
-ghost use Rattle.std.specs.List.{slice_split, prefix_len};
-ghost use Rattle.std.specs.Char.{is_whitespace};
+ghost use Rattle.std.specs.List.{AllByRecursion};
 ghost use Rattle.std.specs.Str.{chars, IsUtf8};
 ghost use Rattle.std.specs.String.{string_bytes};
+ghost use Rattle.gk_line.specs.declared.limit.TheConstants.{FEATURE_LIMIT};
 ghost use Rattle.gk_line.specs.Characters.{backslash};
-ghost use Rattle.gk_line.specs.Cells.{units, escaped, cells_of, cells_from, cell_at, is_bar, IsCutAtBar, NoBar};
+ghost use Rattle.gk_line.specs.Cells.{units, escaped, cells_of, cell_at, meanings, IsCutAtBar, NoBar};
 ghost use Rattle.gk_line.specs.Tokens.{begins_by};
 ghost use Rattle.gk_line.specs.Views.{line_chars, cell_text};
 
@@ -16,7 +16,7 @@ use gk_document::{Cell, Text};
 use memchr::memchr2;
 use std::alloc::{AllocError, Global};
 
-/// The cells of a row, in order: what stands between two bars, without white space at both ends.
+/// The cells of a row, in order: what is between two bars, without white space at both ends.
 ///
 /// `\|` is a bar, `\\` a backslash and `\n` a line feed; any other backslash is itself. An escaped bar closes no cell,
 /// what follows the last bar is no cell, and a line feed written as `\n` is no white space. Takes time linear in the
@@ -28,8 +28,10 @@ use std::alloc::{AllocError, Global};
 /// Source: Gherkin reference, "Data Tables" and "Table Cell Escaping".
 pub fn cells(alloc: Global, line: Line<'_>) -> Result<Vec<Cell>, AllocError>
     requires row { IsTrue (begins_by (codes "|") (line_chars line)) }
-    requires short { length line.text.now ≤ 16_777_216 }
-    ensures { IfOk result (λ cells. map cell_text cells.items ≡ cells_of (line_chars line.entry)) }
+    requires short { length line.text.now ≤ FEATURE_LIMIT }
+    ensures value { IfOk result
+        (λ cells. map cell_text cells.items ≡ cells_of (line_chars line.entry)) }
+    ensures utf8 { IfOk result (λ cells. AllByRecursion (λ cell. IsUtf8 cell.value) cells.items) }
 {
     let mut cells = Vec::new(alloc);
     let mut column = column(line) + 1;
@@ -47,7 +49,9 @@ pub fn cells(alloc: Global, line: Line<'_>) -> Result<Vec<Cell>, AllocError>
 /// The cell that is written as this text from this column on.
 fn cell(alloc: Global, part: &str, column: u32) -> Result<Cell, AllocError>
     requires { column + length part.now < 2 ^ 32 }
-    ensures { IfOk result (λ cell. cell_text cell ≡ cell_at column (units (chars part.now))) }
+    ensures value { IfOk result
+        (λ cell. cell_text cell ≡ cell_at column (units (chars part.now))) }
+    ensures utf8 { IfOk result (λ cell. IsUtf8 cell.value) }
 {
     Ok(Cell {
         value: Text::from(unescape(alloc, trim(part))?),
@@ -55,9 +59,10 @@ fn cell(alloc: Global, part: &str, column: u32) -> Result<Cell, AllocError>
     })
 }
 
-/// The text with what each of its units stands for.
+/// The text that a cell's units mean.
 fn unescape(alloc: Global, text: &str) -> Result<String, AllocError>
-    ensures { IfOk result (λ value. chars (string_bytes value) ≡ map (λ u. u.stands_for) (units (chars text.now))) }
+    ensures { IfOk result (λ value. chars (string_bytes value)
+        ≡ meanings (units (chars text.now))) }
 {
     let mut value = String::new(alloc);
     let mut escaped = false;
@@ -76,9 +81,11 @@ fn unescape(alloc: Global, text: &str) -> Result<String, AllocError>
     Ok(value)
 }
 
-/// Adds what a character stands for, by itself or after a backslash.
+/// Adds what a character means, by itself or after a backslash.
 fn push_unit(value: &mut String, escaped: bool, c: char) -> Result<(), AllocError>
-    ensures { OnOk result (chars (string_bytes value.new) ≡ chars (string_bytes value.old) ++ map (λ u. u.stands_for) (units (if escaped then backslash ∷ c ∷ [] else c ∷ []))) }
+    ensures { OnOk result (chars (string_bytes value.new)
+        ≡ chars (string_bytes value.old)
+        ++ meanings (units (if escaped then backslash ∷ c ∷ [] else c ∷ []))) }
 {
     if !escaped {
         return value.push(c);
@@ -90,7 +97,7 @@ fn push_unit(value: &mut String, escaped: bool, c: char) -> Result<(), AllocErro
     value.push(c)
 }
 
-/// What a backslash and this character stand for, where they are a pair.
+/// What a backslash and this character mean, where they are a pair.
 fn unescaped(c: char) -> Option<char>
     ensures { result ≡ escaped c }
 {
@@ -103,9 +110,11 @@ fn unescaped(c: char) -> Option<char>
 
 /// The text before the first bar that no backslash escapes, and the text after that bar.
 fn cut_at_bar(text: &str) -> Option<(&str, &str)>
-    ensures lengths { IfSome result (λ parts. length parts.0.now + length parts.1.now + 1 ≡ length text.now) }
+    ensures lengths { IfSome result
+        (λ parts. length parts.0.now + length parts.1.now + 1 ≡ length text.now) }
     ensures place { MatchOption result (NoBar (units (chars text.now)))
-        (λ parts. IsCutAtBar (units (chars text.now)) (units (chars parts.0.now)) (units (chars parts.1.now))) }
+        (λ parts. IsCutAtBar (units (chars text.now))
+        (units (chars parts.0.now)) (units (chars parts.1.now))) }
     ensures utf8 { IfSome result (λ parts. IsUtf8 parts.1.now) }
 {
     let mut rest = text;

@@ -3,6 +3,7 @@ ghost use Rattle.std.specs.Prelude.{◌≡◌, ◌≤◌, ◌∷◌, ◌++◌, [
 ghost use Rattle.std.specs.Char.{is_whitespace};
 ghost use Rattle.std.specs.List.{list_any, AllByRecursion};
 ghost use Rattle.std.specs.Str.{chars, IsUtf8};
+ghost use Rattle.gk_line.specs.declared.limit.TheConstants.{FEATURE_LIMIT};
 ghost use Rattle.gk_line.specs.Places.{StandsAt};
 ghost use Rattle.gk_line.specs.Tags.{uncommented, tags_of, spaced_piece, is_tag, has_space, piece_at};
 ghost use Rattle.gk_line.specs.Texts.{after};
@@ -25,13 +26,16 @@ use std::alloc::{AllocError, Global};
 /// Source: Gherkin reference, "Tags"; the cut and the column are this profile's.
 pub fn tags<'a>(alloc: Global, line: Line<'a>) -> Result<Vec<TagText<'a>>, LineFault>
     requires tags { IsTrue (begins_by (codes "@") (line_chars line)) }
-    requires short { length line.text.now ≤ 16_777_216 }
-    ensures value { IfOk result (λ tags. map tag_word tags.items ≡ tags_of (line_chars line.entry)) }
+    requires short { length line.text.now ≤ FEATURE_LIMIT }
+    ensures value { IfOk result
+        (λ tags. map tag_word tags.items ≡ tags_of (line_chars line.entry)) }
     ensures place { IfOk result (λ tags. AllByRecursion
-        (λ tag. StandsAt (line_chars line.entry) (codes "@") (chars tag.word.now) tag.column) tags.items) }
+        (λ tag. StandsAt (line_chars line.entry) (codes "@") (chars tag.word.now) tag.column)
+        tags.items) }
     ensures utf8 { IfOk result (λ tags. AllByRecursion (λ tag. IsUtf8 tag.word.now) tags.items) }
     ensures plain { OnOk result (spaced_piece (line_chars line.entry) ≡ None) }
-    ensures fault { IfErr result (λ fault. IsTagFault fault (spaced_piece (line_chars line.entry))) }
+    ensures fault { IfErr result
+        (λ fault. IsTagFault fault (spaced_piece (line_chars line.entry))) }
 {
     let mut tags = Vec::new(alloc);
     let text = without_comment(line.text);
@@ -50,11 +54,14 @@ pub fn tags<'a>(alloc: Global, line: Line<'a>) -> Result<Vec<TagText<'a>>, LineF
 
 /// Adds the tag that the text after an `@` holds, if it holds one.
 fn add_piece<'a>(tags: &mut Vec<TagText<'a>>, piece: &'a str, column: u32) -> Result<(), LineFault>
-    ensures value { OnOk result (map tag_word tags.new.items ≡ map tag_word tags.old.items ++ filter is_tag (piece_at column (chars piece.now) ∷ [])) }
+    ensures value { OnOk result (map tag_word tags.new.items
+        ≡ map tag_word tags.old.items
+        ++ filter is_tag (piece_at column (chars piece.now) ∷ [])) }
     ensures plain { OnOk result (has_space (piece_at column (chars piece.now)) ≡ false) }
     ensures utf8 { OnOk result (AllByRecursion (λ tag. IsUtf8 tag.word.now) tags.old.items
         → AllByRecursion (λ tag. IsUtf8 tag.word.now) tags.new.items) }
-    ensures fault { IfErr result (λ fault. IsTagFault fault (find has_space (piece_at column (chars piece.now) ∷ []))) }
+    ensures fault { IfErr result (λ fault. IsTagFault fault
+        (find has_space (piece_at column (chars piece.now) ∷ []))) }
 {
     let word = trim(piece);
     if has_white_space(word) {
@@ -96,7 +103,8 @@ fn without_comment(text: &str) -> &str
 
 /// Whether a text begins with white space, and `#` follows that.
 fn begins_comment(text: &str, next: &str) -> bool
-    ensures { (c : ℕ) (rest : List ℕ) → chars text.now ≡ c ∷ rest → result ≡ (is_whitespace c && is_some (after (codes "#") (chars next.now))) }
+    ensures { (c : ℕ) (rest : List ℕ) → chars text.now ≡ c ∷ rest
+        → result ≡ (is_whitespace c && is_some (after (codes "#") (chars next.now))) }
 {
     begins_with_space(text) && strip(next, "#").is_some()
 }

@@ -69,14 +69,14 @@ pub struct FenceLine<'a> {
 pub struct TagText<'a> {
     /// The tag without its `@`.
     pub word: &'a str,
-    /// Where the `@` stands.
+    /// The column of the `@`.
     pub column: u32,
 }
 
 /// Why a tag line has no tags.
 #[derive(Clone, Copy, PartialEq, Eq, Debug, Error)]
 pub enum LineFault {
-    /// There is white space in the tag whose `@` stands at this column.
+    /// There is white space in the tag whose `@` is at this column.
     #[error("white space in the tag at column {0}")]
     TagSpace(u32),
     /// There is no memory for the tags.

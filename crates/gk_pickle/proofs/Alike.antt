@@ -15,7 +15,8 @@ use Rattle.gk_pickle.specs.declared.pickle.PickleArgument.TheVariants as value
 use Rattle.gk_pickle.specs.declared.pickle.PickleStep.{PickleStep}
 use Rattle.gk_pickle.specs.Around.{Filling, unfilled}
 use Rattle.gk_pickle.specs.Fill.{placeholder, filled}
-use Rattle.gk_pickle.specs.Steps.{type_of, filled_by, media_type, filled_row, filled_argument, steps_after, keywords, pickle_steps}
+use Rattle.gk_document.specs.MediaType.{unless_empty}
+use Rattle.gk_pickle.specs.Steps.{type_of, filled_by, filled_row, filled_argument, steps_after, keywords, pickle_steps}
 use Rattle.gk_pickle.specs.Pickles.{row_filling}
 use Rattle.gk_pickle.specs.Alike.{argument_texts, step_texts, HasNoPlaceholder, content, RowsCompileAlike}
 use Rattle.gk_pickle.proofs.Cutting.{joined_is_replaced}
@@ -53,9 +54,9 @@ module _ (f : Filling) where
       ∙ ap (λ rs. filled_row unfilled row ∷ rs) (same_rows rows (last_part (HasNoPlaceholder f.header) own others h))
 
   same_media : (media : Option (List ℕ)) → Lack (option_to_list media)
-      → option_and_then (λ m. media_type (filled_by f m)) media ≡ option_and_then (λ m. media_type (filled_by unfilled m)) media
+      → option_and_then (λ m. unless_empty (filled_by f m)) media ≡ option_and_then (λ m. unless_empty (filled_by unfilled m)) media
   same_media None h = refl
-  same_media (Some m) h = ap media_type (same_text m f.header f.cells h.0)
+  same_media (Some m) h = ap unless_empty (same_text m f.header f.cells h.0)
 
   same_argument : (a : Argument) → Lack (argument_texts a) → filled_argument f a ≡ filled_argument unfilled a
   same_argument (argument.Table rows) h = ap value.Table (same_rows rows h)
@@ -63,7 +64,7 @@ module _ (f : Filling) where
       let media = same_media d.media (first_part (HasNoPlaceholder f.header) (option_to_list d.media) (d.content ∷ []) h) in
       let text = last_part (HasNoPlaceholder f.header) (option_to_list d.media) (d.content ∷ []) h in
       ap (λ m. value.Text (record { media = m; content = filled_by f d.content })) media
-      ∙ ap (λ t. value.Text (record { media = option_and_then (λ m. media_type (filled_by unfilled m)) d.media; content = t })) (same_text d.content f.header f.cells text.0)
+      ∙ ap (λ t. value.Text (record { media = option_and_then (λ m. unless_empty (filled_by unfilled m)) d.media; content = t })) (same_text d.content f.header f.cells text.0)
 
   same_option : (a : Option Argument) → Lack (flat_map argument_texts (option_to_list a)) → option_map (filled_argument f) a ≡ option_map (filled_argument unfilled) a
   same_option None h = refl

@@ -11,7 +11,7 @@ use Rattle.std.proofs.lemmas.Option.{slice_get_past, slice_get-get_or}
 use Rattle.std.proofs.lemmas.Slice.Eq.{bytes_eq-Decides}
 use Rattle.indexmap.specs.IndexMap.{IndexMap}
 use Rattle.gk_document.specs.declared.tree.Cell.{Cell}
-use Rattle.gk_pickle.specs.OneReading.{columns_named, replacement}
+use Rattle.gk_pickle.specs.SinglePass.{columns_named, replacement}
 use Rattle.gk_pickle.specs.Columns.{columns_at}
 
 module _ (S : Type 0) where

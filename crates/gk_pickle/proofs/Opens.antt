@@ -3,8 +3,8 @@ use Rattle.std.proofs.Common.{◌≡◌, ℕ, ◌+◌, ◌-◌, ◌<◌, List, [
 use Rattle.std.proofs.lemmas.List.{take_more, take_all, set_at, reverse-append, get_or_append_left, take-append-le}
 use Rattle.std.proofs.lemmas.Str.{IsCharBoundary-after_ascii}
 use Rattle.std.specs.Str.{IsUtf8, IsCharBoundary}
-use Rattle.gk_pickle.specs.declared.one_reading.Open.{Open}
-use Rattle.gk_pickle.specs.OneReading.{raised, StandIn}
+use Rattle.gk_pickle.specs.declared.fill_single_pass.Open.{Open}
+use Rattle.gk_pickle.specs.SinglePass.{raised, StandIn}
 
 -- the last one, set
 pub last_raised : (xs : List Open) (o : Open) (n m done : ℕ) → n ≡ length xs → 0 < n → o ≡ get_or xs (n - 1) o → m ≡ max o.done done

@@ -5,9 +5,9 @@ use Rattle.std.proofs.lemmas.Bool.{cond-true, cond-false, eqb-true, or_cases, fa
 use Rattle.std.proofs.lemmas.List.{reverse-append}
 use Rattle.std.proofs.lemmas.Option.{IfSome_then}
 use Rattle.gk_document.specs.declared.tree.Cell.{Cell}
-use Rattle.gk_pickle.specs.declared.one_reading.Open.{Open}
-use Rattle.gk_pickle.specs.declared.one_reading.Part.{Part}
-use Rattle.gk_pickle.specs.OneReading.{is_bracket, HasNoBracket, columns_named, Reading, added, opened, closed, closed_in, brought, step, read_to, read, read_parts, AreWithin, weight, byte_weight, work}
+use Rattle.gk_pickle.specs.declared.fill_single_pass.Open.{Open}
+use Rattle.gk_pickle.specs.declared.fill_single_pass.Part.{Part}
+use Rattle.gk_pickle.specs.SinglePass.{is_bracket, HasNoBracket, columns_named, Reading, added, opened, closed, closed_in, brought, step, read_to, read, read_parts, AreWithin, weight, byte_weight, work}
 use Rattle.gk_pickle.proofs.Reading.{Found, Reads, at_column, From, find_from, read_plain, deeper}
 
 pub ok_then : {T E : Type 0} (r : Result T E) {P Q : Type 0} → (P → Q) → OnOk r P → OnOk r Q

@@ -7,7 +7,7 @@ use Rattle.std.proofs.lemmas.Bool.{eqb-true, or_cases, false_from_ne_true, false
 use Rattle.std.proofs.lemmas.List.{drop_more}
 use Rattle.memchr.specs.Find.{Nowhere, NoneBefore, Passes, IsFirstByte, is_byte2}
 use Rattle.gk_document.specs.declared.tree.Cell.{Cell}
-use Rattle.gk_pickle.specs.OneReading.{is_bracket, HasNoBracket, HaveNoBracket}
+use Rattle.gk_pickle.specs.SinglePass.{is_bracket, HasNoBracket, HaveNoBracket}
 
 -- none of the first bytes is a bracket
 front_plain : (text : List ℕ) (n : ℕ) → n ≤ length text → ((k : ℕ) → k < n → is_bracket (get_or text k 0) ≡ true → ⊥) → HasNoBracket (take n text)

@@ -6,9 +6,9 @@ use Rattle.std.proofs.lemmas.Bool.{cases_Bool, cond-true, cond-false, eqb-true, 
 use Rattle.std.proofs.lemmas.List.{drop_at, take_at, drop-append-le}
 use Rattle.std.proofs.lemmas.Slice.Eq.{bytes_eq-Decides}
 use Rattle.gk_document.specs.declared.tree.Cell.{Cell}
-use Rattle.gk_pickle.specs.declared.one_reading.Open.{Open}
+use Rattle.gk_pickle.specs.declared.fill_single_pass.Open.{Open}
 use Rattle.gk_pickle.specs.Fill.{placeholder, replaced, filled}
-use Rattle.gk_pickle.specs.OneReading.{is_bracket, HasNoBracket, HaveNoBracket, columns_named, replacement, Reading, nothing_read, added, opened, raised, closed_by, closed_in, brought, step, read_by, read_to, read}
+use Rattle.gk_pickle.specs.SinglePass.{is_bracket, HasNoBracket, HaveNoBracket, columns_named, replacement, Reading, nothing_read, added, opened, raised, closed_by, closed_in, brought, step, read_by, read_to, read}
 use Rattle.std.proofs.lemmas.Option.{slice_get_cases}
 use Rattle.gk_pickle.proofs.Replacing.{nowhere, starts, occurs, fits_of, first, not_at_front, length-placeholder}
 use Rattle.gk_pickle.proofs.Cutting.{split_at, place_of}

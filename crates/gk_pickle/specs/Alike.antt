@@ -46,4 +46,5 @@ pub record IsAlike (p q : Pickle) : Type 0 where
 abbrev pub RowsCompileAlike : Type 0
 RowsCompileAlike = (around : Around) (s : Scenario) (tags : List Tag) (header row other : Row)
     → AllByRecursion (HasNoPlaceholder header.cells) (scenario_texts s)
-    → IsAlike (pickle_of around s tags (row_filling header row)) (pickle_of around s tags (row_filling header other))
+    → IsAlike (pickle_of around s tags (row_filling header row))
+    (pickle_of around s tags (row_filling header other))

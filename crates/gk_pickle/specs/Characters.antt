@@ -14,5 +14,7 @@ HoldUtf8 cells = AllByRecursion (λ c. IsUtf8 c.value) cells
 
 -- the characters of the filled text are the filled characters of the text
 abbrev pub FillsCharacters : Type 0
-FillsCharacters = (text : List ℕ) (header row : List Cell) → IsUtf8 text → HoldUtf8 header → HoldUtf8 row
-    → chars (filled text header row) ≡ filled (chars text) (map by_characters header) (map by_characters row)
+FillsCharacters =
+    (text : List ℕ) (header row : List Cell) → IsUtf8 text → HoldUtf8 header → HoldUtf8 row
+    → chars (filled text header row)
+    ≡ filled (chars text) (map by_characters header) (map by_characters row)

@@ -9,4 +9,5 @@ use Rattle.std.proofs.Common.{Bor}
 
 module _ {S : Type 0} where
   abbrev pub columns_at : IndexMap (Bor (List ℕ)) (Vec ℕ Global) S → List ℕ → List ℕ
-  columns_at named name = option_map_or (λ columns. columns.items) (lookup (λ k. bytes_eq name k.now) named.entries) []
+  columns_at named name =
+      option_map_or (λ columns. columns.items) (lookup (λ k. bytes_eq name k.now) named.entries) []

@@ -14,7 +14,8 @@ body_rows e = body_of e.table
 
 -- a scenario without examples blocks gives one pickle
 abbrev pub OneWithoutExamples : Type 0
-OneWithoutExamples = (around : Around) (s : Scenario) → s.examples ≡ [] → length (scenario_pickles around s) ≡ 1
+OneWithoutExamples =
+    (around : Around) (s : Scenario) → s.examples ≡ [] → length (scenario_pickles around s) ≡ 1
 
 -- any other scenario gives as many as its blocks have body rows
 abbrev pub OneForEachRow : Type 0
@@ -24,4 +25,5 @@ OneForEachRow = (around : Around) (s : Scenario) → s.examples ≢ []
 -- and these name the scenario and the rows, in order
 abbrev pub RowsInOrder : Type 0
 RowsInOrder = (around : Around) (s : Scenario) → s.examples ≢ []
-    → map (λ p. p.nodes) (scenario_pickles around s) ≡ map (λ row. s.node ∷ row.node ∷ []) (flat_map body_rows s.examples)
+    → map (λ p. p.nodes) (scenario_pickles around s)
+    ≡ map (λ row. s.node ∷ row.node ∷ []) (flat_map body_rows s.examples)

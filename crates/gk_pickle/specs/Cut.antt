@@ -2,19 +2,21 @@
 use Rattle.std.specs.Prelude.{◌≡◌, ℕ, ◌<◌, ◌≤◌, List, [], ◌∷◌, ◌++◌, length}
 use Rattle.gk_pickle.specs.Fill.{replaced}
 
--- the pattern stands nowhere in the text
+-- the pattern is nowhere in the text
 abbrev pub Lacks : List ℕ → List ℕ → Type 0
 Lacks pattern text = (before after : List ℕ) → text ≡ before ++ (pattern ++ after) → ⊥
 
--- wherever the pattern stands in the text, at least this much stands before it
+-- wherever the pattern is in the text, at least this much is before it
 abbrev pub IsFirst : List ℕ → List ℕ → List ℕ → Type 0
-IsFirst pattern text part = (before after : List ℕ) → text ≡ before ++ (pattern ++ after) → length part ≤ length before
+IsFirst pattern text part =
+    (before after : List ℕ) → text ≡ before ++ (pattern ++ after) → length part ≤ length before
 
 -- the text is cut at the leftmost occurrences of a pattern that don't overlap: into a first part and others
 abbrev pub IsCut : List ℕ → List ℕ → List ℕ → List (List ℕ) → Type 0
 IsCut pattern text part [] = (text ≡ part) × Lacks pattern text
 IsCut pattern text part (next ∷ others) =
-    (rest : List ℕ) × (text ≡ part ++ (pattern ++ rest)) × IsFirst pattern text part × IsCut pattern rest next others
+    (rest : List ℕ) × (text ≡ part ++ (pattern ++ rest)) × IsFirst pattern text part
+    × IsCut pattern rest next others
 
 abbrev pub joined : List ℕ → List ℕ → List (List ℕ) → List ℕ
 joined cell part [] = part
@@ -23,7 +25,8 @@ joined cell part (next ∷ others) = part ++ (cell ++ joined cell next others)
 -- every text can be cut so, and replacing joins its parts by the cell
 abbrev pub ReplacedIsJoined : Type 0
 ReplacedIsJoined = (pattern cell text : List ℕ) → 0 < length pattern
-    → (part : List ℕ) × (others : List (List ℕ)) × IsCut pattern text part others × (replaced pattern cell text ≡ joined cell part others)
+    → (part : List ℕ) × (others : List (List ℕ)) × IsCut pattern text part others
+    × (replaced pattern cell text ≡ joined cell part others)
 
 -- and so it does however the text is cut so
 abbrev pub JoinedIsReplaced : Type 0

@@ -3,7 +3,7 @@ use Rattle.std.specs.Prelude.{ℕ, zero, suc, ◌-◌, List, [], ◌∷◌, ◌+
 use Rattle.std.specs.List.{starts_with}
 use Rattle.gk_document.specs.declared.tree.Cell.{Cell}
 
--- what a header cell's value stands as in a text: `<value>`
+-- how a text names a header cell's value: `<value>`
 abbrev pub placeholder : List ℕ → List ℕ
 placeholder name = codes "<" ++ name ++ codes ">"
 
@@ -13,7 +13,8 @@ unfoldable pub replaced_after : ℕ → List ℕ → List ℕ → List ℕ → L
 replaced_after covered pattern cell [] = []
 replaced_after (suc covered) pattern cell (b ∷ bs) = replaced_after covered pattern cell bs
 replaced_after zero pattern cell (b ∷ bs) =
-    if starts_with nat_eq (b ∷ bs) pattern then cell ++ replaced_after (length pattern - 1) pattern cell bs
+    if starts_with nat_eq (b ∷ bs) pattern
+    then cell ++ replaced_after (length pattern - 1) pattern cell bs
     else b ∷ replaced_after 0 pattern cell bs
 
 abbrev pub replaced : List ℕ → List ℕ → List ℕ → List ℕ
@@ -24,4 +25,5 @@ replaced pattern cell text = replaced_after 0 pattern cell text
 abbrev pub filled : List ℕ → List Cell → List Cell → List ℕ
 filled text [] row = text
 filled text (name ∷ names) [] = text
-filled text (name ∷ names) (cell ∷ cells) = filled (replaced (placeholder name.value) cell.value text) names cells
+filled text (name ∷ names) (cell ∷ cells) =
+    filled (replaced (placeholder name.value) cell.value text) names cells

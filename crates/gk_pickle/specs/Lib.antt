@@ -1,5 +1,5 @@
 pub mod Fill
-pub mod OneReading
+pub mod SinglePass
 pub mod Columns
 pub mod Around
 pub mod Steps

@@ -25,19 +25,23 @@ abbrev pub document_steps : Option Feature → List Step
 document_steps None = []
 document_steps (Some f) = feature_steps f
 
--- each of the first steps stands in the others after the one before it
+-- each of the first steps is in the others after the one before it
 abbrev pub StandInOrder : List Step → List Step → Type 0
 StandInOrder [] all = ⊤
-StandInOrder (s ∷ ss) all = (before rest : List Step) × (all ≡ before ++ s ∷ rest) × StandInOrder ss rest
+StandInOrder (s ∷ ss) all =
+    (before rest : List Step) × (all ≡ before ++ s ∷ rest) × StandInOrder ss rest
 
 -- the node that a step of a pickle names first
 abbrev pub own_node : List ℕ → Option ℕ
 own_node [] = None
 own_node (node ∷ others) = Some node
 
--- the steps of a pickle name, one by one, steps that stand in these in order
+-- the steps of a pickle name, one by one, steps that are in these in order
 abbrev pub ComesFrom : List Step → Pickle → Type 0
-ComesFrom all p = (steps : List Step) × StandInOrder steps all × (map (λ s. own_node s.nodes) p.steps ≡ map (λ s. Some s.node) steps)
+ComesFrom all p =
+    (steps : List Step) × StandInOrder steps all
+    × (map (λ s. own_node s.nodes) p.steps ≡ map (λ s. Some s.node) steps)
 
 abbrev pub StepsInDocumentOrder : Type 0
-StepsInDocumentOrder = (d : Document) → AllByRecursion (ComesFrom (document_steps d.feature)) (pickles d)
+StepsInDocumentOrder =
+    (d : Document) → AllByRecursion (ComesFrom (document_steps d.feature)) (pickles d)

@@ -35,7 +35,8 @@ row_filling header row = record { header = header.cells; cells = row.cells; rows
 -- one for each body row; a block without a table has none
 abbrev pub table_pickles : Around → Scenario → List Tag → Option ExampleTable → List Pickle
 table_pickles around s tags None = []
-table_pickles around s tags (Some table) = map (λ row. pickle_of around s tags (row_filling table.header row)) table.body
+table_pickles around s tags (Some table) =
+    map (λ row. pickle_of around s tags (row_filling table.header row)) table.body
 
 abbrev pub examples_pickles : Around → Scenario → Examples → List Pickle
 examples_pickles around s e = table_pickles around s e.tags e.table
@@ -52,18 +53,22 @@ abbrev pub background_steps : Option Background → List Step
 background_steps None = []
 background_steps (Some b) = b.steps
 
--- around a scenario that stands in the feature itself, and around one in a rule
+-- around a scenario that is in the feature itself, and around one in a rule
 abbrev pub in_feature : Feature → Around
 in_feature f = record { tags = f.tags; steps = background_steps f.background }
 
 abbrev pub in_rule : Feature → Rule → Around
-in_rule f r = record { tags = f.tags ++ r.tags; steps = background_steps f.background ++ background_steps r.background }
+in_rule f r = record {
+  tags = f.tags ++ r.tags;
+  steps = background_steps f.background ++ background_steps r.background;
+}
 
 abbrev pub rule_pickles : Feature → Rule → List Pickle
 rule_pickles f r = flat_map (scenario_pickles (in_rule f r)) r.scenarios
 
 abbrev pub feature_pickles : Feature → List Pickle
-feature_pickles f = flat_map (scenario_pickles (in_feature f)) f.scenarios ++ flat_map (rule_pickles f) f.rules
+feature_pickles f =
+    flat_map (scenario_pickles (in_feature f)) f.scenarios ++ flat_map (rule_pickles f) f.rules
 
 abbrev pub pickles_in : Option Feature → List Pickle
 pickles_in None = []

@@ -1,6 +1,7 @@
 -- The steps of a pickle (Cucumber Messages, `Pickle.json`, `PickleStep`).
 use Rattle.std.specs.Prelude.{ℕ, List, [], ◌∷◌, ◌++◌, map, Option, Some, None, option_map, option_and_then}
 use Rattle.std.specs.List.{filter_map}
+use Rattle.gk_document.specs.MediaType.{unless_empty}
 use Rattle.gk_document.specs.declared.tree.KeywordType.{KeywordType}
 use Rattle.gk_document.specs.declared.tree.KeywordType.TheVariants as keyword
 use Rattle.gk_document.specs.declared.tree.Argument.{Argument}
@@ -35,18 +36,13 @@ type_of keywords = last_or kind.Unknown (filter_map own_type keywords)
 abbrev pub filled_by : Filling → List ℕ → List ℕ
 filled_by f text = filled text f.header f.cells
 
--- an empty media type is none
-abbrev pub media_type : List ℕ → Option (List ℕ)
-media_type [] = None
-media_type (b ∷ bs) = Some (b ∷ bs)
-
 abbrev pub filled_row : Filling → Row → List (List ℕ)
 filled_row f row = map (λ c. filled_by f c.value) row.cells
 
 abbrev pub filled_argument : Filling → Argument → PickleArgument
 filled_argument f (argument.Table rows) = value.Table (map (filled_row f) rows)
 filled_argument f (argument.Text d) = value.Text (record {
-  media = option_and_then (λ m. media_type (filled_by f m)) d.media;
+  media = option_and_then (λ m. unless_empty (filled_by f m)) d.media;
   content = filled_by f d.content;
 })
 
@@ -59,11 +55,12 @@ filled_step f t s = record {
   argument = option_map (filled_argument f) s.argument;
 }
 
--- steps that stand after those with the earlier keywords: a step's type is that of the last step at or before it that is
+-- steps that come after those with the earlier keywords: a step's type is that of the last step at or before it that is
 -- no conjunction
 abbrev pub steps_after : List KeywordType → Filling → List Step → List PickleStep
 steps_after earlier f [] = []
-steps_after earlier f (s ∷ ss) = filled_step f (type_of (earlier ++ s.kind ∷ [])) s ∷ steps_after (earlier ++ s.kind ∷ []) f ss
+steps_after earlier f (s ∷ ss) =
+    filled_step f (type_of (earlier ++ s.kind ∷ [])) s ∷ steps_after (earlier ++ s.kind ∷ []) f ss
 
 -- the keyword types of steps
 abbrev pub keywords : List Step → List KeywordType
@@ -72,4 +69,5 @@ keywords steps = map (λ s. s.kind) steps
 -- the backgrounds' steps, which nothing fills, and then the scenario's own; a scenario with no steps of its own has none
 abbrev pub pickle_steps : List Step → Filling → List Step → List PickleStep
 pickle_steps background f [] = []
-pickle_steps background f (s ∷ ss) = steps_after [] unfilled background ++ steps_after (keywords background) f (s ∷ ss)
+pickle_steps background f (s ∷ ss) =
+    steps_after [] unfilled background ++ steps_after (keywords background) f (s ∷ ss)

@@ -1,9 +1,8 @@
 //! The columns of a header by their names.
-ghost use Rattle.std.specs.Prelude.{◌≡◌, ◌++◌, ◌∷◌, [], ℕ, List, ◌<◌, length, IfOk, IfSome, OnOk, find, nat_le, if◌then◌else◌, option_map};
+ghost use Rattle.std.specs.Prelude.{◌≡◌, ◌↔◌, ◌++◌, ◌∷◌, [], ℕ, List, ◌<◌, length, IfOk, IfSome, IsTrue, OnOk, find, nat_le, if◌then◌else◌, option_map};
 ghost use Rattle.std.specs.List.Sorted.{IsNonDecreasing};
 ghost use Rattle.std.specs.Str.{bytes_eq};
-ghost use Rattle.std.specs.Prelude.{Decides};
-ghost use Rattle.gk_pickle.specs.OneReading.{HaveNoBracket, columns_named, replacement};
+ghost use Rattle.gk_pickle.specs.SinglePass.{HaveNoBracket, columns_named, replacement};
 ghost use Rattle.gk_pickle.specs.Columns.{columns_at};
 
 use gk_document::Cell;
@@ -15,7 +14,7 @@ use std::marker::Model;
 /// Each name with its columns, from 0.
 type Named<'a> = IndexMap<&'a str, Vec<usize>>;
 
-/// Adds a column behind the others that have its name.
+/// Adds a column after the others that have its name.
 fn add_column<'a>(
     alloc: Global,
     named: &mut Named<'a>,
@@ -33,7 +32,8 @@ fn add_column<'a>(
 
 /// The columns of a header, by their names.
 fn named<'a>(alloc: Global, header: &'a [Cell]) -> Result<Named<'a>, AllocError>
-    ensures { IfOk result (λ named. (name : List ℕ) → columns_at named name ≡ columns_named name header.now) }
+    ensures { IfOk result
+        (λ named. (name : List ℕ) → columns_at named name ≡ columns_named name header.now) }
 {
     let mut named = IndexMap::new(alloc);
     for (column, cell) in header.iter().enumerate() {
@@ -53,7 +53,7 @@ fn first_from(columns: &[usize], done: usize) -> Option<usize>
 
 /// Whether no cell has a bracket.
 pub(crate) fn have_no_bracket(cells: &[Cell]) -> bool
-    ensures { Decides result (HaveNoBracket cells.now) }
+    ensures { IsTrue result ↔ HaveNoBracket cells.now }
 {
     for cell in cells {
         if memchr2(b'<', b'>', cell.value.as_str().as_bytes()).is_some() {
@@ -72,18 +72,18 @@ pub(crate) struct Columns<'a> {
 }
 
 impl<'a> Model for Columns<'a> {
-    ghost use Rattle.std.specs.Prelude.{◌≡◌, ℕ, List};
-    ghost use Rattle.std.specs.Prelude.{Decides};
+    ghost use Rattle.std.specs.Prelude.{◌≡◌, ◌↔◌, ℕ, List, IsTrue};
     ghost use Rattle.gk_document.specs.declared.tree.Cell.{Cell as HeaderCell};
-    ghost use Rattle.gk_pickle.specs.OneReading.{HaveNoBracket, columns_named};
+    ghost use Rattle.gk_pickle.specs.SinglePass.{HaveNoBracket, columns_named};
     ghost use Rattle.gk_pickle.specs.Columns.{columns_at};
 
     ghost Value = { List HeaderCell };
 
     ghost view = { λ c. c.header.now };
 
-    ghost invariant = { λ c. ((name : List ℕ) → columns_at c.named name ≡ columns_named name c.header.now)
-        × Decides c.has_no_bracket (HaveNoBracket c.header.now) };
+    ghost invariant = { λ c.
+        ((name : List ℕ) → columns_at c.named name ≡ columns_named name c.header.now)
+        × (IsTrue c.has_no_bracket ↔ HaveNoBracket c.header.now) };
 }
 
 impl<'a> Columns<'a> {
@@ -108,7 +108,7 @@ impl<'a> Columns<'a> {
 
     /// Whether no name has a bracket.
     pub(crate) fn has_no_bracket(&self) -> bool
-        ensures { Decides result (HaveNoBracket self.now) }
+        ensures { IsTrue result ↔ HaveNoBracket self.now }
     {
         self.has_no_bracket
     }
@@ -120,7 +120,8 @@ impl<'a> Columns<'a> {
         done: usize,
         name: &str,
     ) -> Option<(usize, &'r str)>
-        ensures found { option_map (λ found. (found.0, found.1.now)) result ≡ replacement self.now row.now done name.now }
+        ensures found { option_map (λ found. (found.0, found.1.now)) result
+            ≡ replacement self.now row.now done name.now }
         ensures within { IfSome result (λ found. found.0 < length row.now) }
     {
         let columns = self.named.get(name)?;

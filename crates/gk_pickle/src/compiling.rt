@@ -1,10 +1,10 @@
 //! The pickles of a document.
 ghost use Rattle.std.specs.Prelude.{◌≡◌, ◌++◌, Some, map, IfOk, OnOk};
 ghost use Rattle.std.specs.List.{flat_map};
-ghost use Rattle.gk_pickle.specs.Pickles.{pickle_tag, pickle_of, table_pickles, examples_pickles, scenario_pickles, background_steps, rule_pickles, feature_pickles, pickles};
+ghost use Rattle.gk_pickle.specs.Pickles.{pickle_tag, pickle_of, table_pickles, scenario_pickles, background_steps, rule_pickles, feature_pickles, pickles};
 
-use crate::around::{Around, Filling};
 use crate::columns::Columns;
+use crate::inherited::{Around, Filling};
 use crate::pickle::{Pickle, PickleTag};
 use crate::steps::all_steps;
 use gk_document::{
@@ -33,7 +33,8 @@ fn pickle_tags(
     scenario_tags: &[Tag],
     block_tags: &[Tag],
 ) -> Result<Sequence<PickleTag>, AllocError>
-    ensures { IfOk result (λ made. made ≡ map pickle_tag (around.now.tags ++ scenario_tags.now ++ block_tags.now)) }
+    ensures { IfOk result
+        (λ made. made ≡ map pickle_tag (around.now.tags ++ scenario_tags.now ++ block_tags.now)) }
 {
     let mut made = Vec::new(alloc);
     add_tags(alloc, around.feature_tags, &mut made)?;
@@ -80,7 +81,9 @@ fn add_rows(
     table: &ExampleTable,
     made: &mut Vec<Pickle>,
 ) -> Result<(), AllocError>
-    ensures { OnOk result (made.new.items ≡ made.old.items ++ table_pickles around.now scenario.now tags.now (Some table.now)) }
+    ensures { OnOk result
+        (made.new.items
+        ≡ made.old.items ++ table_pickles around.now scenario.now tags.now (Some table.now)) }
 {
     let columns = Columns::of(alloc, table.header.cells.as_slice())?;
     for row in table.body.as_slice() {
@@ -100,7 +103,9 @@ fn add_table(
     table: &Option<ExampleTable>,
     made: &mut Vec<Pickle>,
 ) -> Result<(), AllocError>
-    ensures { OnOk result (made.new.items ≡ made.old.items ++ table_pickles around.now scenario.now tags.now table.now) }
+    ensures { OnOk result
+        (made.new.items
+        ≡ made.old.items ++ table_pickles around.now scenario.now tags.now table.now) }
 {
     match table {
         Some(table) => add_rows(alloc, around, scenario, tags, table, made),
@@ -115,7 +120,8 @@ fn add_scenario(
     scenario: &Scenario,
     made: &mut Vec<Pickle>,
 ) -> Result<(), AllocError>
-    ensures { OnOk result (made.new.items ≡ made.old.items ++ scenario_pickles around.now scenario.now) }
+    ensures { OnOk result
+        (made.new.items ≡ made.old.items ++ scenario_pickles around.now scenario.now) }
 {
     let examples = scenario.examples.as_slice();
     if examples.is_empty() {
@@ -143,7 +149,8 @@ fn add_scenarios(
     scenarios: &[Scenario],
     made: &mut Vec<Pickle>,
 ) -> Result<(), AllocError>
-    ensures { OnOk result (made.new.items ≡ made.old.items ++ flat_map (scenario_pickles around.now) scenarios.now) }
+    ensures { OnOk result
+        (made.new.items ≡ made.old.items ++ flat_map (scenario_pickles around.now) scenarios.now) }
 {
     for scenario in scenarios {
         add_scenario(alloc, around, scenario, made)?;

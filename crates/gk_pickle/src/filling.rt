@@ -5,17 +5,19 @@ ghost use Rattle.gk_document.specs.declared.tree.Cell.{Cell};
 ghost use Rattle.gk_pickle.specs.Fill.{placeholder, replaced, filled};
 
 use crate::columns::Columns;
-use crate::one_reading::fill_in_one_reading;
+use crate::fill_single_pass::fill_in_one_pass;
 use gk_document::Cell;
 use memchr::memchr;
 use memchr::memmem::Finder;
 use std::alloc::{AllocError, Global};
 
-/// What stands before and after the first `<name>` of a text.
+/// What is before and after the first `<name>` of a text.
 fn cut_at_first<'t>(finder: &Finder<'_>, name: &str, text: &'t str) -> Option<(&'t str, &'t str)>
     requires { finder.now ≡ placeholder name.now }
-    ensures none { IfNone result ((cell : List ℕ) → replaced (placeholder name.now) cell text.now ≡ text.now) }
-    ensures some { IfSome result (λ parts. (cell : List ℕ) → replaced (placeholder name.now) cell text.now
+    ensures none { IfNone result
+        ((cell : List ℕ) → replaced (placeholder name.now) cell text.now ≡ text.now) }
+    ensures some { IfSome result
+        (λ parts. (cell : List ℕ) → replaced (placeholder name.now) cell text.now
         ≡ parts.0.now ++ (cell ++ replaced (placeholder name.now) cell parts.1.now)) }
     ensures shorter { IfSome result (λ parts. length parts.1.now < length text.now) }
 {
@@ -26,7 +28,8 @@ fn cut_at_first<'t>(finder: &Finder<'_>, name: &str, text: &'t str) -> Option<(&
 
 /// The text with each `<name>` replaced by a cell.
 fn replace(alloc: Global, text: &str, name: &str, cell: &str) -> Result<String, AllocError>
-    ensures { IfOk result (λ s. string_bytes s ≡ replaced (placeholder name.now) cell.now text.now) }
+    ensures { IfOk result
+        (λ s. string_bytes s ≡ replaced (placeholder name.now) cell.now text.now) }
 {
     let pattern = format!(in alloc; "<{name}>")?;
     let finder = Finder::new(pattern.as_bytes());
@@ -85,7 +88,7 @@ pub(crate) fn fill_from(
         return Ok(String::from_str(alloc, text)?);
     }
     if columns.has_no_bracket() {
-        return fill_in_one_reading(alloc, text, columns, row);
+        return fill_in_one_pass(alloc, text, columns, row);
     }
     fill_columns(alloc, text, columns.header(), row)
 }

@@ -5,7 +5,7 @@ ghost use Rattle.serde_json.specs.View.{view, members_view, items_of};
 ghost use Rattle.gk_pickle.specs.Json.{object_of, put_some, with_some, media_data, id_data, list_data, type_word, pickle_tag_data, pickle_cell_data, pickle_row_data, pickle_doc_string_data, argument_data, pickle_step_data, pickle_steps_data, pickle_data};
 
 use crate::pickle::{Pickle, PickleArgument, PickleDocString, PickleStep, PickleTag, StepType};
-use gk_document::{Sequence, Text};
+use gk_document::{Sequence, Text, media_type};
 use serde_json::{Map, Value, json, put};
 use std::alloc::{AllocError, Global};
 
@@ -68,7 +68,7 @@ pub(crate) fn add_list<T: WriteJson>(
     put(members, alloc, name, list_value(alloc, items)?)
 }
 
-/// Adds the media type of a doc string, where there is one that isn't empty.
+/// Adds the media type of a doc string, where there is one.
 pub(crate) fn add_media(
     members: &mut Map<String, Value>,
     alloc: Global,
@@ -77,13 +77,16 @@ pub(crate) fn add_media(
     ensures { OnOk result (members_view members.new.entries
         ≡ put_some (codes "mediaType") (media_data media.now) (members_view members.old.entries)) }
 {
-    match media {
-        Some(media) => {
-            if media.as_str().is_empty() {
-                return Ok(());
-            }
-            add_text(members, alloc, "mediaType", media.as_str())
-        }
+    let Some(media) = media else {
+        return Ok(());
+    };
+    match media_type(Text::copy_of(alloc, media.as_str())?) {
+        Some(media) => put(
+            members,
+            alloc,
+            "mediaType",
+            Value::String(media.into_string()),
+        ),
         None => Ok(()),
     }
 }
@@ -111,7 +114,8 @@ pub(crate) fn with_optional<T: WriteJson>(
     name: &str,
     member: &Option<T>,
 ) -> Result<Value, AllocError>
-    ensures { IfOk result (λ v. view v ≡ with_some name.now (option_map T.json member.now) (view value)) }
+    ensures { IfOk result
+        (λ v. view v ≡ with_some name.now (option_map T.json member.now) (view value)) }
 {
     match value {
         Value::Object(mut members) => {
@@ -175,7 +179,8 @@ impl WriteJson for PickleDocString {
 
 /// The rows of a table.
 fn table_value(alloc: Global, rows: &[Sequence<Text>]) -> Result<Value, AllocError>
-    ensures { IfOk result (λ v. view v ≡ object_of ((codes "rows", list_data pickle_row_data rows.now) ∷ [])) }
+    ensures { IfOk result
+        (λ v. view v ≡ object_of ((codes "rows", list_data pickle_row_data rows.now) ∷ [])) }
 {
     let rows = list_value(alloc, rows)?;
     json!(in alloc; {"rows": rows})
@@ -198,8 +203,8 @@ impl WriteJson for PickleArgument {
     }
 }
 
-/// How a type is written.
-fn type_name(kind: StepType) -> &'static str
+/// How a step's type is written.
+fn step_type_name(kind: StepType) -> &'static str
     ensures { result.now ≡ type_word kind }
 {
     match kind {
@@ -218,7 +223,7 @@ fn step_value(alloc: Global, step: &PickleStep, id: u64) -> Result<Value, AllocE
     add_list(&mut members, alloc, "astNodeIds", step.nodes.as_slice())?;
     add(&mut members, alloc, "id", &id)?;
     add_text(&mut members, alloc, "text", step.text.as_str())?;
-    add_text(&mut members, alloc, "type", type_name(step.kind))?;
+    add_text(&mut members, alloc, "type", step_type_name(step.kind))?;
     add_optional(&mut members, alloc, "argument", &step.argument)?;
     Ok(Value::Object(members))
 }

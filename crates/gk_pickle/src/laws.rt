@@ -28,7 +28,7 @@ pub fn order_law()
     ensures { StepsInDocumentOrder }
 {}
 
-/// A scenario in which no placeholder of the header stands compiles alike for each row.
+/// A scenario that has no placeholder of the header compiles alike for each row.
 pub fn alike_law()
     ensures { RowsCompileAlike }
 {}

@@ -1,13 +1,24 @@
 //! The pickles of a feature file, and sources, documents and pickles as JSON.
+//!
+//! ```
+//! use gk_document::Document;
+//! use gk_pickle::compile;
+//! use std::alloc::{AllocError, Global};
+//!
+//! fn pickle_count(alloc: Global, document: &Document) -> Result<usize, AllocError> {
+//!     let pickles = compile(alloc, document)?;
+//!     Ok(pickles.len())
+//! }
+//! ```
 #![tactic(auto)]
 
-mod around;
 mod columns;
 mod compiling;
+mod fill_single_pass;
 mod filling;
+mod inherited;
 mod json;
 mod laws;
-mod one_reading;
 mod pickle;
 mod steps;
 mod tree_json;

@@ -17,14 +17,14 @@ pub struct PickleTag {
     pub node: u64,
 }
 
-/// A doc string after filling. An empty media type is none.
+/// A doc string after filling. An empty media type is none, as [`media_type`](gk_document::media_type) has it.
 #[derive(Debug, PartialEq, Eq, Drop)]
 pub struct PickleDocString {
     pub media: Option<Text>,
     pub content: Text,
 }
 
-/// What stands below a step, after filling: the rows of a table with the values of their cells, or a doc string.
+/// What is below a step, after filling: the rows of a table with the values of their cells, or a doc string.
 #[derive(Debug, PartialEq, Eq, Drop)]
 pub enum PickleArgument {
     Table(Sequence<Sequence<Text>>),

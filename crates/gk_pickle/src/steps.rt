@@ -1,17 +1,18 @@
 //! The steps of a pickle.
 ghost use Rattle.std.specs.Prelude.{◌≡◌, ◌++◌, ◌∷◌, [], List, map, option_map, option_and_then, IfOk, OnOk};
+ghost use Rattle.gk_document.specs.MediaType.{unless_empty};
 ghost use Rattle.gk_document.specs.declared.tree.KeywordType.{KeywordType};
-ghost use Rattle.gk_pickle.specs.Around.{unfilled};
-ghost use Rattle.gk_pickle.specs.Steps.{own_type, type_of, filled_by, media_type, filled_row, filled_argument, filled_step, steps_after, keywords, pickle_steps};
+ghost use Rattle.gk_pickle.specs.Steps.{type_of, filled_by, filled_row, filled_argument, filled_step, steps_after, keywords, pickle_steps};
 
-use crate::around::Filling;
+use crate::inherited::Filling;
 use crate::pickle::{PickleArgument, PickleDocString, PickleStep, StepType};
-use gk_document::{Argument, DocString, KeywordType, Row, Sequence, Step, Text};
+use gk_document::{Argument, DocString, KeywordType, Row, Sequence, Step, Text, media_type};
 use std::alloc::{AllocError, Global};
 
 /// The type of a step with this keyword, after a step of type `before`.
 fn type_after(keyword: KeywordType, before: StepType) -> StepType
-    ensures { (earlier : List KeywordType) → before ≡ type_of earlier → result ≡ type_of (earlier ++ keyword ∷ []) }
+    ensures { (earlier : List KeywordType) → before ≡ type_of earlier
+        → result ≡ type_of (earlier ++ keyword ∷ []) }
 {
     match keyword {
         KeywordType::Unknown => StepType::Unknown,
@@ -60,15 +61,13 @@ fn filled_media(
     filling: &Filling<'_, '_, '_>,
     media: &Option<Text>,
 ) -> Result<Option<Text>, AllocError>
-    ensures { IfOk result (λ o. o ≡ option_and_then (λ m. media_type (filled_by filling.now m)) media.now) }
+    ensures { IfOk result
+        (λ o. o ≡ option_and_then (λ m. unless_empty (filled_by filling.now m)) media.now) }
 {
     match media {
         Some(media) => {
             let media = filling.text(alloc, media.as_str())?;
-            if media.as_str().is_empty() {
-                return Ok(None);
-            }
-            Ok(Some(media))
+            Ok(media_type(media))
         }
         None => Ok(None),
     }
@@ -87,7 +86,7 @@ fn filled_doc_string(
     Ok(PickleArgument::Text(PickleDocString { media, content }))
 }
 
-/// What stands below a step, filled.
+/// What is below a step, filled.
 fn argument(
     alloc: Global,
     filling: &Filling<'_, '_, '_>,
@@ -127,7 +126,7 @@ fn pickle_step(
     })
 }
 
-/// Adds steps that stand after one of type `before`. Answers the type of the last one.
+/// Adds steps that come after one of type `before`. Gives the type of the last one.
 fn add_steps(
     alloc: Global,
     filling: &Filling<'_, '_, '_>,
@@ -157,7 +156,8 @@ pub(crate) fn all_steps(
     filling: &Filling<'_, '_, '_>,
     steps: &[Step],
 ) -> Result<Sequence<PickleStep>, AllocError>
-    ensures { IfOk result (λ made. made ≡ pickle_steps (feature_steps.now ++ rule_steps.now) filling.now steps.now) }
+    ensures { IfOk result
+        (λ made. made ≡ pickle_steps (feature_steps.now ++ rule_steps.now) filling.now steps.now) }
 {
     if steps.is_empty() {
         return Ok(Sequence::new(alloc));

@@ -1,6 +1,5 @@
 //! Sources and trees as JSON, in the layout of Cucumber Messages.
-ghost use Rattle.std.specs.Prelude.{◌≡◌, ◌++◌, ◌∷◌, [], map, codes, IfOk, OnOk};
-ghost use Rattle.serde_json.specs.Data.{Data};
+ghost use Rattle.std.specs.Prelude.{◌≡◌, ◌++◌, [], map, codes, IfOk, OnOk};
 ghost use Rattle.serde_json.specs.View.{view, members_view};
 ghost use Rattle.gk_pickle.specs.Json.{object_of, list_data, put_some};
 ghost use Rattle.gk_pickle.specs.TreeJson.{location_data, cell_data, row_data, tag_data, comment_data, delimiter, doc_string_data, table_place, table_data, keyword_word, table_of, doc_string_of, step_data, background_data, body_of, block_members, examples_data, scenario_data, background_child as background_child_data, scenario_child as scenario_child_data, rule_child as rule_child_data, children_data, rule_data, feature_data, document_data, source_data};
@@ -104,7 +103,7 @@ impl WriteJson for DocString {
     }
 }
 
-/// Where a table stands: its first row's place, or else its step's.
+/// The place of a table: its first row's, or else its step's.
 fn place_of_table(place: Location, rows: &[Row]) -> Location
     ensures { result ≡ table_place place rows.now }
 {
@@ -124,7 +123,7 @@ fn table_value(alloc: Global, place: Location, rows: &[Row]) -> Result<Value, Al
 }
 
 /// How a keyword's type is written.
-fn type_name(kind: KeywordType) -> &'static str
+fn keyword_type_name(kind: KeywordType) -> &'static str
     ensures { result.now ≡ keyword_word kind }
 {
     match kind {
@@ -136,7 +135,7 @@ fn type_name(kind: KeywordType) -> &'static str
     }
 }
 
-/// Adds what stands below a step.
+/// Adds what is below a step.
 fn add_argument(
     members: &mut Map<String, Value>,
     alloc: Global,
@@ -145,7 +144,8 @@ fn add_argument(
 ) -> Result<(), AllocError>
     ensures { OnOk result (members_view members.new.entries
         ≡ put_some (codes "docString") (doc_string_of argument.now)
-        (put_some (codes "dataTable") (table_of place argument.now) (members_view members.old.entries))) }
+        (put_some (codes "dataTable") (table_of place argument.now)
+        (members_view members.old.entries))) }
 {
     match argument {
         Some(Argument::Table(rows)) => {
@@ -167,7 +167,12 @@ impl WriteJson for Step {
         let mut members = Map::new(alloc);
         add(&mut members, alloc, "id", &self.node)?;
         add_text(&mut members, alloc, "keyword", self.keyword.as_str())?;
-        add_text(&mut members, alloc, "keywordType", type_name(self.kind))?;
+        add_text(
+            &mut members,
+            alloc,
+            "keywordType",
+            keyword_type_name(self.kind),
+        )?;
         add(&mut members, alloc, "location", &self.location)?;
         add_text(&mut members, alloc, "text", self.text.as_str())?;
         add_argument(&mut members, alloc, self.location, &self.argument)?;
@@ -299,7 +304,8 @@ fn children(
     background: &Option<Background>,
     scenarios: &[Scenario],
 ) -> Result<Vec<Value>, AllocError>
-    ensures { IfOk result (λ values. map view values.items ≡ children_data background.now scenarios.now) }
+    ensures { IfOk result
+        (λ values. map view values.items ≡ children_data background.now scenarios.now) }
 {
     let mut values = Vec::new(alloc);
     if let Some(background) = background {

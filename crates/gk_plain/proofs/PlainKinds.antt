@@ -8,13 +8,14 @@ use Rattle.gk_line.specs.declared.tokens.Block.TheVariants as block
 use Rattle.gk_document.specs.declared.tree.Cell.{Cell}
 use Rattle.gk_document.specs.declared.tree.Fence.{Fence}
 use Rattle.gk_document.specs.declared.tree.Fence.TheVariants as fence
+use Rattle.gk_document.specs.MediaType.{unless_empty}
 use Rattle.gk_grammar.specs.Token.{Text, TagText, Blank, Comment, Language, Tags, Title, Step, Row, Fenced, Other, Line, line}
 use Rattle.gk_grammar.specs.Token as read
 use Rattle.gk_grammar.specs.Tree as tree
 use Rattle.gk_grammar.specs.Tree.{Location, Tag, DocString}
 use Rattle.gk_grammar.specs.Machine.{same_text, tags_from}
 use Rattle.gk_grammar.specs.Grammar as grammar
-use Rattle.gk_grammar.specs.Grammar.{Piece, OneLine, IsGap, IsPlainGap, IsEnglish, IsTagLine, IsTitle, Titled, IsRow, IsDocString, IsStepLine, Closes, at, tag_at, place_and_name, english, comments_of, description_of, content_line, line_feed, media_of}
+use Rattle.gk_grammar.specs.Grammar.{OneLine, IsGap, IsPlainGap, IsEnglish, IsTagLine, IsTitle, IsRow, IsDocString, IsStepLine, Closes, at, tag_at, place_and_name, english, comments_of, description_of, content_line, line_feed}
 use Rattle.gk_plain.specs.declared.kinds.Kind.{Kind}
 use Rattle.gk_plain.specs.declared.kinds.Kind.TheVariants as kind
 use Rattle.gk_plain.specs.declared.parts.Part.{Part}
@@ -388,7 +389,7 @@ doc_string_from : (ls : List Line) → is_doc_string (map kind_of ls) ≡ true �
 doc_string_from [] e = absurd cc
 doc_string_from (line n t i (Fenced f media) ∷ ls) e =
     let c = closes_from f i ls e in
-    (record { location = at n (i + 1); media = media_of media; content = c.0; fence = f }, c.1, (refl, refl, refl, c.2))
+    (record { location = at n (i + 1); media = unless_empty media; content = c.0; fence = f }, c.1, (refl, refl, refl, c.2))
 doc_string_from (line n t i (Tags (Ok ws)) ∷ ls) e = absurd cc
 doc_string_from (line n t i (Tags (Err column)) ∷ ls) e = absurd cc
 doc_string_from (line n t i (Language w) ∷ ls) e = absurd (let g = language_test (λ (k : Kind). is_doc_string (k ∷ map kind_of ls)) false w refl refl in cc)

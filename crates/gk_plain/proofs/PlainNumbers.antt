@@ -7,7 +7,7 @@ use Rattle.std.specs.Option.{option_map}
 use Rattle.std.specs.List.{AllByRecursion, flat_map}
 use Rattle.gk_grammar.specs.Token.{Text, Tags, Step, Row, Line, line}
 use Rattle.gk_grammar.specs.Tree as tree
-use Rattle.gk_grammar.specs.Tree.{Location, Tag, Argument, Background, ExampleTable, Examples, Scenario, Rule, Feature, Document}
+use Rattle.gk_grammar.specs.Tree.{Location, Tag, Argument, Background, ExampleTable, Examples, Scenario, Rule, Feature}
 use Rattle.gk_document.specs.declared.tree.Argument.TheVariants.{Table, Text as Quoted}
 use Rattle.gk_grammar.specs.Grammar.{Piece, Then, Each, AtMostOne, OneLine, place_and_name, IsTagLine, TagLines, IsRow, IsTable, IsArgument, IsStepLine, IsStep, IsBackground, IsExampleTable, IsExamples, IsScenario, IsRule, IsFeature, IsFeatureText, english, Node, tag_nodes, row_nodes, argument_nodes, step_nodes, background_nodes, table_rows, examples_nodes, scenario_nodes, rule_nodes, feature_nodes, stands_before, AreNumbered}
 use Rattle.gk_grammar.specs.Place.{IsText}

@@ -4,7 +4,7 @@ use Rattle.gk_line.specs.declared.tokens.Block.{Block}
 use Rattle.gk_line.specs.declared.tokens.Block.TheVariants as block
 use Rattle.gk_grammar.specs.Token.{Text, Token, Blank, Comment, Language, Tags, Title, Step, Row, Fenced, Other, Line, line}
 use Rattle.gk_grammar.specs.Tree as tree
-use Rattle.gk_grammar.specs.Tree.{Location, Tag, Argument, Background, ExampleTable, Examples, Scenario, Rule, Feature}
+use Rattle.gk_grammar.specs.Tree.{Location, Argument, Background, ExampleTable, Examples, Scenario, Rule, Feature}
 use Rattle.gk_grammar.specs.Machine.{same_text}
 use Rattle.gk_grammar.specs.Grammar.{Piece, ◌⨾◌, Each, AtMostOne, OneLine, IsPlainGap, IsEnglish, IsTagLine, TagLines, Titled, IsRow, IsTable, IsDocString, IsArgument, IsStepLine, IsStep, IsExampleTable, IsExamples, IsScenario, IsBackground, IsRule, IsFeature, IsOpening, english}
 use Rattle.gk_plain.specs.declared.kinds.Kind.{Kind}
@@ -78,7 +78,8 @@ IsBelowFeature x = AtMostOne IsBackground x.0 ⨾ Each IsScenario x.1.0 ⨾ Each
 
 abbrev pub IsUntaggedFeature : Heading × (Option Background × (List Scenario × List Rule)) → Piece
 IsUntaggedFeature x =
-    IsHeading block.Feature x.0 ⨾ AtMostOne IsBackground x.1.0 ⨾ Each IsScenario x.1.1.0 ⨾ Each IsRule x.1.1.1
+    IsHeading block.Feature x.0 ⨾ AtMostOne IsBackground x.1.0
+    ⨾ Each IsScenario x.1.1.0 ⨾ Each IsRule x.1.1.1
 
 -- the front of a text up to the language line, and a feature after its opening
 abbrev pub IsSpokenGap : Unit {0} → Piece

@@ -8,7 +8,7 @@ use Rattle.gk_plain.specs.declared.kinds.Kind.{Kind}
 use Rattle.gk_plain.specs.declared.kinds.Kind.TheVariants as kind
 use Rattle.gk_plain.specs.PlainLines.{is_gap}
 
--- a row or what may stand between rows
+-- a row or what may be between rows
 abbrev pub is_row_or_gap : Kind → Bool
 is_row_or_gap (kind.Row count) = true
 is_row_or_gap k = is_gap k

@@ -204,8 +204,8 @@ fn is_feature_file(lines: &[Kind]) -> bool
 
 /// Whether the lines, and then this one, are a text of the grammar.
 fn completes(alloc: Global, lines: &[Kind], last: Kind) -> Result<bool, AllocError>
-    ensures { IfOk result (λ told. (ls : List Line) → map kind_of ls ≡ lines.now ++ last ∷ []
-        → IsTrue told ↔ IsText ls) }
+    ensures { IfOk result (λ answer. (ls : List Line) → map kind_of ls ≡ lines.now ++ last ∷ []
+        → IsTrue answer ↔ IsText ls) }
 {
     let mut all = lines.to_vec(alloc)?;
     all.push(last)?;
@@ -214,8 +214,8 @@ fn completes(alloc: Global, lines: &[Kind], last: Kind) -> Result<bool, AllocErr
 
 /// Whether the lines are the front of a text: by themselves, or with one of four lines after them.
 fn is_front(alloc: Global, lines: &[Kind]) -> Result<bool, AllocError>
-    ensures { IfOk result (λ told. (ls : List Line) → map kind_of ls ≡ lines.now
-        → IsTrue told ↔ IsFront ls) }
+    ensures { IfOk result (λ answer. (ls : List Line) → map kind_of ls ≡ lines.now
+        → IsTrue answer ↔ IsFront ls) }
 {
     if is_feature_file(lines) {
         return Ok(true);
@@ -258,7 +258,7 @@ pub(crate) fn first_bad(alloc: Global, lines: &[Kind]) -> Result<Option<usize>, 
 /// There is no memory for the kinds of the lines.
 pub fn has_document(alloc: Global, text: &str) -> Result<bool, AllocError>
     requires short { length text.now ≤ byte_limit }
-    ensures { IfOk result (λ told. IsTrue told ↔ ((d : Document) × IsDocumentOf text.now d)) }
+    ensures { IfOk result (λ answer. IsTrue answer ↔ ((d : Document) × IsDocumentOf text.now d)) }
 {
     let kinds = kinds(alloc, text)?;
     Ok(is_feature_file(&kinds))

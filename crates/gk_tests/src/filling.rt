@@ -10,8 +10,10 @@ const EMPTY_SOURCE: &str =
 
 const PLAIN_TEXT: &str = "Feature: f\n\n  Scenario: s\n    Given a\n";
 
-const PLAIN_SOURCE: &str =
-    r#"{"source":{"data":"Feature: f\n\n  Scenario: s\n    Given a\n","mediaType":"text/x.cucumber.gherkin+plain","uri":"a.feature"}}"#;
+const PLAIN_SOURCE: &str = concat!(
+    r#"{"source":{"data":"Feature: f\n\n  Scenario: s\n    Given a\n","#,
+    r#""mediaType":"text/x.cucumber.gherkin+plain","uri":"a.feature"}}"#,
+);
 
 /// Fills a text by the cells of two rows.
 fn filled(alloc: Global, text: &str, header: &str, row: &str) -> Result<String, Fail> {

@@ -1,5 +1,6 @@
 //! Examples of the profile's rules, and each public call once.
 ghost use Rattle.std.specs.Prelude.{◌≤◌, length, IfOk};
+ghost use Rattle.gk_line.specs.declared.limit.TheConstants.{FEATURE_LIMIT};
 
 use gk_line::*;
 use std::alloc::{AllocError, Global};
@@ -7,9 +8,9 @@ use std::process::Abort;
 use std::test::Fail;
 
 fn line(text: &str) -> Result<Line<'_>, &'static str>
-    ensures { IfOk result (λ line. length line.text.now ≤ 16_777_216) }
+    ensures { IfOk result (λ line. length line.text.now ≤ FEATURE_LIMIT) }
 {
-    if text.len() > 16_777_216 {
+    if text.len() > FEATURE_LIMIT {
         return Err("too long");
     }
     Ok(Line { number: 1, text })
@@ -17,9 +18,9 @@ fn line(text: &str) -> Result<Line<'_>, &'static str>
 
 /// The line of a short text.
 fn short_line<'a>(rt: &impl Abort, text: &'a str) -> Line<'a>
-    ensures { length result.text.now ≤ 16_777_216 }
+    ensures { length result.text.now ≤ FEATURE_LIMIT }
 {
-    assert!(rt; text.len() <= 16_777_216);
+    assert!(rt; text.len() <= FEATURE_LIMIT);
     Line { number: 1, text }
 }
 
@@ -93,7 +94,7 @@ fn rows_of_bars_alone(rt: HostRuntime) -> Result<(), Fail> {
 
 /// The lines of a text, each as its number, a colon, its characters and a semicolon.
 fn told_lines(alloc: Global, text: &str) -> Result<String, Fail> {
-    if text.len() > 16_777_216 {
+    if text.len() > FEATURE_LIMIT {
         return Err(Fail::from("too long"));
     }
     let mut told = String::new(alloc);

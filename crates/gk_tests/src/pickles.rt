@@ -7,24 +7,48 @@ use std::test::Fail;
 
 const STEPLESS_TEXT: &str = "Feature: f\n  Background:\n    Given a\n    And b\n  Scenario: s";
 
-const RULED_TEXT: &str =
-    "@f\nFeature: f\n  Rule: r\n    Background:\n      Given b\n    @s @s\n    Scenario Outline: <n> o\n      And c\n      @e\n      Examples:\n        | n |\n        | 1 |";
+const RULED_TEXT: &str = concat!(
+    "@f\nFeature: f\n  Rule: r\n    Background:\n      Given b\n    @s @s\n",
+    "    Scenario Outline: <n> o\n      And c\n      @e\n      Examples:\n",
+    "        | n |\n        | 1 |",
+);
 
-const MIXED_TEXT: &str =
-    "Feature: f\n  Scenario: s\n    * x\n    And y\n  Scenario: h\n    Examples:\n      | a |\n    Examples:\n  Scenario: q\n    Given d\n      \"\"\"<m>\n      <n>\n      \"\"\"\n    And <n>\n      | <n> | é |\n    Examples:\n      | m | n |\n      |  | ü |\n# \u{1}\u{1F600}";
+const MIXED_TEXT: &str = concat!(
+    "Feature: f\n  Scenario: s\n    * x\n    And y\n  Scenario: h\n    Examples:\n",
+    "      | a |\n    Examples:\n  Scenario: q\n    Given d\n      \"\"\"<m>\n",
+    "      <n>\n      \"\"\"\n    And <n>\n      | <n> | é |\n    Examples:\n",
+    "      | m | n |\n      |  | ü |\n# \u{1}\u{1F600}",
+);
 
-const STEPLESS_PICKLE: &str =
-    r#"{"pickle":{"astNodeIds":["3"],"id":"4","language":"en","name":"s","steps":[],"tags":[],"uri":"u"}}
-"#;
+const STEPLESS_PICKLE: &str = concat!(
+    r#"{"pickle":{"astNodeIds":["3"],"id":"4","language":"en","name":"s","steps":[],"#,
+    r#""tags":[],"uri":"u"}}"#,
+    "\n",
+);
 
-const RULED_PICKLE: &str =
-    r#"{"pickle":{"astNodeIds":["6","11"],"id":"14","language":"en","name":"1 o","steps":[{"astNodeIds":["3"],"id":"12","text":"b","type":"Context"},{"astNodeIds":["7","11"],"id":"13","text":"c","type":"Context"}],"tags":[{"astNodeId":"0","name":"@f"},{"astNodeId":"4","name":"@s"},{"astNodeId":"5","name":"@s"},{"astNodeId":"8","name":"@e"}],"uri":"r.feature"}}
-"#;
+const RULED_PICKLE: &str = concat!(
+    r#"{"pickle":{"astNodeIds":["6","11"],"id":"14","language":"en","name":"1 o","#,
+    r#""steps":[{"astNodeIds":["3"],"id":"12","text":"b","type":"Context"},"#,
+    r#"{"astNodeIds":["7","11"],"id":"13","text":"c","type":"Context"}],"#,
+    r#""tags":[{"astNodeId":"0","name":"@f"},{"astNodeId":"4","name":"@s"},"#,
+    r#"{"astNodeId":"5","name":"@s"},{"astNodeId":"8","name":"@e"}],"uri":"r.feature"}}"#,
+    "\n",
+);
 
-const MIXED_PICKLES: &str =
-    r#"{"pickle":{"astNodeIds":["0"],"id":"16","language":"en","name":"s","steps":[{"astNodeIds":["1"],"id":"14","text":"x","type":"Unknown"},{"astNodeIds":["2"],"id":"15","text":"y","type":"Unknown"}],"tags":[],"uri":"u"}}
-{"pickle":{"astNodeIds":["7","13"],"id":"19","language":"en","name":"q","steps":[{"argument":{"docString":{"content":"ü"}},"astNodeIds":["8","13"],"id":"17","text":"d","type":"Context"},{"argument":{"dataTable":{"rows":[{"cells":[{"value":"ü"},{"value":"é"}]}]}},"astNodeIds":["9","13"],"id":"18","text":"ü","type":"Context"}],"tags":[],"uri":"u"}}
-"#;
+const MIXED_PICKLES: &str = concat!(
+    r#"{"pickle":{"astNodeIds":["0"],"id":"16","language":"en","name":"s","#,
+    r#""steps":[{"astNodeIds":["1"],"id":"14","text":"x","type":"Unknown"},"#,
+    r#"{"astNodeIds":["2"],"id":"15","text":"y","type":"Unknown"}],"tags":[],"#,
+    r#""uri":"u"}}"#,
+    "\n",
+    r#"{"pickle":{"astNodeIds":["7","13"],"id":"19","language":"en","name":"q","#,
+    r#""steps":[{"argument":{"docString":{"content":"ü"}},"astNodeIds":["8","13"],"#,
+    r#""id":"17","text":"d","type":"Context"},"#,
+    r#"{"argument":{"dataTable":{"rows":[{"cells":[{"value":"ü"},{"value":"é"}]}]}},"#,
+    r#""astNodeIds":["9","13"],"id":"18","text":"ü","type":"Context"}],"tags":[],"#,
+    r#""uri":"u"}}"#,
+    "\n",
+);
 
 /// The pickles as lines, each with the ids that follow those before it.
 fn told(alloc: Global, uri: &str, pickles: &[Pickle], first_id: u64) -> Result<String, Fail> {

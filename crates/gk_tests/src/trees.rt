@@ -66,8 +66,10 @@ fn check_tree(rt: &impl Abort, alloc: Global, text: &str, wanted: &str) -> Resul
 const FEATURELESS: &str = "0 nodes, 0 comments;
 0 nodes, 2 comments;/ # a/\t/#b\r/";
 
-const COMMENT_TREE: &str =
-    r##"{"gherkinDocument":{"comments":[{"location":{"column":1,"line":2},"text":"  # a "}],"uri":"u"}}"##;
+const COMMENT_TREE: &str = concat!(
+    r#"{"gherkinDocument":{"comments":[{"location":{"column":1,"line":2},"#,
+    r#""text":"  # a "}],"uri":"u"}}"#,
+);
 
 #[test]
 fn texts_without_a_feature(rt: HostRuntime) -> Result<(), Fail> {
@@ -75,11 +77,18 @@ fn texts_without_a_feature(rt: HostRuntime) -> Result<(), Fail> {
     Ok(check_tree(&rt, rt.alloc(), "\n  # a \r\n", COMMENT_TREE)?)
 }
 
-const DESCRIBED_TREE: &str =
-    r#"{"gherkinDocument":{"comments":[],"feature":{"children":[],"description":"  Given x\n  | a |","keyword":"Feature","language":"en","location":{"column":1,"line":1},"name":"f","tags":[]},"uri":"u"}}"#;
+const DESCRIBED_TREE: &str = concat!(
+    r#"{"gherkinDocument":{"comments":[],"feature":{"children":[],"#,
+    r#""description":"  Given x\n  | a |","keyword":"Feature","language":"en","#,
+    r#""location":{"column":1,"line":1},"name":"f","tags":[]},"uri":"u"}}"#,
+);
 
-const COMMENTED_TREE: &str =
-    r##"{"gherkinDocument":{"comments":[{"location":{"column":1,"line":4},"text":" # c"}],"feature":{"children":[],"description":"  Given x\n  | a |","keyword":"Feature","language":"en","location":{"column":1,"line":1},"name":"f","tags":[]},"uri":"u"}}"##;
+const COMMENTED_TREE: &str = concat!(
+    r#"{"gherkinDocument":{"comments":[{"location":{"column":1,"line":4},"#,
+    r#""text":" # c"}],"feature":{"children":[],"description":"  Given x\n  | a |","#,
+    r#""keyword":"Feature","language":"en","location":{"column":1,"line":1},"name":"f","#,
+    r#""tags":[]},"uri":"u"}}"#,
+);
 
 #[test]
 fn a_description_that_looks_like_steps_and_rows(rt: HostRuntime) -> Result<(), AllocError> {
@@ -89,8 +98,18 @@ fn a_description_that_looks_like_steps_and_rows(rt: HostRuntime) -> Result<(), A
     check_tree(&rt, rt.alloc(), text, COMMENTED_TREE)
 }
 
-const BACKGROUND_TREE: &str =
-    r#"{"gherkinDocument":{"comments":[],"feature":{"children":[{"background":{"description":"","id":"0","keyword":"Background","location":{"column":3,"line":2},"name":"","steps":[{"id":"1","keyword":"Given ","keywordType":"Context","location":{"column":5,"line":3},"text":"a"},{"id":"2","keyword":"And ","keywordType":"Conjunction","location":{"column":5,"line":4},"text":"b"}]}},{"scenario":{"description":"","examples":[],"id":"3","keyword":"Scenario","location":{"column":3,"line":5},"name":"s","steps":[],"tags":[]}}],"description":"","keyword":"Feature","language":"en","location":{"column":1,"line":1},"name":"f","tags":[]},"uri":"u"}}"#;
+const BACKGROUND_TREE: &str = concat!(
+    r#"{"gherkinDocument":{"comments":[],"#,
+    r#""feature":{"children":[{"background":{"description":"","id":"0","#,
+    r#""keyword":"Background","location":{"column":3,"line":2},"name":"","#,
+    r#""steps":[{"id":"1","keyword":"Given ","keywordType":"Context","#,
+    r#""location":{"column":5,"line":3},"text":"a"},{"id":"2","keyword":"And ","#,
+    r#""keywordType":"Conjunction","location":{"column":5,"line":4},"text":"b"}]}},"#,
+    r#"{"scenario":{"description":"","examples":[],"id":"3","keyword":"Scenario","#,
+    r#""location":{"column":3,"line":5},"name":"s","steps":[],"tags":[]}}],"#,
+    r#""description":"","keyword":"Feature","language":"en","location":{"column":1,"#,
+    r#""line":1},"name":"f","tags":[]},"uri":"u"}}"#,
+);
 
 #[test]
 fn numbers_with_a_background(rt: HostRuntime) -> Result<(), AllocError> {
@@ -99,31 +118,67 @@ fn numbers_with_a_background(rt: HostRuntime) -> Result<(), AllocError> {
     check_tree(&rt, rt.alloc(), text, BACKGROUND_TREE)
 }
 
-const QUOTED_TREE: &str =
-    r#"{"gherkinDocument":{"comments":[],"feature":{"children":[{"scenario":{"description":"","examples":[],"id":"0","keyword":"Scenario","location":{"column":3,"line":2},"name":"s","steps":[{"docString":{"content":"x\ny \"\"\" z\n  w","delimiter":"\"\"\"","location":{"column":5,"line":4}},"id":"1","keyword":"Given ","keywordType":"Context","location":{"column":5,"line":3},"text":"d"}],"tags":[]}}],"description":"","keyword":"Feature","language":"en","location":{"column":1,"line":1},"name":"f","tags":[]},"uri":"u"}}"#;
+const QUOTED_TREE: &str = concat!(
+    r#"{"gherkinDocument":{"comments":[],"#,
+    r#""feature":{"children":[{"scenario":{"description":"","examples":[],"id":"0","#,
+    r#""keyword":"Scenario","location":{"column":3,"line":2},"name":"s","#,
+    r#""steps":[{"docString":{"content":"x\ny \"\"\" z\n  w","delimiter":"\"\"\"","#,
+    r#""location":{"column":5,"line":4}},"id":"1","keyword":"Given ","#,
+    r#""keywordType":"Context","location":{"column":5,"line":3},"text":"d"}],"#,
+    r#""tags":[]}}],"description":"","keyword":"Feature","language":"en","#,
+    r#""location":{"column":1,"line":1},"name":"f","tags":[]},"uri":"u"}}"#,
+);
 
 #[test]
 fn the_content_of_a_doc_string(rt: HostRuntime) -> Result<(), AllocError> {
-    let text =
-        "Feature: f\n  Scenario: s\n    Given d\n    \"\"\"\n  x\n    y \\\"\\\"\\\" z\n      w\n    \"\"\"";
+    let text = concat!(
+        "Feature: f\n  Scenario: s\n    Given d\n    \"\"\"\n  x\n",
+        "    y \\\"\\\"\\\" z\n      w\n    \"\"\"",
+    );
     check_tree(&rt, rt.alloc(), text, QUOTED_TREE)
 }
 
-const RULE_TREE: &str =
-    r#"{"gherkinDocument":{"comments":[],"feature":{"children":[{"rule":{"children":[{"background":{"description":"","id":"2","keyword":"Background","location":{"column":5,"line":4},"name":"","steps":[{"id":"3","keyword":"Given ","keywordType":"Context","location":{"column":7,"line":5},"text":"b"}]}},{"scenario":{"description":"","examples":[{"description":"","id":"9","keyword":"Examples","location":{"column":7,"line":10},"name":"","tableBody":[{"cells":[{"location":{"column":11,"line":12},"value":"1"}],"id":"11","location":{"column":9,"line":12}}],"tableHeader":{"cells":[{"location":{"column":11,"line":11},"value":"n"}],"id":"10","location":{"column":9,"line":11}},"tags":[{"id":"8","location":{"column":7,"line":9},"name":"@e"}]}],"id":"6","keyword":"Scenario Outline","location":{"column":5,"line":7},"name":"<n> o","steps":[{"id":"7","keyword":"And ","keywordType":"Conjunction","location":{"column":7,"line":8},"text":"c"}],"tags":[{"id":"4","location":{"column":5,"line":6},"name":"@s"},{"id":"5","location":{"column":8,"line":6},"name":"@s"}]}}],"description":"","id":"1","keyword":"Rule","location":{"column":3,"line":3},"name":"r","tags":[]}}],"description":"","keyword":"Feature","language":"en","location":{"column":1,"line":2},"name":"f","tags":[{"id":"0","location":{"column":1,"line":1},"name":"@f"}]},"uri":"u"}}"#;
+const RULE_TREE: &str = concat!(
+    r#"{"gherkinDocument":{"comments":[],"#,
+    r#""feature":{"children":[{"rule":{"children":[{"background":{"description":"","#,
+    r#""id":"2","keyword":"Background","location":{"column":5,"line":4},"name":"","#,
+    r#""steps":[{"id":"3","keyword":"Given ","keywordType":"Context","#,
+    r#""location":{"column":7,"line":5},"text":"b"}]}},{"scenario":{"description":"","#,
+    r#""examples":[{"description":"","id":"9","keyword":"Examples","#,
+    r#""location":{"column":7,"line":10},"name":"","#,
+    r#""tableBody":[{"cells":[{"location":{"column":11,"line":12},"value":"1"}],"#,
+    r#""id":"11","location":{"column":9,"line":12}}],"#,
+    r#""tableHeader":{"cells":[{"location":{"column":11,"line":11},"value":"n"}],"#,
+    r#""id":"10","location":{"column":9,"line":11}},"tags":[{"id":"8","#,
+    r#""location":{"column":7,"line":9},"name":"@e"}]}],"id":"6","#,
+    r#""keyword":"Scenario Outline","location":{"column":5,"line":7},"name":"<n> o","#,
+    r#""steps":[{"id":"7","keyword":"And ","keywordType":"Conjunction","#,
+    r#""location":{"column":7,"line":8},"text":"c"}],"tags":[{"id":"4","#,
+    r#""location":{"column":5,"line":6},"name":"@s"},{"id":"5","location":{"column":8,"#,
+    r#""line":6},"name":"@s"}]}}],"description":"","id":"1","keyword":"Rule","#,
+    r#""location":{"column":3,"line":3},"name":"r","tags":[]}}],"description":"","#,
+    r#""keyword":"Feature","language":"en","location":{"column":1,"line":2},"name":"f","#,
+    r#""tags":[{"id":"0","location":{"column":1,"line":1},"name":"@f"}]},"uri":"u"}}"#,
+);
 
 #[test]
 fn a_rule_with_an_outline(rt: HostRuntime) -> Result<(), AllocError> {
-    let text =
-        "@f\nFeature: f\n  Rule: r\n    Background:\n      Given b\n    @s @s\n    Scenario Outline: <n> o\n      And c\n      @e\n      Examples:\n        | n |\n        | 1 |";
+    let text = concat!(
+        "@f\nFeature: f\n  Rule: r\n    Background:\n      Given b\n    @s @s\n",
+        "    Scenario Outline: <n> o\n      And c\n      @e\n      Examples:\n",
+        "        | n |\n        | 1 |",
+    );
     check_told(&rt, rt.alloc(), text, "12 nodes, 0 comments")?;
     check_tree(&rt, rt.alloc(), text, RULE_TREE)
 }
 
 #[test]
 fn comments_everywhere(rt: HostRuntime) -> Result<(), AllocError> {
-    let text =
-        "#1\n# language: en\n#2\n@t\n#3\nFeature: f\n#4\n  Scenario: s\n#5\n    Given d\n#6\n    | a |\n#7\n    | b |\n    And e\n    \"\"\"\n#no\n    \"\"\"\n#8\n  Examples:\n#9\n  | n |\n#10";
+    let text = concat!(
+        "#1\n# language: en\n#2\n@t\n#3\nFeature: f\n#4\n  Scenario: s\n#5\n",
+        "    Given d\n#6\n    | a |\n#7\n    | b |\n    And e\n    \"\"\"\n#no\n",
+        "    \"\"\"\n#8\n  Examples:\n#9\n  | n |\n#10",
+    );
     check_told(&rt, rt.alloc(), text, "8 nodes, 10 comments")
 }
 
@@ -170,7 +225,7 @@ fn tags_with_white_space(rt: HostRuntime) -> Result<(), Fail> {
 }
 
 const ARGUMENTS: &str = r#"4 nodes, 1 comments;Feature: f/Scenario: s/Given x/|a|/#c//|b|
-CellCount at line 5, column 7;Feature: f/  Scenario: s/    Given t/      | a | b |/      | a | b | c |
+CellCount at line 5, column 7;Feature: f/  Scenario: s/    Given t/      | a |/      | a | b |
 4 nodes, 0 comments;Feature: f/Scenario: s/Examples:/|a|/ ||
 CellCount at line 5, column 2;Feature: f/Scenario: s/Examples:/|a|/ |
 Unexpected at line 6, column 1;Feature: f/Scenario: s/Given x/```/```/|a|

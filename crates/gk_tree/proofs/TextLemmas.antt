@@ -1,9 +1,9 @@
 -- Texts that are copied and joined.
-use Rattle.std.proofs.Common.{◌≡◌, ℕ, suc, ◌+◌, ◌<◌, Bool, true, false, cond, List, [], ◌∷◌, ◌++◌, length, take, get_or, Some, None, refl, sym, ap, subst, ◌∙◌, append_assoc, arith}
+use Rattle.std.proofs.Common.{◌≡◌, ℕ, suc, ◌+◌, ◌<◌, Bool, true, false, cond, List, [], ◌∷◌, ◌++◌, length, take, get_or, refl, sym, ap, subst, ◌∙◌, append_assoc, arith}
 use Rattle.std.specs.Prelude.{map, codes, ◌==◌}
 use Rattle.std.specs.List.{join_with_byte}
 use Rattle.std.specs.Str.{IsUtf8, chars, encode_utf8_all}
-use Rattle.std.proofs.lemmas.Str.{encodes-chars, encodes-append, chars-nil}
+use Rattle.std.proofs.lemmas.Str.{encodes-chars, encodes-append}
 use Rattle.std.proofs.lemmas.List.{take_more, map-append, length-map, length-take-le}
 use Rattle.std.proofs.lemmas.Bool.{false≢true}
 use Rattle.std.proofs.lemmas.Bool.Decides.{nat_tests}
@@ -11,24 +11,13 @@ use Rattle.gk_tree.specs.declared.token.IndentedLine.{IndentedLine}
 use Rattle.gk_grammar.specs.Token.{Line}
 use Rattle.gk_line.specs.declared.tokens.TagText.{TagText}
 use Rattle.gk_document.specs.declared.tree.Tag.{Tag}
-use Rattle.gk_grammar.specs.Grammar.{media_of, at}
+use Rattle.gk_grammar.specs.Grammar.{at}
 use Rattle.gk_grammar.specs.Token as read
 use Rattle.gk_grammar.specs.Machine.{tags_from}
 use Rattle.gk_tree.specs.Views.{text_of, word_of, kept_line}
 
 suc_not : (n : ℕ) → (suc n == 0) ≡ false
 suc_not n = grind (arith, nat_tests)
-
-pub media_none : (m : List ℕ) → (length m == 0) ≡ true → media_of (text_of m) ≡ None
-media_none [] h = rw chars-nil refl
-media_none (b ∷ m) h = absurd (false≢true (sym (suc_not (length m)) ∙ h))
-
-media_same : (m : List ℕ) → (length m == 0) ≡ false → media_of m ≡ Some m
-media_same [] h = absurd (false≢true (sym h))
-media_same (b ∷ m) h = refl
-
-pub media_some : (m t : List ℕ) → IsUtf8 m → (length m == 0) ≡ false → t ≡ m → Some t ≡ media_of (text_of m)
-media_some m t u h e = ap (λ (z : List ℕ). Some z) e ∙ sym (ap media_of (encodes-chars m u) ∙ media_same m h)
 
 pub text_same : (bs : List ℕ) → IsUtf8 bs → text_of bs ≡ bs
 text_same bs u = encodes-chars bs u

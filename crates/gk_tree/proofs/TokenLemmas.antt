@@ -1,8 +1,8 @@
 -- What the code's tokens have to do with those of the grammar.
-use Rattle.std.proofs.Common.{◌≡◌, ℕ, zero, suc, ◌+◌, ◌-◌, ◌*◌, ◌≤◌, Bool, true, false, cond, List, [], ◌∷◌, ◌++◌, length, Option, Some, None, Ok, refl, sym, ap, ◌∙◌, arith}
+use Rattle.std.proofs.Common.{◌≡◌, ℕ, zero, suc, ◌+◌, ◌-◌, ◌*◌, ◌≤◌, Bool, true, false, cond, List, [], ◌∷◌, length, Option, Some, None, Ok, refl, sym, ap, ◌∙◌, arith}
 use Rattle.std.proofs.lemmas.Grind.{common_steps}
 use Rattle.std.specs.Prelude.{map, filter, ◌==◌}
-use Rattle.std.specs.List.{slice_split}
+use Rattle.std.specs.List.{slice_split, AllByRecursion}
 use Rattle.std.specs.Str.{chars, chars_after, continuation_len, lead_bits, IsUtf8}
 use Rattle.std.proofs.lemmas.List.Splits.{length-slice_split}
 use Rattle.std.proofs.lemmas.List.Sums.{length-filter}
@@ -14,7 +14,7 @@ use Rattle.gk_line.specs.Cells.{without_first, CellText}
 use Rattle.gk_line.specs.Tags.{uncommented, TagWord, pieces_from, tag_pieces, tags_of, is_tag}
 use Rattle.gk_line.specs.Views.{cell_text, tag_word}
 use Rattle.gk_grammar.specs.Token.{cell, tag_text, tag_list}
-use Rattle.gk_tree.specs.Views.{retold, word_of}
+use Rattle.gk_tree.specs.Views.{word_of}
 
 count_bound : {X : Type 0} (p : X → Bool) (xs : List X) → length (filter p xs) ≤ length xs
 count_bound p [] = omega arith
@@ -70,20 +70,17 @@ pub no_space : (o : Option TagWord) (words : List TagWord) → o ≡ None → ta
 no_space None words e = refl
 no_space (Some x) words e = absurd cc
 
-pub retold-same : (c : Cell) → IsUtf8 c.value → retold c ≡ c
-retold-same c u = ap (λ (z : List ℕ). record { value = z; column = c.column }) (encodes-chars c.value u)
-
-pub retold_more : (xs : List Cell) (x : Cell) → map retold xs ≡ xs → retold x ≡ x → map retold (xs ++ x ∷ []) ≡ xs ++ x ∷ []
-retold_more [] x h e = ap (λ (z : Cell). z ∷ []) e
-retold_more (y ∷ xs) x h e = let head : retold y ≡ y = cc in let tail : map retold xs ≡ xs = cc in let more = retold_more xs x tail e in cc
+-- a cell whose value is UTF-8 is the grammar's cell of its characters
+cell_same : (c : Cell) → IsUtf8 c.value → c ≡ cell (cell_text c)
+cell_same c u = sym (ap (λ (z : List ℕ). record { value = z; column = c.column }) (encodes-chars c.value u))
 
 -- the cells of the grammar
-pub cells_same : (xs : List Cell) (found : List CellText) → map retold xs ≡ xs → map cell_text xs ≡ found → xs ≡ map cell found
-cells_same xs found h e = sym h ∙ go xs ∙ ap (λ (z : List CellText). map cell z) e
+pub cells_same : (xs : List Cell) (found : List CellText) → AllByRecursion (λ (c : Cell). IsUtf8 c.value) xs → map cell_text xs ≡ found → xs ≡ map cell found
+cells_same xs found u e = go xs u ∙ ap (λ (z : List CellText). map cell z) e
   where
-    go : (ys : List Cell) → map retold ys ≡ map cell (map cell_text ys)
-    go [] = refl
-    go (y ∷ ys) = ap (λ (z : List Cell). retold y ∷ z) (go ys)
+    go : (ys : List Cell) → AllByRecursion (λ (c : Cell). IsUtf8 c.value) ys → ys ≡ map cell (map cell_text ys)
+    go [] h = refl
+    go (y ∷ ys) h = ap (λ (z : Cell). z ∷ ys) (cell_same y h.0) ∙ ap (λ (zs : List Cell). cell (cell_text y) ∷ zs) (go ys h.1)
 
 pub words_same : (xs : List TagText) (found : List TagWord) → map tag_word xs ≡ found → map word_of xs ≡ map tag_text found
 words_same xs found e = go xs ∙ ap (λ (z : List TagWord). map tag_text z) e

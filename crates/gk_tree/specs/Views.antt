@@ -7,7 +7,6 @@ use Rattle.gk_grammar.specs.Token as read
 use Rattle.gk_grammar.specs.Token.{Text, line, line_of, tag_text, title_token, step_token, fence_token}
 use Rattle.gk_grammar.specs.Machine as machine
 use Rattle.gk_grammar.specs.Machine.{State, Bad}
-use Rattle.gk_document.specs.declared.tree.Cell.{Cell}
 use Rattle.gk_line.specs.declared.tokens.TagText.{TagText}
 use Rattle.gk_tree.specs.declared.fault.ParseFault.{ParseFault}
 use Rattle.gk_tree.specs.declared.token.IndentedLine.{IndentedLine}
@@ -40,10 +39,6 @@ token_view (token.Step step) = step_token (step_text step)
 token_view (token.Row cells) = read.Row cells
 token_view (token.Fenced fence) = fence_token (fence_text fence)
 token_view token.Other = read.Other
-
--- a cell, its value as its characters spell it
-abbrev pub retold : Cell → Cell
-retold c = record { value = text_of c.value; column = c.column }
 
 -- a line that is read as this token
 abbrev pub line_at : IndentedLine → Token → read.Line

@@ -1,5 +1,5 @@
 //! The lines in a description, and those after a block.
-ghost use Rattle.std.specs.Prelude.{◌≡◌, ◌<◌, ◌+◌, ◌^◌, [], ℕ, List, map, cond, Ok, Err};
+ghost use Rattle.std.specs.Prelude.{◌≡◌, ◌<◌, ◌+◌, ◌^◌, [], ℕ, List, map, if◌then◌else◌, Ok, Err};
 ghost use Rattle.gk_line.specs.Views.{line_chars, step_text};
 ghost use Rattle.gk_grammar.specs.declared.fault.FaultKind.TheVariants as kinds;
 ghost use Rattle.gk_grammar.specs.Token as read;
@@ -75,13 +75,13 @@ pub(crate) fn close_block<'a>(
             )
         }
         Token::SpacedTag(column) => Err(spaced_tag(at, column)),
-        Token::Title(next, title) => next_title(alloc, progress, Some(block), next, at, title),
+        Token::Title(next, title) => title_line(alloc, progress, Some(block), next, at, title),
         _ => Err(unexpected(at)),
     }
 }
 
 /// A title line after a block or before all, without tags.
-pub(crate) fn next_title<'a>(
+pub(crate) fn title_line<'a>(
     alloc: Global,
     progress: &mut Progress,
     before: Option<Block>,
@@ -90,14 +90,14 @@ pub(crate) fn next_title<'a>(
     title: Title<'a>,
 ) -> Result<Phase<'a>, ParseFault>
     requires room { progress.old.nodes < 2 ^ 63 }
-    ensures { Gives (state_in progress.new) result (cond (machine.follows before next)
-        (Ok (machine.open_block (made progress.old) next [] at.entry.line.number at.entry.indent
-        (text_of title.entry.keyword.now) (text_of title.entry.name.now)))
-        (Err (record {
+    ensures { Gives (state_in progress.new) result (if machine.follows before next
+        then Ok (machine.open_block (made progress.old) next [] at.entry.line.number
+        at.entry.indent (text_of title.entry.keyword.now) (text_of title.entry.name.now))
+        else Err (record {
           kind = kinds.Unexpected;
           line = at.entry.line.number;
           column = at.entry.indent + 1;
-        }))) }
+        })) }
 {
     if follows(before, next) {
         open_block(alloc, progress, next, Sequence::new(alloc), at, title)

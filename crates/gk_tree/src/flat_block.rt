@@ -2,7 +2,7 @@
 use gk_document::{Location, Row, Sequence, Step, Tag, Text};
 use gk_line::Block;
 
-/// What stands below the description of a block.
+/// What is below the description of a block.
 #[derive(Drop)]
 pub(crate) enum Body {
     Bare,

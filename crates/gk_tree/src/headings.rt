@@ -38,7 +38,7 @@ pub(crate) fn fault(kind: FaultKind, location: Location) -> ParseFault
     }
 }
 
-/// The fault of a line that can't stand where it does.
+/// The fault of a line that is not allowed where it is.
 pub(crate) fn unexpected(at: IndentedLine<'_>) -> ParseFault
     ensures { result ≡ record {
       kind = kinds.Unexpected;

@@ -1,14 +1,27 @@
 //! The parser of feature files: it takes exactly the texts of the grammar, and makes their one document.
+//!
+//! ```
+//! use gk_tree::{ParseFault, parse};
+//! use std::alloc::Global;
+//!
+//! fn scenario_count(alloc: Global, text: &str) -> Result<usize, ParseFault> {
+//!     let document = parse(alloc, text)?;
+//!     match &document.feature {
+//!         Some(feature) => Ok(feature.scenarios.len()),
+//!         None => Ok(0),
+//!     }
+//! }
+//! ```
 #![tactic(auto)]
 
 mod assemble;
+mod before_blocks;
 mod blocks;
 mod fault;
 mod flat_block;
 mod headings;
+mod line_tokens;
 mod parse_text;
-mod prelude;
-mod read;
 mod state;
 mod steps;
 mod texts;

@@ -1,5 +1,6 @@
 //! The one pass over the lines of a text.
 ghost use Rattle.std.specs.Prelude.{◌≡◌, ◌≢◌, ◌≤◌, ◌<◌, ◌+◌, ◌^◌, ◌↔◌, None, Ok, Err, length, IfOk, IfErr, IfSome};
+ghost use Rattle.gk_line.specs.declared.limit.TheConstants.{FEATURE_LIMIT};
 ghost use Rattle.gk_line.specs.Views.{numbered_line};
 ghost use Rattle.gk_grammar.specs.declared.fault.FaultKind.TheVariants as kind;
 ghost use Rattle.gk_grammar.specs.Documents.{lines_read, IsDocumentOf, HasFault, IsTooLong, byte_limit, line_limit};
@@ -11,22 +12,19 @@ ghost use Rattle.gk_tree.specs.Ends.{ended, document_at, Answers};
 ghost use Rattle.gk_tree.specs.EndViews.{last_of};
 
 use crate::assemble::build_feature;
+use crate::before_blocks::{after_language, after_tags, at_start};
 use crate::blocks::{in_description, in_examples_table, with_rows};
 use crate::fault::ParseFault;
 use crate::flat_block::FlatBlock;
-use crate::prelude::{after_language, after_tags, at_start};
-use crate::read::{indented, token};
+use crate::line_tokens::{indented, token};
 use crate::state::{Parser, Phase, Progress};
 use crate::steps::{after_step, in_doc_string, with_steps};
 use crate::texts::description;
 use crate::token::{IndentedLine, Token};
 use gk_document::{Document, Sequence};
 use gk_grammar::FaultKind;
-use gk_line::{Line, lines};
+use gk_line::{FEATURE_LIMIT, Line, lines};
 use std::alloc::Global;
-
-/// The most bytes of a text.
-const MAX_BYTES: usize = 16_777_216;
 
 /// The most lines of a text.
 const MAX_LINES: u32 = 1_000_000;
@@ -61,7 +59,7 @@ fn line_count(text: &str) -> Option<u32>
         × (count ≤ line_limit) × (length text.now ≤ byte_limit)) }
     ensures none { (result ≡ None) ↔ IsTooLong text.now }
 {
-    if text.len() > MAX_BYTES {
+    if text.len() > FEATURE_LIMIT {
         return None;
     }
     let mut count = 0;
@@ -111,7 +109,7 @@ fn read_line<'a>(
     phase: Phase<'a>,
     line: Line<'a>,
 ) -> Result<Phase<'a>, ParseFault>
-    requires short { length line.text.now ≤ 16_777_216 }
+    requires short { length line.text.now ≤ FEATURE_LIMIT }
     requires room { progress.old.nodes < 2 ^ 63 }
     ensures { Gives (state_in progress.new) result
         (machine.next (state_in progress.old phase.entry) (line_of (numbered_line line.entry))) }
@@ -151,7 +149,7 @@ fn read_token<'a>(
     }
 }
 
-/// The last block, where the text may end at this phase. Elsewhere the fault stands at the line after the last one.
+/// The last block, where the text may end at this phase. Elsewhere the fault is at the line after the last one.
 fn last_block(
     alloc: Global,
     phase: Phase<'_>,
@@ -171,7 +169,7 @@ fn last_block(
     }
 }
 
-/// The fault of a text that ends where it may not, told at the line after the last one.
+/// The fault of a text that ends where it may not, at the line after the last one.
 fn early_end(end_line: u32) -> ParseFault
     ensures { result ≡ record { kind = kind.UnexpectedEnd; line = end_line; column = 1 } }
 {

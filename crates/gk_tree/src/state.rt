@@ -29,7 +29,7 @@ pub(crate) struct OpenDocString<'a> {
     pub indent: u32,
 }
 
-/// Where the pass stands.
+/// Where the pass is.
 #[derive(Drop)]
 pub(crate) enum Phase<'a> {
     /// Before the first tag line or feature line; no language line yet.
@@ -48,7 +48,7 @@ pub(crate) enum Phase<'a> {
     InExamplesTable(FlatBlock, Sequence<Row>),
 }
 
-/// Between two lines: what was made of those before, and where the pass stands.
+/// Between two lines: what was made of those before, and where the pass is.
 #[derive(Drop)]
 pub(crate) struct Parser<'a> {
     pub progress: Progress,

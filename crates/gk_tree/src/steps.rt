@@ -5,7 +5,7 @@ ghost use Rattle.gk_grammar.specs.Token as read;
 ghost use Rattle.gk_grammar.specs.Grammar as grammar;
 ghost use Rattle.gk_grammar.specs.Machine as machine;
 ghost use Rattle.gk_tree.specs.Views.{text_of, token_view, line_at, flat_block_of, open_doc_string_of, kept_line, made, state_in, Gives};
-ghost use Rattle.gk_tree.specs.Rows.{rows_with, row_behind};
+ghost use Rattle.gk_tree.specs.Rows.{rows_with, row_after};
 ghost use Rattle.gk_tree.specs.Read.{IsRead};
 ghost use Rattle.gk_tree.specs.declared.state.Progress.{Progress};
 
@@ -14,7 +14,7 @@ use crate::fault::ParseFault;
 use crate::flat_block::{Body, FlatBlock};
 use crate::headings::{fault, keep_comment_and_stay, location, unexpected};
 use crate::state::{BlockWithSteps, OpenDocString, Phase, Progress};
-use crate::texts::{content, copied, media_type};
+use crate::texts::{content, copied, copied_media};
 use crate::token::{IndentedLine, Token};
 use gk_document::{Argument, Cell, DocString, Row, Sequence, Step};
 use gk_grammar::FaultKind;
@@ -111,7 +111,7 @@ pub(crate) fn with_steps(stepped: BlockWithSteps) -> Result<FlatBlock, AllocErro
 }
 
 /// A step line after steps.
-fn next_step<'a>(
+fn step_line<'a>(
     alloc: Global,
     progress: &mut Progress,
     mut stepped: BlockWithSteps,
@@ -134,7 +134,7 @@ fn next_step<'a>(
 
 /// Adds a row to the table of a step, which may be its first row.
 fn add_step_row(alloc: Global, step: &mut Step, row: Row) -> Result<(), ParseFault>
-    ensures { Gives (λ _. step.new) result (row_behind step.old step.old.argument row) }
+    ensures { Gives (λ _. step.new) result (row_after step.old step.old.argument row) }
 {
     let rows = match step.argument.take() {
         None => single_row(alloc, row)?,
@@ -149,7 +149,7 @@ fn add_step_row(alloc: Global, step: &mut Step, row: Row) -> Result<(), ParseFau
 }
 
 /// A row line after steps.
-fn next_row<'a>(
+fn row_line<'a>(
     alloc: Global,
     progress: &mut Progress,
     mut stepped: BlockWithSteps,
@@ -225,8 +225,8 @@ pub(crate) fn after_step<'a>(
         (line_at at.entry token.entry)) }
 {
     match token {
-        Token::Step(line) => next_step(alloc, progress, stepped, at, line),
-        Token::Row(cells) => next_row(alloc, progress, stepped, at, cells),
+        Token::Step(line) => step_line(alloc, progress, stepped, at, line),
+        Token::Row(cells) => row_line(alloc, progress, stepped, at, cells),
         Token::Fenced(line) => step_fence(alloc, stepped, at, line),
         Token::Blank => Ok(Phase::AfterStep(stepped)),
         Token::Comment | Token::Language(_) => {
@@ -247,7 +247,7 @@ fn doc_string(
 {
     Ok(DocString {
         location: quote.location,
-        media: media_type(alloc, quote.media)?,
+        media: copied_media(alloc, quote.media)?,
         content: content(alloc, lines, quote.fence, quote.indent)?,
         fence: quote.fence,
     })

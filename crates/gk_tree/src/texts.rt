@@ -2,13 +2,14 @@
 ghost use Rattle.std.specs.Prelude.{◌≡◌, ◌++◌, map, reverse, filter, not, codes, IfOk, OnOk, if◌then◌else◌, [], ◌∷◌};
 ghost use Rattle.std.specs.String.{string_bytes};
 ghost use Rattle.std.specs.List.{join_with_byte};
+ghost use Rattle.gk_document.specs.MediaType.{unless_empty};
 ghost use Rattle.gk_grammar.specs.Token.{bytes};
 ghost use Rattle.gk_grammar.specs.Token as read;
-ghost use Rattle.gk_grammar.specs.Grammar.{media_of, description_of, from_text, line_feed, content_line};
+ghost use Rattle.gk_grammar.specs.Grammar.{description_of, from_text, line_feed, content_line};
 ghost use Rattle.gk_tree.specs.Views.{text_of, kept_line};
 
 use crate::token::IndentedLine;
-use gk_document::{Fence, Text};
+use gk_document::{Fence, Text, media_type};
 use gk_line::{is_blank, is_comment, push_doc_line};
 use std::alloc::{AllocError, Global};
 
@@ -19,14 +20,11 @@ pub(crate) fn copied(alloc: Global, text: &str) -> Result<Text, AllocError>
     Text::copy_of(alloc, text)
 }
 
-/// The media type, where there is one.
-pub(crate) fn media_type(alloc: Global, media: &str) -> Result<Option<Text>, AllocError>
-    ensures { IfOk result (λ m. m ≡ media_of (text_of media.now)) }
+/// A copy of the media type, where there is one.
+pub(crate) fn copied_media(alloc: Global, media: &str) -> Result<Option<Text>, AllocError>
+    ensures { IfOk result (λ m. m ≡ unless_empty (text_of media.now)) }
 {
-    if media.is_empty() {
-        return Ok(None);
-    }
-    Ok(Some(Text::copy_of(alloc, media)?))
+    Ok(media_type(copied(alloc, media)?))
 }
 
 /// The name of a tag.

@@ -1,5 +1,6 @@
 //! What the grammar asks of a line.
 ghost use Rattle.std.specs.Prelude.{◌≤◌, vec_len, length};
+ghost use Rattle.gk_line.specs.declared.limit.TheConstants.{FEATURE_LIMIT};
 
 use gk_document::{Cell, Sequence};
 use gk_line::{Block, FenceLine, Line, StepLine, TagText, Title};
@@ -9,15 +10,15 @@ use gk_line::{Block, FenceLine, Line, StepLine, TagText, Title};
 pub(crate) struct IndentedLine<'a> {
     pub line: Line<'a>,
     pub indent: u32,
-    ghost short: { length line.text.now ≤ 16_777_216 },
-    ghost bound: { indent ≤ 16_777_216 },
+    ghost short: { length line.text.now ≤ FEATURE_LIMIT },
+    ghost bound: { indent ≤ FEATURE_LIMIT },
 }
 
 /// The tags of a tag line.
 #[derive(Drop)]
 pub(crate) struct TagWords<'a> {
     pub words: Vec<TagText<'a>>,
-    ghost few: { vec_len words ≤ 16_777_216 },
+    ghost few: { vec_len words ≤ FEATURE_LIMIT },
 }
 
 /// What a line is read as, after its indent.

@@ -2,7 +2,7 @@
 use crate::devices::{Compared, expecting, in_pieces, whole};
 use crate::meeting::{Came, RUNS, meet_alone, right_if};
 use crate::streams::{INTERLEAVED, PLAIN_LINES, PLAIN_TEXT};
-use ck_commands::{TROUBLE_STATUS, TextFault, read_text, run};
+use ck_commands::{ExitStatus, TextFault, read_text, run};
 use std::alloc::Global;
 use std::test::Fail;
 
@@ -34,7 +34,7 @@ fn texts(rt: HostRuntime) -> Result<(), Fail> {
 fn came_of_run(status: u8, sink: &Compared<'_>) -> Came {
     if status == 0 {
         right_if(sink.has_wanted())
-    } else if status == TROUBLE_STATUS && (sink.has_none() || sink.has_trouble()) {
+    } else if status == ExitStatus::Trouble.code() && (sink.has_none() || sink.has_trouble()) {
         Came::Refused
     } else {
         Came::Wrong

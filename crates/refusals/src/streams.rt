@@ -3,7 +3,7 @@ use crate::devices::{expecting, whole};
 use crate::meeting::{Came, PIECES, SMALL, meet_alone, right_if};
 use cm_audit::{Counts, Verdict, audit};
 use cm_compile::{CompileFault, write_compiled};
-use cm_envelope::{Envelope, ShapeFault, Trouble, read_envelope};
+use cm_envelope::{Envelope, EnvelopeFault, Trouble, read_envelope};
 use std::alloc::Global;
 use std::test::Fail;
 
@@ -44,10 +44,10 @@ pub(crate) const INTERLEAVED: &str =
 {"testRunFinished":{"success":true}}
 "#;
 
-fn came_of(read: &Result<Envelope, ShapeFault>, is_wanted: bool) -> Came {
+fn came_of(read: &Result<Envelope, EnvelopeFault>, is_wanted: bool) -> Came {
     match read {
         Ok(_) => right_if(is_wanted),
-        Err(ShapeFault::Memory) => Came::Refused,
+        Err(EnvelopeFault::Memory) => Came::Refused,
         Err(_) => Came::Wrong,
     }
 }

@@ -2,7 +2,7 @@ use Rattle.std.proofs.Common.{◌≡◌, ◌<◌, ◌+◌, ◌∷◌, ◌∙◌,
 use Rattle.std.specs.List.{filter_map}
 use Rattle.std.specs.String.{string_bytes}
 use Rattle.cm_stream.specs.Texts.{same_texts}
-use Rattle.cm_audit.proofs.Cases.{is_at, is_within, other_texts, same_behind, with_id, without_id, named_step}
+use Rattle.cm_audit.proofs.Cases.{is_at, is_within, other_texts, same_after, with_id, without_id, named_step}
 use Rattle.cm_audit.proofs.judge_cases.has_steps.Goals as goal
 use Rattle.cm_audit.proofs.judge_cases.has_steps.Goals.{in-Some+else-not-is_step_at, in_default}
 
@@ -42,7 +42,7 @@ loop-step-preserved c =
             within = omega (arith, is_within ss n id at, w.next-is);
             same =
                 ap (λ m. same_texts (map string_bytes (drop m ss)) (filter_map named_step (drop (i + 1) ts))) w.next-is
-                ∙ sym (same_behind ss n id (filter_map named_step (drop (i + 1) ts)) at)
+                ∙ sym (same_after ss n id (filter_map named_step (drop (i + 1) ts)) at)
                 ∙ sym (ap (same_texts (map string_bytes (drop n ss))) ids)
                 ∙ c.loop-step.invariant.same;
           }

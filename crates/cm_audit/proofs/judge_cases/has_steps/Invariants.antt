@@ -2,7 +2,7 @@ use Rattle.std.proofs.Common.{◌≡◌, ◌≤◌, length, drop, map}
 use Rattle.std.specs.List.{filter_map}
 use Rattle.std.specs.String.{string_bytes}
 use Rattle.cm_stream.specs.Texts.{same_texts}
-use Rattle.cm_stream.specs.Words.{pickle_step_ids}
+use Rattle.cm_stream.specs.References.{pickle_step_ids}
 use Rattle.cm_audit.proofs.judge_cases.has_steps.Given as goal
 
 abbrev pub invariant-loop-step : goal.invariant-loop-step

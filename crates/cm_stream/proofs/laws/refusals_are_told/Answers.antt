@@ -1,9 +1,9 @@
-use Rattle.cm_stream.proofs.Passing.{plain_passes}
-use Rattle.cm_stream.proofs.StepRefuses.{all_refused, own_are_checks}
+use Rattle.cm_stream.proofs.CallChecks.{own_are_checks}
+use Rattle.cm_stream.proofs.TableSteps.{refusals_are_told}
 use Rattle.cm_stream.proofs.laws.refusals_are_told.Goals as goal
 
 pub returns-clause-refused : goal.returns-clause-refused
-returns-clause-refused c = λ e settings es h. all_refused settings.first_attempt es e (plain_passes settings es h)
+returns-clause-refused c = refusals_are_told
 
 pub returns-clause-own : goal.returns-clause-own
 returns-clause-own c = own_are_checks

@@ -1,11 +1,15 @@
-use Rattle.std.proofs.Common.{ap, ◌∙◌, ◌+◌}
-use Rattle.std.specs.Str.{chars}
-use Rattle.gk_line.specs.Cells.{units}
-use Rattle.gk_line.proofs.UnitLemmas.{meanings, units-trimmed, leading-units}
+use Rattle.std.proofs.Common.{ap, sym, subst, ◌∙◌, ◌+◌}
+use Rattle.std.proofs.lemmas.Str.{IsUtf8-string_bytes}
+use Rattle.std.specs.Str.{chars, IsUtf8}
+use Rattle.gk_line.specs.Cells.{units, meanings}
+use Rattle.gk_line.proofs.UnitLemmas.{units-trimmed, leading-units}
 use Rattle.gk_line.proofs.rows.cell.Goals as goal
 
-pub returns : goal.returns
-returns c =
+pub returns-clause-value : goal.returns-clause-value
+returns-clause-value c =
     let value = ap chars c.from.ensures ∙ c.in_ok-unescape.ensures ∙ ap (λ q. meanings (units q)) c.trim.ensures ∙ ap meanings (units-trimmed (chars c.args.part.now)) in
     let space = c.leading_space.ensures.value ∙ leading-units (chars c.args.part.now) in
     λ i. record { value = value i; column = c.args.column + space i }
+
+pub returns-clause-utf8 : goal.returns-clause-utf8
+returns-clause-utf8 c = subst IsUtf8 (sym c.from.ensures) (IsUtf8-string_bytes c.in_ok-unescape.field-0)

@@ -3,9 +3,9 @@ use Rattle.std.specs.Prelude.{if◌then◌else◌}
 use Rattle.std.specs.Str.{chars}
 use Rattle.std.specs.String.{string_bytes}
 use Rattle.std.proofs.lemmas.Str.{IsUtf8-string_bytes}
-use Rattle.gk_line.specs.Cells.{units}
+use Rattle.gk_line.specs.Cells.{units, meanings}
 use Rattle.gk_line.proofs.TextLemmas.{push_chars, push_twice, on_ok_same}
-use Rattle.gk_line.proofs.UnitLemmas.{meanings, alone_means, pair_means, two_mean, escaped_scalar}
+use Rattle.gk_line.proofs.UnitLemmas.{alone_means, pair_means, two_mean, escaped_scalar}
 use Rattle.gk_line.proofs.rows.push_unit.Goals as goal
 use Rattle.gk_line.specs.Characters.{backslash}
 

@@ -6,8 +6,8 @@ use Rattle.std.proofs.lemmas.Str.{chars-nil, IsUtf8-string_bytes}
 use Rattle.std.proofs.lemmas.Bool.{ne_eqb}
 use Rattle.std.specs.Str.{chars}
 use Rattle.std.specs.String.{string_bytes}
-use Rattle.gk_line.specs.Cells.{units}
-use Rattle.gk_line.proofs.UnitLemmas.{meanings, run, units-run, turn_slash, turn_unit, turn_end}
+use Rattle.gk_line.specs.Cells.{units, meanings}
+use Rattle.gk_line.proofs.UnitLemmas.{run, units-run, turn_slash, turn_unit, turn_end}
 use Rattle.gk_line.proofs.TextLemmas.{grown_chars}
 use Rattle.gk_line.proofs.rows.unescape.Goals as goal
 use Rattle.gk_line.specs.Characters.{backslash}

@@ -1,5 +1,5 @@
 use Rattle.std.proofs.Common.{drop}
-use Rattle.gk_pickle.specs.OneReading.{HaveNoBracket}
+use Rattle.gk_pickle.specs.SinglePass.{HaveNoBracket}
 use Rattle.gk_pickle.proofs.columns.have_no_bracket.Given as goal
 
 abbrev pub invariant-loop-cell : goal.invariant-loop-cell

@@ -1,5 +1,5 @@
 use Rattle.std.proofs.Common.{◌≡◌, ℕ, List, take}
-use Rattle.gk_pickle.specs.OneReading.{columns_named}
+use Rattle.gk_pickle.specs.SinglePass.{columns_named}
 use Rattle.gk_pickle.specs.Columns.{columns_at}
 use Rattle.gk_pickle.proofs.columns.named.Given as goal
 

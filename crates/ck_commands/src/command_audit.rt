@@ -1,0 +1,195 @@
+//! The command `audit`: the verdict on a stream.
+ghost use Rattle.std.specs.Prelude.{◌≡◌, ◌≢◌, IfOk, IfSome, string_bytes};
+ghost use Rattle.cm_envelope.specs.Reading.{fault_named, field};
+ghost use Rattle.cm_stream.specs.Findings.{IsBad, IsUnsupported, named};
+ghost use Rattle.cm_stream.specs.Stream.{answer_for, answered, first_fault};
+ghost use Rattle.ck_commands.specs.Output.{PrintsOrNoMemory, Undisturbed, code_of};
+ghost use Rattle.ck_commands.specs.Verdicts.{IsGoodSomehow, counts_text, fault_label, finding_text};
+ghost use Rattle.ck_commands.specs.Verdicts.{line_label, plain_counts_text, reason_label, unrun_text};
+ghost use Rattle.ck_commands.specs.Verdicts.{verdict_report};
+
+use crate::output::{ExitStatus, Report, trouble_text, write_report};
+use cm_attempt::Settings;
+use cm_audit::audit_run;
+use cm_envelope::{ByteSink, ByteSource, LineFault, Trouble};
+use cm_stream::{Audited, Bad, Counts, Reason, Verdict};
+use std::alloc::{AllocError, Global};
+
+fn field_text(alloc: Global, kind: &str, member: &str) -> Result<String, AllocError>
+    ensures { IfOk result (λ text. string_bytes text ≡ line_label (field kind.now member.now)) }
+{
+    let text = format!(in alloc; "3 Field {kind}.{member}")?;
+    Ok(text)
+}
+
+// The number and the name of what is wrong with a line, and for a bad member its kind of envelope and its name.
+fn line_text(alloc: Global, fault: LineFault) -> Result<String, AllocError>
+    ensures { IfOk result (λ text. string_bytes text ≡ line_label (fault_named fault)) }
+{
+    match fault {
+        LineFault::NotJson => String::from_str(alloc, "1 NotJson"),
+        LineFault::Shape => String::from_str(alloc, "2 Shape"),
+        LineFault::Field(kind, member) => field_text(alloc, kind, member),
+    }
+}
+
+// The number and the name of a fault.
+fn fault_text(alloc: Global, fault: Bad) -> Result<String, AllocError>
+    ensures { IfOk result (λ text. string_bytes text ≡ fault_label (named fault)) }
+{
+    let label = match fault {
+        Bad::NoEnvelope(fault) => return line_text(alloc, fault),
+        Bad::DuplicateId => "4 DuplicateId",
+        Bad::DuplicateUri => "5 DuplicateUri",
+        Bad::UnknownReference => "6 UnknownReference",
+        Bad::DocumentOfRefusedSource => "7 DocumentOfRefusedSource",
+        Bad::TreeDiffers => "8 TreeDiffers",
+        Bad::PickleDiffers => "9 PickleDiffers",
+        Bad::ParseErrorOfGoodSource => "10 ParseErrorOfGoodSource",
+        Bad::CaseStepsDiffer => "11 CaseStepsDiffer",
+        Bad::AttemptNumber => "12 AttemptNumber",
+        Bad::AttemptOverlap => "13 AttemptOverlap",
+        Bad::StepOrder => "14 StepOrder",
+        Bad::FinishedEarly => "15 FinishedEarly",
+        Bad::SecondRunStarted => "16 SecondRunStarted",
+        Bad::OutsideRun => "17 OutsideRun",
+        Bad::AfterRunFinished => "18 AfterRunFinished",
+        Bad::AttemptOpen => "19 AttemptOpen",
+        Bad::SourceIncomplete => "20 SourceIncomplete",
+        Bad::SuccessDiffers => "21 SuccessDiffers",
+        Bad::NoRunFinished => "22 NoRunFinished",
+        Bad::RunHookOpen => "23 RunHookOpen",
+        Bad::RunHookTwice => "24 RunHookTwice",
+    };
+    Ok(String::from_str(alloc, label)?)
+}
+
+fn reason_name(reason: Reason) -> &'static str
+    ensures { result.now ≡ reason_label reason }
+{
+    match reason {
+        Reason::Language => "1 Language",
+        Reason::MediaType => "2 MediaType",
+        Reason::UnknownStatus => "3 UnknownStatus",
+        Reason::SourceTooLong => "5 SourceTooLong",
+    }
+}
+
+fn plain_text(alloc: Global, counts: Counts) -> Result<String, AllocError>
+    ensures { IfOk result (λ text. string_bytes text ≡ plain_counts_text counts) }
+{
+    let Counts {
+        sources,
+        pickles,
+        cases,
+        attempts,
+        ..
+    } = counts;
+    let text = format!(in alloc;
+        "good sources={sources} pickles={pickles} cases={cases} attempts={attempts}"
+    )?;
+    Ok(text)
+}
+
+// The pickles that no case names, where there are any.
+fn unrun_part(alloc: Global, unrun: u64) -> Result<String, AllocError>
+    ensures { IfOk result (λ text. string_bytes text ≡ unrun_text unrun) }
+{
+    if unrun == 0 {
+        return Ok(String::new(alloc));
+    }
+    let text = format!(in alloc; " unrun={unrun}")?;
+    Ok(text)
+}
+
+fn good_text(alloc: Global, counts: Counts) -> Result<String, AllocError>
+    ensures { IfOk result (λ text. string_bytes text ≡ counts_text counts) }
+{
+    let mut text = plain_text(alloc, counts)?;
+    text.push_str(unrun_part(alloc, counts.unrun)?.as_str())?;
+    text.push_str("\n")?;
+    Ok(text)
+}
+
+fn bad_text(alloc: Global, line: u64, fault: Bad) -> Result<String, AllocError>
+    ensures { IfOk result (λ text. string_bytes text ≡ finding_text line (IsBad (named fault))) }
+{
+    let label = fault_text(alloc, fault)?;
+    let text = format!(in alloc; "bad line {line}: {label}\n")?;
+    Ok(text)
+}
+
+fn unsupported_text(alloc: Global, line: u64, reason: Reason) -> Result<String, AllocError>
+    ensures { IfOk result (λ text. string_bytes text ≡ finding_text line (IsUnsupported reason)) }
+{
+    let label = reason_name(reason);
+    let text = format!(in alloc; "unsupported line {line}: {label}\n")?;
+    Ok(text)
+}
+
+/// The text of what an audit answered.
+fn verdict_text(alloc: Global, answer: &Result<Audited, Trouble>) -> Result<String, AllocError>
+    ensures { IfOk result (λ text. string_bytes text
+        ≡ (verdict_report (answered answer.now)).text) }
+{
+    match answer {
+        Ok(audited) => match audited.verdict {
+            Verdict::Good(counts) => good_text(alloc, counts),
+            Verdict::Bad { line, fault } => bad_text(alloc, line, fault),
+            Verdict::Unsupported { line, reason } => unsupported_text(alloc, line, reason),
+        },
+        Err(trouble) => trouble_text(alloc, *trouble),
+    }
+}
+
+/// The status of what an audit answered.
+fn verdict_status(answer: &Result<Audited, Trouble>) -> ExitStatus
+    ensures { result ≡ (verdict_report (answered answer.now)).status }
+{
+    match answer {
+        Ok(audited) => match audited.verdict {
+            Verdict::Good(_) => ExitStatus::Done,
+            Verdict::Bad { .. } => ExitStatus::Refused,
+            Verdict::Unsupported { .. } => ExitStatus::Unsupported,
+        },
+        Err(_) => ExitStatus::Trouble,
+    }
+}
+
+/// The report of what an audit answered.
+pub(crate) fn verdict_report(
+    alloc: Global,
+    answer: &Result<Audited, Trouble>,
+) -> Result<Report, AllocError>
+    ensures text { IfOk result (λ report. string_bytes report.text
+        ≡ (verdict_report (answered answer.now)).text) }
+    ensures status { IfOk result (λ report. report.status
+        ≡ (verdict_report (answered answer.now)).status) }
+{
+    let status = verdict_status(answer);
+    let text = verdict_text(alloc, answer)?;
+    Ok(Report { text, status })
+}
+
+/// Audits the source by the settings, prints the verdict, and gives the exit code.
+pub(crate) fn print_audit<R: ByteSource, W: ByteSink>(
+    alloc: Global,
+    settings: Settings,
+    source: &mut R,
+    sink: &mut W,
+) -> u8
+    ensures printed { Undisturbed (R.failed_calls source.old) (R.failed_calls source.new)
+        (W.failed_calls sink.old) (W.failed_calls sink.new)
+        → IfSome (R.to_come source.old) (λ bytes. PrintsOrNoMemory
+        (verdict_report (answer_for (first_fault settings bytes))) result (W.taken sink.old)
+        (W.taken sink.new)) }
+    ensures good { result ≡ code_of ExitStatus.Done
+        → IfSome (R.to_come source.old) (IsGoodSomehow settings) }
+    ensures unwritten { W.failed_calls sink.new ≢ W.failed_calls sink.old
+        → result ≡ code_of ExitStatus.Trouble }
+    ensures unread { result ≡ code_of ExitStatus.Done
+        → R.failed_calls source.new ≡ R.failed_calls source.old }
+{
+    let answer = audit_run(alloc, source, settings);
+    write_report(sink, verdict_report(alloc, &answer))
+}

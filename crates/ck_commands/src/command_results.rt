@@ -1,0 +1,74 @@
+//! The command `results`: the status of each test case of a stream.
+ghost use Rattle.std.specs.Prelude.{◌≡◌, ◌≢◌, IfOk, IfSome, string_bytes};
+ghost use Rattle.cm_stream.specs.Results.{first_fault};
+ghost use Rattle.ck_commands.specs.Outcome.{outcome_report, table_text};
+ghost use Rattle.ck_commands.specs.Output.{PrintsOrNoMemory, Undisturbed, code_of};
+ghost use Rattle.ck_commands.specs.Reading.{held_outcome};
+ghost use Rattle.ck_commands.specs.Results.{results_report};
+
+use crate::attempts::read_attempts;
+use crate::command_audit::verdict_report;
+use crate::output::{ExitStatus, Report, write_report};
+use crate::status_words::word_of;
+use cm_attempt::Track;
+use cm_audit::Audited;
+use cm_envelope::{ByteSink, ByteSource, Trouble};
+use std::alloc::{AllocError, Global};
+
+// One line for each case, in order of declaration.
+fn table_text(alloc: Global, attempts: &Track) -> Result<String, AllocError>
+    ensures { IfOk result (λ text. string_bytes text ≡ table_text attempts.now) }
+{
+    let results = attempts.results()?;
+    let mut text = String::new(alloc);
+    for case in &results {
+        text.push_str(case.id)?;
+        text.push_str(" ")?;
+        text.push_str(word_of(case.status))?;
+        text.push_str("\n")?;
+    }
+    Ok(text)
+}
+
+// The report of a stream that was read.
+fn report_of(
+    alloc: Global,
+    read: &Result<Track, Result<Audited, Trouble>>,
+) -> Result<Report, AllocError>
+    ensures text { IfOk result (λ report. string_bytes report.text
+        ≡ (outcome_report (held_outcome read.now)).text) }
+    ensures status { IfOk result (λ report. report.status
+        ≡ (outcome_report (held_outcome read.now)).status) }
+{
+    match read {
+        Ok(attempts) => Ok(Report {
+            text: table_text(alloc, attempts)?,
+            status: ExitStatus::Done,
+        }),
+        Err(answer) => verdict_report(alloc, answer),
+    }
+}
+
+/// Prints the results of the source's test cases, of each of which the first attempt has the number `first_attempt`, and gives
+/// the exit code.
+pub(crate) fn print_results<R: ByteSource, W: ByteSink>(
+    alloc: Global,
+    first_attempt: u64,
+    source: &mut R,
+    sink: &mut W,
+) -> u8
+    ensures printed { Undisturbed (R.failed_calls source.old) (R.failed_calls source.new)
+        (W.failed_calls sink.old) (W.failed_calls sink.new)
+        → IfSome (R.to_come source.old) (λ bytes. PrintsOrNoMemory
+        (results_report (first_fault first_attempt bytes)) result (W.taken sink.old)
+        (W.taken sink.new)) }
+    ensures unwritten { W.failed_calls sink.new ≢ W.failed_calls sink.old
+        → result ≡ code_of ExitStatus.Trouble }
+    ensures unread { result ≡ code_of ExitStatus.Done
+        → R.failed_calls source.new ≡ R.failed_calls source.old }
+{
+    let read = read_attempts(alloc, first_attempt, source);
+    let report = report_of(alloc, &read);
+    drop(read);
+    write_report(sink, report)
+}

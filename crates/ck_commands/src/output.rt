@@ -1,0 +1,123 @@
+//! What a command prints, and the status that it ends with.
+ghost use Rattle.std.specs.Prelude.{◌≡◌, ◌≢◌, ◌≤◌, ◌⊎◌, IfOk, string_bytes};
+ghost use Rattle.std.specs.Io.KnownBytes.{Appends};
+ghost use Rattle.cm_envelope.specs.Device.{greatest_count};
+ghost use Rattle.ck_commands.specs.Output.{NoneFailed, Prints, code_of, report_made};
+ghost use Rattle.ck_commands.specs.Output.{trouble_name, trouble_report};
+
+use cm_envelope::{ByteSink, DeviceFailed, Trouble, write_all};
+use std::alloc::{AllocError, Global};
+
+/// How a run of the program ends.
+#[derive(Clone, Copy, Debug, PartialEq, Eq)]
+pub enum ExitStatus {
+    /// It did what it was asked: a stream is good, a run may be released, a feature file or help is printed.
+    Done,
+    /// A line of the stream is bad, or the feature file is refused.
+    Refused,
+    /// The arguments ask for no command.
+    Usage,
+    /// A read or a write failed, memory was refused, or the input is beyond a limit or no text.
+    Trouble,
+    /// The stream is not judged.
+    Unsupported,
+    /// The stream is good, and its run isn't to be released.
+    Held,
+}
+
+impl ExitStatus {
+    /// The number that the program exits with.
+    pub fn code(self) -> u8
+        ensures { result ≡ code_of self }
+    {
+        match self {
+            ExitStatus::Done => 0,
+            ExitStatus::Refused => 1,
+            ExitStatus::Usage => 2,
+            ExitStatus::Trouble => 3,
+            ExitStatus::Unsupported => 4,
+            ExitStatus::Held => 5,
+        }
+    }
+}
+
+/// What a command prints, and its status.
+#[derive(Drop)]
+pub(crate) struct Report {
+    pub text: String,
+    pub status: ExitStatus,
+}
+
+fn name_of(trouble: Trouble) -> &'static str
+    ensures { result.now ≡ trouble_name trouble }
+{
+    match trouble {
+        Trouble::ReadFailed => "ReadFailed",
+        Trouble::LineTooLong => "LineTooLong",
+        Trouble::StreamTooLong => "StreamTooLong",
+        Trouble::Memory => "Memory",
+    }
+}
+
+/// The text that says why no further line could be read.
+pub(crate) fn trouble_text(alloc: Global, reason: Trouble) -> Result<String, AllocError>
+    ensures { IfOk result (λ text. string_bytes text ≡ (trouble_report reason).text) }
+{
+    let name = name_of(reason);
+    let text = format!(in alloc; "trouble {name}\n")?;
+    Ok(text)
+}
+
+/// Tries to write `trouble WriteFailed`, as far as the sink takes it.
+pub(crate) fn write_trouble<W: ByteSink>(sink: &mut W) -> u8
+    ensures status { result ≡ code_of ExitStatus.Trouble }
+    ensures counted { W.failed_calls sink.old ≤ greatest_count
+        → W.failed_calls sink.old ≤ W.failed_calls sink.new }
+{
+    if write_all(sink, b"trouble WriteFailed\n").is_ok() {
+        let _ = sink.flush().is_ok();
+    }
+    ExitStatus::Trouble.code()
+}
+
+/// Writes the text and flushes it, and gives the status's code, or that of trouble where a write or the flush failed. After a
+/// failed write it tries to write `trouble WriteFailed`, as far as the sink takes it.
+pub(crate) fn write_text<W: ByteSink>(sink: &mut W, text: &str, status: ExitStatus) -> u8
+    ensures written { NoneFailed (W.failed_calls sink.old) (W.failed_calls sink.new)
+        → (result ≡ code_of status) × Appends (W.taken sink.old) (W.taken sink.new) text.now }
+    ensures failed { W.failed_calls sink.new ≢ W.failed_calls sink.old
+        → result ≡ code_of ExitStatus.Trouble }
+    ensures status { (result ≡ code_of status) ⊎ (result ≡ code_of ExitStatus.Trouble) }
+{
+    match write_all(sink, text.as_bytes()) {
+        Ok(()) => match sink.flush() {
+            Ok(()) => status.code(),
+            Err(DeviceFailed) => ExitStatus::Trouble.code(),
+        },
+        Err(DeviceFailed) => write_trouble(sink),
+    }
+}
+
+/// Writes that there was no memory.
+pub(crate) fn write_no_memory<W: ByteSink>(sink: &mut W) -> u8
+    ensures written { NoneFailed (W.failed_calls sink.old) (W.failed_calls sink.new)
+        → Prints (trouble_report Trouble.Memory) result (W.taken sink.old) (W.taken sink.new) }
+    ensures status { result ≡ code_of ExitStatus.Trouble }
+{
+    write_text(sink, "trouble Memory\n", ExitStatus::Trouble)
+}
+
+/// Writes the report, or that there was no memory for one.
+pub(crate) fn write_report<W: ByteSink>(sink: &mut W, report: Result<Report, AllocError>) -> u8
+    ensures written { NoneFailed (W.failed_calls sink.old) (W.failed_calls sink.new)
+        → Prints (report_made report) result (W.taken sink.old) (W.taken sink.new) }
+    ensures failed { W.failed_calls sink.new ≢ W.failed_calls sink.old
+        → result ≡ code_of ExitStatus.Trouble }
+    ensures status { (result ≡ code_of (report_made report).status)
+        ⊎ (result ≡ code_of ExitStatus.Trouble) }
+{
+    match report {
+        Ok(report) => write_text(sink, report.text.as_str(), report.status),
+        Err(AllocError) => write_no_memory(sink),
+    }
+}

@@ -1,6 +1,0 @@
-use Rattle.std.proofs.Common.{◌≡◌, map}
-use Rattle.std.specs.String.{string_bytes}
-use Rattle.cm_audit.proofs.judge_cases.step_ids.Given as goal
-
-abbrev pub invariant-loop-step : goal.invariant-loop-step
-invariant-loop-step l = map string_bytes l.ids.items ≡ map (λ step. step.id) l.yielded

@@ -1,0 +1,147 @@
+//! The record of attempts, and what each envelope changes in it.
+ghost use Rattle.std.specs.Prelude.{◌≡◌, ◌⊎◌, IsErrAnd, IsOkUnless, MatchOption, OnErr, OnOk, map};
+ghost use Rattle.cm_attempt.specs.Table.{add_case_fault, with_case};
+ghost use Rattle.cm_stream.specs.Refusals.{refused};
+ghost use Rattle.cm_stream.specs.Record.{changed};
+ghost use Rattle.cm_stream.specs.Statuses.{kept_status as kept};
+ghost use Rattle.cm_audit.specs.Record.{AnswersRefusal};
+
+use crate::ids::step_ids;
+use cm_attempt::{Status, Track, TrackFault};
+use cm_envelope::{
+    Envelope, Status as LineStatus, TestCase, TestCaseFinished, TestCaseStarted, TestStep,
+    TestStepFinished, TestStepStarted,
+};
+use gk_document::{Sequence, Text};
+use std::alloc::Global;
+
+/// The status that the record of attempts keeps of a line's status.
+pub fn kept_status(status: LineStatus) -> Status
+    ensures { result ≡ kept status }
+{
+    match status {
+        LineStatus::Unknown => Status::Unknown,
+        LineStatus::Passed => Status::Passed,
+        LineStatus::Skipped => Status::Skipped,
+        LineStatus::Pending => Status::Pending,
+        LineStatus::Undefined => Status::Undefined,
+        LineStatus::Ambiguous => Status::Ambiguous,
+        LineStatus::Failed => Status::Failed,
+    }
+}
+
+/// A test case is declared with its steps, in order.
+///
+/// # Errors
+/// Those of `Track::add_case`.
+pub(crate) fn add_case(
+    alloc: Global,
+    attempts: &mut Track,
+    id: &Text,
+    steps: Sequence<TestStep>,
+) -> Result<(), TrackFault>
+    ensures answer { MatchOption
+        (add_case_fault attempts.old id.now (map (λ step. step.id) steps))
+        (IsOkUnless result TrackFault.Memory)
+        (λ fault. IsErrAnd result (λ e. (e ≡ fault) ⊎ (e ≡ TrackFault.Memory))) }
+    ensures ok { OnOk result (attempts.new
+        ≡ with_case id.now (map (λ step. step.id) steps) attempts.old) }
+    ensures err { OnErr result (attempts.new ≡ attempts.old) }
+{
+    let steps = step_ids(alloc, steps)?;
+    attempts.add_case(id.as_str(), steps.as_slice())
+}
+
+/// An attempt starts.
+///
+/// # Errors
+/// Those of `Track::start`.
+pub(crate) fn start_attempt(
+    attempts: &mut Track,
+    started: &TestCaseStarted,
+) -> Result<(), TrackFault>
+    ensures answer { AnswersRefusal (Envelope.TestCaseStarted started.now)
+        (refused attempts.old (Envelope.TestCaseStarted started.now)) result }
+    ensures ok { OnOk result (attempts.new
+        ≡ changed attempts.old (Envelope.TestCaseStarted started.now)) }
+    ensures err { OnErr result (attempts.new ≡ attempts.old) }
+{
+    let case = started.test_case_id.as_str();
+    attempts.start(started.id.as_str(), case, started.attempt)
+}
+
+/// A step of an attempt starts.
+///
+/// # Errors
+/// Those of `Track::step_started`.
+pub(crate) fn start_step(attempts: &mut Track, started: &TestStepStarted) -> Result<(), TrackFault>
+    ensures answer { AnswersRefusal (Envelope.TestStepStarted started.now)
+        (refused attempts.old (Envelope.TestStepStarted started.now)) result }
+    ensures ok { OnOk result (attempts.new
+        ≡ changed attempts.old (Envelope.TestStepStarted started.now)) }
+    ensures err { OnErr result (attempts.new ≡ attempts.old) }
+{
+    let attempt = started.test_case_started_id.as_str();
+    attempts.step_started(attempt, started.test_step_id.as_str())
+}
+
+/// A step of an attempt finishes, and its status is kept.
+///
+/// # Errors
+/// Those of `Track::step_finished`.
+pub(crate) fn finish_step(
+    attempts: &mut Track,
+    finished: &TestStepFinished,
+) -> Result<(), TrackFault>
+    ensures answer { AnswersRefusal (Envelope.TestStepFinished finished.now)
+        (refused attempts.old (Envelope.TestStepFinished finished.now)) result }
+    ensures ok { OnOk result (attempts.new
+        ≡ changed attempts.old (Envelope.TestStepFinished finished.now)) }
+    ensures err { OnErr result (attempts.new ≡ attempts.old) }
+{
+    let attempt = finished.test_case_started_id.as_str();
+    let step = finished.test_step_id.as_str();
+    let status = kept_status(finished.test_step_result.status);
+    attempts.step_finished(attempt, step, status)
+}
+
+/// An attempt finishes.
+///
+/// # Errors
+/// Those of `Track::finish`.
+pub(crate) fn finish_attempt(
+    attempts: &mut Track,
+    finished: &TestCaseFinished,
+) -> Result<(), TrackFault>
+    ensures answer { AnswersRefusal (Envelope.TestCaseFinished finished.now)
+        (refused attempts.old (Envelope.TestCaseFinished finished.now)) result }
+    ensures ok { OnOk result (attempts.new
+        ≡ changed attempts.old (Envelope.TestCaseFinished finished.now)) }
+    ensures err { OnErr result (attempts.new ≡ attempts.old) }
+{
+    let attempt = finished.test_case_started_id.as_str();
+    attempts.finish(attempt, finished.will_be_retried)
+}
+
+/// Takes an envelope into the record of attempts: a test case, or the start or the end of an attempt or of one of its steps.
+/// An envelope of any other kind changes nothing.
+///
+/// # Errors
+/// Why the record refuses it, or `Memory`. The record is then as it was.
+pub fn track(alloc: Global, attempts: &mut Track, envelope: Envelope) -> Result<(), TrackFault>
+    ensures answer { AnswersRefusal envelope (refused attempts.old envelope) result }
+    ensures ok { OnOk result (attempts.new ≡ changed attempts.old envelope) }
+    ensures err { OnErr result (attempts.new ≡ attempts.old) }
+{
+    match envelope {
+        Envelope::TestCase(case) => {
+            let TestCase { id, test_steps, .. } = case;
+            add_case(alloc, attempts, &id, test_steps)
+        }
+        Envelope::TestCaseStarted(started) => start_attempt(attempts, &started),
+        Envelope::TestStepStarted(started) => start_step(attempts, &started),
+        Envelope::TestStepFinished(finished) => finish_step(attempts, &finished),
+        Envelope::TestCaseFinished(finished) => finish_attempt(attempts, &finished),
+        _ => Ok(()),
+    }
+}

@@ -1,0 +1,157 @@
+//! The lines that begin with a keyword, a fence or a language mark: titles, steps, doc string fences and language lines.
+ghost use Rattle.std.specs.Prelude.{◌≡◌, ◌≤◌, ◌++◌, ℕ, length, find, codes, IfSome};
+ghost use Rattle.std.specs.List.{list_any, list_all};
+ghost use Rattle.std.specs.Str.{chars, bytes_eq, IsUtf8};
+ghost use Rattle.std.specs.Option.{option_map};
+ghost use Rattle.gk_line.specs.declared.limit.TheConstants.{FEATURE_LIMIT};
+ghost use Rattle.gk_line.specs.DocStrings.{fence_characters};
+ghost use Rattle.gk_line.specs.Places.{StandsAt};
+ghost use Rattle.gk_line.specs.Tokens.{title_of, step_of, fence_of, language_of, keywords, step_words, is_language_word, is_word_character};
+ghost use Rattle.gk_line.specs.Views.{line_chars, title_text, step_text, fence_text};
+
+use crate::kinds::column;
+use crate::texts::{cut, strip, trim, trim_start};
+use crate::tokens::{Block, FenceLine, Line, StepLine, Title};
+use gk_document::{Fence, KeywordType};
+
+/// The title of this block that the line reads as: after its indent one of the block's keywords, at once a colon, and
+/// the name.
+///
+/// Source: Gherkin reference, "Keywords"; `gherkin.berp`, `FeatureLine` to `ExamplesLine`.
+pub fn title<'a>(line: Line<'a>, block: Block) -> Option<Title<'a>>
+    requires { length line.text.now ≤ FEATURE_LIMIT }
+    ensures value { option_map title_text result ≡ title_of block (line_chars line.entry) }
+    ensures place { IfSome result (λ title. StandsAt (line_chars line.entry)
+        (chars title.keyword.now ++ codes ":") (chars title.name.now) title.column) }
+    ensures utf8 { IfSome result (λ title. IsUtf8 title.keyword.now × IsUtf8 title.name.now) }
+{
+    let (keyword, rest) = cut(trim_start(line.text), b':')?;
+    if !is_keyword(block, keyword) {
+        return None;
+    }
+    Some(Title {
+        keyword,
+        name: trim(rest),
+        column: column(line),
+    })
+}
+
+/// Whether the word is one of the keywords of the block.
+fn is_keyword(block: Block, word: &str) -> bool
+    ensures { result ≡ list_any (bytes_eq word.now) (keywords block) }
+{
+    match block {
+        Block::Feature => word == "Feature" || word == "Business Need" || word == "Ability",
+        Block::Rule => word == "Rule",
+        Block::Background => word == "Background",
+        Block::Scenario => {
+            word == "Example"
+                || word == "Scenario"
+                || word == "Scenario Outline"
+                || word == "Scenario Template"
+        }
+        Block::Examples => word == "Examples" || word == "Scenarios",
+    }
+}
+
+/// The step that the line reads as: after its indent a keyword, one space, and the text. A keyword at the end of the
+/// line, without its space, is no step.
+///
+/// Source: Gherkin reference, "Steps"; `gherkin.berp`, `StepLine`.
+pub fn step<'a>(line: Line<'a>) -> Option<StepLine<'a>>
+    requires { length line.text.now ≤ FEATURE_LIMIT }
+    ensures value { option_map step_text result ≡ step_of (line_chars line.entry) }
+    ensures place { IfSome result (λ step. StandsAt (line_chars line.entry)
+        (chars step.keyword.now) (chars step.text.now) step.column) }
+    ensures utf8 { IfSome result (λ step. IsUtf8 step.keyword.now × IsUtf8 step.text.now) }
+{
+    let body = trim_start(line.text);
+    let (word, text) = cut(body, b' ')?;
+    let kind = keyword_type(word)?;
+    Some(StepLine {
+        keyword: &body[..word.len() + 1],
+        kind,
+        text: trim(text),
+        column: column(line),
+    })
+}
+
+/// The type of the step keyword that is this word and a space.
+fn keyword_type(word: &str) -> Option<KeywordType>
+    ensures { result
+        ≡ option_map (λ entry. entry.1) (find (λ entry. bytes_eq word.now entry.0) step_words) }
+{
+    if word == "*" {
+        Some(KeywordType::Unknown)
+    } else if word == "Given" {
+        Some(KeywordType::Context)
+    } else if word == "When" {
+        Some(KeywordType::Action)
+    } else if word == "Then" {
+        Some(KeywordType::Outcome)
+    } else if word == "And" || word == "But" {
+        Some(KeywordType::Conjunction)
+    } else {
+        None
+    }
+}
+
+/// The fence that the line reads as: after its indent three quotation marks or three backticks, and the media type.
+///
+/// Source: Gherkin reference, "Doc Strings"; `gherkin.berp`, `DocStringSeparator`.
+#[tactic(auto, unfolding(crate::specs::Tokens::fence_of, crate::specs::Texts::first_some))]
+pub fn fence<'a>(line: Line<'a>) -> Option<FenceLine<'a>>
+    requires { length line.text.now ≤ FEATURE_LIMIT }
+    ensures value { option_map fence_text result ≡ fence_of (line_chars line.entry) }
+    ensures place { IfSome result (λ fence. StandsAt (line_chars line.entry)
+        (fence_characters fence.fence) (chars fence.media.now) fence.column) }
+    ensures utf8 { IfSome result (λ fence. IsUtf8 fence.media.now) }
+{
+    let body = trim_start(line.text);
+    if let Some(rest) = strip(body, "\"\"\"") {
+        return Some(FenceLine {
+            fence: Fence::Quotes,
+            media: trim(rest),
+            column: column(line),
+        });
+    }
+    let rest = strip(body, "```")?;
+    Some(FenceLine {
+        fence: Fence::Backticks,
+        media: trim(rest),
+        column: column(line),
+    })
+}
+
+/// The word of the language line that the line reads as: `#`, `language`, `:` and one or more ASCII letters, `-` or
+/// `_`, with any white space before, between and after them. Such a line is also a comment.
+///
+/// Source: Gherkin reference, "Spoken Languages"; `gherkin.berp`, `Language`.
+#[tactic(auto, unfolding(crate::specs::Tokens::language_of))]
+pub fn language<'a>(line: Line<'a>) -> Option<&'a str>
+    ensures value { option_map (λ word. chars word.now) result
+        ≡ language_of (line_chars line.entry) }
+    ensures place { IfSome result (λ word. (column : ℕ) × StandsAt (line_chars line.entry)
+        (codes ":") (chars word.now) column) }
+    ensures utf8 { IfSome result (λ word. IsUtf8 word.now) }
+{
+    let mark = strip(trim_start(line.text), "#")?;
+    let name = strip(trim_start(mark), "language")?;
+    let word = trim(strip(trim_start(name), ":")?);
+    if is_word(word) { Some(word) } else { None }
+}
+
+/// Whether the text is one or more ASCII letters, `-` or `_`.
+fn is_word(text: &str) -> bool
+    ensures { result ≡ is_language_word (chars text.now) }
+{
+    !text.is_empty() && has_word_characters_alone(text)
+}
+
+/// Whether each character of the text is an ASCII letter, `-` or `_`.
+fn has_word_characters_alone(text: &str) -> bool
+    ensures { result ≡ list_all is_word_character (chars text.now) }
+{
+    text.chars()
+        .all(|c| c.is_ascii_alphabetic() || c == '-' || c == '_')
+}

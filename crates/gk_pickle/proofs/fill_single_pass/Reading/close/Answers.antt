@@ -1,0 +1,6 @@
+use Rattle.gk_pickle.proofs.Opens.{popped, cut_behind}
+use Rattle.gk_pickle.proofs.fill_single_pass.Reading.close.Goals as goal
+
+pub range_from-name-requires : goal.range_from-name-requires
+range_from-name-requires c =
+    λ _. cut_behind _ _ c.in-Some.open _ c.as_str.ensures.value c.as_str.utf8 (popped _ _ _ _ c.in-Some.ensures.items c.self.invariant)

@@ -1,6 +1,0 @@
-use Rattle.gk_pickle.proofs.Opens.{popped, cut_behind}
-use Rattle.gk_pickle.proofs.one_reading.Reading.close.Goals as goal
-
-pub range_from-name-requires : goal.range_from-name-requires
-range_from-name-requires c =
-    λ _. cut_behind _ _ c.in-Some.open _ c.as_str.ensures.value c.as_str.utf8 (popped _ _ _ _ c.in-Some.ensures.items c.self.invariant)

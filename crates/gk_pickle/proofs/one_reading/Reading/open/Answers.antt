@@ -1,5 +1,0 @@
-use Rattle.gk_pickle.proofs.Opens.{stand_kept}
-use Rattle.gk_pickle.proofs.one_reading.Reading.open.Goals as goal
-
-pub invariant_of-self-in_err-push : goal.invariant_of-self-in_err-push
-invariant_of-self-in_err-push c = stand_kept _ _ _ _ _ c.in_ok-push_str.ensures.bytes c.in_err-push.ensures.items c.self.invariant

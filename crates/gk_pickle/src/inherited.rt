@@ -1,0 +1,97 @@
+//! What a scenario's pickles inherit of its feature and its rule, and what fills their texts.
+ghost use Rattle.std.specs.Prelude.{◌≡◌, ◌∷◌, [], IfOk};
+ghost use Rattle.gk_pickle.specs.Around.{unfilled};
+ghost use Rattle.gk_pickle.specs.Steps.{filled_by};
+
+use crate::columns::Columns;
+use crate::filling::fill_from;
+use gk_document::{Cell, Row, Sequence, Step, Tag, Text};
+use std::alloc::{AllocError, Global};
+use std::marker::Model;
+
+/// The tags of the feature and the rule, and the steps of their backgrounds.
+#[derive(Drop)]
+pub(crate) struct Around<'a> {
+    pub feature_tags: &'a [Tag],
+    pub rule_tags: &'a [Tag],
+    pub feature_steps: &'a [Step],
+    pub rule_steps: &'a [Step],
+}
+
+impl<'a> Model for Around<'a> {
+    ghost use Rattle.std.specs.Prelude.{◌++◌};
+    ghost use Rattle.gk_pickle.specs.Around.{Around as Surroundings};
+
+    ghost Value = { Surroundings };
+
+    ghost view = { λ a. record {
+      tags = a.feature_tags.now ++ a.rule_tags.now;
+      steps = a.feature_steps.now ++ a.rule_steps.now;
+    } };
+}
+
+/// What fills a text: a row under its header, and the row's node.
+#[derive(Drop)]
+pub(crate) struct Filling<'c, 'h, 'r> {
+    row: Option<(&'c Columns<'h>, &'r [Cell])>,
+    node: Option<u64>,
+}
+
+impl<'c, 'h, 'r> Model for Filling<'c, 'h, 'r> {
+    ghost use Rattle.std.specs.Prelude.{[]};
+    ghost use Rattle.std.specs.Option.{option_map_or, option_to_list};
+    ghost use Rattle.gk_pickle.specs.Around.{Filling as Filled};
+
+    ghost Value = { Filled };
+
+    ghost view = { λ f. record {
+      header = option_map_or (λ r. r.0.now) f.row [];
+      cells = option_map_or (λ r. r.1.now) f.row [];
+      rows = option_to_list f.node;
+    } };
+}
+
+impl<'c, 'h, 'r> Filling<'c, 'h, 'r> {
+    /// Where there are no examples.
+    pub(crate) fn none() -> Filling<'static, 'static, 'static>
+        ensures { result ≡ unfilled }
+    {
+        Filling {
+            row: None,
+            node: None,
+        }
+    }
+
+    /// Of one body row under its header's columns.
+    pub(crate) fn of_row(columns: &'c Columns<'h>, row: &'r Row) -> Filling<'c, 'h, 'r>
+        ensures { result
+            ≡ record { header = columns.now; cells = row.now.cells; rows = row.now.node ∷ [] } }
+    {
+        Filling {
+            row: Some((columns, row.cells.as_slice())),
+            node: Some(row.node),
+        }
+    }
+
+    /// The text, filled.
+    pub(crate) fn text(&self, alloc: Global, text: &str) -> Result<Text, AllocError>
+        ensures { IfOk result (λ t. t ≡ filled_by self.now text.now) }
+    {
+        match &self.row {
+            Some((columns, row)) => Ok(Text::from(fill_from(alloc, text, columns, row)?)),
+            None => Ok(Text::copy_of(alloc, text)?),
+        }
+    }
+
+    /// A node, and the row's where there is one.
+    pub(crate) fn nodes(&self, alloc: Global, node: u64) -> Result<Sequence<u64>, AllocError>
+        ensures { IfOk result (λ nodes. nodes ≡ node ∷ self.now.rows) }
+    {
+        let mut nodes = Sequence::new(alloc);
+        nodes.push(node)?;
+        if let Some(row) = self.node {
+            nodes.push(row)?;
+        }
+        Ok(nodes)
+    }
+}

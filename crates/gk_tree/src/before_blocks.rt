@@ -1,0 +1,125 @@
+//! The lines before the first block, and those after tags.
+ghost use Rattle.std.specs.Prelude.{◌≡◌, ◌<◌, ◌^◌};
+ghost use Rattle.gk_grammar.specs.Grammar.{english};
+ghost use Rattle.gk_grammar.specs.Machine as machine;
+ghost use Rattle.gk_tree.specs.Views.{text_of, line_at, phase_of, head_of, made, state_in, Gives};
+
+use crate::blocks::{follows, title_line};
+use crate::fault::ParseFault;
+use crate::headings::{
+    add_tags, fault, keep_comment_and_stay, location, open_block, spaced_tag, unexpected,
+};
+use crate::state::{Phase, Progress};
+use crate::token::{IndentedLine, Token};
+use gk_document::{Sequence, Tag};
+use gk_grammar::FaultKind;
+use gk_line::Block;
+use std::alloc::Global;
+
+/// Before the first block, after the language line or not.
+fn head<'a>(has_language: bool) -> Phase<'a>
+    ensures { phase_of result ≡ head_of has_language }
+{
+    if has_language {
+        Phase::AfterLanguage
+    } else {
+        Phase::Start
+    }
+}
+
+/// A line before the first tag line or feature line.
+fn before_first_block<'a>(
+    alloc: Global,
+    progress: &mut Progress,
+    has_language: bool,
+    at: IndentedLine<'a>,
+    token: Token<'a>,
+) -> Result<Phase<'a>, ParseFault>
+    requires room { progress.old.nodes < 2 ^ 63 }
+    ensures { Gives (state_in progress.new) result
+        (machine.before_first_block (made progress.old) (head_of has_language)
+        (line_at at.entry token.entry)) }
+{
+    match token {
+        Token::Blank => Ok(head(has_language)),
+        Token::Comment => keep_comment_and_stay(alloc, progress, head(has_language), at),
+        Token::Tags(words) => add_tags(alloc, progress, None, Sequence::new(alloc), at, words),
+        Token::SpacedTag(column) => Err(spaced_tag(at, column)),
+        Token::Title(block, title) => title_line(alloc, progress, None, block, at, title),
+        _ => Err(unexpected(at)),
+    }
+}
+
+/// A line before the first tag line, feature line or language line.
+pub(crate) fn at_start<'a>(
+    alloc: Global,
+    progress: &mut Progress,
+    at: IndentedLine<'a>,
+    token: Token<'a>,
+) -> Result<Phase<'a>, ParseFault>
+    requires room { progress.old.nodes < 2 ^ 63 }
+    ensures { Gives (state_in progress.new) result
+        (machine.at_start (made progress.old) (line_at at.entry token.entry)) }
+{
+    if let Token::Language(word) = token {
+        if !is_english(word) {
+            return Err(fault(FaultKind::UnsupportedLanguage, location(at)));
+        }
+        return Ok(Phase::AfterLanguage);
+    }
+    before_first_block(alloc, progress, false, at, token)
+}
+
+fn is_english(word: &str) -> bool
+    ensures { result ≡ machine.same_text (text_of word.now) english }
+{
+    word == "en"
+}
+
+/// A line after the language line, before the first tag line or feature line.
+pub(crate) fn after_language<'a>(
+    alloc: Global,
+    progress: &mut Progress,
+    at: IndentedLine<'a>,
+    token: Token<'a>,
+) -> Result<Phase<'a>, ParseFault>
+    requires room { progress.old.nodes < 2 ^ 63 }
+    ensures { Gives (state_in progress.new) result
+        (machine.after_language (made progress.old) (line_at at.entry token.entry)) }
+{
+    if let Token::Language(_) = token {
+        return keep_comment_and_stay(alloc, progress, Phase::AfterLanguage, at);
+    }
+    before_first_block(alloc, progress, true, at, token)
+}
+
+/// A line after tag lines.
+pub(crate) fn after_tags<'a>(
+    alloc: Global,
+    progress: &mut Progress,
+    before: Option<Block>,
+    tags: Sequence<Tag>,
+    at: IndentedLine<'a>,
+    token: Token<'a>,
+) -> Result<Phase<'a>, ParseFault>
+    requires room { progress.old.nodes < 2 ^ 63 }
+    ensures { Gives (state_in progress.new) result
+        (machine.after_tags (made progress.old) before tags (line_at at.entry token.entry)) }
+{
+    match token {
+        Token::Blank => Ok(Phase::AfterTags(before, tags)),
+        Token::Comment | Token::Language(_) => {
+            keep_comment_and_stay(alloc, progress, Phase::AfterTags(before, tags), at)
+        }
+        Token::Tags(words) => add_tags(alloc, progress, before, tags, at, words),
+        Token::SpacedTag(column) => Err(spaced_tag(at, column)),
+        Token::Title(block, title) => {
+            if follows(before, block) && block != Block::Background {
+                open_block(alloc, progress, block, tags, at, title)
+            } else {
+                Err(unexpected(at))
+            }
+        }
+        _ => Err(unexpected(at)),
+    }
+}
