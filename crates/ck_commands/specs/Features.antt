@@ -2,7 +2,7 @@
 use Rattle.std.specs.Prelude.{◌≡◌, ◌<◌, ◌≤◌, ◌⊎◌, ⊤, ℕ, List, [], ◌∷◌, ◌++◌, length, Bool, true, false, Result, Ok, Err, codes, decimal}
 use Rattle.std.specs.Str.{IsUtf8}
 use Rattle.cm_envelope.specs.Lines.{line_feed}
-use Rattle.gk_grammar.specs.Documents.{IsDocumentOf, HasFault, IsTooLong, byte_limit}
+use Rattle.gk_grammar.specs.Documents.{IsDocumentOf, HasFault, IsTooLong, max_bytes}
 use Rattle.gk_grammar.specs.Tree.{Document}
 use Rattle.gk_grammar.specs.declared.fault.FaultKind.{FaultKind}
 use Rattle.gk_grammar.specs.declared.fault.FaultKind.TheVariants as kind
@@ -24,11 +24,11 @@ pub record IsReadable (bytes : List ℕ) : Type 0 where
 
 -- more bytes than a text may have, or a text that is too long
 abbrev pub HasTooMany : List ℕ → Type 0
-HasTooMany bytes = (byte_limit < length bytes) ⊎ (IsUtf8 bytes × IsTooLong bytes)
+HasTooMany bytes = (max_bytes < length bytes) ⊎ (IsUtf8 bytes × IsTooLong bytes)
 
 -- few enough, but no text
 abbrev pub IsNoText : List ℕ → Type 0
-IsNoText bytes = (length bytes ≤ byte_limit) × (IsUtf8 bytes → ⊥)
+IsNoText bytes = (length bytes ≤ max_bytes) × (IsUtf8 bytes → ⊥)
 
 -- why a feature file is refused: it is too long, or its text has the fault
 abbrev pub IsRefused : List ℕ → ParseFault → Type 0

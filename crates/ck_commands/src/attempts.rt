@@ -9,7 +9,7 @@ use cm_audit::{Audited, Stop, audited_at, track};
 use cm_envelope::{ByteSource, Feed, Trouble, is_blank_line, read_envelope};
 use std::alloc::Global;
 
-// Takes a line: the call of the record that its envelope stands for, if it does for one.
+// Takes a line: the call of the record that its envelope makes, if it makes one.
 fn take_line(alloc: Global, attempts: &mut Track, line: &[u8]) -> Result<(), Stop>
     ensures { LeavesTable (after_line attempts.old line.now) attempts.new result }
 {

@@ -12,7 +12,7 @@ use crate::output::{ExitStatus, Report, trouble_text, write_report};
 use cm_attempt::Settings;
 use cm_audit::audit_run;
 use cm_envelope::{ByteSink, ByteSource, LineFault, Trouble};
-use cm_stream::{Audited, Bad, Counts, Reason, Verdict};
+use cm_stream::{Audited, Counts, Reason, StreamFault, Verdict};
 use std::alloc::{AllocError, Global};
 
 fn field_text(alloc: Global, kind: &str, member: &str) -> Result<String, AllocError>
@@ -34,32 +34,32 @@ fn line_text(alloc: Global, fault: LineFault) -> Result<String, AllocError>
 }
 
 // The number and the name of a fault.
-fn fault_text(alloc: Global, fault: Bad) -> Result<String, AllocError>
+fn fault_text(alloc: Global, fault: StreamFault) -> Result<String, AllocError>
     ensures { IfOk result (λ text. string_bytes text ≡ fault_label (named fault)) }
 {
     let label = match fault {
-        Bad::NoEnvelope(fault) => return line_text(alloc, fault),
-        Bad::DuplicateId => "4 DuplicateId",
-        Bad::DuplicateUri => "5 DuplicateUri",
-        Bad::UnknownReference => "6 UnknownReference",
-        Bad::DocumentOfRefusedSource => "7 DocumentOfRefusedSource",
-        Bad::TreeDiffers => "8 TreeDiffers",
-        Bad::PickleDiffers => "9 PickleDiffers",
-        Bad::ParseErrorOfGoodSource => "10 ParseErrorOfGoodSource",
-        Bad::CaseStepsDiffer => "11 CaseStepsDiffer",
-        Bad::AttemptNumber => "12 AttemptNumber",
-        Bad::AttemptOverlap => "13 AttemptOverlap",
-        Bad::StepOrder => "14 StepOrder",
-        Bad::FinishedEarly => "15 FinishedEarly",
-        Bad::SecondRunStarted => "16 SecondRunStarted",
-        Bad::OutsideRun => "17 OutsideRun",
-        Bad::AfterRunFinished => "18 AfterRunFinished",
-        Bad::AttemptOpen => "19 AttemptOpen",
-        Bad::SourceIncomplete => "20 SourceIncomplete",
-        Bad::SuccessDiffers => "21 SuccessDiffers",
-        Bad::NoRunFinished => "22 NoRunFinished",
-        Bad::RunHookOpen => "23 RunHookOpen",
-        Bad::RunHookTwice => "24 RunHookTwice",
+        StreamFault::NoEnvelope(fault) => return line_text(alloc, fault),
+        StreamFault::DuplicateId => "4 DuplicateId",
+        StreamFault::DuplicateUri => "5 DuplicateUri",
+        StreamFault::UnknownReference => "6 UnknownReference",
+        StreamFault::DocumentOfRefusedSource => "7 DocumentOfRefusedSource",
+        StreamFault::TreeDiffers => "8 TreeDiffers",
+        StreamFault::PickleDiffers => "9 PickleDiffers",
+        StreamFault::ParseErrorOfGoodSource => "10 ParseErrorOfGoodSource",
+        StreamFault::CaseStepsDiffer => "11 CaseStepsDiffer",
+        StreamFault::AttemptNumber => "12 AttemptNumber",
+        StreamFault::AttemptOverlap => "13 AttemptOverlap",
+        StreamFault::StepOrder => "14 StepOrder",
+        StreamFault::FinishedEarly => "15 FinishedEarly",
+        StreamFault::SecondRunStarted => "16 SecondRunStarted",
+        StreamFault::OutsideRun => "17 OutsideRun",
+        StreamFault::AfterRunFinished => "18 AfterRunFinished",
+        StreamFault::AttemptOpen => "19 AttemptOpen",
+        StreamFault::SourceIncomplete => "20 SourceIncomplete",
+        StreamFault::SuccessDiffers => "21 SuccessDiffers",
+        StreamFault::NoRunFinished => "22 NoRunFinished",
+        StreamFault::RunHookOpen => "23 RunHookOpen",
+        StreamFault::RunHookTwice => "24 RunHookTwice",
     };
     Ok(String::from_str(alloc, label)?)
 }
@@ -111,7 +111,7 @@ fn good_text(alloc: Global, counts: Counts) -> Result<String, AllocError>
     Ok(text)
 }
 
-fn bad_text(alloc: Global, line: u64, fault: Bad) -> Result<String, AllocError>
+fn bad_text(alloc: Global, line: u64, fault: StreamFault) -> Result<String, AllocError>
     ensures { IfOk result (λ text. string_bytes text ≡ finding_text line (IsBad (named fault))) }
 {
     let label = fault_text(alloc, fault)?;

@@ -6,14 +6,15 @@ pub(crate) const PROGRAM: &str =
     "Says whether a stream of Cucumber Messages is a true report of its run, and compiles Gherkin.";
 
 pub(crate) const AFTER_PROGRAM: &str =
-    "Every command reads standard input and prints on standard output. Give it a file with a redirect:
+    "Every command reads standard input and prints on standard output. Give it a file by a redirect:
 
   cukecheck gate < run.ndjson && deploy
   cukecheck audit < run.ndjson
   cukecheck compile --uri features/a.feature < features/a.feature
 
 Exit status:
-  0  done; by audit: the stream is a true report, whether its tests passed or failed; by gate: and its run is to be released
+  0  done; by audit: the stream is a true report, whether its tests passed or failed;
+     by gate: and its run is to be released
   1  audit, gate, results: the stream is bad; parse, compile: the feature file is refused
   2  a mistake in the words
   3  trouble: a read or a write failed, the input is too long or no UTF-8, or there is no memory
@@ -50,15 +51,16 @@ pub(crate) const AFTER_COMPILE: &str =
 
   cukecheck compile --uri features/a.feature < features/a.feature
 
-Prints one JSON object a line, as Cucumber Messages have them: `source`, `gherkinDocument` and, in order, each `pickle`,
-with exit status 0. Where the file is refused it prints what `parse` prints, and no message, with exit status 1; or
-`trouble NotUtf8`, `trouble ReadFailed` or `trouble Memory` with 3.";
+Prints one JSON object a line, as Cucumber Messages have them: `source`, `gherkinDocument` and, in
+order, each `pickle`, with exit status 0. Where the file is refused it prints what `parse` prints,
+and no message, with exit status 1; or `trouble NotUtf8`, `trouble ReadFailed` or `trouble Memory`
+with 3.";
 
 pub(crate) const URI: &str =
     "The uri of the feature file, as its messages name it; it isn't opened";
 
 pub(crate) const AUDIT: &str =
-    "Says whether a stream of Cucumber Messages is a true report of its run (not whether its tests passed).";
+    "Says whether a stream of Cucumber Messages is a true report of its run, passed or failed.";
 
 pub(crate) const AFTER_AUDIT: &str =
     "Reads a stream of Cucumber Messages (one JSON object a line) from standard input:
@@ -70,31 +72,34 @@ Prints one line, with the exit status after it:
   good .. unrun=U                               0  the same, and U pickles have no test case
   bad line L: N Name                            1  no good stream begins with the lines up to L
   unsupported line L: N Name                    4  line L shows why the stream isn't judged
-  trouble Name                                  3  the stream can't be read to its end, or there is no memory
+  trouble Name                                  3  the stream can't be read to its end,
+                                                   or there is no memory
 Lines count from 1, blank ones too; a fault at the end has the number of lines plus 1.
 
 bad:
    1 NotJson                  The line is no JSON value in UTF-8, or nests more than 127 deep.
-   2 Shape                    The line is no object, or has two judged kinds, or a judged kind that is no object.
+   2 Shape                    The line is no object, or has two judged kinds, or a judged kind that
+                              is no object.
    3 Field kind.member        A member is missing or has another type.
-   4 DuplicateId              An id was declared before for the same kind, or stands twice in the line.
+   4 DuplicateId              An id was declared before for the same kind, or is twice in the line.
    5 DuplicateUri             The uri has a source already, or a document.
    6 UnknownReference         It refers to something that no line before declares.
    7 DocumentOfRefusedSource  The document's source doesn't parse.
    8 TreeDiffers              The document isn't that of its source.
    9 PickleDiffers            The pickle isn't the source's next one, or there is no next one.
   10 ParseErrorOfGoodSource   The source of the parse error parses.
-  11 CaseStepsDiffer          The test case's steps, hooks aside, aren't those of its pickle in order.
-  12 AttemptNumber            The attempt's number isn't N plus how many attempts of the case started before,
-                              where N is 0 or what `--attempts-from` says.
-  13 AttemptOverlap           An attempt of the case is unfinished, or its last one won't be retried.
-  14 StepOrder                The step isn't the next to start, or not the one that runs; or the attempt is finished.
+  11 CaseStepsDiffer          The test case's steps, hooks aside, aren't its pickle's in order.
+  12 AttemptNumber            The number isn't N plus the count of attempts of the case that started
+                              before, where N is 0 or what `--attempts-from` says.
+  13 AttemptOverlap           An attempt of the case is unfinished, or its last won't be retried.
+  14 StepOrder                The step isn't the next to start, or not the one that runs; or the
+                              attempt is finished.
   15 FinishedEarly            The attempt finishes before each step of its case.
   16 SecondRunStarted         The run has started before.
   17 OutsideRun               The run hasn't started.
   18 AfterRunFinished         The run has finished before.
   19 AttemptOpen              The run finishes while an attempt isn't finished.
-  20 SourceIncomplete         The run finishes, and a source lacks its document or some of its pickles.
+  20 SourceIncomplete         The run finishes, and a source lacks its document or some pickles.
   21 SuccessDiffers           The success that is reported isn't what the lines before show.
   22 NoRunFinished            The stream ends, and the run hasn't finished.
   23 RunHookOpen              The run finishes while a run hook isn't finished.
@@ -114,24 +119,26 @@ trouble:
   Memory         There is no memory.";
 
 pub(crate) const GATE: &str =
-    "Says whether a run is to be released: its report is true and says success, and each scenario ran.";
+    "Says whether to release a run: its report is true and says success, and each scenario ran.";
 
 pub(crate) const AFTER_GATE: &str =
     "Reads a stream of Cucumber Messages (one JSON object a line) from standard input:
 
   cukecheck gate < run.ndjson && deploy
 
-Prints the line that `audit` prints, and a second one where the report is true and the run isn't to be released:
+Prints the line that `audit` prints, and a second one where the report is true and the run isn't to
+be released:
   good ..               0  the run is to be released
   bad line L: N Name    1  no good stream begins with the lines up to L
   trouble Name          3  the stream can't be read to its end, or there is no memory
   unsupported line ..   4  the stream isn't judged
-  good ..               5  the report is true, and the run isn't to be released; the second line says why:
+  good ..               5  the report is true, and the run isn't to be released; the second line
+                           says why:
   stop NotSuccessful         The run says no success.
   stop Empty                 There is no test case.
   stop Unrun                 A pickle has no test case (not with --allow-unrun).
 Where more than one of these holds, the second line has the first of them.
-Status 2 is for a mistake in the words. `cukecheck audit --help` says what the numbers and names are.
+Status 2 is for a mistake in the words. `cukecheck audit --help` explains the numbers and names.
 A scenario without steps counts as passed, and a run whose every step was skipped is released.";
 
 pub(crate) const ALLOW_UNRUN: &str =
@@ -140,7 +147,7 @@ pub(crate) const ALLOW_UNRUN: &str =
 pub(crate) const PENDING_PASSES: &str = "PENDING is a good status too, beside PASSED and SKIPPED";
 
 pub(crate) const ATTEMPTS_FROM: &str =
-    "The number of each test case's first attempt: 0, as the messages' schema has it, or 1, as cucumber-ruby counts [default: 0]";
+    "Number of a case's first attempt: 0 by the schema, 1 as cucumber-ruby counts [default: 0]";
 
 pub(crate) const WRONG_ATTEMPTS: &str = "error: the value of '--attempts-from <N>' is 0 or 1
 
@@ -158,7 +165,9 @@ pub(crate) const AFTER_RESULTS: &str =
   cukecheck results < run.ndjson
 
 Prints, with the exit status after it:
-  ID STATUS            0  for each test case, in order of declaration; NONE where it has no final attempt
-  bad line L: N Name   1  the first line that is no message, or at which cases and attempts come in no possible order
+  ID STATUS            0  for each test case, in order of declaration;
+                          NONE where it has no final attempt
+  bad line L: N Name   1  the first line that is no message, or at which cases and attempts come
+                          in no possible order
   trouble Name         3  the stream can't be read to its end, or there is no memory
 The numbers and names are those of `audit`, which says whether the report is true: ask it first.";

@@ -1,8 +1,8 @@
-//! What the commands stand on, called by itself: the audit of a stream, and the text of a source.
+//! What the commands use, called by itself: the audit of a stream, and the text of a source.
 use crate::devices::{Endless, Source, whole};
 use crate::lines::{RETRIED, stream_of};
 use ck_commands::{TextFault, read_text};
-use cm_audit::{Bad, Counts, Reason, Verdict, audit};
+use cm_audit::{Counts, Reason, StreamFault, Verdict, audit};
 use cm_envelope::{ByteSource, LineFault, Trouble};
 use std::alloc::Global;
 use std::process::Abort;
@@ -44,13 +44,13 @@ fn good_streams_have_their_counts(rt: HostRuntime) -> Result<(), Fail> {
 fn other_streams_have_a_line_and_why(rt: HostRuntime) -> Result<(), Fail> {
     let early = Verdict::Bad {
         line: 3,
-        fault: Bad::UnknownReference,
+        fault: StreamFault::UnknownReference,
     };
     let words = "source document case:c1:t1 pickle run unwell";
     expect_verdict(&rt, rt.alloc(), words, early)?;
     let field = Verdict::Bad {
         line: 1,
-        fault: Bad::NoEnvelope(LineFault::Field("pickle", "id")),
+        fault: StreamFault::NoEnvelope(LineFault::Field("pickle", "id")),
     };
     expect_verdict(&rt, rt.alloc(), "empty_pickle", field)?;
     let language = Verdict::Unsupported {

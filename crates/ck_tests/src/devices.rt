@@ -1,5 +1,5 @@
 //! Readers and writers in memory, and runs over them.
-ghost use Rattle.std.specs.Prelude.{None, Some, string_bytes};
+ghost use Rattle.std.specs.Prelude.{None, Some};
 
 use ck_commands::run;
 use cm_envelope::{ByteSink, ByteSource, DeviceFailed};

@@ -6,7 +6,7 @@ use std::alloc::Global;
 use std::process::Abort;
 use std::test::Fail;
 
-// What is told is one line.
+// What is reported is one line.
 fn expect_parse(
     rt: &impl Abort,
     alloc: Global,
@@ -19,7 +19,7 @@ fn expect_parse(
     Ok(())
 }
 
-// What is told of a feature file, and its lines with a slash between two of them.
+// What is reported of a feature file, and its lines with a slash between two of them.
 const FEATURES: &str = r#"ok nodes=0 comments=0;
 refused 1:1 4 UnsupportedLanguage;# language: fr/Feature: x
 ok nodes=0 comments=1;Feature: x/# language: fr

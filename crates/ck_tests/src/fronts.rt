@@ -5,7 +5,7 @@ use std::alloc::Global;
 use std::process::Abort;
 use std::test::Fail;
 
-// What is told of a front with so many whole lines, by whether it ends with one of them, and whether its last line is whole.
+// What is reported of a front with so many whole lines, by whether it ends with one of them, and whether its last line is whole.
 fn told_of_front(
     alloc: Global,
     lines: u64,
@@ -22,8 +22,8 @@ fn told_of_front(
     if next == 14 {
         return Ok(String::from_str(alloc, "good sources=1 pickles=1 cases=1 attempts=2\n")?);
     }
-    let behind = next.saturating_add(1);
-    Ok(format!(in alloc; "bad line {behind}: 22 NoRunFinished\n")?)
+    let later = next.saturating_add(1);
+    Ok(format!(in alloc; "bad line {later}: 22 NoRunFinished\n")?)
 }
 
 #[test]
@@ -67,7 +67,7 @@ fn expect_failed(rt: &impl Abort, alloc: Global, bytes: &[u8]) {
 }
 
 #[test]
-fn a_read_that_fails_behind_each_byte(rt: HostRuntime) -> Result<(), Fail> {
+fn a_read_that_fails_after_each_byte(rt: HostRuntime) -> Result<(), Fail> {
     let stream = stream_of(rt.alloc(), RETRIED)?;
     let bytes = stream.as_bytes();
     for (size, _) in bytes.iter().enumerate() {
@@ -117,7 +117,7 @@ fn a_thousand_cases(rt: HostRuntime) -> Result<(), Fail> {
     Ok(())
 }
 
-// What `audit` tells of a source with this text, whose characters are written as `unit`, so many times.
+// What `audit` answers for a source with this text, whose characters are written as `unit`, so many times.
 fn expect_too_long(rt: &impl Abort, alloc: Global, unit: &str, times: u32) -> Result<(), Fail> {
     let mut line = String::from_str(alloc, "{\"source\":{\"data\":\"")?;
     line.push_str(repeated(alloc, unit, times)?.as_str())?;

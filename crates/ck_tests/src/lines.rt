@@ -1,4 +1,4 @@
-//! Streams as words. A word stands for a line: `case:C:T` for a test case with the step T (or two, as `T+U`), `start:A:C:N` for
+//! Streams as words. A word means a line: `case:C:T` for a test case with the step T (or two, as `T+U`), `start:A:C:N` for
 //! attempt A of case C with the number N, `step:A:T` and `end:A:T:STATUS` for its steps, `done:A:false` for its end, `brackets:N` for N
 //! of `[` and as many of `]`, a name for its line of `NAMED_LINES`, and `-` for a line that isn't judged.
 use crate::devices::{expect_words, whole};

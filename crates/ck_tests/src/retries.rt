@@ -1,4 +1,4 @@
-//! Results of streams of attempts, and their faults, which `audit` tells too.
+//! Results of streams of attempts, and their faults, which `audit` reports too.
 use crate::devices::expect_results;
 use crate::lines::{expect_rows, stream_of};
 use std::alloc::Global;
@@ -43,7 +43,7 @@ fn attempts_that_come_otherwise(rt: HostRuntime) -> Result<(), Fail> {
 
 const STATUSES: &str = "UNKNOWN PASSED SKIPPED PENDING UNDEFINED AMBIGUOUS FAILED";
 
-// An attempt whose two steps end with these statuses is told by the worse of them.
+// An attempt whose two steps end with these statuses is reported by the worse of them.
 fn expect_worse(
     rt: &impl Abort,
     alloc: Global,
@@ -60,7 +60,7 @@ fn expect_worse(
     Ok(())
 }
 
-// The least bad first: of two statuses the later one in this order is told.
+// The least bad first: of two statuses the later one in this order is reported.
 #[test]
 fn statuses_in_every_order(rt: HostRuntime) -> Result<(), Fail> {
     let alloc = rt.alloc();

@@ -4,7 +4,7 @@ use Rattle.std.specs.Prelude.{find, is_some, unwrap_or, filter, option_and_then}
 use Rattle.std.specs.List.{list_any, list_all, AllByRecursion}
 use Rattle.std.specs.Str.{bytes_eq}
 use Rattle.std.proofs.lemmas.List.Sums.{length-filter}
-use Rattle.cm_attempt.specs.Table.{Text, AttemptRow, Table, table_from, finished_at, has_text, has_repeat, find_attempt, is_closed_to_new, status_of_last, reported_of}
+use Rattle.cm_attempt.specs.Table.{Utf8, AttemptRow, Table, table_from, finished_at, has_text, has_repeat, find_attempt, is_closed_to_new, status_of_last, reported_of}
 use Rattle.cm_attempt.specs.declared.rows.Last.{Last}
 use Rattle.cm_attempt.specs.declared.fault.TrackFault.{TrackFault}
 use Rattle.cm_attempt.specs.Calls.{Call, AddCase, Start, StartStep, FinishStep, Finish, refusal_of, after_call, unless_refused, left_by, table_after, StartedAttempt, starts, starts_of, steps_of_attempt, moves, whole, ends_of, is_ended, is_retried, last_of, final_status, result_of}
@@ -82,13 +82,13 @@ first_is first calls t e = first_left calls (table_from first) t e
 
 -- ---- each start
 
-record AtStart (first : ℕ) (before : List Call) (id case : Text) (number : ℕ) : Type 0 where
+record AtStart (first : ℕ) (before : List Call) (id case : Utf8) (number : ℕ) : Type 0 where
   table : Table
   counts : table.first ≡ first
   so_far : Tracked before table
   fits : StartFits table id case number
 
-at_start : (first : ℕ) (calls : List Call) (t : Table) → table_after first calls ≡ Some t → (before : List Call) (id case : Text) (number : ℕ) (after : List Call) → calls ≡ before ++ Start id case number ∷ after → AtStart first before id case number
+at_start : (first : ℕ) (calls : List Call) (t : Table) → table_after first calls ≡ Some t → (before : List Call) (id case : Utf8) (number : ℕ) (after : List Call) → calls ≡ before ++ Start id case number ∷ after → AtStart first before id case number
 at_start first calls t e before id case number after cut =
     let parts = cut_at before (Start id case number ∷ after) (table_from first) t (ap (table_after first) (sym cut) ∙ e) in
     record { table = parts.0; counts = first_is first before parts.0 parts.1; so_far = tracked first before parts.0 parts.1; fits = start_fits parts.0 id case number (none (refusal_of parts.0 (Start id case number)) (left_by (after_call parts.0 (Start id case number)) after) parts.2) }
@@ -97,7 +97,7 @@ at_start first calls t e before id case number after cut =
     none None l k = refl
     none (Some f) l k = cc
 
-known_at : (first : ℕ) (before : List Call) (id case : Text) (number : ℕ) → (s : AtStart first before id case number) → Known before case s.fits.row
+known_at : (first : ℕ) (before : List Call) (id case : Utf8) (number : ℕ) → (s : AtStart first before id case number) → Known before case s.fits.row
 known_at first before id case number s = known_of before s.table case s.fits.row (s.so_far.of_cases case) s.fits.found
 
 pub cases_known : (first : ℕ) (calls : List Call) (t : Table) → table_after first calls ≡ Some t → CasesKnown calls
@@ -128,7 +128,7 @@ pub all_then : (calls : List Call) (front : List StartedAttempt) (s : StartedAtt
 all_then calls [] s h k = all_retried calls (s ∷ []) (k, tt)
 all_then calls (x ∷ front) s h k = let yes : is_retried x.id calls ≡ true = ap (list_any (λ r. r)) h.0 in rw (yes, all_then calls front s h.1 k) refl
 
-none_open : (calls : List Call) (case : Text) (ss : List StartedAttempt) (l : Last) → is_closed_to_new l ≡ false → Latest calls case ss l → list_all (λ s. is_retried s.id calls) ss ≡ true
+none_open : (calls : List Call) (case : Utf8) (ss : List StartedAttempt) (l : Last) → is_closed_to_new l ≡ false → Latest calls case ss l → list_all (λ s. is_retried s.id calls) ss ≡ true
 none_open calls case ss l closed (none_yet a b) = ap (list_all (λ s. is_retried s.id calls)) a
 none_open calls case ss l closed (one_open front s cut all st cs ends e) = let no : true ≡ false = ap is_closed_to_new (sym e) ∙ closed in cc
 none_open calls case ss l closed (last_over front s false cut all ends e) = let no : true ≡ false = ap is_closed_to_new (sym e) ∙ closed in cc
@@ -142,12 +142,12 @@ none_overlaps first calls t e before id case number after cut =
 -- ---- each attempt
 
 -- the steps of an attempt's case, by its row and by the calls
-pub its_steps : (calls : List Call) (t : Table) → Tracked calls t → (a : Text) (row : AttemptRow) → (b : Begun calls t a row) → steps_of_attempt a calls ≡ b.its_case.steps
+pub its_steps : (calls : List Call) (t : Table) → Tracked calls t → (a : Utf8) (row : AttemptRow) → (b : Begun calls t a row) → steps_of_attempt a calls ≡ b.its_case.steps
 its_steps calls t h a row b =
     let k = known_of calls t b.start.case_id b.its_case (h.of_cases b.start.case_id) b.has_case in
     rw (b.is_start, k.is_declared) (sym k.steps)
 
-front_of : (calls : List Call) (t : Table) → Tracked calls t → (a : Text) → AttemptIs calls t a → IsFront (moves a calls) (whole (steps_of_attempt a calls))
+front_of : (calls : List Call) (t : Table) → Tracked calls t → (a : Utf8) → AttemptIs calls t a → IsFront (moves a calls) (whole (steps_of_attempt a calls))
 front_of calls t h a (unstarted n u) = (whole (steps_of_attempt a calls), ap (λ ms. ms ++ whole (steps_of_attempt a calls)) (sym u.moves))
 front_of calls t h a (begun row f b) =
     let front = left_of b.its_case.steps (moves a calls) (ends_of a calls) row.cursor b.stands in
@@ -156,7 +156,7 @@ front_of calls t h a (begun row f b) =
 pub steps_in_order : (first : ℕ) (calls : List Call) (t : Table) → table_after first calls ≡ Some t → StepsInOrder calls
 steps_in_order first calls t e a = let h = tracked first calls t e in front_of calls t h a (h.of_attempts a)
 
-whole_of : (calls : List Call) (t : Table) → Tracked calls t → (a : Text) → AttemptIs calls t a → is_ended a calls ≡ true → (moves a calls ≡ whole (steps_of_attempt a calls)) × (length (ends_of a calls) ≡ 1)
+whole_of : (calls : List Call) (t : Table) → Tracked calls t → (a : Utf8) → AttemptIs calls t a → is_ended a calls ≡ true → (moves a calls ≡ whole (steps_of_attempt a calls)) × (length (ends_of a calls) ≡ 1)
 whole_of calls t h a (unstarted n u) ended = let no : is_ended a calls ≡ false = rw u.moves refl in cc
 whole_of calls t h a (begun row f b) ended =
     let parts = whole_if_ended b.its_case.steps (moves a calls) (ends_of a calls) row.cursor b.stands ended in
@@ -195,13 +195,13 @@ last_push [] x = refl
 last_push (y ∷ []) x = refl
 last_push (y ∷ z ∷ xs) x = last_push (z ∷ xs) x
 
-final_in : (calls : List Call) (case : Text) (ss : List StartedAttempt) (l : Last) → Latest calls case ss l → status_of_last l ≡ option_and_then (final_status calls) (last_of ss)
+final_in : (calls : List Call) (case : Utf8) (ss : List StartedAttempt) (l : Last) → Latest calls case ss l → status_of_last l ≡ option_and_then (final_status calls) (last_of ss)
 final_in calls case ss l (none_yet a b) = rw (a, b) refl
 final_in calls case ss l (one_open front s cut all st cs ends e) = rw (e, cut, last_push front s, ends) refl
 final_in calls case ss l (last_over front s true cut all ends e) = rw (e, cut, last_push front s, ends) refl
 final_in calls case ss l (last_over front s false cut all ends e) = rw (e, cut, last_push front s, ends) refl
 
-reports_case : (calls : List Call) (t : Table) (case : Text) → CaseIs calls t case → reported_of t case ≡ result_of case calls
+reports_case : (calls : List Call) (t : Table) (case : Utf8) → CaseIs calls t case → reported_of t case ≡ result_of case calls
 reports_case calls t case (undeclared n u) = rw (n, u.no_start) refl
 reports_case calls t case (known row f k) = rw f (final_in calls case (starts_of case calls) row.last k.latest)
 
@@ -210,8 +210,8 @@ reports first calls t e case = reports_case calls t case ((tracked first calls t
 
 -- ---- open attempts
 
-module _ {X : Type 0} (id : X → Text) where
-  count_ids : (p : X → Bool) (q : Text → Bool) (xs : List X) → AllByRecursion (λ x. p x ≡ q (id x)) xs → length (filter p xs) ≡ length (filter q (map id xs))
+module _ {X : Type 0} (id : X → Utf8) where
+  count_ids : (p : X → Bool) (q : Utf8 → Bool) (xs : List X) → AllByRecursion (λ x. p x ≡ q (id x)) xs → length (filter p xs) ≡ length (filter q (map id xs))
   count_ids p q [] h = refl
   count_ids p q (x ∷ xs) h = go (q (id x)) refl (count_ids p q xs h.1)
     where

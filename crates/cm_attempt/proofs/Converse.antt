@@ -7,7 +7,7 @@ use Rattle.std.specs.Str.{bytes_eq}
 use Rattle.std.proofs.lemmas.Bool.Decides.{nat_tests}
 use Rattle.std.proofs.lemmas.List.{append_cancel_left}
 use Rattle.std.proofs.lemmas.List.Folds.{list_any-append}
-use Rattle.cm_attempt.specs.Table.{Text, AttemptRow, Table, table_from, has_text, has_repeat, find_attempt, steps_of, add_case_fault, start_fault, step_start_fault, step_finish_fault, step_fault_at, finish_fault, finish_fault_at, end_fault_of, may_start, may_finish, is_closed_to_new}
+use Rattle.cm_attempt.specs.Table.{Utf8, AttemptRow, Table, table_from, has_text, has_repeat, find_attempt, steps_of, add_case_fault, start_fault, step_start_fault, step_finish_fault, step_fault_at, finish_fault, finish_fault_at, end_fault_of, may_start, may_finish, is_closed_to_new}
 use Rattle.cm_attempt.specs.declared.rows.Cursor.{Cursor}
 use Rattle.cm_attempt.specs.declared.status.Status.{Status}
 use Rattle.cm_attempt.specs.declared.rows.Last.{Last}
@@ -21,7 +21,7 @@ use Rattle.cm_attempt.proofs.Accepted.{none_tracked, one_more, first_stays, last
 
 -- ---- lists that are cut at an element
 
-no_repeat_found : {X : Type 0} (id : X → Text) (xs : List X) (y : X) (ys : List X) → has_repeat (map id (xs ++ y ∷ ys)) ≡ false → find (λ x. bytes_eq (id y) (id x)) xs ≡ None
+no_repeat_found : {X : Type 0} (id : X → Utf8) (xs : List X) (y : X) (ys : List X) → has_repeat (map id (xs ++ y ∷ ys)) ≡ false → find (λ x. bytes_eq (id y) (id x)) xs ≡ None
 no_repeat_found {X} id [] y ys h = refl
 no_repeat_found {X} id (x ∷ xs) y ys h =
     let parts = or_false (has_text (id x) (map id (xs ++ y ∷ ys))) (has_repeat (map id (xs ++ y ∷ ys))) h in
@@ -37,7 +37,7 @@ all_here : {X : Type 0} (P : X → Type 0) (xs : List X) (y : X) (ys : List X) �
 all_here P [] y ys h = h.0
 all_here P (x ∷ xs) y ys h = all_here P xs y ys h.1
 
-has_here : (s : Text) (xs ys : List Text) → has_text s (xs ++ s ∷ ys) ≡ true
+has_here : (s : Utf8) (xs ys : List Utf8) → has_text s (xs ++ s ∷ ys) ≡ true
 has_here s xs ys = list_any-append (bytes_eq s) xs (s ∷ ys) ∙ rw (bytes_same s) (or_yes (has_text s xs))
   where
     or_yes : (b : Bool) → (b || true) ≡ true
@@ -46,17 +46,17 @@ has_here s xs ys = list_any-append (bytes_eq s) xs (s ∷ ys) ∙ rw (bytes_same
 
 -- ---- the next move of an attempt
 
-record MayGo (may : Option Cursor → List Text → Bool) (o : Option Cursor) (steps : List Text) (step : Text) : Type 0 where
+record MayGo (may : Option Cursor → List Utf8 → Bool) (o : Option Cursor) (steps : List Utf8) (step : Utf8) : Type 0 where
   next : may o steps ≡ true
   known_step : has_text step steps ≡ true
 
-is_at : (done : List Text) (step : Text) (more : List Text) → option_map_or (bytes_eq step) (slice_get (done ++ step ∷ more) (length done)) false ≡ true
+is_at : (done : List Utf8) (step : Utf8) (more : List Utf8) → option_map_or (bytes_eq step) (slice_get (done ++ step ∷ more) (length done)) false ≡ true
 is_at done step more = ap (λ z. option_map_or (bytes_eq step) z false) (at_end done (step ∷ more)) ∙ bytes_same step
 
-rest_is : (steps : List Text) (ms : List Move) (rs : List Bool) (o : Option Cursor) (zs : List Move) → (st : Stands steps ms rs o) → whole steps ≡ ms ++ zs → rest_of steps ms rs o st ≡ zs
+rest_is : (steps : List Utf8) (ms : List Move) (rs : List Bool) (o : Option Cursor) (zs : List Move) → (st : Stands steps ms rs o) → whole steps ≡ ms ++ zs → rest_of steps ms rs o st ≡ zs
 rest_is steps ms rs o zs st e = append_cancel_left ms (rest_of steps ms rs o st) zs (sym (left_is steps ms rs o st) ∙ e)
 
-abbrev step_named : Text → Move → Text
+abbrev step_named : Utf8 → Move → Utf8
 step_named d (StepStarted s) = s
 step_named d (StepFinished s) = s
 step_named d _ = d
@@ -72,7 +72,7 @@ shape (StepStarted s ∷ ms) = 2
 shape (StepFinished s ∷ ms) = 3
 shape (Ended ∷ ms) = 4
 
-may_start_next : (steps : List Text) (ms : List Move) (rs : List Bool) (o : Option Cursor) (step : Text) (zs : List Move) → Stands steps ms rs o → whole steps ≡ ms ++ StepStarted step ∷ zs → MayGo (may_start step) o steps step
+may_start_next : (steps : List Utf8) (ms : List Move) (rs : List Bool) (o : Option Cursor) (step : Utf8) (zs : List Move) → Stands steps ms rs o → whole steps ≡ ms ++ StepStarted step ∷ zs → MayGo (may_start step) o steps step
 may_start_next steps ms rs o step zs (between done [] a b c d) e = let no : 4 ≡ 2 = ap shape (rest_is steps ms rs o (StepStarted step ∷ zs) (between done [] a b c d) e) in absurd (omega (arith, no))
 may_start_next steps ms rs o step zs (between done (x ∷ more) a b c d) e =
     let first : StepStarted x ∷ StepFinished x ∷ (through more ++ Ended ∷ []) ≡ StepStarted step ∷ zs = rest_is steps ms rs o (StepStarted step ∷ zs) (between done (x ∷ more) a b c d) e in
@@ -82,7 +82,7 @@ may_start_next steps ms rs o step zs (between done (x ∷ more) a b c d) e =
 may_start_next steps ms rs o step zs (inside done x more a b c d) e = let no : 3 ≡ 2 = ap shape (rest_is steps ms rs o (StepStarted step ∷ zs) (inside done x more a b c d) e) in absurd (omega (arith, no))
 may_start_next steps ms rs o step zs (over r a b c) e = let no : 0 ≡ 2 = ap shape (rest_is steps ms rs o (StepStarted step ∷ zs) (over r a b c) e) in absurd (omega (arith, no))
 
-may_finish_next : (steps : List Text) (ms : List Move) (rs : List Bool) (o : Option Cursor) (step : Text) (zs : List Move) → Stands steps ms rs o → whole steps ≡ ms ++ StepFinished step ∷ zs → MayGo (may_finish step) o steps step
+may_finish_next : (steps : List Utf8) (ms : List Move) (rs : List Bool) (o : Option Cursor) (step : Utf8) (zs : List Move) → Stands steps ms rs o → whole steps ≡ ms ++ StepFinished step ∷ zs → MayGo (may_finish step) o steps step
 may_finish_next steps ms rs o step zs (between done [] a b c d) e = let no : 4 ≡ 3 = ap shape (rest_is steps ms rs o (StepFinished step ∷ zs) (between done [] a b c d) e) in absurd (omega (arith, no))
 may_finish_next steps ms rs o step zs (between done (x ∷ more) a b c d) e = let no : 2 ≡ 3 = ap shape (rest_is steps ms rs o (StepFinished step ∷ zs) (between done (x ∷ more) a b c d) e) in absurd (omega (arith, no))
 may_finish_next steps ms rs o step zs (inside done x more a b c d) e =
@@ -92,10 +92,10 @@ may_finish_next steps ms rs o step zs (inside done x more a b c d) e =
     record { next = rw (d, all) (is_at done step more); known_step = ap (has_text step) all ∙ has_here step done more }
 may_finish_next steps ms rs o step zs (over r a b c) e = let no : 0 ≡ 3 = ap shape (rest_is steps ms rs o (StepFinished step ∷ zs) (over r a b c) e) in absurd (omega (arith, no))
 
-all_finished : (done : List Text) (b : Bool) → end_fault_of (Some (cursor_at (length done) b)) (done ++ []) ≡ None
+all_finished : (done : List Utf8) (b : Bool) → end_fault_of (Some (cursor_at (length done) b)) (done ++ []) ≡ None
 all_finished done b = let same : (length done == length (done ++ [])) ≡ true = (let long = length-append done [] in grind (arith, nat_tests, long)) in rw same refl
 
-may_end_next : (steps : List Text) (ms : List Move) (rs : List Bool) (o : Option Cursor) (zs : List Move) → Stands steps ms rs o → whole steps ≡ ms ++ Ended ∷ zs → end_fault_of o steps ≡ None
+may_end_next : (steps : List Utf8) (ms : List Move) (rs : List Bool) (o : Option Cursor) (zs : List Move) → Stands steps ms rs o → whole steps ≡ ms ++ Ended ∷ zs → end_fault_of o steps ≡ None
 may_end_next steps ms rs o zs (between done [] a b c d) e = ap (λ z. end_fault_of z steps) d ∙ ap (end_fault_of (Some (cursor_at (length done) false))) a ∙ all_finished done false
 may_end_next steps ms rs o zs (between done (x ∷ more) a b c d) e = let no : 2 ≡ 4 = ap shape (rest_is steps ms rs o (Ended ∷ zs) (between done (x ∷ more) a b c d) e) in absurd (omega (arith, no))
 may_end_next steps ms rs o zs (inside done x more a b c d) e = let no : 3 ≡ 4 = ap shape (rest_is steps ms rs o (Ended ∷ zs) (inside done x more a b c d) e) in absurd (omega (arith, no))
@@ -104,14 +104,14 @@ may_end_next steps ms rs o zs (over r a b c) e = let no : 0 ≡ 4 = ap shape (re
 -- ---- an attempt that the calls name further on
 
 -- it was started, and goes through the whole with this move next
-record GoesOn (xs : List Call) (t : Table) (a : Text) (m : Move) : Type 0 where
+record GoesOn (xs : List Call) (t : Table) (a : Utf8) (m : Move) : Type 0 where
   row : AttemptRow
   found : find_attempt t a ≡ Some row
   begins : Begun xs t a row
   zs : List Move
   next : whole begins.its_case.steps ≡ moves a xs ++ m ∷ zs
 
-steps_still : (xs ys : List Call) (t : Table) → Tracked xs t → (a : Text) (row : AttemptRow) → (b : Begun xs t a row) → steps_of_attempt a (xs ++ ys) ≡ b.its_case.steps
+steps_still : (xs ys : List Call) (t : Table) → Tracked xs t → (a : Utf8) (row : AttemptRow) → (b : Begun xs t a row) → steps_of_attempt a (xs ++ ys) ≡ b.its_case.steps
 steps_still xs ys t h a row b = go (h.of_cases b.start.case_id)
   where
     go : CaseIs xs t b.start.case_id → steps_of_attempt a (xs ++ ys) ≡ b.its_case.steps
@@ -120,7 +120,7 @@ steps_still xs ys t h a row b = go (h.of_cases b.start.case_id)
         let same : other ≡ b.its_case = ap (λ o. unwrap_or o other) (sym f ∙ b.has_case) in
         rw (start_still a xs ys b.start b.is_start, declared_still b.start.case_id xs ys k.found k.is_declared) (sym k.steps ∙ ap (λ r. r.steps) same)
 
-goes_on : (first : ℕ) (xs : List Call) (c : Call) (cs : List Call) (t : Table) → Tracked xs t → ComeInOrder first (xs ++ c ∷ cs) → (a : Text) (m : Move) → move_of a c ≡ Some m → 1 ≢ shape (m ∷ []) → GoesOn xs t a m
+goes_on : (first : ℕ) (xs : List Call) (c : Call) (cs : List Call) (t : Table) → Tracked xs t → ComeInOrder first (xs ++ c ∷ cs) → (a : Utf8) (m : Move) → move_of a c ≡ Some m → 1 ≢ shape (m ∷ []) → GoesOn xs t a m
 goes_on first xs c cs t h order a m moved later = go (h.of_attempts a)
   where
     front : IsFront (moves a (xs ++ c ∷ cs)) (whole (steps_of_attempt a (xs ++ c ∷ cs)))
@@ -147,13 +147,13 @@ goes_on first xs c cs t h order a m moved later = go (h.of_attempts a)
       next = ap whole (sym (steps_still xs (c ∷ cs) t h a row b)) ∙ all;
     }
 
-no_step_fault : (t : Table) (a step : Text) (may : Option Cursor → List Text → Bool) (row : AttemptRow) → find_attempt t a ≡ Some row → has_text step (steps_of t row.case_id) ≡ true → may row.cursor (steps_of t row.case_id) ≡ true
+no_step_fault : (t : Table) (a step : Utf8) (may : Option Cursor → List Utf8 → Bool) (row : AttemptRow) → find_attempt t a ≡ Some row → has_text step (steps_of t row.case_id) ≡ true → may row.cursor (steps_of t row.case_id) ≡ true
     → step_fault_at t step may (find_attempt t a) ≡ None
 no_step_fault t a step may row f k n = rw (f, k, n) refl
 
 -- ---- each call
 
-case_accepted : (first : ℕ) (xs : List Call) (id : Text) (steps : List Text) (cs : List Call) (t : Table) → Tracked xs t → ComeInOrder first (xs ++ AddCase id steps ∷ cs) → add_case_fault t id steps ≡ None
+case_accepted : (first : ℕ) (xs : List Call) (id : Utf8) (steps : List Utf8) (cs : List Call) (t : Table) → Tracked xs t → ComeInOrder first (xs ++ AddCase id steps ∷ cs) → add_case_fault t id steps ≡ None
 case_accepted first xs id steps cs t h order = go (h.of_cases id)
   where
     d : DeclaredCase
@@ -172,7 +172,7 @@ case_accepted first xs id steps cs t h order = go (h.of_cases id)
     go (undeclared n u) = rw (n, distinct) refl
     go (known row f k) = let no : None ≡ Some k.found = sym new ∙ k.is_declared in cc
 
-start_accepted : (first : ℕ) (xs : List Call) (id case : Text) (number : ℕ) (cs : List Call) (t : Table) → t.first ≡ first → Tracked xs t → ComeInOrder first (xs ++ Start id case number ∷ cs) → start_fault t id case number ≡ None
+start_accepted : (first : ℕ) (xs : List Call) (id case : Utf8) (number : ℕ) (cs : List Call) (t : Table) → t.first ≡ first → Tracked xs t → ComeInOrder first (xs ++ Start id case number ∷ cs) → start_fault t id case number ≡ None
 start_accepted first xs id case number cs t counts h order = go (h.of_cases case)
   where
     s : StartedAttempt
@@ -213,7 +213,7 @@ start_accepted first xs id case number cs t counts h order = go (h.of_cases case
         let open_to_new : is_closed_to_new row.last ≡ false = not_closed row.last (starts_of case xs) (order.overlap xs id case number cs refl) k.latest in
         rw (f, unseen (h.of_attempts id), count, open_to_new) refl
 
-start_step_accepted : (first : ℕ) (xs : List Call) (a step : Text) (cs : List Call) (t : Table) → Tracked xs t → ComeInOrder first (xs ++ StartStep a step ∷ cs) → step_start_fault t a step ≡ None
+start_step_accepted : (first : ℕ) (xs : List Call) (a step : Utf8) (cs : List Call) (t : Table) → Tracked xs t → ComeInOrder first (xs ++ StartStep a step ∷ cs) → step_start_fault t a step ≡ None
 start_step_accepted first xs a step cs t h order =
     let g = goes_on first xs (StartStep a step) cs t h order a (StepStarted step) (rw (bytes_same a) refl) (λ e. omega (arith, e)) in
     let b = g.begins in
@@ -221,7 +221,7 @@ start_step_accepted first xs a step cs t h order =
     let same = steps_are xs t a g.row b in
     no_step_fault t a step (may_start step) g.row g.found (ap (has_text step) same ∙ may.known_step) (ap (may_start step g.row.cursor) same ∙ may.next)
 
-finish_step_accepted : (first : ℕ) (xs : List Call) (a step : Text) (status : Status) (cs : List Call) (t : Table) → Tracked xs t → ComeInOrder first (xs ++ FinishStep a step status ∷ cs) → step_finish_fault t a step ≡ None
+finish_step_accepted : (first : ℕ) (xs : List Call) (a step : Utf8) (status : Status) (cs : List Call) (t : Table) → Tracked xs t → ComeInOrder first (xs ++ FinishStep a step status ∷ cs) → step_finish_fault t a step ≡ None
 finish_step_accepted first xs a step status cs t h order =
     let g = goes_on first xs (FinishStep a step status) cs t h order a (StepFinished step) (rw (bytes_same a) refl) (λ e. omega (arith, e)) in
     let b = g.begins in
@@ -229,7 +229,7 @@ finish_step_accepted first xs a step status cs t h order =
     let same = steps_are xs t a g.row b in
     no_step_fault t a step (may_finish step) g.row g.found (ap (has_text step) same ∙ may.known_step) (ap (may_finish step g.row.cursor) same ∙ may.next)
 
-end_accepted : (first : ℕ) (xs : List Call) (a : Text) (r : Bool) (cs : List Call) (t : Table) → Tracked xs t → ComeInOrder first (xs ++ Finish a r ∷ cs) → finish_fault t a ≡ None
+end_accepted : (first : ℕ) (xs : List Call) (a : Utf8) (r : Bool) (cs : List Call) (t : Table) → Tracked xs t → ComeInOrder first (xs ++ Finish a r ∷ cs) → finish_fault t a ≡ None
 end_accepted first xs a r cs t h order =
     let g = goes_on first xs (Finish a r) cs t h order a Ended (rw (bytes_same a) refl) (λ e. omega (arith, e)) in
     let b = g.begins in

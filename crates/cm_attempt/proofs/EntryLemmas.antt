@@ -12,20 +12,20 @@ use Rattle.std.proofs.lemmas.List.Elements.{All-push}
 use Rattle.indexmap.specs.IndexMap.{IndexMap, insert_entry, set_value_at}
 use Rattle.indexmap.proofs.CallerLemmas.{insert_entry-new}
 use Rattle.cm_refs.proofs.EntryLemmas.{Key, absent_get}
-use Rattle.cm_attempt.specs.Table.{Text}
+use Rattle.cm_attempt.specs.Table.{Utf8}
 
-module _ {V Y : Type 0} (row : Text → V → Y) where
+module _ {V Y : Type 0} (row : Utf8 → V → Y) where
   abbrev pub rows : List (Key × V) → List Y
   rows = map (λ e. row (string_bytes e.0) e.1)
 
-  module _ (id : Text) (p : Y → Bool) (says : (t : Text) (v : V) → p (row t v) ≡ bytes_eq id t) where
+  module _ (id : Utf8) (p : Y → Bool) (says : (t : Utf8) (v : V) → p (row t v) ≡ bytes_eq id t) where
     pub few_inserted : {S : Type 0} (k : Key) → string_bytes k ≡ id → (m : IndexMap Key V S) (v : V) → find p (rows m.entries) ≡ None
         → (P : V → Type 0) → All P (values_of m.entries) → P v → All P (values_of (insert_entry string_eq m.entries k v))
     few_inserted k same m v h P all one =
         rw (insert_entry-new string_eq m k v (absent_get row id p says k same m.entries h), map-append) (All-push P (values_of m.entries) v all one)
 
   -- a test that the key doesn't change
-  pub list_all-rows : (p : Y → Bool) → ((t : Text) (v : V) → p (row t v) ≡ p (row [] v)) → (es : List (Key × V))
+  pub list_all-rows : (p : Y → Bool) → ((t : Utf8) (v : V) → p (row t v) ≡ p (row [] v)) → (es : List (Key × V))
       → list_all p (rows es) ≡ list_all (λ v. p (row [] v)) (values_of es)
   list_all-rows p same [] = refl
   list_all-rows p same (e ∷ es) = rw (same (string_bytes e.0) e.1, list_all-rows p same es) refl

@@ -7,15 +7,15 @@ use Rattle.std.specs.Str.{bytes_eq}
 use Rattle.std.proofs.lemmas.Slice.Eq.{bytes_eq-Decides}
 use Rattle.std.proofs.lemmas.List.Elements.{filter_map-append}
 use Rattle.std.proofs.lemmas.List.Folds.{find-append}
-use Rattle.cm_attempt.specs.Table.{Text, change_first}
+use Rattle.cm_attempt.specs.Table.{Utf8, change_first}
 
-pub bytes_same : (a : Text) → bytes_eq a a ≡ true
+pub bytes_same : (a : Utf8) → bytes_eq a a ≡ true
 bytes_same a = (bytes_eq-Decides a a).1 refl
 
-pub bytes_are : (a b : Text) → bytes_eq a b ≡ true → a ≡ b
+pub bytes_are : (a b : Utf8) → bytes_eq a b ≡ true → a ≡ b
 bytes_are a b h = (bytes_eq-Decides a b).0 h
 
-pub by_id : {P : Type 0} (a b : Text) → (bytes_eq a b ≡ false → P) → (a ≡ b → P) → P
+pub by_id : {P : Type 0} (a b : Utf8) → (bytes_eq a b ≡ false → P) → (a ≡ b → P) → P
 by_id {P} a b differ same = go (bytes_eq a b) refl
   where
     go : (x : Bool) → bytes_eq a b ≡ x → P
@@ -108,8 +108,8 @@ find_kept {X} p q (x ∷ xs) y found k = go (q x) refl (p x) refl (find_kept p q
 
 -- ---- a change of the first element with an id
 
-module _ {X : Type 0} (id : X → Text) (f : X → X) (same : (x : X) → id (f x) ≡ id x) where
-  pub found_changed : (q : Text) (xs : List X) → find (λ x. bytes_eq q (id x)) (change_first (λ x. bytes_eq q (id x)) f xs) ≡ option_map f (find (λ x. bytes_eq q (id x)) xs)
+module _ {X : Type 0} (id : X → Utf8) (f : X → X) (same : (x : X) → id (f x) ≡ id x) where
+  pub found_changed : (q : Utf8) (xs : List X) → find (λ x. bytes_eq q (id x)) (change_first (λ x. bytes_eq q (id x)) f xs) ≡ option_map f (find (λ x. bytes_eq q (id x)) xs)
   found_changed q [] = refl
   found_changed q (x ∷ xs) = go (bytes_eq q (id x)) refl (found_changed q xs)
     where
@@ -118,7 +118,7 @@ module _ {X : Type 0} (id : X → Text) (f : X → X) (same : (x : X) → id (f 
       go true e rec = let here : bytes_eq q (id (f x)) ≡ true = ap (bytes_eq q) (same x) ∙ e in rw (e, here) refl
       go false e rec = rw (e, e) rec
 
-  pub found_elsewhere : (q p : Text) → bytes_eq q p ≡ false → (xs : List X) → find (λ x. bytes_eq q (id x)) (change_first (λ x. bytes_eq p (id x)) f xs) ≡ find (λ x. bytes_eq q (id x)) xs
+  pub found_elsewhere : (q p : Utf8) → bytes_eq q p ≡ false → (xs : List X) → find (λ x. bytes_eq q (id x)) (change_first (λ x. bytes_eq p (id x)) f xs) ≡ find (λ x. bytes_eq q (id x)) xs
   found_elsewhere q p differ [] = refl
   found_elsewhere q p differ (x ∷ xs) = go (bytes_eq p (id x)) refl (found_elsewhere q p differ xs)
     where

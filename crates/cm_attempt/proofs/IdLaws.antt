@@ -3,10 +3,10 @@ use Rattle.std.proofs.Common.{◌≡◌, ◌∙◌, ap, refl, Bool, true, false,
 use Rattle.std.specs.Prelude.{find}
 use Rattle.std.specs.Str.{bytes_eq}
 use Rattle.std.proofs.lemmas.List.{map_push}
-use Rattle.cm_attempt.specs.Table.{Text, change_first, has_repeat, has_text}
+use Rattle.cm_attempt.specs.Table.{Utf8, change_first, has_repeat, has_text}
 use Rattle.cm_refs.proofs.RepeatLemmas.{has_repeat-push}
 
-module _ {X : Type 0} (id : X → Text) where
+module _ {X : Type 0} (id : X → Utf8) where
   -- a change that keeps the id of its row keeps all
   ids-change_first : (p : X → Bool) (f : X → X) → ((x : X) → id (f x) ≡ id x) → (xs : List X) → map id (change_first p f xs) ≡ map id xs
   ids-change_first p f same [] = refl
@@ -21,7 +21,7 @@ module _ {X : Type 0} (id : X → Text) where
   distinct_after_change p f same xs ys changed h =
       ap (λ l. has_repeat (map id l)) changed ∙ ap has_repeat (ids-change_first p f same xs) ∙ h
 
-  not_among : (q : Text) (xs : List X) → find (λ x. bytes_eq q (id x)) xs ≡ None → has_text q (map id xs) ≡ false
+  not_among : (q : Utf8) (xs : List X) → find (λ x. bytes_eq q (id x)) xs ≡ None → has_text q (map id xs) ≡ false
   not_among q [] h = refl
   not_among q (x ∷ xs) h = by (bytes_eq q (id x)) refl (not_among q xs)
     where

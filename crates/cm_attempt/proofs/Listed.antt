@@ -3,11 +3,11 @@ use Rattle.std.proofs.Common.{◌≡◌, refl, ap, ◌∙◌, List, [], ◌∷�
 use Rattle.std.specs.String.{string_bytes}
 use Rattle.std.specs.declared.alloc.Global.{Global}
 use Rattle.cm_attempt.specs.Rows.{case_rows}
-use Rattle.cm_attempt.specs.Table.{Text}
+use Rattle.cm_attempt.specs.Table.{Utf8}
 use Rattle.cm_attempt.specs.declared.rows.Case.{Case}
 
 -- something of the id of each case, over the ids that a loop yields
-pub over_ids : {B : Type 0} (f : Text → B) (entries : List (String Global × Case)) (yielded : List (Bor (String Global))) → map (λ k. k.now) yielded ≡ map (λ e. e.0) entries
+pub over_ids : {B : Type 0} (f : Utf8 → B) (entries : List (String Global × Case)) (yielded : List (Bor (String Global))) → map (λ k. k.now) yielded ≡ map (λ e. e.0) entries
     → map (λ k. f (string_bytes k.now)) yielded ≡ map (λ c. f c.id) (case_rows entries)
 over_ids {B} f entries yielded e = by_now yielded ∙ ap (map (λ k. f (string_bytes k))) e ∙ by_rows entries
   where

@@ -7,7 +7,7 @@ use Rattle.std.specs.Str.{bytes_eq}
 use Rattle.std.proofs.lemmas.List.{map-append}
 use Rattle.std.proofs.lemmas.List.Folds.{find-append}
 use Rattle.std.proofs.lemmas.List.Sums.{fold_push}
-use Rattle.cm_attempt.specs.Table.{Text, CaseRow, AttemptRow, Table, has_repeat, find_case, find_attempt, steps_of, add_case_fault, start_fault, step_start_fault, step_finish_fault, finish_fault, is_closed_to_new}
+use Rattle.cm_attempt.specs.Table.{Utf8, CaseRow, AttemptRow, Table, has_repeat, find_case, find_attempt, steps_of, add_case_fault, start_fault, step_start_fault, step_finish_fault, finish_fault, is_closed_to_new}
 use Rattle.cm_attempt.specs.Table.{may_start, may_finish, end_fault_of, change_first, change_case, change_attempt, new_case, with_case, new_attempt, opened, started, running, running_cursor, after_step, step_done, ended, outcome, with_last, finished, finished_at}
 use Rattle.cm_attempt.specs.Worst.{worst_so_far, worst_of, with_status}
 use Rattle.cm_attempt.specs.declared.status.Status.{Status}
@@ -25,7 +25,7 @@ use Rattle.cm_attempt.proofs.Tracked.{start_still, declared_still, starts_both, 
 
 -- ---- a case is added
 
-case_known : (xs : List Call) (t : Table) (id : Text) (steps : List Text) → Tracked xs t → find_case t id ≡ None → CaseIs (xs ++ AddCase id steps ∷ []) (with_case id steps t) id
+case_known : (xs : List Call) (t : Table) (id : Utf8) (steps : List Utf8) → Tracked xs t → find_case t id ≡ None → CaseIs (xs ++ AddCase id steps ∷ []) (with_case id steps t) id
 case_known xs t id steps h new =
     let was = undeclared_of xs t id (h.of_cases id) new in
     let c = AddCase id steps in
@@ -38,7 +38,7 @@ case_known xs t id steps h new =
       latest = none_yet none refl;
     })
 
-pub case_added : (xs : List Call) (t : Table) (id : Text) (steps : List Text) → Tracked xs t → add_case_fault t id steps ≡ None → Tracked (xs ++ AddCase id steps ∷ []) (with_case id steps t)
+pub case_added : (xs : List Call) (t : Table) (id : Utf8) (steps : List Utf8) → Tracked xs t → add_case_fault t id steps ≡ None → Tracked (xs ++ AddCase id steps ∷ []) (with_case id steps t)
 case_added xs t id steps h accepted = record {
   of_cases = λ case. by_id case id
       (λ k. carry_case xs c t u case (found_past (λ (r : CaseRow). bytes_eq case r.id) t.cases (new_case id steps) k) (rw k refl) refl (record { ended = λ b r e. (refl, refl); still_open = λ s st cs e. refl }) (h.of_cases case))
@@ -62,14 +62,14 @@ case_added xs t id steps h accepted = record {
 
 -- ---- an attempt starts
 
-abbrev start_with : Text → Text → ℕ → StartedAttempt
+abbrev start_with : Utf8 → Utf8 → ℕ → StartedAttempt
 start_with id case number = record { id = id; case_id = case; number = number }
 
-is_first : (xs : List Call) (id case : Text) (number : ℕ) → start_of id xs ≡ None → start_of id (xs ++ Start id case number ∷ []) ≡ Some (start_with id case number)
+is_first : (xs : List Call) (id case : Utf8) (number : ℕ) → start_of id xs ≡ None → start_of id (xs ++ Start id case number ∷ []) ≡ Some (start_with id case number)
 is_first xs id case number new = ap (find (is_of id)) (kept_push as_start xs (Start id case number) (start_with id case number) refl) ∙ found_new (is_of id) (starts xs) (start_with id case number) new (bytes_same id)
 
 -- the attempts so far are retried, and the new one is open
-next_open : (xs : List Call) (id case : Text) (number : ℕ) → start_of id xs ≡ None → ends_of id xs ≡ [] → (l : Last) → is_closed_to_new l ≡ false → Latest xs case (starts_of case xs) l
+next_open : (xs : List Call) (id case : Utf8) (number : ℕ) → start_of id xs ≡ None → ends_of id xs ≡ [] → (l : Last) → is_closed_to_new l ≡ false → Latest xs case (starts_of case xs) l
     → Latest (xs ++ Start id case number ∷ []) case (starts_of case xs ++ start_with id case number ∷ []) last.Open
 next_open xs id case number new none l closed (none_yet a b) =
     let c = Start id case number in
@@ -81,7 +81,7 @@ next_open xs id case number new none l closed (last_over front s true cut all en
     let retried : AllByRecursion (Retried xs) (front ++ s ∷ []) = all_push (Retried xs) front s all ends in
     one_open (front ++ s ∷ []) (start_with id case number) (ap (λ ss. ss ++ start_with id case number ∷ []) cut) (still_retried xs c (λ b r k. refl) (front ++ s ∷ []) retried) (is_first xs id case number new) refl (kept_more (retry_in id) xs c refl ∙ none) refl
 
-attempt_begins : (xs : List Call) (t : Table) (id case : Text) (number : ℕ) → Tracked xs t → StartFits t id case number → AttemptIs (xs ++ Start id case number ∷ []) (started id case t) id
+attempt_begins : (xs : List Call) (t : Table) (id case : Utf8) (number : ℕ) → Tracked xs t → StartFits t id case number → AttemptIs (xs ++ Start id case number ∷ []) (started id case t) id
 attempt_begins xs t id case number h fits =
     let c = Start id case number in
     let was = new_of xs t id (h.of_attempts id) fits.new in
@@ -95,7 +95,7 @@ attempt_begins xs t id case number h fits =
       worst = ap worst_so_far (sym (kept_more (status_in id) xs c refl ∙ was.statuses));
     })
 
-case_opens : (xs : List Call) (t : Table) (id case : Text) (number : ℕ) → Tracked xs t → StartFits t id case number → CaseIs (xs ++ Start id case number ∷ []) (started id case t) case
+case_opens : (xs : List Call) (t : Table) (id case : Utf8) (number : ℕ) → Tracked xs t → StartFits t id case number → CaseIs (xs ++ Start id case number ∷ []) (started id case t) case
 case_opens xs t id case number h fits =
     let c = Start id case number in
     let was = new_of xs t id (h.of_attempts id) fits.new in
@@ -110,7 +110,7 @@ case_opens xs t id case number h fits =
       latest = subst (λ ss. Latest (xs ++ c ∷ []) case ss last.Open) (sym more) (next_open xs id case number was.start was.ends fits.row.last fits.closed k.latest);
     })
 
-pub attempt_started : (xs : List Call) (t : Table) (id case : Text) (number : ℕ) → Tracked xs t → start_fault t id case number ≡ None → Tracked (xs ++ Start id case number ∷ []) (started id case t)
+pub attempt_started : (xs : List Call) (t : Table) (id case : Utf8) (number : ℕ) → Tracked xs t → start_fault t id case number ≡ None → Tracked (xs ++ Start id case number ∷ []) (started id case t)
 attempt_started xs t id case number h accepted = record {
   of_cases = λ other. by_id other case
       (λ k. carry_case xs c t u other (found_elsewhere (λ (r : CaseRow). r.id) opened (λ r. refl) other case k t.cases) refl (rw k refl) (record { ended = λ b r e. (refl, refl); still_open = λ s st cs e. refl }) (h.of_cases other))
@@ -136,10 +136,10 @@ attempt_started xs t id case number h accepted = record {
 
 -- ---- an attempt goes on
 
-pub steps_are : (xs : List Call) (t : Table) (a : Text) (row : AttemptRow) (b : Begun xs t a row) → steps_of t row.case_id ≡ b.its_case.steps
+pub steps_are : (xs : List Call) (t : Table) (a : Utf8) (row : AttemptRow) (b : Begun xs t a row) → steps_of t row.case_id ≡ b.its_case.steps
 steps_are xs t a row b = ap (λ id. steps_of t id) b.of_case ∙ rw b.has_case refl
 
-moved_on : (xs : List Call) (c : Call) (t u : Table) (a : Text) (row new : AttemptRow) (m : Move) → (b : Begun xs t a row) → find_attempt u a ≡ Some new → new.case_id ≡ row.case_id → KeepsSteps t u → start_of a (c ∷ []) ≡ None → move_of a c ≡ Some m
+moved_on : (xs : List Call) (c : Call) (t u : Table) (a : Utf8) (row new : AttemptRow) (m : Move) → (b : Begun xs t a row) → find_attempt u a ≡ Some new → new.case_id ≡ row.case_id → KeepsSteps t u → start_of a (c ∷ []) ≡ None → move_of a c ≡ Some m
     → Stands b.its_case.steps (moves a xs ++ m ∷ []) (ends_of a (xs ++ c ∷ [])) new.cursor → new.worst ≡ worst_so_far (statuses a (xs ++ c ∷ [])) → AttemptIs (xs ++ c ∷ []) u a
 moved_on xs c t u a row new m b found case_id keeps no_start moved stands worst =
     let k = keeps b.start.case_id b.its_case b.has_case in
@@ -159,7 +159,7 @@ has_cursor P None h = cc
 has_cursor P (Some c) h = refl
 
 -- a change of an attempt alone leaves the rest
-changed_alone : (xs : List Call) (c : Call) (t : Table) (a : Text) (f : AttemptRow → AttemptRow) → ((r : AttemptRow) → (f r).id ≡ r.id) → as_case c ≡ None → as_start c ≡ None → ((b : Text) → bytes_eq b a ≡ false → (move_of b c ≡ None) × (status_in b c ≡ None)) → ((b : Text) → retry_in b c ≡ None)
+changed_alone : (xs : List Call) (c : Call) (t : Table) (a : Utf8) (f : AttemptRow → AttemptRow) → ((r : AttemptRow) → (f r).id ≡ r.id) → as_case c ≡ None → as_start c ≡ None → ((b : Utf8) → bytes_eq b a ≡ false → (move_of b c ≡ None) × (status_in b c ≡ None)) → ((b : Utf8) → retry_in b c ≡ None)
     → ends_of a xs ≡ [] → Tracked xs t → AttemptIs (xs ++ c ∷ []) (change_attempt a f t) a → Tracked (xs ++ c ∷ []) (change_attempt a f t)
 changed_alone xs c t a f ids no_case no_start quiet no_end open_yet h own = record {
   of_cases = λ case. carry_case xs c t u case refl (rw no_case refl) (rw no_start refl) (record { ended = λ b r e. (no_end b, by_id b a (λ k. (quiet b k).1) (λ k. absurd (not_so b r e k))); still_open = λ s st cs e. no_end s.id }) (h.of_cases case);
@@ -176,10 +176,10 @@ changed_alone xs c t a f ids no_case no_start quiet no_end open_yet h own = reco
     u : Table
     u = change_attempt a f t
 
-    not_so : (b : Text) (r : Bool) → ends_of b xs ≡ r ∷ [] → b ≡ a → ⊥
+    not_so : (b : Utf8) (r : Bool) → ends_of b xs ≡ r ∷ [] → b ≡ a → ⊥
     not_so b r e k = let no : [] ≡ r ∷ [] = sym open_yet ∙ ap (λ z. ends_of z xs) (sym k) ∙ e in cc
 
-pub step_started : (xs : List Call) (t : Table) (a step : Text) → Tracked xs t → step_start_fault t a step ≡ None → Tracked (xs ++ StartStep a step ∷ []) (change_attempt a running t)
+pub step_started : (xs : List Call) (t : Table) (a step : Utf8) → Tracked xs t → step_start_fault t a step ≡ None → Tracked (xs ++ StartStep a step ∷ []) (change_attempt a running t)
 step_started xs t a step h accepted =
     let c = StartStep a step in
     let fits = step_fits t a step (may_start step) accepted in
@@ -193,7 +193,7 @@ step_started xs t a step h accepted =
     (subst (λ rs. Stands b.its_case.steps (moves a xs ++ StepStarted step ∷ []) rs (option_map running_cursor fits.row.cursor)) (sym (kept_more (retry_in a) xs c refl)) stands)
     (b.worst ∙ ap worst_so_far (sym (kept_more (status_in a) xs c refl))))
 
-pub step_finished : (xs : List Call) (t : Table) (a step : Text) (status : Status) → Tracked xs t → step_finish_fault t a step ≡ None → Tracked (xs ++ FinishStep a step status ∷ []) (change_attempt a (step_done status) t)
+pub step_finished : (xs : List Call) (t : Table) (a step : Utf8) (status : Status) → Tracked xs t → step_finish_fault t a step ≡ None → Tracked (xs ++ FinishStep a step status ∷ []) (change_attempt a (step_done status) t)
 step_finished xs t a step status h accepted =
     let c = FinishStep a step status in
     let fits = step_fits t a step (may_finish step) accepted in
@@ -211,7 +211,7 @@ step_finished xs t a step status h accepted =
 -- ---- an attempt ends
 
 -- an open attempt of a case is its last
-is_latest : (xs : List Call) (a : Text) (front : List StartedAttempt) (s y : StartedAttempt) → ends_of a xs ≡ [] → AllByRecursion (Retried xs) front → find (is_of a) (front ++ s ∷ []) ≡ Some y → a ≡ s.id
+is_latest : (xs : List Call) (a : Utf8) (front : List StartedAttempt) (s y : StartedAttempt) → ends_of a xs ≡ [] → AllByRecursion (Retried xs) front → find (is_of a) (front ++ s ∷ []) ≡ Some y → a ≡ s.id
 is_latest xs a front s y open_yet all found = go (find (is_of a) front) refl
   where
     go : (o : Option StartedAttempt) → find (is_of a) front ≡ o → a ≡ s.id
@@ -232,7 +232,7 @@ outcome_is : (row : AttemptRow) (r : Bool) (ss : List Status) → row.worst ≡ 
 outcome_is row true ss e = ap (λ w. last.Retried (unwrap_or w Passed)) e
 outcome_is row false ss e = ap (λ w. last.Final (unwrap_or w Passed)) e
 
-module _ (xs : List Call) (t : Table) (a : Text) (r : Bool) (h : Tracked xs t) (row : AttemptRow) (found : find_attempt t a ≡ Some row) (b : Begun xs t a row) (open_yet : ends_of a xs ≡ []) where
+module _ (xs : List Call) (t : Table) (a : Utf8) (r : Bool) (h : Tracked xs t) (row : AttemptRow) (found : find_attempt t a ≡ Some row) (b : Begun xs t a row) (open_yet : ends_of a xs ≡ []) where
   abbrev c : Call
   c = Finish a r
 
@@ -248,7 +248,7 @@ module _ (xs : List Call) (t : Table) (a : Text) (r : Bool) (h : Tracked xs t) (
   ended_once : ends_of a (xs ++ c ∷ []) ≡ r ∷ []
   ended_once = kept_push (retry_in a) xs c r told ∙ ap (λ rs. rs ++ r ∷ []) open_yet
 
-  quiet : (q : Text) (s : Bool) → ends_of q xs ≡ s ∷ [] → retry_in q c ≡ None
+  quiet : (q : Utf8) (s : Bool) → ends_of q xs ≡ s ∷ [] → retry_in q c ≡ None
   quiet q s e = by_id q a (λ k. rw k refl) (λ k. let no : [] ≡ s ∷ [] = sym open_yet ∙ ap (λ z. ends_of z xs) (sym k) ∙ e in cc)
 
   case_is : find_case t row.case_id ≡ Some b.its_case
@@ -279,7 +279,7 @@ module _ (xs : List Call) (t : Table) (a : Text) (r : Bool) (h : Tracked xs t) (
         latest = subst (λ ss. Latest (xs ++ c ∷ []) row.case_id ss state) (sym same) (closes (starts_of row.case_id xs) b.its_case.last among k.latest);
       })
 
-  still_open : (case : Text) → bytes_eq case row.case_id ≡ false → (s : StartedAttempt) → start_of s.id xs ≡ Some s → s.case_id ≡ case → retry_in s.id c ≡ None
+  still_open : (case : Utf8) → bytes_eq case row.case_id ≡ false → (s : StartedAttempt) → start_of s.id xs ≡ Some s → s.case_id ≡ case → retry_in s.id c ≡ None
   still_open case differ s st cs = by_id s.id a (λ k. rw k refl) (λ k.
       let both : Some s ≡ Some b.start = sym st ∙ ap (λ z. start_of z xs) k ∙ b.is_start in
       let same : s ≡ b.start = cc in
@@ -309,11 +309,11 @@ module _ (xs : List Call) (t : Table) (a : Text) (r : Bool) (h : Tracked xs t) (
         steps_distinct = subst (AllByRecursion (λ (d : DeclaredCase). has_repeat d.steps ≡ false)) (sym (kept_more as_case xs c refl)) h.steps_distinct;
       }
 
-can_end : (o : Option Cursor) (steps : List Text) → end_fault_of o steps ≡ None → is_some o ≡ true
+can_end : (o : Option Cursor) (steps : List Utf8) → end_fault_of o steps ≡ None → is_some o ≡ true
 can_end None steps h = cc
 can_end (Some c) steps h = refl
 
-pub attempt_finished : (xs : List Call) (t : Table) (a : Text) (r : Bool) → Tracked xs t → finish_fault t a ≡ None → Tracked (xs ++ Finish a r ∷ []) (finished a r t)
+pub attempt_finished : (xs : List Call) (t : Table) (a : Utf8) (r : Bool) → Tracked xs t → finish_fault t a ≡ None → Tracked (xs ++ Finish a r ∷ []) (finished a r t)
 attempt_finished xs t a r h accepted =
     let fits = end_fits t a accepted in
     let b = begun_of xs t a fits.row (h.of_attempts a) fits.found in

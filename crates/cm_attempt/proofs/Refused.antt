@@ -5,7 +5,7 @@ use Rattle.std.specs.List.{list_any, list_all}
 use Rattle.std.specs.Option.{option_map_or}
 use Rattle.std.specs.Str.{bytes_eq}
 use Rattle.std.proofs.lemmas.Bool.Decides.{nat_tests}
-use Rattle.cm_attempt.specs.Table.{Text, Table, has_text, has_repeat, find_case, find_attempt, steps_of, start_fault_at, step_fault_at, step_fault_of, finish_fault_at, end_fault_of, may_start, may_finish, is_closed_to_new}
+use Rattle.cm_attempt.specs.Table.{Utf8, Table, has_text, has_repeat, find_case, find_attempt, steps_of, start_fault_at, step_fault_at, step_fault_of, finish_fault_at, end_fault_of, may_start, may_finish, is_closed_to_new}
 use Rattle.cm_attempt.specs.declared.rows.Cursor.{Cursor}
 use Rattle.cm_attempt.specs.declared.rows.Last.{Last}
 use Rattle.cm_attempt.specs.declared.fault.TrackFault.{TrackFault}
@@ -27,7 +27,7 @@ not_all p ss s e = go (list_all p (ss ++ s ∷ [])) refl
     go false k = k
     go true k = let yes : p s ≡ true = last_all p ss s k in cc
 
-closed_is : (calls : List Call) (case : Text) (ss : List StartedAttempt) (l : Last) → Latest calls case ss l → is_closed_to_new l ≡ not (list_all (λ s. is_retried s.id calls) ss)
+closed_is : (calls : List Call) (case : Utf8) (ss : List StartedAttempt) (l : Last) → Latest calls case ss l → is_closed_to_new l ≡ not (list_all (λ s. is_retried s.id calls) ss)
 closed_is calls case ss l (none_yet a b) = rw (a, b) refl
 closed_is calls case ss l (one_open front s cut all st cs ends e) =
     let no : is_retried s.id calls ≡ false = ap (list_any (λ r. r)) ends in
@@ -38,15 +38,15 @@ closed_is calls case ss l (last_over front s false cut all ends e) =
 closed_is calls case ss l (last_over front s true cut all ends e) =
     ap is_closed_to_new e ∙ sym (ap (λ z. not (list_all (λ s. is_retried s.id calls) z)) cut ∙ ap not (all_then calls front s all ends))
 
-has_case : (calls : List Call) (t : Table) (case : Text) → CaseIs calls t case → is_some (find_case t case) ≡ is_some (declared case calls)
+has_case : (calls : List Call) (t : Table) (case : Utf8) → CaseIs calls t case → is_some (find_case t case) ≡ is_some (declared case calls)
 has_case calls t case (undeclared n u) = rw (n, u.no_case) refl
 has_case calls t case (known row f k) = rw (f, k.is_declared) refl
 
-has_attempt : (calls : List Call) (t : Table) (a : Text) → AttemptIs calls t a → is_some (find_attempt t a) ≡ is_some (start_of a calls)
+has_attempt : (calls : List Call) (t : Table) (a : Utf8) → AttemptIs calls t a → is_some (find_attempt t a) ≡ is_some (start_of a calls)
 has_attempt calls t a (unstarted n u) = rw (n, u.start) refl
 has_attempt calls t a (begun row f b) = rw (f, b.is_start) refl
 
-start_refused : (first : ℕ) (calls : List Call) (t : Table) → t.first ≡ first → Tracked calls t → (id case : Text) (number : ℕ) → CaseIs calls t case → refusal_of t (Start id case number) ≡ fault_of first calls (Start id case number)
+start_refused : (first : ℕ) (calls : List Call) (t : Table) → t.first ≡ first → Tracked calls t → (id case : Utf8) (number : ℕ) → CaseIs calls t case → refusal_of t (Start id case number) ≡ fault_of first calls (Start id case number)
 start_refused first calls t counts h id case number (undeclared n u) = rw (n, u.no_case) refl
 start_refused first calls t counts h id case number (known row f k) =
     ap (start_fault_at t id number) f
@@ -55,21 +55,21 @@ start_refused first calls t counts h id case number (known row f k) =
 
 -- ---- a step and an end
 
-next_is : (calls : List Call) (a : Text) (steps : List Text) (rs : List Bool) (o : Option Cursor) (m : Move) → (st : Stands steps (moves a calls) rs o) → steps_of_attempt a calls ≡ steps → is_next_move m a calls ≡ option_map_or (same_move m) (slice_get (rest_of steps (moves a calls) rs o st) 0) false
+next_is : (calls : List Call) (a : Utf8) (steps : List Utf8) (rs : List Bool) (o : Option Cursor) (m : Move) → (st : Stands steps (moves a calls) rs o) → steps_of_attempt a calls ≡ steps → is_next_move m a calls ≡ option_map_or (same_move m) (slice_get (rest_of steps (moves a calls) rs o st) 0) false
 next_is calls a steps rs o m st same =
     ap (λ z. option_map_or (same_move m) (slice_get z (length (moves a calls))) false) (ap whole same ∙ left_is steps (moves a calls) rs o st)
     ∙ ap (λ z. option_map_or (same_move m) z false) (at_end (moves a calls) (rest_of steps (moves a calls) rs o st))
 
-here_is : (step : Text) (done todo : List Text) → option_map_or (bytes_eq step) (slice_get (done ++ todo) (length done)) false ≡ option_map_or (bytes_eq step) (slice_get todo 0) false
+here_is : (step : Utf8) (done todo : List Utf8) → option_map_or (bytes_eq step) (slice_get (done ++ todo) (length done)) false ≡ option_map_or (bytes_eq step) (slice_get todo 0) false
 here_is step done todo = ap (λ z. option_map_or (bytes_eq step) z false) (at_end done todo)
 
-start_is : (steps : List Text) (ms : List Move) (rs : List Bool) (o : Option Cursor) (step : Text) → (st : Stands steps ms rs o) → may_start step o steps ≡ option_map_or (same_move (StepStarted step)) (slice_get (rest_of steps ms rs o st) 0) false
+start_is : (steps : List Utf8) (ms : List Move) (rs : List Bool) (o : Option Cursor) (step : Utf8) → (st : Stands steps ms rs o) → may_start step o steps ≡ option_map_or (same_move (StepStarted step)) (slice_get (rest_of steps ms rs o st) 0) false
 start_is steps ms rs o step (between done [] a b c d) = rw (d, a) (here_is step done [])
 start_is steps ms rs o step (between done (x ∷ more) a b c d) = rw (d, a) (here_is step done (x ∷ more))
 start_is steps ms rs o step (inside done x more a b c d) = rw d refl
 start_is steps ms rs o step (over r a b c) = rw c refl
 
-finish_is : (steps : List Text) (ms : List Move) (rs : List Bool) (o : Option Cursor) (step : Text) → (st : Stands steps ms rs o) → may_finish step o steps ≡ option_map_or (same_move (StepFinished step)) (slice_get (rest_of steps ms rs o st) 0) false
+finish_is : (steps : List Utf8) (ms : List Move) (rs : List Bool) (o : Option Cursor) (step : Utf8) → (st : Stands steps ms rs o) → may_finish step o steps ≡ option_map_or (same_move (StepFinished step)) (slice_get (rest_of steps ms rs o st) 0) false
 finish_is steps ms rs o step (between done [] a b c d) = rw d refl
 finish_is steps ms rs o step (between done (x ∷ more) a b c d) = rw d refl
 finish_is steps ms rs o step (inside done x more a b c d) = rw (d, a) (here_is step done (x ∷ more))
@@ -78,8 +78,8 @@ finish_is steps ms rs o step (over r a b c) = rw c refl
 two_tests : (b n : Bool) → step_fault_of b n ≡ (if not b then Some fault.UnknownStep else (if n then None else Some fault.StepOrder))
 two_tests b n = refl
 
-step_refused : (calls : List Call) (t : Table) → Tracked calls t → (a step : Text) (m : Move) (may : Option Cursor → List Text → Bool)
-    → ((steps : List Text) (ms : List Move) (rs : List Bool) (o : Option Cursor) → (st : Stands steps ms rs o) → may o steps ≡ option_map_or (same_move m) (slice_get (rest_of steps ms rs o st) 0) false)
+step_refused : (calls : List Call) (t : Table) → Tracked calls t → (a step : Utf8) (m : Move) (may : Option Cursor → List Utf8 → Bool)
+    → ((steps : List Utf8) (ms : List Move) (rs : List Bool) (o : Option Cursor) → (st : Stands steps ms rs o) → may o steps ≡ option_map_or (same_move m) (slice_get (rest_of steps ms rs o st) 0) false)
     → AttemptIs calls t a → step_fault_at t step may (find_attempt t a) ≡ step_fault calls a step m
 step_refused calls t h a step m may fits (unstarted n u) = rw (n, u.start) refl
 step_refused calls t h a step m may fits (begun row f b) =
@@ -92,7 +92,7 @@ step_refused calls t h a step m may fits (begun row f b) =
 end_tests : Bool → Bool → Option TrackFault
 end_tests ended next = if ended then Some fault.StepOrder else (if next then None else Some fault.FinishedEarly)
 
-end_is : (steps : List Text) (ms : List Move) (rs : List Bool) (o : Option Cursor) → (st : Stands steps ms rs o)
+end_is : (steps : List Utf8) (ms : List Move) (rs : List Bool) (o : Option Cursor) → (st : Stands steps ms rs o)
     → end_fault_of o steps ≡ (if not (is_some o) then Some fault.StepOrder else (if option_map_or (same_move Ended) (slice_get (rest_of steps ms rs o st) 0) false then None else Some fault.FinishedEarly))
 end_is steps ms rs o (between done [] a b c d) = let full : (length done == length (done ++ [])) ≡ true = rw append-nil (grind (arith, nat_tests)) in rw (d, a, full) refl
 end_is steps ms rs o (between done (x ∷ more) a b c d) = rw (d, a, some_left done x more) refl
@@ -103,7 +103,7 @@ not_twice : (b : Bool) → not (not b) ≡ b
 not_twice true = refl
 not_twice false = refl
 
-end_refused : (first : ℕ) (calls : List Call) (t : Table) → Tracked calls t → (a : Text) (r : Bool) → AttemptIs calls t a → refusal_of t (Finish a r) ≡ fault_of first calls (Finish a r)
+end_refused : (first : ℕ) (calls : List Call) (t : Table) → Tracked calls t → (a : Utf8) (r : Bool) → AttemptIs calls t a → refusal_of t (Finish a r) ≡ fault_of first calls (Finish a r)
 end_refused first calls t h a r (unstarted n u) = rw (n, u.start) refl
 end_refused first calls t h a r (begun row f b) =
     let steps = its_steps calls t h a row b in

@@ -3,7 +3,7 @@ use Rattle.std.specs.Prelude.{◌≡◌, ◌==◌, ◌+◌, ℕ, Bool, true, fal
 use Rattle.std.specs.List.{list_all}
 use Rattle.std.specs.Option.{option_map_or}
 use Rattle.std.specs.Str.{bytes_eq}
-use Rattle.cm_attempt.specs.Table.{Text, Table, has_text, has_repeat}
+use Rattle.cm_attempt.specs.Table.{Utf8, Table, has_text, has_repeat}
 use Rattle.cm_attempt.specs.Calls.{Call, AddCase, Start, StartStep, FinishStep, Finish, refusal_of, table_after, declared, start_of, starts_of, steps_of_attempt, Move, Started, StepStarted, StepFinished, Ended, moves, whole, is_ended, is_retried}
 use Rattle.cm_attempt.specs.declared.fault.TrackFault.{TrackFault}
 use Rattle.cm_attempt.specs.declared.fault.TrackFault.TheVariants.{UnknownCase, UnknownAttempt, UnknownStep, DuplicateId, AttemptNumber, AttemptOverlap, StepOrder, FinishedEarly}
@@ -16,13 +16,13 @@ same_move Ended Ended = true
 same_move _ _ = false
 
 -- it is what the attempt has to go through next
-abbrev pub is_next_move : Move → Text → List Call → Bool
+abbrev pub is_next_move : Move → Utf8 → List Call → Bool
 is_next_move m a calls =
     option_map_or (same_move m)
     (slice_get (whole (steps_of_attempt a calls)) (length (moves a calls))) false
 
 -- the first fault of a move of a step
-abbrev pub step_fault : List Call → Text → Text → Move → Option TrackFault
+abbrev pub step_fault : List Call → Utf8 → Utf8 → Move → Option TrackFault
 step_fault calls a step m =
     if not (is_some (start_of a calls)) then Some UnknownAttempt
     else (if not (has_text step (steps_of_attempt a calls)) then Some UnknownStep

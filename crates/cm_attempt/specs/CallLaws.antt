@@ -1,7 +1,7 @@
 -- What the calls of a run say where none is refused, for every interleaving of attempts, and what their table shows of it.
 use Rattle.std.specs.Prelude.{◌≡◌, ◌+◌, ℕ, true, false, not, List, ◌∷◌, ◌++◌, map, length, Some, is_some, count_by}
 use Rattle.std.specs.List.{list_all, AllByRecursion}
-use Rattle.cm_attempt.specs.Table.{Text, Table, has_repeat, open_count, reported_of}
+use Rattle.cm_attempt.specs.Table.{Utf8, Table, has_repeat, open_count, reported_of}
 use Rattle.cm_attempt.specs.Calls.{Call, Start, table_after, cases, starts, declared, starts_of, steps_of_attempt, moves, whole, ends_of, is_ended, is_retried, result_of}
 
 -- the list begins so
@@ -9,8 +9,8 @@ abbrev pub IsFront : {A : Type 0} → List A → List A → Type 0
 IsFront {A} front all = (rest : List A) × (all ≡ front ++ rest)
 
 -- what holds of each start and the calls before it
-abbrev pub AtEachStart : (List Call → (id test_case : Text) → ℕ → Type 0) → List Call → Type 0
-AtEachStart P calls = (before : List Call) (id case : Text) (number : ℕ) (after : List Call)
+abbrev pub AtEachStart : (List Call → (id test_case : Utf8) → ℕ → Type 0) → List Call → Type 0
+AtEachStart P calls = (before : List Call) (id case : Utf8) (number : ℕ) (after : List Call)
     → calls ≡ before ++ Start id case number ∷ after → P before id case number
 
 -- an attempt is of a case that was declared
@@ -30,12 +30,12 @@ NoneOverlaps = AtEachStart
 -- Each attempt went through a front of what it has to: it started, each step of its case started and finished in order, and it
 -- ended. Of what wasn't started there is no move.
 abbrev pub StepsInOrder : List Call → Type 0
-StepsInOrder calls = (attempt : Text)
+StepsInOrder calls = (attempt : Utf8)
     → IsFront (moves attempt calls) (whole (steps_of_attempt attempt calls))
 
 -- An attempt that is finished went through the whole, and it finished once.
 abbrev pub FinishedAreWhole : List Call → Type 0
-FinishedAreWhole calls = (attempt : Text) → is_ended attempt calls ≡ true
+FinishedAreWhole calls = (attempt : Utf8) → is_ended attempt calls ≡ true
     → (moves attempt calls ≡ whole (steps_of_attempt attempt calls))
     × (length (ends_of attempt calls) ≡ 1)
 
@@ -75,7 +75,7 @@ HasCases calls t = map (λ c. c.id) t.cases ≡ map (λ c. c.id) (cases calls)
 
 -- what it reports of a case is the worst status of the final attempt, and none where there is none
 abbrev pub Reports : List Call → Table → Type 0
-Reports calls t = (case : Text) → reported_of t case ≡ result_of case calls
+Reports calls t = (case : Utf8) → reported_of t case ≡ result_of case calls
 
 -- its open attempts are those that were started and aren't finished
 abbrev pub CountsOpen : List Call → Table → Type 0

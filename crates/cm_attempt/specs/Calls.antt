@@ -5,18 +5,18 @@ use Rattle.std.specs.Prelude.{ℕ, Bool, true, false, not, List, [], ◌∷◌, 
 use Rattle.std.specs.List.{list_any, filter, filter_map, flat_map}
 use Rattle.std.specs.Option.{option_map_or, option_and_then}
 use Rattle.std.specs.Str.{bytes_eq}
-use Rattle.cm_attempt.specs.Table.{Text, Table, table_from, add_case_fault, start_fault, step_start_fault, step_finish_fault, finish_fault}
+use Rattle.cm_attempt.specs.Table.{Utf8, Table, table_from, add_case_fault, start_fault, step_start_fault, step_finish_fault, finish_fault}
 use Rattle.cm_attempt.specs.Table.{with_case, started, change_attempt, running, step_done, finished}
 use Rattle.cm_attempt.specs.Worst.{worst_of}
 use Rattle.cm_attempt.specs.declared.status.Status.{Status}
 use Rattle.cm_attempt.specs.declared.fault.TrackFault.{TrackFault}
 
 pub data Call : Type 0 where
-  AddCase : (id : Text) → (steps : List Text) → Call
-  Start : (id test_case : Text) → (number : ℕ) → Call
-  StartStep : (attempt step : Text) → Call
-  FinishStep : (attempt step : Text) → Status → Call
-  Finish : (attempt : Text) → (will_be_retried : Bool) → Call
+  AddCase : (id : Utf8) → (steps : List Utf8) → Call
+  Start : (id test_case : Utf8) → (number : ℕ) → Call
+  StartStep : (attempt step : Utf8) → Call
+  FinishStep : (attempt step : Utf8) → Status → Call
+  Finish : (attempt : Utf8) → (will_be_retried : Bool) → Call
 
 -- why a table refuses a call, the first reason in order
 abbrev pub refusal_of : Table → Call → Option TrackFault
@@ -50,12 +50,12 @@ table_after first calls = left_by (table_from first) calls
 -- ---- the cases, and the attempts in order of start
 
 pub record DeclaredCase : Type 0 where
-  pub id : Text
-  pub steps : List Text
+  pub id : Utf8
+  pub steps : List Utf8
 
 pub record StartedAttempt : Type 0 where
-  pub id : Text
-  pub case_id : Text
+  pub id : Utf8
+  pub case_id : Utf8
   pub number : ℕ
 
 abbrev pub as_case : Call → Option DeclaredCase
@@ -72,21 +72,21 @@ cases calls = filter_map as_case calls
 abbrev pub starts : List Call → List StartedAttempt
 starts calls = filter_map as_start calls
 
-abbrev pub declared : Text → List Call → Option DeclaredCase
+abbrev pub declared : Utf8 → List Call → Option DeclaredCase
 declared case calls = find (λ c. bytes_eq case c.id) (cases calls)
 
-abbrev pub start_of : Text → List Call → Option StartedAttempt
+abbrev pub start_of : Utf8 → List Call → Option StartedAttempt
 start_of attempt calls = find (λ s. bytes_eq attempt s.id) (starts calls)
 
 -- the attempts of a case, in order of start
-abbrev pub starts_of : Text → List Call → List StartedAttempt
+abbrev pub starts_of : Utf8 → List Call → List StartedAttempt
 starts_of case calls = filter (λ s. bytes_eq case s.case_id) (starts calls)
 
 -- the steps of a case, and those of the case of an attempt
-abbrev pub steps_of : Text → List Call → List Text
+abbrev pub steps_of : Utf8 → List Call → List Utf8
 steps_of case calls = option_map_or (λ c. c.steps) (declared case calls) []
 
-abbrev pub steps_of_attempt : Text → List Call → List Text
+abbrev pub steps_of_attempt : Utf8 → List Call → List Utf8
 steps_of_attempt attempt calls =
     option_map_or (λ s. steps_of s.case_id calls) (start_of attempt calls) []
 
@@ -94,11 +94,11 @@ steps_of_attempt attempt calls =
 
 pub data Move : Type 0 where
   Started : Move
-  StepStarted : Text → Move
-  StepFinished : Text → Move
+  StepStarted : Utf8 → Move
+  StepFinished : Utf8 → Move
   Ended : Move
 
-abbrev pub move_of : Text → Call → Option Move
+abbrev pub move_of : Utf8 → Call → Option Move
 move_of a (Start id case number) = if bytes_eq a id then Some Started else None
 move_of a (StartStep attempt step) = if bytes_eq a attempt then Some (StepStarted step) else None
 move_of a (FinishStep attempt step status) =
@@ -107,24 +107,24 @@ move_of a (Finish attempt will_be_retried) = if bytes_eq a attempt then Some End
 move_of a _ = None
 
 -- what the calls that name an attempt say of it
-abbrev pub moves : Text → List Call → List Move
+abbrev pub moves : Utf8 → List Call → List Move
 moves a calls = filter_map (move_of a) calls
 
 -- each step started and finished
-abbrev pub through : List Text → List Move
+abbrev pub through : List Utf8 → List Move
 through steps = flat_map (λ s. StepStarted s ∷ StepFinished s ∷ []) steps
 
 -- what an attempt of a case with these steps has to go through
-abbrev pub whole : List Text → List Move
+abbrev pub whole : List Utf8 → List Move
 whole steps = Started ∷ through steps ++ Ended ∷ []
 
-abbrev pub retry_in : Text → Call → Option Bool
+abbrev pub retry_in : Utf8 → Call → Option Bool
 retry_in a (Finish attempt will_be_retried) =
     if bytes_eq a attempt then Some will_be_retried else None
 retry_in a _ = None
 
 -- of each end of the attempt, whether it will be retried
-abbrev pub ends_of : Text → List Call → List Bool
+abbrev pub ends_of : Utf8 → List Call → List Bool
 ends_of a calls = filter_map (retry_in a) calls
 
 abbrev pub is_end : Move → Bool
@@ -132,23 +132,23 @@ is_end Ended = true
 is_end _ = false
 
 -- it is finished
-abbrev pub is_ended : Text → List Call → Bool
+abbrev pub is_ended : Utf8 → List Call → Bool
 is_ended a calls = list_any is_end (moves a calls)
 
 -- it is finished and will be retried
-abbrev pub is_retried : Text → List Call → Bool
+abbrev pub is_retried : Utf8 → List Call → Bool
 is_retried a calls = list_any (λ r. r) (ends_of a calls)
 
 -- it is finished and won't be retried
-abbrev pub is_final : Text → List Call → Bool
+abbrev pub is_final : Utf8 → List Call → Bool
 is_final a calls = list_any not (ends_of a calls)
 
-abbrev pub status_in : Text → Call → Option Status
+abbrev pub status_in : Utf8 → Call → Option Status
 status_in a (FinishStep attempt step status) = if bytes_eq a attempt then Some status else None
 status_in a _ = None
 
 -- the statuses of the steps of the attempt that finished
-abbrev pub statuses : Text → List Call → List Status
+abbrev pub statuses : Utf8 → List Call → List Status
 statuses a calls = filter_map (status_in a) calls
 
 -- ---- the result of a case
@@ -164,5 +164,5 @@ abbrev pub final_status : List Call → StartedAttempt → Option Status
 final_status calls s = if is_final s.id calls then Some (worst_of (statuses s.id calls)) else None
 
 -- the worst status of the case's final attempt, which is its last, finished and not to be retried
-abbrev pub result_of : Text → List Call → Option Status
+abbrev pub result_of : Utf8 → List Call → Option Status
 result_of case calls = option_and_then (final_status calls) (last_of (starts_of case calls))

@@ -2,11 +2,11 @@
 use Rattle.std.specs.Prelude.{ℕ, List, String, map}
 use Rattle.std.specs.String.{string_bytes}
 use Rattle.std.specs.declared.alloc.Global.{Global}
-use Rattle.cm_attempt.specs.Table.{CaseRow, AttemptRow, Table, Text}
+use Rattle.cm_attempt.specs.Table.{CaseRow, AttemptRow, Table, Utf8}
 use Rattle.cm_attempt.specs.declared.rows.Case.{Case}
 use Rattle.cm_attempt.specs.declared.rows.Attempt.{Attempt}
 
-abbrev pub case_row : Text → Case → CaseRow
+abbrev pub case_row : Utf8 → Case → CaseRow
 case_row id c = record {
   id = id;
   steps = map string_bytes c.steps.keys;
@@ -14,7 +14,7 @@ case_row id c = record {
   last = c.last;
 }
 
-abbrev pub attempt_row : Text → Attempt → AttemptRow
+abbrev pub attempt_row : Utf8 → Attempt → AttemptRow
 attempt_row id a = record {
   id = id;
   case_id = string_bytes a.case_id;

@@ -12,7 +12,7 @@ use Rattle.cm_envelope.specs.declared.feed.Trouble.TheVariants.{ReadFailed, Line
 use Rattle.cm_attempt.specs.declared.settings.Settings.{Settings}
 use Rattle.cm_stream.specs.Stream.{shown, verdict_in}
 use Rattle.cm_stream.specs.declared.verdict.Verdict.TheVariants as verdict
-use Rattle.cm_stream.specs.declared.verdict.Bad.TheVariants as bad
+use Rattle.cm_stream.specs.declared.verdict.StreamFault.TheVariants as bad
 use Rattle.cm_state.specs.Summary.{Summary, nothing_seen}
 use Rattle.cm_state.specs.StateChecks.{finding_at_end}
 use Rattle.cm_state.specs.Laws.{at_end}

@@ -7,7 +7,7 @@ use Rattle.cm_attempt.specs.Table.{has_text, has_repeat}
 use Rattle.cm_refs.specs.declared.fault.RefFault.{RefFault}
 use Rattle.cm_refs.specs.declared.fault.RefFault.TheVariants as reference
 use Rattle.cm_refs.specs.Declarations.{RunHookRow, find_pickle, find_run_hook, finish_fault_at, pickle_fault}
-use Rattle.cm_stream.specs.Texts.{Text}
+use Rattle.cm_stream.specs.Texts.{Utf8}
 use Rattle.cm_stream.specs.Readings.{Reading, Accepted, Refused, OtherLanguage, TooLong}
 use Rattle.cm_stream.specs.OnePass.{reads}
 use Rattle.cm_stream.specs.Skeleton.{same_skeleton}
@@ -126,7 +126,7 @@ module _ (s : Summary) (x : Source) where
           fits kept.Refused = refl
           fits (kept.Accepted a) = refl
 
-pub kept_source : (x : Source) (uri : Text) (k : Kept) → uri ≡ x.uri → ReadsAs (reads x.content) (Ok k) → kept_row uri k ≡ new_source x
+pub kept_source : (x : Source) (uri : Utf8) (k : Kept) → uri ≡ x.uri → ReadsAs (reads x.content) (Ok k) → kept_row uri k ≡ new_source x
 kept_source x uri k e h = moved_row uri k ∙ (λ i. record (h i) { uri = e i })
 
 -- ---- a parse error
@@ -188,7 +188,7 @@ module _ (s : Summary) (p : Pickle) where
     pub pickle_differs : is_next_by s p ≡ false → plain_finding s (envelope.Pickle p) ≡ Some (IsBad bad.PickleDiffers)
     pickle_differs e = rw (known, e) refl
 
-    module _ (next : is_next_by s p ≡ true) (steps : List Text) (same : steps ≡ map (λ x. x.id) p.steps) where
+    module _ (next : is_next_by s p ≡ true) (steps : List Utf8) (same : steps ≡ map (λ x. x.id) p.steps) where
       pub pickle_told : (f : RefFault) → MatchOption (pickle_fault s.declared p.id steps) (f ≡ reference.Memory) (λ fault. (f ≡ fault) ⊎ (f ≡ reference.Memory))
           → StopsFor (plain_finding s (envelope.Pickle p)) (refused_reference f)
       pickle_told f h = rw (known, next) (told_pickle (is_some (find_pickle s.declared p.id) || has_repeat (map (λ x. x.id) p.steps)) f (rw same at h))

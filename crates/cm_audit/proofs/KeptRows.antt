@@ -4,7 +4,7 @@ use Rattle.std.specs.Prelude.{find, is_some, option_map, slice_get, unwrap_or}
 use Rattle.std.specs.Option.{option_map_or}
 use Rattle.std.specs.Str.{bytes_eq}
 use Rattle.cm_attempt.specs.Table.{change_first, has_text}
-use Rattle.cm_stream.specs.Texts.{Text}
+use Rattle.cm_stream.specs.Texts.{Utf8}
 use Rattle.cm_state.specs.Summary.{SourceRow}
 use Rattle.cm_stream.specs.Checks.{due_pickles}
 use Rattle.cm_stream.specs.Sources.{DuePickle, is_due}
@@ -15,20 +15,20 @@ use Rattle.cm_audit.specs.Kept.{HasMore, kept_row}
 use Rattle.cm_audit.specs.declared.source.Kept.{Kept}
 use Rattle.cm_audit.specs.declared.source.Kept.TheVariants as kept
 
-pub row_uri : (uri : Text) (k : Kept) → (kept_row uri k).uri ≡ uri
+pub row_uri : (uri : Utf8) (k : Kept) → (kept_row uri k).uri ≡ uri
 row_uri uri kept.Refused = refl
 row_uri uri (kept.Accepted a) = refl
 
 -- a row is found by its key
-pub row_says : (uri t : Text) (k : Kept) → bytes_eq uri (kept_row t k).uri ≡ bytes_eq uri t
+pub row_says : (uri t : Utf8) (k : Kept) → bytes_eq uri (kept_row t k).uri ≡ bytes_eq uri t
 row_says uri t k = ap (bytes_eq uri) (row_uri t k)
 
-pub moved_row : (uri : Text) (k : Kept) → kept_row uri k ≡ record (kept_row [] k) { uri = uri }
+pub moved_row : (uri : Utf8) (k : Kept) → kept_row uri k ≡ record (kept_row [] k) { uri = uri }
 moved_row uri kept.Refused = refl
 moved_row uri (kept.Accepted a) = refl
 
 -- there is a row of a uri where it is one of the uris
-pub row_listed : (uri : Text) (rows : List SourceRow) → is_some (find (λ r. bytes_eq uri r.uri) rows) ≡ has_text uri (map (λ r. r.uri) rows)
+pub row_listed : (uri : Utf8) (rows : List SourceRow) → is_some (find (λ r. bytes_eq uri r.uri) rows) ≡ has_text uri (map (λ r. r.uri) rows)
 row_listed uri [] = refl
 row_listed uri (r ∷ rows) = go (bytes_eq uri r.uri) refl (row_listed uri rows)
   where
@@ -37,7 +37,7 @@ row_listed uri (r ∷ rows) = go (bytes_eq uri r.uri) refl (row_listed uri rows)
     go true e rest = rw e refl
     go false e rest = rw e rest
 
-pub row_absent : (uri : Text) (rows : List SourceRow) → has_text uri (map (λ r. r.uri) rows) ≡ false → find (λ r. bytes_eq uri r.uri) rows ≡ None
+pub row_absent : (uri : Utf8) (rows : List SourceRow) → has_text uri (map (λ r. r.uri) rows) ≡ false → find (λ r. bytes_eq uri r.uri) rows ≡ None
 row_absent uri rows h = go (find (λ r. bytes_eq uri r.uri) rows) (row_listed uri rows ∙ h)
   where
     go : (o : Option SourceRow) → is_some o ≡ false → o ≡ None
@@ -55,34 +55,34 @@ changed_uris p f keeps (r ∷ rows) = go (p r) refl (changed_uris p f keeps rows
     go false e rest = rw e (ap (λ ts. r.uri ∷ ts) rest)
 
 -- what is asked of a row doesn't ask for its key
-pub good_bare : (uri : Text) (k : Kept) → is_accepted (kept_row uri k).reading ≡ true → is_accepted (kept_row [] k).reading ≡ true
+pub good_bare : (uri : Utf8) (k : Kept) → is_accepted (kept_row uri k).reading ≡ true → is_accepted (kept_row [] k).reading ≡ true
 good_bare uri kept.Refused h = h
 good_bare uri (kept.Accepted a) h = h
 
-pub more_bare : (uri : Text) (k : Kept) → HasMore (kept_row uri k) → HasMore (kept_row [] k)
+pub more_bare : (uri : Utf8) (k : Kept) → HasMore (kept_row uri k) → HasMore (kept_row [] k)
 more_bare uri kept.Refused h = h
 more_bare uri (kept.Accepted a) h = h
 
 -- whether a row is found, by the list of the uris
-pub listed_is : (uri : Text) (rows : List SourceRow) (names : List Text) (o : Option SourceRow) → map (λ r. r.uri) rows ≡ names
+pub listed_is : (uri : Utf8) (rows : List SourceRow) (names : List Utf8) (o : Option SourceRow) → map (λ r. r.uri) rows ≡ names
     → o ≡ find (λ r. bytes_eq uri r.uri) rows → has_text uri names ≡ is_some o
 listed_is uri rows names o listed e = sym (ap (has_text uri) listed) ∙ sym (row_listed uri rows) ∙ sym (ap is_some e)
 
 -- what was found by an equal text
-pub found_by : (t uri : Text) (o : Option (Bor Kept)) (rows : List SourceRow) → t ≡ uri
+pub found_by : (t uri : Utf8) (o : Option (Bor Kept)) (rows : List SourceRow) → t ≡ uri
     → option_map (λ (k : Bor Kept). kept_row t k.now) o ≡ find (λ r. bytes_eq t r.uri) rows
     → option_map (λ (k : Bor Kept). kept_row uri k.now) o ≡ find (λ r. bytes_eq uri r.uri) rows
 found_by t uri o rows e h = subst (λ t. option_map (λ (k : Bor Kept). kept_row t k.now) o ≡ find (λ r. bytes_eq t r.uri) rows) e h
 
-pub found_kept : (uri : Text) (o : Option (Bor Kept)) (k : Bor Kept) (rows : List SourceRow) → o ≡ Some k
+pub found_kept : (uri : Utf8) (o : Option (Bor Kept)) (k : Bor Kept) (rows : List SourceRow) → o ≡ Some k
     → option_map (λ (k : Bor Kept). kept_row uri k.now) o ≡ find (λ r. bytes_eq uri r.uri) rows → Some (kept_row uri k.now) ≡ find (λ r. bytes_eq uri r.uri) rows
 found_kept uri o k rows e h = sym (ap (option_map (λ (k : Bor Kept). kept_row uri k.now)) e) ∙ h
 
-pub found_none : (uri : Text) (o : Option (Bor Kept)) (rows : List SourceRow) → o ≡ None
+pub found_none : (uri : Utf8) (o : Option (Bor Kept)) (rows : List SourceRow) → o ≡ None
     → option_map (λ (k : Bor Kept). kept_row uri k.now) o ≡ find (λ r. bytes_eq uri r.uri) rows → None ≡ find (λ r. bytes_eq uri r.uri) rows
 found_none uri o rows e h = sym (ap (option_map (λ (k : Bor Kept). kept_row uri k.now)) e) ∙ h
 
-pub next_bare : (uri : Text) (p : Pickle) (k : Kept) → is_next_of p (kept_row uri k) ≡ is_next_of p (kept_row [] k)
+pub next_bare : (uri : Utf8) (p : Pickle) (k : Kept) → is_next_of p (kept_row uri k) ≡ is_next_of p (kept_row [] k)
 next_bare uri p kept.Refused = refl
 next_bare uri p (kept.Accepted a) = refl
 

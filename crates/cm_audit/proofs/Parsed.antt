@@ -6,12 +6,12 @@ use Rattle.gk_grammar.specs.declared.fault.FaultKind.TheVariants as kind
 use Rattle.gk_grammar.specs.Documents.{IsDocumentOf, HasFault, IsTooLong}
 use Rattle.gk_tree.specs.declared.fault.ParseFault.{ParseFault}
 use Rattle.gk_tree.specs.Views.{too_long}
-use Rattle.cm_stream.specs.Texts.{Text}
+use Rattle.cm_stream.specs.Texts.{Utf8}
 use Rattle.cm_stream.specs.Readings.{Accepted, Refused, OtherLanguage, TooLong}
 use Rattle.cm_stream.specs.OnePass.{reads}
 use Rattle.cm_stream.proofs.OnePass.{reads_it}
 
-module _ (text : Text) (r : Result Document ParseFault) (limits : (r ≡ Err too_long) ↔ IsTooLong text) where
+module _ (text : Utf8) (r : Result Document ParseFault) (limits : (r ≡ Err too_long) ↔ IsTooLong text) where
   pub accepted : (d : Document) → r ≡ Ok d → IsDocumentOf text d → reads text ≡ Accepted d
   accepted d is doc = reads_it text (Accepted d) ((λ long. let h : r ≡ Err too_long = limits.1 long in cc), doc)
 

@@ -3,7 +3,7 @@ use Rattle.std.proofs.Common.{◌≡◌, refl, Bool, List, [], ◌∷◌, ◌||�
 use Rattle.std.specs.List.{list_all, list_any}
 use Rattle.std.specs.Map.{values_of}
 use Rattle.std.specs.String.{string_bytes}
-use Rattle.cm_stream.specs.Texts.{Text}
+use Rattle.cm_stream.specs.Texts.{Utf8}
 use Rattle.cm_stream.specs.References.{is_accepted}
 use Rattle.cm_refs.proofs.EntryLemmas.{Key}
 use Rattle.cm_attempt.proofs.EntryLemmas.{list_all-rows}
@@ -16,11 +16,11 @@ use Rattle.cm_audit.specs.declared.source.Kept.TheVariants as kept
 abbrev lacks : SourceRow → Bool
 lacks r = lacks_by r.reading r
 
-lacks_anywhere : (uri : Text) (k : Kept) → lacks (kept_row uri k) ≡ lacks (kept_row [] k)
+lacks_anywhere : (uri : Utf8) (k : Kept) → lacks (kept_row uri k) ≡ lacks (kept_row [] k)
 lacks_anywhere uri kept.Refused = refl
 lacks_anywhere uri (kept.Accepted a) = refl
 
-accepted_anywhere : (uri : Text) (k : Kept) → is_accepted (kept_row uri k).reading ≡ is_accepted (kept_row [] k).reading
+accepted_anywhere : (uri : Utf8) (k : Kept) → is_accepted (kept_row uri k).reading ≡ is_accepted (kept_row [] k).reading
 accepted_anywhere uri kept.Refused = refl
 accepted_anywhere uri (kept.Accepted a) = refl
 

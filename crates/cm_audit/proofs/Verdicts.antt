@@ -1,4 +1,4 @@
--- What is judged line by line is what is told of the stream, so the verdict is right.
+-- What is judged line by line is what is reported of the stream, so the verdict is right.
 use Rattle.std.proofs.Common.{◌≡◌, refl, sym, ap, ◌∙◌, ℕ, List, [], ◌∷◌, ◌++◌, Option, Some, None, Result, Ok, Err, Bool, false, map}
 use Rattle.std.specs.Prelude.{IfSome}
 use Rattle.cm_envelope.specs.Lines.{Line}

@@ -3,7 +3,7 @@ use Rattle.std.specs.Prelude.{◌≡◌, ◌<◌, List, [], None, Some, String, 
 use Rattle.std.specs.Str.{bytes_eq}
 use Rattle.std.specs.String.{string_bytes}
 use Rattle.std.specs.declared.alloc.Global.{Global}
-use Rattle.cm_stream.specs.Texts.{Text}
+use Rattle.cm_stream.specs.Texts.{Utf8}
 use Rattle.cm_stream.specs.Readings.{Reading, Accepted, Refused, OtherLanguage, TooLong}
 use Rattle.cm_stream.specs.References.{is_accepted}
 use Rattle.cm_stream.specs.Checks.{due_pickles}
@@ -15,11 +15,11 @@ use Rattle.cm_audit.specs.declared.source.Kept.TheVariants as kept
 use Rattle.cm_audit.specs.declared.stop.Stop.{Stop}
 use Rattle.cm_audit.specs.declared.stop.Stop.TheVariants as stop
 
-abbrev pub accepted_row : Text → AcceptedSource → SourceRow
+abbrev pub accepted_row : Utf8 → AcceptedSource → SourceRow
 accepted_row uri a =
     record { uri = uri; reading = Accepted a.document; ids = a.ids; matched = a.matched }
 
-abbrev pub kept_row : Text → Kept → SourceRow
+abbrev pub kept_row : Utf8 → Kept → SourceRow
 kept_row uri kept.Refused = record { uri = uri; reading = Refused; ids = None; matched = 0 }
 kept_row uri (kept.Accepted a) = accepted_row uri a
 
@@ -31,12 +31,12 @@ abbrev pub HasMore : SourceRow → Type 0
 HasMore r = r.matched < length (due_pickles (Some r.reading))
 
 -- the source of the uri, if there is one, is accepted
-abbrev pub IsAcceptedAt : Text → List SourceRow → Type 0
+abbrev pub IsAcceptedAt : Utf8 → List SourceRow → Type 0
 IsAcceptedAt uri rows =
     IfSome (find (λ r. bytes_eq uri r.uri) rows) (λ r. is_accepted r.reading ≡ true)
 
 -- the source of the uri, if there is one, compiles to more pickles than came
-abbrev pub HasMoreAt : Text → List SourceRow → Type 0
+abbrev pub HasMoreAt : Utf8 → List SourceRow → Type 0
 HasMoreAt uri rows = IfSome (find (λ r. bytes_eq uri r.uri) rows) HasMore
 
 -- a text that is read so is kept, or is no text that is judged, unless memory was refused

@@ -17,7 +17,7 @@ use crate::state::State;
 use crate::stop::Stop;
 use cm_attempt::{Policy, Settings};
 use cm_envelope::{ByteSource, Feed, Trouble, is_blank_line, read_envelope};
-use cm_stream::{Audited, Bad, Verdict};
+use cm_stream::{Audited, StreamFault, Verdict};
 use std::alloc::Global;
 
 /// Judges a line, and takes it where it has no fault.
@@ -94,7 +94,7 @@ fn judge_lines<R: ByteSource>(
             Ok(None) => {
                 return Ok(unsuccessful(Verdict::Bad {
                     line: number + 1,
-                    fault: Bad::NoRunFinished,
+                    fault: StreamFault::NoRunFinished,
                 }));
             }
             Err(trouble) => return Err(trouble),

@@ -17,7 +17,7 @@ use crate::state::State;
 use crate::stop::Stop;
 use cm_attempt::{Policy, Settings};
 use cm_envelope::Envelope;
-use cm_stream::Bad;
+use cm_stream::StreamFault;
 
 /// Judges an envelope of which no check comes after the end of the run, and takes it where it has no fault.
 fn judge_inside(state: &mut State, envelope: Envelope, policy: Policy) -> Result<(), Stop>
@@ -61,7 +61,7 @@ pub(crate) fn judge(state: &mut State, envelope: Envelope, settings: Settings) -
 {
     if state.is_finished && is_judged(&envelope) {
         drop(envelope);
-        return Err(Stop::Bad(Bad::AfterRunFinished));
+        return Err(Stop::Bad(StreamFault::AfterRunFinished));
     }
     judge_inside(state, envelope, settings.policy)
 }

@@ -20,7 +20,7 @@ use crate::state::{Names, State, knows_run};
 use crate::stop::Stop;
 use cm_envelope::{TestCase, TestStep};
 use cm_refs::Declared;
-use cm_stream::{Bad, Counts};
+use cm_stream::{Counts, StreamFault};
 use gk_document::Text;
 use std::alloc::AllocFailed;
 
@@ -153,10 +153,10 @@ pub(crate) fn judge_case(state: &mut State, case: TestCase) -> Result<(), Stop>
     ensures { Judges state.old state.new (Envelope.TestCase case) result }
 {
     if !knows_case(state, &case) {
-        return Err(Stop::Bad(Bad::UnknownReference));
+        return Err(Stop::Bad(StreamFault::UnknownReference));
     }
     if !has_steps_of_pickle(&state.declared, &case) {
-        return Err(Stop::Bad(Bad::CaseStepsDiffer));
+        return Err(Stop::Bad(StreamFault::CaseStepsDiffer));
     }
     let TestCase {
         id,

@@ -14,7 +14,7 @@ use crate::source::{Kept, read_source};
 use crate::state::{Sources, State, find_source};
 use crate::stop::Stop;
 use cm_envelope::{GherkinDocument, Hook, ParseError, Pickle, Source, StepDefinition};
-use cm_stream::{Bad, Reason};
+use cm_stream::{Reason, StreamFault};
 use gk_document::{Sequence, Text};
 use indexmap::IndexSet;
 use std::alloc::{AllocError, Global};
@@ -34,7 +34,7 @@ pub(crate) fn judge_source(state: &mut State, source: Source) -> Result<(), Stop
         media_type,
     } = source;
     if state.declared.has_source(uri.as_str()) {
-        return Err(Stop::Bad(Bad::DuplicateUri));
+        return Err(Stop::Bad(StreamFault::DuplicateUri));
     }
     if media_type.as_str() != PLAIN {
         return Err(Stop::Unsupported(Reason::MediaType));
@@ -99,20 +99,20 @@ fn check_document(state: &State, document: &GherkinDocument) -> Result<(), Stop>
     let uri = document.uri.as_str();
     let kept = match find_source(&state.sources, uri) {
         Some(kept) => kept,
-        None => return Err(Stop::Bad(Bad::UnknownReference)),
+        None => return Err(Stop::Bad(StreamFault::UnknownReference)),
     };
     if state.declared.has_document(uri) {
-        return Err(Stop::Bad(Bad::DuplicateUri));
+        return Err(Stop::Bad(StreamFault::DuplicateUri));
     }
     let accepted = match kept {
         Kept::Accepted(accepted) => accepted,
-        Kept::Refused => return Err(Stop::Bad(Bad::DocumentOfRefusedSource)),
+        Kept::Refused => return Err(Stop::Bad(StreamFault::DocumentOfRefusedSource)),
     };
     if !accepted.has_skeleton_of(&document.document) {
-        return Err(Stop::Bad(Bad::TreeDiffers));
+        return Err(Stop::Bad(StreamFault::TreeDiffers));
     }
     if have_repeat(state.alloc, document.ids.as_slice())? {
-        return Err(Stop::Bad(Bad::DuplicateId));
+        return Err(Stop::Bad(StreamFault::DuplicateId));
     }
     Ok(())
 }
@@ -138,8 +138,8 @@ pub(crate) fn judge_parse_error(state: &State, error: &ParseError) -> Result<(),
     ensures { Judges state.now state.now (envelope.ParseError error.now) result }
 {
     match find_source(&state.sources, error.source.uri.as_str()) {
-        None => Err(Stop::Bad(Bad::UnknownReference)),
-        Some(Kept::Accepted(_)) => Err(Stop::Bad(Bad::ParseErrorOfGoodSource)),
+        None => Err(Stop::Bad(StreamFault::UnknownReference)),
+        Some(Kept::Accepted(_)) => Err(Stop::Bad(StreamFault::ParseErrorOfGoodSource)),
         Some(Kept::Refused) => Ok(()),
     }
 }
@@ -157,13 +157,13 @@ fn check_pickle(state: &State, pickle: &Pickle) -> Result<(), Stop>
     let uri = pickle.uri.as_str();
     let kept = match find_source(&state.sources, uri) {
         Some(kept) => kept,
-        None => return Err(Stop::Bad(Bad::UnknownReference)),
+        None => return Err(Stop::Bad(StreamFault::UnknownReference)),
     };
     if !state.declared.has_document(uri) {
-        return Err(Stop::Bad(Bad::UnknownReference));
+        return Err(Stop::Bad(StreamFault::UnknownReference));
     }
     if !kept.is_next(pickle) {
-        return Err(Stop::Bad(Bad::PickleDiffers));
+        return Err(Stop::Bad(StreamFault::PickleDiffers));
     }
     Ok(())
 }

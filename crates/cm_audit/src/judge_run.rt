@@ -20,7 +20,7 @@ use cm_envelope::{
     Attachment, TestCaseFinished, TestCaseStarted, TestRunFinished, TestRunHookFinished,
     TestRunHookStarted, TestRunStarted, TestStepFinished, TestStepStarted,
 };
-use cm_stream::{Bad, Reason};
+use cm_stream::{Reason, StreamFault};
 
 /// A run starts once.
 pub(crate) fn judge_run_started(state: &mut State, run: TestRunStarted) -> Result<(), Stop>
@@ -28,7 +28,7 @@ pub(crate) fn judge_run_started(state: &mut State, run: TestRunStarted) -> Resul
     ensures { Judges state.old state.new (Envelope.TestRunStarted run) result }
 {
     if state.run.is_some() {
-        return Err(Stop::Bad(Bad::SecondRunStarted));
+        return Err(Stop::Bad(StreamFault::SecondRunStarted));
     }
     state.run = Some(run);
     Ok(())
@@ -51,10 +51,10 @@ pub(crate) fn judge_run_hook_started(
     ensures { Judges state.old state.new (Envelope.TestRunHookStarted started.now) result }
 {
     if state.run.is_none() {
-        return Err(Stop::Bad(Bad::OutsideRun));
+        return Err(Stop::Bad(StreamFault::OutsideRun));
     }
     if !knows_run_hook(state, started) {
-        return Err(Stop::Bad(Bad::UnknownReference));
+        return Err(Stop::Bad(StreamFault::UnknownReference));
     }
     state.declared.start_run_hook(started.id.as_str())?;
     Ok(())
@@ -89,7 +89,7 @@ pub(crate) fn judge_attempt_started(
     ensures { Judges state.old state.new (Envelope.TestCaseStarted started.now) result }
 {
     if state.run.is_none() {
-        return Err(Stop::Bad(Bad::OutsideRun));
+        return Err(Stop::Bad(StreamFault::OutsideRun));
     }
     start_attempt(&mut state.track, started)?;
     state.counts.attempts += 1;
@@ -153,7 +153,7 @@ pub(crate) fn judge_attachment(state: &State, attachment: &Attachment) -> Result
     if knows_place(state, attachment) {
         Ok(())
     } else {
-        Err(Stop::Bad(Bad::UnknownReference))
+        Err(Stop::Bad(StreamFault::UnknownReference))
     }
 }
 
@@ -215,22 +215,22 @@ pub(crate) fn judge_run_finished(
     ensures { JudgesBy policy state.old state.new (Envelope.TestRunFinished finished.now) result }
 {
     if state.run.is_none() {
-        return Err(Stop::Bad(Bad::OutsideRun));
+        return Err(Stop::Bad(StreamFault::OutsideRun));
     }
     if !knows_run(state, &finished.test_run_started_id) {
-        return Err(Stop::Bad(Bad::UnknownReference));
+        return Err(Stop::Bad(StreamFault::UnknownReference));
     }
     if state.track.open_attempts() != 0 {
-        return Err(Stop::Bad(Bad::AttemptOpen));
+        return Err(Stop::Bad(StreamFault::AttemptOpen));
     }
     if state.declared.open_run_hooks() != 0 {
-        return Err(Stop::Bad(Bad::RunHookOpen));
+        return Err(Stop::Bad(StreamFault::RunHookOpen));
     }
     if is_incomplete(state) {
-        return Err(Stop::Bad(Bad::SourceIncomplete));
+        return Err(Stop::Bad(StreamFault::SourceIncomplete));
     }
     if !reports_success(state, finished, policy) {
-        return Err(Stop::Bad(Bad::SuccessDiffers));
+        return Err(Stop::Bad(StreamFault::SuccessDiffers));
     }
     state.is_finished = true;
     state.success = finished.success;

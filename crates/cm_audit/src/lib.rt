@@ -33,6 +33,6 @@ mod stop;
 
 pub use auditing::{audit, audit_by, audit_run, audit_with, audited_at};
 pub use cm_attempt::{Policy, Settings};
-pub use cm_stream::{Audited, Bad, Counts, Reason, Verdict};
+pub use cm_stream::{Audited, Counts, Reason, StreamFault, Verdict};
 pub use record::{kept_status, track};
 pub use stop::Stop;

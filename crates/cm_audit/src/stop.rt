@@ -4,14 +4,14 @@ ghost use Rattle.cm_audit.specs.Stops.{refused_reference, refused_call, unread_l
 use cm_attempt::TrackFault;
 use cm_envelope::EnvelopeFault;
 use cm_refs::RefFault;
-use cm_stream::{Bad, Reason};
+use cm_stream::{Reason, StreamFault};
 use std::alloc::{AllocError, AllocFailed};
 
 /// Why the reading of a stream ends at a line.
 #[derive(Clone, Copy, Debug)]
 pub enum Stop {
     /// The line has a fault.
-    Bad(Bad),
+    Bad(StreamFault),
     /// The line shows why the stream is not judged.
     Unsupported(Reason),
     /// Memory was refused.
@@ -47,10 +47,10 @@ impl From<RefFault> for Stop {
 
     fn from(fault: RefFault) -> Stop {
         match fault {
-            RefFault::DuplicateId => Stop::Bad(Bad::DuplicateId),
-            RefFault::DuplicateUri => Stop::Bad(Bad::DuplicateUri),
-            RefFault::UnknownRunHook => Stop::Bad(Bad::UnknownReference),
-            RefFault::RunHookTwice => Stop::Bad(Bad::RunHookTwice),
+            RefFault::DuplicateId => Stop::Bad(StreamFault::DuplicateId),
+            RefFault::DuplicateUri => Stop::Bad(StreamFault::DuplicateUri),
+            RefFault::UnknownRunHook => Stop::Bad(StreamFault::UnknownReference),
+            RefFault::RunHookTwice => Stop::Bad(StreamFault::RunHookTwice),
             RefFault::Memory => Stop::Memory,
         }
     }
@@ -64,13 +64,13 @@ impl From<TrackFault> for Stop {
     fn from(fault: TrackFault) -> Stop {
         match fault {
             TrackFault::UnknownCase | TrackFault::UnknownAttempt | TrackFault::UnknownStep => {
-                Stop::Bad(Bad::UnknownReference)
+                Stop::Bad(StreamFault::UnknownReference)
             }
-            TrackFault::DuplicateId => Stop::Bad(Bad::DuplicateId),
-            TrackFault::AttemptNumber => Stop::Bad(Bad::AttemptNumber),
-            TrackFault::AttemptOverlap => Stop::Bad(Bad::AttemptOverlap),
-            TrackFault::StepOrder => Stop::Bad(Bad::StepOrder),
-            TrackFault::FinishedEarly => Stop::Bad(Bad::FinishedEarly),
+            TrackFault::DuplicateId => Stop::Bad(StreamFault::DuplicateId),
+            TrackFault::AttemptNumber => Stop::Bad(StreamFault::AttemptNumber),
+            TrackFault::AttemptOverlap => Stop::Bad(StreamFault::AttemptOverlap),
+            TrackFault::StepOrder => Stop::Bad(StreamFault::StepOrder),
+            TrackFault::FinishedEarly => Stop::Bad(StreamFault::FinishedEarly),
             TrackFault::Memory => Stop::Memory,
         }
     }
@@ -83,7 +83,7 @@ impl From<EnvelopeFault> for Stop {
 
     fn from(fault: EnvelopeFault) -> Stop {
         match fault {
-            EnvelopeFault::Line(fault) => Stop::Bad(Bad::NoEnvelope(fault)),
+            EnvelopeFault::Line(fault) => Stop::Bad(StreamFault::NoEnvelope(fault)),
             EnvelopeFault::Memory => Stop::Memory,
         }
     }

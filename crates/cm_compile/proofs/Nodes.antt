@@ -14,9 +14,9 @@ use Rattle.gk_document.specs.declared.tree.Feature.{Feature}
 use Rattle.gk_grammar.specs.Grammar.{tag_nodes, node_of_row, row_nodes, step_nodes, background_nodes, table_rows, examples_nodes, scenario_nodes, rule_nodes, feature_nodes}
 use Rattle.gk_pickle.specs.declared.pickle.PickleStep.{PickleStep}
 use Rattle.gk_pickle.specs.declared.pickle.Pickle.{Pickle}
-use Rattle.gk_pickle.specs.Around.{Around}
+use Rattle.gk_pickle.specs.Inherited.{Inherited}
 use Rattle.gk_pickle.specs.Pickles.{pickle_of, row_filling, table_pickles, examples_pickles, outline_pickles, scenario_pickles, background_steps, in_feature, in_rule, rule_pickles, pickles_in}
-use Rattle.gk_pickle.specs.Order.{rule_steps, document_steps, StandInOrder, own_node, ComesFrom}
+use Rattle.gk_pickle.specs.Order.{rule_steps, document_steps, IsSubsequence, own_node, ComesFrom}
 
 -- ---- lists joined
 
@@ -30,8 +30,8 @@ no_longer f g h [] = omega arith
 no_longer f g h (x ∷ xs) = omega (arith, length-append (f x) (flat_map f xs), length-append (g x) (flat_map g xs), h x, no_longer f g h xs)
 
 -- what comes after the tags and the node of an element
-behind : {A : Type 0} (tags : List A) (n : A) (rest : List A) → suc (length rest) ≤ length (tags ++ n ∷ rest)
-behind tags n rest = omega (arith, length-append tags (n ∷ rest))
+later : {A : Type 0} (tags : List A) (n : A) (rest : List A) → suc (length rest) ≤ length (tags ++ n ∷ rest)
+later tags n rest = omega (arith, length-append tags (n ∷ rest))
 
 -- ---- steps
 
@@ -49,7 +49,7 @@ own_steps_have_nodes : (s : Scenario) → length (own_steps s) ≤ length (scena
 own_steps_have_nodes s =
     let steps = flat_map step_nodes s.steps in
     let examples = flat_map examples_nodes s.examples in
-    omega (arith, steps_have_nodes s.steps, length-append steps examples, behind (tag_nodes s.tags) (s.location, s.node) (steps ++ examples))
+    omega (arith, steps_have_nodes s.steps, length-append steps examples, later (tag_nodes s.tags) (s.location, s.node) (steps ++ examples))
 
 under_have_nodes : (b : Option Background) (ss : List Scenario)
     → length (background_steps b ++ flat_map own_steps ss) ≤ length (background_nodes b ++ flat_map scenario_nodes ss)
@@ -65,7 +65,7 @@ rule_steps_have_nodes : (r : Rule) → length (rule_steps r) ≤ length (rule_no
 rule_steps_have_nodes r = omega (
   arith,
   under_have_nodes r.background r.scenarios,
-  behind (tag_nodes r.tags) (r.location, r.node) (background_nodes r.background ++ flat_map scenario_nodes r.scenarios),
+  later (tag_nodes r.tags) (r.location, r.node) (background_nodes r.background ++ flat_map scenario_nodes r.scenarios),
 )
 
 document_steps_have_nodes : (o : Option Feature) → length (document_steps o) ≤ length (feature_nodes o)
@@ -84,7 +84,7 @@ document_steps_have_nodes (Some f) =
       length-append (tag_nodes f.tags) (background_nodes f.background ++ (scenarios ++ rules)),
     )
 
-fewer_in_order : (xs all : List Step) → StandInOrder xs all → length xs ≤ length all
+fewer_in_order : (xs all : List Step) → IsSubsequence xs all → length xs ≤ length all
 fewer_in_order [] all h = omega arith
 fewer_in_order (x ∷ xs) all h = omega (arith, fewer_in_order xs h.1 h.3, length-append h.0 (x ∷ h.1), ap length h.2)
 
@@ -98,46 +98,46 @@ few_steps o p h =
 
 -- ---- pickles
 
-table_pickles_have_nodes : (around : Around) (s : Scenario) (tags : List Tag) (o : Option ExampleTable)
-    → length (table_pickles around s tags o) ≤ length (row_nodes (table_rows o))
-table_pickles_have_nodes around s tags None = omega arith
-table_pickles_have_nodes around s tags (Some t) =
-    omega (arith, length-map t.body (λ (row : Row). pickle_of around s tags (row_filling t.header row)), length-map t.body node_of_row)
+table_pickles_have_nodes : (inherited : Inherited) (s : Scenario) (tags : List Tag) (o : Option ExampleTable)
+    → length (table_pickles inherited s tags o) ≤ length (row_nodes (table_rows o))
+table_pickles_have_nodes inherited s tags None = omega arith
+table_pickles_have_nodes inherited s tags (Some t) =
+    omega (arith, length-map t.body (λ (row : Row). pickle_of inherited s tags (row_filling t.header row)), length-map t.body node_of_row)
 
-examples_pickles_have_nodes : (around : Around) (s : Scenario) (e : Examples) → length (examples_pickles around s e) ≤ length (examples_nodes e)
-examples_pickles_have_nodes around s e = omega (
+examples_pickles_have_nodes : (inherited : Inherited) (s : Scenario) (e : Examples) → length (examples_pickles inherited s e) ≤ length (examples_nodes e)
+examples_pickles_have_nodes inherited s e = omega (
   arith,
-  table_pickles_have_nodes around s e.tags e.table,
-  behind (tag_nodes e.tags) (e.location, e.node) (row_nodes (table_rows e.table)),
+  table_pickles_have_nodes inherited s e.tags e.table,
+  later (tag_nodes e.tags) (e.location, e.node) (row_nodes (table_rows e.table)),
 )
 
-outline_pickles_have_nodes : (around : Around) (s : Scenario) (es : List Examples)
-    → length (outline_pickles around s es) ≤ suc (length (flat_map examples_nodes es))
-outline_pickles_have_nodes around s [] = omega arith
-outline_pickles_have_nodes around s (e ∷ es) =
-    omega (arith, no_longer (examples_pickles around s) examples_nodes (examples_pickles_have_nodes around s) (e ∷ es))
+outline_pickles_have_nodes : (inherited : Inherited) (s : Scenario) (es : List Examples)
+    → length (outline_pickles inherited s es) ≤ suc (length (flat_map examples_nodes es))
+outline_pickles_have_nodes inherited s [] = omega arith
+outline_pickles_have_nodes inherited s (e ∷ es) =
+    omega (arith, no_longer (examples_pickles inherited s) examples_nodes (examples_pickles_have_nodes inherited s) (e ∷ es))
 
-scenario_pickles_have_nodes : (around : Around) (s : Scenario) → length (scenario_pickles around s) ≤ length (scenario_nodes s)
-scenario_pickles_have_nodes around s =
+scenario_pickles_have_nodes : (inherited : Inherited) (s : Scenario) → length (scenario_pickles inherited s) ≤ length (scenario_nodes s)
+scenario_pickles_have_nodes inherited s =
     let steps = flat_map step_nodes s.steps in
     let examples = flat_map examples_nodes s.examples in
     omega (
       arith,
-      outline_pickles_have_nodes around s s.examples,
+      outline_pickles_have_nodes inherited s s.examples,
       length-append steps examples,
-      behind (tag_nodes s.tags) (s.location, s.node) (steps ++ examples),
+      later (tag_nodes s.tags) (s.location, s.node) (steps ++ examples),
     )
 
-scenarios_pickles_have_nodes : (around : Around) (ss : List Scenario)
-    → length (flat_map (scenario_pickles around) ss) ≤ length (flat_map scenario_nodes ss)
-scenarios_pickles_have_nodes around ss = no_longer (scenario_pickles around) scenario_nodes (scenario_pickles_have_nodes around) ss
+scenarios_pickles_have_nodes : (inherited : Inherited) (ss : List Scenario)
+    → length (flat_map (scenario_pickles inherited) ss) ≤ length (flat_map scenario_nodes ss)
+scenarios_pickles_have_nodes inherited ss = no_longer (scenario_pickles inherited) scenario_nodes (scenario_pickles_have_nodes inherited) ss
 
 rule_pickles_have_nodes : (f : Feature) (r : Rule) → length (rule_pickles f r) ≤ length (rule_nodes r)
 rule_pickles_have_nodes f r = omega (
   arith,
   scenarios_pickles_have_nodes (in_rule f r) r.scenarios,
   length-append (background_nodes r.background) (flat_map scenario_nodes r.scenarios),
-  behind (tag_nodes r.tags) (r.location, r.node) (background_nodes r.background ++ flat_map scenario_nodes r.scenarios),
+  later (tag_nodes r.tags) (r.location, r.node) (background_nodes r.background ++ flat_map scenario_nodes r.scenarios),
 )
 
 -- a document has as many pickles as nodes, at most

@@ -8,7 +8,7 @@ use Rattle.gk_tree.specs.Views.{too_long}
 use Rattle.cm_compile.specs.declared.fault.CompileFault.{CompileFault}
 use Rattle.cm_compile.specs.declared.fault.CompileFault.TheVariants.{Parse, Memory}
 
--- the text is beyond the limits, or within them it has the fault that is told
+-- the text is beyond the limits, or within them it has the fault that is reported
 abbrev pub IsRefusedWith : List ℕ → ParseFault → Type 0
 IsRefusedWith text f =
     (IsTooLong text × (f ≡ too_long)) ⊎ ((IsTooLong text → ⊥)
@@ -18,6 +18,6 @@ abbrev told_at : FaultKind → ParseFault → CompileFault
 told_at kind.Memory f = Memory
 told_at _ f = Parse f
 
--- what a fault of the parser is told as: its want of memory is want of memory
+-- what a fault of the parser is reported as: its want of memory is want of memory
 abbrev pub compile_fault : ParseFault → CompileFault
 compile_fault f = told_at f.kind f

@@ -10,7 +10,7 @@ use Rattle.json.proofs.Printed.Utf8.{IsUtf8-are_ascii}
 use Rattle.gk_line.specs.Lines.{lines_of, numbered_lines, without_mark}
 use Rattle.gk_line.specs.declared.tokens.Block.{Block}
 use Rattle.gk_line.specs.declared.tokens.Block.TheVariants as block
-use Rattle.gk_grammar.specs.Token.{Text, line_of}
+use Rattle.gk_grammar.specs.Token.{Utf8, line_of}
 use Rattle.gk_grammar.specs.Tree.{Location, Tag, Background, ExampleTable, Examples, Scenario, Rule, Feature, Document}
 use Rattle.gk_grammar.specs.Grammar.{Piece, ◌⨾◌, Each, AtMostOne, OneLine, TagLines, Titled, IsStep, IsBackground, IsExampleTable, IsExamples, IsScenario, IsRule, IsFeature, IsPlainGap, IsEnglish, IsOpening, IsFeatureText}
 use Rattle.gk_grammar.specs.Documents.{lines_read, IsDocumentOf, IsTooLong}
@@ -34,7 +34,7 @@ example_table_ok None ls cs t h = (tt, none_there cs t.1)
 example_table_ok (Some x) ls cs t h = let k = table_ok (x.header ∷ x.body) ls cs t h in ((k.0.0, k.0.1), k.1)
 
 -- a header, and what is below it
-header_ok : (b : Block) (p : Location) (tags : List Tag) (k m d : Text) (Q : Piece) (X : Type 0) → Gives Q X
+header_ok : (b : Block) (p : Location) (tags : List Tag) (k m d : Utf8) (Q : Piece) (X : Type 0) → Gives Q X
     → Gives (TagLines tags ⨾ Titled b p k m d ⨾ Q) (AllByRecursion (TagOf clean) tags × (TitleParts p k m d × X))
 header_ok b p tags k m d Q X q =
     gives_then (TagLines tags) (Titled b p k m d ⨾ Q) (AllByRecursion (TagOf clean) tags) (TitleParts p k m d × X) (tag_lines_ok tags)

@@ -10,9 +10,9 @@ use Rattle.gk_document.specs.declared.tree.Cell.{Cell}
 use Rattle.gk_document.specs.declared.tree.Fence.{Fence}
 use Rattle.gk_document.specs.declared.tree.Argument.TheVariants.{Table, Text as Quoted}
 use Rattle.gk_document.specs.MediaType.{unless_empty as media_of}
-use Rattle.gk_grammar.specs.Token.{Text, TagText, Tags, Title, Step, Row, Fenced, Line, line, bytes, is_blank, is_comment}
+use Rattle.gk_grammar.specs.Token.{Utf8, TagText, Tags, Title, Step, Row, Fenced, Line, line, bytes, is_blank, is_comment}
 use Rattle.gk_grammar.specs.Tree as tree
-use Rattle.gk_grammar.specs.Tree.{Location, Tag, DocString, Argument, Background, ExampleTable, Examples, Scenario, Rule, Feature, Document}
+use Rattle.gk_grammar.specs.Tree.{Location, Tag, DocString, Argument}
 use Rattle.gk_grammar.specs.Grammar.{Piece, Then, Each, AtMostOne, OneLine, comment_of, comments_of, place_and_name, tag_at, IsTagLine, TagLines, Titled, from_text, description_of, IsRow, IsTable, content_line, IsDocString, IsArgument, IsStepLine, IsStep}
 use Rattle.cm_compiled_good.proofs.Fine.{Fits64, clean, TagOf, CellOf, RowOf, MediaOf, DocStringOf, ArgumentOf, StepOf}
 use Rattle.cm_compiled_good.proofs.Scalars.{encoded, doc_line_fits}
@@ -76,8 +76,8 @@ tags_ok (g ∷ gs) n [] e h k = absurd cc
 tags_ok (g ∷ gs) n (w ∷ ws) e h k =
     let head : place_and_name g ≡ tag_at n w = cc in
     let others : map place_and_name gs ≡ map (tag_at n) ws = cc in
-    let place = ap (λ (z : Location × Text). z.0) head in
-    let name = ap (λ (z : Location × Text). z.1) head in
+    let place = ap (λ (z : Location × Utf8). z.0) head in
+    let name = ap (λ (z : Location × Utf8). z.1) head in
     let is_name : IsUtf8 g.name = subst IsUtf8 (sym name) (IsUtf8-append (codes "@") w.word (IsUtf8-are_ascii (codes "@") refl) k.0.0) in
     let is_place : Fits64 g.location.line × Fits64 g.location.column = subst (λ (l : Location). Fits64 l.line × Fits64 l.column) (sym place) (h, k.0.1) in
     ((tt, is_name, is_place), tags_ok gs n ws others h k.1)
@@ -135,10 +135,10 @@ Placed l = Fits64 l.line × Fits64 l.column
 place_ok : (p : Location) (n i : ℕ) → p ≡ record { line = n; column = i + 1 } → Fits64 n → Fits64 (i + 1) → Placed p
 place_ok p n i e h k = subst Placed (sym e) (h, k)
 
-abbrev pub TitleParts : Location → (keyword name description : Text) → Type 0
+abbrev pub TitleParts : Location → (keyword name description : Utf8) → Type 0
 TitleParts p k m d = Placed p × IsUtf8 k × IsUtf8 m × IsUtf8 d
 
-pub title_ok : (b : Block) (p : Location) (k m d : Text) → Gives (Titled b p k m d) (TitleParts p k m d)
+pub title_ok : (b : Block) (p : Location) (k m d : Utf8) → Gives (Titled b p k m d) (TitleParts p k m d)
 title_ok b p k m d [] cs t h = absurd t
 title_ok b p k m d (line n u i (Title c y z) ∷ ls) cs t h =
     let texts = h.0.3 in (
@@ -163,7 +163,7 @@ pub table_ok : (rows : List tree.Row) → Gives (IsTable rows) (AllByRecursion (
 table_ok [] ls cs t h = absurd t
 table_ok (r ∷ rs) ls cs t h = gives_each (λ x. OneLine (IsRow x)) (RowOf clean) (λ x. gives_line (IsRow x) (RowOf clean x) (row_ok x)) (r ∷ rs) ls cs t.1 h
 
-media_ok : (m : Text) → IsUtf8 m → MediaOf clean (media_of m)
+media_ok : (m : Utf8) → IsUtf8 m → MediaOf clean (media_of m)
 media_ok [] h = tt
 media_ok (c ∷ cs) h = h
 
@@ -177,7 +177,7 @@ doc_string_ok d (line n u i (Fenced f media) ∷ ls) cs t h =
     let parts = all_apart LineOk closes.inside (closes.close ∷ closes.gap) (subst (AllByRecursion LineOk) closes.cut h.1) in
     let content : IsUtf8 d.content = subst IsUtf8 (sym closes.value) (joined_utf8 _ (all_mapped LineOk IsUtf8 (content_line f i) (content_ok f i) closes.inside parts.0)) in (
       (place_ok d.location n i t.0 h.0.0 h.0.2, subst (MediaOf clean) (sym t.2) (media_ok media h.0.3), content),
-      gap_comments closes.gap cs closes.behind.1 parts.1.1,
+      gap_comments closes.gap cs closes.gap_after.1 parts.1.1,
     )
 doc_string_ok d (line n u i _ ∷ ls) cs t h = absurd t
 

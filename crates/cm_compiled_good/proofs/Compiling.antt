@@ -16,7 +16,7 @@ use Rattle.gk_document.specs.declared.tree.Scenario.{Scenario}
 use Rattle.gk_document.specs.declared.tree.Rule.{Rule}
 use Rattle.gk_document.specs.declared.tree.Feature.{Feature}
 use Rattle.gk_document.specs.declared.tree.Document.{Document}
-use Rattle.gk_pickle.specs.Around.{Around, Filling, unfilled}
+use Rattle.gk_pickle.specs.Inherited.{Inherited, Filling, unfilled}
 use Rattle.gk_pickle.specs.Fill.{filled}
 use Rattle.gk_document.specs.MediaType.{unless_empty as media_type}
 use Rattle.gk_pickle.specs.Steps.{filled_by, filled_row, filled_argument, steps_after, keywords, pickle_steps}
@@ -94,34 +94,34 @@ all_steps w fills background f g (s ∷ ss) b h =
 
 -- ---- pickles
 
-pub record AroundOf (w : Wanted) (a : Around) : Type 0 where
+pub record InheritedOf (w : Wanted) (a : Inherited) : Type 0 where
   pub tags : AllByRecursion (TagOf w) a.tags
   pub steps : AllByRecursion (StepOf w) a.steps
 
-pickle_fine : (w : Wanted) → Fills w → (a : Around) → AroundOf w a → (s : Scenario) → ScenarioOf w s → (tags : List Tag) → AllByRecursion (TagOf w) tags → (f : Filling) → FillingOf w f
+pickle_fine : (w : Wanted) → Fills w → (a : Inherited) → InheritedOf w a → (s : Scenario) → ScenarioOf w s → (tags : List Tag) → AllByRecursion (TagOf w) tags → (f : Filling) → FillingOf w f
     → PickleFine w (pickle_of a s tags f)
-pickle_fine w fills a around s h tags t f g = (
+pickle_fine w fills a inherited s h tags t f g = (
   text_filled w fills f g s.name h.4,
   (h.1, g.rows),
-  all_mapped (TagOf w) (TagFine w) pickle_tag (λ x k. (k.0, k.1)) ((a.tags ++ s.tags) ++ tags) (all_joined (TagOf w) (a.tags ++ s.tags) tags (all_joined (TagOf w) a.tags s.tags around.tags h.0) t),
-  all_steps w fills a.steps f g s.steps around.steps h.6,
+  all_mapped (TagOf w) (TagFine w) pickle_tag (λ x k. (k.0, k.1)) ((a.tags ++ s.tags) ++ tags) (all_joined (TagOf w) (a.tags ++ s.tags) tags (all_joined (TagOf w) a.tags s.tags inherited.tags h.0) t),
+  all_steps w fills a.steps f g s.steps inherited.steps h.6,
 )
 
-table_fine : (w : Wanted) → Fills w → (a : Around) → AroundOf w a → (s : Scenario) → ScenarioOf w s → (tags : List Tag) → AllByRecursion (TagOf w) tags → (t : Option ExampleTable) → TableOf w t
+table_fine : (w : Wanted) → Fills w → (a : Inherited) → InheritedOf w a → (s : Scenario) → ScenarioOf w s → (tags : List Tag) → AllByRecursion (TagOf w) tags → (t : Option ExampleTable) → TableOf w t
     → AllByRecursion (PickleFine w) (table_pickles a s tags t)
-table_fine w fills a around s h tags t None k = tt
-table_fine w fills a around s h tags t (Some table) k =
+table_fine w fills a inherited s h tags t None k = tt
+table_fine w fills a inherited s h tags t (Some table) k =
     all_mapped (RowOf w) (PickleFine w) (λ row. pickle_of a s tags (row_filling table.header row))
-    (λ row r. pickle_fine w fills a around s h tags t (row_filling table.header row)
+    (λ row r. pickle_fine w fills a inherited s h tags t (row_filling table.header row)
     (record { header = values w table.header.location.line table.header.cells k.0.2; cells = values w row.location.line row.cells r.2; rows = (r.0, tt) })) table.body k.1
 
-outline_fine : (w : Wanted) → Fills w → (a : Around) → AroundOf w a → (s : Scenario) → ScenarioOf w s → (es : List Examples) → AllByRecursion (ExamplesOf w) es → AllByRecursion (PickleFine w) (outline_pickles a s es)
-outline_fine w fills a around s h [] k = (pickle_fine w fills a around s h [] tt unfilled (none_filled w), tt)
-outline_fine w fills a around s h (e ∷ es) k =
-    all_flat (ExamplesOf w) (PickleFine w) (examples_pickles a s) (λ x g. table_fine w fills a around s h x.tags g.0 x.table g.6) (e ∷ es) k
+outline_fine : (w : Wanted) → Fills w → (a : Inherited) → InheritedOf w a → (s : Scenario) → ScenarioOf w s → (es : List Examples) → AllByRecursion (ExamplesOf w) es → AllByRecursion (PickleFine w) (outline_pickles a s es)
+outline_fine w fills a inherited s h [] k = (pickle_fine w fills a inherited s h [] tt unfilled (none_filled w), tt)
+outline_fine w fills a inherited s h (e ∷ es) k =
+    all_flat (ExamplesOf w) (PickleFine w) (examples_pickles a s) (λ x g. table_fine w fills a inherited s h x.tags g.0 x.table g.6) (e ∷ es) k
 
-scenarios_fine : (w : Wanted) → Fills w → (a : Around) → AroundOf w a → (ss : List Scenario) → AllByRecursion (ScenarioOf w) ss → AllByRecursion (PickleFine w) (flat_map (scenario_pickles a) ss)
-scenarios_fine w fills a around ss h = all_flat (ScenarioOf w) (PickleFine w) (scenario_pickles a) (λ s k. outline_fine w fills a around s k s.examples k.7) ss h
+scenarios_fine : (w : Wanted) → Fills w → (a : Inherited) → InheritedOf w a → (ss : List Scenario) → AllByRecursion (ScenarioOf w) ss → AllByRecursion (PickleFine w) (flat_map (scenario_pickles a) ss)
+scenarios_fine w fills a inherited ss h = all_flat (ScenarioOf w) (PickleFine w) (scenario_pickles a) (λ s k. outline_fine w fills a inherited s k s.examples k.7) ss h
 
 background_fine : (w : Wanted) (b : Option Background) → BackgroundOf w b → AllByRecursion (StepOf w) (background_steps b)
 background_fine w None h = tt

@@ -66,11 +66,11 @@ document_passes settings uri text d k =
 
 new_there : (uri text : List ℕ) (d : Document) (done : List Pickle) (m : ℕ) → next_id d.nodes done ≤ m → m < 18446744073709551616 → (name : Name) → IsOf (decimal m) name
     → list_any (declares_it name) (front uri text d done []) ≡ false
-new_there uri text d done m behind small (PickleNamed a) h =
-    rw (append-nil (pickle_envelopes uri d.nodes done), new_name uri m d.nodes done (PickleNamed a) h behind small) refl
-new_there uri text d done m behind small (PickleStep a i) h =
-    rw (append-nil (pickle_envelopes uri d.nodes done), new_name uri m d.nodes done (PickleStep a i) h behind small) refl
-new_there uri text d done m behind small _ h = absurd h
+new_there uri text d done m later small (PickleNamed a) h =
+    rw (append-nil (pickle_envelopes uri d.nodes done), new_name uri m d.nodes done (PickleNamed a) h later small) refl
+new_there uri text d done m later small (PickleStep a i) h =
+    rw (append-nil (pickle_envelopes uri d.nodes done), new_name uri m d.nodes done (PickleStep a i) h later small) refl
+new_there uri text d done m later small _ h = absurd h
 
 not_finished : (uri text : List ℕ) (d : Document) (done : List Pickle) → has_run_finished (front uri text d done []) ≡ false
 not_finished uri text d done = none_is is_run_finished (λ p. refl) uri d.nodes done []

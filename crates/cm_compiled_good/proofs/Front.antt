@@ -1,4 +1,4 @@
--- What the envelopes of a source, its document and its first pickles tell.
+-- What the envelopes of a source, its document and its first pickles declare.
 use Rattle.std.proofs.Common.{◌≡◌, ℕ, suc, zero, ◌+◌, ◌==◌, List, [], ◌∷◌, ◌++◌, Bool, true, false, ◌||◌, Option, Some, None, length, refl, ap, arith}
 use Rattle.std.specs.Prelude.{count_by}
 use Rattle.std.specs.List.{list_any, filter_map}

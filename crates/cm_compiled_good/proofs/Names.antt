@@ -8,7 +8,7 @@ use Rattle.gk_pickle.specs.declared.pickle.Pickle.{Pickle}
 use Rattle.cm_envelope.specs.declared.envelope.Envelope.{Envelope}
 use Rattle.cm_envelope.specs.declared.envelope.Envelope.TheVariants as envelope
 use Rattle.cm_envelope.specs.declared.pickle.PickleStep.{PickleStep}
-use Rattle.cm_stream.specs.Texts.{Text}
+use Rattle.cm_stream.specs.Texts.{Utf8}
 use Rattle.cm_stream.specs.References.{Name, PickleNamed, PickleStep as StepOf, same_name, declares, declares_it, times_declared}
 use Rattle.cm_stream.specs.Good.{has_same_names}
 use Rattle.cm_stream.specs.Checks.{declares_again}
@@ -23,7 +23,7 @@ use Rattle.cm_compiled_good.proofs.Written.{pickle_envelopes}
 -- ---- no pickle before declares it
 
 -- a name of another pickle
-abbrev pub IsOf : Text → Name → Type 0
+abbrev pub IsOf : Utf8 → Name → Type 0
 IsOf id (PickleNamed a) = a ≡ id
 IsOf id (StepOf a s) = a ≡ id
 IsOf id _ = ⊥
@@ -41,25 +41,25 @@ other_pickle uri m first p _ h less small = absurd h
 
 pub new_name : (uri : List ℕ) (m first : ℕ) (ps : List Pickle) (name : Name) → IsOf (decimal m) name → next_id first ps ≤ m → m < 18446744073709551616
     → list_any (declares_it name) (pickle_envelopes uri first ps) ≡ false
-new_name uri m first [] name h behind small = refl
-new_name uri m first (p ∷ ps) name h behind small =
+new_name uri m first [] name h later small = refl
+new_name uri m first (p ∷ ps) name h later small =
     let here = other_pickle uri m first p name h (omega (arith, next_later (first + id_count p) ps)) small in
-    rw (here, new_name uri m (first + id_count p) ps name h behind small) refl
+    rw (here, new_name uri m (first + id_count p) ps name h later small) refl
 
 -- ---- it declares nothing twice
 
-step_absent : (pid : Text) (m first : ℕ) (ss : List written.PickleStep) → m < first → first + length ss ≤ 18446744073709551616
+step_absent : (pid : Utf8) (m first : ℕ) (ss : List written.PickleStep) → m < first → first + length ss ≤ 18446744073709551616
     → list_any (λ later. same_name later (StepOf pid (decimal m))) (map (λ (s : PickleStep). StepOf pid s.id) (steps_read first ss)) ≡ false
 step_absent pid m first [] less small = refl
 step_absent pid m first (s ∷ ss) less small =
     rw (bytes_same pid, decimals_differ_back first m less (omega arith), step_absent pid m (first + 1) ss (omega arith) (omega arith)) refl
 
-steps_distinct : (pid : Text) (first : ℕ) (ss : List written.PickleStep) → first + length ss ≤ 18446744073709551616
+steps_distinct : (pid : Utf8) (first : ℕ) (ss : List written.PickleStep) → first + length ss ≤ 18446744073709551616
     → has_same_names (map (λ (s : PickleStep). StepOf pid s.id) (steps_read first ss)) ≡ false
 steps_distinct pid first [] small = refl
 steps_distinct pid first (s ∷ ss) small = rw (step_absent pid first (first + 1) ss (omega arith) (omega arith), steps_distinct pid (first + 1) ss (omega arith)) refl
 
-no_pickle_step : (a pid : Text) (ss : List PickleStep) → list_any (λ later. same_name later (PickleNamed a)) (map (λ (s : PickleStep). StepOf pid s.id) ss) ≡ false
+no_pickle_step : (a pid : Utf8) (ss : List PickleStep) → list_any (λ later. same_name later (PickleNamed a)) (map (λ (s : PickleStep). StepOf pid s.id) ss) ≡ false
 no_pickle_step a pid [] = refl
 no_pickle_step a pid (s ∷ ss) = no_pickle_step a pid ss
 
@@ -70,7 +70,7 @@ pickle_distinct uri first p small =
 
 -- ---- it declares nothing again
 
-none_again : (before : List Envelope) (pid : Text) → ((name : Name) → IsOf pid name → list_any (declares_it name) before ≡ false) → (ss : List PickleStep)
+none_again : (before : List Envelope) (pid : Utf8) → ((name : Name) → IsOf pid name → list_any (declares_it name) before ≡ false) → (ss : List PickleStep)
     → list_any (λ name. nat_lt 0 (times_declared name before)) (map (λ (s : PickleStep). StepOf pid s.id) ss) ≡ false
 none_again before pid new [] = refl
 none_again before pid new (s ∷ ss) =

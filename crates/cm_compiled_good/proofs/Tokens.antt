@@ -9,12 +9,12 @@ use Rattle.gk_line.specs.Texts.{body_of, trimmed, after, first_some, or_else}
 use Rattle.gk_line.specs.Tokens.{indent_of, is_blank_line, begins_by, language_of, title_of, step_of, fence_of, TitleText, StepText, FenceText, fences}
 use Rattle.gk_line.specs.Tags.{TagWord, tags_of, spaced_piece}
 use Rattle.gk_line.specs.Cells.{CellText, cells_of}
-use Rattle.gk_line.specs.Places.{StandsAt, RiseWithin}
+use Rattle.gk_line.specs.Places.{IsAtColumn, RiseWithin}
 use Rattle.gk_line.specs.declared.tokens.Block.{Block}
 use Rattle.gk_document.specs.declared.tree.Cell.{Cell}
 use Rattle.gk_document.specs.declared.tree.Fence.{Fence}
-use Rattle.gk_line.proofs.ColumnLemmas.{tags-stand, tag_columns_rise, cell_columns_rise}
-use Rattle.gk_line.proofs.PlaceLemmas.{stands-read, title-stands, step-stands}
+use Rattle.gk_line.proofs.ColumnLemmas.{tags-placed, tag_columns_rise, cell_columns_rise}
+use Rattle.gk_line.proofs.PlaceLemmas.{placed-read, title-placed, step-placed}
 use Rattle.gk_grammar.specs.Token.{TagText, Token, Blank, Tags, Title, Step, Row, Fenced, Line, line, line_of, token_of, tag_text, tag_list, comment_token, word_token, token_or_other, title_token, step_token, fence_token, blocks, cell}
 use Rattle.cm_compiled_good.proofs.Fine.{Fits64}
 use Rattle.cm_compiled_good.proofs.Cells.{CellFits, row_fits}
@@ -40,8 +40,8 @@ abbrev OptionOk : Option Token → Type 0
 OptionOk None = ⊤
 OptionOk (Some k) = TokenOk k
 
--- what stands in a line, and its mark
-stands : (cs mark text : List ℕ) (column : ℕ) → Scalars cs → StandsAt cs mark text column → Scalars mark × Scalars text
+-- what is in a line, and its mark
+stands : (cs mark text : List ℕ) (column : ℕ) → Scalars cs → IsAtColumn cs mark text column → Scalars mark × Scalars text
 stands cs mark text column h s =
     let one = parts_apart IsScalar s.front (mark ++ (s.gap ++ (text ++ s.back))) (subst Scalars s.parts h) in
     let two = parts_apart IsScalar mark (s.gap ++ (text ++ s.back)) one.1 in
@@ -50,7 +50,7 @@ stands cs mark text column h s =
 
 -- ---- tags and cells
 
-words_ok : (m : ℕ) (low : ℕ) (cs : List ℕ) (ws : List TagWord) → Scalars cs → Fits64 m → AllByRecursion (λ (w : TagWord). StandsAt cs (codes "@") w.word w.column) ws
+words_ok : (m : ℕ) (low : ℕ) (cs : List ℕ) (ws : List TagWord) → Scalars cs → Fits64 m → AllByRecursion (λ (w : TagWord). IsAtColumn cs (codes "@") w.word w.column) ws
     → RiseWithin low m (map (λ (w : TagWord). w.column) ws) → AllByRecursion WordOk (map tag_text ws)
 words_ok m low cs [] h small s r = tt
 words_ok m low cs (w ∷ ws) h small s r =
@@ -62,7 +62,7 @@ cells_ok m low [] small h r = tt
 cells_ok m low (c ∷ cs) small h r = let within = r.1 in ((encoded c.value h.0, omega arith), cells_ok m (c.column + 1) cs small h.1 r.2)
 
 tags_ok : (cs : List ℕ) → Scalars cs → Fits64 (length cs) → (o : Option TagWord) → TokenOk (Tags (tag_list o (tags_of cs)))
-tags_ok cs h small None = words_ok (length cs) 1 cs (tags_of cs) h small (tags-stand cs) (tag_columns_rise cs)
+tags_ok cs h small None = words_ok (length cs) 1 cs (tags_of cs) h small (tags-placed cs) (tag_columns_rise cs)
 tags_ok cs h small (Some w) = tt
 
 -- ---- keywords
@@ -77,7 +77,7 @@ title_ok cs h b = go (title_of b cs) refl
     go : (o : Option TitleText) → title_of b cs ≡ o → OptionOk (option_map (title_token b) o)
     go None e = tt
     go (Some t) e =
-        let parts = stands cs (t.keyword ++ codes ":") t.name t.column h (title-stands b cs t e) in
+        let parts = stands cs (t.keyword ++ codes ":") t.name t.column h (title-placed b cs t e) in
         (encoded t.keyword (parts_apart IsScalar t.keyword (codes ":") parts.0).0, encoded t.name parts.1)
 
 titles_ok : (cs : List ℕ) → Scalars cs → (bs : List Block) → OptionOk (first_some (λ b. option_map (title_token b) (title_of b cs)) bs)
@@ -91,7 +91,7 @@ step_ok cs h = go (step_of cs) refl
     go : (o : Option StepText) → step_of cs ≡ o → OptionOk (option_map step_token o)
     go None e = tt
     go (Some s) e =
-        let parts = stands cs s.keyword s.text s.column h (step-stands cs s e) in
+        let parts = stands cs s.keyword s.text s.column h (step-placed cs s e) in
         (encoded s.keyword parts.0, encoded s.text parts.1)
 
 fence_ok : (cs : List ℕ) → Scalars cs → OptionOk (option_map fence_token (fence_of cs))
@@ -102,7 +102,7 @@ fence_ok cs h = firsts fences
         → OptionOk (option_map fence_token (option_map (λ rest. record { fence = f; media = trimmed rest; column = indent_of cs + 1 }) o))
     one mark f None e = tt
     one mark f (Some rest) e =
-        encoded (trimmed rest) (stands cs mark (trimmed rest) (indent_of cs + 1) h (stands-read cs (body_of cs) mark rest (trimmed rest) (indent_of cs + 1) refl (sym e) refl refl)).1
+        encoded (trimmed rest) (stands cs mark (trimmed rest) (indent_of cs + 1) h (placed-read cs (body_of cs) mark rest (trimmed rest) (indent_of cs + 1) refl (sym e) refl refl)).1
 
     join : (a b : Option FenceText) → OptionOk (option_map fence_token a) → OptionOk (option_map fence_token b) → OptionOk (option_map fence_token (or_else a b))
     join None b h k = k

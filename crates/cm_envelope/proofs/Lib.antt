@@ -1,6 +1,6 @@
 pub mod Lines
 pub mod Giving
-pub mod Behind
+pub mod Later
 pub mod Ends
 pub mod Finding
 pub mod Taking

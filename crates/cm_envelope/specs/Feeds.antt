@@ -34,22 +34,22 @@ new_feed line_limit stream_limit =
     }
 
 -- what a call gives: a line, the end, or a trouble
-abbrev pub Answer : Type 0
-Answer = Result (Option (List ℕ)) Trouble
+abbrev pub NextLine : Type 0
+NextLine = Result (Option (List ℕ)) Trouble
 
 -- the answer, by the bytes that it lends
-abbrev pub answer_of : Result (Option (Bor (List ℕ))) Trouble → Answer
+abbrev pub answer_of : Result (Option (Bor (List ℕ))) Trouble → NextLine
 answer_of (Ok (Some line)) = Ok (Some line.now)
 answer_of (Ok None) = Ok None
 answer_of (Err t) = Err t
 
 -- what is answered for good
-abbrev pub last_answer : Over → Answer
+abbrev pub last_answer : Over → NextLine
 last_answer Ended = Ok None
 last_answer (Failed t) = Err t
 
 -- what a call leaves as answered for good
-abbrev pub over_after : Answer → Option Over
+abbrev pub over_after : NextLine → Option Over
 over_after (Ok (Some line)) = None
 over_after (Ok None) = Some Ended
 over_after (Err t) = Some (Failed t)
@@ -81,13 +81,13 @@ abbrev pub left : Stored → List ℕ → Fed
 left s to_come = feed_lines s.line_limit s.stream_limit s.given (lines_of (not_given s to_come))
 
 -- the first of some lines, or where there is none their trouble or the end
-abbrev pub first_of : List (List ℕ) → Option Trouble → Answer
+abbrev pub first_of : List (List ℕ) → Option Trouble → NextLine
 first_of (line ∷ more) trouble = Ok (Some line)
 first_of [] (Some t) = Err t
 first_of [] None = Ok None
 
 -- the answer is the first of what is left, unless a read failed or memory was refused
-abbrev pub AnswersFirst : Fed → Answer → Type 0
+abbrev pub AnswersFirst : Fed → NextLine → Type 0
 AnswersFirst fed (Err ReadFailed) = ⊤
 AnswersFirst fed (Err Memory) = ⊤
 AnswersFirst fed answer = answer ≡ first_of fed.lines fed.trouble
@@ -128,7 +128,7 @@ pub record IsNextLine (old new : Stored) (before after line : List ℕ) : Type 0
   pub bytes : not_given old before ≡ written (given_line new line) ++ not_given new after
 
 -- what a feed that wasn't over answers, with these bytes to come before and after
-abbrev pub Gives : (old new : Stored) (before after : List ℕ) → Answer → Type 0
+abbrev pub Gives : (old new : Stored) (before after : List ℕ) → NextLine → Type 0
 Gives old new before after (Ok (Some line)) = IsNextLine old new before after line
 Gives old new before after (Ok None) = left old before ≡ nothing
 Gives old new before after (Err ReadFailed) =
@@ -145,14 +145,14 @@ WhereTold (Some xs) None P = ⊥
 WhereTold (Some xs) (Some ys) P = P xs ys
 
 -- P of the line, where one is answered
-abbrev pub OnLine : Answer → (List ℕ → Type 0) → Type 0
+abbrev pub OnLine : NextLine → (List ℕ → Type 0) → Type 0
 OnLine (Ok (Some line)) P = P line
 OnLine (Ok None) P = ⊤
 OnLine (Err t) P = ⊤
 
 -- what one call leaves
 pub record Leaves (old new : Stored) (before after : Option (List ℕ))
-    (answer : Answer) : Type 0 where
+    (answer : NextLine) : Type 0 where
   -- the limits stay
   pub line_limit : new.line_limit ≡ old.line_limit
   pub stream_limit : new.stream_limit ≡ old.stream_limit

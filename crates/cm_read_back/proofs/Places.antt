@@ -203,8 +203,8 @@ feature_to (Some f) h =
     let first = background_to f.background h.2 in
     let own = scenarios_to f.scenarios h.3 in
     let rules = rules_to f.rules h.4 in
-    let behind = nodes_both (flat_map scenario_nodes f.scenarios) (flat_map rule_nodes f.rules) own.0 rules.0 in
-    let below = nodes_both (background_nodes f.background) (flat_map scenario_nodes f.scenarios ++ flat_map rule_nodes f.rules) first.0 behind in
+    let later = nodes_both (flat_map scenario_nodes f.scenarios) (flat_map rule_nodes f.rules) own.0 rules.0 in
+    let below = nodes_both (background_nodes f.background) (flat_map scenario_nodes f.scenarios ++ flat_map rule_nodes f.rules) first.0 later in
     let nodes = nodes_both (tag_nodes f.tags) (background_nodes f.background ++ (flat_map scenario_nodes f.scenarios ++ flat_map rule_nodes f.rules)) (tags_to f.tags h.1) below in
     let steps = steps_both (background_steps f.background) (flat_map (λ s. s.steps) f.scenarios) first.1 own.1 in
     (h.0, nodes, steps_both (background_steps f.background ++ flat_map (λ s. s.steps) f.scenarios) (flat_map rule_steps f.rules) steps rules.1)

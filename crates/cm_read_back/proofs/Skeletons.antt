@@ -6,7 +6,7 @@ use Rattle.gk_document.specs.declared.tree.Cell.{Cell}
 use Rattle.gk_document.specs.declared.tree.Argument.TheVariants.{Table, Text as Quoted}
 use Rattle.gk_document.specs.Skeleton.{bare_tag, bare_cell, bare_row, bare_doc_string, bare_argument, bare_step, bare_background, bare_table, bare_examples, bare_scenario, bare_rule, bare_feature}
 use Rattle.gk_document.specs.MediaType.{unless_empty as media_of}
-use Rattle.gk_grammar.specs.Token.{Text, Fenced, Line, line}
+use Rattle.gk_grammar.specs.Token.{Utf8, Fenced, Line, line}
 use Rattle.gk_grammar.specs.Tree as tree
 use Rattle.gk_grammar.specs.Tree.{Tag, DocString, Argument, Background, ExampleTable, Examples, Scenario, Rule, Feature}
 use Rattle.gk_grammar.specs.Grammar.{Piece, Each, AtMostOne, IsDocString, IsArgument, IsStep, IsBackground, IsScenario, IsRule, IsFeature, IsFeatureText}
@@ -35,7 +35,7 @@ rows_same rs = maps_same row_kept bare_row rs (always (λ r. bare_row (row_kept 
 
 -- ---- doc strings: the grammar's media types aren't empty
 
-media_same : (media : Text) → option_and_then media_type (media_of media) ≡ media_of media
+media_same : (media : Utf8) → option_and_then media_type (media_of media) ≡ media_of media
 media_same [] = refl
 media_same (c ∷ cs) = refl
 

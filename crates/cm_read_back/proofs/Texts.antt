@@ -1,14 +1,14 @@
--- The document of a text stands at lines of the text.
+-- The nodes of a text's document are at lines of the text.
 use Rattle.std.proofs.Common.{◌≡◌, ℕ, ◌+◌, ◌^◌, ◌<◌, ◌≤◌, List, [], ◌∷◌, ◌++◌, length, map, Option, Some, None, Ok, Err, sym, ap, subst, arith, flat_map, inr}
 use Rattle.std.specs.List.{AllByRecursion}
 use Rattle.gk_line.specs.declared.tokens.Block.{Block}
 use Rattle.gk_line.specs.declared.tokens.Block.TheVariants as block
 use Rattle.gk_document.specs.declared.tree.Argument.TheVariants.{Table, Text as Quoted}
-use Rattle.gk_grammar.specs.Token.{Text, TagText, Tags, Title, Step, Row, Fenced, Line, line, number}
+use Rattle.gk_grammar.specs.Token.{Utf8, TagText, Tags, Title, Step, Row, Fenced, Line, line, number}
 use Rattle.gk_grammar.specs.Tree as tree
-use Rattle.gk_grammar.specs.Tree.{Location, Tag, DocString, Argument, Background, ExampleTable, Examples, Scenario, Rule, Feature, Document}
+use Rattle.gk_grammar.specs.Tree.{Location, Tag, DocString, Argument, Background, ExampleTable, Examples, Scenario, Rule, Feature}
 use Rattle.gk_grammar.specs.Grammar.{Piece, Then, ◌⨾◌, Each, AtMostOne, OneLine, place_and_name, tag_at, IsTagLine, TagLines, Titled, IsRow, IsTable, IsDocString, IsArgument, IsStepLine, IsStep, IsBackground, IsExampleTable, IsExamples, IsScenario, IsRule, IsFeature, IsOpening, IsFeatureText}
-use Rattle.gk_grammar.specs.Documents.{lines_read, line_limit}
+use Rattle.gk_grammar.specs.Documents.{lines_read, max_lines}
 use Rattle.gk_grammar.proofs.Places.{AreLines}
 use Rattle.gk_grammar.proofs.Reading.{read_are_lines}
 use Rattle.gk_grammar.proofs.LawLemmas.{numbered_in_order_holds}
@@ -50,7 +50,7 @@ tags_fit (g ∷ gs) n [] e h = absurd cc
 tags_fit (g ∷ gs) n (w ∷ ws) e h =
     let head : place_and_name g ≡ tag_at n w = cc in
     let others : map place_and_name gs ≡ map (tag_at n) ws = cc in
-    (subst HasLine (sym (ap (λ (z : Location × Text). z.0) head)) h, tags_fit gs n ws others h)
+    (subst HasLine (sym (ap (λ (z : Location × Utf8). z.0) head)) h, tags_fit gs n ws others h)
 
 tag_line_fits : (tags : List Tag) (l : Line) → IsTagLine tags l → Fits l → TagsHaveLines tags
 tag_line_fits tags (line n t i (Tags (Ok words))) e h = tags_fit tags n words e h
@@ -69,7 +69,7 @@ tag_lines_fit : (tags : List Tag) → Gives (TagLines tags) (TagsHaveLines tags)
 tag_lines_fit tags ls cs t h =
     subst TagsHaveLines (sym t.1) (all_lists t.0 (gives_each (λ ts. OneLine (IsTagLine ts)) TagsHaveLines (λ ts. gives_line (IsTagLine ts) (TagsHaveLines ts) (tag_line_fits ts)) t.0 ls cs t.2 h))
 
-title_fits : (b : Block) (p : Location) (k m d : Text) → Gives (Titled b p k m d) (HasLine p)
+title_fits : (b : Block) (p : Location) (k m d : Utf8) → Gives (Titled b p k m d) (HasLine p)
 title_fits b p k m d [] cs t h = absurd t
 title_fits b p k m d (line x u i (Title c y z) ∷ ls) cs t h = subst HasLine (sym t.0.1) h.0
 title_fits b p k m d (line x u i _ ∷ ls) cs t h = absurd t.0
@@ -117,7 +117,7 @@ example_table_fits None ls cs t h = tt
 example_table_fits (Some x) ls cs t h = table_fits (x.header ∷ x.body) ls cs t h
 
 -- a header, and what is below it
-header_fits : (b : Block) (p : Location) (tags : List Tag) (k m d : Text) (Q : Piece) (X : Type 0) → Gives Q X → Gives (TagLines tags ⨾ Titled b p k m d ⨾ Q) (TagsHaveLines tags × (HasLine p × X))
+header_fits : (b : Block) (p : Location) (tags : List Tag) (k m d : Utf8) (Q : Piece) (X : Type 0) → Gives Q X → Gives (TagLines tags ⨾ Titled b p k m d ⨾ Q) (TagsHaveLines tags × (HasLine p × X))
 header_fits b p tags k m d Q X q =
     gives_then (TagLines tags) (Titled b p k m d ⨾ Q) (TagsHaveLines tags) (HasLine p × X) (tag_lines_fit tags) (gives_then (Titled b p k m d) Q (HasLine p) X (title_fits b p k m d) q)
 
@@ -154,12 +154,12 @@ text_fits : (f : Option Feature) → Gives (IsFeatureText f) (FeatureHasLines f)
 text_fits None ls cs t h = tt
 text_fits (Some f) ls cs t h = (gives_then IsOpening (IsFeature f) (Unit {0}) (FeatureHasLines (Some f)) (λ us vs x k. tt) (feature_fits f) ls cs t.1 h).1
 
-within_limit : (n : ℕ) → (line_limit < n → ⊥) → n ≤ line_limit
+within_limit : (n : ℕ) → (max_lines < n → ⊥) → n ≤ max_lines
 within_limit n h = omega arith
 
 pub parsed_are_readable : ParsedAreReadable
 parsed_are_readable text d is short =
-    let few : length (lines_read text) ≤ line_limit = within_limit (length (lines_read text)) (λ h. short (inr h)) in
+    let few : length (lines_read text) ≤ max_lines = within_limit (length (lines_read text)) (λ h. short (inr h)) in
     let fit = text_fits d.feature (lines_read text) d.comments is.text (lines_fit 1 (lines_read text) (read_are_lines text) (omega arith) (omega arith)) in
     let parts = feature_to d.feature fit in
     record { numbered = numbered_in_order_holds text d is; feature = parts.0; nodes = parts.1; doc_strings = parts.2 }

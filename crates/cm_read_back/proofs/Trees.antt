@@ -153,15 +153,15 @@ rules_are = nodes_are (node_in (codes "rule") read.rule_node) rule_data rule_nod
 feature_is : (ids : Ids) (f : Feature) → FeatureHasLines (Some f) → Counts (length ids) (feature_nodes (Some f)) →
     node_in (codes "feature") read.feature ids (feature_data f) ≡ Ok (feature_kept f, ids ++ names (feature_nodes (Some f)))
 feature_is ids f h c =
-    let behind_tags = apart ids (tag_nodes f.tags) _ c in
+    let after_tags = apart ids (tag_nodes f.tags) _ c in
     let own = ids ++ names (tag_nodes f.tags) in
-    let behind_first = apart own (background_nodes f.background) _ behind_tags.1 in
+    let after_first = apart own (background_nodes f.background) _ after_tags.1 in
     let inner = own ++ names (background_nodes f.background) in
-    let behind_scenarios = apart inner (flat_map scenario_nodes f.scenarios) (flat_map rule_nodes f.rules) behind_first.1 in
-    let tags = tags_are ids f.tags h.1 behind_tags.0 in
-    let first = background_is own f.background h.2 behind_first.0 in
-    let scenarios = scenarios_are inner f.scenarios h.3 behind_scenarios.0 in
-    let rules = rules_are (inner ++ names (flat_map scenario_nodes f.scenarios)) f.rules h.4 behind_scenarios.1 in
+    let after_scenarios = apart inner (flat_map scenario_nodes f.scenarios) (flat_map rule_nodes f.rules) after_first.1 in
+    let tags = tags_are ids f.tags h.1 after_tags.0 in
+    let first = background_is own f.background h.2 after_first.0 in
+    let scenarios = scenarios_are inner f.scenarios h.3 after_scenarios.0 in
+    let rules = rules_are (inner ++ names (flat_map scenario_nodes f.scenarios)) f.rules h.4 after_scenarios.1 in
     let b = f.background in
     rw (
       line_is f.location h.0,

@@ -27,7 +27,7 @@ abbrev joined : Members → Members → Members
 joined no_members more = more
 joined (member k d ms) more = member k d (joined ms more)
 
--- all of the first stand before the second
+-- all of the first come before the second
 abbrev AllBefore : Members → Members → Type 0
 AllBefore no_members more = ⊤
 AllBefore (member k d ms) more = (stands_before k more ≡ true) × AllBefore ms more

@@ -28,7 +28,7 @@ abbrev mutual
   MembersArePlain no_members = ⊤
   MembersArePlain (member k d ms) = IsUtf8 k × IsPlain d × MembersArePlain ms
 
--- the name stands before those of the members
+-- the name comes before those of the members
 abbrev pub stands_before : List ℕ → Members → Bool
 stands_before name no_members = true
 stands_before name (member k d ms) = is_lt (slice_cmp nat_cmp name k) && stands_before name ms

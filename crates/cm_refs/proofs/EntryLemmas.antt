@@ -12,19 +12,19 @@ use Rattle.std.proofs.lemmas.List.Quantifiers.{position-Some}
 use Rattle.std.proofs.lemmas.Slice.Eq.{bytes_eq-Decides}
 use Rattle.indexmap.specs.IndexMap.{IndexMap, insert_entry, set_value_at}
 use Rattle.indexmap.proofs.CallerLemmas.{insert_entry-new}
-use Rattle.cm_refs.specs.Declarations.{Text, change_first}
+use Rattle.cm_refs.specs.Declarations.{Utf8, change_first}
 
 abbrev pub Key : Type 0
 Key = String Global
 
-abbrev pub is_key : Text → Key → Bool
+abbrev pub is_key : Utf8 → Key → Bool
 is_key id k = bytes_eq id (string_bytes k)
 
-module _ {V Y : Type 0} (row : Text → V → Y) where
+module _ {V Y : Type 0} (row : Utf8 → V → Y) where
   abbrev pub rows : List (Key × V) → List Y
   rows = map (λ e. row (string_bytes e.0) e.1)
 
-  module _ (id : Text) (p : Y → Bool) (says : (t : Text) (v : V) → p (row t v) ≡ bytes_eq id t) where
+  module _ (id : Utf8) (p : Y → Bool) (says : (t : Utf8) (v : V) → p (row t v) ≡ bytes_eq id t) where
     find_entry : (es : List (Key × V)) → find p (rows es) ≡ option_map (row id) (lookup (is_key id) es)
     find_entry [] = refl
     find_entry (e ∷ es) = go (is_key id e.0) refl (find_entry es)
@@ -57,11 +57,11 @@ module _ {V Y : Type 0} (row : Text → V → Y) where
 
   -- what the entry at an index, of which the key is the first to be the id, says of the rows
   pub record EntryAt (p : Y → Bool) (es : List (Key × V)) (i : ℕ) (v : V) : Type 0 where
-    pub key : Text
+    pub key : Utf8
     pub row_at : find p (rows es) ≡ Some (row key v)
     pub changed : (g : Y → Y) (w : V) → row key w ≡ g (row key v) → change_first p g (rows es) ≡ rows (set_value_at es i w)
 
-  module _ (id : Text) (p : Y → Bool) (says : (t : Text) (v : V) → p (row t v) ≡ bytes_eq id t) where
+  module _ (id : Utf8) (p : Y → Bool) (says : (t : Utf8) (v : V) → p (row t v) ≡ bytes_eq id t) where
     entry_at : (es : List (Key × V)) (i : ℕ) (v : V)
         → ((d : Key) → is_key id (get_or (keys_of es) i d) ≡ true)
         → ((k : ℕ) (d : Key) → k < i → is_key id (get_or (keys_of es) k d) ≡ false)

@@ -7,11 +7,11 @@ use Rattle.indexmap.specs.IndexSet.{insert_key}
 use Rattle.std.proofs.lemmas.List.{map-append, take_more, take-append-drop}
 use Rattle.std.proofs.lemmas.List.Folds.{list_any-append}
 use Rattle.std.proofs.lemmas.Slice.Eq.{bytes_eq-Decides}
-use Rattle.cm_refs.specs.Declarations.{Text, has_repeat, has_text}
+use Rattle.cm_refs.specs.Declarations.{Utf8, has_repeat, has_text}
 use Rattle.cm_refs.proofs.EntryLemmas.{Key}
 use Rattle.cm_refs.proofs.EntryLemmas.{list_any-map}
 
-bytes_eq-swap : (a b : Text) → bytes_eq a b ≡ bytes_eq b a
+bytes_eq-swap : (a b : Utf8) → bytes_eq a b ≡ bytes_eq b a
 bytes_eq-swap a b = by (bytes_eq a b) (bytes_eq b a) refl refl
   where
     by : (x y : Bool) → bytes_eq a b ≡ x → bytes_eq b a ≡ y → bytes_eq a b ≡ bytes_eq b a
@@ -27,7 +27,7 @@ or_turned false true c d = refl
 or_turned false false c d = refl
 
 -- a list with one more text repeats where the text was there or the list did
-pub has_repeat-push : (xs : List Text) (y : Text) → has_repeat (xs ++ y ∷ []) ≡ (has_text y xs || has_repeat xs)
+pub has_repeat-push : (xs : List Utf8) (y : Utf8) → has_repeat (xs ++ y ∷ []) ≡ (has_text y xs || has_repeat xs)
 has_repeat-push [] y = refl
 has_repeat-push (x ∷ xs) y =
     (λ i. list_any-append (bytes_eq x) xs (y ∷ []) i || has_repeat-push xs y i)
@@ -40,27 +40,27 @@ or_front false true c d h rest = refl
 or_front false false c d h rest = rest h
 
 -- a repeat in front stays
-pub has_repeat-front : (xs ys : List Text) → has_repeat xs ≡ true → has_repeat (xs ++ ys) ≡ true
+pub has_repeat-front : (xs ys : List Utf8) → has_repeat xs ≡ true → has_repeat (xs ++ ys) ≡ true
 has_repeat-front [] ys h = cc
 has_repeat-front (x ∷ xs) ys h =
     ap (λ b. b || has_repeat (xs ++ ys)) (list_any-append (bytes_eq x) xs ys)
     ∙ or_front (has_text x xs) (has_text x ys) (has_repeat xs) (has_repeat (xs ++ ys)) h (has_repeat-front xs ys)
 
 -- a text that is before its place too
-pub repeat_at : (xs : List Text) (i : ℕ) (d : Text) → i < length xs → has_text (get_or xs i d) (take i xs) ≡ true → has_repeat xs ≡ true
+pub repeat_at : (xs : List Utf8) (i : ℕ) (d : Utf8) → i < length xs → has_text (get_or xs i d) (take i xs) ≡ true → has_repeat xs ≡ true
 repeat_at xs i d lt there =
     let front : has_repeat (take (i + 1) xs) ≡ true =
     ap has_repeat (take_more xs i d lt) ∙ has_repeat-push (take i xs) (get_or xs i d) ∙ ap (λ b. b || has_repeat (take i xs)) there in
     subst (λ l. has_repeat l ≡ true) (take-append-drop (i + 1) xs) (has_repeat-front (take (i + 1) xs) (drop (i + 1) xs) front)
 
 -- a text that is new at its place
-pub no_repeat_at : (xs : List Text) (i : ℕ) (d : Text) → i < length xs → has_text (get_or xs i d) (take i xs) ≡ false
+pub no_repeat_at : (xs : List Utf8) (i : ℕ) (d : Utf8) → i < length xs → has_text (get_or xs i d) (take i xs) ≡ false
     → has_repeat (take i xs) ≡ false → has_repeat (take (i + 1) xs) ≡ false
 no_repeat_at xs i d lt new none =
     ap has_repeat (take_more xs i d lt) ∙ has_repeat-push (take i xs) (get_or xs i d) ∙ (λ j. new j || none j)
 
 -- what a set of the texts before an index says of the text at the index
-module _ (keys : List Key) (texts : List Text) (i : ℕ) (text : Text) (kept : map string_bytes keys ≡ take i texts)
+module _ (keys : List Key) (texts : List Utf8) (i : ℕ) (text : Utf8) (kept : map string_bytes keys ≡ take i texts)
     (here : text ≡ get_or texts i text) where
   pub has_text_before : (b : Bool) → b ≡ list_any (λ k. bytes_eq text (string_bytes k)) keys → has_text (get_or texts i text) (take i texts) ≡ b
   has_text_before b found =
@@ -78,7 +78,7 @@ module _ (keys : List Key) (texts : List Text) (i : ℕ) (text : Text) (kept : m
       ∙ sym (take_more texts i text lt)
 
 -- a new text goes last
-pub appended_text : (keys : List Key) (k : Key) (name : Text) → string_bytes k ≡ name → has_text name (map string_bytes keys) ≡ false
+pub appended_text : (keys : List Key) (k : Key) (name : Utf8) → string_bytes k ≡ name → has_text name (map string_bytes keys) ≡ false
     → map string_bytes (insert_key string_eq keys k) ≡ map string_bytes keys ++ name ∷ []
 appended_text keys k name same new =
     let absent : list_any (string_eq k) keys ≡ false =

@@ -10,26 +10,26 @@ use Rattle.std.specs.Str.{bytes_eq}
 use Rattle.cm_refs.specs.declared.fault.RefFault.{RefFault}
 use Rattle.cm_refs.specs.declared.fault.RefFault.TheVariants as fault
 
-abbrev pub Text : Type 0
-Text = List ℕ
+abbrev pub Utf8 : Type 0
+Utf8 = List ℕ
 
 -- a pickle, with the ids of its steps
 pub record PickleRow : Type 0 where
-  pub id : Text
-  pub steps : List Text
+  pub id : Utf8
+  pub steps : List Utf8
 
 -- a run hook that was started, and whether it is finished
 pub record RunHookRow : Type 0 where
-  pub id : Text
+  pub id : Utf8
   pub is_finished : Bool
 
 -- one list a kind, in the order of declaration
 pub record Declarations : Type 0 where
-  pub sources : List Text
-  pub documents : List Text
+  pub sources : List Utf8
+  pub documents : List Utf8
   pub pickles : List PickleRow
-  pub definitions : List Text
-  pub hooks : List Text
+  pub definitions : List Utf8
+  pub hooks : List Utf8
   pub run_hooks : List RunHookRow
 
 abbrev pub no_declarations : Declarations
@@ -44,22 +44,22 @@ no_declarations = record {
 
 -- ---- look-ups
 
-abbrev pub has_text : Text → List Text → Bool
+abbrev pub has_text : Utf8 → List Utf8 → Bool
 has_text text = list_any (bytes_eq text)
 
 -- two of the texts are equal
-abbrev pub has_repeat : List Text → Bool
+abbrev pub has_repeat : List Utf8 → Bool
 has_repeat [] = false
 has_repeat (text ∷ rest) = has_text text rest || has_repeat rest
 
-abbrev pub find_pickle : Declarations → Text → Option PickleRow
+abbrev pub find_pickle : Declarations → Utf8 → Option PickleRow
 find_pickle d id = find (λ p. bytes_eq id p.id) d.pickles
 
 -- the ids of the pickle's steps, and none of a pickle that isn't declared
-abbrev pub steps_of : Declarations → Text → List Text
+abbrev pub steps_of : Declarations → Utf8 → List Utf8
 steps_of d id = option_map_or (λ p. p.steps) (find_pickle d id) []
 
-abbrev pub find_run_hook : Declarations → Text → Option RunHookRow
+abbrev pub find_run_hook : Declarations → Utf8 → Option RunHookRow
 find_run_hook d id = find (λ r. bytes_eq id r.id) d.run_hooks
 
 -- how many run hooks are started and not finished
@@ -69,16 +69,16 @@ open_count d = count_by (λ r. not r.is_finished) d.run_hooks
 -- ---- refusals
 
 -- a name that is in its kind's list is refused
-abbrev pub name_fault : RefFault → Text → List Text → Option RefFault
+abbrev pub name_fault : RefFault → Utf8 → List Utf8 → Option RefFault
 name_fault taken name names = if has_text name names then Some taken else None
 
 -- a pickle whose id is in the list, or of which two steps have one id, is refused
-abbrev pub pickle_fault : Declarations → Text → List Text → Option RefFault
+abbrev pub pickle_fault : Declarations → Utf8 → List Utf8 → Option RefFault
 pickle_fault d id steps =
     if is_some (find_pickle d id) || has_repeat steps then Some fault.DuplicateId else None
 
 -- a run hook whose id is in the list doesn't start
-abbrev pub run_hook_fault : Declarations → Text → Option RefFault
+abbrev pub run_hook_fault : Declarations → Utf8 → Option RefFault
 run_hook_fault d id = if is_some (find_run_hook d id) then Some fault.DuplicateId else None
 
 -- a run hook finishes once, and only where it was started
@@ -86,30 +86,30 @@ abbrev pub finish_fault_at : Option RunHookRow → Option RefFault
 finish_fault_at None = Some fault.UnknownRunHook
 finish_fault_at (Some r) = if r.is_finished then Some fault.RunHookTwice else None
 
-abbrev pub finish_fault : Declarations → Text → Option RefFault
+abbrev pub finish_fault : Declarations → Utf8 → Option RefFault
 finish_fault d id = finish_fault_at (find_run_hook d id)
 
 -- ---- declarations
 
-abbrev pub with_source : Text → Declarations → Declarations
+abbrev pub with_source : Utf8 → Declarations → Declarations
 with_source uri d = record d { sources = d.sources ++ uri ∷ [] }
 
-abbrev pub with_document : Text → Declarations → Declarations
+abbrev pub with_document : Utf8 → Declarations → Declarations
 with_document uri d = record d { documents = d.documents ++ uri ∷ [] }
 
-abbrev pub with_pickle : Text → List Text → Declarations → Declarations
+abbrev pub with_pickle : Utf8 → List Utf8 → Declarations → Declarations
 with_pickle id steps d = record d { pickles = d.pickles ++ record { id = id; steps = steps } ∷ [] }
 
-abbrev pub with_definition : Text → Declarations → Declarations
+abbrev pub with_definition : Utf8 → Declarations → Declarations
 with_definition id d = record d { definitions = d.definitions ++ id ∷ [] }
 
-abbrev pub with_hook : Text → Declarations → Declarations
+abbrev pub with_hook : Utf8 → Declarations → Declarations
 with_hook id d = record d { hooks = d.hooks ++ id ∷ [] }
 
-abbrev pub new_run_hook : Text → RunHookRow
+abbrev pub new_run_hook : Utf8 → RunHookRow
 new_run_hook id = record { id = id; is_finished = false }
 
-abbrev pub with_run_hook : Text → Declarations → Declarations
+abbrev pub with_run_hook : Utf8 → Declarations → Declarations
 with_run_hook id d = record d { run_hooks = d.run_hooks ++ new_run_hook id ∷ [] }
 
 -- the list with f at the first element that passes
@@ -121,6 +121,6 @@ abbrev pub finished : RunHookRow → RunHookRow
 finished r = record r { is_finished = true }
 
 -- the run hook is finished; nothing else changes
-abbrev pub with_finished : Text → Declarations → Declarations
+abbrev pub with_finished : Utf8 → Declarations → Declarations
 with_finished id d =
     record d { run_hooks = change_first (λ r. bytes_eq id r.id) finished d.run_hooks }

@@ -5,7 +5,7 @@ use Rattle.cm_attempt.specs.Table.{is_good_status}
 use Rattle.cm_attempt.specs.Worst.{worst_of}
 use Rattle.cm_attempt.specs.declared.policy.Policy.{Policy}
 use Rattle.cm_attempt.proofs.WorstLemmas.{is_known, good_worst}
-use Rattle.cm_stream.specs.Texts.{Text}
+use Rattle.cm_stream.specs.Texts.{Utf8}
 use Rattle.cm_stream.specs.References.{Attempt, step_names, attachment_names, all_well, hook_statuses}
 use Rattle.cm_stream.specs.Record.{table_of}
 use Rattle.cm_stream.specs.Good.{is_unknown, has_unknown_result}
@@ -53,7 +53,7 @@ same_well policy first es pass accepted = λ i. good_cases policy first es accep
 
 -- ---- attachments
 
-pub place_known : (first : ℕ) (es : List Envelope) → AreAccepted first es → (a step : Option Text) → list_any (unknown es) (attachment_names es a step) ≡ not (knows_place (seen first es) a step)
+pub place_known : (first : ℕ) (es : List Envelope) → AreAccepted first es → (a step : Option Utf8) → list_any (unknown es) (attachment_names es a step) ≡ not (knows_place (seen first es) a step)
 place_known first es accepted None step = refl
 place_known first es accepted (Some a) None = or_no (unknown es (Attempt a)) ∙ (attempt_declared a first es accepted).unknown
 place_known first es accepted (Some a) (Some step) =

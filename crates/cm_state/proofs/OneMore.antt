@@ -6,7 +6,7 @@ use Rattle.std.specs.Option.{option_map, option_map_or}
 use Rattle.std.specs.Str.{bytes_eq}
 use Rattle.std.proofs.lemmas.List.Sums.{length-filter}
 use Rattle.std.proofs.lemmas.List.{map-append}
-use Rattle.cm_stream.specs.Texts.{Text}
+use Rattle.cm_stream.specs.Texts.{Utf8}
 use Rattle.cm_stream.specs.References.{Name, declares_it, times_declared, refers}
 use Rattle.cm_envelope.specs.declared.envelope.Envelope.{Envelope}
 use Rattle.cm_stream.proofs.Lists.{none_any, length-both, found_more, found_push}
@@ -92,11 +92,11 @@ pub not_found : {Y : Type 0} (name : Name) (h : Envelope → Option Y) (p : Y �
 not_found name h p same es new = none_found h p es (sym (same_any (declares_it name) (λ e. option_map_or p (h e) false) same es) ∙ not_counted (declares_it name) es new)
 
 -- no line refers to what no line declares
-pub none_refers : {D Y : Type 0} (es : List Envelope) → AllPass es → (name : Text → Name) (d : Envelope → Option D) (id : D → Text)
-    → ((u : Text) (e : Envelope) → declares_it (name u) e ≡ option_map_or (λ x. bytes_eq u (id x)) (d e) false)
-    → (h : Envelope → Option Y) (of : Y → Text)
+pub none_refers : {D Y : Type 0} (es : List Envelope) → AllPass es → (name : Utf8 → Name) (d : Envelope → Option D) (id : D → Utf8)
+    → ((u : Utf8) (e : Envelope) → declares_it (name u) e ≡ option_map_or (λ x. bytes_eq u (id x)) (d e) false)
+    → (h : Envelope → Option Y) (of : Y → Utf8)
     → ((front : List Envelope) (here : Envelope) (y : Y) → h here ≡ Some y → AllByRecursion (λ n. times_declared n front ≡ 1) (refers front here) → times_declared (name (of y)) front ≡ 1)
-    → (u : Text) → find (λ x. bytes_eq u (id x)) (filter_map d es) ≡ None → list_any (λ y. bytes_eq u (of y)) (filter_map h es) ≡ false
+    → (u : Utf8) → find (λ x. bytes_eq u (id x)) (filter_map d es) ≡ None → list_any (λ y. bytes_eq u (of y)) (filter_map h es) ≡ false
 none_refers {D} {Y} es pass name d id declares h of refer u none = none_any (λ y. bytes_eq u (of y)) (filter_map h es) (each_found h (λ y. bytes_eq u (of y) ≡ false) es each)
   where
     each : (front : List Envelope) (here : Envelope) (back : List Envelope) (y : Y) → es ≡ front ++ here ∷ back → h here ≡ Some y → bytes_eq u (of y) ≡ false

@@ -5,7 +5,7 @@ use Rattle.std.specs.List.{AllByRecursion, filter, filter_map}
 use Rattle.std.specs.Option.{option_map}
 use Rattle.std.specs.Str.{bytes_eq}
 use Rattle.std.proofs.lemmas.List.{map-append}
-use Rattle.cm_stream.specs.Texts.{Text}
+use Rattle.cm_stream.specs.Texts.{Utf8}
 use Rattle.cm_stream.specs.References.{Name, SourceOf, DocumentOf, times_declared, refers, as_source, as_document, as_pickle, sources, documents_of, pickles_of}
 use Rattle.cm_envelope.specs.declared.envelope.Envelope.{Envelope}
 use Rattle.cm_envelope.specs.declared.envelope.Envelope.TheVariants as envelope
@@ -29,7 +29,7 @@ rows es = map (source_row es) (sources es)
 row_is : (r q : SourceRow) → r.uri ≡ q.uri → r.reading ≡ q.reading → r.ids ≡ q.ids → r.matched ≡ q.matched → r ≡ q
 row_is r q a b c d = λ i. record { uri = a i; reading = b i; ids = c i; matched = d i }
 
-abbrev ids_of : List GherkinDocument → Option (List Text)
+abbrev ids_of : List GherkinDocument → Option (List Utf8)
 ids_of ds = option_map (λ d. d.ids) (first_of ds)
 
 -- ---- a line that is none of them
@@ -38,10 +38,10 @@ same_row : (es : List Envelope) (e : Envelope) (s : Source) → documents_of s.u
     → source_row (es ++ e ∷ []) s ≡ source_row es s
 same_row es e s d p = row_is (source_row (es ++ e ∷ []) s) (source_row es s) refl refl (ap ids_of d) (ap length p)
 
-documents_stay : (es : List Envelope) (e : Envelope) → as_document e ≡ None → (u : Text) → documents_of u (es ++ e ∷ []) ≡ documents_of u es
+documents_stay : (es : List Envelope) (e : Envelope) → as_document e ≡ None → (u : Utf8) → documents_of u (es ++ e ∷ []) ≡ documents_of u es
 documents_stay es e none u = ap (filter (λ d. bytes_eq u d.uri)) (found_more as_document es e none)
 
-pickles_stay : (es : List Envelope) (e : Envelope) → as_pickle e ≡ None → (u : Text) → pickles_of u (es ++ e ∷ []) ≡ pickles_of u es
+pickles_stay : (es : List Envelope) (e : Envelope) → as_pickle e ≡ None → (u : Utf8) → pickles_of u (es ++ e ∷ []) ≡ pickles_of u es
 pickles_stay es e none u = ap (filter (λ p. bytes_eq u p.uri)) (found_more as_pickle es e none)
 
 rows_stay : (es : List Envelope) (e : Envelope) → as_document e ≡ None → as_pickle e ≡ None → map (source_row (es ++ e ∷ [])) (sources es) ≡ rows es
@@ -59,11 +59,11 @@ pickle_refers : (front : List Envelope) (here : Envelope) (p : Pickle) → as_pi
 pickle_refers front here p is refs = (subst (λ (e : Envelope). AllByRecursion (λ (n : Name). times_declared n front ≡ 1) (refers front e)) (pickle_is here p is) refs).0
 
 -- of a uri that no source has there is no document and no pickle
-no_documents : (es : List Envelope) → AllPass es → (u : Text) → find (λ s. bytes_eq u s.uri) (sources es) ≡ None → documents_of u es ≡ []
+no_documents : (es : List Envelope) → AllPass es → (u : Utf8) → find (λ s. bytes_eq u s.uri) (sources es) ≡ None → documents_of u es ≡ []
 no_documents es pass u none = keeps_none (λ d. bytes_eq u d.uri) (filter_map as_document es)
     (none_refers es pass SourceOf as_source (λ (s : Source). s.uri) declares_source as_document (λ (d : GherkinDocument). d.uri) document_refers u none)
 
-no_pickles : (es : List Envelope) → AllPass es → (u : Text) → find (λ s. bytes_eq u s.uri) (sources es) ≡ None → pickles_of u es ≡ []
+no_pickles : (es : List Envelope) → AllPass es → (u : Utf8) → find (λ s. bytes_eq u s.uri) (sources es) ≡ None → pickles_of u es ≡ []
 no_pickles es pass u none = keeps_none (λ p. bytes_eq u p.uri) (filter_map as_pickle es)
     (none_refers es pass SourceOf as_source (λ (s : Source). s.uri) declares_source as_pickle (λ (p : Pickle). p.uri) pickle_refers u none)
 
@@ -81,7 +81,7 @@ source_rows es s more =
 
 -- ---- a document, and a pickle
 
-one_source : (es : List Envelope) → AllPass es → (u : Text) → OnlyOne (λ s. bytes_eq u s.uri) (sources es)
+one_source : (es : List Envelope) → AllPass es → (u : Utf8) → OnlyOne (λ s. bytes_eq u s.uri) (sources es)
 one_source es pass u =
     let counted : length (filter (λ s. bytes_eq u s.uri) (sources es)) ≡ times_declared (SourceOf u) es = kept_named (SourceOf u) as_source (λ s. bytes_eq u s.uri) (declares_source u) es in
     only_one (λ s. bytes_eq u s.uri) (sources es) (omega (arith, counted, at_most_once (SourceOf u) es (all_distinct es pass)))

@@ -9,7 +9,7 @@ use Rattle.std.proofs.lemmas.List.Sums.{fold_push}
 use Rattle.cm_refs.specs.Declarations.{RunHookRow, change_first, finished, new_run_hook, open_count}
 use Rattle.cm_refs.proofs.EntryLemmas.{list_any-map}
 use Rattle.std.proofs.lemmas.List.{map-append}
-use Rattle.cm_stream.specs.Texts.{Text}
+use Rattle.cm_stream.specs.Texts.{Utf8}
 use Rattle.cm_stream.specs.References.{HookNamed, Run, RunHook, times_declared, refers, if_any, as_run_hook, as_run_hook_end, run_hooks, run_hook_ends, hook_statuses, is_hook_finished}
 use Rattle.cm_stream.specs.Statuses.{kept_status}
 use Rattle.cm_attempt.specs.Worst.{with_status, worst_so_far}
@@ -39,7 +39,7 @@ or_yes : (b : Bool) → (b || true) ≡ true
 or_yes true = refl
 or_yes false = refl
 
-row_is : (id : Text) (a b : Bool) → a ≡ b → ◌≡◌ {A = RunHookRow} (record { id = id; is_finished = a }) (record { id = id; is_finished = b })
+row_is : (id : Utf8) (a b : Bool) → a ≡ b → ◌≡◌ {A = RunHookRow} (record { id = id; is_finished = a }) (record { id = id; is_finished = b })
 row_is id a b e = ap (λ (x : Bool). record { id = id; is_finished = x }) e
 
 -- a run hook that no line starts, no line finishes
@@ -49,12 +49,12 @@ end_refers front (envelope.TestRunHookFinished g) f is refs =
     ap (λ (x : TestRunHookFinished). times_declared (RunHook x.test_run_hook_started_id) front) (sym same) ∙ refs.0
 end_refers front _ f is refs = cc
 
-never_finished : (es : List Envelope) → AllPass es → (u : Text) → find (λ s. bytes_eq u s.id) (run_hooks es) ≡ None → is_hook_finished u es ≡ false
+never_finished : (es : List Envelope) → AllPass es → (u : Utf8) → find (λ s. bytes_eq u s.id) (run_hooks es) ≡ None → is_hook_finished u es ≡ false
 never_finished es pass u none = none_refers es pass RunHook as_run_hook (λ (s : TestRunHookStarted). s.id) declares_run_hook as_run_hook_end (λ (f : TestRunHookFinished). f.test_run_hook_started_id) end_refers u none
 
 -- ---- one more line
 
-finish_stays : (es : List Envelope) (e : Envelope) → as_run_hook_end e ≡ None → (u : Text) → is_hook_finished u (es ++ e ∷ []) ≡ is_hook_finished u es
+finish_stays : (es : List Envelope) (e : Envelope) → as_run_hook_end e ≡ None → (u : Utf8) → is_hook_finished u (es ++ e ∷ []) ≡ is_hook_finished u es
 finish_stays es e none u = ap (list_any (λ (f : TestRunHookFinished). bytes_eq u f.test_run_hook_started_id)) (found_more as_run_hook_end es e none)
 
 rows_stay : (es : List Envelope) (e : Envelope) → as_run_hook_end e ≡ None → map (run_hook_row (es ++ e ∷ [])) (run_hooks es) ≡ hook_rows es
@@ -74,7 +74,7 @@ start_rows es s more =
     ∙ ap (λ rs. rs ++ run_hook_row (es ++ e ∷ []) s ∷ []) (rows_stay es e refl)
     ∙ ap (λ r. hook_rows es ++ r ∷ []) fresh
 
-one_hook : (es : List Envelope) → AllPass es → (u : Text) → OnlyOne (λ s. bytes_eq u s.id) (run_hooks es)
+one_hook : (es : List Envelope) → AllPass es → (u : Utf8) → OnlyOne (λ s. bytes_eq u s.id) (run_hooks es)
 one_hook es pass u =
     let counted : length (filter (λ s. bytes_eq u s.id) (run_hooks es)) ≡ times_declared (RunHook u) es = kept_named (RunHook u) as_run_hook (λ s. bytes_eq u s.id) (declares_run_hook u) es in
     only_one (λ s. bytes_eq u s.id) (run_hooks es) (omega (arith, counted, at_most_once (RunHook u) es (all_distinct es pass)))
@@ -87,7 +87,7 @@ finish_rows es f more =
     ap (map (run_hook_row (es ++ e ∷ []))) (found_more as_run_hook es e refl)
     ∙ sym (change_one (λ r. bytes_eq f.test_run_hook_started_id r.id) finished (λ s. bytes_eq f.test_run_hook_started_id s.id) (run_hook_row es) (run_hook_row (es ++ e ∷ [])) (λ s. refl) hit other (run_hooks es) (one_hook es pass f.test_run_hook_started_id))
   where
-    one_more : (u : Text) → is_hook_finished u (es ++ envelope.TestRunHookFinished f ∷ []) ≡ (is_hook_finished u es || (bytes_eq u f.test_run_hook_started_id || false))
+    one_more : (u : Utf8) → is_hook_finished u (es ++ envelope.TestRunHookFinished f ∷ []) ≡ (is_hook_finished u es || (bytes_eq u f.test_run_hook_started_id || false))
     one_more u =
         ap (list_any (λ (x : TestRunHookFinished). bytes_eq u x.test_run_hook_started_id)) (found_push as_run_hook_end es (envelope.TestRunHookFinished f) f refl)
         ∙ list_any-append (λ (x : TestRunHookFinished). bytes_eq u x.test_run_hook_started_id) (run_hook_ends es) (f ∷ [])
@@ -125,7 +125,7 @@ hooks_worst_step es e = ap (λ fs. worst_so_far (map (λ (f : TestRunHookFinishe
 
 -- ---- what is reported of a line
 
-pub hook_finished_by : (first : ℕ) (es : List Envelope) → AllPass es → (u : Text) → is_hook_finished_by (seen first es) u ≡ is_hook_finished u es
+pub hook_finished_by : (first : ℕ) (es : List Envelope) → AllPass es → (u : Utf8) → is_hook_finished_by (seen first es) u ≡ is_hook_finished u es
 hook_finished_by first es pass u =
     ap (λ o. option_map_or (λ (r : RunHookRow). r.is_finished) o false) (find_map (λ (r : RunHookRow). bytes_eq u r.id) (run_hook_row es) (run_hooks es)) ∙ go (find (λ s. bytes_eq u s.id) (run_hooks es)) refl
   where

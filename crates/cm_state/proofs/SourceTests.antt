@@ -9,7 +9,7 @@ use Rattle.std.proofs.lemmas.List.Folds.{list_all-map}
 use Rattle.cm_refs.proofs.EntryLemmas.{list_any-map}
 use Rattle.gk_pickle.specs.Pickles.{pickles as compiled}
 use Rattle.cm_attempt.proofs.Growing.{find_passes}
-use Rattle.cm_stream.specs.Texts.{Text}
+use Rattle.cm_stream.specs.Texts.{Utf8}
 use Rattle.cm_stream.specs.Readings.{Reading, Accepted}
 use Rattle.cm_stream.specs.OnePass.{reads}
 use Rattle.cm_stream.specs.Sources.{is_due}
@@ -25,20 +25,20 @@ use Rattle.cm_state.specs.Summary.{SourceRow, first_of, source_row, seen}
 use Rattle.cm_state.specs.StateChecks.{find_source, reading_by, is_accepted_by, is_next_of, is_next_by, lacks_by}
 use Rattle.cm_stream.proofs.Lists.{find_map}
 
-abbrev of_uri : Text → Source → Bool
+abbrev of_uri : Utf8 → Source → Bool
 of_uri uri s = bytes_eq uri s.uri
 
-row_is : (first : ℕ) (es : List Envelope) (uri : Text) → find_source (seen first es) uri ≡ option_map (source_row es) (find (of_uri uri) (sources es))
+row_is : (first : ℕ) (es : List Envelope) (uri : Utf8) → find_source (seen first es) uri ≡ option_map (source_row es) (find (of_uri uri) (sources es))
 row_is first es uri = find_map (λ r. bytes_eq uri r.uri) (source_row es) (sources es)
 
-pub same_reading : (first : ℕ) (es : List Envelope) (uri : Text) → reading_by (seen first es) uri ≡ reading_of uri es
+pub same_reading : (first : ℕ) (es : List Envelope) (uri : Utf8) → reading_by (seen first es) uri ≡ reading_of uri es
 same_reading first es uri = ap (option_map (λ (r : SourceRow). r.reading)) (row_is first es uri) ∙ go (find (of_uri uri) (sources es))
   where
     go : (o : Option Source) → option_map (λ (r : SourceRow). r.reading) (option_map (source_row es) o) ≡ option_map (λ (s : Source). reads s.content) o
     go None = refl
     go (Some s) = refl
 
-pub same_accepted : (first : ℕ) (es : List Envelope) (uri : Text) → is_accepted_by (seen first es) uri ≡ is_uri_accepted uri es
+pub same_accepted : (first : ℕ) (es : List Envelope) (uri : Utf8) → is_accepted_by (seen first es) uri ≡ is_uri_accepted uri es
 same_accepted first es uri = ap (λ o. option_map_or is_accepted o false) (same_reading first es uri)
 
 -- ---- the next pickle
@@ -48,7 +48,7 @@ ids_are [] = refl
 ids_are (d ∷ ds) = refl
 
 -- the pickle is the one at this place of those that the reading compiles to
-abbrev is_at : Pickle → List Text → Option Reading → ℕ → Bool
+abbrev is_at : Pickle → List Utf8 → Option Reading → ℕ → Bool
 is_at p ids r n = option_map_or (λ due. is_due ids p due) (slice_get (due_pickles r) n) false
 
 pub same_next : (first : ℕ) (es : List Envelope) (p : Pickle) → is_next_by (seen first es) p ≡ is_next_pickle es p

@@ -7,7 +7,7 @@ use Rattle.std.specs.Str.{bytes_eq}
 use Rattle.std.proofs.lemmas.List.Folds.{list_any-append}
 use Rattle.cm_refs.specs.Declarations.{PickleRow, find_pickle, has_text, has_repeat, pickle_fault}
 use Rattle.cm_refs.specs.declared.fault.RefFault.TheVariants as fault
-use Rattle.cm_stream.specs.Texts.{Text, same_texts}
+use Rattle.cm_stream.specs.Texts.{Utf8, same_texts}
 use Rattle.cm_stream.specs.References.{PickleNamed, PickleStep, Definition, HookNamed, Step, Run, same_name, declares, declares_it, times_declared, if_any, as_pickle, pickles, find_pickle as pickle_in, pickle_step_ids, test_step_names}
 use Rattle.cm_stream.specs.Good.{has_same_names}
 use Rattle.cm_stream.specs.Checks.{refers_to_unknown, declares_again, has_steps_of_pickle}
@@ -21,7 +21,7 @@ use Rattle.cm_stream.proofs.Declared.{none_of, known}
 use Rattle.cm_stream.proofs.Found.{bytes_same, eq_back}
 use Rattle.cm_stream.proofs.Passing.{AllPass}
 use Rattle.cm_stream.proofs.OneRow.{one_pickle}
-use Rattle.cm_stream.proofs.Steps.{one_with, none_with}
+use Rattle.cm_stream.proofs.Steps.{one_with, none_with, out_of_or, never}
 use Rattle.cm_state.specs.Summary.{pickle_row, declared_in, seen}
 use Rattle.cm_state.specs.StateChecks.{is_among, steps_by, knows_run, knows_step, knows_case, has_steps_by}
 use Rattle.cm_state.proofs.Tests.{IsDeclaredIf, by_same, by_test, pickle_declared, definition_declared, hook_declared, unknown, run_known}
@@ -29,34 +29,26 @@ use Rattle.cm_stream.proofs.Lists.{or_no, find_map, found_any}
 
 -- ---- the steps of a pickle
 
-abbrev ids_of : Pickle → List Text
+abbrev ids_of : Pickle → List Utf8
 ids_of p = map (λ s. s.id) p.steps
 
-abbrev has_step_of : Text → Text → Pickle → Bool
+abbrev has_step_of : Utf8 → Utf8 → Pickle → Bool
 has_step_of pickle step p = bytes_eq pickle p.id && has_text step (ids_of p)
 
-out_of_or : (b x y : Bool) → ((b && x) || (b && y)) ≡ (b && (x || y))
-out_of_or true x y = refl
-out_of_or false x y = refl
-
-never : (b : Bool) → (b && false) ≡ false
-never true = refl
-never false = refl
-
-among : (pickle step id : Text) (ss : List pickle_step.PickleStep) → list_any (same_name (PickleStep pickle step)) (map (λ s. PickleStep id s.id) ss) ≡ (bytes_eq pickle id && has_text step (map (λ s. s.id) ss))
+among : (pickle step id : Utf8) (ss : List pickle_step.PickleStep) → list_any (same_name (PickleStep pickle step)) (map (λ s. PickleStep id s.id) ss) ≡ (bytes_eq pickle id && has_text step (map (λ s. s.id) ss))
 among pickle step id [] = sym (never (bytes_eq pickle id))
 among pickle step id (s ∷ ss) = rw (among pickle step id ss) (out_of_or (bytes_eq pickle id) (bytes_eq step s.id) (has_text step (map (λ t. t.id) ss)))
 
-declares_step : (pickle step : Text) (e : Envelope) → declares_it (PickleStep pickle step) e ≡ option_map_or (has_step_of pickle step) (as_pickle e) false
+declares_step : (pickle step : Utf8) (e : Envelope) → declares_it (PickleStep pickle step) e ≡ option_map_or (has_step_of pickle step) (as_pickle e) false
 declares_step pickle step (envelope.Pickle p) = among pickle step p.id p.steps
 declares_step pickle step (envelope.TestCase c) = none_of (PickleStep pickle step) (λ (s : TestStep). Step c.id s.id) c.test_steps (λ s. refl)
 declares_step pickle step (envelope.TestRunStarted r) = none_of (PickleStep pickle step) Run (if_any r.id) (λ s. refl)
 declares_step pickle step _ = refl
 
-row_is : (es : List Envelope) (id : Text) → find_pickle (declared_in es) id ≡ option_map pickle_row (pickle_in id es)
+row_is : (es : List Envelope) (id : Utf8) → find_pickle (declared_in es) id ≡ option_map pickle_row (pickle_in id es)
 row_is es id = find_map (λ r. bytes_eq id r.id) pickle_row (pickles es)
 
-step_declared : (first : ℕ) (es : List Envelope) → AllPass es → (pickle step : Text) → IsDeclaredIf (PickleStep pickle step) es (has_text step (steps_by (seen first es) pickle))
+step_declared : (first : ℕ) (es : List Envelope) → AllPass es → (pickle step : Utf8) → IsDeclaredIf (PickleStep pickle step) es (has_text step (steps_by (seen first es) pickle))
 step_declared first es pass pickle step = go (pickle_in pickle es) refl
   where
     k : IsDeclaredIf (PickleStep pickle step) es (list_any (has_step_of pickle step) (pickles es))
@@ -75,20 +67,20 @@ step_declared first es pass pickle step = go (pickle_in pickle es) refl
 
 -- ---- a pickle that is declared again
 
-no_pickle : (id : Text) (ss : List pickle_step.PickleStep) → list_any (λ later. same_name later (PickleNamed id)) (map (λ s. PickleStep id s.id) ss) ≡ false
+no_pickle : (id : Utf8) (ss : List pickle_step.PickleStep) → list_any (λ later. same_name later (PickleNamed id)) (map (λ s. PickleStep id s.id) ss) ≡ false
 no_pickle id [] = refl
 no_pickle id (s ∷ ss) = no_pickle id ss
 
-same_later : (id x : Text) (ss : List pickle_step.PickleStep) → list_any (λ later. same_name later (PickleStep id x)) (map (λ s. PickleStep id s.id) ss) ≡ has_text x (map (λ s. s.id) ss)
+same_later : (id x : Utf8) (ss : List pickle_step.PickleStep) → list_any (λ later. same_name later (PickleStep id x)) (map (λ s. PickleStep id s.id) ss) ≡ has_text x (map (λ s. s.id) ss)
 same_later id x [] = refl
 same_later id x (s ∷ ss) = rw (bytes_same id, same_later id x ss, eq_back s.id x) refl
 
-same_repeat : (id : Text) (ss : List pickle_step.PickleStep) → has_same_names (map (λ s. PickleStep id s.id) ss) ≡ has_repeat (map (λ s. s.id) ss)
+same_repeat : (id : Utf8) (ss : List pickle_step.PickleStep) → has_same_names (map (λ s. PickleStep id s.id) ss) ≡ has_repeat (map (λ s. s.id) ss)
 same_repeat id [] = refl
 same_repeat id (s ∷ ss) = rw (same_later id s.id ss, same_repeat id ss) refl
 
 -- where no pickle has the id, none of its steps is declared
-none_declared : (es : List Envelope) (id : Text) → pickle_in id es ≡ None → (ss : List pickle_step.PickleStep) → list_any (λ name. nat_lt 0 (times_declared name es)) (map (λ s. PickleStep id s.id) ss) ≡ false
+none_declared : (es : List Envelope) (id : Utf8) → pickle_in id es ≡ None → (ss : List pickle_step.PickleStep) → list_any (λ name. nat_lt 0 (times_declared name es)) (map (λ s. PickleStep id s.id) ss) ≡ false
 none_declared es id none [] = refl
 none_declared es id none (s ∷ ss) =
     let here : nat_lt 0 (times_declared (PickleStep id s.id) es) ≡ false =
@@ -133,17 +125,17 @@ pub both_known : (a b : Bool) → (not a || not b) ≡ not (a && b)
 both_known true b = refl
 both_known false b = refl
 
-hook_known : (es : List Envelope) (o : Option Text) → list_any (unknown es) (map HookNamed (if_any o)) ≡ not (is_among (declared_in es).hooks o)
+hook_known : (es : List Envelope) (o : Option Utf8) → list_any (unknown es) (map HookNamed (if_any o)) ≡ not (is_among (declared_in es).hooks o)
 hook_known es None = refl
 hook_known es (Some id) = or_no (unknown es (HookNamed id)) ∙ (hook_declared id es).unknown
 
-definitions_known : (es : List Envelope) (ids : List Text) → list_any (unknown es) (map Definition ids) ≡ not (list_all (λ id. has_text id (declared_in es).definitions) ids)
+definitions_known : (es : List Envelope) (ids : List Utf8) → list_any (unknown es) (map Definition ids) ≡ not (list_all (λ id. has_text id (declared_in es).definitions) ids)
 definitions_known es [] = refl
 definitions_known es (id ∷ ids) =
     let here = (definition_declared id es).unknown in
     (λ i. here i || definitions_known es ids i) ∙ both_known (has_text id (declared_in es).definitions) (list_all (λ x. has_text x (declared_in es).definitions) ids)
 
-pickle_step_known : (first : ℕ) (es : List Envelope) → AllPass es → (pickle : Text) (o : Option Text) → list_any (unknown es) (map (PickleStep pickle) (if_any o)) ≡ not (is_among (steps_by (seen first es) pickle) o)
+pickle_step_known : (first : ℕ) (es : List Envelope) → AllPass es → (pickle : Utf8) (o : Option Utf8) → list_any (unknown es) (map (PickleStep pickle) (if_any o)) ≡ not (is_among (steps_by (seen first es) pickle) o)
 pickle_step_known first es pass pickle None = refl
 pickle_step_known first es pass pickle (Some step) = or_no (unknown es (PickleStep pickle step)) ∙ (step_declared first es pass pickle step).unknown
 
@@ -151,7 +143,7 @@ three : (a b c : Bool) → ((not a || not b) || not c) ≡ not (a && b && c)
 three true b c = both_known b c
 three false b c = refl
 
-step_known : (first : ℕ) (es : List Envelope) → AllPass es → (pickle : Text) (t : TestStep) → list_any (unknown es) (test_step_names pickle t) ≡ not (knows_step (seen first es) pickle t)
+step_known : (first : ℕ) (es : List Envelope) → AllPass es → (pickle : Utf8) (t : TestStep) → list_any (unknown es) (test_step_names pickle t) ≡ not (knows_step (seen first es) pickle t)
 step_known first es pass pickle t =
     let hooks = map HookNamed (if_any t.hook_id) in
     let steps = map (PickleStep pickle) (if_any t.pickle_step_id) in
@@ -161,7 +153,7 @@ step_known first es pass pickle t =
     ∙ (λ i. (hook_known es t.hook_id i || pickle_step_known first es pass pickle t.pickle_step_id i) || definitions_known es t.step_definition_ids i)
     ∙ three (is_among (declared_in es).hooks t.hook_id) (is_among (steps_by (seen first es) pickle) t.pickle_step_id) (list_all (λ id. has_text id (declared_in es).definitions) t.step_definition_ids)
 
-steps_known : (first : ℕ) (es : List Envelope) → AllPass es → (pickle : Text) (ts : List TestStep) → list_any (unknown es) (flat_map (test_step_names pickle) ts) ≡ not (list_all (knows_step (seen first es) pickle) ts)
+steps_known : (first : ℕ) (es : List Envelope) → AllPass es → (pickle : Utf8) (ts : List TestStep) → list_any (unknown es) (flat_map (test_step_names pickle) ts) ≡ not (list_all (knows_step (seen first es) pickle) ts)
 steps_known first es pass pickle [] = refl
 steps_known first es pass pickle (t ∷ ts) =
     list_any-append (unknown es) (test_step_names pickle t) (flat_map (test_step_names pickle) ts)

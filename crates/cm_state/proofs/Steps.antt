@@ -4,7 +4,7 @@ use Rattle.std.specs.List.{filter_map}
 use Rattle.std.specs.Option.{option_map}
 use Rattle.std.proofs.lemmas.List.Folds.{list_any-append}
 use Rattle.cm_refs.specs.Declarations.{Declarations}
-use Rattle.cm_stream.specs.Texts.{Text}
+use Rattle.cm_stream.specs.Texts.{Utf8}
 use Rattle.cm_stream.specs.References.{as_source, as_document, as_pickle, as_case, as_run_hook_end, sources, pickles, cases, is_run_finished, has_run_started, has_run_finished, says_success, run_succeeded}
 use Rattle.cm_stream.specs.Record.{changed}
 use Rattle.cm_envelope.specs.declared.envelope.Envelope.{Envelope}
@@ -57,7 +57,7 @@ rows_step es (envelope.GherkinDocument d) h = document_rows es d h
 rows_step es (envelope.Pickle p) h = pickle_rows es p h
 rows_step es e h = other_rows es e refl refl refl
 
-abbrev named_after : List Text → Option TestCase → List Text
+abbrev named_after : List Utf8 → Option TestCase → List Utf8
 named_after names None = names
 named_after names (Some c) = with_name names c.pickle_id
 

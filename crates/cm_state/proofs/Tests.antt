@@ -7,7 +7,7 @@ use Rattle.std.specs.Str.{bytes_eq}
 use Rattle.cm_refs.specs.Declarations.{PickleRow, RunHookRow, find_pickle, find_run_hook}
 use Rattle.cm_refs.proofs.EntryLemmas.{list_any-map}
 use Rattle.cm_attempt.specs.Table.{find_attempt, has_text}
-use Rattle.cm_stream.specs.Texts.{Text}
+use Rattle.cm_stream.specs.Texts.{Utf8}
 use Rattle.cm_stream.specs.References.{Name, SourceOf, DocumentOf, PickleNamed, PickleStep, Definition, HookNamed, Step, Run, Attempt, RunHook, same_name, declares_it, times_declared, if_any, as_source, as_document, as_pickle, as_start, as_run_hook, pickles, starts, run_hooks, has_run_started}
 use Rattle.cm_stream.specs.Record.{table_of}
 use Rattle.cm_envelope.specs.declared.envelope.Envelope.{Envelope}
@@ -40,52 +40,52 @@ by_test name h p same es =
     let any = found_any p (filter_map h es) in
     record { unknown = k.0 ∙ ap not any; again = k.1 ∙ any }
 
-pub source_declared : (u : Text) (es : List Envelope) → IsDeclaredIf (SourceOf u) es (has_text u (declared_in es).sources)
+pub source_declared : (u : Utf8) (es : List Envelope) → IsDeclaredIf (SourceOf u) es (has_text u (declared_in es).sources)
 source_declared u es =
     by_same (SourceOf u) es (list_any (λ (s : Source). bytes_eq u s.uri) (filter_map as_source es)) (has_text u (declared_in es).sources)
     (sym (list_any-map (bytes_eq u) (λ (s : Source). s.uri) (filter_map as_source es))) (by_test (SourceOf u) as_source (λ s. bytes_eq u s.uri) (declares_source u) es)
 
-pub document_declared : (u : Text) (es : List Envelope) → IsDeclaredIf (DocumentOf u) es (has_text u (declared_in es).documents)
+pub document_declared : (u : Utf8) (es : List Envelope) → IsDeclaredIf (DocumentOf u) es (has_text u (declared_in es).documents)
 document_declared u es =
     by_same (DocumentOf u) es (list_any (λ (d : GherkinDocument). bytes_eq u d.uri) (filter_map as_document es)) (has_text u (declared_in es).documents)
     (sym (list_any-map (bytes_eq u) (λ (d : GherkinDocument). d.uri) (filter_map as_document es))) (by_test (DocumentOf u) as_document (λ d. bytes_eq u d.uri) (declares_document u) es)
 
-pub pickle_declared : (id : Text) (es : List Envelope) → IsDeclaredIf (PickleNamed id) es (is_some (find_pickle (declared_in es) id))
+pub pickle_declared : (id : Utf8) (es : List Envelope) → IsDeclaredIf (PickleNamed id) es (is_some (find_pickle (declared_in es) id))
 pickle_declared id es =
     by_same (PickleNamed id) es (list_any (λ (p : Pickle). bytes_eq id p.id) (pickles es)) (is_some (find_pickle (declared_in es) id))
     (sym (list_any-map (λ (r : PickleRow). bytes_eq id r.id) pickle_row (pickles es)) ∙ sym (found_any (λ (r : PickleRow). bytes_eq id r.id) (map pickle_row (pickles es))))
     (by_test (PickleNamed id) as_pickle (λ p. bytes_eq id p.id) (declares_pickle id) es)
 
-pub attempt_declared : (id : Text) (first : ℕ) (es : List Envelope) → AreAccepted first es → IsDeclaredIf (Attempt id) es (is_some (find_attempt (table_of first es) id))
+pub attempt_declared : (id : Utf8) (first : ℕ) (es : List Envelope) → AreAccepted first es → IsDeclaredIf (Attempt id) es (is_some (find_attempt (table_of first es) id))
 attempt_declared id first es accepted =
     by_same (Attempt id) es (list_any (λ s. bytes_eq id s.id) (starts es)) (is_some (find_attempt (table_of first es) id))
     (sym (found_any (λ s. bytes_eq id s.id) (starts es)) ∙ sym (attempt_told first es accepted id))
     (by_test (Attempt id) as_start (λ s. bytes_eq id s.id) (declares_attempt id) es)
 
-pub run_hook_declared : (id : Text) (es : List Envelope) → IsDeclaredIf (RunHook id) es (is_some (find_run_hook (declared_in es) id))
+pub run_hook_declared : (id : Utf8) (es : List Envelope) → IsDeclaredIf (RunHook id) es (is_some (find_run_hook (declared_in es) id))
 run_hook_declared id es =
     by_same (RunHook id) es (list_any (λ s. bytes_eq id s.id) (run_hooks es)) (is_some (find_run_hook (declared_in es) id))
     (sym (list_any-map (λ (r : RunHookRow). bytes_eq id r.id) (run_hook_row es) (run_hooks es)) ∙ sym (found_any (λ (r : RunHookRow). bytes_eq id r.id) (map (run_hook_row es) (run_hooks es))))
     (by_test (RunHook id) as_run_hook (λ s. bytes_eq id s.id) (declares_run_hook id) es)
 
-declares_definition : (id : Text) (e : Envelope) → declares_it (Definition id) e ≡ option_map_or (bytes_eq id) (as_definition e) false
+declares_definition : (id : Utf8) (e : Envelope) → declares_it (Definition id) e ≡ option_map_or (bytes_eq id) (as_definition e) false
 declares_definition id (envelope.StepDefinition d) = or_no (bytes_eq id d.id)
 declares_definition id (envelope.Pickle p) = none_of (Definition id) (λ (s : pickle_step.PickleStep). PickleStep p.id s.id) p.steps (λ s. refl)
 declares_definition id (envelope.TestCase c) = none_of (Definition id) (λ (s : TestStep). Step c.id s.id) c.test_steps (λ s. refl)
 declares_definition id (envelope.TestRunStarted r) = none_of (Definition id) Run (if_any r.id) (λ s. refl)
 declares_definition id _ = refl
 
-declares_hook : (id : Text) (e : Envelope) → declares_it (HookNamed id) e ≡ option_map_or (bytes_eq id) (as_hook e) false
+declares_hook : (id : Utf8) (e : Envelope) → declares_it (HookNamed id) e ≡ option_map_or (bytes_eq id) (as_hook e) false
 declares_hook id (envelope.Hook h) = or_no (bytes_eq id h.id)
 declares_hook id (envelope.Pickle p) = none_of (HookNamed id) (λ (s : pickle_step.PickleStep). PickleStep p.id s.id) p.steps (λ s. refl)
 declares_hook id (envelope.TestCase c) = none_of (HookNamed id) (λ (s : TestStep). Step c.id s.id) c.test_steps (λ s. refl)
 declares_hook id (envelope.TestRunStarted r) = none_of (HookNamed id) Run (if_any r.id) (λ s. refl)
 declares_hook id _ = refl
 
-pub definition_declared : (id : Text) (es : List Envelope) → IsDeclaredIf (Definition id) es (has_text id (declared_in es).definitions)
+pub definition_declared : (id : Utf8) (es : List Envelope) → IsDeclaredIf (Definition id) es (has_text id (declared_in es).definitions)
 definition_declared id es = by_test (Definition id) as_definition (bytes_eq id) (declares_definition id) es
 
-pub hook_declared : (id : Text) (es : List Envelope) → IsDeclaredIf (HookNamed id) es (has_text id (declared_in es).hooks)
+pub hook_declared : (id : Utf8) (es : List Envelope) → IsDeclaredIf (HookNamed id) es (has_text id (declared_in es).hooks)
 hook_declared id es = by_test (HookNamed id) as_hook (bytes_eq id) (declares_hook id) es
 
 -- ---- the run
@@ -116,17 +116,17 @@ any_first p [] few = refl
 any_first p (x ∷ []) few = or_no (p x)
 any_first p (x ∷ y ∷ xs) few = absurd (omega arith)
 
-declares_run : (id : Text) (e : Envelope) → declares_it (Run id) e ≡ option_map_or (is_run id) (as_run e) false
+declares_run : (id : Utf8) (e : Envelope) → declares_it (Run id) e ≡ option_map_or (is_run id) (as_run e) false
 declares_run id (envelope.Pickle p) = none_of (Run id) (λ (s : pickle_step.PickleStep). PickleStep p.id s.id) p.steps (λ s. refl)
 declares_run id (envelope.TestCase c) = none_of (Run id) (λ (s : TestStep). Step c.id s.id) c.test_steps (λ s. refl)
 declares_run id (envelope.TestRunStarted r) = go r.id
   where
-    go : (o : Option Text) → list_any (same_name (Run id)) (map Run (if_any o)) ≡ option_map_or (bytes_eq id) o false
+    go : (o : Option Utf8) → list_any (same_name (Run id)) (map Run (if_any o)) ≡ option_map_or (bytes_eq id) o false
     go None = refl
     go (Some i) = or_no (bytes_eq id i)
 declares_run id _ = refl
 
-pub run_declared : (es : List Envelope) → AllPass es → (id : Text) → IsDeclaredIf (Run id) es (option_map_or (is_run id) (first_of (filter_map as_run es)) false)
+pub run_declared : (es : List Envelope) → AllPass es → (id : Utf8) → IsDeclaredIf (Run id) es (option_map_or (is_run id) (first_of (filter_map as_run es)) false)
 run_declared es pass id =
     by_same (Run id) es (list_any (is_run id) (filter_map as_run es)) (option_map_or (is_run id) (first_of (filter_map as_run es)) false)
     (any_first (is_run id) (filter_map as_run es) (few_runs es pass)) (by_test (Run id) as_run (is_run id) (declares_run id) es)
@@ -136,6 +136,6 @@ run_declared es pass id =
 abbrev pub unknown : List Envelope → Name → Bool
 unknown es name = times_declared name es == 0
 
-pub run_known : (first : ℕ) (es : List Envelope) → AllPass es → (o : Option Text) → list_any (unknown es) (map Run (if_any o)) ≡ not (knows_run (seen first es) o)
+pub run_known : (first : ℕ) (es : List Envelope) → AllPass es → (o : Option Utf8) → list_any (unknown es) (map Run (if_any o)) ≡ not (knows_run (seen first es) o)
 run_known first es pass None = refl
 run_known first es pass (Some id) = or_no (unknown es (Run id)) ∙ (run_declared es pass id).unknown

@@ -7,7 +7,7 @@ use Rattle.std.proofs.lemmas.List.Folds.{list_any-append}
 use Rattle.std.proofs.lemmas.List.Sums.{length-filter}
 use Rattle.cm_refs.proofs.EntryLemmas.{list_any-map}
 use Rattle.cm_attempt.specs.Table.{has_text}
-use Rattle.cm_stream.specs.Texts.{Text}
+use Rattle.cm_stream.specs.Texts.{Utf8}
 use Rattle.cm_stream.specs.References.{Name, PickleNamed, Run, times_declared, refers, if_any, as_source, as_pickle, as_case, as_start, sources, pickles, cases, starts}
 use Rattle.cm_stream.specs.Stream.{unrun, counts_of}
 use Rattle.cm_stream.specs.declared.verdict.Counts.{Counts}
@@ -37,7 +37,7 @@ or_second : (a b : Bool) → b ≡ true → (a || b) ≡ true
 or_second true b h = refl
 or_second false b h = h
 
-has_with : (id : Text) (names : List Text) (name : Text) → has_text id (with_name names name) ≡ (has_text id names || bytes_eq id name)
+has_with : (id : Utf8) (names : List Utf8) (name : Utf8) → has_text id (with_name names name) ≡ (has_text id names || bytes_eq id name)
 has_with id names name = at (has_text name names) refl
   where
     at : (b : Bool) → has_text name names ≡ b → has_text id (if b then names else names ++ name ∷ []) ≡ (has_text id names || bytes_eq id name)
@@ -46,34 +46,34 @@ has_with id names name = at (has_text name names) refl
         (λ k. sym (or_kept (has_text id names) (bytes_eq id name) (ap (λ u. has_text u names) k ∙ e)))
     at false e = list_any-append (bytes_eq id) names (name ∷ []) ∙ ap (λ b. has_text id names || b) (or_no (bytes_eq id name))
 
-has_names : (id : Text) (names more : List Text) → has_text id (names_from names more) ≡ (has_text id names || has_text id more)
+has_names : (id : Utf8) (names more : List Utf8) → has_text id (names_from names more) ≡ (has_text id names || has_text id more)
 has_names id names [] = sym (or_no (has_text id names))
 has_names id names (name ∷ more) =
     has_names id (with_name names name) more ∙ ap (λ b. b || has_text id more) (has_with id names name) ∙ or_joined (has_text id names) (bytes_eq id name) (has_text id more)
 
-pub names_push : (names more : List Text) (name : Text) → names_from names (more ++ name ∷ []) ≡ with_name (names_from names more) name
+pub names_push : (names more : List Utf8) (name : Utf8) → names_from names (more ++ name ∷ []) ≡ with_name (names_from names more) name
 names_push names [] name = refl
 names_push names (other ∷ more) name = names_push (with_name names other) more name
 
 -- ---- pickles that no case names
 
-abbrev names_it : Text → TestCase → Bool
+abbrev names_it : Utf8 → TestCase → Bool
 names_it id c = bytes_eq id c.pickle_id
 
 abbrev unnamed : List TestCase → Pickle → Bool
 unnamed cs p = not (list_any (names_it p.id) cs)
 
 -- the pickles that these cases name
-abbrev pub named_by : List TestCase → List Text
+abbrev pub named_by : List TestCase → List Utf8
 named_by cs = once_each (map (λ c. c.pickle_id) cs)
 
-is_named : (id : Text) (cs : List TestCase) → has_text id (named_by cs) ≡ list_any (names_it id) cs
+is_named : (id : Utf8) (cs : List TestCase) → has_text id (named_by cs) ≡ list_any (names_it id) cs
 is_named id cs = has_names id [] (map (λ c. c.pickle_id) cs) ∙ list_any-map (bytes_eq id) (λ (c : TestCase). c.pickle_id) cs
 
 other_unrun : (es : List Envelope) (e : Envelope) → as_case e ≡ None → as_pickle e ≡ None → unrun (es ++ e ∷ []) ≡ unrun es
 other_unrun es e c p = λ i. count_by (unnamed (found_more as_case es e c i)) (found_more as_pickle es e p i)
 
-after_run : (P : Name → Type 0) (run : Option Text) (name : Name) (more : List Name) → AllByRecursion P (map Run (if_any run) ++ name ∷ more) → P name
+after_run : (P : Name → Type 0) (run : Option Utf8) (name : Name) (more : List Name) → AllByRecursion P (map Run (if_any run) ++ name ∷ more) → P name
 after_run P None name more h = h.0
 after_run P (Some id) name more h = (h.1).0
 
@@ -142,7 +142,7 @@ case_unrun es c more = go (list_any (names_it c.pickle_id) (cases es)) refl
 
 -- ---- all counts
 
-abbrev pub counts_after : List Text → Counts → Envelope → Counts
+abbrev pub counts_after : List Utf8 → Counts → Envelope → Counts
 counts_after names n (envelope.Source s) = source_counted n
 counts_after names n (envelope.Pickle p) = pickle_counted n
 counts_after names n (envelope.TestCase c) = case_counted (has_text c.pickle_id names) n

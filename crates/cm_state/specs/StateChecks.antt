@@ -9,7 +9,7 @@ use Rattle.cm_attempt.specs.declared.status.Status.TheVariants.{Passed}
 use Rattle.cm_attempt.specs.declared.policy.Policy.{Policy}
 use Rattle.cm_attempt.specs.declared.settings.Settings.{Settings}
 use Rattle.gk_pickle.specs.Pickles.{pickles as compiled}
-use Rattle.cm_stream.specs.Texts.{Text, same_texts}
+use Rattle.cm_stream.specs.Texts.{Utf8, same_texts}
 use Rattle.cm_stream.specs.Readings.{Reading, Accepted}
 use Rattle.cm_stream.specs.OnePass.{reads}
 use Rattle.cm_stream.specs.Sources.{plain, is_due}
@@ -31,13 +31,13 @@ use Rattle.cm_state.specs.Summary.{SourceRow, Summary}
 
 -- ---- what is tested
 
-abbrev pub find_source : Summary → Text → Option SourceRow
+abbrev pub find_source : Summary → Utf8 → Option SourceRow
 find_source s uri = find (λ r. bytes_eq uri r.uri) s.sources
 
-abbrev pub reading_by : Summary → Text → Option Reading
+abbrev pub reading_by : Summary → Utf8 → Option Reading
 reading_by s uri = option_map (λ r. r.reading) (find_source s uri)
 
-abbrev pub is_accepted_by : Summary → Text → Bool
+abbrev pub is_accepted_by : Summary → Utf8 → Bool
 is_accepted_by s uri = option_map_or is_accepted (reading_by s uri) false
 
 -- the pickle is the next one of the source
@@ -50,23 +50,23 @@ abbrev pub is_next_by : Summary → Pickle → Bool
 is_next_by s p = option_map_or (is_next_of p) (find_source s p.uri) false
 
 -- the run has this id
-abbrev pub is_run : Text → TestRunStarted → Bool
+abbrev pub is_run : Utf8 → TestRunStarted → Bool
 is_run id run = option_map_or (bytes_eq id) run.id false
 
 -- no run is named, or the one that started
-abbrev pub knows_run : Summary → Option Text → Bool
+abbrev pub knows_run : Summary → Option Utf8 → Bool
 knows_run s None = true
 knows_run s (Some id) = option_map_or (is_run id) s.run false
 
 -- nothing is named, or one of these
-abbrev pub is_among : List Text → Option Text → Bool
+abbrev pub is_among : List Utf8 → Option Utf8 → Bool
 is_among texts id = option_map_or (λ t. has_text t texts) id true
 
 -- the ids of the pickle's steps
-abbrev pub steps_by : Summary → Text → List Text
+abbrev pub steps_by : Summary → Utf8 → List Utf8
 steps_by s pickle = option_map_or (λ p. p.steps) (find_pickle s.declared pickle) []
 
-abbrev pub knows_step : Summary → Text → TestStep → Bool
+abbrev pub knows_step : Summary → Utf8 → TestStep → Bool
 knows_step s pickle t =
     is_among s.declared.hooks t.hook_id && is_among (steps_by s pickle) t.pickle_step_id
     && list_all (λ id. has_text id s.declared.definitions) t.step_definition_ids
@@ -83,7 +83,7 @@ has_steps_by s c =
     (find_pickle s.declared c.pickle_id) false
 
 -- without an attempt its step isn't judged
-abbrev pub knows_place : Summary → Option Text → Option Text → Bool
+abbrev pub knows_place : Summary → Option Utf8 → Option Utf8 → Bool
 knows_place s None step = true
 knows_place s (Some attempt) None = is_some (find_attempt s.table attempt)
 knows_place s (Some attempt) (Some step) = has_step s.table attempt step
@@ -98,7 +98,7 @@ abbrev pub knows_run_hook : Summary → TestRunHookStarted → Bool
 knows_run_hook s x = knows_run s x.test_run_started_id && has_text x.hook_id s.declared.hooks
 
 -- the run hook is finished
-abbrev pub is_hook_finished_by : Summary → Text → Bool
+abbrev pub is_hook_finished_by : Summary → Utf8 → Bool
 is_hook_finished_by s hook =
     option_map_or (λ r. r.is_finished) (find_run_hook s.declared hook) false
 

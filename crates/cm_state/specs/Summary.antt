@@ -8,7 +8,7 @@ use Rattle.cm_attempt.specs.Table.{Table, table_from, change_first, has_text}
 use Rattle.cm_attempt.specs.Worst.{with_status, worst_so_far}
 use Rattle.cm_attempt.specs.declared.status.Status.{Status}
 use Rattle.cm_stream.specs.Statuses.{kept_status}
-use Rattle.cm_stream.specs.Texts.{Text}
+use Rattle.cm_stream.specs.Texts.{Utf8}
 use Rattle.cm_stream.specs.Readings.{Reading}
 use Rattle.cm_stream.specs.OnePass.{reads}
 use Rattle.cm_stream.specs.References.{as_document, sources, pickles, cases, run_hooks, hook_statuses, documents_of, pickles_of, has_run_finished, run_succeeded, is_hook_finished}
@@ -24,9 +24,9 @@ use Rattle.cm_stream.specs.declared.verdict.Counts.{Counts}
 
 -- a source: what its text is read as, the ids of its document once that came, and how many of its pickles came
 pub record SourceRow : Type 0 where
-  pub uri : Text
+  pub uri : Utf8
   pub reading : Reading
-  pub ids : Option (List Text)
+  pub ids : Option (List Utf8)
   pub matched : ℕ
 
 pub record Summary : Type 0 where
@@ -34,7 +34,7 @@ pub record Summary : Type 0 where
   pub table : Table
   pub sources : List SourceRow
   -- the pickles that cases name, each once
-  pub named : List Text
+  pub named : List Utf8
   -- the start of the run, once it came
   pub run : Option TestRunStarted
   pub is_finished : Bool
@@ -46,11 +46,11 @@ pub record Summary : Type 0 where
 
 -- ---- of all the lines so far
 
-abbrev pub as_definition : Envelope → Option Text
+abbrev pub as_definition : Envelope → Option Utf8
 as_definition (envelope.StepDefinition d) = Some d.id
 as_definition _ = None
 
-abbrev pub as_hook : Envelope → Option Text
+abbrev pub as_hook : Envelope → Option Utf8
 as_hook (envelope.Hook h) = Some h.id
 as_hook _ = None
 
@@ -87,15 +87,15 @@ source_row es s = record {
 }
 
 -- the names, and this one after them if it isn't among them
-abbrev pub with_name : List Text → Text → List Text
+abbrev pub with_name : List Utf8 → Utf8 → List Utf8
 with_name names name = if has_text name names then names else names ++ name ∷ []
 
-abbrev pub names_from : List Text → List Text → List Text
+abbrev pub names_from : List Utf8 → List Utf8 → List Utf8
 names_from names [] = names
 names_from names (name ∷ more) = names_from (with_name names name) more
 
 -- each of the texts once, in order
-abbrev pub once_each : List Text → List Text
+abbrev pub once_each : List Utf8 → List Utf8
 once_each texts = names_from [] texts
 
 -- where the attempts of a case are numbered from the first number
@@ -130,13 +130,13 @@ nothing_seen first = record {
 abbrev pub new_source : Source → SourceRow
 new_source s = record { uri = s.uri; reading = reads s.content; ids = None; matched = 0 }
 
-abbrev pub with_ids : List Text → SourceRow → SourceRow
+abbrev pub with_ids : List Utf8 → SourceRow → SourceRow
 with_ids ids r = record r { ids = Some ids }
 
 abbrev pub one_more : SourceRow → SourceRow
 one_more r = record r { matched = r.matched + 1 }
 
-abbrev pub change_source : Text → (SourceRow → SourceRow) → List SourceRow → List SourceRow
+abbrev pub change_source : Utf8 → (SourceRow → SourceRow) → List SourceRow → List SourceRow
 change_source uri f = change_first (λ r. bytes_eq uri r.uri) f
 
 abbrev pub source_counted : Counts → Counts

@@ -3,7 +3,7 @@ use Rattle.std.proofs.Common.{◌≡◌, refl, sym, ap, ◌∙◌, List, [], ◌
 use Rattle.std.specs.Prelude.{find, slice_get}
 use Rattle.std.specs.List.{list_any, filter_map, flat_map}
 use Rattle.std.specs.Str.{bytes_eq}
-use Rattle.cm_stream.specs.Texts.{Text}
+use Rattle.cm_stream.specs.Texts.{Utf8}
 use Rattle.cm_stream.specs.References.{Case, Attempt, times_declared, as_case, as_start, find_case, steps_of, move_of, moves, is_ended}
 use Rattle.cm_attempt.specs.Calls.{Move, Started, StepStarted, StepFinished, Ended, whole, is_end}
 use Rattle.cm_stream.specs.Good.{Sound}
@@ -20,11 +20,11 @@ use Rattle.cm_stream.proofs.Found.{still_found, bytes_same, bytes_are}
 use Rattle.cm_stream.proofs.Declared.{declarer, declares_attempt, declares_case, start_is}
 
 -- an attempt that is started, with the steps of its case before the line and in the whole
-pub record IsUnderWay (es before : List Envelope) (a : Text) : Type 0 where
+pub record IsUnderWay (es before : List Envelope) (a : Utf8) : Type 0 where
   pub steps : steps_of_attempt a before ≡ steps_of_attempt a es
   pub goes : moves a es ≡ whole (steps_of_attempt a es)
 
-pub under_way : (es before : List Envelope) (e : Envelope) (after : List Envelope) → Sound es → es ≡ before ++ e ∷ after → (a : Text) → times_declared (Attempt a) before ≡ 1 → IsUnderWay es before a
+pub under_way : (es before : List Envelope) (e : Envelope) (after : List Envelope) → Sound es → es ≡ before ++ e ∷ after → (a : Utf8) → times_declared (Attempt a) before ≡ 1 → IsUnderWay es before a
 under_way es before e after good cut a one =
     let at = declarer (Attempt a) as_start (λ x. bytes_eq a x.id) (declares_attempt a) before one in
     let start : at.here ≡ envelope.TestCaseStarted at.value = start_is at.here at.value at.is in
@@ -52,7 +52,7 @@ same_move_itself Ended = refl
 
 -- ---- StepOrder and FinishedEarly
 
-pub is_next : (es before : List Envelope) (e : Envelope) (after : List Envelope) → Sound es → es ≡ before ++ e ∷ after → (a : Text) (m : Move) → move_of a e ≡ Some m → times_declared (Attempt a) before ≡ 1
+pub is_next : (es before : List Envelope) (e : Envelope) (after : List Envelope) → Sound es → es ≡ before ++ e ∷ after → (a : Utf8) (m : Move) → move_of a e ≡ Some m → times_declared (Attempt a) before ≡ 1
     → is_next_move m a before ≡ true
 is_next es before e after good cut a m moved one =
     let way = under_way es before e after good cut a one in
@@ -80,7 +80,7 @@ not_early es before f after good cut =
     (good.references before (envelope.TestCaseFinished f) after cut).0)
 
 -- the end comes last
-pub steps_have_no_end : (steps : List Text) → list_any is_end (flat_map (λ s. StepStarted s ∷ StepFinished s ∷ []) steps) ≡ false
+pub steps_have_no_end : (steps : List Utf8) → list_any is_end (flat_map (λ s. StepStarted s ∷ StepFinished s ∷ []) steps) ≡ false
 steps_have_no_end [] = refl
 steps_have_no_end (s ∷ steps) = steps_have_no_end steps
 

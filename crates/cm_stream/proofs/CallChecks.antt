@@ -12,7 +12,7 @@ use Rattle.cm_attempt.specs.CallFaults as calls
 use Rattle.cm_attempt.specs.CallFaults.{fault_of, step_fault}
 use Rattle.cm_attempt.specs.declared.fault.TrackFault.{TrackFault}
 use Rattle.cm_attempt.specs.declared.fault.TrackFault.TheVariants as refusal
-use Rattle.cm_stream.specs.Texts.{Text}
+use Rattle.cm_stream.specs.Texts.{Utf8}
 use Rattle.cm_stream.specs.Findings as bad
 use Rattle.cm_stream.specs.Findings.{Finding, IsBad}
 use Rattle.cm_stream.specs.References.{has_run_started, Attempt, Case, Step, same_name, declares, times_declared, step_names, as_case, as_start, cases, starts, starts_of, find_case, is_ended, is_retried}
@@ -65,27 +65,27 @@ end_fault unknown ended is_next =
 
 -- ---- the words of both sides
 
-pub start_seen : (a : Text) (es : List Envelope) → is_some (call.start_of a (calls_of es)) ≡ is_some (find (is_of a) (starts es))
+pub start_seen : (a : Utf8) (es : List Envelope) → is_some (call.start_of a (calls_of es)) ≡ is_some (find (is_of a) (starts es))
 start_seen a es = ap is_some (start_of_told a es) ∙ some_mapped start_in_calls (find (is_of a) (starts es))
 
-next_told : (m : Move) (a : Text) (es : List Envelope) → calls.is_next_move m a (calls_of es) ≡ is_next_move m a es
+next_told : (m : Move) (a : Utf8) (es : List Envelope) → calls.is_next_move m a (calls_of es) ≡ is_next_move m a es
 next_told m a es = λ i. option_map_or (same_move m) (slice_get (whole (attempt_steps_told a es i)) (length (moves_told a es i))) false
 
 -- ---- a case
 
-no_case : (id : Text) (ss : List TestStep) → list_any (λ later. same_name later (Case id)) (map (λ s. Step id s.id) ss) ≡ false
+no_case : (id : Utf8) (ss : List TestStep) → list_any (λ later. same_name later (Case id)) (map (λ s. Step id s.id) ss) ≡ false
 no_case id [] = refl
 no_case id (s ∷ ss) = no_case id ss
 
-same_later : (id x : Text) (ss : List TestStep) → list_any (λ later. same_name later (Step id x)) (map (λ s. Step id s.id) ss) ≡ has_text x (map (λ s. s.id) ss)
+same_later : (id x : Utf8) (ss : List TestStep) → list_any (λ later. same_name later (Step id x)) (map (λ s. Step id s.id) ss) ≡ has_text x (map (λ s. s.id) ss)
 same_later id x [] = refl
 same_later id x (s ∷ ss) = rw (bytes_same id, same_later id x ss, eq_back s.id x) refl
 
-same_repeat : (id : Text) (ss : List TestStep) → has_same_names (map (λ s. Step id s.id) ss) ≡ has_repeat (map (λ s. s.id) ss)
+same_repeat : (id : Utf8) (ss : List TestStep) → has_same_names (map (λ s. Step id s.id) ss) ≡ has_repeat (map (λ s. s.id) ss)
 same_repeat id [] = refl
 same_repeat id (s ∷ ss) = rw (same_later id s.id ss, same_repeat id ss) refl
 
-none_declared : (es : List Envelope) (id : Text) → find_case id es ≡ None → (ss : List TestStep) → list_any (λ name. nat_lt 0 (times_declared name es)) (map (λ s. Step id s.id) ss) ≡ false
+none_declared : (es : List Envelope) (id : Utf8) → find_case id es ≡ None → (ss : List TestStep) → list_any (λ name. nat_lt 0 (times_declared name es)) (map (λ s. Step id s.id) ss) ≡ false
 none_declared es id none [] = refl
 none_declared es id none (s ∷ ss) = rw (step_unknown es id s.id none, none_declared es id none ss) refl
 
@@ -139,23 +139,23 @@ start_checked first es s =
 
 -- ---- a step
 
-attempt_known : (es : List Envelope) (a : Text) → (times_declared (Attempt a) es == 0) ≡ not (is_some (find (is_of a) (starts es)))
+attempt_known : (es : List Envelope) (a : Utf8) → (times_declared (Attempt a) es == 0) ≡ not (is_some (find (is_of a) (starts es)))
 attempt_known es a = (known (Attempt a) as_start (is_of a) (declares_attempt a) es).0
 
-abbrev pub asks_unknown : List Envelope → Text → Text → Bool
+abbrev pub asks_unknown : List Envelope → Utf8 → Utf8 → Bool
 asks_unknown es a step = list_any (λ name. times_declared name es == 0) (Attempt a ∷ step_names es a step)
 
-references : (es : List Envelope) (a step : Text) (t : TestCaseStarted) → find (is_of a) (starts es) ≡ Some t → asks_unknown es a step ≡ (times_declared (Step t.test_case_id step) es == 0)
+references : (es : List Envelope) (a step : Utf8) (t : TestCaseStarted) → find (is_of a) (starts es) ≡ Some t → asks_unknown es a step ≡ (times_declared (Step t.test_case_id step) es == 0)
 references es a step t found = rw (attempt_known es a, found) (or_no (times_declared (Step t.test_case_id step) es == 0))
 
-no_references : (es : List Envelope) (a step : Text) → find (is_of a) (starts es) ≡ None → asks_unknown es a step ≡ true
+no_references : (es : List Envelope) (a step : Utf8) → find (is_of a) (starts es) ≡ None → asks_unknown es a step ≡ true
 no_references es a step none = rw (attempt_known es a, none) refl
 
-any_of_ids : (q : Text) (cs : List TestCase) → has_text q (map (λ c. c.id) cs) ≡ list_any (λ c. bytes_eq q c.id) cs
+any_of_ids : (q : Utf8) (cs : List TestCase) → has_text q (map (λ c. c.id) cs) ≡ list_any (λ c. bytes_eq q c.id) cs
 any_of_ids q [] = refl
 any_of_ids q (c ∷ cs) = ap (λ b. bytes_eq q c.id || b) (any_of_ids q cs)
 
-one_of : (q : Text) (cs : List TestCase) → has_repeat (map (λ (c : TestCase). c.id) cs) ≡ false → OnlyOne (λ (c : TestCase). bytes_eq q c.id) cs
+one_of : (q : Utf8) (cs : List TestCase) → has_repeat (map (λ (c : TestCase). c.id) cs) ≡ false → OnlyOne (λ (c : TestCase). bytes_eq q c.id) cs
 one_of q [] h = tt
 one_of q (c ∷ cs) h =
     let parts = or_false (has_text c.id (map (λ (c : TestCase). c.id) cs)) (has_repeat (map (λ (c : TestCase). c.id) cs)) h in
@@ -170,7 +170,7 @@ move_told true false = refl
 move_told false n = refl
 
 -- the attempt or its step is unknown exactly if the case of the attempt hasn't the step
-pub step_asked : (es : List Envelope) → has_repeat (map (λ (c : TestCase). c.id) (cases es)) ≡ false → (a step : Text) → asks_unknown es a step ≡ not (has_text step (steps_of_attempt a es))
+pub step_asked : (es : List Envelope) → has_repeat (map (λ (c : TestCase). c.id) (cases es)) ≡ false → (a step : Utf8) → asks_unknown es a step ≡ not (has_text step (steps_of_attempt a es))
 step_asked es distinct a step = go (find (is_of a) (starts es)) refl
   where
     its : (t : TestCaseStarted) → find (is_of a) (starts es) ≡ Some t → (o : Option TestCase) → find_case t.test_case_id es ≡ o → asks_unknown es a step ≡ not (has_text step (steps_of_attempt a es))
@@ -187,7 +187,7 @@ step_asked es distinct a step = go (find (is_of a) (starts es)) refl
         no_references es a step e ∙ ap not (sym none)
     go (Some t) e = its t e (find_case t.test_case_id es) refl
 
-step_checked : (es : List Envelope) → has_repeat (map (λ (c : TestCase). c.id) (cases es)) ≡ false → (a step : Text) (m : Move)
+step_checked : (es : List Envelope) → has_repeat (map (λ (c : TestCase). c.id) (cases es)) ≡ false → (a step : Utf8) (m : Move)
     → option_and_then told (step_fault (calls_of es) a step m) ≡ first_failed (bad.UnknownReference if asks_unknown es a step ∷ bad.StepOrder if not (is_next_move m a es) ∷ [])
 step_checked es distinct a step m = go (find (is_of a) (starts es)) refl
   where

@@ -6,7 +6,7 @@ use Rattle.std.specs.Option.{option_map_or, option_and_then}
 use Rattle.std.specs.Str.{bytes_eq}
 use Rattle.cm_attempt.specs.Calls as call
 use Rattle.cm_attempt.specs.Calls.{Call, DeclaredCase, StartedAttempt, is_end}
-use Rattle.cm_stream.specs.Texts.{Text}
+use Rattle.cm_stream.specs.Texts.{Utf8}
 use Rattle.cm_stream.specs.References.{as_case, as_start, cases, starts, starts_of, find_case, steps_of, move_of, moves, is_ended, retry_in, ends_of, is_retried, is_final, status_in, statuses}
 use Rattle.cm_stream.specs.Checks.{steps_of_attempt}
 use Rattle.cm_envelope.specs.declared.envelope.Envelope.{Envelope}
@@ -80,23 +80,23 @@ cases_told es = kept_twice call_of call.as_case (λ e. option_map case_told (as_
 pub starts_told : (es : List Envelope) → call.starts (calls_of es) ≡ map start_told (starts es)
 starts_told es = kept_twice call_of call.as_start (λ e. option_map start_told (as_start e)) start_same es ∙ kept_map as_start start_told es
 
-pub declared_told : (case : Text) (es : List Envelope) → call.declared case (calls_of es) ≡ option_map case_told (find_case case es)
+pub declared_told : (case : Utf8) (es : List Envelope) → call.declared case (calls_of es) ≡ option_map case_told (find_case case es)
 declared_told case es = ap (find (λ (c : DeclaredCase). bytes_eq case c.id)) (cases_told es) ∙ find_map (λ c. bytes_eq case c.id) case_told (cases es)
 
-pub start_of_told : (a : Text) (es : List Envelope) → call.start_of a (calls_of es) ≡ option_map start_told (find (λ s. bytes_eq a s.id) (starts es))
+pub start_of_told : (a : Utf8) (es : List Envelope) → call.start_of a (calls_of es) ≡ option_map start_told (find (λ s. bytes_eq a s.id) (starts es))
 start_of_told a es = ap (find (λ (s : StartedAttempt). bytes_eq a s.id)) (starts_told es) ∙ find_map (λ s. bytes_eq a s.id) start_told (starts es)
 
-pub starts_of_told : (case : Text) (es : List Envelope) → call.starts_of case (calls_of es) ≡ map start_told (starts_of case es)
+pub starts_of_told : (case : Utf8) (es : List Envelope) → call.starts_of case (calls_of es) ≡ map start_told (starts_of case es)
 starts_of_told case es = ap (filter (λ (s : StartedAttempt). bytes_eq case s.case_id)) (starts_told es) ∙ filter_mapped start_told (λ s. bytes_eq case s.case_id) (starts es)
 
 steps_in : (o : Option TestCase) → option_map_or (λ (c : DeclaredCase). c.steps) (option_map case_told o) [] ≡ option_map_or (λ (c : TestCase). map (λ s. s.id) c.test_steps) o []
 steps_in None = refl
 steps_in (Some c) = refl
 
-pub steps_told : (case : Text) (es : List Envelope) → call.steps_of case (calls_of es) ≡ steps_of case es
+pub steps_told : (case : Utf8) (es : List Envelope) → call.steps_of case (calls_of es) ≡ steps_of case es
 steps_told case es = ap (λ o. option_map_or (λ (c : DeclaredCase). c.steps) o []) (declared_told case es) ∙ steps_in (find_case case es)
 
-pub attempt_steps_told : (a : Text) (es : List Envelope) → call.steps_of_attempt a (calls_of es) ≡ steps_of_attempt a es
+pub attempt_steps_told : (a : Utf8) (es : List Envelope) → call.steps_of_attempt a (calls_of es) ≡ steps_of_attempt a es
 attempt_steps_told a es = ap (λ o. option_map_or (λ (s : StartedAttempt). call.steps_of s.case_id (calls_of es)) o []) (start_of_told a es) ∙ go (find (λ s. bytes_eq a s.id) (starts es))
   where
     go : (o : Option TestCaseStarted) → option_map_or (λ (s : StartedAttempt). call.steps_of s.case_id (calls_of es)) (option_map start_told o) [] ≡ option_map_or (λ c. steps_of c es) (option_map (λ (s : TestCaseStarted). s.test_case_id) o) []
@@ -105,19 +105,19 @@ attempt_steps_told a es = ap (λ o. option_map_or (λ (s : StartedAttempt). call
 
 -- ---- what an attempt goes through
 
-pub moves_told : (a : Text) (es : List Envelope) → call.moves a (calls_of es) ≡ moves a es
+pub moves_told : (a : Utf8) (es : List Envelope) → call.moves a (calls_of es) ≡ moves a es
 moves_told a es = kept_twice call_of (call.move_of a) (move_of a) (λ e. refl) es
 
-pub ended_told : (a : Text) (es : List Envelope) → call.is_ended a (calls_of es) ≡ is_ended a es
+pub ended_told : (a : Utf8) (es : List Envelope) → call.is_ended a (calls_of es) ≡ is_ended a es
 ended_told a es = ap (list_any is_end) (moves_told a es)
 
-pub statuses_told : (a : Text) (es : List Envelope) → call.statuses a (calls_of es) ≡ statuses a es
+pub statuses_told : (a : Utf8) (es : List Envelope) → call.statuses a (calls_of es) ≡ statuses a es
 statuses_told a es = kept_twice call_of (call.status_in a) (status_in a) (λ e. refl) es
 
-pub ends_told : (a : Text) (es : List Envelope) → call.ends_of a (calls_of es) ≡ ends_of a es
+pub ends_told : (a : Utf8) (es : List Envelope) → call.ends_of a (calls_of es) ≡ ends_of a es
 ends_told a es = kept_twice call_of (call.retry_in a) (retry_in a) (λ e. refl) es
 
-pub final_told : (a : Text) (es : List Envelope) → call.is_final a (calls_of es) ≡ is_final a es
+pub final_told : (a : Utf8) (es : List Envelope) → call.is_final a (calls_of es) ≡ is_final a es
 final_told a es = ap (list_any not) (ends_told a es)
 
 -- ---- ids, and each start
@@ -133,13 +133,13 @@ some_mapped f (Some x) = refl
 pub case_ids : (es : List Envelope) → map (λ (c : DeclaredCase). c.id) (call.cases (calls_of es)) ≡ map (λ (c : TestCase). c.id) (cases es)
 case_ids es = ap (map (λ (c : DeclaredCase). c.id)) (cases_told es) ∙ map_twice (λ (c : DeclaredCase). c.id) case_told (cases es)
 
-pub some_told : (case : Text) (es : List Envelope) → is_some (call.declared case (calls_of es)) ≡ is_some (find_case case es)
+pub some_told : (case : Utf8) (es : List Envelope) → is_some (call.declared case (calls_of es)) ≡ is_some (find_case case es)
 some_told case es = ap is_some (declared_told case es) ∙ some_mapped case_told (find_case case es)
 
-pub long_told : (case : Text) (es : List Envelope) → length (call.starts_of case (calls_of es)) ≡ length (starts_of case es)
+pub long_told : (case : Utf8) (es : List Envelope) → length (call.starts_of case (calls_of es)) ≡ length (starts_of case es)
 long_told case es = ap length (starts_of_told case es) ∙ map_long start_told (starts_of case es)
 
-pub retried_told : (case : Text) (es : List Envelope) → list_all (λ (s : StartedAttempt). call.is_retried s.id (calls_of es)) (call.starts_of case (calls_of es)) ≡ list_all (λ (s : TestCaseStarted). is_retried s.id es) (starts_of case es)
+pub retried_told : (case : Utf8) (es : List Envelope) → list_all (λ (s : StartedAttempt). call.is_retried s.id (calls_of es)) (call.starts_of case (calls_of es)) ≡ list_all (λ (s : TestCaseStarted). is_retried s.id es) (starts_of case es)
 retried_told case es = ap (list_all (λ (s : StartedAttempt). call.is_retried s.id (calls_of es))) (starts_of_told case es) ∙ go (starts_of case es)
   where
     go : (ss : List TestCaseStarted) → list_all (λ (s : StartedAttempt). call.is_retried s.id (calls_of es)) (map start_told ss) ≡ list_all (λ (s : TestCaseStarted). is_retried s.id es) ss

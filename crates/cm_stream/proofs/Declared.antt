@@ -5,7 +5,7 @@ use Rattle.std.specs.List.{list_any, filter_map}
 use Rattle.std.specs.Option.{option_map_or}
 use Rattle.std.specs.Str.{bytes_eq}
 use Rattle.std.proofs.lemmas.Bool.Decides.{nat_tests}
-use Rattle.cm_stream.specs.Texts.{Text}
+use Rattle.cm_stream.specs.Texts.{Utf8}
 use Rattle.cm_stream.specs.References.{Name, SourceOf, DocumentOf, PickleNamed, PickleStep, Case, Step, Run, Attempt, RunHook, same_name, declares_it, times_declared, if_any, as_source, as_document, as_pickle, as_case, as_start, as_run_hook}
 use Rattle.cm_envelope.specs.declared.envelope.Envelope.{Envelope}
 use Rattle.cm_envelope.specs.declared.envelope.Envelope.TheVariants as envelope
@@ -21,10 +21,10 @@ use Rattle.cm_stream.proofs.Lists.{or_no, count_none, none_counted, found_any, a
 use Rattle.cm_stream.proofs.Found.{FoundAt, found_at}
 
 -- the ids of a case's test steps
-abbrev pub step_ids : TestCase → List Text
+abbrev pub step_ids : TestCase → List Utf8
 step_ids c = map (λ s. s.id) c.test_steps
 
-abbrev pub is_of : Text → TestCaseStarted → Bool
+abbrev pub is_of : Utf8 → TestCaseStarted → Bool
 is_of a s = bytes_eq a s.id
 
 -- a name that none of these is
@@ -32,40 +32,40 @@ pub none_of : {X : Type 0} (name : Name) (f : X → Name) (xs : List X) → ((x 
 none_of name f [] h = refl
 none_of name f (x ∷ xs) h = rw (h x, none_of name f xs h) refl
 
-pub declares_source : (id : Text) (e : Envelope) → declares_it (SourceOf id) e ≡ option_map_or (λ x. bytes_eq id x.uri) (as_source e) false
+pub declares_source : (id : Utf8) (e : Envelope) → declares_it (SourceOf id) e ≡ option_map_or (λ x. bytes_eq id x.uri) (as_source e) false
 declares_source id (envelope.Source x) = or_no (bytes_eq id x.uri)
 declares_source id (envelope.Pickle p) = none_of (SourceOf id) (λ (s : pickle_step.PickleStep). PickleStep p.id s.id) p.steps (λ s. refl)
 declares_source id (envelope.TestCase c) = none_of (SourceOf id) (λ (s : TestStep). Step c.id s.id) c.test_steps (λ s. refl)
 declares_source id (envelope.TestRunStarted r) = none_of (SourceOf id) Run (if_any r.id) (λ s. refl)
 declares_source id _ = refl
 
-pub declares_document : (id : Text) (e : Envelope) → declares_it (DocumentOf id) e ≡ option_map_or (λ x. bytes_eq id x.uri) (as_document e) false
+pub declares_document : (id : Utf8) (e : Envelope) → declares_it (DocumentOf id) e ≡ option_map_or (λ x. bytes_eq id x.uri) (as_document e) false
 declares_document id (envelope.GherkinDocument x) = or_no (bytes_eq id x.uri)
 declares_document id (envelope.Pickle p) = none_of (DocumentOf id) (λ (s : pickle_step.PickleStep). PickleStep p.id s.id) p.steps (λ s. refl)
 declares_document id (envelope.TestCase c) = none_of (DocumentOf id) (λ (s : TestStep). Step c.id s.id) c.test_steps (λ s. refl)
 declares_document id (envelope.TestRunStarted r) = none_of (DocumentOf id) Run (if_any r.id) (λ s. refl)
 declares_document id _ = refl
 
-pub declares_pickle : (id : Text) (e : Envelope) → declares_it (PickleNamed id) e ≡ option_map_or (λ x. bytes_eq id x.id) (as_pickle e) false
+pub declares_pickle : (id : Utf8) (e : Envelope) → declares_it (PickleNamed id) e ≡ option_map_or (λ x. bytes_eq id x.id) (as_pickle e) false
 declares_pickle id (envelope.Pickle p) = rw (none_of (PickleNamed id) (λ (s : pickle_step.PickleStep). PickleStep p.id s.id) p.steps (λ s. refl)) (or_no (bytes_eq id p.id))
 declares_pickle id (envelope.TestCase c) = none_of (PickleNamed id) (λ (s : TestStep). Step c.id s.id) c.test_steps (λ s. refl)
 declares_pickle id (envelope.TestRunStarted r) = none_of (PickleNamed id) Run (if_any r.id) (λ s. refl)
 declares_pickle id _ = refl
 
-pub declares_case : (id : Text) (e : Envelope) → declares_it (Case id) e ≡ option_map_or (λ x. bytes_eq id x.id) (as_case e) false
+pub declares_case : (id : Utf8) (e : Envelope) → declares_it (Case id) e ≡ option_map_or (λ x. bytes_eq id x.id) (as_case e) false
 declares_case id (envelope.Pickle p) = none_of (Case id) (λ (s : pickle_step.PickleStep). PickleStep p.id s.id) p.steps (λ s. refl)
 declares_case id (envelope.TestCase c) = rw (none_of (Case id) (λ (s : TestStep). Step c.id s.id) c.test_steps (λ s. refl)) (or_no (bytes_eq id c.id))
 declares_case id (envelope.TestRunStarted r) = none_of (Case id) Run (if_any r.id) (λ s. refl)
 declares_case id _ = refl
 
-pub declares_attempt : (id : Text) (e : Envelope) → declares_it (Attempt id) e ≡ option_map_or (λ x. bytes_eq id x.id) (as_start e) false
+pub declares_attempt : (id : Utf8) (e : Envelope) → declares_it (Attempt id) e ≡ option_map_or (λ x. bytes_eq id x.id) (as_start e) false
 declares_attempt id (envelope.Pickle p) = none_of (Attempt id) (λ (s : pickle_step.PickleStep). PickleStep p.id s.id) p.steps (λ s. refl)
 declares_attempt id (envelope.TestCase c) = none_of (Attempt id) (λ (s : TestStep). Step c.id s.id) c.test_steps (λ s. refl)
 declares_attempt id (envelope.TestRunStarted r) = none_of (Attempt id) Run (if_any r.id) (λ s. refl)
 declares_attempt id (envelope.TestCaseStarted x) = or_no (bytes_eq id x.id)
 declares_attempt id _ = refl
 
-pub declares_run_hook : (id : Text) (e : Envelope) → declares_it (RunHook id) e ≡ option_map_or (λ x. bytes_eq id x.id) (as_run_hook e) false
+pub declares_run_hook : (id : Utf8) (e : Envelope) → declares_it (RunHook id) e ≡ option_map_or (λ x. bytes_eq id x.id) (as_run_hook e) false
 declares_run_hook id (envelope.Pickle p) = none_of (RunHook id) (λ (s : pickle_step.PickleStep). PickleStep p.id s.id) p.steps (λ s. refl)
 declares_run_hook id (envelope.TestCase c) = none_of (RunHook id) (λ (s : TestStep). Step c.id s.id) c.test_steps (λ s. refl)
 declares_run_hook id (envelope.TestRunStarted r) = none_of (RunHook id) Run (if_any r.id) (λ s. refl)

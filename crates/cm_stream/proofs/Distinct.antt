@@ -5,7 +5,7 @@ use Rattle.std.specs.List.{AllByRecursion, list_any, flat_map, filter}
 use Rattle.std.proofs.lemmas.List.Folds.{list_any-append}
 use Rattle.std.proofs.lemmas.List.Sums.{length-filter}
 use Rattle.std.proofs.lemmas.Bool.Decides.{nat_tests}
-use Rattle.cm_stream.specs.Texts.{Text}
+use Rattle.cm_stream.specs.Texts.{Utf8}
 use Rattle.cm_stream.specs.References.{Name, SourceOf, DocumentOf, PickleNamed, PickleStep, Definition, HookNamed, Case, Step, Run, Attempt, RunHook, same_name, declares, declares_it, times_declared, refers, if_any, is_run_started, has_run_started}
 use Rattle.cm_stream.specs.Good.{has_same_names, ReferencesGood}
 use Rattle.cm_stream.specs.Checks.{declares_again}
@@ -112,7 +112,7 @@ is_new before e h =
       new = any_weaker (λ name. nat_lt 0 (times_declared name before)) (λ m. list_any (same_name m) (flat_map declares before)) (λ m n. declared_nowhere m before (not_counted (declares_it m) before n)) (declares e) k.1;
     }
 
-declares_run : (id : Text) (e : Envelope) → is_run_started e ≡ false → declares_it (Run id) e ≡ false
+declares_run : (id : Utf8) (e : Envelope) → is_run_started e ≡ false → declares_it (Run id) e ≡ false
 declares_run id (envelope.Pickle p) h = none_of (Run id) (λ (s : pickle_step.PickleStep). PickleStep p.id s.id) p.steps (λ s. refl)
 declares_run id (envelope.TestCase c) h = none_of (Run id) (λ (s : TestStep). Step c.id s.id) c.test_steps (λ s. refl)
 declares_run id (envelope.TestRunStarted r) h = cc
@@ -121,11 +121,11 @@ declares_run id _ h = refl
 new_run : (before : List Envelope) (r : TestRunStarted) → has_run_started before ≡ false → IsNew before (envelope.TestRunStarted r)
 new_run before r h = record { own = alone r.id; new = none r.id }
   where
-    alone : (o : Option Text) → has_same_names (map Run (if_any o)) ≡ false
+    alone : (o : Option Utf8) → has_same_names (map Run (if_any o)) ≡ false
     alone None = refl
     alone (Some i) = refl
 
-    none : (o : Option Text) → list_any (λ m. list_any (same_name m) (flat_map declares before)) (map Run (if_any o)) ≡ false
+    none : (o : Option Utf8) → list_any (λ m. list_any (same_name m) (flat_map declares before)) (map Run (if_any o)) ≡ false
     none None = refl
     none (Some i) = rw (declared_nowhere (Run i) before (any_weaker is_run_started (declares_it (Run i)) (declares_run i) before h)) refl
 

@@ -6,7 +6,7 @@ use Rattle.std.specs.Option.{option_map, option_map_or}
 use Rattle.std.specs.Str.{bytes_eq}
 use Rattle.std.proofs.lemmas.List.Elements.{filter-append, filter_map-append}
 use Rattle.gk_pickle.specs.Pickles.{pickles as compiled}
-use Rattle.cm_stream.specs.Texts.{Text, same_list, same_texts}
+use Rattle.cm_stream.specs.Texts.{Utf8, same_list, same_texts}
 use Rattle.cm_attempt.specs.Table.{has_repeat}
 use Rattle.cm_stream.specs.Readings.{Reading, Accepted, Refused, OtherLanguage, TooLong}
 use Rattle.cm_stream.specs.OnePass.{reads}
@@ -29,7 +29,7 @@ use Rattle.cm_stream.proofs.Found.{FoundAt, still_found, bytes_same, bytes_are}
 use Rattle.cm_stream.proofs.Declared.{declarer, declares_source, declares_document, declares_pickle, source_is}
 
 -- the source of a uri, before a line: where it is in the whole, and what it is read as
-pub record HasSource (es before rest : List Envelope) (of : Text) : Type 0 where
+pub record HasSource (es before rest : List Envelope) (of : Utf8) : Type 0 where
   pub front : List Envelope
   pub source : Source
   pub back : List Envelope
@@ -39,7 +39,7 @@ pub record HasSource (es before rest : List Envelope) (of : Text) : Type 0 where
   pub read : reading_of of before ≡ Some (reads source.content)
   pub meets : MeetsSource es front source (back ++ rest) (reads source.content)
 
-pub has_source : (es before : List Envelope) (e : Envelope) (after : List Envelope) → Sound es → es ≡ before ++ e ∷ after → (uri : Text) → times_declared (SourceOf uri) before ≡ 1 → HasSource es before (e ∷ after) uri
+pub has_source : (es before : List Envelope) (e : Envelope) (after : List Envelope) → Sound es → es ≡ before ++ e ∷ after → (uri : Utf8) → times_declared (SourceOf uri) before ≡ 1 → HasSource es before (e ∷ after) uri
 has_source es before e after good cut uri one =
     let at = declarer (SourceOf uri) as_source (λ x. bytes_eq uri x.uri) (declares_source uri) before one in
     let is = source_is at.here at.value at.is in
@@ -57,10 +57,10 @@ has_source es before e after good cut uri one =
     }
 
 -- the documents, and the pickles, of two lists one after the other
-pub documents_both : (uri : Text) (xs ys : List Envelope) → documents_of uri (xs ++ ys) ≡ documents_of uri xs ++ documents_of uri ys
+pub documents_both : (uri : Utf8) (xs ys : List Envelope) → documents_of uri (xs ++ ys) ≡ documents_of uri xs ++ documents_of uri ys
 documents_both uri xs ys = ap (filter (λ x. bytes_eq uri x.uri)) (filter_map-append as_document xs ys) ∙ filter-append (λ x. bytes_eq uri x.uri) (filter_map as_document xs) (filter_map as_document ys)
 
-pub pickles_both : (uri : Text) (xs ys : List Envelope) → pickles_of uri (xs ++ ys) ≡ pickles_of uri xs ++ pickles_of uri ys
+pub pickles_both : (uri : Utf8) (xs ys : List Envelope) → pickles_of uri (xs ++ ys) ≡ pickles_of uri xs ++ pickles_of uri ys
 pickles_both uri xs ys = ap (filter (λ x. bytes_eq uri x.uri)) (filter_map-append as_pickle xs ys) ∙ filter-append (λ x. bytes_eq uri x.uri) (filter_map as_pickle xs) (filter_map as_pickle ys)
 
 documents_here : (d : GherkinDocument) (after : List Envelope) → documents_of d.uri (envelope.GherkinDocument d ∷ after) ≡ d ∷ documents_of d.uri after
@@ -116,7 +116,7 @@ document_passes es before d after good cut =
 
 -- ---- ParseErrorOfGoodSource
 
-in_sources : (uri : Text) (xs : List Source) (s : Source) → find (λ x. bytes_eq uri x.uri) xs ≡ Some s → list_any (λ x. is_accepted (reads x.content)) (filter (λ x. bytes_eq uri x.uri) xs) ≡ false → is_accepted (reads s.content) ≡ false
+in_sources : (uri : Utf8) (xs : List Source) (s : Source) → find (λ x. bytes_eq uri x.uri) xs ≡ Some s → list_any (λ x. is_accepted (reads x.content)) (filter (λ x. bytes_eq uri x.uri) xs) ≡ false → is_accepted (reads s.content) ≡ false
 in_sources uri [] s found none = cc
 in_sources uri (x ∷ xs) s found none = go (bytes_eq uri x.uri) refl (in_sources uri xs s)
   where
@@ -178,7 +178,7 @@ pickle_is_next es before p after good cut =
 
 -- ---- CaseStepsDiffer
 
-texts_same : (ts : List Text) → same_texts ts ts ≡ true
+texts_same : (ts : List Utf8) → same_texts ts ts ≡ true
 texts_same [] = refl
 texts_same (t ∷ ts) = rw (bytes_same t, texts_same ts) refl
 

@@ -6,7 +6,7 @@ use Rattle.std.specs.Option.{option_map_or}
 use Rattle.std.specs.Str.{bytes_eq}
 use Rattle.std.proofs.lemmas.List.Elements.{filter-append, filter_map-append}
 use Rattle.gk_pickle.specs.Pickles.{pickles as compiled}
-use Rattle.cm_stream.specs.Texts.{Text, same_list}
+use Rattle.cm_stream.specs.Texts.{Utf8, same_list}
 use Rattle.cm_stream.specs.Readings.{Reading, Accepted, Refused, OtherLanguage, TooLong}
 use Rattle.cm_stream.specs.OnePass.{reads}
 use Rattle.cm_stream.specs.Sources.{is_due}
@@ -77,10 +77,10 @@ module _ (es before : List Envelope) (f : TestRunFinished) (after : List Envelop
 
   -- ---- AttemptOpen
 
-  has_end : (xs : List Text) → list_any is_end (whole xs) ≡ true
+  has_end : (xs : List Utf8) → list_any is_end (whole xs) ≡ true
   has_end xs = go xs
     where
-      go : (steps : List Text) → list_any is_end (flat_map (λ s. StepStarted s ∷ StepFinished s ∷ []) steps ++ Ended ∷ []) ≡ true
+      go : (steps : List Utf8) → list_any is_end (flat_map (λ s. StepStarted s ∷ StepFinished s ∷ []) steps ++ Ended ∷ []) ≡ true
       go [] = refl
       go (s ∷ steps) = go steps
 
@@ -132,7 +132,7 @@ module _ (es before : List Envelope) (f : TestRunFinished) (after : List Envelop
 
   -- ---- SuccessDiffers
 
-  same_ends : (policy : Policy) (a : Text) → ends_well policy es a ≡ ends_well policy before a
+  same_ends : (policy : Policy) (a : Utf8) → ends_well policy es a ≡ ends_well policy before a
   same_ends policy a =
       let ends : ends_of a es ≡ ends_of a before = till_end (retry_in a) refl refl in
       let all : statuses a es ≡ statuses a before = till_end (status_in a) refl refl in

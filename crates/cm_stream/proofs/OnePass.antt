@@ -4,10 +4,10 @@ use Rattle.std.specs.Prelude.{nat_lt, ◌⊎◌}
 use Rattle.std.proofs.lemmas.Bool.Decides.{nat_tests}
 use Rattle.gk_grammar.specs.declared.fault.FaultKind.{FaultKind}
 use Rattle.gk_grammar.specs.declared.fault.FaultKind.TheVariants as kind
-use Rattle.gk_grammar.specs.Documents.{lines_read, HasFault, IsTooLong, byte_limit, line_limit}
-use Rattle.gk_grammar.specs.Machine.{FlatBlock, State, Bad, run, blocks_at_end, initial}
+use Rattle.gk_grammar.specs.Documents.{lines_read, HasFault, IsTooLong, max_bytes, max_lines}
+use Rattle.gk_grammar.specs.Machine.{FlatBlock, State, PlacedFault, run, blocks_at_end, initial}
 use Rattle.gk_grammar.proofs.LawLemmas.{one_document_holds, no_document_with_fault_holds, one_fault_holds, whole_run, stopped_run, open_run}
-use Rattle.cm_stream.specs.Texts.{Text}
+use Rattle.cm_stream.specs.Texts.{Utf8}
 use Rattle.cm_stream.specs.Readings.{Reading, Accepted, Refused, OtherLanguage, TooLong, IsReading, OneReading}
 use Rattle.cm_stream.specs.OnePass.{passes_limits, refused_for, reading_at_end, reading_after, reads, EachTextIsRead}
 
@@ -34,7 +34,7 @@ few_enough m n p q h (inr l) =
 
 -- ---- what the pass makes of a text
 
-fault_read : (text : Text) → (IsTooLong text → ⊥) → (k : FaultKind) (line column : ℕ) → HasFault text k line column → IsReading text (refused_for k)
+fault_read : (text : Utf8) → (IsTooLong text → ⊥) → (k : FaultKind) (line column : ℕ) → HasFault text k line column → IsReading text (refused_for k)
 fault_read text fits kind.UnsupportedLanguage n c h = (fits, record { line = n; column = c; fault = h })
 fault_read text fits kind.Unexpected n c h = (fits, record { kind = kind.Unexpected; line = n; column = c; fault = h; other = λ e. cc })
 fault_read text fits kind.TagSpace n c h = (fits, record { kind = kind.TagSpace; line = n; column = c; fault = h; other = λ e. cc })
@@ -43,7 +43,7 @@ fault_read text fits kind.UnexpectedEnd n c h = (fits, record { kind = kind.Unex
 fault_read text fits kind.TooLong n c h = (fits, record { kind = kind.TooLong; line = n; column = c; fault = h; other = λ e. cc })
 fault_read text fits kind.Memory n c h = (fits, record { kind = kind.Memory; line = n; column = c; fault = h; other = λ e. cc })
 
-pass_read : (text : Text) → (IsTooLong text → ⊥) → (r : Result State Bad) → run initial (lines_read text) ≡ r → IsReading text (reading_after r)
+pass_read : (text : Utf8) → (IsTooLong text → ⊥) → (r : Result State PlacedFault) → run initial (lines_read text) ≡ r → IsReading text (reading_after r)
 pass_read text fits (Err b) e = fault_read text fits b.kind b.line b.column (stopped_run text b e)
 pass_read text fits (Ok s) e = go (blocks_at_end s.phase) refl
   where
@@ -56,8 +56,8 @@ unfolding reads
 is_read text = go (passes_limits text) refl
   where
     go : (b : Bool) → passes_limits text ≡ b → IsReading text (reads text)
-    go true e = rw e (too_many byte_limit (length text) line_limit (length (lines_read text)) e)
-    go false e = rw e (pass_read text (few_enough byte_limit (length text) line_limit (length (lines_read text)) e) (run initial (lines_read text)) refl)
+    go true e = rw e (too_many max_bytes (length text) max_lines (length (lines_read text)) e)
+    go false e = rw e (pass_read text (few_enough max_bytes (length text) max_lines (length (lines_read text)) e) (run initial (lines_read text)) refl)
 
 -- ---- one reading
 
@@ -79,5 +79,5 @@ one_reading text TooLong Refused x y = absurd (y.0 x)
 one_reading text TooLong OtherLanguage x y = absurd (y.0 x)
 one_reading text TooLong TooLong x y = refl
 
-pub reads_it : (text : Text) (r : Reading) → IsReading text r → reads text ≡ r
+pub reads_it : (text : Utf8) (r : Reading) → IsReading text r → reads text ≡ r
 reads_it text r h = one_reading text (reads text) r (is_read text) h

@@ -5,7 +5,7 @@ use Rattle.std.specs.List.{list_any, filter}
 use Rattle.std.specs.Option.{option_map_or}
 use Rattle.std.specs.Str.{bytes_eq}
 use Rattle.std.proofs.lemmas.List.Sums.{length-filter}
-use Rattle.cm_stream.specs.Texts.{Text}
+use Rattle.cm_stream.specs.Texts.{Utf8}
 use Rattle.cm_attempt.specs.Table.{change_first}
 use Rattle.cm_stream.specs.References.{Case, PickleNamed, times_declared, declares_it, as_case, as_pickle, cases, pickles}
 use Rattle.cm_envelope.specs.declared.envelope.Envelope.{Envelope}
@@ -52,13 +52,13 @@ change_one {X} {Y} p f q g h test hit other (x ∷ xs) one = go (q x) refl (chan
     go true e rec = rw (test x, e) (λ i. sym (hit x e) i ∷ unchanged q g h other xs (one.0 e) i)
     go false e rec = rw (test x, e) (λ i. sym (other x e) i ∷ rec i)
 
-pub one_pickle : (es : List Envelope) → AllPass es → (id : Text) → OnlyOne (λ p. bytes_eq id p.id) (pickles es)
+pub one_pickle : (es : List Envelope) → AllPass es → (id : Utf8) → OnlyOne (λ p. bytes_eq id p.id) (pickles es)
 one_pickle es pass id =
     let counted : length (filter (λ p. bytes_eq id p.id) (pickles es)) ≡ times_declared (PickleNamed id) es =
     kept_count as_pickle (λ p. bytes_eq id p.id) es ∙ ap length (sym (same_kept (declares_it (PickleNamed id)) (λ x. option_map_or (λ p. bytes_eq id p.id) (as_pickle x) false) (declares_pickle id) es)) ∙ length-filter (declares_it (PickleNamed id)) es in
     only_one (λ p. bytes_eq id p.id) (pickles es) (omega (arith, counted, at_most_once (PickleNamed id) es (all_distinct es pass)))
 
-pub one_case : (es : List Envelope) → AllPass es → (a : Text) → OnlyOne (λ c. bytes_eq a c.id) (cases es)
+pub one_case : (es : List Envelope) → AllPass es → (a : Utf8) → OnlyOne (λ c. bytes_eq a c.id) (cases es)
 one_case es pass a =
     let counted : length (filter (λ c. bytes_eq a c.id) (cases es)) ≡ times_declared (Case a) es =
     kept_count as_case (λ c. bytes_eq a c.id) es ∙ ap length (sym (same_kept (declares_it (Case a)) (λ x. option_map_or (λ c. bytes_eq a c.id) (as_case x) false) (declares_case a) es)) ∙ length-filter (declares_it (Case a)) es in

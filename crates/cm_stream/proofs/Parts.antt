@@ -4,7 +4,7 @@ use Rattle.std.specs.List.{list_any, list_all}
 use Rattle.std.specs.Option.{option_map_or}
 use Rattle.std.specs.Str.{bytes_eq}
 use Rattle.std.proofs.lemmas.Bool.Decides.{nat_tests}
-use Rattle.cm_stream.specs.Texts.{Text, same_list, same_texts}
+use Rattle.cm_stream.specs.Texts.{Utf8, same_list, same_texts}
 use Rattle.cm_stream.specs.FaultlessLines.{IsFaultless}
 use Rattle.cm_stream.specs.References.{is_retried, starts_of, all_well, find_pickle, pickle_step_ids, as_pickle}
 use Rattle.cm_stream.specs.Good.{CasesGood, CaseGood, RetriesGood, RetryGood, NumbersGood, NumberGood, SuccessGood, SuccessOf, has_unknown_result}
@@ -24,7 +24,7 @@ use Rattle.cm_stream.proofs.Order.{everywhere_none, after_end}
 
 -- ---- cases
 
-pub texts_are : (xs ys : List Text) → same_texts xs ys ≡ true → xs ≡ ys
+pub texts_are : (xs ys : List Utf8) → same_texts xs ys ≡ true → xs ≡ ys
 texts_are [] [] h = refl
 texts_are [] (y ∷ ys) h = cc
 texts_are (x ∷ xs) [] h = cc

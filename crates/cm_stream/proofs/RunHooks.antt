@@ -3,7 +3,7 @@ use Rattle.std.proofs.Common.{◌≡◌, ◌≤◌, ℕ, zero, suc, ◌+◌, ref
 use Rattle.std.specs.Prelude.{count_by}
 use Rattle.std.specs.List.{list_any, list_all, AllByRecursion}
 use Rattle.std.specs.Str.{bytes_eq}
-use Rattle.cm_stream.specs.Texts.{Text}
+use Rattle.cm_stream.specs.Texts.{Utf8}
 use Rattle.cm_stream.specs.References.{RunHook, as_run_hook, as_run_hook_end, run_hooks, run_hook_ends, times_finished, is_hook_finished}
 use Rattle.cm_stream.specs.Good.{Sound, HookGood, HooksGood}
 use Rattle.cm_envelope.specs.declared.envelope.Envelope.{Envelope}
@@ -19,20 +19,20 @@ use Rattle.cm_stream.proofs.Passing.{AllPass, was_not, by_lines, last_passes}
 use Rattle.cm_stream.proofs.Order.{TheEnd}
 
 -- how many of the ends are of the run hook
-abbrev many : Text → List TestRunHookFinished → ℕ
+abbrev many : Utf8 → List TestRunHookFinished → ℕ
 many hook fs = count_by (λ f. bytes_eq hook f.test_run_hook_started_id) fs
 
 -- one of the ends is of the run hook
-abbrev some : Text → List TestRunHookFinished → Type 0
+abbrev some : Utf8 → List TestRunHookFinished → Type 0
 some hook fs = list_any (λ f. bytes_eq hook f.test_run_hook_started_id) fs ≡ true
 
-cut_many : (hook : Text) (xs : List TestRunHookFinished) (f : TestRunHookFinished) (ys : List TestRunHookFinished) → bytes_eq hook f.test_run_hook_started_id ≡ true → many hook (xs ++ f ∷ ys) ≡ many hook xs + 1 + many hook ys
+cut_many : (hook : Utf8) (xs : List TestRunHookFinished) (f : TestRunHookFinished) (ys : List TestRunHookFinished) → bytes_eq hook f.test_run_hook_started_id ≡ true → many hook (xs ++ f ∷ ys) ≡ many hook xs + 1 + many hook ys
 cut_many hook xs f ys here = count_cut (λ (x : TestRunHookFinished). bytes_eq hook x.test_run_hook_started_id) xs f ys here
 
-past_many : (hook : Text) (xs : List TestRunHookFinished) (f : TestRunHookFinished) (ys : List TestRunHookFinished) → bytes_eq hook f.test_run_hook_started_id ≡ false → many hook (xs ++ f ∷ ys) ≡ many hook xs + many hook ys
+past_many : (hook : Utf8) (xs : List TestRunHookFinished) (f : TestRunHookFinished) (ys : List TestRunHookFinished) → bytes_eq hook f.test_run_hook_started_id ≡ false → many hook (xs ++ f ∷ ys) ≡ many hook xs + many hook ys
 past_many hook xs f ys here = count_past (λ (x : TestRunHookFinished). bytes_eq hook x.test_run_hook_started_id) xs f ys here
 
-none_many : (hook : Text) → many hook [] ≡ 0
+none_many : (hook : Utf8) → many hook [] ≡ 0
 none_many hook = none_counted (λ (x : TestRunHookFinished). bytes_eq hook x.test_run_hook_started_id) [] refl
 
 -- ---- a good list
@@ -71,7 +71,7 @@ none_hook_open es before f after run good =
 -- ---- lines that pass
 
 -- a run hook is finished once at most
-finished_few : (hook : Text) (es : List Envelope) → AllPass es → times_finished hook es ≤ 1
+finished_few : (hook : Utf8) (es : List Envelope) → AllPass es → times_finished hook es ≤ 1
 finished_few hook es pass = by_lines (λ xs. times_finished hook xs ≤ 1) (omega (arith, none_many hook)) step es pass
   where
     keep : (xs : List Envelope) (e : Envelope) → as_run_hook_end e ≡ None → times_finished hook xs ≤ 1 → times_finished hook (xs ++ e ∷ []) ≤ 1

@@ -21,7 +21,7 @@ use Rattle.gk_document.specs.declared.tree.Rule.{Rule}
 use Rattle.gk_document.specs.declared.tree.Feature.{Feature}
 use Rattle.gk_document.specs.declared.tree.Document.{Document}
 use Rattle.gk_document.specs.Skeleton.{line_alone, bare_tag, bare_cell, bare_row, bare_doc_string, bare_argument, bare_step, bare_background, bare_table, bare_examples, bare_scenario, bare_rule, bare_feature, skeleton}
-use Rattle.cm_stream.specs.Texts.{Text, same_list, same_option}
+use Rattle.cm_stream.specs.Texts.{Utf8, same_list, same_option}
 use Rattle.cm_stream.specs.Skeleton.{same_line, same_tag, same_cell, same_row, same_doc_string, same_step_argument, same_step, same_background, same_table, same_examples, same_scenario, same_rule, same_feature, same_skeleton}
 use Rattle.cm_stream.proofs.Lists.{and_true}
 use Rattle.cm_stream.proofs.Found.{bytes_are, bytes_same}
@@ -83,13 +83,13 @@ lines = record { is = λ a b h. let l = same_number a.line b.line h in λ i. rec
 maybe_texts : Tells (same_option bytes_eq) (λ o. o)
 maybe_texts = record { is = are; by = back }
   where
-    are : (xs ys : Option Text) → same_option bytes_eq xs ys ≡ true → xs ≡ ys
+    are : (xs ys : Option Utf8) → same_option bytes_eq xs ys ≡ true → xs ≡ ys
     are None None h = refl
     are None (Some y) h = cc
     are (Some x) None h = cc
     are (Some x) (Some y) h = ap Some (bytes_are x y h)
 
-    back : (xs ys : Option Text) → xs ≡ ys → same_option bytes_eq xs ys ≡ true
+    back : (xs ys : Option Utf8) → xs ≡ ys → same_option bytes_eq xs ys ≡ true
     back None None e = refl
     back None (Some y) e = cc
     back (Some x) None e = cc

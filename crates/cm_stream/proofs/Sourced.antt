@@ -10,7 +10,7 @@ use Rattle.std.proofs.lemmas.List.Folds.{find-append}
 use Rattle.std.proofs.lemmas.List.Sums.{length-filter}
 use Rattle.gk_pickle.specs.Pickles.{pickles as compiled}
 use Rattle.gk_document.specs.declared.tree.Document.{Document}
-use Rattle.cm_stream.specs.Texts.{Text, same_list}
+use Rattle.cm_stream.specs.Texts.{Utf8, same_list}
 use Rattle.cm_attempt.specs.Table.{has_repeat}
 use Rattle.cm_stream.specs.Readings.{Reading, Accepted, Refused, OtherLanguage, TooLong}
 use Rattle.cm_stream.specs.OnePass.{reads}
@@ -115,7 +115,7 @@ one_of (x ∷ y ∷ xs) few some = absurd (omega arith)
 
 -- ---- the one source of a uri
 
-abbrev of_uri : Text → Source → Bool
+abbrev of_uri : Utf8 → Source → Bool
 of_uri u s = bytes_eq u s.uri
 
 module _ (es : List Envelope) (pass : AllPass es) where
@@ -162,13 +162,13 @@ module _ (es : List Envelope) (pass : AllPass es) where
           let none = none_earlier before s after cut in
           cc)
 
-  kept_counted : (u : Text) (xs : List Envelope) → length (documents_of u xs) ≡ times_declared (DocumentOf u) xs
+  kept_counted : (u : Utf8) (xs : List Envelope) → length (documents_of u xs) ≡ times_declared (DocumentOf u) xs
   kept_counted u xs =
       kept_count as_document (λ d. bytes_eq u d.uri) xs
       ∙ ap length (sym (same_kept (declares_it (DocumentOf u)) (λ x. option_map_or (λ d. bytes_eq u d.uri) (as_document x) false) (declares_document u) xs))
       ∙ length-filter (declares_it (DocumentOf u)) xs
 
-  few_documents : (u : Text) → length (documents_of u es) ≤ 1
+  few_documents : (u : Utf8) → length (documents_of u es) ≤ 1
   few_documents u = omega (arith, kept_counted u es, at_most_once (DocumentOf u) es (all_distinct es pass))
 
   -- what each document of the uri of the one source passes
@@ -197,17 +197,17 @@ module _ (es : List Envelope) (pass : AllPass es) where
   -- ---- pickles
 
   -- the pickles so far are the first that are due
-  record Matches (s : Source) (ids : List Text) (due : List DuePickle) (xs : List Envelope) : Type 0 where
+  record Matches (s : Source) (ids : List Utf8) (due : List DuePickle) (xs : List Envelope) : Type 0 where
     done : List DuePickle
     rest : List DuePickle
     parts : due ≡ done ++ rest
     same : same_list (is_due ids) (pickles_of s.uri xs) done ≡ true
 
-  pickles_more : (u : Text) (xs : List Envelope) (e : Envelope) → pickles_of u (xs ++ e ∷ []) ≡ pickles_of u xs ++ pickles_of u (e ∷ [])
+  pickles_more : (u : Utf8) (xs : List Envelope) (e : Envelope) → pickles_of u (xs ++ e ∷ []) ≡ pickles_of u xs ++ pickles_of u (e ∷ [])
   pickles_more u xs e = pickles_both u xs (e ∷ [])
 
   -- the ids of the one document, where it comes before
-  ids_before : (u : Text) (g : GherkinDocument) → documents_of u es ≡ g ∷ [] → (before : List Envelope) (rest : List Envelope) → es ≡ before ++ rest → times_declared (DocumentOf u) before ≡ 1 → document_ids u before ≡ g.ids
+  ids_before : (u : Utf8) (g : GherkinDocument) → documents_of u es ≡ g ∷ [] → (before : List Envelope) (rest : List Envelope) → es ≡ before ++ rest → times_declared (DocumentOf u) before ≡ 1 → document_ids u before ≡ g.ids
   ids_before u g all before rest cut one =
       let at = declarer (DocumentOf u) as_document (λ x. bytes_eq u x.uri) (declares_document u) before one in
       let its : documents_of u before ++ documents_of u rest ≡ g ∷ [] = sym (documents_both u before rest) ∙ ap (documents_of u) (sym cut) ∙ all in
@@ -265,7 +265,7 @@ module _ (es : List Envelope) (pass : AllPass es) where
       step xs e rest cut m = keep xs e refl m
 
   -- a pickle's uri has a document
-  no_pickle : (u : Text) → documents_of u es ≡ [] → pickles_of u es ≡ []
+  no_pickle : (u : Utf8) → documents_of u es ≡ [] → pickles_of u es ≡ []
   no_pickle u none = none_kept (λ p. bytes_eq u p.uri) (filter_map as_pickle es) (each_found as_pickle (λ p. bytes_eq u p.uri ≡ false) es each)
     where
       each : (front : List Envelope) (here : Envelope) (back : List Envelope) (p : Pickle) → es ≡ front ++ here ∷ back → as_pickle here ≡ Some p → bytes_eq u p.uri ≡ false

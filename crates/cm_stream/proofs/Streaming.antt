@@ -3,7 +3,7 @@ use Rattle.std.proofs.Common.{ℕ, suc, List, [], ◌∷◌, ◌++◌, Some, Non
 use Rattle.std.specs.Prelude.{codes}
 use Rattle.gk_document.specs.declared.tree.Document.{Document}
 use Rattle.cm_envelope.specs.declared.pickle.StepKind.TheVariants.{Context}
-use Rattle.cm_stream.specs.Texts.{Text}
+use Rattle.cm_stream.specs.Texts.{Utf8}
 use Rattle.cm_stream.specs.Findings.{Finding}
 use Rattle.cm_stream.specs.Readings.{Reading, Accepted}
 use Rattle.cm_stream.specs.OnePass.{reads}
@@ -21,23 +21,23 @@ use Rattle.cm_stream.specs.declared.verdict.Counts.{Counts}
 -- ---- texts
 
 -- a feature of one scenario with one step
-abbrev pub one_step : Text
+abbrev pub one_step : Utf8
 one_step = codes "Feature: f\n\n  Scenario: s\n    Given a\n"
 
 -- an outline with three rows, of which two are alike
-abbrev pub outline : Text
+abbrev pub outline : Utf8
 outline = codes "Feature: f\n  Scenario: s\n    Given <a>\n    Examples:\n      | a |\n      | x |\n      | x |\n      | y |\n"
 
 -- a scenario without steps of its own after a background
-abbrev pub no_steps : Text
+abbrev pub no_steps : Utf8
 no_steps = codes "Feature: f\n  Background:\n    Given a\n    And b\n  Scenario: s\n"
 
-abbrev pub french : Text
+abbrev pub french : Utf8
 french = codes "# language: fr\nFeature: x\n"
 
 -- ---- lines
 
-abbrev pub source : Text → Text → Envelope
+abbrev pub source : Utf8 → Utf8 → Envelope
 source uri text = envelope.Source (record { uri = uri; content = text; media_type = plain })
 
 -- the document that a text is read as
@@ -45,11 +45,11 @@ abbrev pub document_in : Reading → Document
 document_in (Accepted d) = d
 document_in _ = record { feature = None; comments = []; nodes = 0 }
 
-abbrev pub document : Text → Text → List Text → Envelope
+abbrev pub document : Utf8 → Utf8 → List Utf8 → Envelope
 document uri text ids = envelope.GherkinDocument (record { uri = uri; document = document_in (reads text); ids = ids })
 
 -- a pickle with one step
-abbrev pub pickle : Text → Text → List Text → Text → Text → List Text → Envelope
+abbrev pub pickle : Utf8 → Utf8 → List Utf8 → Utf8 → Utf8 → List Utf8 → Envelope
 pickle uri id nodes step text step_nodes = envelope.Pickle (record {
   id = id;
   uri = uri;
@@ -67,7 +67,7 @@ abbrev pub run_finished : Bool → Envelope
 run_finished success = envelope.TestRunFinished (record { test_run_started_id = None; success = success; has_exception = false })
 
 -- a case of the pickle `3`, which runs its one step
-abbrev pub case : Text → Envelope
+abbrev pub case : Utf8 → Envelope
 case id = envelope.TestCase (record {
   id = id;
   pickle_id = codes "3";
@@ -75,34 +75,34 @@ case id = envelope.TestCase (record {
   test_steps = record { id = codes "t1"; hook_id = None; pickle_step_id = Some (codes "2"); step_definition_ids = [] } ∷ [];
 })
 
-abbrev pub started : Text → Text → ℕ → Envelope
+abbrev pub started : Utf8 → Utf8 → ℕ → Envelope
 started id case number = envelope.TestCaseStarted (record { id = id; test_case_id = case; attempt = number })
 
-abbrev pub step_started : Text → Envelope
+abbrev pub step_started : Utf8 → Envelope
 step_started id = envelope.TestStepStarted (record { test_case_started_id = id; test_step_id = codes "t1" })
 
-abbrev pub step_finished : Text → Status → Envelope
+abbrev pub step_finished : Utf8 → Status → Envelope
 step_finished id status = envelope.TestStepFinished (record { test_case_started_id = id; test_step_id = codes "t1"; test_step_result = record { status = status } })
 
-abbrev pub finished : Text → Bool → Envelope
+abbrev pub finished : Utf8 → Bool → Envelope
 finished id retried = envelope.TestCaseFinished (record { test_case_started_id = id; will_be_retried = retried })
 
-abbrev pub parse_error : Text → Envelope
+abbrev pub parse_error : Utf8 → Envelope
 parse_error uri = envelope.ParseError (record { source = record { uri = uri } })
 
 abbrev pub hook : Envelope
 hook = envelope.Hook (record { id = codes "h" })
 
-abbrev pub hook_started : Text → Envelope
+abbrev pub hook_started : Utf8 → Envelope
 hook_started id = envelope.TestRunHookStarted (record { id = id; test_run_started_id = None; hook_id = codes "h" })
 
-abbrev pub hook_finished : Text → Status → Envelope
+abbrev pub hook_finished : Utf8 → Status → Envelope
 hook_finished id status = envelope.TestRunHookFinished (record { test_run_hook_started_id = id; result = record { status = status } })
 
 -- ---- the streams' fronts
 
 -- the source, the document and the pickle of the feature with one step, where the nodes have these ids
-abbrev pub one_step_as : Text → Text → List Envelope
+abbrev pub one_step_as : Utf8 → Utf8 → List Envelope
 one_step_as scenario step =
     source (codes "a") one_step ∷ document (codes "a") one_step (scenario ∷ step ∷ [])
     ∷ pickle (codes "a") (codes "3") (scenario ∷ []) (codes "2") (codes "a") (step ∷ []) ∷ []
@@ -115,7 +115,7 @@ abbrev pub outline_front : List Envelope
 outline_front = source (codes "o") outline ∷ document (codes "o") outline (codes "0" ∷ codes "1" ∷ codes "2" ∷ codes "3" ∷ codes "4" ∷ codes "5" ∷ codes "6" ∷ []) ∷ []
 
 -- the outline's pickle of a row
-abbrev pub of_row : Text → Text → Text → Text → Envelope
+abbrev pub of_row : Utf8 → Utf8 → Utf8 → Utf8 → Envelope
 of_row id step text row = pickle (codes "o") id (codes "0" ∷ row ∷ []) step text (codes "1" ∷ row ∷ [])
 
 abbrev pub first_row : Envelope
@@ -124,7 +124,7 @@ first_row = of_row (codes "8") (codes "7") (codes "x") (codes "4")
 abbrev pub second_row : Envelope
 second_row = of_row (codes "10") (codes "9") (codes "x") (codes "5")
 
-abbrev pub third_row : Text → Envelope
+abbrev pub third_row : Utf8 → Envelope
 third_row id = of_row id (codes "11") (codes "y") (codes "6")
 
 -- the source, the document and the one pickle, without steps

@@ -14,7 +14,7 @@ use Rattle.cm_attempt.specs.declared.status.Status.{Status}
 use Rattle.cm_attempt.proofs.Tracked.{Tracked, AttemptIs, unstarted, begun}
 use Rattle.cm_attempt.proofs.NextCall.{steps_are}
 use Rattle.cm_attempt.proofs.Accepted.{tracked, its_steps, counts_open, has_cases, reports}
-use Rattle.cm_stream.specs.Texts.{Text}
+use Rattle.cm_stream.specs.Texts.{Utf8}
 use Rattle.cm_stream.specs.Calls.{calls_of}
 use Rattle.cm_stream.specs.Checks.{steps_of_attempt}
 use Rattle.cm_stream.specs.Record.{table_of}
@@ -32,23 +32,23 @@ use Rattle.cm_stream.proofs.Declared.{is_of}
 
 -- ---- attempts
 
-attempt_by_row : (calls : List Call) (t : Table) (a : Text) → AttemptIs calls t a → is_some (find_attempt t a) ≡ is_some (call.start_of a calls)
+attempt_by_row : (calls : List Call) (t : Table) (a : Utf8) → AttemptIs calls t a → is_some (find_attempt t a) ≡ is_some (call.start_of a calls)
 attempt_by_row calls t a (unstarted n u) = rw (n, u.start) refl
 attempt_by_row calls t a (begun row f b) = rw (f, b.is_start) refl
 
 -- an attempt of the table is one that was started
-pub attempt_told : (first : ℕ) (es : List Envelope) → AreAccepted first es → (a : Text) → is_some (find_attempt (table_of first es) a) ≡ is_some (find (is_of a) (starts es))
+pub attempt_told : (first : ℕ) (es : List Envelope) → AreAccepted first es → (a : Utf8) → is_some (find_attempt (table_of first es) a) ≡ is_some (find (is_of a) (starts es))
 attempt_told first es accepted a =
     attempt_by_row (calls_of es) (table_of first es) a ((tracked first (calls_of es) (table_of first es) accepted).of_attempts a) ∙ start_seen a es
 
-step_by_row : (calls : List Call) (t : Table) → Tracked calls t → (a step : Text) → AttemptIs calls t a → has_step t a step ≡ has_text step (call.steps_of_attempt a calls)
+step_by_row : (calls : List Call) (t : Table) → Tracked calls t → (a step : Utf8) → AttemptIs calls t a → has_step t a step ≡ has_text step (call.steps_of_attempt a calls)
 step_by_row calls t h a step (unstarted n u) = rw (n, u.start) refl
 step_by_row calls t h a step (begun row f b) =
     ap (λ o. option_map_or (λ r. has_text step (option_map_or (λ (c : CaseRow). c.steps) (case_in t r.case_id) [])) o false) f
     ∙ ap (has_text step) (steps_are calls t a row b ∙ sym (its_steps calls t h a row b))
 
 -- the table has the steps of the attempt's case
-pub step_told : (first : ℕ) (es : List Envelope) → AreAccepted first es → (a step : Text) → has_step (table_of first es) a step ≡ has_text step (steps_of_attempt a es)
+pub step_told : (first : ℕ) (es : List Envelope) → AreAccepted first es → (a step : Utf8) → has_step (table_of first es) a step ≡ has_text step (steps_of_attempt a es)
 step_told first es accepted a step =
     let h = tracked first (calls_of es) (table_of first es) accepted in
     step_by_row (calls_of es) (table_of first es) h a step (h.of_attempts a) ∙ ap (has_text step) (attempt_steps_told a es)
@@ -125,7 +125,7 @@ same_all p q h (x ∷ xs) = λ i. h x i && same_all p q h xs i
 pub good_cases : (policy : Policy) (first : ℕ) (es : List Envelope) → AreAccepted first es → list_all (is_good_row policy) (table_of first es).cases ≡ list_all (is_good_case policy es) (cases es)
 good_cases policy first es accepted =
     let t = table_of first es in
-    let good : Text → Bool = λ id. is_good policy (reported_of t id) in
+    let good : Utf8 → Bool = λ id. is_good policy (reported_of t id) in
     let itself = found_itself t.cases (tracked first (calls_of es) t accepted).cases_distinct in
     good_by_report policy t t.cases itself
     ∙ sym (list_all-map good (λ (c : CaseRow). c.id) t.cases)

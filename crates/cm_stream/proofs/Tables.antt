@@ -4,7 +4,7 @@ use Rattle.std.specs.Prelude.{is_some}
 use Rattle.std.specs.List.{list_all, cons_option}
 use Rattle.std.specs.Option.{option_and_then, option_map_or}
 use Rattle.std.proofs.lemmas.List.Elements.{filter_map-append}
-use Rattle.cm_attempt.specs.Table.{Text, Table, table_from, has_text, has_repeat, reported_of}
+use Rattle.cm_attempt.specs.Table.{Utf8, Table, table_from, has_text, has_repeat, reported_of}
 use Rattle.cm_attempt.specs.Calls as call
 use Rattle.cm_attempt.specs.Calls.{DeclaredCase, cases, result_of}
 use Rattle.cm_attempt.specs.Calls.{Call, AddCase, Start, StartStep, FinishStep, Finish, Move, refusal_of, after_call, unless_refused, left_by, table_after}
@@ -51,7 +51,7 @@ end_told_none false true n h = cc
 end_told_none false false false h = cc
 end_told_none false false true h = refl
 
-step_told : (cs : List Call) (a step : Text) (m : Move) → option_and_then told (step_fault cs a step m) ≡ None → step_fault cs a step m ≡ None
+step_told : (cs : List Call) (a step : Utf8) (m : Move) → option_and_then told (step_fault cs a step m) ≡ None → step_fault cs a step m ≡ None
 step_told cs a step m h = move_told_none (not (is_some (call.start_of a cs))) (not (has_text step (call.steps_of_attempt a cs))) (calls.is_next_move m a cs) h
 
 fault_told : (first : ℕ) (cs : List Call) (c : Call) → option_and_then told (fault_of first cs c) ≡ None → fault_of first cs c ≡ None
@@ -104,9 +104,9 @@ tables_change first es t taken e none =
 
 table_results : (first : ℕ) (es : List Envelope) (t : Table) → table_after first (calls_of es) ≡ Some t → map (λ c. (c.id, reported_of t c.id)) t.cases ≡ results_of es
 table_results first es t e =
-    sym (map_twice (λ (id : Text). (id, reported_of t id)) (λ c. c.id) t.cases)
-    ∙ ap (map (λ (id : Text). (id, reported_of t id))) (has_cases first (calls_of es) t e)
-    ∙ map_twice (λ (id : Text). (id, reported_of t id)) (λ (c : DeclaredCase). c.id) (cases (calls_of es))
+    sym (map_twice (λ (id : Utf8). (id, reported_of t id)) (λ c. c.id) t.cases)
+    ∙ ap (map (λ (id : Utf8). (id, reported_of t id))) (has_cases first (calls_of es) t e)
+    ∙ map_twice (λ (id : Utf8). (id, reported_of t id)) (λ (c : DeclaredCase). c.id) (cases (calls_of es))
     ∙ map_same (λ (c : DeclaredCase). (c.id, reported_of t c.id)) (λ (c : DeclaredCase). (c.id, result_of c.id (calls_of es))) (λ c. ap (λ r. (c.id, r)) (reports first (calls_of es) t e c.id)) (cases (calls_of es))
 
 pub tables_have_results : TablesHaveResults

@@ -3,7 +3,7 @@ use Rattle.std.specs.Prelude.{ℕ, ◌+◌, ◌==◌, nat_lt, Bool, true, false,
 use Rattle.std.specs.List.{list_any, list_all}
 use Rattle.std.specs.Option.{option_map_or}
 use Rattle.std.specs.Str.{bytes_eq}
-use Rattle.cm_stream.specs.Texts.{Text, same_texts}
+use Rattle.cm_stream.specs.Texts.{Utf8, same_texts}
 use Rattle.cm_attempt.specs.Table.{has_repeat}
 use Rattle.cm_attempt.specs.CallFaults.{same_move}
 use Rattle.cm_attempt.specs.declared.policy.Policy.{Policy}
@@ -66,7 +66,7 @@ is_other_language OtherLanguage = true
 is_other_language _ = false
 
 -- the source of the uri is accepted; another source, or none, isn't
-abbrev pub is_uri_accepted : Text → List Envelope → Bool
+abbrev pub is_uri_accepted : Utf8 → List Envelope → Bool
 is_uri_accepted uri before = option_map_or is_accepted (reading_of uri before) false
 
 -- the document that the source of the uri is read as has this skeleton
@@ -80,16 +80,16 @@ due_pickles (Some (Accepted d)) = compiled d
 due_pickles _ = []
 
 -- the source's next pickle
-abbrev pub next_pickle : Text → List Envelope → Option DuePickle
+abbrev pub next_pickle : Utf8 → List Envelope → Option DuePickle
 next_pickle uri before =
     slice_get (due_pickles (reading_of uri before)) (length (pickles_of uri before))
 
 -- the ids of the document of the uri
-abbrev pub first_ids : List GherkinDocument → List Text
+abbrev pub first_ids : List GherkinDocument → List Utf8
 first_ids [] = []
 first_ids (d ∷ ds) = d.ids
 
-abbrev pub document_ids : Text → List Envelope → List Text
+abbrev pub document_ids : Utf8 → List Envelope → List Utf8
 document_ids uri before = first_ids (documents_of uri before)
 
 abbrev pub is_next_pickle : List Envelope → Pickle → Bool
@@ -103,17 +103,17 @@ has_steps_of_pickle before c =
     (find_pickle c.pickle_id before) false
 
 -- the steps of the attempt's case
-abbrev pub steps_of_attempt : Text → List Envelope → List Text
+abbrev pub steps_of_attempt : Utf8 → List Envelope → List Utf8
 steps_of_attempt a before = option_map_or (λ c. steps_of c before) (case_of a before) []
 
 -- it is what the attempt has to go through next
-abbrev pub is_next_move : Move → Text → List Envelope → Bool
+abbrev pub is_next_move : Move → Utf8 → List Envelope → Bool
 is_next_move m a before =
     option_map_or (same_move m) (slice_get (whole (steps_of_attempt a before))
     (length (moves a before))) false
 
 -- a source that is accepted and has no document, or fewer pickles than it compiles to
-abbrev pub lacks : List Envelope → Text → Reading → Bool
+abbrev pub lacks : List Envelope → Utf8 → Reading → Bool
 lacks before uri (Accepted d) =
     (length (documents_of uri before) == 0) || nat_lt (length (pickles_of uri before))
     (length (compiled d))

@@ -6,7 +6,7 @@ use Rattle.cm_attempt.specs.declared.settings.Settings.{Settings}
 use Rattle.cm_attempt.specs.Calls.{table_after}
 use Rattle.cm_attempt.specs.Table.{Table, has_text, has_step, find_attempt, open_count, is_good_case as is_good_row}
 use Rattle.cm_attempt.specs.declared.policy.Policy.{Policy}
-use Rattle.cm_stream.specs.Texts.{Text}
+use Rattle.cm_stream.specs.Texts.{Utf8}
 use Rattle.cm_stream.specs.References.{cases, starts, is_ended, is_good_case}
 use Rattle.cm_stream.specs.Checks.{fault, steps_of_attempt}
 use Rattle.cm_stream.specs.Calls.{calls_of}
@@ -34,9 +34,9 @@ NoneIsRefused =
 
 -- what the table of the lines says of attempts and cases is what the lines say of them
 pub record AgreesWith (es : List Envelope) (t : Table) : Type 0 where
-  pub attempts : (a : Text) → is_some (find_attempt t a)
+  pub attempts : (a : Utf8) → is_some (find_attempt t a)
       ≡ is_some (find (λ s. bytes_eq a s.id) (starts es))
-  pub steps : (a step : Text) → has_step t a step ≡ has_text step (steps_of_attempt a es)
+  pub steps : (a step : Utf8) → has_step t a step ≡ has_text step (steps_of_attempt a es)
   pub none_open : (open_count t == 0) ≡ list_all (λ s. is_ended s.id es) (starts es)
   pub good_cases : (policy : Policy) → list_all (is_good_row policy) t.cases
       ≡ list_all (is_good_case policy es) (cases es)

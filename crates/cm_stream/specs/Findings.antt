@@ -1,7 +1,7 @@
 -- What a check of a line reports.
 use Rattle.cm_envelope.specs.Reading.{LineFault, fault_named}
-use Rattle.cm_stream.specs.declared.verdict.Bad.{Bad}
-use Rattle.cm_stream.specs.declared.verdict.Bad.TheVariants as declared
+use Rattle.cm_stream.specs.declared.verdict.StreamFault.{StreamFault}
+use Rattle.cm_stream.specs.declared.verdict.StreamFault.TheVariants as declared
 use Rattle.cm_stream.specs.declared.verdict.Reason.{Reason}
 
 -- Why a stream is bad.
@@ -35,7 +35,7 @@ pub data Finding : Type 0 where
   IsUnsupported : Reason → Finding
 
 -- the fault that a program's answer names
-abbrev pub named : Bad → Fault
+abbrev pub named : StreamFault → Fault
 named (declared.NoEnvelope fault) = NoEnvelope (fault_named fault)
 named declared.DuplicateId = DuplicateId
 named declared.DuplicateUri = DuplicateUri

@@ -2,15 +2,15 @@
 use Rattle.std.specs.Prelude.{◌||◌, nat_lt, Bool, List, length, Option, Some, None, Result, Ok, Err, if◌then◌else◌}
 use Rattle.gk_grammar.specs.declared.fault.FaultKind.{FaultKind}
 use Rattle.gk_grammar.specs.declared.fault.FaultKind.TheVariants.{UnsupportedLanguage}
-use Rattle.gk_grammar.specs.Documents.{lines_read, byte_limit, line_limit}
-use Rattle.gk_grammar.specs.Machine.{FlatBlock, State, Bad, run, blocks_at_end, initial}
+use Rattle.gk_grammar.specs.Documents.{lines_read, max_bytes, max_lines}
+use Rattle.gk_grammar.specs.Machine.{FlatBlock, State, PlacedFault, run, blocks_at_end, initial}
 use Rattle.gk_grammar.specs.Assembly.{document_of}
-use Rattle.cm_stream.specs.Texts.{Text}
+use Rattle.cm_stream.specs.Texts.{Utf8}
 use Rattle.cm_stream.specs.Readings.{Reading, Accepted, Refused, OtherLanguage, TooLong, IsReading}
 
 -- the text has more bytes or lines than the limits allow
-abbrev pub passes_limits : Text → Bool
-passes_limits text = nat_lt byte_limit (length text) || nat_lt line_limit (length (lines_read text))
+abbrev pub passes_limits : Utf8 → Bool
+passes_limits text = nat_lt max_bytes (length text) || nat_lt max_lines (length (lines_read text))
 
 abbrev pub refused_for : FaultKind → Reading
 refused_for UnsupportedLanguage = OtherLanguage
@@ -20,14 +20,14 @@ abbrev pub reading_at_end : State → Option (List FlatBlock) → Reading
 reading_at_end s None = Refused
 reading_at_end s (Some last) = Accepted (document_of s last)
 
-abbrev pub reading_after : Result State Bad → Reading
+abbrev pub reading_after : Result State PlacedFault → Reading
 reading_after (Err b) = refused_for b.kind
 reading_after (Ok s) = reading_at_end s (blocks_at_end s.phase)
 
 -- what one pass over the lines of a text makes of it
-unfoldable pub reads : Text → Reading
+unfoldable pub reads : Utf8 → Reading
 reads text = if passes_limits text then TooLong else reading_after (run initial (lines_read text))
 
 -- what the one pass makes of a text is what the grammar says of it
 abbrev pub EachTextIsRead : Type 0
-EachTextIsRead = (text : Text) → IsReading text (reads text)
+EachTextIsRead = (text : Utf8) → IsReading text (reads text)

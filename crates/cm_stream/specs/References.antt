@@ -4,7 +4,7 @@ use Rattle.std.specs.Prelude.{ℕ, ◌&&◌, Bool, true, false, not, List, [], �
 use Rattle.std.specs.List.{list_any, list_all, filter, filter_map, flat_map}
 use Rattle.std.specs.Option.{option_and_then, option_map, option_map_or}
 use Rattle.std.specs.Str.{bytes_eq}
-use Rattle.cm_stream.specs.Texts.{Text}
+use Rattle.cm_stream.specs.Texts.{Utf8}
 use Rattle.cm_stream.specs.Readings.{Reading, Accepted}
 use Rattle.cm_stream.specs.OnePass.{reads}
 use Rattle.cm_envelope.specs.declared.envelope.Envelope.{Envelope}
@@ -76,17 +76,17 @@ run_hooks es = filter_map as_run_hook es
 abbrev pub run_hook_ends : List Envelope → List TestRunHookFinished
 run_hook_ends es = filter_map as_run_hook_end es
 
-abbrev pub sources_of : Text → List Envelope → List Source
+abbrev pub sources_of : Utf8 → List Envelope → List Source
 sources_of uri es = filter (λ s. bytes_eq uri s.uri) (sources es)
 
-abbrev pub documents_of : Text → List Envelope → List GherkinDocument
+abbrev pub documents_of : Utf8 → List Envelope → List GherkinDocument
 documents_of uri es = filter (λ d. bytes_eq uri d.uri) (filter_map as_document es)
 
-abbrev pub pickles_of : Text → List Envelope → List Pickle
+abbrev pub pickles_of : Utf8 → List Envelope → List Pickle
 pickles_of uri es = filter (λ p. bytes_eq uri p.uri) (pickles es)
 
 -- the attempts of a case, in order of start
-abbrev pub starts_of : Text → List Envelope → List TestCaseStarted
+abbrev pub starts_of : Utf8 → List Envelope → List TestCaseStarted
 starts_of case es = filter (λ s. bytes_eq case s.test_case_id) (starts es)
 
 abbrev pub is_run_started : Envelope → Bool
@@ -120,17 +120,17 @@ run_succeeded es = list_any says_success es
 -- What can be referred to: its kind, its scope and its id. The Messages refer by the members whose names end in `Id` or
 -- `Ids`, and by uris.
 pub data Name : Type 0 where
-  SourceOf : Text → Name
-  DocumentOf : Text → Name
-  PickleNamed : Text → Name
-  PickleStep : (pickle : Text) → Text → Name
-  Definition : Text → Name
-  HookNamed : Text → Name
-  Case : Text → Name
-  Step : (test_case : Text) → Text → Name
-  Run : Text → Name
-  Attempt : Text → Name
-  RunHook : Text → Name
+  SourceOf : Utf8 → Name
+  DocumentOf : Utf8 → Name
+  PickleNamed : Utf8 → Name
+  PickleStep : (pickle : Utf8) → Utf8 → Name
+  Definition : Utf8 → Name
+  HookNamed : Utf8 → Name
+  Case : Utf8 → Name
+  Step : (test_case : Utf8) → Utf8 → Name
+  Run : Utf8 → Name
+  Attempt : Utf8 → Name
+  RunHook : Utf8 → Name
 
 abbrev pub same_name : Name → Name → Bool
 same_name (SourceOf a) (SourceOf b) = bytes_eq a b
@@ -172,21 +172,21 @@ abbrev pub times_declared : Name → List Envelope → ℕ
 times_declared name es = count_by (declares_it name) es
 
 -- the case of an attempt
-abbrev pub case_of : Text → List Envelope → Option Text
+abbrev pub case_of : Utf8 → List Envelope → Option Utf8
 case_of attempt es =
     option_map (λ s. s.test_case_id) (find (λ s. bytes_eq attempt s.id) (starts es))
 
 -- a step of an attempt is a step of its case
-abbrev pub step_names : List Envelope → Text → Text → List Name
+abbrev pub step_names : List Envelope → Utf8 → Utf8 → List Name
 step_names before attempt step = map (λ c. Step c step) (if_any (case_of attempt before))
 
-abbrev pub test_step_names : Text → TestStep → List Name
+abbrev pub test_step_names : Utf8 → TestStep → List Name
 test_step_names pickle s =
     map HookNamed (if_any s.hook_id) ++ map (PickleStep pickle) (if_any s.pickle_step_id)
     ++ map Definition s.step_definition_ids
 
 -- without an attempt its step isn't judged
-abbrev pub attachment_names : List Envelope → Option Text → Option Text → List Name
+abbrev pub attachment_names : List Envelope → Option Utf8 → Option Utf8 → List Name
 attachment_names before None step = []
 attachment_names before (Some attempt) step =
     Attempt attempt ∷ flat_map (step_names before attempt) (if_any step)
@@ -216,7 +216,7 @@ refers before _ = []
 -- ---- sources
 
 -- what the source of a uri is read as
-abbrev pub reading_of : Text → List Envelope → Option Reading
+abbrev pub reading_of : Utf8 → List Envelope → Option Reading
 reading_of uri es = option_map (λ s. reads s.content) (find (λ s. bytes_eq uri s.uri) (sources es))
 
 abbrev pub is_accepted : Reading → Bool
@@ -225,64 +225,64 @@ is_accepted _ = false
 
 -- ---- cases
 
-abbrev pub pickle_step_ids : TestCase → List Text
+abbrev pub pickle_step_ids : TestCase → List Utf8
 pickle_step_ids c = filter_map (λ s. s.pickle_step_id) c.test_steps
 
-abbrev pub find_pickle : Text → List Envelope → Option Pickle
+abbrev pub find_pickle : Utf8 → List Envelope → Option Pickle
 find_pickle id es = find (λ p. bytes_eq id p.id) (pickles es)
 
-abbrev pub find_case : Text → List Envelope → Option TestCase
+abbrev pub find_case : Utf8 → List Envelope → Option TestCase
 find_case id es = find (λ c. bytes_eq id c.id) (cases es)
 
 -- the ids of the test steps of a case
-abbrev pub steps_of : Text → List Envelope → List Text
+abbrev pub steps_of : Utf8 → List Envelope → List Utf8
 steps_of case es = option_map_or (λ c. map (λ s. s.id) c.test_steps) (find_case case es) []
 
 -- ---- attempts
 
 -- what an envelope says of an attempt
-abbrev pub move_of : Text → Envelope → Option Move
+abbrev pub move_of : Utf8 → Envelope → Option Move
 move_of a e = option_and_then (call.move_of a) (call_of e)
 
 -- the envelopes that name an attempt, attachments aside
-abbrev pub moves : Text → List Envelope → List Move
+abbrev pub moves : Utf8 → List Envelope → List Move
 moves a es = filter_map (move_of a) es
 
 -- how an attempt ended: whether it will be retried
-abbrev pub retry_in : Text → Envelope → Option Bool
+abbrev pub retry_in : Utf8 → Envelope → Option Bool
 retry_in a e = option_and_then (call.retry_in a) (call_of e)
 
 -- of each end of the attempt, whether it will be retried
-abbrev pub ends_of : Text → List Envelope → List Bool
+abbrev pub ends_of : Utf8 → List Envelope → List Bool
 ends_of a es = filter_map (retry_in a) es
 
 -- it is finished
-abbrev pub is_ended : Text → List Envelope → Bool
+abbrev pub is_ended : Utf8 → List Envelope → Bool
 is_ended a es = list_any is_end (moves a es)
 
 -- it is finished and will be retried
-abbrev pub is_retried : Text → List Envelope → Bool
+abbrev pub is_retried : Utf8 → List Envelope → Bool
 is_retried a es = list_any (λ r. r) (ends_of a es)
 
 -- it is finished and won't be retried
-abbrev pub is_final : Text → List Envelope → Bool
+abbrev pub is_final : Utf8 → List Envelope → Bool
 is_final a es = list_any not (ends_of a es)
 
 -- the status of a step that finished
-abbrev pub status_in : Text → Envelope → Option Status
+abbrev pub status_in : Utf8 → Envelope → Option Status
 status_in a e = option_and_then (call.status_in a) (call_of e)
 
-abbrev pub statuses : Text → List Envelope → List Status
+abbrev pub statuses : Utf8 → List Envelope → List Status
 statuses a es = filter_map (status_in a) es
 
 -- ---- run hooks
 
 -- how many of the envelopes finish the run hook
-abbrev pub times_finished : Text → List Envelope → ℕ
+abbrev pub times_finished : Utf8 → List Envelope → ℕ
 times_finished hook es = count_by (λ f. bytes_eq hook f.test_run_hook_started_id) (run_hook_ends es)
 
 -- it is finished
-abbrev pub is_hook_finished : Text → List Envelope → Bool
+abbrev pub is_hook_finished : Utf8 → List Envelope → Bool
 is_hook_finished hook es =
     list_any (λ f. bytes_eq hook f.test_run_hook_started_id) (run_hook_ends es)
 
@@ -293,7 +293,7 @@ hook_statuses es = map (λ f. kept_status f.result.status) (run_hook_ends es)
 -- ---- success (Messages: TestRunFinished, TestStepResultStatus)
 
 -- the attempt is finished, won't be retried, and is at worst of a good status
-abbrev pub ends_well : Policy → List Envelope → Text → Bool
+abbrev pub ends_well : Policy → List Envelope → Utf8 → Bool
 ends_well policy es a = is_final a es && is_good_status policy (worst_of (statuses a es))
 
 -- the case has a final attempt that is at worst of a good status

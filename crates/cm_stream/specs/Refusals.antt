@@ -14,7 +14,7 @@ use Rattle.cm_stream.specs.FaultlessLines.{IsFaultless}
 use Rattle.cm_envelope.specs.declared.envelope.Envelope.{Envelope}
 use Rattle.cm_envelope.specs.declared.envelope.Envelope.TheVariants as envelope
 use Rattle.cm_stream.specs.Findings as bad
-use Rattle.cm_stream.specs.Findings.{Fault, Finding, IsBad}
+use Rattle.cm_stream.specs.Findings.{Finding, IsBad}
 use Rattle.cm_attempt.specs.declared.fault.TrackFault.{TrackFault}
 use Rattle.cm_attempt.specs.declared.fault.TrackFault.TheVariants as refusal
 

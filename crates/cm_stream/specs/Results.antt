@@ -10,7 +10,7 @@ use Rattle.cm_attempt.specs.Calls.{table_after, cases, result_of}
 use Rattle.cm_attempt.specs.CallFaults.{fault_of}
 use Rattle.cm_attempt.specs.CallLaws.{ComeInOrder}
 use Rattle.cm_attempt.specs.declared.status.Status.{Status}
-use Rattle.cm_stream.specs.Texts.{Text}
+use Rattle.cm_stream.specs.Texts.{Utf8}
 use Rattle.cm_stream.specs.Calls.{call_of, calls_of}
 use Rattle.cm_stream.specs.Checks.{first_failed}
 use Rattle.cm_stream.specs.Findings.{Finding, IsBad, NoEnvelope}
@@ -25,7 +25,7 @@ abbrev pub AreWellOrdered : (first : ℕ) → List Envelope → Type 0
 AreWellOrdered first es = ComeInOrder first (calls_of es)
 
 -- the cases in order of declaration, each with the worst status of its final attempt
-abbrev pub results_of : List Envelope → List (Text × Option Status)
+abbrev pub results_of : List Envelope → List (Utf8 × Option Status)
 results_of es = map (λ c. (c.id, result_of c.id (calls_of es))) (cases (calls_of es))
 
 -- ---- the first fault

@@ -2,8 +2,8 @@
 use Rattle.std.specs.Prelude.{ℕ, ◌&&◌, Bool, true, false, List, [], ◌∷◌, Option, Some, None}
 use Rattle.std.specs.Str.{bytes_eq}
 
-abbrev pub Text : Type 0
-Text = List ℕ
+abbrev pub Utf8 : Type 0
+Utf8 = List ℕ
 
 -- the lists have equal elements, by same
 abbrev pub same_list : {A B : Type 0} → (A → B → Bool) → List A → List B → Bool
@@ -18,5 +18,5 @@ same_option same None None = true
 same_option same (Some x) (Some y) = same x y
 same_option same _ _ = false
 
-abbrev pub same_texts : List Text → List Text → Bool
+abbrev pub same_texts : List Utf8 → List Utf8 → Bool
 same_texts = same_list bytes_eq

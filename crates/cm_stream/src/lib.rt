@@ -30,4 +30,4 @@ pub use laws::{
     results_without_fault_are_exact, streams_without_fault_are_good, table_steps, tables_agree,
     tables_change, tables_have_results, well_ordered_are_accepted,
 };
-pub use verdict::{Audited, Bad, Counts, Hold, Reason, Verdict};
+pub use verdict::{Audited, Counts, Hold, Reason, StreamFault, Verdict};

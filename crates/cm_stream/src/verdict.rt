@@ -3,7 +3,7 @@ use cm_envelope::LineFault;
 
 /// Why a stream is bad.
 #[derive(Clone, Copy, Debug, Drop, PartialEq, Eq)]
-pub enum Bad {
+pub enum StreamFault {
     /// A line has no envelope.
     NoEnvelope(LineFault),
     DuplicateId,
@@ -52,7 +52,7 @@ pub struct Counts {
 #[derive(Clone, Copy, Debug, Drop, PartialEq, Eq)]
 pub enum Verdict {
     Good(Counts),
-    Bad { line: u64, fault: Bad },
+    Bad { line: u64, fault: StreamFault },
     Unsupported { line: u64, reason: Reason },
 }
 

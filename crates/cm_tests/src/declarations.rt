@@ -119,7 +119,7 @@ fn joined(alloc: Global, texts: &[String]) -> Result<String, AllocError> {
     Ok(all)
 }
 
-// The texts are those that are told, or `-` tells that there are none.
+// The texts are those that are listed, or `-` where there are none.
 fn expect_texts(
     rt: &impl Abort,
     alloc: Global,

@@ -244,7 +244,7 @@ fn values_that_are_not_json(rt: HostRuntime) {
     refuses(&rt, alloc, b"{\"a\":1e999}", "NotJson", "");
     refuses(&rt, alloc, b"{\"a\":\"\x01\"}", "NotJson", "");
     refuses(&rt, alloc, b"{\"a\":01}", "NotJson", "");
-    // The last of repeated members stands.
+    // The last of repeated members counts.
     expect(
         &rt,
         alloc,

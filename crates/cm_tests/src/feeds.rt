@@ -66,7 +66,7 @@ fn name_of(trouble: Trouble) -> &'static str {
     }
 }
 
-// The answer is the one that is told: `=` and the line, `end`, or the trouble.
+// The answer is the one that is listed: `=` and the line, `end`, or the trouble.
 fn expect_answer(rt: &impl Abort, answer: &Result<Option<&[u8]>, Trouble>, told: &str) {
     match answer {
         Ok(Some(line)) => match told.strip_prefix('=') {

@@ -1,5 +1,5 @@
 //! Tests of devices, feeds, envelopes, declarations, statuses, skeletons and written features by the public calls of their crates.
-//! They stand in a crate of their own since a crate with tests is proved twice.
+//! They are a crate of their own since a crate with tests is proved twice.
 #![tactic(auto)]
 
 #[cfg(test)]

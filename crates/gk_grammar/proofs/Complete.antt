@@ -7,12 +7,12 @@ use Rattle.gk_document.specs.declared.tree.Cell.{Cell}
 use Rattle.gk_line.specs.declared.tokens.Block.{Block}
 use Rattle.gk_grammar.specs.declared.fault.FaultKind.TheVariants as kind
 use Rattle.gk_document.specs.declared.tree.KeywordType.{KeywordType}
-use Rattle.gk_grammar.specs.Token.{Text, Blank, Comment, Language, Step, Row, Fenced, Line, line, is_gap}
+use Rattle.gk_grammar.specs.Token.{Utf8, Blank, Comment, Language, Step, Row, Fenced, Line, line, is_gap}
 use Rattle.gk_grammar.specs.Tree as tree
 use Rattle.gk_grammar.specs.Tree.{Tag, Argument, DocString}
 use Rattle.gk_document.specs.declared.tree.Argument.TheVariants.{Table, Text as Quoted}
 use Rattle.gk_grammar.specs.Grammar.{Piece, Then, Nothing, Each, AtMostOne, OneLine, comments_of, IsStep, IsStepLine, IsArgument, IsTable, IsRow, IsDocString, is_fence, at, Node, step_nodes, row_nodes, argument_nodes}
-use Rattle.gk_grammar.specs.Machine.{FlatBlock, OpenDocString, Phase, AfterTags, AfterStep, InDocString, InExamplesTable, State, Bad, next, run, ◌>>=◌, count_of, another_row, step_at, with_doc_string, doc_string, step_fence}
+use Rattle.gk_grammar.specs.Machine.{FlatBlock, OpenDocString, Phase, AfterTags, AfterStep, InDocString, InExamplesTable, State, PlacedFault, next, run, ◌>>=◌, count_of, another_row, step_at, with_doc_string, doc_string, step_fence}
 use Rattle.gk_grammar.proofs.Pieces.{comments_of-append}
 
 abbrev pub state_of : List tree.Comment → ℕ → List FlatBlock → Phase → State
@@ -49,7 +49,7 @@ pub run_gap : (p : Phase) → Idle p → (ls : List Line) → AllByRecursion (λ
     run (state_of cs n ch p) (ls ++ rest) ≡ run (state_of (cs ++ comments_of ls) n ch p) rest
 run_gap p idle [] a cs n ch rest = rw append-nil
 run_gap p idle (l ∷ ls) a cs n ch rest =
-    ap (λ (r : Result State Bad). r >>= λ x. run x (ls ++ rest)) (idle cs n ch l a.0) ∙ run_gap p idle ls a.1 (cs ++ comments_of (l ∷ [])) n ch rest
+    ap (λ (r : Result State PlacedFault). r >>= λ x. run x (ls ++ rest)) (idle cs n ch l a.0) ∙ run_gap p idle ls a.1 (cs ++ comments_of (l ∷ [])) n ch rest
     ∙ ap (λ (c : List tree.Comment). run (state_of c n ch p) rest) (append_assoc cs (comments_of (l ∷ [])) (comments_of ls) ∙ ap (λ (c : List tree.Comment). cs ++ c) (sym (comments_of-append (l ∷ []) ls)))
 
 -- one piece after another
@@ -71,7 +71,7 @@ pub reads_line : (P : Line → Type 0) (ch dh : List FlatBlock) (p q : Phase) (n
     ((l : Line) → P l → (cs : List tree.Comment) → next (state_of cs n ch p) l ≡ Ok (state_of cs (n + k) dh q)) → Idle q → Reads (OneLine P) ch p n k dh q
 reads_line P ch dh p q n k f idle [] cs h before rest = absurd h
 reads_line P ch dh p q n k f idle (l ∷ ls) cs h before rest =
-    ap (λ (r : Result State Bad). r >>= λ x. run x (ls ++ rest)) (f l h.0 before) ∙ run_gap q idle ls h.1.0 before (n + k) dh rest
+    ap (λ (r : Result State PlacedFault). r >>= λ x. run x (ls ++ rest)) (f l h.0 before) ∙ run_gap q idle ls h.1.0 before (n + k) dh rest
     ∙ ap (λ (c : List tree.Comment). run (state_of (before ++ c) (n + k) dh q) rest) (sym h.1.1)
 
 -- ---- numbers
@@ -93,7 +93,7 @@ row_is r s a b c = λ i. record { node = a i; location = b i; cells = c i }
 -- phases that take rows
 pub record TakesRows (phase : List tree.Row → Phase) : Type 0 where
   pub idle : (rows : List tree.Row) → Idle (phase rows)
-  pub row : (rows : List tree.Row) (cs : List tree.Comment) (n : ℕ) (ch : List FlatBlock) (m i : ℕ) (t : Text) (cells : List Cell) →
+  pub row : (rows : List tree.Row) (cs : List tree.Comment) (n : ℕ) (ch : List FlatBlock) (m i : ℕ) (t : Utf8) (cells : List Cell) →
       next (state_of cs n ch (phase rows)) (line m t i (Row cells)) ≡ another_row (state_of cs n ch (phase rows)) phase rows m i cells
 
 another_row_is : (phase : List tree.Row → Phase) → TakesRows phase → (rows : List tree.Row) (r : tree.Row) (n : ℕ) (ch : List FlatBlock) → r.node ≡ n → length r.cells ≡ count_of rows →
@@ -155,8 +155,8 @@ reads_doc_string c steps last e d n ch (line m x i (Fenced f media) ∷ ls) cs t
     ∙ ap (λ (y : List Line). run (state_of before n ch (InDocString c steps last q [])) y) (ap (λ (y : List Line). y ++ rest) w.cut ∙ append_assoc w.inside (w.close ∷ w.gap) rest)
     ∙ run_inside c steps last q w.inside [] w.open_yet before n ch (w.close ∷ w.gap ++ rest)
     ∙ ap (λ (b : Bool). cond b (Ok (state_of before n ch (AfterStep c steps (with_doc_string last q w.inside)))) (Ok (state_of before n ch (InDocString c steps last q (w.inside ++ w.close ∷ [])))) >>= λ y. run y (w.gap ++ rest)) w.closed
-    ∙ run_gap (AfterStep c steps (with_doc_string last q w.inside)) (idle_stepping c steps (with_doc_string last q w.inside)) w.gap w.behind.0 before n ch rest
-    ∙ ap (λ (y : List tree.Comment). run (state_of (before ++ y) n ch (AfterStep c steps (with_doc_string last q w.inside))) rest) (sym w.behind.1)
+    ∙ run_gap (AfterStep c steps (with_doc_string last q w.inside)) (idle_stepping c steps (with_doc_string last q w.inside)) w.gap w.gap_after.0 before n ch rest
+    ∙ ap (λ (y : List tree.Comment). run (state_of (before ++ y) n ch (AfterStep c steps (with_doc_string last q w.inside))) rest) (sym w.gap_after.1)
     ∙ ap (λ (y : DocString). run (state_of (before ++ cs) n ch (AfterStep c steps (record last { argument = Some (Quoted y) }))) rest) (doc_is (doc_string q w.inside) d (sym t.0) (sym t.2) (sym w.value) (sym t.1))
     ∙ ap (λ (y : ℕ). run (state_of (before ++ cs) y ch (AfterStep c steps (record last { argument = Some (Quoted d) }))) rest) (sym (add-zero n))
 reads_doc_string c steps last e d n ch (line m x i _ ∷ ls) cs t before rest = absurd t
@@ -193,7 +193,7 @@ reads_argument c steps s (Some (Table rows)) n ch k =
 
 -- a phase in which a step line begins a step after these
 abbrev pub Begins : Phase → FlatBlock → List tree.Step → Type 0
-Begins p c steps = (cs : List tree.Comment) (n : ℕ) (ch : List FlatBlock) (m i : ℕ) (t k : Text) (y : KeywordType) (x : Text) →
+Begins p c steps = (cs : List tree.Comment) (n : ℕ) (ch : List FlatBlock) (m i : ℕ) (t k : Utf8) (y : KeywordType) (x : Utf8) →
     next (state_of cs n ch p) (line m t i (Step k y x)) ≡ Ok (state_of cs (n + 1) ch (AfterStep c steps (step_at (state_of cs n ch p) m i k y x)))
 
 pub reads_step : (p : Phase) (c : FlatBlock) (steps : List tree.Step) → Begins p c steps → (s : tree.Step) (n : ℕ) (ch : List FlatBlock) → Counts n (step_nodes s) →
@@ -209,13 +209,13 @@ reads_step p c steps b s n ch k =
     first (line m t i _) h cs = absurd h
 
 -- the phase after more steps
-abbrev pub behind_steps : FlatBlock → List tree.Step → tree.Step → List tree.Step → Phase
-behind_steps c steps last [] = AfterStep c steps last
-behind_steps c steps last (s ∷ ss) = behind_steps c (steps ++ last ∷ []) s ss
+abbrev pub after_steps : FlatBlock → List tree.Step → tree.Step → List tree.Step → Phase
+after_steps c steps last [] = AfterStep c steps last
+after_steps c steps last (s ∷ ss) = after_steps c (steps ++ last ∷ []) s ss
 
 -- more steps
 pub reads_more_steps : (c : FlatBlock) (steps : List tree.Step) (last : tree.Step) (more : List tree.Step) (n : ℕ) (ch : List FlatBlock) → Counts n (flat_map step_nodes more) →
-    (q : Phase) → behind_steps c steps last more ≡ q → Reads (Each IsStep more) ch (AfterStep c steps last) n (length (flat_map step_nodes more)) ch q
+    (q : Phase) → after_steps c steps last more ≡ q → Reads (Each IsStep more) ch (AfterStep c steps last) n (length (flat_map step_nodes more)) ch q
 reads_more_steps c steps last [] n ch k q e = to_phase Nothing ch ch (AfterStep c steps last) n 0 0 (AfterStep c steps last) q refl e (reads_nothing ch (AfterStep c steps last) n)
 reads_more_steps c steps last (s ∷ ss) n ch k q e =
     let ks = counts_apart n (step_nodes s) (flat_map step_nodes ss) k in

@@ -1,4 +1,4 @@
--- Where the machine stops, it tells the kind and the column of the fault at that line.
+-- Where the machine stops, it reports the kind and the column of the fault at that line.
 use Rattle.std.proofs.Common.{◌≡◌, ℕ, Bool, true, false, List, [], ◌∷◌, ◌++◌, length, Option, Some, None, Result, Ok, Err, refl, sym, ap, subst, ◌∙◌, append_assoc, append-nil, inl, inr}
 use Rattle.std.proofs.lemmas.Bool.{eq-eqb}
 use Rattle.std.specs.Prelude.{IfErr, IfOk, IsTrue, cond, ◌==◌}
@@ -9,11 +9,11 @@ use Rattle.gk_document.specs.declared.tree.Cell.{Cell}
 use Rattle.gk_document.specs.declared.tree.Fence.{Fence}
 use Rattle.gk_document.specs.declared.tree.Fence.TheVariants as fence
 use Rattle.gk_document.specs.declared.tree.Argument.TheVariants.{Table, Text as Quoted}
-use Rattle.gk_grammar.specs.Token.{Text, Token, Blank, Comment, Language, Tags, Title, Step, Row, Fenced, Other, Line, line, number, is_gap}
+use Rattle.gk_grammar.specs.Token.{Utf8, Token, Blank, Comment, Language, Tags, Title, Step, Row, Fenced, Other, Line, line, number, is_gap}
 use Rattle.gk_grammar.specs.Tree as tree
 use Rattle.gk_grammar.specs.Tree.{Tag, Argument, DocString}
 use Rattle.gk_grammar.specs.Grammar.{Piece, Then, Each, AtMostOne, OneLine, IsRow, IsTable, IsTagLine, IsArgument, IsStepLine, IsStep, IsDocString, IsPlainGap, IsEnglish, stops, is_fence, english}
-use Rattle.gk_grammar.specs.Machine.{FlatBlock, Phase, Start, AfterLanguage, AfterTags, InDescription, AfterStep, InDocString, InExamplesTable, State, Bad, next, at_phase, run, initial, follows, takes_tags, close_block, after_description, with_description, after_step, step_row, step_fence, in_examples_table, another_row, count_of, before_first_block, at_start, after_language, after_tags, same_text, with_steps, with_rows}
+use Rattle.gk_grammar.specs.Machine.{FlatBlock, Phase, Start, AfterLanguage, AfterTags, InDescription, AfterStep, InDocString, InExamplesTable, State, PlacedFault, next, at_phase, run, initial, follows, takes_tags, close_block, after_description, with_description, after_step, step_row, step_fence, in_examples_table, another_row, count_of, before_first_block, at_start, after_language, after_tags, same_text, with_steps, with_rows}
 use Rattle.gk_grammar.specs.Place.{is_row_or_gap, HasOtherCount, DiffersFromTable, IsFaultAt}
 use Rattle.gk_grammar.proofs.Open.{IsDone, IsOpen, Holds, StateHolds, IsHead, SomeTagLines}
 use Rattle.gk_grammar.proofs.Sound.{run_holds, starts}
@@ -44,7 +44,7 @@ ends_later P Q ls e =
 
 -- ---- rows of another count
 
--- the lines end with one that is no row, after which comments and blank lines stand
+-- the lines end with one that is no row, after which comments and blank lines come
 record EndsOther (ls : List Line) : Type 0 where
   earlier : List Line
   at : Line
@@ -122,7 +122,7 @@ doc_string_ends d ls e = go e.tail e.cut e.holds
           gap = w.gap;
           cut = c ∙ ap (λ (z : List Line). e.earlier ++ line n t i (Fenced f m) ∷ z) w.cut ∙ sym (append_assoc e.earlier (line n t i (Fenced f m) ∷ w.inside) (w.close ∷ w.gap));
           other = fence_other f w.close w.closed;
-          gaps = w.behind.0;
+          gaps = w.gap_after.0;
         }
     go (line n t i _ ∷ more) c h = absurd h
 
@@ -176,13 +176,13 @@ table_differs (r ∷ rs) cells ls e f = go e.holds.1.front e.holds.1.cut e.holds
 -- ---- the faults of the machine
 
 -- a fault of a line after these
-abbrev pub IsFaultOf : List Line → Line → Bad → Type 0
+abbrev pub IsFaultOf : List Line → Line → PlacedFault → Type 0
 IsFaultOf before l b = (b.line ≡ number l) × IsFaultAt before l b.kind b.column
 
-abbrev Faults : List Line → Line → Result State Bad → Type 0
+abbrev Faults : List Line → Line → Result State PlacedFault → Type 0
 Faults before l r = IfErr r (IsFaultOf before l)
 
-cond_faults : (before : List Line) (l : Line) (b : Bool) (x y : Result State Bad) → (b ≡ true → Faults before l x) → (b ≡ false → Faults before l y) → Faults before l (cond b x y)
+cond_faults : (before : List Line) (l : Line) (b : Bool) (x y : Result State PlacedFault) → (b ≡ true → Faults before l x) → (b ≡ false → Faults before l y) → Faults before l (cond b x y)
 cond_faults before l true x y f g = f refl
 cond_faults before l false x y f g = g refl
 
@@ -190,7 +190,7 @@ is_row_line : Line → Bool
 is_row_line (line n t i (Row cells)) = true
 is_row_line l = false
 
-leaving_faults : (before : List Line) (s : State) (c : FlatBlock) (n : ℕ) (t : List ℕ) (i : ℕ) (k : Token) → ((cells : List Cell) → k ≡ Row cells → ⊥) → ((w : Text) → k ≡ Language w → ⊥) → Faults before (line n t i k) (close_block s c (line n t i k))
+leaving_faults : (before : List Line) (s : State) (c : FlatBlock) (n : ℕ) (t : List ℕ) (i : ℕ) (k : Token) → ((cells : List Cell) → k ≡ Row cells → ⊥) → ((w : Utf8) → k ≡ Language w → ⊥) → Faults before (line n t i k) (close_block s c (line n t i k))
 leaving_faults before s c n t i (Tags (Ok words)) h g = tt
 leaving_faults before s c n t i (Tags (Err column)) h g = (refl, (refl, refl))
 leaving_faults before s c n t i (Title b k m) h g = cond_faults before (line n t i (Title b k m)) (follows (Some c.block) b) _ _ (λ _. tt) (λ _. (refl, (refl, refl)))
@@ -232,7 +232,7 @@ step_row_faults before s c steps last None n t i cells e = tt
 step_row_faults before s c steps last (Some (Table rows)) n t i cells e = another_row_faults before s (λ rs. AfterStep c steps (record last { argument = Some (Table rs) })) rows n t i cells e
 step_row_faults before s c steps last (Some (Quoted d)) n t i cells e = (refl, (inr (no_table cells before (doc_string_ends d before e), refl), refl))
 
-step_fence_faults : (before : List Line) (s : State) (c : FlatBlock) (steps : List tree.Step) (last : tree.Step) (a : Option Argument) (n : ℕ) (t : List ℕ) (i : ℕ) (f : Fence) (m : Text) →
+step_fence_faults : (before : List Line) (s : State) (c : FlatBlock) (steps : List tree.Step) (last : tree.Step) (a : Option Argument) (n : ℕ) (t : List ℕ) (i : ℕ) (f : Fence) (m : Utf8) →
     Faults before (line n t i (Fenced f m)) (step_fence s c steps last a n i f m)
 step_fence_faults before s c steps last None n t i f m = tt
 step_fence_faults before s c steps last (Some a) n t i f m = (refl, (refl, refl))
@@ -259,21 +259,21 @@ listing_faults before s c rows (line n t i (Step k y m)) e = (refl, (refl, refl)
 listing_faults before s c rows (line n t i (Fenced f m)) e = (refl, (refl, refl))
 listing_faults before s c rows (line n t i Other) e = (refl, (refl, refl))
 
-behind_tags_faults : (before : List Line) (s : State) (bef : Option Block) (tags : List Tag) (l : Line) → EndsOther before → Faults before l (after_tags s bef tags l)
-behind_tags_faults before s bef tags (line n t i Blank) e = tt
-behind_tags_faults before s bef tags (line n t i Comment) e = tt
-behind_tags_faults before s bef tags (line n t i (Language w)) e = tt
-behind_tags_faults before s bef tags (line n t i (Tags (Ok words))) e = tt
-behind_tags_faults before s bef tags (line n t i (Tags (Err column))) e = (refl, (refl, refl))
-behind_tags_faults before s bef tags (line n t i (Title b k m)) e =
+after_tags_faults : (before : List Line) (s : State) (bef : Option Block) (tags : List Tag) (l : Line) → EndsOther before → Faults before l (after_tags s bef tags l)
+after_tags_faults before s bef tags (line n t i Blank) e = tt
+after_tags_faults before s bef tags (line n t i Comment) e = tt
+after_tags_faults before s bef tags (line n t i (Language w)) e = tt
+after_tags_faults before s bef tags (line n t i (Tags (Ok words))) e = tt
+after_tags_faults before s bef tags (line n t i (Tags (Err column))) e = (refl, (refl, refl))
+after_tags_faults before s bef tags (line n t i (Title b k m)) e =
     cond_faults before (line n t i (Title b k m)) (follows bef b) _ _ (λ _. cond_faults before (line n t i (Title b k m)) (takes_tags b) _ _ (λ _. tt) (λ _. (refl, (refl, refl)))) (λ _. (refl, (refl, refl)))
-behind_tags_faults before s bef tags (line n t i (Row cells)) e = (refl, (inr (no_table cells before e, refl), refl))
-behind_tags_faults before s bef tags (line n t i (Step k y m)) e = (refl, (refl, refl))
-behind_tags_faults before s bef tags (line n t i (Fenced f m)) e = (refl, (refl, refl))
-behind_tags_faults before s bef tags (line n t i Other) e = (refl, (refl, refl))
+after_tags_faults before s bef tags (line n t i (Row cells)) e = (refl, (inr (no_table cells before e, refl), refl))
+after_tags_faults before s bef tags (line n t i (Step k y m)) e = (refl, (refl, refl))
+after_tags_faults before s bef tags (line n t i (Fenced f m)) e = (refl, (refl, refl))
+after_tags_faults before s bef tags (line n t i Other) e = (refl, (refl, refl))
 
 -- no language line comes here
-beginning_faults : (before : List Line) (s : State) (p : Phase) (n : ℕ) (t : List ℕ) (i : ℕ) (k : Token) → ((w : Text) → k ≡ Language w → ⊥) → AllByRecursion (λ l. IsTrue (is_gap l)) before → Faults before (line n t i k) (before_first_block s p (line n t i k))
+beginning_faults : (before : List Line) (s : State) (p : Phase) (n : ℕ) (t : List ℕ) (i : ℕ) (k : Token) → ((w : Utf8) → k ≡ Language w → ⊥) → AllByRecursion (λ l. IsTrue (is_gap l)) before → Faults before (line n t i k) (before_first_block s p (line n t i k))
 beginning_faults before s p n t i Blank h g = tt
 beginning_faults before s p n t i Comment h g = tt
 beginning_faults before s p n t i (Language w) h g = absurd (h w refl)
@@ -348,14 +348,14 @@ last_tags s bef tags ls h =
 at_phase_faults : (s : State) (p : Phase) (l : Line) (ls : List Line) → Holds p s.flat_blocks ls s.comments → Faults ls l (at_phase s p l)
 at_phase_faults s Start l ls h = before_faults ls s l h.1.1.0
 at_phase_faults s AfterLanguage l ls h = spoken_faults ls s l (spoken_gaps ls s.comments h.1)
-at_phase_faults s (AfterTags bef tags) l ls h = behind_tags_faults ls s bef tags l (last_tags s bef tags ls h)
+at_phase_faults s (AfterTags bef tags) l ls h = after_tags_faults ls s bef tags l (last_tags s bef tags ls h)
 at_phase_faults s (InDescription c lines) l ls h = cond_faults ls l (stops c.block l) _ _ (λ e. entering_faults ls s (with_description c lines) l e) (λ _. tt)
 at_phase_faults s (AfterStep c steps last) l ls h = stepping_faults ls s c steps last l (last_argument s c steps last ls h)
 at_phase_faults s (InDocString c steps last q inside) l ls h = cond_faults ls l (is_fence q.fence l) _ _ (λ _. tt) (λ _. tt)
 at_phase_faults s (InExamplesTable c rows) l ls h = listing_faults ls s c rows l (last_table s c rows ls h)
 
--- a line at which the machine stops has the fault that it tells
-pub stop_is_fault : (before : List Line) (l : Line) (s : State) (b : Bad) → run initial before ≡ Ok s → next s l ≡ Err b → IsFaultOf before l b
+-- a line at which the machine stops has the fault that it reports
+pub stop_is_fault : (before : List Line) (l : Line) (s : State) (b : PlacedFault) → run initial before ≡ Ok s → next s l ≡ Err b → IsFaultOf before l b
 stop_is_fault before l s b e f =
-    subst (λ (r : Result State Bad). Faults before l r) f
-    (at_phase_faults s s.phase l before (subst (λ (r : Result State Bad). IfOk r (StateHolds before)) e (run_holds before initial [] starts)))
+    subst (λ (r : Result State PlacedFault). Faults before l r) f
+    (at_phase_faults s s.phase l before (subst (λ (r : Result State PlacedFault). IfOk r (StateHolds before)) e (run_holds before initial [] starts)))

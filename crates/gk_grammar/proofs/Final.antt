@@ -5,7 +5,7 @@ use Rattle.gk_grammar.specs.Token.{Line}
 use Rattle.gk_grammar.specs.Tree as tree
 use Rattle.gk_grammar.specs.Tree.{Feature}
 use Rattle.gk_grammar.specs.Grammar.{Piece, Then, IsPlainGap, IsFeatureText}
-use Rattle.gk_grammar.specs.Machine.{FlatBlock, Phase, Start, AfterLanguage, AfterTags, InDescription, AfterStep, InDocString, InExamplesTable, State, Bad, run, blocks_at_end, initial, with_description, with_steps, with_rows, ◌>>=◌}
+use Rattle.gk_grammar.specs.Machine.{FlatBlock, Phase, Start, AfterLanguage, AfterTags, InDescription, AfterStep, InDocString, InExamplesTable, State, PlacedFault, run, blocks_at_end, initial, with_description, with_steps, with_rows, ◌>>=◌}
 use Rattle.gk_grammar.specs.Place.{Completion, completing}
 use Rattle.gk_grammar.proofs.Open.{IsFlatBlock, IsDone, Holds, StateHolds, done_more, steps_close, rows_close}
 use Rattle.gk_grammar.proofs.Sound.{run_holds, starts, description_closes}
@@ -79,7 +79,7 @@ closes_whole s (AfterStep c before x) last ls h e = let is : with_steps c (befor
 closes_whole s (InExamplesTable c rows) last ls h e = let is : with_rows c rows ∷ [] ≡ last = cc in read_more s.flat_blocks (with_rows c rows) last is ls s.comments (rows_close s c rows ls h)
 
 pub taken_text : (ls : List Line) (s : State) (last : List FlatBlock) → run initial ls ≡ Ok s → blocks_at_end s.phase ≡ Some last → IsRead (s.flat_blocks ++ last) ls s.comments
-taken_text ls s last e f = closes_whole s s.phase last ls (subst (λ (r : Result State Bad). IfOk r (StateHolds ls)) e (run_holds ls initial [] starts)) f
+taken_text ls s last e f = closes_whole s s.phase last ls (subst (λ (r : Result State PlacedFault). IfOk r (StateHolds ls)) e (run_holds ls initial [] starts)) f
 
 -- one list of lines has at most one list of flat blocks, comments and number of nodes
 pub one_taking : (ls : List Line) (a b : List FlatBlock) (cs ds : List tree.Comment) (m n : ℕ) → Takes ls a cs m → Takes ls b ds n → (a ≡ b) × (cs ≡ ds) × (m ≡ n)
@@ -97,8 +97,8 @@ pub live_completes : (ls : List Line) (s : State) → run initial ls ≡ Ok s �
     (how : Completion) × (end : State) × (last : List FlatBlock) × (run initial (ls ++ completing how (length ls + 1)) ≡ Ok end) × (blocks_at_end end.phase ≡ Some last)
 live_completes ls s e =
     let c = completes s.phase s.comments s.nodes s.flat_blocks (length ls + 1) in
-    (c.how, c.end, c.last, run-append initial ls (completing c.how (length ls + 1)) ∙ ap (λ (r : Result State Bad). r >>= λ x. run x (completing c.how (length ls + 1))) e ∙ c.runs, c.ends)
+    (c.how, c.end, c.last, run-append initial ls (completing c.how (length ls + 1)) ∙ ap (λ (r : Result State PlacedFault). r >>= λ x. run x (completing c.how (length ls + 1))) e ∙ c.runs, c.ends)
 
 -- where the machine has stopped, nothing that follows makes the lines a text
-pub dead_stays : (ls more : List Line) (b : Bad) → run initial ls ≡ Err b → run initial (ls ++ more) ≡ Err b
-dead_stays ls more b e = run-append initial ls more ∙ ap (λ (r : Result State Bad). r >>= λ x. run x more) e
+pub dead_stays : (ls more : List Line) (b : PlacedFault) → run initial ls ≡ Err b → run initial (ls ++ more) ≡ Err b
+dead_stays ls more b e = run-append initial ls more ∙ ap (λ (r : Result State PlacedFault). r >>= λ x. run x more) e

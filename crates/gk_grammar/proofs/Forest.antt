@@ -26,7 +26,7 @@ Shaped c = IsShaped c.block c.node c.tags c.body
 abbrev flat_blocks_below : List Examples → Option Background → List Scenario → List Rule → List FlatBlock
 flat_blocks_below es b ss rs = map examples_flat_block es ++ (background_flat_blocks b ++ (flat_map scenario_flat_blocks ss ++ flat_map rule_flat_blocks rs))
 
--- what stands after a block: examples of an open scenario, a background and scenarios of an open feature or rule, and further rules
+-- what comes after a block: examples of an open scenario, a background and scenarios of an open feature or rule, and further rules
 pub record Parts (before : Block) (cs : List FlatBlock) : Type 0 where
   pub examples : List Examples
   pub background : Option Background

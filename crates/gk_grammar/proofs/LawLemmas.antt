@@ -4,7 +4,7 @@ use Rattle.std.specs.Prelude.{map}
 use Rattle.std.specs.List.{range_with_len}
 use Rattle.gk_grammar.specs.Grammar.{Node, feature_nodes}
 use Rattle.gk_grammar.specs.declared.fault.FaultKind.TheVariants as kind
-use Rattle.gk_grammar.specs.Machine.{FlatBlock, State, Bad, run, blocks_at_end, initial}
+use Rattle.gk_grammar.specs.Machine.{FlatBlock, State, PlacedFault, run, blocks_at_end, initial}
 use Rattle.gk_grammar.specs.Documents.{lines_read, HasFault}
 use Rattle.gk_grammar.specs.Laws.{OneDocument, DocumentOrFault, NoDocumentWithFault, OneFault, NumberedInOrder, NoMoreNodesThanBytes}
 use Rattle.gk_grammar.proofs.Complete.{Counts}
@@ -34,7 +34,7 @@ pub whole_run : (text : List ℕ) (s : State) (last : List FlatBlock) → run in
 whole_run text s last e f = accepted (lines_read text) s last (read_are_lines text) e f
 
 -- where it stops, the text has its fault
-pub stopped_run : (text : List ℕ) (b : Bad) → run initial (lines_read text) ≡ Err b → HasFault text b.kind b.line b.column
+pub stopped_run : (text : List ℕ) (b : PlacedFault) → run initial (lines_read text) ≡ Err b → HasFault text b.kind b.line b.column
 stopped_run text b e = stop_has_fault (lines_read text) b (read_are_lines text) e
 
 -- where it ends at a phase that isn't closed, the text ends too early

@@ -4,7 +4,7 @@ use Rattle.std.specs.Prelude.{IfOk, ◌==◌}
 use Rattle.gk_document.specs.declared.tree.Cell.{Cell}
 use Rattle.gk_line.specs.declared.tokens.Block.{Block}
 use Rattle.gk_line.specs.declared.tokens.Block.TheVariants as block
-use Rattle.gk_grammar.specs.Token.{Text, Blank, Comment, Language, Tags, Title, Step, Row, Fenced, Other, Line, line}
+use Rattle.gk_grammar.specs.Token.{Utf8, Blank, Comment, Language, Tags, Title, Step, Row, Fenced, Other, Line, line}
 use Rattle.gk_grammar.specs.Tree as tree
 use Rattle.gk_grammar.specs.Tree.{Tag, Argument}
 use Rattle.gk_document.specs.declared.tree.Argument.TheVariants.{Table, Text as Quoted}
@@ -47,7 +47,7 @@ row_follows s c before last None n i cells h f = (h, f)
 row_follows s c before last (Some (Table rows)) n i cells h f = cond_ok StateFollows (length cells == count_of rows) _ _ (λ _. (h, f)) (λ _. tt)
 row_follows s c before last (Some (Quoted d)) n i cells h f = tt
 
-fence_follows : (s : State) (c : FlatBlock) (before : List tree.Step) (last : tree.Step) (a : Option Argument) (n i : ℕ) (q : _) (media : Text) → Linked None s.flat_blocks → follows (last_of None s.flat_blocks) c.block ≡ true → IfOk (step_fence s c before last a n i q media) StateFollows
+fence_follows : (s : State) (c : FlatBlock) (before : List tree.Step) (last : tree.Step) (a : Option Argument) (n i : ℕ) (q : _) (media : Utf8) → Linked None s.flat_blocks → follows (last_of None s.flat_blocks) c.block ≡ true → IfOk (step_fence s c before last a n i q media) StateFollows
 fence_follows s c before last None n i q media h f = (h, f)
 fence_follows s c before last (Some a) n i q media h f = tt
 
@@ -78,15 +78,15 @@ entering_follows s c (line n t i (Tags r)) h f = leaving_follows s c (line n t i
 entering_follows s c (line n t i (Title b k m)) h f = leaving_follows s c (line n t i (Title b k m)) h f
 entering_follows s c (line n t i _) h f = tt
 
-behind_tags_follows : (s : State) (before : Option Block) (tags : List Tag) (l : Line) → Linked None s.flat_blocks → last_of None s.flat_blocks ≡ before → IfOk (after_tags s before tags l) StateFollows
-behind_tags_follows s before tags (line n t i Blank) h f = (h, f)
-behind_tags_follows s before tags (line n t i Comment) h f = (h, f)
-behind_tags_follows s before tags (line n t i (Language w)) h f = (h, f)
-behind_tags_follows s before tags (line n t i (Tags (Ok words))) h f = (h, f)
-behind_tags_follows s before tags (line n t i (Tags (Err column))) h f = tt
-behind_tags_follows s before tags (line n t i (Title b k m)) h f =
+after_tags_follows : (s : State) (before : Option Block) (tags : List Tag) (l : Line) → Linked None s.flat_blocks → last_of None s.flat_blocks ≡ before → IfOk (after_tags s before tags l) StateFollows
+after_tags_follows s before tags (line n t i Blank) h f = (h, f)
+after_tags_follows s before tags (line n t i Comment) h f = (h, f)
+after_tags_follows s before tags (line n t i (Language w)) h f = (h, f)
+after_tags_follows s before tags (line n t i (Tags (Ok words))) h f = (h, f)
+after_tags_follows s before tags (line n t i (Tags (Err column))) h f = tt
+after_tags_follows s before tags (line n t i (Title b k m)) h f =
     cond_ok StateFollows (follows before b) _ _ (λ e. cond_ok StateFollows (takes_tags b) _ _ (λ _. (h, ap (λ (z : Option Block). follows z b) f ∙ e)) (λ _. tt)) (λ _. tt)
-behind_tags_follows s before tags (line n t i _) h f = tt
+after_tags_follows s before tags (line n t i _) h f = tt
 
 beginning_follows : (s : State) (p : Phase) (l : Line) → Linked None s.flat_blocks → last_of None s.flat_blocks ≡ None → PhaseFollows s.flat_blocks p → IfOk (before_first_block s p l) StateFollows
 beginning_follows s p (line n t i Blank) h f g = (h, g)
@@ -108,7 +108,7 @@ spoken_follows s (line n t i k) h f = beginning_follows s AfterLanguage (line n 
 pub at_phase_follows : (s : State) (p : Phase) (l : Line) → Linked None s.flat_blocks → PhaseFollows s.flat_blocks p → IfOk (at_phase s p l) StateFollows
 at_phase_follows s Start l h f = before_feature_follows s l h f
 at_phase_follows s AfterLanguage l h f = spoken_follows s l h f
-at_phase_follows s (AfterTags before tags) l h f = behind_tags_follows s before tags l h f
+at_phase_follows s (AfterTags before tags) l h f = after_tags_follows s before tags l h f
 at_phase_follows s (InDescription c ls) l h f = cond_ok StateFollows (stops c.block l) _ _ (λ _. entering_follows s (with_description c ls) l h f) (λ _. (h, f))
 at_phase_follows s (AfterStep c before last) l h f = stepping_follows s c before last l h f
 at_phase_follows s (InDocString c before last q inside) l h f = cond_ok StateFollows (is_fence q.fence l) _ _ (λ _. (h, f)) (λ _. (h, f))

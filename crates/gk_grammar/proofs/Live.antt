@@ -6,10 +6,10 @@ use Rattle.gk_line.specs.declared.tokens.Block.{Block}
 use Rattle.gk_line.specs.declared.tokens.Block.TheVariants as block
 use Rattle.gk_document.specs.declared.tree.Fence.{Fence}
 use Rattle.gk_document.specs.declared.tree.Fence.TheVariants as fence
-use Rattle.gk_grammar.specs.Token.{Text, Blank, Comment, Language, Title, Fenced, Line, line, is_gap, is_language}
+use Rattle.gk_grammar.specs.Token.{Utf8, Blank, Comment, Language, Title, Fenced, Line, line, is_gap, is_language}
 use Rattle.gk_grammar.specs.Tree as tree
 use Rattle.gk_grammar.specs.Grammar.{OneLine, comments_of, IsOpening, IsEnglish, is_fence}
-use Rattle.gk_grammar.specs.Machine.{FlatBlock, OpenDocString, Phase, Start, AfterLanguage, AfterTags, InDescription, AfterStep, InDocString, InExamplesTable, State, Bad, next, run, ◌>>=◌, blocks_at_end, follows, initial, open_block, with_doc_string, new_block}
+use Rattle.gk_grammar.specs.Machine.{FlatBlock, OpenDocString, Phase, Start, AfterLanguage, AfterTags, InDescription, AfterStep, InDocString, InExamplesTable, State, PlacedFault, next, run, ◌>>=◌, blocks_at_end, follows, initial, open_block, with_doc_string, new_block}
 use Rattle.gk_grammar.specs.Place.{Completion, ByNothing, ByFeature, ByScenario, ByQuotes, ByBackticks, completing}
 use Rattle.gk_grammar.proofs.Completing.{by_feature, by_scenario, by_quotes, by_backticks}
 use Rattle.gk_grammar.proofs.Pieces.{comments_of-append}
@@ -66,7 +66,7 @@ pub run-append : (s : State) (ls more : List Line) → run s (ls ++ more) ≡ (r
 run-append s [] more = refl
 run-append s (l ∷ ls) more = go (λ x. run-append x ls more) (next s l)
   where
-    go : ((x : State) → run x (ls ++ more) ≡ (run x ls >>= λ y. run y more)) → (r : Result State Bad) → (r >>= λ x. run x (ls ++ more)) ≡ ((r >>= λ x. run x ls) >>= λ y. run y more)
+    go : ((x : State) → run x (ls ++ more) ≡ (run x ls >>= λ y. run y more)) → (r : Result State PlacedFault) → (r >>= λ x. run x (ls ++ more)) ≡ ((r >>= λ x. run x ls) >>= λ y. run y more)
     go f (Ok x) = f x
     go f (Err e) = refl
 
@@ -78,7 +78,7 @@ ready_before = record {
   title = λ cs n m i t b k x f. go cs n m i t b k x f;
 }
   where
-    go : (cs : List tree.Comment) (n m i : ℕ) (t : Text) (b : Block) (k x : Text) → follows None b ≡ true → next (state_of cs n [] Start) (line m t i (Title b k x)) ≡ Ok (open_block (state_of cs n [] Start) b [] m i k x)
+    go : (cs : List tree.Comment) (n m i : ℕ) (t : Utf8) (b : Block) (k x : Utf8) → follows None b ≡ true → next (state_of cs n [] Start) (line m t i (Title b k x)) ≡ Ok (open_block (state_of cs n [] Start) b [] m i k x)
     go cs n m i t block.Feature k x f = refl
     go cs n m i t _ k x f = absurd cc
 
@@ -88,7 +88,7 @@ ready_spoken = record {
   title = λ cs n m i t b k x f. go cs n m i t b k x f;
 }
   where
-    go : (cs : List tree.Comment) (n m i : ℕ) (t : Text) (b : Block) (k x : Text) → follows None b ≡ true → next (state_of cs n [] AfterLanguage) (line m t i (Title b k x)) ≡ Ok (open_block (state_of cs n [] AfterLanguage) b [] m i k x)
+    go : (cs : List tree.Comment) (n m i : ℕ) (t : Utf8) (b : Block) (k x : Utf8) → follows None b ≡ true → next (state_of cs n [] AfterLanguage) (line m t i (Title b k x)) ≡ Ok (open_block (state_of cs n [] AfterLanguage) b [] m i k x)
     go cs n m i t block.Feature k x f = refl
     go cs n m i t _ k x f = absurd cc
 
@@ -108,7 +108,7 @@ pub run_plain : (ls : List Line) → AllByRecursion (λ l. IsFalse (is_language 
     run (state_of cs 0 [] Start) (ls ++ rest) ≡ run (state_of (cs ++ comments_of ls) 0 [] Start) rest
 run_plain [] f g cs rest = ap (λ (z : List tree.Comment). run (state_of z 0 [] Start) rest) (sym (append-nil cs))
 run_plain (l ∷ ls) f g cs rest =
-    ap (λ (r : Result State Bad). r >>= λ x. run x (ls ++ rest)) (before_line cs 0 l g.0 f.0) ∙ run_plain ls f.1 g.1 (cs ++ comments_of (l ∷ [])) rest
+    ap (λ (r : Result State PlacedFault). r >>= λ x. run x (ls ++ rest)) (before_line cs 0 l g.0 f.0) ∙ run_plain ls f.1 g.1 (cs ++ comments_of (l ∷ [])) rest
     ∙ ap (λ (c : List tree.Comment). run (state_of c 0 [] Start) rest) (append_assoc cs (comments_of (l ∷ [])) (comments_of ls) ∙ ap (λ (c : List tree.Comment). cs ++ c) (sym (comments_of-append (l ∷ []) ls)))
 
 -- after the opening
@@ -124,7 +124,7 @@ english_line cs (line m t i _) e = absurd e
 spoken_runs : (ls : List Line) (cs : List tree.Comment) → OneLine IsEnglish ls cs → (before : List tree.Comment) (rest : List Line) → run (state_of before 0 [] Start) (ls ++ rest) ≡ run (state_of (before ++ cs) 0 [] AfterLanguage) rest
 spoken_runs [] cs h before rest = absurd h
 spoken_runs (l ∷ ls) cs h before rest =
-    ap (λ (r : Result State Bad). r >>= λ x. run x (ls ++ rest)) (english_line before l h.0) ∙ run_gap AfterLanguage idle_spoken ls h.1.0 before 0 [] rest
+    ap (λ (r : Result State PlacedFault). r >>= λ x. run x (ls ++ rest)) (english_line before l h.0) ∙ run_gap AfterLanguage idle_spoken ls h.1.0 before 0 [] rest
     ∙ ap (λ (c : List tree.Comment). run (state_of (before ++ c) 0 [] AfterLanguage) rest) (sym h.1.1)
 
 pub opening_passes : (ls : List Line) (cs : List tree.Comment) → IsOpening ls cs → (rest : List Line) → Opened cs ls rest

@@ -1,4 +1,4 @@
--- Nodes that stand in order have the numbers 0, 1, .. exactly if each has the number of those before it.
+-- Nodes that are in order have the numbers 0, 1, .. exactly if each has the number of those before it.
 use Rattle.std.proofs.Common.{◌≡◌, ℕ, ◌+◌, Bool, true, false, List, [], ◌∷◌, refl, ap, ◌∙◌, arith, count_by, cond}
 use Rattle.std.proofs.lemmas.List.Sums.{sum_by-cons}
 use Rattle.std.specs.List.{AllByRecursion}
@@ -6,12 +6,12 @@ use Rattle.gk_grammar.specs.Tree.{Location}
 use Rattle.gk_grammar.specs.Grammar.{Node, stands_before, AreNumbered}
 use Rattle.gk_grammar.proofs.Complete.{Counts}
 
--- each stands before all after it, and none of those before it
+-- each is before all after it, and none of those before it
 abbrev pub InOrder : List Node → Type 0
 InOrder [] = Unit {0}
 InOrder (x ∷ xs) = (stands_before x.0 x.0 ≡ false) × AllByRecursion (λ (y : Node). (stands_before x.0 y.0 ≡ true) × (stands_before y.0 x.0 ≡ false)) xs × InOrder xs
 
--- how many stand before this place
+-- how many are before this place
 count-cons : (x : Node) (xs : List Node) (p : Location) (b : Bool) → stands_before x.0 p ≡ b → count_by (λ (y : Node). stands_before y.0 p) (x ∷ xs) ≡ cond b 1 0 + count_by (λ (y : Node). stands_before y.0 p) xs
 count-cons x xs p b e = sum_by-cons (λ (y : Node). cond (stands_before y.0 p) 1 0) x xs ∙ ap (λ (c : Bool). cond c 1 0 + count_by (λ (y : Node). stands_before y.0 p) xs) e
 
@@ -19,7 +19,7 @@ none_before : (x : Node) (xs : List Node) → AllByRecursion (λ (y : Node). (st
 none_before x [] h = refl
 none_before x (y ∷ ys) h = let c = count-cons y ys x.0 false h.0.1 in let r = none_before x ys h.1 in omega arith
 
--- the numbers from n on, where n nodes stand before all
+-- the numbers from n on, where n nodes are before all
 abbrev Shifted : ℕ → List Node → List Node → Type 0
 Shifted n all xs = AllByRecursion (λ (x : Node). x.1 ≡ n + count_by (λ (y : Node). stands_before y.0 x.0) all) xs
 
@@ -47,7 +47,7 @@ numbers_to : (all xs : List Node) → AllByRecursion (λ (x : Node). x.1 ≡ cou
 numbers_to all [] h = tt
 numbers_to all (x ∷ xs) h = (h.0 ∙ omega arith, numbers_to all xs h.1)
 
--- nodes in order have the numbers 0, 1, .. exactly if each has the number of those that stand before it
+-- nodes in order have the numbers 0, 1, .. exactly if each has the number of those that are before it
 pub numbered : (xs : List Node) → InOrder xs → Counts 0 xs → AreNumbered xs
 numbered xs o h = numbers_from xs xs (counts_shifted 0 xs o h)
 

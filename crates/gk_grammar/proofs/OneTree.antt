@@ -46,14 +46,14 @@ tree_again f l =
     ap (λ (p : Parts). Some (record f { language = english; background = p.background; scenarios = p.scenarios; rules = p.rules })) (below_again f)
     ∙ ap (λ (z : List _). Some (record f { language = z })) (sym l)
 
--- the flat blocks tell the tree
+-- the flat blocks determine the tree
 pub one_tree : (f g : Feature) → f.language ≡ english → g.language ≡ english → feature_flat_blocks f ≡ feature_flat_blocks g → f ≡ g
 one_tree f g l m e = let same : Some f ≡ Some g = sym (tree_again f l) ∙ ap assembled e ∙ tree_again g m in cc
 
 -- linked flat blocks begin with a feature, and have no other
-none_behind : (b : Block) (cs : List FlatBlock) → Linked (Some b) cs → AllByRecursion (λ (x : FlatBlock). x.block ≡ block.Feature → ⊥) cs
-none_behind b [] l = tt
-none_behind b (c ∷ cs) l = (λ e. no_feature b (ap (λ (z : Block). follows (Some b) z) (sym e) ∙ l.0), none_behind c.block cs l.1)
+none_after : (b : Block) (cs : List FlatBlock) → Linked (Some b) cs → AllByRecursion (λ (x : FlatBlock). x.block ≡ block.Feature → ⊥) cs
+none_after b [] l = tt
+none_after b (c ∷ cs) l = (λ e. no_feature b (ap (λ (z : Block). follows (Some b) z) (sym e) ∙ l.0), none_after c.block cs l.1)
 
 first_block : (b : Block) → follows None b ≡ true → b ≡ block.Feature
 first_block block.Feature e = refl
@@ -64,4 +64,4 @@ first_block block.Examples e = absurd cc
 
 pub linked_feature_first : (cs : List FlatBlock) → Linked None cs → IsFeatureFirst cs
 linked_feature_first [] l = tt
-linked_feature_first (c ∷ cs) l = (first_block c.block l.0, none_behind c.block cs l.1)
+linked_feature_first (c ∷ cs) l = (first_block c.block l.0, none_after c.block cs l.1)

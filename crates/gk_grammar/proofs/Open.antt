@@ -8,12 +8,12 @@ use Rattle.gk_line.specs.declared.tokens.Block.{Block}
 use Rattle.gk_line.specs.declared.tokens.Block.TheVariants as block
 use Rattle.gk_document.specs.declared.tree.Fence.{Fence}
 use Rattle.gk_document.specs.MediaType.{unless_empty}
-use Rattle.gk_grammar.specs.Token.{Text, TagText, Blank, Comment, Language, Tags, Title, Step, Row, Fenced, Other, Line, line, is_gap}
+use Rattle.gk_grammar.specs.Token.{Utf8, TagText, Blank, Comment, Language, Tags, Title, Step, Row, Fenced, Other, Line, line, is_gap}
 use Rattle.gk_grammar.specs.Tree as tree
 use Rattle.gk_grammar.specs.Tree.{Location, Tag, DocString, Argument}
 use Rattle.gk_document.specs.declared.tree.Argument.TheVariants.{Table, Text as Quoted}
 use Rattle.gk_grammar.specs.Grammar.{Piece, Then, ◌⨾◌, Nothing, Each, AtMostOne, OneLine, comments_of, at, TagLines, IsTagLine, place_and_name, tag_at, Titled, IsTitle, stops, IsStep, IsStepLine, IsArgument, IsTable, IsRow, HaveEqualCounts, IsDocString, Closes, is_fence, IsPlainGap, IsOpening, IsEnglish}
-use Rattle.gk_grammar.specs.Machine.{Body, Bare, Steps, Rows, FlatBlock, OpenDocString, Phase, Start, AfterLanguage, AfterTags, InDescription, AfterStep, InDocString, InExamplesTable, State, Bad, after_step, step_row, step_fence, row_at, step_at, count_of, with_doc_string, doc_string, with_steps, with_rows, empty_body, at_phase, close_block, add_tags, open_block, new_block, tags_from, follows, in_examples_table, takes_tags}
+use Rattle.gk_grammar.specs.Machine.{Body, Bare, Steps, Rows, FlatBlock, OpenDocString, Phase, Start, AfterLanguage, AfterTags, InDescription, AfterStep, InDocString, InExamplesTable, State, PlacedFault, after_step, step_row, step_fence, row_at, step_at, count_of, with_doc_string, doc_string, with_steps, with_rows, empty_body, at_phase, close_block, add_tags, open_block, new_block, tags_from, follows, in_examples_table, takes_tags}
 use Rattle.gk_grammar.proofs.Pieces.{moved, extended, mapped, joined, to_right, then_nothing, each_more, Takes, gap_takes, one_line_takes, then_takes, each_takes, all_more, only_first, then_empty, lengthened}
 
 -- ---- the lines of a flat block
@@ -139,7 +139,7 @@ table_takes : (rows : List tree.Row) → Takes (IsTable rows) (IsTable rows)
 table_takes [] ls cs l g t = absurd t
 table_takes (r ∷ rs) ls cs l g t = (t.0, each_takes (λ y. OneLine (IsRow y)) (λ y. one_line_takes (IsRow y)) r rs ls cs l g t.1)
 
-closes_takes : (f : Fence) (n : ℕ) (content : Text) → Takes (Closes f n content) (Closes f n content)
+closes_takes : (f : Fence) (n : ℕ) (content : Utf8) → Takes (Closes f n content) (Closes f n content)
 closes_takes f n content ls cs l g p = record {
   inside = p.inside;
   close = p.close;
@@ -148,7 +148,7 @@ closes_takes f n content ls cs l g p = record {
   open_yet = p.open_yet;
   closed = p.closed;
   value = p.value;
-  behind = gap_takes p.gap cs l g p.behind;
+  gap_after = gap_takes p.gap cs l g p.gap_after;
 }
 
 doc_string_takes : (d : DocString) → Takes (IsDocString d) (IsDocString d)
@@ -172,7 +172,7 @@ quote_closes q inside l h (line n t i (Fenced f media) ∷ ls) ys p = (
     open_yet = p.4;
     closed = rw (← p.1) h;
     value = rw (p.1, p.3, p.5);
-    behind = (tt, append-nil ys ∙ p.6);
+    gap_after = (tt, append-nil ys ∙ p.6);
   },
 )
 quote_closes q inside l h (line n t i _ ∷ ls) ys p = absurd p
@@ -221,17 +221,17 @@ next_row : (last : tree.Step) (rows : List tree.Row) (r : tree.Row) (l : Line) �
     (xs : List Line) (ys : List tree.Comment) → StepWith last (Some (Table rows)) xs ys → StepWith last (Some (Table (rows ++ r ∷ []))) (xs ++ l ∷ []) (ys ++ [])
 next_row last rows r l h e xs ys t = extended (OneLine (IsStepLine last)) (IsTable rows) (IsTable (rows ++ r ∷ [])) (l ∷ []) [] (λ us vs q. table_more rows r l h e us vs q) xs ys t
 
-quote_opens : (last : tree.Step) (n i : ℕ) (t : Text) (f : Fence) (media : Text) →
+quote_opens : (last : tree.Step) (n i : ℕ) (t : Utf8) (f : Fence) (media : Utf8) →
     (xs : List Line) (ys : List tree.Comment) → StepWith last None xs ys →
     Then (OneLine (IsStepLine last)) (IsQuote (record { place = at n (i + 1); fence = f; media = media; indent = i }) []) (xs ++ line n t i (Fenced f media) ∷ []) (ys ++ [])
 quote_opens last n i t f media xs ys h = joined (OneLine (IsStepLine last)) (IsQuote (record { place = at n (i + 1); fence = f; media = media; indent = i }) []) xs (line n t i (Fenced f media) ∷ []) ys [] (only_first (OneLine (IsStepLine last)) xs ys h) (refl, refl, refl, refl, tt, refl, refl)
 
 -- a test that decides
-pub cond_ok : {A : Type 0} (P : A → Type 0) (b : Bool) (x y : Result A Bad) → (b ≡ true → IfOk x P) → (b ≡ false → IfOk y P) → IfOk (cond b x y) P
+pub cond_ok : {A : Type 0} (P : A → Type 0) (b : Bool) (x y : Result A PlacedFault) → (b ≡ true → IfOk x P) → (b ≡ false → IfOk y P) → IfOk (cond b x y) P
 cond_ok P true x y f g = f refl
 cond_ok P false x y f g = g refl
 
-step_row_holds : (s : State) (c : FlatBlock) (before : List tree.Step) (last : tree.Step) (a : Option Argument) → last.argument ≡ a → (n i : ℕ) (t : Text) (cells : List Cell) (ls : List Line) →
+step_row_holds : (s : State) (c : FlatBlock) (before : List tree.Step) (last : tree.Step) (a : Option Argument) → last.argument ≡ a → (n i : ℕ) (t : Utf8) (cells : List Cell) (ls : List Line) →
     Then (IsDone s.flat_blocks) (IsOpen (AfterStep c before last)) ls s.comments →
     IfOk (step_row s c before last a n i cells) (StateHolds (ls ++ line n t i (Row cells) ∷ []))
 step_row_holds s c before last None e n i t cells ls h =
@@ -252,7 +252,7 @@ step_row_holds s c before last (Some (Table rows)) e n i t cells ls h =
     (λ _. tt)
 step_row_holds s c before last (Some (Quoted d)) e n i t cells ls h = tt
 
-step_fence_holds : (s : State) (c : FlatBlock) (before : List tree.Step) (last : tree.Step) (a : Option Argument) → last.argument ≡ a → (n i : ℕ) (t : Text) (f : Fence) (media : Text) (ls : List Line) →
+step_fence_holds : (s : State) (c : FlatBlock) (before : List tree.Step) (last : tree.Step) (a : Option Argument) → last.argument ≡ a → (n i : ℕ) (t : Utf8) (f : Fence) (media : Utf8) (ls : List Line) →
     Then (IsDone s.flat_blocks) (IsOpen (AfterStep c before last)) ls s.comments →
     IfOk (step_fence s c before last a n i f media) (StateHolds (ls ++ line n t i (Fenced f media) ∷ []))
 step_fence_holds s c before last None e n i t f media ls h =
@@ -274,7 +274,7 @@ done_more flat_blocks c ls cs t =
 
 tags_read : (n node : ℕ) (words : List TagText) → map place_and_name (tags_from n node words) ≡ map (tag_at n) words
 tags_read n node [] = refl
-tags_read n node (w ∷ ws) = ap (λ (r : List (Location × Text)). tag_at n w ∷ r) (tags_read n (node + 1) ws)
+tags_read n node (w ∷ ws) = ap (λ (r : List (Location × Utf8)). tag_at n w ∷ r) (tags_read n (node + 1) ws)
 
 flat_more : (parts : List (List Tag)) (last : List Tag) → flat_map (λ ts. ts) (parts ++ last ∷ []) ≡ flat_map (λ ts. ts) parts ++ last
 flat_more [] last = append-nil last
@@ -286,7 +286,7 @@ some_of_more [] last tags xs ys e h = (last, [], e, h)
 some_of_more (p ∷ ps) last tags xs ys e h = (p, ps ++ last ∷ [], e, h)
 
 -- tag lines, and one more
-pub tag_lines_more : (tags : List Tag) (n node i : ℕ) (t : Text) (words : List TagText) →
+pub tag_lines_more : (tags : List Tag) (n node i : ℕ) (t : Utf8) (words : List TagText) →
     (xs : List Line) (ys : List tree.Comment) → TagLines tags xs ys → SomeTagLines (tags ++ tags_from n node words) (xs ++ line n t i (Tags (Ok words)) ∷ []) (ys ++ [])
 tag_lines_more tags n node i t words xs ys h =
     some_of_more h.0 (tags_from n node words) (tags ++ tags_from n node words) _ _
@@ -318,13 +318,13 @@ flat_block_tags block.Scenario tags e xs ys h = h
 flat_block_tags block.Examples tags e xs ys h = h
 
 -- a title line after tag lines
-pub title_opens : (s : State) (flat_blocks : List FlatBlock) (b : Block) (tags : List Tag) (n i : ℕ) (t k m : Text) (ls : List Line) →
+pub title_opens : (s : State) (flat_blocks : List FlatBlock) (b : Block) (tags : List Tag) (n i : ℕ) (t k m : Utf8) (ls : List Line) →
     Then (IsDone flat_blocks) (FlatBlockTags b tags) ls s.comments → StateHolds (ls ++ line n t i (Title b k m) ∷ []) (open_block (record s { flat_blocks = flat_blocks }) b tags n i k m)
 title_opens s flat_blocks b tags n i t k m ls h =
     lengthened (IsDone flat_blocks) (FlatBlockTags b tags) (IsOpen (InDescription (new_block s.nodes b tags n i k m) [])) (line n t i (Title b k m))
     (λ xs ys q. (refl, joined (FlatBlockTags b tags) (TitledYet (new_block s.nodes b tags n i k m) []) xs (line n t i (Title b k m) ∷ []) ys [] q ((refl, refl, refl, refl), tt, refl, refl))) ls s.comments h
 
-pub tags_open : (s : State) (flat_blocks : List FlatBlock) (before : Option Block) (tags : List Tag) (n i : ℕ) (t : Text) (words : List TagText) (ls : List Line) →
+pub tags_open : (s : State) (flat_blocks : List FlatBlock) (before : Option Block) (tags : List Tag) (n i : ℕ) (t : Utf8) (words : List TagText) (ls : List Line) →
     Then (IsDone flat_blocks) (TagLines tags) ls s.comments → StateHolds (ls ++ line n t i (Tags (Ok words)) ∷ []) (add_tags (record s { flat_blocks = flat_blocks }) before tags n words)
 tags_open s flat_blocks before tags n i t words ls h =
     lengthened (IsDone flat_blocks) (TagLines tags) (SomeTagLines (tags ++ tags_from n s.nodes words)) (line n t i (Tags (Ok words))) (λ xs ys q. tag_lines_more tags n s.nodes i t words xs ys q) ls s.comments h

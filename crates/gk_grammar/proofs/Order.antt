@@ -1,4 +1,4 @@
--- Places in order: a list of nodes that stand at places of a list, in its order.
+-- Places in order: a list of nodes that are at places of a list, in its order.
 use Rattle.std.proofs.Common.{◌≡◌, ◌≤◌, ◌<◌, Bool, true, false, List, [], ◌∷◌, ◌++◌, length, refl, sym, ap, subst, ◌∙◌, arith, inl, inr}
 use Rattle.std.proofs.lemmas.Bool.{ltb-true, lt-ltb, le-ltb, eqb-true, eq-eqb}
 use Rattle.std.specs.Prelude.{nat_lt, ◌==◌, ◌||◌, ◌&&◌, ◌⊎◌}
@@ -59,7 +59,7 @@ before_by_column a b e h = by_column (nat_lt a.line b.line) (a.line == b.line) (
 
 -- ---- places that rise
 
--- each stands before all after it
+-- each is before all after it
 abbrev pub Rise : List Location → Type 0
 Rise [] = Unit {0}
 Rise (p ∷ ps) = AllByRecursion (λ (q : Location). stands_before p q ≡ true) ps × Rise ps
@@ -78,19 +78,19 @@ rise_both (p ∷ ps) qs a b h = (all_both (λ (q : Location). stands_before p q 
 
 -- ---- nodes at places
 
--- the nodes stand at places of the list, in its order
+-- the nodes are at places of the list, in its order
 abbrev pub StandAt : List Node → List Location → Type 0
 StandAt [] ps = Unit {0}
 StandAt (x ∷ xs) [] = ⊥
 StandAt (x ∷ xs) (p ∷ ps) = ((x.0 ≡ p) × StandAt xs ps) ⊎ StandAt (x ∷ xs) ps
 
-pub stand_behind : (xs : List Node) (ps qs : List Location) → StandAt xs qs → StandAt xs (ps ++ qs)
-stand_behind [] ps qs h = tt
-stand_behind (x ∷ xs) [] qs h = h
-stand_behind (x ∷ xs) (p ∷ ps) qs h = inr (stand_behind (x ∷ xs) ps qs h)
+pub stand_after : (xs : List Node) (ps qs : List Location) → StandAt xs qs → StandAt xs (ps ++ qs)
+stand_after [] ps qs h = tt
+stand_after (x ∷ xs) [] qs h = h
+stand_after (x ∷ xs) (p ∷ ps) qs h = inr (stand_after (x ∷ xs) ps qs h)
 
 pub stand_both : (xs ys : List Node) (ps qs : List Location) → StandAt xs ps → StandAt ys qs → StandAt (xs ++ ys) (ps ++ qs)
-stand_both [] ys ps qs a b = stand_behind ys ps qs b
+stand_both [] ys ps qs a b = stand_after ys ps qs b
 stand_both (x ∷ xs) ys [] qs a b = absurd a
 stand_both (x ∷ xs) ys (p ∷ ps) qs (inl a) b = inl (a.0, stand_both xs ys ps qs a.1 b)
 stand_both (x ∷ xs) ys (p ∷ ps) qs (inr a) b = inr (stand_both (x ∷ xs) ys ps qs a b)

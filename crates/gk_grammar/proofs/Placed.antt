@@ -5,7 +5,7 @@ use Rattle.std.proofs.Math.Seq.{take-append-add}
 use Rattle.std.proofs.lemmas.Bool.{ltb-true, ltb-false}
 use Rattle.std.proofs.Math.Dec.{ltb}
 use Rattle.gk_grammar.specs.Token.{Blank, Comment, Language, Tags, Title, Step, Row, Fenced, Other, Line, line, number}
-use Rattle.gk_grammar.specs.Machine.{FlatBlock, State, Bad, run, blocks_at_end, initial, next, ◌>>=◌}
+use Rattle.gk_grammar.specs.Machine.{FlatBlock, State, PlacedFault, run, blocks_at_end, initial, next, ◌>>=◌}
 use Rattle.gk_grammar.specs.Place.{Completion, ByNothing, ByFeature, ByScenario, ByQuotes, ByBackticks, completing, IsText, IsFront, IsFirstBad, IsOpenAtEnd, IsFault, IsFaultAt, DiffersFromTable}
 use Rattle.gk_grammar.specs.declared.fault.FaultKind.{FaultKind}
 use Rattle.gk_grammar.specs.declared.fault.FaultKind.TheVariants as kind
@@ -25,30 +25,30 @@ pub record Whole (ls : List Line) : Type 0 where
   pub ends : blocks_at_end end.phase ≡ Some last
 
 -- where a run stopped
-pub record Stops (s : State) (ls : List Line) (b : Bad) : Type 0 where
+pub record Stops (s : State) (ls : List Line) (b : PlacedFault) : Type 0 where
   pub before : List Line
   pub at : Line
-  pub behind : List Line
+  pub later : List Line
   pub state : State
-  pub cut : ls ≡ before ++ at ∷ behind
+  pub cut : ls ≡ before ++ at ∷ later
   pub came : run s before ≡ Ok state
   pub stopped : next state at ≡ Err b
 
-pub stops_at : (s : State) (ls : List Line) (b : Bad) → run s ls ≡ Err b → Stops s ls b
+pub stops_at : (s : State) (ls : List Line) (b : PlacedFault) → run s ls ≡ Err b → Stops s ls b
 stops_at s [] b e = absurd cc
 stops_at s (l ∷ ls) b e = go (next s l) refl e (λ x. stops_at x ls b)
   where
-    go : (r : Result State Bad) → next s l ≡ r → (r >>= λ x. run x ls) ≡ Err b → ((x : State) → run x ls ≡ Err b → Stops x ls b) → Stops s (l ∷ ls) b
-    go (Err c) f g h = record { before = []; at = l; behind = ls; state = s; cut = refl; came = refl; stopped = f ∙ g }
+    go : (r : Result State PlacedFault) → next s l ≡ r → (r >>= λ x. run x ls) ≡ Err b → ((x : State) → run x ls ≡ Err b → Stops x ls b) → Stops s (l ∷ ls) b
+    go (Err c) f g h = record { before = []; at = l; later = ls; state = s; cut = refl; came = refl; stopped = f ∙ g }
     go (Ok x) f g h =
         let t = h x g in
         record {
           before = l ∷ t.before;
           at = t.at;
-          behind = t.behind;
+          later = t.later;
           state = t.state;
           cut = ap (λ (z : List Line). l ∷ z) t.cut;
-          came = ap (λ (r : Result State Bad). r >>= λ y. run y t.before) f ∙ t.came;
+          came = ap (λ (r : Result State PlacedFault). r >>= λ y. run y t.before) f ∙ t.came;
           stopped = t.stopped;
         }
 
@@ -56,7 +56,7 @@ stops_at s (l ∷ ls) b e = go (next s l) refl e (λ x. stops_at x ls b)
 front_read : (ls more : List Line) (s : State) → run initial (ls ++ more) ≡ Ok s → (t : State) × (run initial ls ≡ Ok t)
 front_read ls more s e = go (run initial ls) refl (sym (run-append initial ls more) ∙ e)
   where
-    go : (r : Result State Bad) → run initial ls ≡ r → (r >>= λ x. run x more) ≡ Ok s → (t : State) × (run initial ls ≡ Ok t)
+    go : (r : Result State PlacedFault) → run initial ls ≡ r → (r >>= λ x. run x more) ≡ Ok s → (t : State) × (run initial ls ≡ Ok t)
     go (Ok t) f g = (t, f)
     go (Err b) f g = absurd cc
 
@@ -94,7 +94,7 @@ complete ls a t = let k = doc_taken ls t.0 a t.1 in record { end = k.end; last =
 read_is_front : (ls : List Line) (s : State) → AreLines 1 ls → run initial ls ≡ Ok s → IsFront ls
 read_is_front ls s a e = let c = live_completes ls s e in (c.0, sound (ls ++ completing c.0 (length ls + 1)) (completed_are ls c.0 a) (record { end = c.1; last = c.2; runs = c.3; ends = c.4 }))
 
-stopped_is_no_front : (ls : List Line) (b : Bad) → AreLines 1 ls → run initial ls ≡ Err b → IsFront ls → ⊥
+stopped_is_no_front : (ls : List Line) (b : PlacedFault) → AreLines 1 ls → run initial ls ≡ Err b → IsFront ls → ⊥
 stopped_is_no_front ls b a e f =
     let w = complete (ls ++ completing f.0 (length ls + 1)) (completed_are ls f.0 a) f.1 in
     let d = dead_stays ls (completing f.0 (length ls + 1)) b e in
@@ -107,7 +107,7 @@ fronts_read ls s a e m =
     read_is_front (take m ls) f.0 (are_first m ls a) f.1
 
 -- where the machine stops, the lines are no text
-pub stopped_is_no_text : (ls : List Line) (b : Bad) → AreLines 1 ls → run initial ls ≡ Err b → IsText ls → ⊥
+pub stopped_is_no_text : (ls : List Line) (b : PlacedFault) → AreLines 1 ls → run initial ls ≡ Err b → IsText ls → ⊥
 stopped_is_no_text ls b a e t = let w = complete ls a t in let r = w.runs in cc
 
 -- nor where it is at a phase that isn't closed
@@ -115,39 +115,39 @@ pub open_is_no_text : (ls : List Line) (s : State) → AreLines 1 ls → run ini
 open_is_no_text ls s a e c t = let w = complete ls a t in let r = w.runs in let same : s ≡ w.end = cc in let k : blocks_at_end s.phase ≡ Some w.last = ap (λ (z : State). blocks_at_end z.phase) same ∙ w.ends in cc
 
 -- the place is the line at which the machine stops
-pub stop_is_place : (ls : List Line) (b : Bad) → AreLines 1 ls → (t : Stops initial ls b) → IsFirstBad ls (length t.before + 1)
+pub stop_is_place : (ls : List Line) (b : PlacedFault) → AreLines 1 ls → (t : Stops initial ls b) → IsFirstBad ls (length t.before + 1)
 stop_is_place ls b a t =
-    let front : take (length t.before + 1) ls ≡ t.before ++ t.at ∷ [] = ap (λ (z : List Line). take (length t.before + 1) z) t.cut ∙ take-append-add t.before (t.at ∷ t.behind) 1 in
-    let long : length ls ≡ length t.before + length (t.at ∷ t.behind) = ap (λ (z : List Line). length z) t.cut ∙ length-append t.before (t.at ∷ t.behind) in
-    let first : AreLines 1 t.before = are_fewer 1 t.before (t.at ∷ t.behind) (subst (AreLines 1) t.cut a) in
+    let front : take (length t.before + 1) ls ≡ t.before ++ t.at ∷ [] = ap (λ (z : List Line). take (length t.before + 1) z) t.cut ∙ take-append-add t.before (t.at ∷ t.later) 1 in
+    let long : length ls ≡ length t.before + length (t.at ∷ t.later) = ap (λ (z : List Line). length z) t.cut ∙ length-append t.before (t.at ∷ t.later) in
+    let first : AreLines 1 t.before = are_fewer 1 t.before (t.at ∷ t.later) (subst (AreLines 1) t.cut a) in
     record {
       from_one = omega arith;
       within = omega arith;
-      bad = λ f. stopped_is_no_front (t.before ++ t.at ∷ []) b (subst (AreLines 1) front (are_first (length t.before + 1) ls a)) (run-append initial t.before (t.at ∷ []) ∙ ap (λ (r : Result State Bad). r >>= λ x. run x (t.at ∷ [])) t.came ∙ ap (λ (r : Result State Bad). r >>= λ x. Ok x) t.stopped) (subst IsFront front f);
-      least = λ m one below. subst IsFront (sym (ap (λ (z : List Line). take m z) t.cut ∙ take-append-le m t.before (t.at ∷ t.behind) (omega arith))) (fronts_read t.before t.state first t.came m);
+      bad = λ f. stopped_is_no_front (t.before ++ t.at ∷ []) b (subst (AreLines 1) front (are_first (length t.before + 1) ls a)) (run-append initial t.before (t.at ∷ []) ∙ ap (λ (r : Result State PlacedFault). r >>= λ x. run x (t.at ∷ [])) t.came ∙ ap (λ (r : Result State PlacedFault). r >>= λ x. Ok x) t.stopped) (subst IsFront front f);
+      least = λ m one below. subst IsFront (sym (ap (λ (z : List Line). take m z) t.cut ∙ take-append-le m t.before (t.at ∷ t.later) (omega arith))) (fronts_read t.before t.state first t.came m);
     }
 
 -- where it stops nowhere and the lines are no text, they are open at the end
 pub open_is_place : (ls : List Line) (s : State) → AreLines 1 ls → run initial ls ≡ Ok s → blocks_at_end s.phase ≡ None → IsOpenAtEnd ls (length ls + 1)
 open_is_place ls s a e c = record {
-  behind = refl;
+  past_end = refl;
   fronts = λ m one below. fronts_read ls s a e m;
   open_yet = open_is_no_text ls s a e c;
 }
 
 -- ---- the fault of a text
 
-number_at : (n : ℕ) (before : List Line) (at : Line) (behind : List Line) → AreLines n (before ++ at ∷ behind) → number at ≡ n + length before
-number_at n [] at behind a = a.0 ∙ omega arith
-number_at n (l ∷ ls) at behind a = number_at (n + 1) ls at behind a.2 ∙ omega arith
+number_at : (n : ℕ) (before : List Line) (at : Line) (later : List Line) → AreLines n (before ++ at ∷ later) → number at ≡ n + length before
+number_at n [] at later a = a.0 ∙ omega arith
+number_at n (l ∷ ls) at later a = number_at (n + 1) ls at later a.2 ∙ omega arith
 
 -- where the machine stops, its fault is that of the lines
-pub stop_has_fault : (ls : List Line) (b : Bad) → AreLines 1 ls → run initial ls ≡ Err b → IsFault ls b.kind b.line b.column
+pub stop_has_fault : (ls : List Line) (b : PlacedFault) → AreLines 1 ls → run initial ls ≡ Err b → IsFault ls b.kind b.line b.column
 stop_has_fault ls b a e =
     let t = stops_at initial ls b e in
     let f = stop_is_fault t.before t.at t.state b t.came t.stopped in
-    let n : length t.before + 1 ≡ b.line = let m = number_at 1 t.before t.at t.behind (subst (AreLines 1) t.cut a) in let g = f.0 in omega arith in
-    inl (record { place = subst (IsFirstBad ls) n (stop_is_place ls b a t); before = t.before; at = t.at; behind = t.behind; cut = t.cut; here = n; what = f.1 })
+    let n : length t.before + 1 ≡ b.line = let m = number_at 1 t.before t.at t.later (subst (AreLines 1) t.cut a) in let g = f.0 in omega arith in
+    inl (record { place = subst (IsFirstBad ls) n (stop_is_place ls b a t); before = t.before; at = t.at; later = t.later; cut = t.cut; here = n; what = f.1 })
 
 -- where it is at a phase that isn't closed, the lines end where more must come
 pub open_has_fault : (ls : List Line) (s : State) → AreLines 1 ls → run initial ls ≡ Ok s → blocks_at_end s.phase ≡ None → IsFault ls kind.UnexpectedEnd (length ls + 1) 1
@@ -170,7 +170,7 @@ text_or_fault ls a = go (run initial ls) refl
     ended s (Some last) e c = inl (sound ls a (record { end = s; last = last; runs = e; ends = c }))
     ended s None e c = inr (kind.UnexpectedEnd, length ls + 1, 1, open_has_fault ls s a e c)
 
-    go : (r : Result State Bad) → run initial ls ≡ r → IsText ls ⊎ ((k : FaultKind) × (n : ℕ) × (column : ℕ) × IsFault ls k n column)
+    go : (r : Result State PlacedFault) → run initial ls ≡ r → IsText ls ⊎ ((k : FaultKind) × (n : ℕ) × (column : ℕ) × IsFault ls k n column)
     go (Ok s) e = ended s (blocks_at_end s.phase) e refl
     go (Err b) e = inr (b.kind, b.line, b.column, stop_has_fault ls b a e)
 
@@ -219,9 +219,9 @@ one_place ls m n f g = go (ltb m n) refl (ltb n m) refl
 pub one_fault : (ls : List Line) (k l : FaultKind) (m n c d : ℕ) → IsFault ls k m c → IsFault ls l n d → (k ≡ l) × (m ≡ n) × (c ≡ d)
 one_fault ls k l m n c d (inl f) (inl g) =
     let same = one_place ls m n f.place g.place in
-    let front = same_front f.before g.before f.at g.at f.behind g.behind (let x = f.here in let y = g.here in omega arith) (sym f.cut ∙ g.cut) in
+    let front = same_front f.before g.before f.at g.at f.later g.later (let x = f.here in let y = g.here in omega arith) (sym f.cut ∙ g.cut) in
     let r = one_kind g.before g.at k l c d (subst (λ (z : Line). IsFaultAt g.before z k c) front.1 (subst (λ (z : List Line). IsFaultAt z f.at k c) front.0 f.what)) g.what in
     (r.0, same, r.1)
 one_fault ls k l m n c d (inl f) (inr g) = absurd (f.place.bad (g.place.fronts m f.place.from_one f.place.within))
 one_fault ls k l m n c d (inr f) (inl g) = absurd (g.place.bad (f.place.fronts n g.place.from_one g.place.within))
-one_fault ls k l m n c d (inr f) (inr g) = (f.what ∙ sym g.what, f.place.behind ∙ sym g.place.behind, f.first_column ∙ sym g.first_column)
+one_fault ls k l m n c d (inr f) (inr g) = (f.what ∙ sym g.what, f.place.past_end ∙ sym g.place.past_end, f.first_column ∙ sym g.first_column)

@@ -1,4 +1,4 @@
--- The nodes of a text stand at places of its lines, in order.
+-- The nodes of a text are at places of its lines, in order.
 use Rattle.std.proofs.Common.{◌≡◌, ℕ, ◌+◌, ◌≤◌, List, [], ◌∷◌, ◌++◌, Option, Some, None, Ok, Err, refl, sym, ap, subst, ◌∙◌, append-nil, arith, inl}
 use Rattle.std.proofs.lemmas.List.{map-append}
 use Rattle.std.proofs.lemmas.Grind.{flat_map-append}
@@ -7,7 +7,7 @@ use Rattle.std.specs.List.{AllByRecursion, flat_map}
 use Rattle.gk_line.specs.declared.tokens.Block.{Block}
 use Rattle.gk_line.specs.declared.tokens.Block.TheVariants as block
 use Rattle.gk_document.specs.declared.tree.Argument.TheVariants.{Table, Text as Quoted}
-use Rattle.gk_grammar.specs.Token.{Text, TagText, Blank, Tags, Title, Step, Row, Line, line, number}
+use Rattle.gk_grammar.specs.Token.{Utf8, TagText, Blank, Tags, Title, Step, Row, Line, line, number}
 use Rattle.gk_grammar.specs.Tree as tree
 use Rattle.gk_grammar.specs.Tree.{Location, Tag, Argument, Background, ExampleTable, Examples, Scenario, Rule, Feature}
 use Rattle.gk_grammar.specs.Grammar.{Piece, Then, ◌⨾◌, Nothing, Each, AtMostOne, OneLine, at, place_and_name, tag_at, IsTagLine, TagLines, Titled, IsRow, IsTable, IsDocString, IsArgument, IsStepLine, IsStep, IsBackground, IsExampleTable, IsExamples, IsScenario, IsRule, IsFeature, IsOpening, IsFeatureText, Node, tag_nodes, node_of_tag, row_nodes, argument_nodes, step_nodes, background_nodes, table_rows, examples_nodes, scenario_nodes, rule_nodes, feature_nodes}
@@ -25,7 +25,7 @@ line_places _ = []
 abbrev pub places : List Line → List Location
 places ls = flat_map line_places ls
 
--- the nodes stand at places of the piece's lines
+-- the nodes are at places of the piece's lines
 abbrev pub NodesOf : Piece → List Node → Type 0
 NodesOf P nodes = (ls : List Line) (cs : List tree.Comment) → P ls cs → StandAt nodes (places ls)
 
@@ -54,7 +54,7 @@ tags_stand (g ∷ gs) n [] e = absurd cc
 tags_stand (g ∷ gs) n (w ∷ ws) e =
     let head : place_and_name g ≡ tag_at n w = cc in
     let others : map place_and_name gs ≡ map (tag_at n) ws = cc in
-    inl (ap (λ (z : Location × Text). z.0) head, tags_stand gs n ws others)
+    inl (ap (λ (z : Location × Utf8). z.0) head, tags_stand gs n ws others)
 
 tag_line_nodes : (tags : List Tag) (l : Line) → IsTagLine tags l → StandAt (tag_nodes tags) (line_places l)
 tag_line_nodes tags (line n t i (Tags (Ok words))) h = tags_stand tags n words h
@@ -70,7 +70,7 @@ tag_lines_nodes tags ls cs h =
     subst (λ (z : List Node). StandAt z (places ls)) (sym (ap tag_nodes h.1 ∙ tags_of_lines h.0))
     (nodes_each (λ ts. OneLine (IsTagLine ts)) tag_nodes (λ ts. nodes_line (IsTagLine ts) (tag_nodes ts) (tag_line_nodes ts)) h.0 ls cs h.2)
 
-title_nodes : (b : Block) (p : Location) (n : ℕ) (k m d : Text) → NodesOf (Titled b p k m d) ((p, n) ∷ [])
+title_nodes : (b : Block) (p : Location) (n : ℕ) (k m d : Utf8) → NodesOf (Titled b p k m d) ((p, n) ∷ [])
 title_nodes b p n k m d [] cs h = absurd h
 title_nodes b p n k m d (line x t i (Title c y z) ∷ ls) cs h = inl (h.0.1, tt)
 title_nodes b p n k m d (line x t i Blank ∷ ls) cs h = absurd h.0
@@ -119,7 +119,7 @@ example_table_stands None = no_nodes Nothing
 example_table_stands (Some t) = table_nodes (t.header ∷ t.body)
 
 -- a header, and what is below it
-header_stands : (b : Block) (p : Location) (n : ℕ) (tags : List Tag) (k m d : Text) (Q : Piece) (below : List Node) → NodesOf Q below →
+header_stands : (b : Block) (p : Location) (n : ℕ) (tags : List Tag) (k m d : Utf8) (Q : Piece) (below : List Node) → NodesOf Q below →
     NodesOf (TagLines tags ⨾ Titled b p k m d ⨾ Q) (tag_nodes tags ++ (p, n) ∷ below)
 header_stands b p n tags k m d Q below f =
     nodes_then (TagLines tags) (Titled b p k m d ⨾ Q) (tag_nodes tags) ((p, n) ∷ below) (tag_lines_nodes tags)

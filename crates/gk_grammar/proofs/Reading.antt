@@ -1,4 +1,4 @@
--- The lines of a text are numbered from 1, and the tags of a line stand in order.
+-- The lines of a text are numbered from 1, and the tags of a line are in order.
 use Rattle.std.proofs.Common.{◌≡◌, ℕ, ◌+◌, ◌≤◌, Bool, true, false, cond, List, [], ◌∷◌, length, Option, Some, None, refl, arith}
 use Rattle.std.specs.Prelude.{map, codes, filter}
 use Rattle.std.specs.Option.{option_map}
@@ -49,14 +49,14 @@ tags_rise text = rise_filter is_tag 0 _ (rise_without 0 _ (pieces_rise 0 (slice_
 
 -- ---- the places of a line
 
-all_behind : (n : ℕ) (p : Location) (ws : List TagWord) → p.line ≡ n → WordsRise (p.column + 1) ws →
+all_after : (n : ℕ) (p : Location) (ws : List TagWord) → p.line ≡ n → WordsRise (p.column + 1) ws →
     AllByRecursion (λ (q : Location). stands_before p q ≡ true) (map (λ (w : TagText). at n w.column) (map tag_text ws))
-all_behind n p [] e r = tt
-all_behind n p (w ∷ ws) e r = (before_by_column p (at n w.column) e (let k = r.0 in omega arith), all_behind n p ws e (rise_sooner (p.column + 1) (w.column + 1) ws (let k = r.0 in omega arith) r.1))
+all_after n p [] e r = tt
+all_after n p (w ∷ ws) e r = (before_by_column p (at n w.column) e (let k = r.0 in omega arith), all_after n p ws e (rise_sooner (p.column + 1) (w.column + 1) ws (let k = r.0 in omega arith) r.1))
 
 words_rise : (n c : ℕ) (ws : List TagWord) → WordsRise c ws → Rise (map (λ (w : TagText). at n w.column) (map tag_text ws))
 words_rise n c [] r = tt
-words_rise n c (w ∷ ws) r = (all_behind n (at n w.column) ws refl r.1, words_rise n (w.column + 1) ws r.1)
+words_rise n c (w ∷ ws) r = (all_after n (at n w.column) ws refl r.1, words_rise n (w.column + 1) ws r.1)
 
 -- a token other than tags
 abbrev pub NoTags : Token → Type 0

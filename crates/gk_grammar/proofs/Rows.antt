@@ -9,8 +9,8 @@ use Rattle.gk_document.specs.declared.tree.Fence.{Fence}
 use Rattle.gk_grammar.specs.declared.fault.FaultKind.{FaultKind}
 use Rattle.gk_grammar.specs.declared.fault.FaultKind.TheVariants as kind
 use Rattle.gk_document.specs.declared.tree.KeywordType.TheVariants as keyword_type
-use Rattle.gk_grammar.specs.Token.{Text, TagText, Blank, Comment, Language, Tags, Title, Step, Row, Fenced, Line, line}
-use Rattle.gk_grammar.specs.Machine.{FlatBlock, State, Bad, run, blocks_at_end, initial}
+use Rattle.gk_grammar.specs.Token.{Utf8, TagText, Blank, Comment, Language, Tags, Title, Step, Row, Fenced, Line, line}
+use Rattle.gk_grammar.specs.Machine.{FlatBlock, State, PlacedFault, run, blocks_at_end, initial}
 
 abbrev title : ℕ → ℕ → Block → Line
 title n i b = line n [] i (Title b [] [])
@@ -37,7 +37,7 @@ abbrev seen_end : State → Option (List FlatBlock) → Seen
 seen_end s (Some last) = Whole s.nodes (map (λ (c : FlatBlock). (c.block, c.node)) (s.flat_blocks ++ last))
 seen_end s None = Cut s.nodes
 
-abbrev seen : Result State Bad → Seen
+abbrev seen : Result State PlacedFault → Seen
 seen (Ok s) = seen_end s (blocks_at_end s.phase)
 seen (Err b) = Fault b.kind b.line b.column
 
@@ -102,7 +102,7 @@ comment n = line n (35 ∷ []) 0 Comment
 abbrev blank : ℕ → Line
 blank n = line n [] 0 Blank
 
-abbrev language : ℕ → Text → Line
+abbrev language : ℕ → Utf8 → Line
 language n word = line n [] 0 (Language word)
 
 abbrev fence_line : ℕ → Fence → Line
@@ -115,7 +115,7 @@ scenario_with_step = title 1 0 block.Feature ∷ title 2 2 block.Scenario ∷ a_
 abbrev feature_and_scenario : List (Block × ℕ)
 feature_and_scenario = (block.Feature, 0) ∷ (block.Scenario, 0) ∷ []
 
--- tag lines, comments and blank lines may stand between tags and their block
+-- tag lines, comments and blank lines may come between tags and their block
 tags_and_gap : of (title 1 0 block.Feature ∷ tags 2 (a_tag 1 ∷ []) ∷ comment 3 ∷ blank 4 ∷ tags 5 (a_tag 1 ∷ []) ∷ title 6 0 block.Scenario ∷ []) ≡ Whole 3 ((block.Feature, 0) ∷ (block.Scenario, 2) ∷ [])
 tags_and_gap = refl
 
@@ -147,17 +147,17 @@ background_examples = refl
 examples_as_text : of (title 1 0 block.Feature ∷ title 2 0 block.Background ∷ title 3 0 block.Examples ∷ []) ≡ Whole 1 ((block.Feature, 0) ∷ (block.Background, 0) ∷ [])
 examples_as_text = refl
 
-examples_behind_background : of (title 1 0 block.Feature ∷ title 2 0 block.Background ∷ a_step 3 2 ∷ title 4 0 block.Examples ∷ []) ≡ Fault kind.Unexpected 4 1
-examples_behind_background = refl
+examples_after_background : of (title 1 0 block.Feature ∷ title 2 0 block.Background ∷ a_step 3 2 ∷ title 4 0 block.Examples ∷ []) ≡ Fault kind.Unexpected 4 1
+examples_after_background = refl
 
 -- ---- steps
 
--- comments and blank lines may stand between the rows of a table
+-- comments and blank lines may come between the rows of a table
 rows_and_gap : of (scenario_with_step ++ a_row 4 4 (a_cell ∷ []) ∷ comment 5 ∷ blank 6 ∷ a_row 7 4 (a_cell ∷ []) ∷ []) ≡ Whole 4 feature_and_scenario
 rows_and_gap = refl
 
-row_behind_doc_string : of (scenario_with_step ++ fence_line 4 fence.Quotes ∷ fence_line 5 fence.Quotes ∷ a_row 6 4 (a_cell ∷ []) ∷ []) ≡ Fault kind.Unexpected 6 5
-row_behind_doc_string = refl
+row_after_doc_string : of (scenario_with_step ++ fence_line 4 fence.Quotes ∷ fence_line 5 fence.Quotes ∷ a_row 6 4 (a_cell ∷ []) ∷ []) ≡ Fault kind.Unexpected 6 5
+row_after_doc_string = refl
 
 -- the other fence, tags and language lines inside a doc string are its content
 content : of (scenario_with_step ++ fence_line 4 fence.Quotes ∷ fence_line 5 fence.Backticks ∷ tags 6 (a_tag 1 ∷ []) ∷ language 7 (102 ∷ 114 ∷ []) ∷ fence_line 8 fence.Quotes ∷ []) ≡ Whole 2 feature_and_scenario
@@ -175,14 +175,14 @@ second_feature : of (scenario_with_step ++ title 4 0 block.Feature ∷ []) ≡ F
 second_feature = refl
 
 -- a language line after the feature line, and one after the language line, are comments
-french_behind_feature : of (title 1 0 block.Feature ∷ language 2 (102 ∷ 114 ∷ []) ∷ []) ≡ Whole 0 ((block.Feature, 0) ∷ [])
-french_behind_feature = refl
+french_after_feature : of (title 1 0 block.Feature ∷ language 2 (102 ∷ 114 ∷ []) ∷ []) ≡ Whole 0 ((block.Feature, 0) ∷ [])
+french_after_feature = refl
 
-french_behind_english : of (language 1 (101 ∷ 110 ∷ []) ∷ language 2 (102 ∷ 114 ∷ []) ∷ title 3 0 block.Feature ∷ []) ≡ Whole 0 ((block.Feature, 0) ∷ [])
-french_behind_english = refl
+french_after_english : of (language 1 (101 ∷ 110 ∷ []) ∷ language 2 (102 ∷ 114 ∷ []) ∷ title 3 0 block.Feature ∷ []) ≡ Whole 0 ((block.Feature, 0) ∷ [])
+french_after_english = refl
 
-french_behind_comment : of (comment 1 ∷ blank 2 ∷ language 3 (102 ∷ 114 ∷ []) ∷ []) ≡ Fault kind.UnsupportedLanguage 3 1
-french_behind_comment = refl
+french_after_comment : of (comment 1 ∷ blank 2 ∷ language 3 (102 ∷ 114 ∷ []) ∷ []) ≡ Fault kind.UnsupportedLanguage 3 1
+french_after_comment = refl
 
 -- no feature at all
 only_comments : of (comment 1 ∷ blank 2 ∷ []) ≡ Whole 0 []

@@ -4,11 +4,11 @@ use Rattle.std.proofs.lemmas.Bool.{eqb-true}
 use Rattle.std.specs.Prelude.{IfOk, IsTrue, IsFalse, cond, ◌==◌}
 use Rattle.gk_line.specs.declared.tokens.Block.{Block}
 use Rattle.gk_line.specs.declared.tokens.Block.TheVariants as block
-use Rattle.gk_grammar.specs.Token.{Text, Blank, Comment, Language, Tags, Title, Step, Row, Fenced, Other, Line, line, is_gap, is_language}
+use Rattle.gk_grammar.specs.Token.{Utf8, Blank, Comment, Language, Tags, Title, Step, Row, Fenced, Other, Line, line, is_gap, is_language}
 use Rattle.gk_grammar.specs.Tree as tree
 use Rattle.gk_grammar.specs.Tree.{Tag}
 use Rattle.gk_grammar.specs.Grammar.{Then, Each, OneLine, comments_of, TagLines, Titled, stops, description_of, IsStep, IsTable, IsPlainGap, IsOpening, IsEnglish, english}
-use Rattle.gk_grammar.specs.Machine.{FlatBlock, Phase, Start, AfterLanguage, AfterTags, InDescription, AfterStep, InDocString, InExamplesTable, State, Bad, next, at_phase, run, ◌>>=◌, initial, blocks_at_end, with_description, after_description, empty_body, step_at, row_at, same_text, before_first_block, at_start, after_language, after_tags, pass_over, follows, takes_tags}
+use Rattle.gk_grammar.specs.Machine.{FlatBlock, Phase, Start, AfterLanguage, AfterTags, InDescription, AfterStep, InDocString, InExamplesTable, State, PlacedFault, next, at_phase, run, ◌>>=◌, initial, blocks_at_end, with_description, after_description, empty_body, step_at, row_at, same_text, before_first_block, at_start, after_language, after_tags, pass_over, follows, takes_tags}
 use Rattle.gk_grammar.proofs.Pieces.{extended, mapped, joined, then_empty, with_line, lengthened, gap_takes, one_line_takes, all_more, comments_of-append}
 use Rattle.gk_grammar.proofs.Open.{IsBody, has_steps, IsHead, IsFlatBlock, TitledYet, IsOpen, IsDone, Holds, StateHolds, step_line, one_row, cond_ok, FlatBlockTags, flat_block_tags, SomeTagLines, some_are, tags_take, no_tags, title_opens, tags_open, leaving_holds, stepping_holds, quoting_holds, listing_holds}
 
@@ -27,14 +27,14 @@ titled_more c lines l h [] ys q = absurd q
 titled_more c lines l h (x ∷ xs) ys q =
     (q.0, all_more (λ z. IsFalse (stops c.block z)) xs l q.1 h, ap (λ (z : List Line). z ++ l ∷ []) q.2, ap (λ (z : List tree.Comment). z ++ comments_of (l ∷ [])) q.3 ∙ sym (comments_of-append xs (l ∷ [])))
 
-step_stops : (b : Block) (n i : ℕ) (t k m : Text) (y : _) → stops b (line n t i (Step k y m)) ≡ true → IsTrue (has_steps b)
+step_stops : (b : Block) (n i : ℕ) (t k m : Utf8) (y : _) → stops b (line n t i (Step k y m)) ≡ true → IsTrue (has_steps b)
 step_stops block.Background n i t k m y e = refl
 step_stops block.Scenario n i t k m y e = refl
 step_stops block.Feature n i t k m y e = absurd cc
 step_stops block.Rule n i t k m y e = absurd cc
 step_stops block.Examples n i t k m y e = absurd cc
 
-row_stops : (b : Block) (n i : ℕ) (t : Text) (cells : _) → stops b (line n t i (Row cells)) ≡ true → b ≡ block.Examples
+row_stops : (b : Block) (n i : ℕ) (t : Utf8) (cells : _) → stops b (line n t i (Row cells)) ≡ true → b ≡ block.Examples
 row_stops block.Examples n i t cells e = refl
 row_stops block.Background n i t cells e = absurd cc
 row_stops block.Scenario n i t cells e = absurd cc
@@ -96,21 +96,21 @@ tags_gap s before tags l g ls h = extended (IsDone s.flat_blocks) (SomeTagLines 
 some_tags : (s : State) (tags : List Tag) (ls : List Line) → Then (IsDone s.flat_blocks) (SomeTagLines tags) ls s.comments → Then (IsDone s.flat_blocks) (TagLines tags) ls s.comments
 some_tags s tags ls h = mapped (IsDone s.flat_blocks) (SomeTagLines tags) (TagLines tags) (λ xs ys q. some_are tags xs ys q) ls s.comments h
 
-behind_tags_holds : (s : State) (before : Option Block) (tags : List Tag) (l : Line) (ls : List Line) →
+after_tags_holds : (s : State) (before : Option Block) (tags : List Tag) (l : Line) (ls : List Line) →
     Then (IsDone s.flat_blocks) (SomeTagLines tags) ls s.comments → IfOk (after_tags s before tags l) (StateHolds (ls ++ l ∷ []))
-behind_tags_holds s before tags (line n t i Blank) ls h = tags_gap s before tags (line n t i Blank) refl ls h
-behind_tags_holds s before tags (line n t i Comment) ls h = tags_gap s before tags (line n t i Comment) refl ls h
-behind_tags_holds s before tags (line n t i (Language w)) ls h = tags_gap s before tags (line n t i (Language w)) refl ls h
-behind_tags_holds s before tags (line n t i (Tags (Ok words))) ls h = tags_open s s.flat_blocks before tags n i t words ls (some_tags s tags ls h)
-behind_tags_holds s before tags (line n t i (Tags (Err column))) ls h = tt
-behind_tags_holds s before tags (line n t i (Title b k m)) ls h =
+after_tags_holds s before tags (line n t i Blank) ls h = tags_gap s before tags (line n t i Blank) refl ls h
+after_tags_holds s before tags (line n t i Comment) ls h = tags_gap s before tags (line n t i Comment) refl ls h
+after_tags_holds s before tags (line n t i (Language w)) ls h = tags_gap s before tags (line n t i (Language w)) refl ls h
+after_tags_holds s before tags (line n t i (Tags (Ok words))) ls h = tags_open s s.flat_blocks before tags n i t words ls (some_tags s tags ls h)
+after_tags_holds s before tags (line n t i (Tags (Err column))) ls h = tt
+after_tags_holds s before tags (line n t i (Title b k m)) ls h =
     cond_ok (StateHolds (ls ++ line n t i (Title b k m) ∷ [])) (follows before b) _ _
     (λ _. cond_ok (StateHolds (ls ++ line n t i (Title b k m) ∷ [])) (takes_tags b) _ _ (λ takes. title_opens s s.flat_blocks b tags n i t k m ls (mapped (IsDone s.flat_blocks) (TagLines tags) (FlatBlockTags b tags) (λ xs ys q. flat_block_tags b tags takes xs ys q) ls s.comments (some_tags s tags ls h))) (λ _. tt)) (λ _. tt)
-behind_tags_holds s before tags (line n t i _) ls h = tt
+after_tags_holds s before tags (line n t i _) ls h = tt
 
 -- ---- before the feature
 
-same_text_is : (a b : Text) → same_text a b ≡ true → a ≡ b
+same_text_is : (a b : Utf8) → same_text a b ≡ true → a ≡ b
 same_text_is [] [] e = refl
 same_text_is [] (y ∷ ys) e = absurd cc
 same_text_is (x ∷ xs) [] e = absurd cc
@@ -156,7 +156,7 @@ spoken_holds s (line n t i k) ls e h = beginning_holds s AfterLanguage (line n t
 at_phase_holds : (s : State) (p : Phase) (l : Line) (ls : List Line) → Holds p s.flat_blocks ls s.comments → IfOk (at_phase s p l) (StateHolds (ls ++ l ∷ []))
 at_phase_holds s Start l ls h = before_holds s l ls h.0 h.1
 at_phase_holds s AfterLanguage l ls h = spoken_holds s l ls h.0 h.1
-at_phase_holds s (AfterTags before tags) l ls h = behind_tags_holds s before tags l ls h
+at_phase_holds s (AfterTags before tags) l ls h = after_tags_holds s before tags l ls h
 at_phase_holds s (InDescription c lines) l ls h = described_holds s c lines l ls h
 at_phase_holds s (AfterStep c before last) l ls h = stepping_holds s c before last l ls h
 at_phase_holds s (InDocString c before last q inside) l ls h = quoting_holds s c before last q inside l ls h
@@ -167,7 +167,7 @@ run_holds [] s read h = rw append-nil h
 run_holds (l ∷ ls) s read h = go (λ x q. run_holds ls x (read ++ l ∷ []) q) (next s l) (at_phase_holds s s.phase l read h)
   where
     go : ((x : State) → StateHolds (read ++ l ∷ []) x → IfOk (run x ls) (StateHolds ((read ++ l ∷ []) ++ ls))) →
-        (r : Result State Bad) → IfOk r (StateHolds (read ++ l ∷ [])) → IfOk (r >>= λ x. run x ls) (StateHolds (read ++ l ∷ ls))
+        (r : Result State PlacedFault) → IfOk r (StateHolds (read ++ l ∷ [])) → IfOk (r >>= λ x. run x ls) (StateHolds (read ++ l ∷ ls))
     go f (Ok x) q = rw append_assoc at (f x q)
     go f (Err e) q = tt
 

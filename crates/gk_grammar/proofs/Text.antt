@@ -8,7 +8,7 @@ use Rattle.gk_grammar.specs.Token.{Line}
 use Rattle.gk_grammar.specs.Tree as tree
 use Rattle.gk_grammar.specs.Tree.{Tag, Feature}
 use Rattle.gk_grammar.specs.Grammar.{Each, IsOpening, IsFeatureText}
-use Rattle.gk_grammar.specs.Machine.{Body, Bare, Steps, Rows, FlatBlock, Phase, Start, AfterLanguage, AfterTags, InDescription, AfterStep, InDocString, InExamplesTable, State, Bad, follows, next, run, ◌>>=◌, blocks_at_end, initial, with_description, with_steps, with_rows}
+use Rattle.gk_grammar.specs.Machine.{Body, Bare, Steps, Rows, FlatBlock, Phase, Start, AfterLanguage, AfterTags, InDescription, AfterStep, InDocString, InExamplesTable, State, PlacedFault, follows, next, run, ◌>>=◌, blocks_at_end, initial, with_description, with_steps, with_rows}
 use Rattle.gk_grammar.proofs.Pieces.{mapped}
 use Rattle.gk_grammar.proofs.Open.{IsFlatBlock, IsBody, FlatBlockTags}
 use Rattle.gk_grammar.proofs.Whole.{Linked, FlatBlockCounts, FlatBlocksCount, flat_block_count, flat_blocks_count}
@@ -23,18 +23,18 @@ run_keeps : (P : State → Type 0) → ((s : State) (l : Line) → P s → IfOk 
 run_keeps P f [] s h = h
 run_keeps P f (l ∷ ls) s h = go (next s l) (f s l h) (λ x q. run_keeps P f ls x q)
   where
-    go : (r : Result State Bad) → IfOk r P → ((x : State) → P x → IfOk (run x ls) P) → IfOk (r >>= λ x. run x ls) P
+    go : (r : Result State PlacedFault) → IfOk r P → ((x : State) → P x → IfOk (run x ls) P) → IfOk (r >>= λ x. run x ls) P
     go (Ok x) q g = g x q
     go (Err e) q g = tt
 
 -- what the machine keeps beside the text
-both_ok : (r : Result State Bad) → IfOk r StateFollows → IfOk r StateCounts → IfOk r (λ s. StateFollows s × StateCounts s)
+both_ok : (r : Result State PlacedFault) → IfOk r StateFollows → IfOk r StateCounts → IfOk r (λ s. StateFollows s × StateCounts s)
 both_ok (Ok s) f g = (f, g)
 both_ok (Err e) f g = tt
 
 pub kept : (ls : List Line) (s : State) → run initial ls ≡ Ok s → StateFollows s × StateCounts s
 kept ls s e =
-    subst (λ (r : Result State Bad). IfOk r (λ s. StateFollows s × StateCounts s)) e
+    subst (λ (r : Result State PlacedFault). IfOk r (λ s. StateFollows s × StateCounts s)) e
     (run_keeps (λ s. StateFollows s × StateCounts s) (λ s l h. both_ok (next s l) (at_phase_follows s s.phase l h.0.0 h.0.1) (at_phase_counts s s.phase l h.1.0 h.1.1)) ls initial ((tt, refl), (tt, refl)))
 
 -- the flat blocks follow one another, have their numbers, and have this many nodes

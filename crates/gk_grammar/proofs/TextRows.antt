@@ -12,11 +12,11 @@ use Rattle.gk_line.specs.DocStrings as doc_strings
 use Rattle.gk_document.specs.declared.tree.Argument.TheVariants.{Text as Quoted}
 use Rattle.gk_grammar.specs.declared.fault.FaultKind.{FaultKind}
 use Rattle.gk_grammar.specs.declared.fault.FaultKind.TheVariants as kind
-use Rattle.gk_grammar.specs.Token.{Text, token_of}
+use Rattle.gk_grammar.specs.Token.{Utf8, token_of}
 use Rattle.gk_grammar.specs.Tree as tree
 use Rattle.gk_grammar.specs.Grammar.{at, Node, feature_nodes}
 use Rattle.gk_grammar.specs.Documents as documents
-use Rattle.gk_grammar.specs.Machine.{FlatBlock, State, Bad, run, blocks_at_end, initial}
+use Rattle.gk_grammar.specs.Machine.{FlatBlock, State, PlacedFault, run, blocks_at_end, initial}
 use Rattle.gk_grammar.specs.Assembly.{document_of}
 
 -- what a text comes to: its nodes with their places, and the places of its comments; or its fault
@@ -28,7 +28,7 @@ abbrev ended : State → (lines : ℕ) → Option (List FlatBlock) → Outcome
 ended s n None = Fault kind.UnexpectedEnd (n + 1) 1
 ended s n (Some last) = Whole (feature_nodes (document_of s last).feature) (map (λ (c : tree.Comment). c.location) s.comments)
 
-abbrev seen : (lines : ℕ) → Result State Bad → Outcome
+abbrev seen : (lines : ℕ) → Result State PlacedFault → Outcome
 seen n (Ok s) = ended s n (blocks_at_end s.phase)
 seen n (Err b) = Fault b.kind b.line b.column
 
@@ -44,7 +44,7 @@ abbrev last_feature : State → Option (List FlatBlock) → List tree.Feature
 last_feature s None = []
 last_feature s (Some last) = option_list (document_of s last).feature
 
-abbrev run_features : Result State Bad → List tree.Feature
+abbrev run_features : Result State PlacedFault → List tree.Feature
 run_features (Ok s) = last_feature s (blocks_at_end s.phase)
 run_features (Err b) = []
 
@@ -52,11 +52,11 @@ abbrev features : List ℕ → List tree.Feature
 features text = run_features (run initial (documents.lines_read text))
 
 -- the contents of its doc strings below scenarios
-abbrev argument_content : Option tree.Argument → List Text
+abbrev argument_content : Option tree.Argument → List Utf8
 argument_content (Some (Quoted d)) = d.content ∷ []
 argument_content _ = []
 
-abbrev contents : List ℕ → List Text
+abbrev contents : List ℕ → List Utf8
 contents text = flat_map (λ (f : tree.Feature). flat_map (λ (s : tree.Scenario). flat_map (λ (t : tree.Step). argument_content t.argument) s.steps) f.scenarios) (features text)
 
 -- the empty text
@@ -70,9 +70,9 @@ unfolding documents.lines_read lines.lines_of lines.numbered_lines lines.without
 other_language = refl
 
 -- a language line after the feature line is a comment
-language_behind_feature : outcome (codes "Feature: x\n# language: fr") ≡ Whole [] (at 2 1 ∷ [])
+language_after_feature : outcome (codes "Feature: x\n# language: fr") ≡ Whole [] (at 2 1 ∷ [])
 unfolding documents.lines_read lines.lines_of lines.numbered_lines lines.without_mark str.chars token_of tokens.is_blank_line tokens.begins_by texts.after texts.body_of texts.first_some tokens.title_of tokens.step_of tokens.fence_of tokens.language_of tokens.indent_of lib.Utf8.encode texts.trimmed cells.cells_of cells.units tags.tags_of tags.tag_pieces tags.spaced_piece tags.uncommented doc_strings.doc_line_of doc_strings.outdented
-language_behind_feature = refl
+language_after_feature = refl
 
 -- the language line that counts is no comment
 language_that_counts : outcome (codes "# language: en\nFeature: f") ≡ Whole [] []
@@ -104,7 +104,7 @@ tag_alone : outcome (codes "Feature: f\n  Scenario: s\n@t") ≡ Fault kind.Unexp
 unfolding documents.lines_read lines.lines_of lines.numbered_lines lines.without_mark str.chars token_of tokens.is_blank_line tokens.begins_by texts.after texts.body_of texts.first_some tokens.title_of tokens.step_of tokens.fence_of tokens.language_of tokens.indent_of lib.Utf8.encode texts.trimmed cells.cells_of cells.units tags.tags_of tags.tag_pieces tags.spaced_piece tags.uncommented doc_strings.doc_line_of doc_strings.outdented
 tag_alone = refl
 
--- a tag line without a tag stands where a tag line stands
+-- a tag line without a tag is allowed where a tag line is
 at_sign_alone : outcome (codes "Feature: f\n@") ≡ Fault kind.UnexpectedEnd 3 1
 unfolding documents.lines_read lines.lines_of lines.numbered_lines lines.without_mark str.chars token_of tokens.is_blank_line tokens.begins_by texts.after texts.body_of texts.first_some tokens.title_of tokens.step_of tokens.fence_of tokens.language_of tokens.indent_of lib.Utf8.encode texts.trimmed cells.cells_of cells.units tags.tags_of tags.tag_pieces tags.spaced_piece tags.uncommented doc_strings.doc_line_of doc_strings.outdented
 at_sign_alone = refl

@@ -6,7 +6,7 @@ use Rattle.std.specs.List.{flat_map}
 use Rattle.gk_document.specs.declared.tree.Cell.{Cell}
 use Rattle.gk_line.specs.declared.tokens.Block.{Block}
 use Rattle.gk_line.specs.declared.tokens.Block.TheVariants as block
-use Rattle.gk_grammar.specs.Token.{Text, TagText, Blank, Comment, Language, Tags, Title, Step, Row, Fenced, Other, Line, line}
+use Rattle.gk_grammar.specs.Token.{Utf8, TagText, Blank, Comment, Language, Tags, Title, Step, Row, Fenced, Other, Line, line}
 use Rattle.gk_grammar.specs.Tree as tree
 use Rattle.gk_grammar.specs.Tree.{Tag, Argument}
 use Rattle.gk_document.specs.declared.tree.Argument.TheVariants.{Table, Text as Quoted}
@@ -173,7 +173,7 @@ entering_counts s c lines (line n t i (Title b x m)) h e k = let w = bare_whole 
 entering_counts s c lines (line n t i _) h e k = tt
 
 -- a title line after tags
-opened_counts : (s : State) (b : Block) (tags : List Tag) (n i : ℕ) (x m : Text) → FlatBlocksCount 0 s.flat_blocks → Counts (flat_blocks_count s.flat_blocks) (tag_nodes tags) → s.nodes ≡ flat_blocks_count s.flat_blocks + length tags → StateCounts (open_block s b tags n i x m)
+opened_counts : (s : State) (b : Block) (tags : List Tag) (n i : ℕ) (x m : Utf8) → FlatBlocksCount 0 s.flat_blocks → Counts (flat_blocks_count s.flat_blocks) (tag_nodes tags) → s.nodes ≡ flat_blocks_count s.flat_blocks + length tags → StateCounts (open_block s b tags n i x m)
 opened_counts s b tags n i x m h k e = (h, (refl, record { tags = k; own = e; below_counts = tt; total = omega arith }))
 
 pub tags_nodes_length : (tags : List Tag) → length (tag_nodes tags) ≡ length tags
@@ -195,15 +195,15 @@ tagged_counts s before tags n words h k e = (
   ),
 )
 
-behind_tags_counts : (s : State) (before : Option Block) (tags : List Tag) (l : Line) → FlatBlocksCount 0 s.flat_blocks → Counts (flat_blocks_count s.flat_blocks) (tag_nodes tags) → s.nodes ≡ flat_blocks_count s.flat_blocks + length tags → IfOk (after_tags s before tags l) StateCounts
-behind_tags_counts s before tags (line n t i Blank) h k e = (h, (k, e))
-behind_tags_counts s before tags (line n t i Comment) h k e = (h, (k, e))
-behind_tags_counts s before tags (line n t i (Language w)) h k e = (h, (k, e))
-behind_tags_counts s before tags (line n t i (Tags (Ok words))) h k e = tagged_counts s before tags n words h k e
-behind_tags_counts s before tags (line n t i (Tags (Err column))) h k e = tt
-behind_tags_counts s before tags (line n t i (Title b x m)) h k e =
+after_tags_counts : (s : State) (before : Option Block) (tags : List Tag) (l : Line) → FlatBlocksCount 0 s.flat_blocks → Counts (flat_blocks_count s.flat_blocks) (tag_nodes tags) → s.nodes ≡ flat_blocks_count s.flat_blocks + length tags → IfOk (after_tags s before tags l) StateCounts
+after_tags_counts s before tags (line n t i Blank) h k e = (h, (k, e))
+after_tags_counts s before tags (line n t i Comment) h k e = (h, (k, e))
+after_tags_counts s before tags (line n t i (Language w)) h k e = (h, (k, e))
+after_tags_counts s before tags (line n t i (Tags (Ok words))) h k e = tagged_counts s before tags n words h k e
+after_tags_counts s before tags (line n t i (Tags (Err column))) h k e = tt
+after_tags_counts s before tags (line n t i (Title b x m)) h k e =
     cond_ok StateCounts (follows before b) _ _ (λ _. cond_ok StateCounts (takes_tags b) _ _ (λ _. opened_counts s b tags n i x m h k e) (λ _. tt)) (λ _. tt)
-behind_tags_counts s before tags (line n t i _) h k e = tt
+after_tags_counts s before tags (line n t i _) h k e = tt
 
 beginning_counts : (s : State) (p : Phase) (l : Line) → FlatBlocksCount 0 s.flat_blocks → s.nodes ≡ flat_blocks_count s.flat_blocks → PhaseCounts (flat_blocks_count s.flat_blocks) s.nodes p → IfOk (before_first_block s p l) StateCounts
 beginning_counts s p (line n t i Blank) h e g = (h, g)
@@ -229,7 +229,7 @@ quoted_nodes before last q inside e =
 pub at_phase_counts : (s : State) (p : Phase) (l : Line) → FlatBlocksCount 0 s.flat_blocks → PhaseCounts (flat_blocks_count s.flat_blocks) s.nodes p → IfOk (at_phase s p l) StateCounts
 at_phase_counts s Start l h k = before_feature_counts s l h k
 at_phase_counts s AfterLanguage l h k = spoken_counts s l h k
-at_phase_counts s (AfterTags before tags) l h k = behind_tags_counts s before tags l h k.0 k.1
+at_phase_counts s (AfterTags before tags) l h k = after_tags_counts s before tags l h k.0 k.1
 at_phase_counts s (InDescription c lines) l h k = cond_ok StateCounts (stops c.block l) _ _ (λ _. entering_counts s c lines l h k.0 k.1) (λ _. (h, k))
 at_phase_counts s (AfterStep c before last) l h k = stepping_counts s c before last l h k
 at_phase_counts s (InDocString c before last q inside) l h k =

@@ -7,19 +7,19 @@ use Rattle.gk_document.specs.declared.tree.Cell.{Cell}
 use Rattle.gk_line.specs.declared.tokens.Block.{Block}
 use Rattle.gk_line.specs.declared.tokens.Block.TheVariants as block
 use Rattle.gk_document.specs.declared.tree.KeywordType.{KeywordType}
-use Rattle.gk_grammar.specs.Token.{Text, TagText, Blank, Tags, Title, Step, Row, Line, line}
+use Rattle.gk_grammar.specs.Token.{Utf8, TagText, Blank, Tags, Title, Step, Row, Line, line}
 use Rattle.gk_grammar.specs.Tree as tree
 use Rattle.gk_grammar.specs.Tree.{Tag, Location}
 use Rattle.gk_grammar.specs.Grammar.{Nothing, Each, OneLine, comments_of, IsTagLine, place_and_name, tag_at, Titled, stops, description_of, IsStep, IsTable, IsRow, at, Node, step_nodes, row_nodes, tag_nodes, node_of_row}
-use Rattle.gk_grammar.specs.Machine.{Body, Bare, Steps, Rows, FlatBlock, Phase, AfterTags, InDescription, AfterStep, InExamplesTable, State, Bad, next, run, ◌>>=◌, add_tags, open_block, new_block, follows, takes_tags, own_node, with_steps, with_rows, with_description, blocks_at_end, tags_from, empty_body, after_description, pass_over}
+use Rattle.gk_grammar.specs.Machine.{Body, Bare, Steps, Rows, FlatBlock, Phase, AfterTags, InDescription, AfterStep, InExamplesTable, State, PlacedFault, next, run, ◌>>=◌, add_tags, open_block, new_block, follows, takes_tags, own_node, with_steps, with_rows, with_description, blocks_at_end, tags_from, empty_body, after_description, pass_over}
 use Rattle.gk_grammar.proofs.Pieces.{comments_of-append, only_first}
 use Rattle.gk_grammar.proofs.Open.{IsBody, IsFlatBlock, FlatBlockTags}
-use Rattle.gk_grammar.proofs.Complete.{state_of, Reads, reads_then, reads_nothing, reads_line, Counts, counts_apart, to_phase, idle_tagged, idle_listing, reads_table, reads_step, reads_more_steps, behind_steps, TakesRows, Begins, row_is}
+use Rattle.gk_grammar.proofs.Complete.{state_of, Reads, reads_then, reads_nothing, reads_line, Counts, counts_apart, to_phase, idle_tagged, idle_listing, reads_table, reads_step, reads_more_steps, after_steps, TakesRows, Begins, row_is}
 
--- A phase in which the next flat block may begin. It closes what is open: then the flat blocks are dh, and this block stands before.
+-- A phase in which the next flat block may begin. It closes what is open: then the flat blocks are dh, and this block is before.
 pub record Ready (p : Phase) (ch dh : List FlatBlock) (before : Option Block) : Type 0 where
-  pub tag : (cs : List tree.Comment) (n m i : ℕ) (t : Text) (words : List TagText) → next (state_of cs n ch p) (line m t i (Tags (Ok words))) ≡ Ok (add_tags (state_of cs n dh p) before [] m words)
-  pub title : (cs : List tree.Comment) (n m i : ℕ) (t : Text) (b : Block) (k x : Text) → follows before b ≡ true → next (state_of cs n ch p) (line m t i (Title b k x)) ≡ Ok (open_block (state_of cs n dh p) b [] m i k x)
+  pub tag : (cs : List tree.Comment) (n m i : ℕ) (t : Utf8) (words : List TagText) → next (state_of cs n ch p) (line m t i (Tags (Ok words))) ≡ Ok (add_tags (state_of cs n dh p) before [] m words)
+  pub title : (cs : List tree.Comment) (n m i : ℕ) (t : Utf8) (b : Block) (k x : Utf8) → follows before b ≡ true → next (state_of cs n ch p) (line m t i (Title b k x)) ≡ Ok (open_block (state_of cs n dh p) b [] m i k x)
 
 pub ready_stepping : (c : FlatBlock) (steps : List tree.Step) (last : tree.Step) (ch : List FlatBlock) → Ready (AfterStep c steps last) ch (ch ++ with_steps c (steps ++ last ∷ []) ∷ []) (Some c.block)
 ready_stepping c steps last ch = record {
@@ -33,7 +33,7 @@ ready_listing c rows ch = record {
   title = λ cs n m i t b k x f. rw f refl;
 }
 
-stops_following : (a b : Block) (m i : ℕ) (t k x : Text) → follows (Some a) b ≡ true → stops a (line m t i (Title b k x)) ≡ true
+stops_following : (a b : Block) (m i : ℕ) (t k x : Utf8) → follows (Some a) b ≡ true → stops a (line m t i (Title b k x)) ≡ true
 stops_following block.Feature block.Background m i t k x f = refl
 stops_following block.Rule block.Background m i t k x f = refl
 stops_following block.Scenario block.Examples m i t k x f = refl
@@ -60,7 +60,7 @@ tags_are (g ∷ gs) m n [] e k = absurd cc
 tags_are (g ∷ gs) m n (w ∷ ws) e k =
     let head : place_and_name g ≡ tag_at m w = cc in
     let others : map place_and_name gs ≡ map (tag_at m) ws = cc in
-    let first : g ≡ record { node = n; location = at m w.column; name = codes "@" ++ w.word } = tag_is g _ k.0 (ap (λ (z : Location × Text). z.0) head) (ap (λ (z : Location × Text). z.1) head) in
+    let first : g ≡ record { node = n; location = at m w.column; name = codes "@" ++ w.word } = tag_is g _ k.0 (ap (λ (z : Location × Utf8). z.0) head) (ap (λ (z : Location × Utf8). z.1) head) in
     let rest : gs ≡ tags_from m (n + 1) ws = tags_are gs m (n + 1) ws others k.1 in
     cc
 
@@ -69,11 +69,11 @@ map_length f [] = refl
 map_length f (x ∷ xs) = ap suc (map_length f xs)
 
 words_count : (tags : List Tag) (m : ℕ) (words : List TagText) → map place_and_name tags ≡ map (tag_at m) words → length words ≡ length tags
-words_count tags m words e = sym (map_length (tag_at m) words) ∙ ap (λ (z : List (Location × Text)). length z) (sym e) ∙ map_length place_and_name tags
+words_count tags m words e = sym (map_length (tag_at m) words) ∙ ap (λ (z : List (Location × Utf8)). length z) (sym e) ∙ map_length place_and_name tags
 
 -- a tag line, in a phase where it leads after tags
 tag_line : (p : Phase) (n : ℕ) (ch dh : List FlatBlock) (before : Option Block) (got tags : List Tag) →
-    ((cs : List tree.Comment) (m i : ℕ) (t : Text) (words : List TagText) → next (state_of cs n ch p) (line m t i (Tags (Ok words))) ≡ Ok (add_tags (state_of cs n dh p) before got m words)) →
+    ((cs : List tree.Comment) (m i : ℕ) (t : Utf8) (words : List TagText) → next (state_of cs n ch p) (line m t i (Tags (Ok words))) ≡ Ok (add_tags (state_of cs n dh p) before got m words)) →
     Counts n (tag_nodes tags) → (l : Line) → IsTagLine tags l → (cs : List tree.Comment) → next (state_of cs n ch p) l ≡ Ok (state_of cs (n + length tags) dh (AfterTags before (got ++ tags)))
 tag_line p n ch dh before got tags f k (line m t i (Tags (Ok words))) h cs =
     f cs m i t words ∙ ap (λ (z : ℕ). Ok (state_of cs (n + z) dh (AfterTags before (got ++ tags_from m n words)))) (words_count tags m words h)
@@ -138,14 +138,14 @@ flat_block_is a b p q r s t u v w = λ i. record { block = p i; node = q i; plac
 
 -- a title line, in a phase where the flat block may begin, and the description after it
 run_titled : (c : FlatBlock) (p : Phase) (n : ℕ) (ch dh : List FlatBlock) → c.node ≡ n →
-    ((cs : List tree.Comment) (m i : ℕ) (t k x : Text) → next (state_of cs n ch p) (line m t i (Title c.block k x)) ≡ Ok (open_block (state_of cs n dh p) c.block c.tags m i k x)) →
+    ((cs : List tree.Comment) (m i : ℕ) (t k x : Utf8) → next (state_of cs n ch p) (line m t i (Title c.block k x)) ≡ Ok (open_block (state_of cs n dh p) c.block c.tags m i k x)) →
     (ls : List Line) (cs : List tree.Comment) → Titled c.block c.place c.keyword c.name c.description ls cs → (before : List tree.Comment) (rest : List Line) →
     (lines : List Line) × (description_of lines ≡ c.description) × (run (state_of before n ch p) (ls ++ rest) ≡ run (state_of (before ++ cs) (n + own_node c.block) dh (InDescription (fresh c) lines)) rest)
 run_titled c p n ch dh e f [] cs h before rest = absurd h
 run_titled c p n ch dh e f (line m t i (Title b k x) ∷ ls) cs h before rest = (
   ls,
   sym h.2,
-  ap (λ (r : Result State Bad). r >>= λ y. run y (ls ++ rest))
+  ap (λ (r : Result State PlacedFault). r >>= λ y. run y (ls ++ rest))
       (ap (λ (z : Block). next (state_of before n ch p) (line m t i (Title z k x))) h.0.0 ∙ f before m i t k x
       ∙ ap (λ (z : FlatBlock). Ok (state_of before (n + own_node c.block) dh (InDescription z []))) (flat_block_is (new_block n c.block c.tags m i k x) (fresh c) refl (sym e) (sym h.0.1) refl (sym h.0.2) (sym h.0.3) refl refl))
       ∙ run_description (fresh c) ls [] h.1 before (n + own_node c.block) dh rest
@@ -156,10 +156,10 @@ run_titled c p n ch dh e f (line m t i _ ∷ ls) cs h before rest = absurd h.0
 
 -- ---- bodies
 
-ready_behind : (c : FlatBlock) (steps : List tree.Step) (last : tree.Step) (more : List tree.Step) (ch : List FlatBlock) →
-    Ready (behind_steps c steps last more) ch (ch ++ with_steps c (steps ++ last ∷ more) ∷ []) (Some c.block) × (blocks_at_end (behind_steps c steps last more) ≡ Some (with_steps c (steps ++ last ∷ more) ∷ []))
-ready_behind c steps last [] ch = (ready_stepping c steps last ch, refl)
-ready_behind c steps last (s ∷ ss) ch = rw (append_assoc steps (last ∷ []) (s ∷ ss)) at (ready_behind c (steps ++ last ∷ []) s ss ch)
+ready_after : (c : FlatBlock) (steps : List tree.Step) (last : tree.Step) (more : List tree.Step) (ch : List FlatBlock) →
+    Ready (after_steps c steps last more) ch (ch ++ with_steps c (steps ++ last ∷ more) ∷ []) (Some c.block) × (blocks_at_end (after_steps c steps last more) ≡ Some (with_steps c (steps ++ last ∷ more) ∷ []))
+ready_after c steps last [] ch = (ready_stepping c steps last ch, refl)
+ready_after c steps last (s ∷ ss) ch = rw (append_assoc steps (last ∷ []) (s ∷ ss)) at (ready_after c (steps ++ last ∷ []) s ss ch)
 
 -- the flat block whose description these lines are, with its body
 built : (c : FlatBlock) (lines : List Line) (y : Body) → description_of lines ≡ c.description → y ≡ c.body → record (with_description (fresh c) lines) { body = y } ≡ c
@@ -185,27 +185,27 @@ module _ (c : FlatBlock) (lines : List Line) (d : description_of lines ≡ c.des
     runs = reads_nothing dh (InDescription (fresh c) lines) n ls cs h before rest ∙ ap (λ (x : ℕ). run (state_of (before ++ cs) (n + x) dh (InDescription (fresh c) lines)) rest) (sym z);
   }
 
-  steps_pass : (s : tree.Step) (ss : List tree.Step) (ls : List Line) (cs : List tree.Comment) → ((m i : ℕ) (t k : Text) (y : KeywordType) (x : Text) → stops c.block (line m t i (Step k y x)) ≡ true) →
+  steps_pass : (s : tree.Step) (ss : List tree.Step) (ls : List Line) (cs : List tree.Comment) → ((m i : ℕ) (t k : Utf8) (y : KeywordType) (x : Utf8) → stops c.block (line m t i (Step k y x)) ≡ true) →
       Steps (s ∷ ss) ≡ c.body → Counts n (flat_map step_nodes (s ∷ ss)) → Each IsStep (s ∷ ss) ls cs → Bodied c cs start dh n before ls rest
   unfolding start
   steps_pass s ss ls cs f e k h =
       let x : FlatBlock = with_description (fresh c) lines in
       let ks = counts_apart n (step_nodes s) (flat_map step_nodes ss) k in
       let begins : Begins (InDescription (fresh c) lines) x [] = λ us m ch a i t kw y z. rw (f a i t kw y z) refl in
-      let q = ready_behind x [] s ss dh in
+      let q = ready_after x [] s ss dh in
       let is : with_steps x (s ∷ ss) ≡ c = built c lines (Steps (s ∷ ss)) d e in
       record {
-        phase = behind_steps x [] s ss;
+        phase = after_steps x [] s ss;
         ready = rw is at q.0;
         ends = q.1 ∙ ap (λ (z : FlatBlock). Some (z ∷ [])) is;
         runs =
-            reads_then (IsStep s) (Each IsStep ss) dh dh dh (InDescription (fresh c) lines) (AfterStep x [] s) (behind_steps x [] s ss) n (length (step_nodes s)) (length (flat_map step_nodes ss))
+            reads_then (IsStep s) (Each IsStep ss) dh dh dh (InDescription (fresh c) lines) (AfterStep x [] s) (after_steps x [] s ss) n (length (step_nodes s)) (length (flat_map step_nodes ss))
             (reads_step (InDescription (fresh c) lines) x [] begins s n dh ks.0)
-            (reads_more_steps x [] s ss (n + length (step_nodes s)) dh ks.1 (behind_steps x [] s ss) refl) ls cs h before rest
-            ∙ ap (λ (z : ℕ). run (state_of (before ++ cs) (n + z) dh (behind_steps x [] s ss)) rest) (sym (length-append (step_nodes s) (flat_map step_nodes ss)) ∙ ap (λ (z : Body). length (body_nodes z)) e);
+            (reads_more_steps x [] s ss (n + length (step_nodes s)) dh ks.1 (after_steps x [] s ss) refl) ls cs h before rest
+            ∙ ap (λ (z : ℕ). run (state_of (before ++ cs) (n + z) dh (after_steps x [] s ss)) rest) (sym (length-append (step_nodes s) (flat_map step_nodes ss)) ∙ ap (λ (z : Body). length (body_nodes z)) e);
       }
 
-  rows_pass : (r : tree.Row) (rs : List tree.Row) (ls : List Line) (cs : List tree.Comment) → ((m i : ℕ) (t : Text) (cells : List Cell) → stops c.block (line m t i (Row cells)) ≡ true) →
+  rows_pass : (r : tree.Row) (rs : List tree.Row) (ls : List Line) (cs : List tree.Comment) → ((m i : ℕ) (t : Utf8) (cells : List Cell) → stops c.block (line m t i (Row cells)) ≡ true) →
       Rows (r ∷ rs) ≡ c.body → Counts n (row_nodes (r ∷ rs)) → IsTable (r ∷ rs) ls cs → Bodied c cs start dh n before ls rest
   unfolding start
   rows_pass r rs ls cs f e k h =
@@ -245,7 +245,7 @@ pub record Headed (b : Block) (tags : List Tag) (cs : List tree.Comment) (s : St
   pub phase : Phase
   pub flat_blocks : List FlatBlock
   pub runs : run s (ls ++ rest) ≡ run (state_of (before ++ cs) (n + length tags) flat_blocks phase) rest
-  pub title : (us : List tree.Comment) (m i : ℕ) (t k x : Text) → next (state_of us (n + length tags) flat_blocks phase) (line m t i (Title b k x)) ≡ Ok (open_block (state_of us (n + length tags) dh phase) b tags m i k x)
+  pub title : (us : List tree.Comment) (m i : ℕ) (t k x : Utf8) → next (state_of us (n + length tags) flat_blocks phase) (line m t i (Title b k x)) ≡ Ok (open_block (state_of us (n + length tags) dh phase) b tags m i k x)
 
 module _ (p : Phase) (n : ℕ) (ch dh : List FlatBlock) (bef : Option Block) (ready : Ready p ch dh bef) (b : Block) (fits : follows bef b ≡ true) (before : List tree.Comment) (rest : List Line) where
   no_tags_pass : (tags : List Tag) (ls : List Line) (cs : List tree.Comment) → tags ≡ [] → Nothing ls cs → Headed b tags cs (state_of before n ch p) dh n before ls rest

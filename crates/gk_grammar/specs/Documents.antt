@@ -22,12 +22,12 @@ abbrev pub HasFault : List ℕ → FaultKind → (line column : ℕ) → Type 0
 HasFault text kind line column = IsFault (lines_read text) kind line column
 
 -- the most bytes and lines that a feature file may have
-abbrev pub byte_limit : ℕ
-byte_limit = FEATURE_LIMIT
+abbrev pub max_bytes : ℕ
+max_bytes = FEATURE_LIMIT
 
-abbrev pub line_limit : ℕ
-line_limit = 1_000_000
+abbrev pub max_lines : ℕ
+max_lines = 1_000_000
 
 -- the text has more bytes or lines than that
 abbrev pub IsTooLong : List ℕ → Type 0
-IsTooLong text = (byte_limit < length text) ⊎ (line_limit < length (lines_read text))
+IsTooLong text = (max_bytes < length text) ⊎ (max_lines < length (lines_read text))

@@ -10,7 +10,7 @@ use Rattle.gk_line.specs.declared.tokens.Block.{Block}
 use Rattle.gk_line.specs.declared.tokens.Block.TheVariants as block
 use Rattle.gk_document.specs.declared.tree.Fence.{Fence}
 use Rattle.gk_document.specs.declared.tree.Fence.TheVariants as fence
-use Rattle.gk_grammar.specs.Token.{Text, TagText, Language, Tags, Title, Step, Row, Fenced, Line, line, text, bytes, is_comment, is_language, is_blank, is_gap}
+use Rattle.gk_grammar.specs.Token.{Utf8, TagText, Language, Tags, Title, Step, Row, Fenced, Line, line, text, bytes, is_comment, is_language, is_blank, is_gap}
 use Rattle.gk_grammar.specs.Tree as tree
 use Rattle.gk_grammar.specs.Tree.{Location, Tag, DocString, Argument, Background, ExampleTable, Examples, Scenario, Rule, Feature, Document}
 use Rattle.gk_document.specs.declared.tree.Argument.TheVariants.{Table, Text as Quoted}
@@ -76,11 +76,11 @@ OneLine P (l ∷ gap) cs = P l × IsGap gap cs
 -- ---- headers
 
 -- a tag without its number
-abbrev pub place_and_name : Tag → Location × Text
+abbrev pub place_and_name : Tag → Location × Utf8
 place_and_name g = (g.location, g.name)
 
 -- the tag of a word in line n: its name has the `@`
-abbrev pub tag_at : ℕ → TagText → Location × Text
+abbrev pub tag_at : ℕ → TagText → Location × Utf8
 tag_at n w = (at n w.column, codes "@" ++ w.word)
 
 -- the tags of a tag line, in order
@@ -119,19 +119,19 @@ line_feed = 10
 
 -- The text of a description (`gherkin.berp`: Description), of which comments are no part, and which they don't end: its lines
 -- without comments, without blank lines at both ends
-abbrev pub description_of : List Line → Text
+abbrev pub description_of : List Line → Utf8
 description_of ls =
     join_with_byte line_feed (map bytes
     (reverse (from_text (reverse (from_text (filter (λ l. not (is_comment l)) ls))))))
 
 -- the title line of a block
-abbrev pub IsTitle : Block → Location → (keyword name : Text) → Line → Type 0
+abbrev pub IsTitle : Block → Location → (keyword name : Utf8) → Line → Type 0
 IsTitle b place keyword name (line n t i (Title c k m)) =
     (c ≡ b) × (place ≡ at n (i + 1)) × (keyword ≡ k) × (name ≡ m)
 IsTitle b place keyword name _ = ⊥
 
 -- a title line and the description after it
-abbrev pub Titled : Block → Location → (keyword name description : Text) → Piece
+abbrev pub Titled : Block → Location → (keyword name description : Utf8) → Piece
 Titled b place keyword name description [] cs = ⊥
 Titled b place keyword name description (l ∷ ls) cs =
     IsTitle b place keyword name l × AllByRecursion (λ x. IsFalse (stops b x)) ls
@@ -161,11 +161,11 @@ is_fence fence.Backticks (line n t i (Fenced fence.Backticks m)) = true
 is_fence _ _ = false
 
 -- what a line says inside a doc string whose opening line has this indent
-abbrev pub content_line : Fence → (indent : ℕ) → Line → Text
+abbrev pub content_line : Fence → (indent : ℕ) → Line → Utf8
 content_line f indent l = encode_utf8_all (doc_line_of f indent (text l))
 
 -- the lines after the opening one: the content, in which no line starts with the fence, and one that does
-pub record Closes (f : Fence) (n : ℕ) (content : Text)
+pub record Closes (f : Fence) (n : ℕ) (content : Utf8)
     (ls : List Line) (cs : List tree.Comment) : Type 0 where
   pub inside : List Line
   pub close : Line
@@ -174,7 +174,7 @@ pub record Closes (f : Fence) (n : ℕ) (content : Text)
   pub open_yet : AllByRecursion (λ l. IsFalse (is_fence f l)) inside
   pub closed : IsTrue (is_fence f close)
   pub value : content ≡ join_with_byte line_feed (map (content_line f n) inside)
-  pub behind : IsGap gap cs
+  pub gap_after : IsGap gap cs
 
 -- an opening line, and what closes it (`gherkin.berp`: DocString)
 abbrev pub IsDocString : DocString → Piece
@@ -241,7 +241,7 @@ abbrev pub IsPlainGap : Piece
 IsPlainGap ls cs = AllByRecursion (λ l. IsFalse (is_language l)) ls × IsGap ls cs
 
 -- the one language
-abbrev pub english : Text
+abbrev pub english : Utf8
 english = codes "en"
 
 -- a language line, whose word is `en`

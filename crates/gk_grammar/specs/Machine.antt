@@ -9,7 +9,7 @@ use Rattle.gk_document.specs.declared.tree.Fence.{Fence}
 use Rattle.gk_document.specs.declared.tree.KeywordType.{KeywordType}
 use Rattle.gk_grammar.specs.declared.fault.FaultKind.{FaultKind}
 use Rattle.gk_grammar.specs.declared.fault.FaultKind.TheVariants as kind
-use Rattle.gk_grammar.specs.Token.{Text, TagText, Blank, Comment, Language, Tags, Title, Step, Row, Fenced, Line, line}
+use Rattle.gk_grammar.specs.Token.{Utf8, TagText, Blank, Comment, Language, Tags, Title, Step, Row, Fenced, Line, line}
 use Rattle.gk_grammar.specs.Tree as tree
 use Rattle.gk_grammar.specs.Tree.{Location, Tag, DocString, Argument}
 use Rattle.gk_document.specs.declared.tree.Argument.TheVariants.{Table, Text as Quoted}
@@ -28,16 +28,16 @@ pub record FlatBlock : Type 0 where
   pub node : ℕ
   pub place : Location
   pub tags : List Tag
-  pub keyword : Text
-  pub name : Text
-  pub description : Text
+  pub keyword : Utf8
+  pub name : Utf8
+  pub description : Utf8
   pub body : Body
 
 -- an open doc string
 pub record OpenDocString : Type 0 where
   pub place : Location
   pub fence : Fence
-  pub media : Text
+  pub media : Utf8
   pub indent : ℕ
 
 pub data Phase : Type 0 where
@@ -64,7 +64,7 @@ pub record State : Type 0 where
   pub phase : Phase
 
 -- the fault at which the pass stops
-pub record Bad : Type 0 where
+pub record PlacedFault : Type 0 where
   pub kind : FaultKind
   pub line : ℕ
   pub column : ℕ
@@ -98,11 +98,11 @@ tags_from n node (w ∷ ws) =
     ∷ tags_from n (node + 1) ws
 
 -- line n, whose indent is i, is not allowed here
-abbrev unexpected : ℕ → ℕ → Result State Bad
+abbrev unexpected : ℕ → ℕ → Result State PlacedFault
 unexpected n i = Err (record { kind = kind.Unexpected; line = n; column = i + 1 })
 
 -- a tag line with white space in the tag at this column
-abbrev spaced_tag : ℕ → ℕ → Result State Bad
+abbrev spaced_tag : ℕ → ℕ → Result State PlacedFault
 spaced_tag n column = Err (record { kind = kind.TagSpace; line = n; column = column })
 
 -- a comment or a blank line
@@ -118,7 +118,7 @@ empty_body block.Scenario = Steps []
 empty_body block.Examples = Rows []
 
 -- the block of a title line, without its description and what is below it
-abbrev pub new_block : ℕ → Block → List Tag → ℕ → ℕ → (k m : Text) → FlatBlock
+abbrev pub new_block : ℕ → Block → List Tag → ℕ → ℕ → (k m : Utf8) → FlatBlock
 new_block node b tags n i k m = record {
   block = b;
   node = node;
@@ -131,7 +131,7 @@ new_block node b tags n i k m = record {
 }
 
 -- a title line
-abbrev pub open_block : State → Block → List Tag → ℕ → ℕ → (k m : Text) → State
+abbrev pub open_block : State → Block → List Tag → ℕ → ℕ → (k m : Utf8) → State
 open_block s b tags n i k m = record s {
   nodes = s.nodes + own_node b;
   phase = InDescription (new_block s.nodes b tags n i k m) [];
@@ -153,7 +153,7 @@ abbrev pub add_node : State → Phase → State
 add_node s phase = record s { nodes = s.nodes + 1; phase = phase }
 
 -- a line after a whole block, which isn't part of it
-abbrev pub close_block : State → FlatBlock → Line → Result State Bad
+abbrev pub close_block : State → FlatBlock → Line → Result State PlacedFault
 close_block s c (line n t i (Tags (Ok words))) =
     Ok (add_tags (add_block s c) (Some c.block) [] n words)
 close_block s c (line n t i (Tags (Err column))) = spaced_tag n column
@@ -163,7 +163,7 @@ close_block s c (line n t i (Title b k m)) =
 close_block s c (line n t i _) = unexpected n i
 
 -- the step of a step line
-abbrev pub step_at : State → ℕ → ℕ → (k : Text) → KeywordType → (m : Text) → tree.Step
+abbrev pub step_at : State → ℕ → ℕ → (k : Utf8) → KeywordType → (m : Utf8) → tree.Step
 step_at s n i k y m = record {
   node = s.nodes;
   location = at n (i + 1);
@@ -182,7 +182,7 @@ abbrev pub with_description : FlatBlock → List Line → FlatBlock
 with_description c ls = record c { description = description_of ls }
 
 -- the first line after a description
-abbrev pub after_description : State → FlatBlock → Line → Result State Bad
+abbrev pub after_description : State → FlatBlock → Line → Result State PlacedFault
 after_description s c (line n t i (Step k y m)) =
     Ok (add_node s (AfterStep c [] (step_at s n i k y m)))
 after_description s c (line n t i (Row cells)) =
@@ -202,7 +202,7 @@ count_of (r ∷ rs) = length r.cells
 
 -- a row after rows
 abbrev pub another_row : State → (List tree.Row → Phase) → List tree.Row
-    → ℕ → ℕ → List Cell → Result State Bad
+    → ℕ → ℕ → List Cell → Result State PlacedFault
 another_row s phase rows n i cells =
     if length cells == count_of rows
     then Ok (add_node s (phase (rows ++ row_at s n i cells ∷ [])))
@@ -213,19 +213,19 @@ with_table last rows = record last { argument = Some (Table rows) }
 
 -- a row after a step
 abbrev pub step_row : State → FlatBlock → List tree.Step → tree.Step → Option Argument
-    → ℕ → ℕ → List Cell → Result State Bad
+    → ℕ → ℕ → List Cell → Result State PlacedFault
 step_row s c before last None n i cells =
     Ok (add_node s (AfterStep c before (with_table last (row_at s n i cells ∷ []))))
 step_row s c before last (Some (Table rows)) n i cells =
     another_row s (λ rs. AfterStep c before (with_table last rs)) rows n i cells
 step_row s c before last (Some (Quoted d)) n i cells = unexpected n i
 
-abbrev pub open_doc_string : ℕ → ℕ → Fence → Text → OpenDocString
+abbrev pub open_doc_string : ℕ → ℕ → Fence → Utf8 → OpenDocString
 open_doc_string n i f media = record { place = at n (i + 1); fence = f; media = media; indent = i }
 
 -- a fence after a step
 abbrev pub step_fence : State → FlatBlock → List tree.Step → tree.Step → Option Argument
-    → ℕ → ℕ → Fence → Text → Result State Bad
+    → ℕ → ℕ → Fence → Utf8 → Result State PlacedFault
 step_fence s c before last None n i f media =
     Ok (record s { phase = InDocString c before last (open_doc_string n i f media) [] })
 step_fence s c before last (Some a) n i f media = unexpected n i
@@ -243,7 +243,7 @@ abbrev pub with_doc_string : tree.Step → OpenDocString → List Line → tree.
 with_doc_string last q inside = record last { argument = Some (Quoted (doc_string q inside)) }
 
 -- a line after steps
-abbrev pub after_step : State → FlatBlock → List tree.Step → tree.Step → Line → Result State Bad
+abbrev pub after_step : State → FlatBlock → List tree.Step → tree.Step → Line → Result State PlacedFault
 after_step s c before last (line n t i (Step k y m)) =
     Ok (add_node s (AfterStep c (before ++ last ∷ []) (step_at s n i k y m)))
 after_step s c before last (line n t i (Row cells)) =
@@ -259,7 +259,7 @@ after_step s c before last (line n t i (Language w)) =
 after_step s c before last l = close_block s (with_steps c (before ++ last ∷ [])) l
 
 -- a line after rows of an examples table
-abbrev pub in_examples_table : State → FlatBlock → List tree.Row → Line → Result State Bad
+abbrev pub in_examples_table : State → FlatBlock → List tree.Row → Line → Result State PlacedFault
 in_examples_table s c rows (line n t i (Row cells)) =
     another_row s (λ rs. InExamplesTable c rs) rows n i cells
 in_examples_table s c rows (line n t i Blank) =
@@ -271,7 +271,7 @@ in_examples_table s c rows (line n t i (Language w)) =
 in_examples_table s c rows l = close_block s (with_rows c rows) l
 
 -- before the first tag line or feature line
-abbrev pub before_first_block : State → Phase → Line → Result State Bad
+abbrev pub before_first_block : State → Phase → Line → Result State PlacedFault
 before_first_block s p (line n t i Blank) = Ok (pass_over s p (line n t i Blank))
 before_first_block s p (line n t i Comment) = Ok (pass_over s p (line n t i Comment))
 before_first_block s p (line n t i (Tags (Ok words))) = Ok (add_tags s None [] n words)
@@ -280,26 +280,26 @@ before_first_block s p (line n t i (Title block.Feature k m)) =
     Ok (open_block s block.Feature [] n i k m)
 before_first_block s p (line n t i _) = unexpected n i
 
-abbrev pub same_text : Text → Text → Bool
+abbrev pub same_text : Utf8 → Utf8 → Bool
 same_text [] [] = true
 same_text (x ∷ xs) (y ∷ ys) = if x == y then same_text xs ys else false
 same_text _ _ = false
 
 -- where a language line still counts
-abbrev pub at_start : State → Line → Result State Bad
+abbrev pub at_start : State → Line → Result State PlacedFault
 at_start s (line n t i (Language w)) =
     if same_text w english then Ok (record s { phase = AfterLanguage })
     else Err (record { kind = kind.UnsupportedLanguage; line = n; column = i + 1 })
 at_start s l = before_first_block s Start l
 
 -- after the language line
-abbrev pub after_language : State → Line → Result State Bad
+abbrev pub after_language : State → Line → Result State PlacedFault
 after_language s (line n t i (Language w)) =
     Ok (pass_over s AfterLanguage (line n t i (Language w)))
 after_language s l = before_first_block s AfterLanguage l
 
 -- a line after tag lines
-abbrev pub after_tags : State → Option Block → List Tag → Line → Result State Bad
+abbrev pub after_tags : State → Option Block → List Tag → Line → Result State PlacedFault
 after_tags s before tags (line n t i Blank) =
     Ok (pass_over s (AfterTags before tags) (line n t i Blank))
 after_tags s before tags (line n t i Comment) =
@@ -315,7 +315,7 @@ after_tags s before tags (line n t i (Title b k m)) =
 after_tags s before tags (line n t i _) = unexpected n i
 
 -- one line
-abbrev pub at_phase : State → Phase → Line → Result State Bad
+abbrev pub at_phase : State → Phase → Line → Result State PlacedFault
 at_phase s Start l = at_start s l
 at_phase s AfterLanguage l = after_language s l
 at_phase s (AfterTags before tags) l = after_tags s before tags l
@@ -329,7 +329,7 @@ at_phase s (InDocString c before last q inside) l =
     else Ok (record s { phase = InDocString c before last q (inside ++ l ∷ []) })
 at_phase s (InExamplesTable c rows) l = in_examples_table s c rows l
 
-abbrev pub next : State → Line → Result State Bad
+abbrev pub next : State → Line → Result State PlacedFault
 next s l = at_phase s s.phase l
 
 -- the whole flat blocks at the end, or none where something is open
@@ -343,12 +343,12 @@ blocks_at_end (InDocString c before last q inside) = None
 blocks_at_end (InExamplesTable c rows) = Some (with_rows c rows ∷ [])
 
 infixl 10 ◌>>=◌
-abbrev pub ◌>>=◌ : {A B : Type 0} → Result A Bad → (A → Result B Bad) → Result B Bad
+abbrev pub ◌>>=◌ : {A B : Type 0} → Result A PlacedFault → (A → Result B PlacedFault) → Result B PlacedFault
 (Ok x) >>= f = f x
 (Err e) >>= f = Err e
 
 -- the state after some lines
-abbrev pub run : State → List Line → Result State Bad
+abbrev pub run : State → List Line → Result State PlacedFault
 run s [] = Ok s
 run s (l ∷ ls) = next s l >>= λ x. run x ls
 

@@ -41,7 +41,7 @@ pub record IsFirstBad (ls : List Line) (n : ℕ) : Type 0 where
 
 -- every first lines are a front, but the whole is no text
 pub record IsOpenAtEnd (ls : List Line) (n : ℕ) : Type 0 where
-  pub behind : n ≡ length ls + 1
+  pub past_end : n ≡ length ls + 1
   pub fronts : (m : ℕ) → 1 ≤ m → m ≤ length ls → IsFront (take m ls)
   pub open_yet : IsText ls → ⊥
 
@@ -79,8 +79,8 @@ pub record IsFaultWithin (ls : List Line) (k : FaultKind) (n column : ℕ) : Typ
   pub place : IsFirstBad ls n
   pub before : List Line
   pub at : Line
-  pub behind : List Line
-  pub cut : ls ≡ before ++ at ∷ behind
+  pub later : List Line
+  pub cut : ls ≡ before ++ at ∷ later
   pub here : length before + 1 ≡ n
   pub what : IsFaultAt before at k column
 

@@ -14,12 +14,12 @@ use Rattle.gk_document.specs.declared.tree.KeywordType.{KeywordType}
 use Rattle.gk_document.specs.declared.tree.Fence.{Fence}
 
 -- a text, by its bytes
-abbrev pub Text : Type 0
-Text = List ℕ
+abbrev pub Utf8 : Type 0
+Utf8 = List ℕ
 
 -- a tag without its `@`, and the column of the `@`
 pub record TagText : Type 0 where
-  pub word : Text
+  pub word : Utf8
   pub column : ℕ
 
 -- What a line is read as, after its indent. The kinds exclude each other; a language line is the one comment that can be more.
@@ -27,13 +27,13 @@ pub data Token : Type 0 where
   Blank : Token
   Comment : Token
   -- the word
-  Language : Text → Token
+  Language : Utf8 → Token
   -- the tags, or the column of the first `@` whose piece has white space in it
   Tags : Result (List TagText) ℕ → Token
-  Title : Block → (keyword name : Text) → Token
-  Step : (keyword : Text) → KeywordType → (text : Text) → Token
+  Title : Block → (keyword name : Utf8) → Token
+  Step : (keyword : Utf8) → KeywordType → (text : Utf8) → Token
   Row : List Cell → Token
-  Fenced : Fence → (media : Text) → Token
+  Fenced : Fence → (media : Utf8) → Token
   Other : Token
 
 -- ---- what characters are read as
@@ -104,7 +104,7 @@ abbrev pub token : Line → Token
 token (line n t i k) = k
 
 -- the bytes
-abbrev pub bytes : Line → Text
+abbrev pub bytes : Line → Utf8
 bytes l = encode_utf8_all (text l)
 
 -- a comment, also a language line

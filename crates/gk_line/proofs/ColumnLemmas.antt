@@ -11,7 +11,7 @@ use Rattle.gk_line.specs.Characters.{at_sign, vertical_bar}
 use Rattle.gk_line.specs.Texts.{after, trimmed}
 use Rattle.gk_line.specs.Cells.{CellUnit, CellText, units, width, widths, is_bar, is_space, cells_from, cells_of, without_first}
 use Rattle.gk_line.specs.Tags.{uncommented, pieces_from, tag_pieces, tags_of, is_tag}
-use Rattle.gk_line.specs.Places.{StandsAt, RiseWithin}
+use Rattle.gk_line.specs.Places.{IsAtColumn, RiseWithin}
 use Rattle.gk_line.specs.Columns.{TagColumnsRise, CellColumnsRise}
 use Rattle.gk_line.specs.Views.{tag_word}
 use Rattle.gk_line.specs.declared.tokens.TagText.{TagText}
@@ -19,7 +19,7 @@ use Rattle.gk_line.proofs.TagLemmas.{test_cases}
 use Rattle.gk_line.proofs.PlaceLemmas.{trimmed-split}
 use Rattle.gk_line.proofs.UnitLemmas.{widths-units}
 
--- pieces, each behind the character that it was cut at
+-- pieces, each after the character that it was cut at
 abbrev pub joined : ℕ → List (List ℕ) → List ℕ
 joined at [] = []
 joined at (piece ∷ pieces) = at ∷ (piece ++ joined at pieces)
@@ -35,10 +35,10 @@ split-joined at (c ∷ cs) =
     (λ e. ([], more.0 ∷ more.1, rw (e, more.2) refl, ap (λ q. q ∷ cs) (eqb-true c at e) ∙ ap (λ q. at ∷ q) more.3))
     (λ e. (c ∷ more.0, more.1, onto_first-cons (λ d. d == at) c cs more.0 more.1 e more.2, ap (λ q. c ∷ q) more.3))
 
--- each piece stands behind its `@`
-pieces-stand : (line front back : List ℕ) (pieces : List (List ℕ)) → line ≡ front ++ (joined at_sign pieces ++ back) → AllByRecursion (λ tag. StandsAt line (codes "@") tag.word tag.column) (pieces_from (length front + 1) pieces)
-pieces-stand line front back [] e = tt
-pieces-stand line front back (piece ∷ pieces) e =
+-- each piece comes after its `@`
+pieces-placed : (line front back : List ℕ) (pieces : List (List ℕ)) → line ≡ front ++ (joined at_sign pieces ++ back) → AllByRecursion (λ tag. IsAtColumn line (codes "@") tag.word tag.column) (pieces_from (length front + 1) pieces)
+pieces-placed line front back [] e = tt
+pieces-placed line front back (piece ∷ pieces) e =
     let text = trimmed-split piece in
     let rest = joined at_sign pieces ++ back in
     let inner : (piece ++ joined at_sign pieces) ++ back ≡ text.0 ++ (trimmed piece ++ (text.1 ++ rest)) =
@@ -54,7 +54,7 @@ pieces-stand line front back (piece ∷ pieces) e =
         is_gap = text.3;
         is_column = refl;
       },
-      subst (λ n. AllByRecursion (λ tag. StandsAt line (codes "@") tag.word tag.column) (pieces_from n pieces)) column (pieces-stand line (front ++ at_sign ∷ piece) back pieces next),
+      subst (λ n. AllByRecursion (λ tag. IsAtColumn line (codes "@") tag.word tag.column) (pieces_from n pieces)) column (pieces-placed line (front ++ at_sign ∷ piece) back pieces next),
     )
 
 uncommented-split : (line : List ℕ) → (back : List ℕ) × (line ≡ uncommented line ++ back)
@@ -86,16 +86,16 @@ filter-all P test (x ∷ xs) h =
     (λ e. subst (λ b. AllByRecursion P (cond b (x ∷ filter test xs) (filter test xs))) (sym e) (h.0, filter-all P test xs h.1))
     (λ e. subst (λ b. AllByRecursion P (cond b (x ∷ filter test xs) (filter test xs))) (sym e) (filter-all P test xs h.1))
 
-pub tags-stand : (line : List ℕ) → AllByRecursion (λ tag. StandsAt line (codes "@") tag.word tag.column) (tags_of line)
+pub tags-placed : (line : List ℕ) → AllByRecursion (λ tag. IsAtColumn line (codes "@") tag.word tag.column) (tags_of line)
 unfolding tags_of
-tags-stand line =
+tags-placed line =
     let cut = tag_pieces-cut line in
-    filter-all _ is_tag (tag_pieces line) (subst (AllByRecursion (λ tag. StandsAt line (codes "@") tag.word tag.column)) (sym cut.3) (pieces-stand line cut.0 cut.2 cut.1 cut.4))
+    filter-all _ is_tag (tag_pieces line) (subst (AllByRecursion (λ tag. IsAtColumn line (codes "@") tag.word tag.column)) (sym cut.3) (pieces-placed line cut.0 cut.2 cut.1 cut.4))
 
 -- the same of what the code returns
-pub tags-place : (tags : List TagText) (line : List ℕ) → map tag_word tags ≡ tags_of line → AllByRecursion (λ tag. StandsAt line (codes "@") (chars tag.word.now) tag.column) tags
-tags-place tags line e = each tags (subst (AllByRecursion (λ tag. StandsAt line (codes "@") tag.word tag.column)) (sym e) (tags-stand line)) where
-  each : (tags : List TagText) → AllByRecursion (λ tag. StandsAt line (codes "@") tag.word tag.column) (map tag_word tags) → AllByRecursion (λ tag. StandsAt line (codes "@") (chars tag.word.now) tag.column) tags
+pub tags-place : (tags : List TagText) (line : List ℕ) → map tag_word tags ≡ tags_of line → AllByRecursion (λ tag. IsAtColumn line (codes "@") (chars tag.word.now) tag.column) tags
+tags-place tags line e = each tags (subst (AllByRecursion (λ tag. IsAtColumn line (codes "@") tag.word tag.column)) (sym e) (tags-placed line)) where
+  each : (tags : List TagText) → AllByRecursion (λ tag. IsAtColumn line (codes "@") tag.word tag.column) (map tag_word tags) → AllByRecursion (λ tag. IsAtColumn line (codes "@") (chars tag.word.now) tag.column) tags
   each [] h = tt
   each (tag ∷ tags) h = (h.0, each tags h.1)
 
@@ -127,7 +127,7 @@ tag_columns_rise line =
     let pieces = pieces-rise 1 (length line) (length cut.0 + 1) cut.1 (omega arith) (omega (arith, long)) in
     filter-rise (λ tag. tag.column) is_tag 1 1 (length line) (tag_pieces line) (omega arith) (subst (λ q. RiseWithin 1 (length line) (map (λ tag. tag.column) q)) (sym cut.3) pieces)
 
--- how far the parts of a row reach, each with the bar behind it
+-- how far the parts of a row reach, each with the bar after it
 abbrev pub reach : List (List CellUnit) → ℕ
 reach [] = 0
 reach (part ∷ parts) = widths part + 1 + reach parts

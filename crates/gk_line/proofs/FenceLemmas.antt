@@ -39,7 +39,7 @@ alone_step mark tail next is none =
     let other : None ≡ after (escaped_mark mark) (backslash ∷ next) = none ∙ ap (λ q. after q (backslash ∷ next)) is in
     ap (λ o. if is_some o then mark ∷ mark ∷ mark ∷ fences_unescaped mark 5 next else backslash ∷ fences_unescaped mark 0 next) (sym other)
 
--- past a backslash, for which a piece stands
+-- past a backslash, which a piece replaces
 pub turn : (mark : ℕ) (old mid new piece text front next rest whole : List ℕ) → IsUtf8 old → mid ≡ old ++ front → chars new ≡ chars mid ++ piece → IsCutAt backslash (chars text) (chars front) next → fences_unescaped mark 0 (backslash ∷ next) ≡ piece ++ fences_unescaped mark 0 rest → chars old ++ fences_unescaped mark 0 (chars text) ≡ whole → chars new ++ fences_unescaped mark 0 rest ≡ whole
 turn mark old mid new piece text front next rest whole u is_mid is_new cut step inv =
     let later = fences_unescaped mark 0 rest in
@@ -62,7 +62,7 @@ last mark old new rest whole u grown none inv =
 
 -- ---- room for a piece: what is added for a text is no longer than the text
 
--- there is room for what stands before a backslash, for the backslash, and for what comes after it
+-- there is room for what is before a backslash, for the backslash, and for what comes after it
 pub room_at_cut : (size capacity : ℕ) (text front next : List ℕ) → text ≡ front ++ backslash ∷ next → size + length text ≤ capacity → size + length front + suc (length next) ≤ capacity
 room_at_cut size capacity text front next is room =
     let parts : length text ≡ length front + suc (length next) = ap length is ∙ length-append front (backslash ∷ next) in

@@ -1,4 +1,4 @@
--- Kinds of a line: what each begins with, behind the indent, is no front of what another begins with.
+-- Kinds of a line: what each begins with, after the indent, is no front of what another begins with.
 use Rattle.std.proofs.Common.{◌≡◌, ℕ, Bool, true, false, cond, List, [], ◌∷◌, ◌++◌, Option, Some, None, sym, refl, ap, ◌∙◌, subst, codes, inl, inr, ⊎_elim}
 use Rattle.std.specs.Prelude.{◌&&◌, ◌||◌, ◌==◌, not, map, is_some, if◌then◌else◌, ◌⊎◌}
 use Rattle.std.specs.Char.{is_whitespace}

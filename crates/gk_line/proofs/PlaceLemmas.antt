@@ -1,4 +1,4 @@
--- Where the texts of titles, steps, fences and language lines stand.
+-- Where the texts of titles, steps, fences and language lines are.
 use Rattle.std.proofs.Common.{◌≡◌, ℕ, ◌+◌, true, cond, List, [], ◌∷◌, ◌++◌, length, Option, Some, None, sym, refl, ap, ◌∙◌, subst, arith, length-append, codes}
 use Rattle.std.specs.Prelude.{◌&&◌, ◌==◌}
 use Rattle.std.specs.Char.{is_whitespace}
@@ -8,7 +8,7 @@ use Rattle.std.specs.Str.{skip_leading_whitespace, drop_trailing_whitespace}
 use Rattle.std.proofs.lemmas.List.{append_assoc}
 use Rattle.gk_line.specs.Texts.{after, body_of, trimmed, first_some, or_else}
 use Rattle.gk_line.specs.Tokens.{TitleText, StepText, title_of, step_of, keywords, step_words, indent_of}
-use Rattle.gk_line.specs.Places.{StandsAt}
+use Rattle.gk_line.specs.Places.{IsAtColumn}
 use Rattle.gk_line.specs.declared.tokens.Block.{Block}
 use Rattle.gk_line.proofs.TextLemmas.{after-some}
 use Rattle.gk_line.proofs.TagLemmas.{test_cases}
@@ -48,10 +48,10 @@ trimmed-split text =
     let end = drop-split (skip_leading_whitespace text) in
     (front.0, end.0, front.1 ∙ ap (λ q. front.0 ++ q) end.1, front.2)
 
--- the mark that a line begins with, and the text behind it
-pub stands-body : (line mark rest : List ℕ) → after mark (body_of line) ≡ Some rest → StandsAt line mark (trimmed rest) (indent_of line + 1)
+-- the mark that a line begins with, and the text after it
+pub placed-body : (line mark rest : List ℕ) → after mark (body_of line) ≡ Some rest → IsAtColumn line mark (trimmed rest) (indent_of line + 1)
 unfolding body_of indent_of
-stands-body line mark rest e =
+placed-body line mark rest e =
     let front = skip-split line in
     let text = trimmed-split rest in
     record {
@@ -64,13 +64,13 @@ stands-body line mark rest e =
     }
 
 -- the same of what was read
-pub stands-read : (line body mark rest text : List ℕ) (column : ℕ) → body ≡ body_of line → Some rest ≡ after mark body → text ≡ trimmed rest → column ≡ indent_of line + 1 → StandsAt line mark text column
-stands-read line body mark rest text column is_body is_rest is_text is_column =
-    rw (is_text, is_column) (stands-body line mark rest (ap (after mark) (sym is_body) ∙ sym is_rest))
+pub placed-read : (line body mark rest text : List ℕ) (column : ℕ) → body ≡ body_of line → Some rest ≡ after mark body → text ≡ trimmed rest → column ≡ indent_of line + 1 → IsAtColumn line mark text column
+placed-read line body mark rest text column is_body is_rest is_text is_column =
+    rw (is_text, is_column) (placed-body line mark rest (ap (after mark) (sym is_body) ∙ sym is_rest))
 
--- behind more text the columns are higher
-stands-behind : (line front part mark text : List ℕ) (column : ℕ) → line ≡ front ++ part → StandsAt part mark text column → StandsAt line mark text (length front + column)
-stands-behind line front part mark text column e s = record {
+-- after more text the columns are higher
+placed-after : (line front part mark text : List ℕ) (column : ℕ) → line ≡ front ++ part → IsAtColumn part mark text column → IsAtColumn line mark text (length front + column)
+placed-after line front part mark text column e s = record {
   front = front ++ s.front;
   gap = s.gap;
   back = s.back;
@@ -79,20 +79,20 @@ stands-behind line front part mark text column e s = record {
   is_column = omega (arith, s.is_column, length-append front s.front);
 }
 
--- what follows the mark that a text begins with, behind its indent
+-- what follows the mark that a text begins with, after its indent
 after-split : (text body mark rest : List ℕ) → body ≡ body_of text → Some rest ≡ after mark body → (front : List ℕ) × (text ≡ front ++ rest)
 unfolding body_of
 after-split text body mark rest is e =
     let front = skip-split text in
     (front.0 ++ mark, front.1 ∙ ap (λ q. front.0 ++ q) (sym is ∙ after-some mark body rest (sym e)) ∙ sym (append_assoc front.0 mark rest))
 
--- the word of a language line, behind its colon
-pub language-stands : (line line_body mark mark_body name name_body rest word : List ℕ) → line_body ≡ body_of line → Some mark ≡ after (codes "#") line_body → mark_body ≡ body_of mark → Some name ≡ after (codes "language") mark_body → name_body ≡ body_of name → Some rest ≡ after (codes ":") name_body → word ≡ trimmed rest → (column : ℕ) × StandsAt line (codes ":") word column
-language-stands line line_body mark mark_body name name_body rest word is_line is_mark is_mark_body is_name is_name_body is_rest is_word =
+-- the word of a language line, after its colon
+pub language-placed : (line line_body mark mark_body name name_body rest word : List ℕ) → line_body ≡ body_of line → Some mark ≡ after (codes "#") line_body → mark_body ≡ body_of mark → Some name ≡ after (codes "language") mark_body → name_body ≡ body_of name → Some rest ≡ after (codes ":") name_body → word ≡ trimmed rest → (column : ℕ) × IsAtColumn line (codes ":") word column
+language-placed line line_body mark mark_body name name_body rest word is_line is_mark is_mark_body is_name is_name_body is_rest is_word =
     let first = after-split line line_body (codes "#") mark is_line is_mark in
     let second = after-split mark mark_body (codes "language") name is_mark_body is_name in
     let whole : line ≡ (first.0 ++ second.0) ++ name = first.1 ∙ ap (λ q. first.0 ++ q) second.1 ∙ sym (append_assoc first.0 second.0 name) in
-    (length (first.0 ++ second.0) + (indent_of name + 1), stands-behind line (first.0 ++ second.0) name (codes ":") word _ whole (stands-read name name_body (codes ":") rest word _ is_name_body is_rest is_word refl))
+    (length (first.0 ++ second.0) + (indent_of name + 1), placed-after line (first.0 ++ second.0) name (codes ":") word _ whole (placed-read name name_body (codes ":") rest word _ is_name_body is_rest is_word refl))
 
 none-some : {T : Type 0} {x : T} → None ≡ Some x → ⊥
 none-some e = cc
@@ -113,16 +113,16 @@ option_map-found : {A B : Type 0} (P : B → Type 0) (g : A → B) (o : Option A
 option_map-found P g None h y e = absurd (none-some e)
 option_map-found P g (Some a) h y e = subst P (some-same e) (h a refl)
 
-pub title-stands : (block : Block) (line : List ℕ) (t : TitleText) → title_of block line ≡ Some t → StandsAt line (t.keyword ++ codes ":") t.name t.column
+pub title-placed : (block : Block) (line : List ℕ) (t : TitleText) → title_of block line ≡ Some t → IsAtColumn line (t.keyword ++ codes ":") t.name t.column
 unfolding title_of
-title-stands block line t e =
-    first_some-found (λ (t : TitleText). StandsAt line (t.keyword ++ codes ":") t.name t.column) _ (keywords block)
-    (λ k y h. option_map-found (λ (t : TitleText). StandsAt line (t.keyword ++ codes ":") t.name t.column) _ (after (k ++ codes ":") (body_of line)) (λ rest is. stands-body line (k ++ codes ":") rest is) y h)
+title-placed block line t e =
+    first_some-found (λ (t : TitleText). IsAtColumn line (t.keyword ++ codes ":") t.name t.column) _ (keywords block)
+    (λ k y h. option_map-found (λ (t : TitleText). IsAtColumn line (t.keyword ++ codes ":") t.name t.column) _ (after (k ++ codes ":") (body_of line)) (λ rest is. placed-body line (k ++ codes ":") rest is) y h)
     t e
 
-pub step-stands : (line : List ℕ) (s : StepText) → step_of line ≡ Some s → StandsAt line s.keyword s.text s.column
+pub step-placed : (line : List ℕ) (s : StepText) → step_of line ≡ Some s → IsAtColumn line s.keyword s.text s.column
 unfolding step_of
-step-stands line s e =
-    first_some-found (λ (s : StepText). StandsAt line s.keyword s.text s.column) _ step_words
-    (λ w y h. option_map-found (λ (s : StepText). StandsAt line s.keyword s.text s.column) _ (after (w.0 ++ codes " ") (body_of line)) (λ rest is. stands-body line (w.0 ++ codes " ") rest is) y h)
+step-placed line s e =
+    first_some-found (λ (s : StepText). IsAtColumn line s.keyword s.text s.column) _ step_words
+    (λ w y h. option_map-found (λ (s : StepText). IsAtColumn line s.keyword s.text s.column) _ (after (w.0 ++ codes " ") (body_of line)) (λ rest is. placed-body line (w.0 ++ codes " ") rest is) y h)
     s e

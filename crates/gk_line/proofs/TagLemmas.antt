@@ -13,8 +13,8 @@ use Rattle.gk_line.specs.Cells.{without_first}
 use Rattle.gk_line.specs.Tags.{uncommented, TagWord, piece_at, pieces_from, tag_pieces, is_tag, has_space}
 use Rattle.gk_line.specs.Views.{tag_word, IsTagFault}
 use Rattle.gk_line.specs.declared.tokens.TagText.{TagText}
-use Rattle.gk_line.specs.declared.tokens.LineFault.{LineFault}
-use Rattle.gk_line.specs.declared.tokens.LineFault.TheVariants.{TagSpace, Memory}
+use Rattle.gk_line.specs.declared.tokens.TagFault.{TagFault}
+use Rattle.gk_line.specs.declared.tokens.TagFault.TheVariants.{TagSpace, Memory}
 use Rattle.gk_line.proofs.TextLemmas.{is_empty_chars, after-some}
 use Rattle.gk_line.proofs.LineLemmas.{split_at, split_none}
 use Rattle.gk_line.specs.Characters.{at_sign, number_sign}
@@ -138,13 +138,13 @@ turn_spaced column count text front rest o cut plain long inv =
     ∙ ap (λ n. find has_space (pieces_from n (slice_split (λ c. c == at_sign) rest))) next
 
 -- a fault of the first piece is the line's
-pub fault_first : (fault : LineFault) (p : TagWord) (ps : List TagWord) (o : Option TagWord) → IsTagFault fault (find has_space (p ∷ [])) → o ≡ find has_space (p ∷ ps) → IsTagFault fault o
+pub fault_first : (fault : TagFault) (p : TagWord) (ps : List TagWord) (o : Option TagWord) → IsTagFault fault (find has_space (p ∷ [])) → o ≡ find has_space (p ∷ ps) → IsTagFault fault o
 fault_first Memory p ps o h e = tt
 fault_first (TagSpace column) p ps o h e = ap (option_map (λ q. q.column)) e ∙ by_test (has_space p) h where
   by_test : (b : Bool) → option_map (λ q. q.column) (cond b (Some p) None) ≡ Some column → option_map (λ q. q.column) (cond b (Some p) (find has_space ps)) ≡ Some column
   by_test true h = h
   by_test false h = absurd (cc)
 
-pub carried : {T : Type 0} (r : Result T LineFault) (e : LineFault) (o : Option TagWord) → IsErrAnd r (λ f. f ≡ e) → IsTagFault e o → IfErr r (λ f. IsTagFault f o)
+pub carried : {T : Type 0} (r : Result T TagFault) (e : TagFault) (o : Option TagWord) → IsErrAnd r (λ f. f ≡ e) → IsTagFault e o → IfErr r (λ f. IsTagFault f o)
 carried (Ok v) e o h t = tt
 carried (Err f) e o h t = subst (λ q. IsTagFault q o) (sym h) t

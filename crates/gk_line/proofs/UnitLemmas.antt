@@ -19,7 +19,7 @@ use Rattle.gk_line.proofs.TextLemmas.{after-some}
 use Rattle.gk_line.specs.Cells.{CellText, CellUnit, plain, pair, escaped, unit_or, units, is_bar, is_space, skip_spaces, drop_spaces, widths, meanings, NoBar, IsCutAtBar, cell_at, cells_from, cells_of, without_first}
 use Rattle.gk_line.specs.Characters.{backslash, letter_n, line_feed, vertical_bar}
 
--- the units that begin here, where a backslash stands just before or not
+-- the units that begin here, where a backslash is just before or not
 abbrev pub run : List ℕ → Bool → List CellUnit
 run [] false = []
 run [] true = plain backslash ∷ []
@@ -153,7 +153,7 @@ reads_part : (front p : List ℕ) (us : List CellUnit) → Reads front us → No
 reads_part front p us r back =
     units-run (front ++ p) ∙ ap (λ q. run (front ++ q) false) (sym (append-nil p)) ∙ r.on (p ++ []) ∙ ap (λ q. us ++ q) (run-plain p [] back ∙ append-nil (map plain p))
 
--- up to a bar that stands by itself
+-- up to a bar that no backslash precedes
 pub Reads-bar : (front p more : List ℕ) (us : List CellUnit) → Reads front us → NonePass (λ c. c == backslash) p → NonePass (λ c. c == vertical_bar) p → IsCutAtBar (units (front ++ (p ++ vertical_bar ∷ more))) (units (front ++ p)) (units more)
 Reads-bar front p more us r back bar =
     let part = reads_part front p us r back in

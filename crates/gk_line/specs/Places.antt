@@ -5,7 +5,7 @@ use Rattle.std.specs.List.{list_all}
 
 -- The mark is in the line at this column, counted in characters from 1. After it, with white space between them at most, is
 -- the text.
-pub record StandsAt (line mark text : List ℕ) (column : ℕ) : Type 0 where
+pub record IsAtColumn (line mark text : List ℕ) (column : ℕ) : Type 0 where
   pub front : List ℕ
   pub gap : List ℕ
   pub back : List ℕ

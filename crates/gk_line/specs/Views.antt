@@ -1,8 +1,8 @@
 -- The lines and tokens that the code returns, with their texts as lists of characters.
 use Rattle.std.specs.Prelude.{ℕ, ◌≡◌, ⊤, List, Option, Some}
 use Rattle.std.specs.Option.{option_map}
-use Rattle.gk_line.specs.declared.tokens.LineFault.{LineFault}
-use Rattle.gk_line.specs.declared.tokens.LineFault.TheVariants.{TagSpace, Memory}
+use Rattle.gk_line.specs.declared.tokens.TagFault.{TagFault}
+use Rattle.gk_line.specs.declared.tokens.TagFault.TheVariants.{TagSpace, Memory}
 use Rattle.std.specs.Str.{chars}
 use Rattle.gk_line.specs.Cells.{CellText}
 use Rattle.gk_line.specs.Tags.{TagWord}
@@ -41,6 +41,6 @@ abbrev pub tag_word : TagText → TagWord
 tag_word t = record { word = chars t.word.now; column = t.column }
 
 -- the fault names the column of the first piece with white space in it; want of memory says nothing of the line
-abbrev pub IsTagFault : LineFault → Option TagWord → Type 0
+abbrev pub IsTagFault : TagFault → Option TagWord → Type 0
 IsTagFault (TagSpace column) piece = option_map (λ p. p.column) piece ≡ Some column
 IsTagFault Memory piece = ⊤

@@ -2,7 +2,7 @@
 ghost use Rattle.std.specs.Prelude.{◌≡◌, ◌≤◌, ◌∷◌, ◌+◌, ◌++◌, drop, length, IfOk, IsOk, OnErr, OnOk, IsTrue};
 ghost use Rattle.std.specs.Char.{is_ascii};
 ghost use Rattle.std.specs.List.{list_all};
-ghost use Rattle.std.specs.Str.{chars};
+ghost use Rattle.std.specs.Str.{chars, IsUtf8};
 ghost use Rattle.std.specs.String.{string_bytes, string_capacity, string_len};
 ghost use Rattle.gk_line.specs.declared.limit.TheConstants.{FEATURE_LIMIT};
 ghost use Rattle.gk_line.specs.DocStrings.{doc_line_of, outdented, fences_unescaped, fence_characters, fence_mark, escaped_mark};
@@ -31,8 +31,9 @@ pub fn doc_line(
     indent: u32,
 ) -> Result<String, AllocError>
     requires { length line.text.now ≤ FEATURE_LIMIT }
-    ensures { IfOk result (λ text. chars (string_bytes text)
+    ensures value { IfOk result (λ text. chars (string_bytes text)
         ≡ doc_line_of fence indent (line_chars line.entry)) }
+    ensures utf8 { IfOk result (λ text. IsUtf8 (string_bytes text)) }
 {
     let mut text = String::new(alloc);
     push_doc_line(&mut text, line, fence, indent)?;

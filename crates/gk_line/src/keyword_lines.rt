@@ -5,7 +5,7 @@ ghost use Rattle.std.specs.Str.{chars, bytes_eq, IsUtf8};
 ghost use Rattle.std.specs.Option.{option_map};
 ghost use Rattle.gk_line.specs.declared.limit.TheConstants.{FEATURE_LIMIT};
 ghost use Rattle.gk_line.specs.DocStrings.{fence_characters};
-ghost use Rattle.gk_line.specs.Places.{StandsAt};
+ghost use Rattle.gk_line.specs.Places.{IsAtColumn};
 ghost use Rattle.gk_line.specs.Tokens.{title_of, step_of, fence_of, language_of, keywords, step_words, is_language_word, is_word_character};
 ghost use Rattle.gk_line.specs.Views.{line_chars, title_text, step_text, fence_text};
 
@@ -21,7 +21,7 @@ use gk_document::{Fence, KeywordType};
 pub fn title<'a>(line: Line<'a>, block: Block) -> Option<Title<'a>>
     requires { length line.text.now ≤ FEATURE_LIMIT }
     ensures value { option_map title_text result ≡ title_of block (line_chars line.entry) }
-    ensures place { IfSome result (λ title. StandsAt (line_chars line.entry)
+    ensures place { IfSome result (λ title. IsAtColumn (line_chars line.entry)
         (chars title.keyword.now ++ codes ":") (chars title.name.now) title.column) }
     ensures utf8 { IfSome result (λ title. IsUtf8 title.keyword.now × IsUtf8 title.name.now) }
 {
@@ -61,7 +61,7 @@ fn is_keyword(block: Block, word: &str) -> bool
 pub fn step<'a>(line: Line<'a>) -> Option<StepLine<'a>>
     requires { length line.text.now ≤ FEATURE_LIMIT }
     ensures value { option_map step_text result ≡ step_of (line_chars line.entry) }
-    ensures place { IfSome result (λ step. StandsAt (line_chars line.entry)
+    ensures place { IfSome result (λ step. IsAtColumn (line_chars line.entry)
         (chars step.keyword.now) (chars step.text.now) step.column) }
     ensures utf8 { IfSome result (λ step. IsUtf8 step.keyword.now × IsUtf8 step.text.now) }
 {
@@ -103,7 +103,7 @@ fn keyword_type(word: &str) -> Option<KeywordType>
 pub fn fence<'a>(line: Line<'a>) -> Option<FenceLine<'a>>
     requires { length line.text.now ≤ FEATURE_LIMIT }
     ensures value { option_map fence_text result ≡ fence_of (line_chars line.entry) }
-    ensures place { IfSome result (λ fence. StandsAt (line_chars line.entry)
+    ensures place { IfSome result (λ fence. IsAtColumn (line_chars line.entry)
         (fence_characters fence.fence) (chars fence.media.now) fence.column) }
     ensures utf8 { IfSome result (λ fence. IsUtf8 fence.media.now) }
 {
@@ -131,7 +131,7 @@ pub fn fence<'a>(line: Line<'a>) -> Option<FenceLine<'a>>
 pub fn language<'a>(line: Line<'a>) -> Option<&'a str>
     ensures value { option_map (λ word. chars word.now) result
         ≡ language_of (line_chars line.entry) }
-    ensures place { IfSome result (λ word. (column : ℕ) × StandsAt (line_chars line.entry)
+    ensures place { IfSome result (λ word. (column : ℕ) × IsAtColumn (line_chars line.entry)
         (codes ":") (chars word.now) column) }
     ensures utf8 { IfSome result (λ word. IsUtf8 word.now) }
 {

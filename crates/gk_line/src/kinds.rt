@@ -33,7 +33,7 @@ pub(crate) fn column(line: Line<'_>) -> u32
 /// Whether the line is white space alone.
 #[tactic(auto, unfolding(crate::specs::Tokens::is_blank_line))]
 pub fn is_blank(line: Line<'_>) -> bool
-    ensures { result ≡ is_blank_line (line_chars line.entry) }
+    ensures value { result ≡ is_blank_line (line_chars line.entry) }
 {
     line.text.chars().all(|c| c.is_whitespace())
 }
@@ -42,7 +42,7 @@ pub fn is_blank(line: Line<'_>) -> bool
 ///
 /// Source: Gherkin reference, "Comments".
 pub fn is_comment(line: Line<'_>) -> bool
-    ensures { result ≡ begins_by (codes "#") (line_chars line.entry) }
+    ensures value { result ≡ begins_by (codes "#") (line_chars line.entry) }
 {
     begins(line, "#")
 }
@@ -51,7 +51,7 @@ pub fn is_comment(line: Line<'_>) -> bool
 ///
 /// Source: Gherkin reference, "Tags"; `gherkin.berp`, `TagLine`.
 pub fn is_tags(line: Line<'_>) -> bool
-    ensures { result ≡ begins_by (codes "@") (line_chars line.entry) }
+    ensures value { result ≡ begins_by (codes "@") (line_chars line.entry) }
 {
     begins(line, "@")
 }
@@ -60,7 +60,7 @@ pub fn is_tags(line: Line<'_>) -> bool
 ///
 /// Source: Gherkin reference, "Data Tables"; `gherkin.berp`, `TableRow`.
 pub fn is_row(line: Line<'_>) -> bool
-    ensures { result ≡ begins_by (codes "|") (line_chars line.entry) }
+    ensures value { result ≡ begins_by (codes "|") (line_chars line.entry) }
 {
     begins(line, "|")
 }

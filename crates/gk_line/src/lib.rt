@@ -41,4 +41,4 @@ pub use limit::FEATURE_LIMIT;
 pub use line_ends::Lines;
 pub use rows::cells;
 pub use tag_lines::tags;
-pub use tokens::{Block, FenceLine, Line, LineFault, StepLine, TagText, Title};
+pub use tokens::{Block, FenceLine, Line, StepLine, TagFault, TagText, Title};

@@ -4,14 +4,14 @@ ghost use Rattle.std.specs.Char.{is_whitespace};
 ghost use Rattle.std.specs.List.{list_any, AllByRecursion};
 ghost use Rattle.std.specs.Str.{chars, IsUtf8};
 ghost use Rattle.gk_line.specs.declared.limit.TheConstants.{FEATURE_LIMIT};
-ghost use Rattle.gk_line.specs.Places.{StandsAt};
+ghost use Rattle.gk_line.specs.Places.{IsAtColumn};
 ghost use Rattle.gk_line.specs.Tags.{uncommented, tags_of, spaced_piece, is_tag, has_space, piece_at};
 ghost use Rattle.gk_line.specs.Texts.{after};
 ghost use Rattle.gk_line.specs.Tokens.{begins_by};
 ghost use Rattle.gk_line.specs.Views.{line_chars, tag_word, IsTagFault};
 
 use crate::texts::{after_first, count, cut, leading_space, strip, trim, trim_start};
-use crate::tokens::{Line, LineFault, TagText};
+use crate::tokens::{Line, TagFault, TagText};
 use std::alloc::{AllocError, Global};
 
 /// The tags of a tag line, in order.
@@ -24,13 +24,13 @@ use std::alloc::{AllocError, Global};
 /// where there is no memory for the tags.
 ///
 /// Source: Gherkin reference, "Tags"; the cut and the column are this profile's.
-pub fn tags<'a>(alloc: Global, line: Line<'a>) -> Result<Vec<TagText<'a>>, LineFault>
+pub fn tags<'a>(alloc: Global, line: Line<'a>) -> Result<Vec<TagText<'a>>, TagFault>
     requires tags { IsTrue (begins_by (codes "@") (line_chars line)) }
     requires short { length line.text.now ≤ FEATURE_LIMIT }
     ensures value { IfOk result
         (λ tags. map tag_word tags.items ≡ tags_of (line_chars line.entry)) }
     ensures place { IfOk result (λ tags. AllByRecursion
-        (λ tag. StandsAt (line_chars line.entry) (codes "@") (chars tag.word.now) tag.column)
+        (λ tag. IsAtColumn (line_chars line.entry) (codes "@") (chars tag.word.now) tag.column)
         tags.items) }
     ensures utf8 { IfOk result (λ tags. AllByRecursion (λ tag. IsUtf8 tag.word.now) tags.items) }
     ensures plain { OnOk result (spaced_piece (line_chars line.entry) ≡ None) }
@@ -53,7 +53,7 @@ pub fn tags<'a>(alloc: Global, line: Line<'a>) -> Result<Vec<TagText<'a>>, LineF
 }
 
 /// Adds the tag that the text after an `@` holds, if it holds one.
-fn add_piece<'a>(tags: &mut Vec<TagText<'a>>, piece: &'a str, column: u32) -> Result<(), LineFault>
+fn add_piece<'a>(tags: &mut Vec<TagText<'a>>, piece: &'a str, column: u32) -> Result<(), TagFault>
     ensures value { OnOk result (map tag_word tags.new.items
         ≡ map tag_word tags.old.items
         ++ filter is_tag (piece_at column (chars piece.now) ∷ [])) }
@@ -65,7 +65,7 @@ fn add_piece<'a>(tags: &mut Vec<TagText<'a>>, piece: &'a str, column: u32) -> Re
 {
     let word = trim(piece);
     if has_white_space(word) {
-        return Err(LineFault::TagSpace(column));
+        return Err(TagFault::TagSpace(column));
     }
     if !word.is_empty() {
         push_tag(tags, TagText { word, column })?;

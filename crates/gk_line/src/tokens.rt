@@ -75,7 +75,7 @@ pub struct TagText<'a> {
 
 /// Why a tag line has no tags.
 #[derive(Clone, Copy, PartialEq, Eq, Debug, Error)]
-pub enum LineFault {
+pub enum TagFault {
     /// There is white space in the tag whose `@` is at this column.
     #[error("white space in the tag at column {0}")]
     TagSpace(u32),
@@ -84,12 +84,12 @@ pub enum LineFault {
     Memory,
 }
 
-impl From<AllocError> for LineFault {
-    ghost use Rattle.gk_line.specs.declared.tokens.LineFault.TheVariants.{Memory};
+impl From<AllocError> for TagFault {
+    ghost use Rattle.gk_line.specs.declared.tokens.TagFault.TheVariants.{Memory};
 
     ghost from_gives = { λ _ fault. fault ≡ Memory };
 
-    fn from(_: AllocError) -> LineFault {
-        LineFault::Memory
+    fn from(_: AllocError) -> TagFault {
+        TagFault::Memory
     }
 }

@@ -7,7 +7,7 @@ use Rattle.gk_document.specs.declared.tree.Step.{Step}
 use Rattle.gk_pickle.specs.declared.pickle.Pickle.{Pickle}
 use Rattle.gk_pickle.specs.declared.pickle.StepType.{StepType}
 use Rattle.gk_pickle.specs.declared.pickle.PickleStep.{PickleStep}
-use Rattle.gk_pickle.specs.Around.{Filling, unfilled}
+use Rattle.gk_pickle.specs.Inherited.{Filling, unfilled}
 use Rattle.gk_pickle.specs.Steps.{type_of, keywords, filled_step, steps_after, pickle_steps}
 
 pub keywords_more : (earlier : List KeywordType) (steps : List Step) (i : ℕ) (s : Step) → i < length steps → s ≡ get_or steps i s

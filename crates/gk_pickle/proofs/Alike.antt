@@ -13,7 +13,7 @@ use Rattle.gk_pickle.specs.declared.pickle.StepType.{StepType}
 use Rattle.gk_pickle.specs.declared.pickle.PickleArgument.{PickleArgument}
 use Rattle.gk_pickle.specs.declared.pickle.PickleArgument.TheVariants as value
 use Rattle.gk_pickle.specs.declared.pickle.PickleStep.{PickleStep}
-use Rattle.gk_pickle.specs.Around.{Filling, unfilled}
+use Rattle.gk_pickle.specs.Inherited.{Filling, unfilled}
 use Rattle.gk_pickle.specs.Fill.{placeholder, filled}
 use Rattle.gk_document.specs.MediaType.{unless_empty}
 use Rattle.gk_pickle.specs.Steps.{type_of, filled_by, filled_row, filled_argument, steps_after, keywords, pickle_steps}
@@ -92,11 +92,11 @@ module _ (f : Filling) where
       ∙ sym (map-append content before (steps_after (keywords background) unfilled (s ∷ ss)))
 
 pub rows_compile_alike : RowsCompileAlike
-rows_compile_alike around s tags header row other h =
+rows_compile_alike inherited s tags header row other h =
     let f : Filling = row_filling header row in
     let g : Filling = row_filling header other in
     record {
       name = same_text s.name f.header f.cells h.0 ∙ sym (same_text s.name g.header g.cells h.0);
       tags = refl;
-      steps = same_pickle_steps f around.steps s.steps h.1 ∙ sym (same_pickle_steps g around.steps s.steps h.1);
+      steps = same_pickle_steps f inherited.steps s.steps h.1 ∙ sym (same_pickle_steps g inherited.steps s.steps h.1);
     }

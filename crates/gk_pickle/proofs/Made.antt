@@ -1,4 +1,4 @@
--- What one item more brings behind what the items before it brought, and all once no item is left.
+-- What one item more brings after what the items before it brought, and all once no item is left.
 use Rattle.std.proofs.Common.{◌≡◌, ◌∙◌, ℕ, ◌+◌, ◌<◌, ◌≤◌, List, ◌∷◌, ◌++◌, ap, append-nil, append_assoc, drop, get_or, length, sym}
 use Rattle.std.specs.List.{flat_map}
 use Rattle.std.proofs.lemmas.List.{at_drop_all, drop_more}

@@ -12,37 +12,37 @@ use Rattle.gk_document.specs.declared.tree.Scenario.{Scenario}
 use Rattle.gk_document.specs.declared.tree.Rule.{Rule}
 use Rattle.gk_document.specs.declared.tree.Feature.{Feature}
 use Rattle.gk_pickle.specs.declared.pickle.PickleStep.{PickleStep}
-use Rattle.gk_pickle.specs.Around.{Around, Filling, unfilled}
+use Rattle.gk_pickle.specs.Inherited.{Inherited, Filling, unfilled}
 use Rattle.gk_pickle.specs.Steps.{steps_after, keywords, pickle_steps}
 use Rattle.gk_pickle.specs.Pickles.{pickle_of, row_filling, table_pickles, examples_pickles, outline_pickles, scenario_pickles, background_steps, in_feature, in_rule, rule_pickles, pickles_in, pickles}
-use Rattle.gk_pickle.specs.Order.{rule_steps, document_steps, StandInOrder, own_node, ComesFrom, StepsInDocumentOrder}
+use Rattle.gk_pickle.specs.Order.{rule_steps, document_steps, IsSubsequence, own_node, ComesFrom, StepsInDocumentOrder}
 
-front : (xs ys all : List Step) → StandInOrder (xs ++ ys) all → StandInOrder xs all
+front : (xs ys all : List Step) → IsSubsequence (xs ++ ys) all → IsSubsequence xs all
 front [] ys all h = tt
 front (x ∷ xs) ys all h = (h.0, h.1, h.2, front xs ys h.1 h.3)
 
-same : (xs : List Step) → StandInOrder xs xs
+same : (xs : List Step) → IsSubsequence xs xs
 same [] = tt
 same (x ∷ xs) = ([], xs, refl, same xs)
 
-later : (before xs all : List Step) → StandInOrder xs all → StandInOrder xs (before ++ all)
+later : (before xs all : List Step) → IsSubsequence xs all → IsSubsequence xs (before ++ all)
 later before [] all h = tt
 later before (x ∷ xs) all h = (before ++ h.0, h.1, ap (λ l. before ++ l) h.2 ∙ sym (append_assoc before h.0 (x ∷ h.1)), h.3)
 
-past : (before xs all : List Step) → StandInOrder (before ++ xs) all → StandInOrder xs all
+past : (before xs all : List Step) → IsSubsequence (before ++ xs) all → IsSubsequence xs all
 past [] xs all h = h
 past (b ∷ bs) xs all h =
-    let P : List Step → Type 0 = StandInOrder xs in
+    let P : List Step → Type 0 = IsSubsequence xs in
     subst P (append_assoc h.0 (b ∷ []) h.1 ∙ sym h.2) (later (h.0 ++ b ∷ []) xs h.1 (past bs xs h.1 h.3))
 
-through : (xs ys all : List Step) → StandInOrder xs ys → StandInOrder ys all → StandInOrder xs all
+through : (xs ys all : List Step) → IsSubsequence xs ys → IsSubsequence ys all → IsSubsequence xs all
 through [] ys all h k = tt
 through (x ∷ xs) ys all h k =
-    let P : List Step → Type 0 = λ l. StandInOrder l all in
-    let here : StandInOrder (x ∷ h.1) all = past h.0 (x ∷ h.1) all (subst P h.2 k) in
+    let P : List Step → Type 0 = λ l. IsSubsequence l all in
+    let here : IsSubsequence (x ∷ h.1) all = past h.0 (x ∷ h.1) all (subst P h.2 k) in
     (here.0, here.1, here.2, through xs h.1 here.1 h.3 here.3)
 
-kept : (xs ys zs : List Step) → StandInOrder ys zs → StandInOrder (xs ++ ys) (xs ++ zs)
+kept : (xs ys zs : List Step) → IsSubsequence ys zs → IsSubsequence (xs ++ ys) (xs ++ zs)
 kept [] ys zs h = h
 kept (x ∷ xs) ys zs h = ([], xs ++ zs, refl, kept xs ys zs h)
 
@@ -72,8 +72,8 @@ nodes_of : (k : List KeywordType) (f : Filling) (xs : List Step) → map named (
 nodes_of k f [] = refl
 nodes_of k f (x ∷ xs) = ap (λ l. node x ∷ l) (nodes_of (k ++ x.kind ∷ []) f xs)
 
-from_steps : (background own all : List Step) (f : Filling) → StandInOrder (background ++ own) all
-    → (steps : List Step) × StandInOrder steps all × (map named (pickle_steps background f own) ≡ map node steps)
+from_steps : (background own all : List Step) (f : Filling) → IsSubsequence (background ++ own) all
+    → (steps : List Step) × IsSubsequence steps all × (map named (pickle_steps background f own) ≡ map node steps)
 from_steps background [] all f h = ([], tt, refl)
 from_steps background (s ∷ ss) all f h = (
   background ++ s ∷ ss,
@@ -84,29 +84,29 @@ from_steps background (s ∷ ss) all f h = (
       ∙ sym (map-append node background (s ∷ ss)),
 )
 
-module _ (around : Around) (s : Scenario) (all : List Step) (h : StandInOrder (around.steps ++ s.steps) all) where
-  from_pickle : (tags : List Tag) (f : Filling) → ComesFrom all (pickle_of around s tags f)
-  from_pickle tags f = from_steps around.steps s.steps all f h
+module _ (inherited : Inherited) (s : Scenario) (all : List Step) (h : IsSubsequence (inherited.steps ++ s.steps) all) where
+  from_pickle : (tags : List Tag) (f : Filling) → ComesFrom all (pickle_of inherited s tags f)
+  from_pickle tags f = from_steps inherited.steps s.steps all f h
 
-  from_table : (tags : List Tag) (table : Option ExampleTable) → AllByRecursion (ComesFrom all) (table_pickles around s tags table)
+  from_table : (tags : List Tag) (table : Option ExampleTable) → AllByRecursion (ComesFrom all) (table_pickles inherited s tags table)
   from_table tags None = tt
-  from_table tags (Some table) = of_map (ComesFrom all) (λ (row : Row). pickle_of around s tags (row_filling table.header row)) table.body (λ row. from_pickle tags (row_filling table.header row))
+  from_table tags (Some table) = of_map (ComesFrom all) (λ (row : Row). pickle_of inherited s tags (row_filling table.header row)) table.body (λ row. from_pickle tags (row_filling table.header row))
 
-  from_outline : (blocks : List Examples) → AllByRecursion (ComesFrom all) (outline_pickles around s blocks)
+  from_outline : (blocks : List Examples) → AllByRecursion (ComesFrom all) (outline_pickles inherited s blocks)
   from_outline [] = (from_pickle [] unfilled, tt)
-  from_outline (e ∷ es) = of_flat_map (ComesFrom all) (examples_pickles around s) (e ∷ es) (λ block. from_table block.tags block.table)
+  from_outline (e ∷ es) = of_flat_map (ComesFrom all) (examples_pickles inherited s) (e ∷ es) (λ block. from_table block.tags block.table)
 
-from_scenarios : (around : Around) (ss : List Scenario) (all : List Step) → StandInOrder (around.steps ++ flat_map own_steps ss) all
-    → AllByRecursion (ComesFrom all) (flat_map (scenario_pickles around) ss)
-from_scenarios around [] all h = tt
-from_scenarios around (s ∷ ss) all h =
-    let before = around.steps in
+from_scenarios : (inherited : Inherited) (ss : List Scenario) (all : List Step) → IsSubsequence (inherited.steps ++ flat_map own_steps ss) all
+    → AllByRecursion (ComesFrom all) (flat_map (scenario_pickles inherited) ss)
+from_scenarios inherited [] all h = tt
+from_scenarios inherited (s ∷ ss) all h =
+    let before = inherited.steps in
     let rest = flat_map own_steps ss in
-    of_parts (ComesFrom all) (scenario_pickles around s) (flat_map (scenario_pickles around) ss)
-    (from_outline around s all (through (before ++ s.steps) (before ++ (s.steps ++ rest)) all (kept before s.steps (s.steps ++ rest) (front s.steps rest (s.steps ++ rest) (same (s.steps ++ rest)))) h) s.examples)
-    (from_scenarios around ss all (through (before ++ rest) (before ++ (s.steps ++ rest)) all (kept before rest (s.steps ++ rest) (later s.steps rest rest (same rest))) h))
+    of_parts (ComesFrom all) (scenario_pickles inherited s) (flat_map (scenario_pickles inherited) ss)
+    (from_outline inherited s all (through (before ++ s.steps) (before ++ (s.steps ++ rest)) all (kept before s.steps (s.steps ++ rest) (front s.steps rest (s.steps ++ rest) (same (s.steps ++ rest)))) h) s.examples)
+    (from_scenarios inherited ss all (through (before ++ rest) (before ++ (s.steps ++ rest)) all (kept before rest (s.steps ++ rest) (later s.steps rest rest (same rest))) h))
 
-from_rules : (f : Feature) (rs : List Rule) (all : List Step) → StandInOrder (background_steps f.background ++ flat_map rule_steps rs) all
+from_rules : (f : Feature) (rs : List Rule) (all : List Step) → IsSubsequence (background_steps f.background ++ flat_map rule_steps rs) all
     → AllByRecursion (ComesFrom all) (flat_map (rule_pickles f) rs)
 from_rules f [] all h = tt
 from_rules f (r ∷ rs) all h =
@@ -114,7 +114,7 @@ from_rules f (r ∷ rs) all h =
     let inner = background_steps r.background in
     let own = flat_map own_steps r.scenarios in
     let rest = flat_map rule_steps rs in
-    let P : List Step → Type 0 = λ l. StandInOrder l all in
+    let P : List Step → Type 0 = λ l. IsSubsequence l all in
     of_parts (ComesFrom all) (rule_pickles f r) (flat_map (rule_pickles f) rs)
     (from_scenarios (in_rule f r) r.scenarios all
     (subst P (sym (append_assoc before inner own))
@@ -128,7 +128,7 @@ from_feature (Some f) =
     let own = flat_map own_steps f.scenarios in
     let rules = flat_map rule_steps f.rules in
     let all = (before ++ own) ++ rules in
-    let P : List Step → Type 0 = λ l. StandInOrder (before ++ rules) l in
+    let P : List Step → Type 0 = λ l. IsSubsequence (before ++ rules) l in
     of_parts (ComesFrom all) (flat_map (scenario_pickles (in_feature f)) f.scenarios) (flat_map (rule_pickles f) f.rules)
     (from_scenarios (in_feature f) f.scenarios all (front (before ++ own) rules all (same all)))
     (from_rules f f.rules all (subst P (sym (append_assoc before own rules)) (kept before rules (own ++ rules) (later own rules rules (same rules)))))

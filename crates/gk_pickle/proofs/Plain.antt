@@ -44,7 +44,7 @@ front_found hay text k front h none e =
 small : (b : ℕ) → is_bracket b ≡ true → b < 128
 small b t = ⊎_elim (λ e. omega (arith, eqb-true b 60 e)) (λ e. omega (arith, eqb-true b 62 e)) (or_cases (b == 60) (b == 62) t)
 
--- the text is cut at a character behind it
+-- the text is cut at a character after it
 pub cut_after : (hay text : List ℕ) (k : ℕ) → hay ≡ text → NoneBefore (Passes (is_byte2 60 62) hay) 0 (length hay) k → Passes (is_byte2 60 62) hay k
     → IsUtf8 text → IsCharBoundary text (k + 1)
 cut_after hay text k h none found u =

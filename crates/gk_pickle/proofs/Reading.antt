@@ -138,7 +138,7 @@ module _ (header row : List Cell) where
       read_alike (read_to i header row) (read_to j header row) done
       (λ column more s from within. deeper i j (column + 1) (omega arith) (omega arith) (omega arith) more s) text r
 
--- the columns behind the first
+-- the columns after the first
 found_later : (xs : List ℕ) (done : ℕ) → find (λ x. nat_le done x) (map suc xs) ≡ option_map suc (find (λ x. nat_le (done - 1) x) xs)
 found_later [] done = refl
 found_later (x ∷ xs) done =
@@ -181,7 +181,7 @@ module _ (n : Cell) (ns : List Cell) (c : Cell) (cs : List Cell) where
       ap (λ xs. option_and_then (at_column (c ∷ cs)) (find (λ x. nat_le 0 x) xs))
       (cond-true _ _ _ ((bytes_eq-Decides n.value n.value).1 refl))
 
-  -- the same reading by the columns behind the first
+  -- the same reading by the columns after the first
   abbrev less : Open → Open
   less o = record { start = o.start; done = o.done - 1 }
 
@@ -205,12 +205,12 @@ module _ (n : Cell) (ns : List Cell) (c : Cell) (cs : List Cell) where
   closed_less None out start os = refl
   closed_less (Some f) out start os = ap (λ opens. record { out = take start out; opens = opens }) (raised_less f.0 os)
 
-  -- where the first column is not done, what stands behind the innermost `<` isn't its name
+  -- where the first column is not done, what comes after the innermost `<` isn't its name
   abbrev Other : ℕ → List ℕ → List Open → Type 0
   Other done out [] = ⊤
   Other done out (o ∷ os) = max o.done done ≡ 0 → bytes_eq (drop (o.start + 1) out) n.value ≡ false
 
-  -- One step is the same by the columns behind the first, where reading what a later cell brings is.
+  -- One step is the same by the columns after the first, where reading what a later cell brings is.
   module _ (reads others : Reads) (done less_done : ℕ) (one : done - 1 ≡ less_done)
       (agree : (k : ℕ) (text : List ℕ) (r : Reading) → k < length cs → shifted (reads (suc k + 1) text r) ≡ others (k + 1) text (shifted r)) where
     brought_less : (found : Option Found) (r : Reading) → Within cs 0 found → shifted (brought reads (option_map later found) r) ≡ brought others found (shifted r)
@@ -306,7 +306,7 @@ module _ (n : Cell) (ns : List Cell) (c : Cell) (cs : List Cell) where
   done_kept zero k text r h = h
   done_kept (suc depth) k text r h = done_read (read_to depth (n ∷ ns) (c ∷ cs)) (done_kept depth) k text r h
 
-  -- what stands behind the innermost `<` is no placeholder of the first column, where that isn't done
+  -- what comes after the innermost `<` is no placeholder of the first column, where that isn't done
   abbrev NotFirst : List ℕ → List Open → List ℕ → Type 0
   NotFirst out [] text = ⊤
   NotFirst out (o ∷ os) text = o.done ≡ 0 → (o.start + 1 ≤ length out) × ((rest : List ℕ) → drop (o.start + 1) out ++ text ≡ n.value ++ 62 ∷ rest → ⊥)
@@ -347,7 +347,7 @@ module _ (n : Cell) (ns : List Cell) (c : Cell) (cs : List Cell) where
             both_ways _ miss (starts (60 ∷ bs) (placeholder n.value) (place_of (placeholder n.value) (60 ∷ bs) [] rest all)),
       )
 
-  -- what cells bring is read by all columns, and by those behind the first
+  -- what cells bring is read by all columns, and by those after the first
   abbrev by_all : Reads
   by_all = read_to (suc (length cs)) (n ∷ ns) (c ∷ cs)
 

@@ -13,7 +13,7 @@ use Rattle.gk_pickle.specs.declared.pickle.StepType.{StepType}
 use Rattle.gk_pickle.specs.declared.pickle.PickleArgument.{PickleArgument}
 use Rattle.gk_pickle.specs.declared.pickle.PickleStep.{PickleStep}
 use Rattle.gk_pickle.specs.declared.pickle.Pickle.{Pickle}
-use Rattle.gk_pickle.specs.Around.{Around}
+use Rattle.gk_pickle.specs.Inherited.{Inherited}
 use Rattle.gk_pickle.specs.Cut.{Lacks}
 use Rattle.gk_pickle.specs.Fill.{placeholder}
 use Rattle.gk_pickle.specs.Pickles.{pickle_of, row_filling}
@@ -44,7 +44,7 @@ pub record IsAlike (p q : Pickle) : Type 0 where
   pub steps : map content p.steps ≡ map content q.steps
 
 abbrev pub RowsCompileAlike : Type 0
-RowsCompileAlike = (around : Around) (s : Scenario) (tags : List Tag) (header row other : Row)
+RowsCompileAlike = (inherited : Inherited) (s : Scenario) (tags : List Tag) (header row other : Row)
     → AllByRecursion (HasNoPlaceholder header.cells) (scenario_texts s)
-    → IsAlike (pickle_of around s tags (row_filling header row))
-    (pickle_of around s tags (row_filling header other))
+    → IsAlike (pickle_of inherited s tags (row_filling header row))
+    (pickle_of inherited s tags (row_filling header other))

@@ -4,7 +4,7 @@ use Rattle.std.specs.List.{flat_map}
 use Rattle.gk_document.specs.declared.tree.Row.{Row}
 use Rattle.gk_document.specs.declared.tree.Examples.{Examples}
 use Rattle.gk_document.specs.declared.tree.Scenario.{Scenario}
-use Rattle.gk_pickle.specs.Around.{Around}
+use Rattle.gk_pickle.specs.Inherited.{Inherited}
 use Rattle.gk_pickle.specs.Pickles.{scenario_pickles}
 use Rattle.gk_pickle.specs.TreeJson.{body_of}
 
@@ -15,15 +15,15 @@ body_rows e = body_of e.table
 -- a scenario without examples blocks gives one pickle
 abbrev pub OneWithoutExamples : Type 0
 OneWithoutExamples =
-    (around : Around) (s : Scenario) → s.examples ≡ [] → length (scenario_pickles around s) ≡ 1
+    (inherited : Inherited) (s : Scenario) → s.examples ≡ [] → length (scenario_pickles inherited s) ≡ 1
 
 -- any other scenario gives as many as its blocks have body rows
 abbrev pub OneForEachRow : Type 0
-OneForEachRow = (around : Around) (s : Scenario) → s.examples ≢ []
-    → length (scenario_pickles around s) ≡ sum_by (λ e. length (body_rows e)) s.examples
+OneForEachRow = (inherited : Inherited) (s : Scenario) → s.examples ≢ []
+    → length (scenario_pickles inherited s) ≡ sum_by (λ e. length (body_rows e)) s.examples
 
 -- and these name the scenario and the rows, in order
 abbrev pub RowsInOrder : Type 0
-RowsInOrder = (around : Around) (s : Scenario) → s.examples ≢ []
-    → map (λ p. p.nodes) (scenario_pickles around s)
+RowsInOrder = (inherited : Inherited) (s : Scenario) → s.examples ≢ []
+    → map (λ p. p.nodes) (scenario_pickles inherited s)
     ≡ map (λ row. s.node ∷ row.node ∷ []) (flat_map body_rows s.examples)

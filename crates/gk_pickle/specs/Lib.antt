@@ -1,7 +1,7 @@
 pub mod Fill
 pub mod SinglePass
 pub mod Columns
-pub mod Around
+pub mod Inherited
 pub mod Steps
 pub mod Pickles
 pub mod Json

@@ -26,10 +26,10 @@ document_steps None = []
 document_steps (Some f) = feature_steps f
 
 -- each of the first steps is in the others after the one before it
-abbrev pub StandInOrder : List Step → List Step → Type 0
-StandInOrder [] all = ⊤
-StandInOrder (s ∷ ss) all =
-    (before rest : List Step) × (all ≡ before ++ s ∷ rest) × StandInOrder ss rest
+abbrev pub IsSubsequence : List Step → List Step → Type 0
+IsSubsequence [] all = ⊤
+IsSubsequence (s ∷ ss) all =
+    (before rest : List Step) × (all ≡ before ++ s ∷ rest) × IsSubsequence ss rest
 
 -- the node that a step of a pickle names first
 abbrev pub own_node : List ℕ → Option ℕ
@@ -39,7 +39,7 @@ own_node (node ∷ others) = Some node
 -- the steps of a pickle name, one by one, steps that are in these in order
 abbrev pub ComesFrom : List Step → Pickle → Type 0
 ComesFrom all p =
-    (steps : List Step) × StandInOrder steps all
+    (steps : List Step) × IsSubsequence steps all
     × (map (λ s. own_node s.nodes) p.steps ≡ map (λ s. Some s.node) steps)
 
 abbrev pub StepsInDocumentOrder : Type 0

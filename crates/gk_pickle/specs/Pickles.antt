@@ -14,50 +14,50 @@ use Rattle.gk_document.specs.declared.tree.Feature.{Feature}
 use Rattle.gk_document.specs.declared.tree.Document.{Document}
 use Rattle.gk_pickle.specs.declared.pickle.PickleTag.{PickleTag}
 use Rattle.gk_pickle.specs.declared.pickle.Pickle.{Pickle}
-use Rattle.gk_pickle.specs.Around.{Around, Filling, unfilled}
+use Rattle.gk_pickle.specs.Inherited.{Inherited, Filling, unfilled}
 use Rattle.gk_pickle.specs.Steps.{filled_by, pickle_steps}
 
 abbrev pub pickle_tag : Tag → PickleTag
 pickle_tag t = record { name = t.name; node = t.node }
 
 -- a scenario's pickle, with the tags of its examples and what fills it; tags aren't filled, and repeats are kept
-abbrev pub pickle_of : Around → Scenario → List Tag → Filling → Pickle
-pickle_of around s tags f = record {
+abbrev pub pickle_of : Inherited → Scenario → List Tag → Filling → Pickle
+pickle_of inherited s tags f = record {
   name = filled_by f s.name;
   nodes = s.node ∷ f.rows;
-  tags = map pickle_tag (around.tags ++ s.tags ++ tags);
-  steps = pickle_steps around.steps f s.steps;
+  tags = map pickle_tag (inherited.tags ++ s.tags ++ tags);
+  steps = pickle_steps inherited.steps f s.steps;
 }
 
 abbrev pub row_filling : Row → Row → Filling
 row_filling header row = record { header = header.cells; cells = row.cells; rows = row.node ∷ [] }
 
 -- one for each body row; a block without a table has none
-abbrev pub table_pickles : Around → Scenario → List Tag → Option ExampleTable → List Pickle
-table_pickles around s tags None = []
-table_pickles around s tags (Some table) =
-    map (λ row. pickle_of around s tags (row_filling table.header row)) table.body
+abbrev pub table_pickles : Inherited → Scenario → List Tag → Option ExampleTable → List Pickle
+table_pickles inherited s tags None = []
+table_pickles inherited s tags (Some table) =
+    map (λ row. pickle_of inherited s tags (row_filling table.header row)) table.body
 
-abbrev pub examples_pickles : Around → Scenario → Examples → List Pickle
-examples_pickles around s e = table_pickles around s e.tags e.table
+abbrev pub examples_pickles : Inherited → Scenario → Examples → List Pickle
+examples_pickles inherited s e = table_pickles inherited s e.tags e.table
 
 -- one without examples blocks, else those of each block
-abbrev pub outline_pickles : Around → Scenario → List Examples → List Pickle
-outline_pickles around s [] = pickle_of around s [] unfilled ∷ []
-outline_pickles around s (e ∷ es) = flat_map (examples_pickles around s) (e ∷ es)
+abbrev pub outline_pickles : Inherited → Scenario → List Examples → List Pickle
+outline_pickles inherited s [] = pickle_of inherited s [] unfilled ∷ []
+outline_pickles inherited s (e ∷ es) = flat_map (examples_pickles inherited s) (e ∷ es)
 
-abbrev pub scenario_pickles : Around → Scenario → List Pickle
-scenario_pickles around s = outline_pickles around s s.examples
+abbrev pub scenario_pickles : Inherited → Scenario → List Pickle
+scenario_pickles inherited s = outline_pickles inherited s s.examples
 
 abbrev pub background_steps : Option Background → List Step
 background_steps None = []
 background_steps (Some b) = b.steps
 
 -- around a scenario that is in the feature itself, and around one in a rule
-abbrev pub in_feature : Feature → Around
+abbrev pub in_feature : Feature → Inherited
 in_feature f = record { tags = f.tags; steps = background_steps f.background }
 
-abbrev pub in_rule : Feature → Rule → Around
+abbrev pub in_rule : Feature → Rule → Inherited
 in_rule f r = record {
   tags = f.tags ++ r.tags;
   steps = background_steps f.background ++ background_steps r.background;

@@ -1,7 +1,7 @@
 -- What one pass over a text has read and does, in the contracts of `src/fill_single_pass` and of `src/columns`; no public
 -- contract needs it. Each `>` closes the innermost `<` that is open, and where a column has the name between them, its cell is
 -- read in their place, and only the columns after it fill what it brings.
-use Rattle.std.specs.Prelude.{◌≡◌, ℕ, zero, suc, ◌+◌, ◌<◌, ◌≤◌, ⊤, get_or, Bool, false, ◌||◌, max, nat_le, ◌==◌, Option, None, Some, option_map, option_and_then, List, [], ◌∷◌, ◌++◌, map, length, take, drop, find, slice_get, if◌then◌else◌}
+use Rattle.std.specs.Prelude.{◌≡◌, ℕ, zero, suc, ◌+◌, ◌<◌, ◌≤◌, ⊤, Bool, false, ◌||◌, max, nat_le, ◌==◌, Option, None, Some, option_map, option_and_then, List, [], ◌∷◌, ◌++◌, map, length, take, drop, find, slice_get, if◌then◌else◌}
 use Rattle.std.specs.List.{AllByRecursion}
 use Rattle.std.specs.Str.{IsUtf8, bytes_eq}
 use Rattle.gk_document.specs.declared.tree.Cell.{Cell}
@@ -107,10 +107,10 @@ read_parts header row [] r = r
 read_parts header row (p ∷ ps) r = read_parts header row ps (read header row p.done p.text.now r)
 
 -- each of these `<` is in what is written, the first after the others
-abbrev pub StandIn : List ℕ → List Open → Type 0
-StandIn out [] = ⊤
-StandIn out (o ∷ os) =
-    (o.start < length out) × (get_or out o.start 0 ≡ 60) × StandIn (take o.start out) os
+abbrev pub AreOpenIn : List ℕ → List Open → Type 0
+AreOpenIn out [] = ⊤
+AreOpenIn out (o ∷ os) =
+    (o.start < length out) × (slice_get out o.start ≡ Some 60) × AreOpenIn (take o.start out) os
 
 -- these parts are texts, and none is said to be done beyond the row
 abbrev pub AreWithin : List Cell → List Part → Type 0

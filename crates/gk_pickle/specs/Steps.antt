@@ -13,7 +13,7 @@ use Rattle.gk_pickle.specs.declared.pickle.StepType.TheVariants as kind
 use Rattle.gk_pickle.specs.declared.pickle.PickleArgument.{PickleArgument}
 use Rattle.gk_pickle.specs.declared.pickle.PickleArgument.TheVariants as value
 use Rattle.gk_pickle.specs.declared.pickle.PickleStep.{PickleStep}
-use Rattle.gk_pickle.specs.Around.{Filling, unfilled}
+use Rattle.gk_pickle.specs.Inherited.{Filling, unfilled}
 use Rattle.gk_pickle.specs.Fill.{filled}
 
 -- a keyword's own type, which a conjunction (`And`, `But`) has not

@@ -4,7 +4,7 @@ ghost use Rattle.std.specs.List.{flat_map};
 ghost use Rattle.gk_pickle.specs.Pickles.{pickle_tag, pickle_of, table_pickles, scenario_pickles, background_steps, rule_pickles, feature_pickles, pickles};
 
 use crate::columns::Columns;
-use crate::inherited::{Around, Filling};
+use crate::inherited::{Filling, Inherited};
 use crate::pickle::{Pickle, PickleTag};
 use crate::steps::all_steps;
 use gk_document::{
@@ -29,16 +29,16 @@ fn add_tags(alloc: Global, tags: &[Tag], made: &mut Vec<PickleTag>) -> Result<()
 /// What a pickle takes of the tags of its feature, rule, scenario and examples block.
 fn pickle_tags(
     alloc: Global,
-    around: &Around<'_>,
+    inherited: &Inherited<'_>,
     scenario_tags: &[Tag],
     block_tags: &[Tag],
 ) -> Result<Sequence<PickleTag>, AllocError>
     ensures { IfOk result
-        (λ made. made ≡ map pickle_tag (around.now.tags ++ scenario_tags.now ++ block_tags.now)) }
+        (λ made. made ≡ map pickle_tag (inherited.now.tags ++ scenario_tags.now ++ block_tags.now)) }
 {
     let mut made = Vec::new(alloc);
-    add_tags(alloc, around.feature_tags, &mut made)?;
-    add_tags(alloc, around.rule_tags, &mut made)?;
+    add_tags(alloc, inherited.feature_tags, &mut made)?;
+    add_tags(alloc, inherited.rule_tags, &mut made)?;
     add_tags(alloc, scenario_tags, &mut made)?;
     add_tags(alloc, block_tags, &mut made)?;
     Ok(Sequence::from(made))
@@ -47,20 +47,20 @@ fn pickle_tags(
 /// A scenario's pickle, with the tags of its examples and what fills it.
 fn pickle(
     alloc: Global,
-    around: &Around<'_>,
+    inherited: &Inherited<'_>,
     scenario: &Scenario,
     tags: &[Tag],
     filling: &Filling<'_, '_, '_>,
 ) -> Result<Pickle, AllocError>
-    ensures { IfOk result (λ p. p ≡ pickle_of around.now scenario.now tags.now filling.now) }
+    ensures { IfOk result (λ p. p ≡ pickle_of inherited.now scenario.now tags.now filling.now) }
 {
     let name = filling.text(alloc, scenario.name.as_str())?;
     let nodes = filling.nodes(alloc, scenario.node)?;
-    let tags = pickle_tags(alloc, around, scenario.tags.as_slice(), tags)?;
+    let tags = pickle_tags(alloc, inherited, scenario.tags.as_slice(), tags)?;
     let steps = all_steps(
         alloc,
-        around.feature_steps,
-        around.rule_steps,
+        inherited.feature_steps,
+        inherited.rule_steps,
         filling,
         scenario.steps.as_slice(),
     )?;
@@ -75,7 +75,7 @@ fn pickle(
 /// Adds a pickle for each body row of a table.
 fn add_rows(
     alloc: Global,
-    around: &Around<'_>,
+    inherited: &Inherited<'_>,
     scenario: &Scenario,
     tags: &[Tag],
     table: &ExampleTable,
@@ -83,12 +83,12 @@ fn add_rows(
 ) -> Result<(), AllocError>
     ensures { OnOk result
         (made.new.items
-        ≡ made.old.items ++ table_pickles around.now scenario.now tags.now (Some table.now)) }
+        ≡ made.old.items ++ table_pickles inherited.now scenario.now tags.now (Some table.now)) }
 {
     let columns = Columns::of(alloc, table.header.cells.as_slice())?;
     for row in table.body.as_slice() {
         let filling = Filling::of_row(&columns, row);
-        let pickle = pickle(alloc, around, scenario, tags, &filling)?;
+        let pickle = pickle(alloc, inherited, scenario, tags, &filling)?;
         made.push(pickle)?;
     }
     Ok(())
@@ -97,7 +97,7 @@ fn add_rows(
 /// Adds the pickles of a block's table.
 fn add_table(
     alloc: Global,
-    around: &Around<'_>,
+    inherited: &Inherited<'_>,
     scenario: &Scenario,
     tags: &[Tag],
     table: &Option<ExampleTable>,
@@ -105,10 +105,10 @@ fn add_table(
 ) -> Result<(), AllocError>
     ensures { OnOk result
         (made.new.items
-        ≡ made.old.items ++ table_pickles around.now scenario.now tags.now table.now) }
+        ≡ made.old.items ++ table_pickles inherited.now scenario.now tags.now table.now) }
 {
     match table {
-        Some(table) => add_rows(alloc, around, scenario, tags, table, made),
+        Some(table) => add_rows(alloc, inherited, scenario, tags, table, made),
         None => Ok(()),
     }
 }
@@ -116,23 +116,23 @@ fn add_table(
 /// Adds a scenario's pickles.
 fn add_scenario(
     alloc: Global,
-    around: &Around<'_>,
+    inherited: &Inherited<'_>,
     scenario: &Scenario,
     made: &mut Vec<Pickle>,
 ) -> Result<(), AllocError>
     ensures { OnOk result
-        (made.new.items ≡ made.old.items ++ scenario_pickles around.now scenario.now) }
+        (made.new.items ≡ made.old.items ++ scenario_pickles inherited.now scenario.now) }
 {
     let examples = scenario.examples.as_slice();
     if examples.is_empty() {
-        let pickle = pickle(alloc, around, scenario, &[], &Filling::none())?;
+        let pickle = pickle(alloc, inherited, scenario, &[], &Filling::none())?;
         made.push(pickle)?;
         return Ok(());
     }
     for block in examples {
         add_table(
             alloc,
-            around,
+            inherited,
             scenario,
             block.tags.as_slice(),
             &block.table,
@@ -145,15 +145,15 @@ fn add_scenario(
 /// Adds the pickles of scenarios.
 fn add_scenarios(
     alloc: Global,
-    around: &Around<'_>,
+    inherited: &Inherited<'_>,
     scenarios: &[Scenario],
     made: &mut Vec<Pickle>,
 ) -> Result<(), AllocError>
     ensures { OnOk result
-        (made.new.items ≡ made.old.items ++ flat_map (scenario_pickles around.now) scenarios.now) }
+        (made.new.items ≡ made.old.items ++ flat_map (scenario_pickles inherited.now) scenarios.now) }
 {
     for scenario in scenarios {
-        add_scenario(alloc, around, scenario, made)?;
+        add_scenario(alloc, inherited, scenario, made)?;
     }
     Ok(())
 }
@@ -177,26 +177,26 @@ fn add_rule(
 ) -> Result<(), AllocError>
     ensures { OnOk result (made.new.items ≡ made.old.items ++ rule_pickles feature.now rule.now) }
 {
-    let around = Around {
+    let inherited = Inherited {
         feature_tags: feature.tags.as_slice(),
         rule_tags: rule.tags.as_slice(),
         feature_steps: steps_of(&feature.background),
         rule_steps: steps_of(&rule.background),
     };
-    add_scenarios(alloc, &around, rule.scenarios.as_slice(), made)
+    add_scenarios(alloc, &inherited, rule.scenarios.as_slice(), made)
 }
 
 /// Adds the pickles of a feature.
 fn add_feature(alloc: Global, feature: &Feature, made: &mut Vec<Pickle>) -> Result<(), AllocError>
     ensures { OnOk result (made.new.items ≡ made.old.items ++ feature_pickles feature.now) }
 {
-    let around = Around {
+    let inherited = Inherited {
         feature_tags: feature.tags.as_slice(),
         rule_tags: &[],
         feature_steps: steps_of(&feature.background),
         rule_steps: &[],
     };
-    add_scenarios(alloc, &around, feature.scenarios.as_slice(), made)?;
+    add_scenarios(alloc, &inherited, feature.scenarios.as_slice(), made)?;
     for rule in feature.rules.as_slice() {
         add_rule(alloc, feature, rule, made)?;
     }

@@ -35,13 +35,13 @@ struct Reading {
 
 impl Model for Reading {
     ghost use Rattle.std.specs.Prelude.{reverse, string_bytes};
-    ghost use Rattle.gk_pickle.specs.SinglePass.{Reading as Read, StandIn};
+    ghost use Rattle.gk_pickle.specs.SinglePass.{Reading as Read, AreOpenIn};
 
     ghost Value = { Read };
 
     ghost view = { λ r. record { out = string_bytes r.out; opens = reverse r.opens.items } };
 
-    ghost invariant = { λ r. StandIn (string_bytes r.out) (reverse r.opens.items) };
+    ghost invariant = { λ r. AreOpenIn (string_bytes r.out) (reverse r.opens.items) };
 }
 
 /// Around a placeholder that is filled, the columns before `done` are done.

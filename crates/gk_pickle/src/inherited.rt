@@ -1,6 +1,6 @@
 //! What a scenario's pickles inherit of its feature and its rule, and what fills their texts.
 ghost use Rattle.std.specs.Prelude.{◌≡◌, ◌∷◌, [], IfOk};
-ghost use Rattle.gk_pickle.specs.Around.{unfilled};
+ghost use Rattle.gk_pickle.specs.Inherited.{unfilled};
 ghost use Rattle.gk_pickle.specs.Steps.{filled_by};
 
 use crate::columns::Columns;
@@ -11,18 +11,18 @@ use std::marker::Model;
 
 /// The tags of the feature and the rule, and the steps of their backgrounds.
 #[derive(Drop)]
-pub(crate) struct Around<'a> {
+pub(crate) struct Inherited<'a> {
     pub feature_tags: &'a [Tag],
     pub rule_tags: &'a [Tag],
     pub feature_steps: &'a [Step],
     pub rule_steps: &'a [Step],
 }
 
-impl<'a> Model for Around<'a> {
+impl<'a> Model for Inherited<'a> {
     ghost use Rattle.std.specs.Prelude.{◌++◌};
-    ghost use Rattle.gk_pickle.specs.Around.{Around as Surroundings};
+    ghost use Rattle.gk_pickle.specs.Inherited.{Inherited as InheritedParts};
 
-    ghost Value = { Surroundings };
+    ghost Value = { InheritedParts };
 
     ghost view = { λ a. record {
       tags = a.feature_tags.now ++ a.rule_tags.now;
@@ -40,7 +40,7 @@ pub(crate) struct Filling<'c, 'h, 'r> {
 impl<'c, 'h, 'r> Model for Filling<'c, 'h, 'r> {
     ghost use Rattle.std.specs.Prelude.{[]};
     ghost use Rattle.std.specs.Option.{option_map_or, option_to_list};
-    ghost use Rattle.gk_pickle.specs.Around.{Filling as Filled};
+    ghost use Rattle.gk_pickle.specs.Inherited.{Filling as Filled};
 
     ghost Value = { Filled };
 

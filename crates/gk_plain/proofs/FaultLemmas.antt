@@ -172,7 +172,7 @@ fault_within ls ks front columns n d e k c kinds firsts cut kind_is column_is wi
       place = bad;
       before = r.before;
       at = r.at;
-      behind = r.after;
+      later = r.after;
       cut = r.cut;
       here = let g = r.long in omega arith;
       what =

@@ -4,7 +4,7 @@ use Rattle.std.specs.List.{AllByRecursion, flat_map}
 use Rattle.gk_line.specs.declared.tokens.Block.{Block}
 use Rattle.gk_line.specs.declared.tokens.Block.TheVariants as block
 use Rattle.gk_document.specs.declared.tree.Cell.{Cell}
-use Rattle.gk_grammar.specs.Token.{Text, Step, Row, Line, line}
+use Rattle.gk_grammar.specs.Token.{Utf8, Step, Row, Line, line}
 use Rattle.gk_grammar.specs.Tree as tree
 use Rattle.gk_grammar.specs.Tree.{Location, Tag, Argument, Background, ExampleTable, Examples, Scenario, Rule, Feature}
 use Rattle.gk_document.specs.declared.tree.Argument.TheVariants.{Table, Text as Quoted}
@@ -125,7 +125,7 @@ cut_both P Q R make f ls c = (
 full_line : (P : Line → Type 0) → IsFull (OneLine P)
 full_line P cs h = h
 
-full_titled : (b : Block) (p : Location) (k m d : Text) → IsFull (Titled b p k m d)
+full_titled : (b : Block) (p : Location) (k m d : Utf8) → IsFull (Titled b p k m d)
 full_titled b p k m d cs h = h
 
 full_step : (s : tree.Step) → IsFull (IsStep s)

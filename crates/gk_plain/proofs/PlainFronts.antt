@@ -37,7 +37,7 @@ completed c ls ks m =
 abbrev pub Tells : Bool → List Kind → Type 0
 Tells b ks = (ls : List Line) → map kind_of ls ≡ ks → IsTrue b ↔ IsText ls
 
--- an answer for the lines with one more tells a front
+-- an answer for the lines with one more decides whether they are a front
 pub told_front : (c : Completion) (b : Bool) (ks : List Kind) → Tells b (ks ++ closing c) → b ≡ true → (ls : List Line) → map kind_of ls ≡ ks → IsFront ls
 told_front c b ks h t ls m = (c, (h (ls ++ completing c (length ls + 1)) (completed c ls ks m)).0 t)
 

@@ -9,7 +9,7 @@ use Rattle.gk_document.specs.declared.tree.Cell.{Cell}
 use Rattle.gk_document.specs.declared.tree.Fence.{Fence}
 use Rattle.gk_document.specs.declared.tree.Fence.TheVariants as fence
 use Rattle.gk_document.specs.MediaType.{unless_empty}
-use Rattle.gk_grammar.specs.Token.{Text, TagText, Blank, Comment, Language, Tags, Title, Step, Row, Fenced, Other, Line, line}
+use Rattle.gk_grammar.specs.Token.{Utf8, TagText, Blank, Comment, Language, Tags, Title, Step, Row, Fenced, Other, Line, line}
 use Rattle.gk_grammar.specs.Token as read
 use Rattle.gk_grammar.specs.Tree as tree
 use Rattle.gk_grammar.specs.Tree.{Location, Tag, DocString}
@@ -54,7 +54,7 @@ all_to P t f [] a = refl
 all_to P t f (l ∷ ls) a = and_together (t (kind_of l)) (list_all t (map kind_of ls)) (f l a.0) (all_to P t f ls a.1)
 
 -- a test of a language line
-pub language_test : (t : Kind → Bool) (b : Bool) (word : Text) → t kind.English ≡ b → t kind.OtherLanguage ≡ b → t (cond (same_text word english) kind.English kind.OtherLanguage) ≡ b
+pub language_test : (t : Kind → Bool) (b : Bool) (word : Utf8) → t kind.English ≡ b → t kind.OtherLanguage ≡ b → t (cond (same_text word english) kind.English kind.OtherLanguage) ≡ b
 language_test t b word e f = go (same_text word english)
   where
     go : (c : Bool) → t (cond c kind.English kind.OtherLanguage) ≡ b
@@ -215,7 +215,7 @@ same_block_refl block.Background = refl
 same_block_refl block.Scenario = refl
 same_block_refl block.Examples = refl
 
-same_text_is : (a b : Text) → same_text a b ≡ true → a ≡ b
+same_text_is : (a b : Utf8) → same_text a b ≡ true → a ≡ b
 same_text_is [] [] e = refl
 same_text_is [] (y ∷ ys) e = absurd cc
 same_text_is (x ∷ xs) [] e = absurd cc
@@ -227,9 +227,9 @@ same_text_is (x ∷ xs) (y ∷ ys) e = go (x == y) refl e (same_text_is xs ys)
 
 tags_read : (n node : ℕ) (words : List TagText) → map place_and_name (tags_from n node words) ≡ map (tag_at n) words
 tags_read n node [] = refl
-tags_read n node (w ∷ ws) = ap (λ (r : List (Location × Text)). tag_at n w ∷ r) (tags_read n (node + 1) ws)
+tags_read n node (w ∷ ws) = ap (λ (r : List (Location × Utf8)). tag_at n w ∷ r) (tags_read n (node + 1) ws)
 
-same_text_refl : (a : Text) → same_text a a ≡ true
+same_text_refl : (a : Utf8) → same_text a a ≡ true
 same_text_refl [] = refl
 same_text_refl (x ∷ xs) = ap (λ (b : Bool). cond b (same_text xs xs) false) (eq-eqb x x refl) ∙ same_text_refl xs
 
@@ -275,10 +275,10 @@ english_from (line n t i (Tags (Err column))) e = absurd cc
 english_from (line n t i _) e = absurd cc
 
 english_to : (u : Unit {0}) (l : Line) → IsEnglish l → begins part.EnglishLine (kind_of l) ≡ true
-english_to u (line n t i (Language w)) h = ap (λ (b : Bool). begins part.EnglishLine (cond b kind.English kind.OtherLanguage)) (ap (λ (z : Text). same_text z english) h ∙ same_text_refl english)
+english_to u (line n t i (Language w)) h = ap (λ (b : Bool). begins part.EnglishLine (cond b kind.English kind.OtherLanguage)) (ap (λ (z : Utf8). same_text z english) h ∙ same_text_refl english)
 english_to u (line n t i _) h = absurd h
 
-language_begins_not : (p : Part) (w : Text) → begins p kind.English ≡ false → begins p kind.OtherLanguage ≡ false → begins p (cond (same_text w english) kind.English kind.OtherLanguage) ≡ true → ⊥
+language_begins_not : (p : Part) (w : Utf8) → begins p kind.English ≡ false → begins p kind.OtherLanguage ≡ false → begins p (cond (same_text w english) kind.English kind.OtherLanguage) ≡ true → ⊥
 language_begins_not p w e f h = let g = language_test (begins p) false w e f in cc
 
 tags_from_kind : (l : Line) → begins part.TagLine (kind_of l) ≡ true → (tags : List Tag) × IsTagLine tags l
@@ -316,14 +316,14 @@ row_to count r (line n t i _) h = absurd h.1
 
 -- ---- headings
 
-title_from : (b : Block) (l : Line) → spec.is_title b (kind_of l) ≡ true → (x : tree.Location × Text × Text) × IsTitle b x.0 x.1 x.2 l
+title_from : (b : Block) (l : Line) → spec.is_title b (kind_of l) ≡ true → (x : tree.Location × Utf8 × Utf8) × IsTitle b x.0 x.1 x.2 l
 title_from b (line n t i (Title c k m)) e = ((at n (i + 1), k, m), (same_block_is c b e, refl, refl, refl))
 title_from b (line n t i (Tags (Ok ws))) e = absurd cc
 title_from b (line n t i (Tags (Err column))) e = absurd cc
 title_from b (line n t i (Language w)) e = absurd (let g = language_test (spec.is_title b) false w refl refl in cc)
 title_from b (line n t i _) e = absurd cc
 
-title_to : (b : Block) (p : tree.Location) (k m : Text) (l : Line) → IsTitle b p k m l → spec.is_title b (kind_of l) ≡ true
+title_to : (b : Block) (p : tree.Location) (k m : Utf8) (l : Line) → IsTitle b p k m l → spec.is_title b (kind_of l) ≡ true
 title_to b p k m (line n t i (Title c x y)) h = subst (λ (z : Block). same_block z b ≡ true) (sym h.0) (same_block_refl b)
 title_to b p k m (line n t i _) h = absurd h
 
@@ -341,7 +341,7 @@ heading_to b (l ∷ ls) h = and_together (spec.is_title b (kind_of l)) (list_all
 -- ---- doc strings
 
 abbrev IsClosed : Fence → ℕ → List Line → Type 0
-IsClosed f n ls = (content : Text) × (cs : List tree.Comment) × Closes f n content ls cs
+IsClosed f n ls = (content : Utf8) × (cs : List tree.Comment) × Closes f n content ls cs
 
 closes_later : (f : Fence) (n : ℕ) (l : Line) (ls : List Line) → spec.is_fence f (kind_of l) ≡ false → IsClosed f n ls → IsClosed f n (l ∷ ls)
 closes_later f n l ls h c = (
@@ -355,7 +355,7 @@ closes_later f n l ls h c = (
     open_yet = (sym (fence_same f l) ∙ h, c.2.open_yet);
     closed = c.2.closed;
     value = refl;
-    behind = c.2.behind;
+    gap_after = c.2.gap_after;
   },
 )
 
@@ -375,7 +375,7 @@ closes_from f n (l ∷ ls) e = go (spec.is_fence f (kind_of l)) refl (closes_fro
         open_yet = tt;
         closed = sym (fence_same f l) ∙ h;
         value = refl;
-        behind = gap_from ls e;
+        gap_after = gap_from ls e;
       },
     )
     go false h more e = closes_later f n l ls h (more e)
@@ -399,7 +399,7 @@ doc_string_to : (ls : List Line) (d : DocString) (cs : List tree.Comment) → Is
 doc_string_to [] d cs h = absurd h
 doc_string_to (line n t i (Fenced f media) ∷ ls) d cs h =
     let c = h.3 in
-    ap (λ (z : List Line). closes f (map kind_of z)) c.cut ∙ closes_to f c.inside c.close c.gap cs c.open_yet c.closed c.behind
+    ap (λ (z : List Line). closes f (map kind_of z)) c.cut ∙ closes_to f c.inside c.close c.gap cs c.open_yet c.closed c.gap_after
 doc_string_to (line n t i _ ∷ ls) d cs h = absurd h
 
 -- ---- the parts that are cut no further

@@ -5,7 +5,7 @@ use Rattle.std.proofs.lemmas.List.Sums.{sum_by-cons}
 use Rattle.std.specs.Prelude.{IsTrue}
 use Rattle.std.specs.Option.{option_map}
 use Rattle.std.specs.List.{AllByRecursion, flat_map}
-use Rattle.gk_grammar.specs.Token.{Text, Tags, Step, Row, Line, line}
+use Rattle.gk_grammar.specs.Token.{Utf8, Tags, Step, Row, Line, line}
 use Rattle.gk_grammar.specs.Tree as tree
 use Rattle.gk_grammar.specs.Tree.{Location, Tag, Argument, Background, ExampleTable, Examples, Scenario, Rule, Feature}
 use Rattle.gk_document.specs.declared.tree.Argument.TheVariants.{Table, Text as Quoted}
@@ -83,7 +83,7 @@ then_by P R Q S f g ls cs t = record {
 
 names_by : (g : Numbers) (tags : List Tag) → map place_and_name (map (tag_by g) tags) ≡ map place_and_name tags
 names_by g [] = refl
-names_by g (t ∷ ts) = ap (λ (z : List (Location × Text)). place_and_name t ∷ z) (names_by g ts)
+names_by g (t ∷ ts) = ap (λ (z : List (Location × Utf8)). place_and_name t ∷ z) (names_by g ts)
 
 tag_line_by : (g : Numbers) (tags : List Tag) (ls : List Line) (cs : List tree.Comment) → OneLine (IsTagLine tags) ls cs → OneLine (IsTagLine (map (tag_by g) tags)) ls cs
 tag_line_by g tags [] cs h = h
@@ -198,7 +198,7 @@ feature_nodes_by g f = joined_by g _ _ _ _ (tag_nodes_by g f.tags) (joined_by g 
 
 -- ---- the right numbers
 
--- how many nodes stand before a place
+-- how many nodes are before a place
 abbrev count_before : List Node → Location → ℕ
 count_before nodes p = count_by (λ (y : Node). stands_before y.0 p) nodes
 
@@ -237,7 +237,7 @@ text_parts ls = (λ h. there h.0.feature h.0.comments h.1.text, here)
     here (inl h) = (record { feature = None; comments = h.1; nodes = 0 }, record { text = h.2; numbers = tt; count = refl })
     here (inr h) = with_numbers h.0 ls h.1 (refl, h.2)
 
--- and so the plain program tells it
+-- and so the plain program finds it
 pub tells_text : (ls : List Line) (gap feature : Bool) → (IsTrue gap ↔ Is part.PlainGap ls) → (IsTrue feature ↔ Is part.FeatureText ls) → gap ≡ false → (IsTrue feature ↔ IsText ls)
 tells_text ls gap feature h k e = (λ i. (text_parts ls).1 (inr (k.0 i)), λ i. go ((text_parts ls).0 i))
   where

@@ -2,7 +2,7 @@
 use Rattle.std.specs.Prelude.{◌≡◌, ◌≤◌, ◌⊎◌, ℕ, List, [], ◌∷◌, ◌++◌, length, Option, Ok, Err, if◌then◌else◌}
 use Rattle.gk_line.specs.declared.tokens.Block.{Block}
 use Rattle.gk_line.specs.declared.tokens.Block.TheVariants as block
-use Rattle.gk_grammar.specs.Token.{Text, Token, Blank, Comment, Language, Tags, Title, Step, Row, Fenced, Other, Line, line}
+use Rattle.gk_grammar.specs.Token.{Utf8, Token, Blank, Comment, Language, Tags, Title, Step, Row, Fenced, Other, Line, line}
 use Rattle.gk_grammar.specs.Tree as tree
 use Rattle.gk_grammar.specs.Tree.{Location, Argument, Background, ExampleTable, Examples, Scenario, Rule, Feature}
 use Rattle.gk_grammar.specs.Machine.{same_text}
@@ -41,7 +41,7 @@ Has {A} P ls = (x : A) × (cs : List tree.Comment) × P x ls cs
 
 -- a title line's place, keyword and name, and the description
 abbrev pub Heading : Type 0
-Heading = Location × Text × Text × Text
+Heading = Location × Utf8 × Utf8 × Utf8
 
 abbrev pub IsHeading : Block → Heading → Piece
 IsHeading b h = Titled b h.0 h.1 h.2 h.3

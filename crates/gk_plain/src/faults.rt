@@ -3,7 +3,7 @@ ghost use Rattle.std.specs.Prelude.{◌≡◌, ◌≤◌, ◌<◌, ◌+◌, List
 ghost use Rattle.std.specs.List.{list_all};
 ghost use Rattle.gk_grammar.specs.Token.{Line};
 ghost use Rattle.gk_grammar.specs.Place.{IsText, IsFirstBad, IsFaultWithin};
-ghost use Rattle.gk_grammar.specs.Documents.{lines_read, HasFault, byte_limit};
+ghost use Rattle.gk_grammar.specs.Documents.{lines_read, HasFault, max_bytes};
 ghost use Rattle.gk_plain.specs.Plain.{kind_of};
 ghost use Rattle.gk_plain.specs.PlainFaults as spec;
 ghost use Rattle.gk_plain.specs.PlainFaults.{first_column};
@@ -97,7 +97,7 @@ fn fault_column(at: Kind, first: u32) -> u32
 /// The columns of the first characters after the indents of the lines.
 #[tactic(auto, unfolding(gk_grammar::specs::Documents::lines_read))]
 fn first_columns(alloc: Global, text: &str) -> Result<Vec<u32>, AllocError>
-    requires short { length text.now ≤ byte_limit }
+    requires short { length text.now ≤ max_bytes }
     ensures { IfOk result (λ all. all.items ≡ map first_column (lines_read text.now)) }
 {
     let mut all = Vec::new(alloc);
@@ -129,7 +129,7 @@ fn fault_at(kinds: &[Kind], columns: &[u32], before: usize) -> PlainFault
 /// # Errors
 /// There is no memory for the kinds or the columns of the lines.
 pub fn fault(alloc: Global, text: &str) -> Result<Option<PlainFault>, AllocError>
-    requires short { length text.now ≤ byte_limit }
+    requires short { length text.now ≤ max_bytes }
     ensures none { IfOk result (λ f. f ≡ None → IsText (lines_read text.now)) }
     ensures some { IfOk result (λ f. IfSome f (λ f. HasFault text.now f.kind f.line f.column)) }
 {

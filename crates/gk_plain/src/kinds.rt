@@ -10,13 +10,13 @@ ghost use Rattle.gk_line.specs.Views.{line_chars, numbered_line};
 ghost use Rattle.gk_grammar.specs.Grammar.{english};
 ghost use Rattle.gk_grammar.specs.Machine.{same_text};
 ghost use Rattle.gk_grammar.specs.Token as read;
-ghost use Rattle.gk_grammar.specs.Documents.{lines_read, byte_limit};
+ghost use Rattle.gk_grammar.specs.Documents.{lines_read, max_bytes};
 ghost use Rattle.gk_plain.specs.Plain.{kind_of_token, kind_of};
 ghost use Rattle.gk_plain.specs.declared.kinds.Kind.TheVariants as kind;
 
 use gk_document::Fence;
 use gk_line::{
-    Block, Line, LineFault, cells, fence, is_blank, is_comment, is_row, is_tags, language, lines,
+    Block, Line, TagFault, cells, fence, is_blank, is_comment, is_row, is_tags, language, lines,
     step, tags, title,
 };
 use std::alloc::{AllocError, Global};
@@ -64,20 +64,20 @@ fn comment_kind(line: Line<'_>) -> Kind
 
 fn tag_kind(alloc: Global, line: Line<'_>) -> Result<Kind, AllocError>
     requires tags { IsTrue (begins_by (codes "@") (line_chars line)) }
-    requires short { length line.text.now ≤ byte_limit }
+    requires short { length line.text.now ≤ max_bytes }
     ensures { IfOk result (λ k. k ≡ kind_of_token (read.Tags (read.tag_list
         (spaced_piece (line_chars line.entry)) (tags_of (line_chars line.entry))))) }
 {
     match tags(alloc, line) {
         Ok(_) => Ok(Kind::Tags),
-        Err(LineFault::TagSpace(column)) => Ok(Kind::SpacedTag(column)),
-        Err(LineFault::Memory) => Err(AllocError),
+        Err(TagFault::TagSpace(column)) => Ok(Kind::SpacedTag(column)),
+        Err(TagFault::Memory) => Err(AllocError),
     }
 }
 
 fn row_kind(alloc: Global, line: Line<'_>) -> Result<Kind, AllocError>
     requires row { IsTrue (begins_by (codes "|") (line_chars line)) }
-    requires short { length line.text.now ≤ byte_limit }
+    requires short { length line.text.now ≤ max_bytes }
     ensures { IfOk result (λ k.
         k ≡ kind_of_token (read.Row (map read.cell (cells_of (line_chars line.entry))))) }
 {
@@ -88,7 +88,7 @@ fn row_kind(alloc: Global, line: Line<'_>) -> Result<Kind, AllocError>
 /// The block whose title line the line is.
 #[tactic(auto, unfolding(gk_line::specs::Texts::first_some))]
 fn titled(line: Line<'_>) -> Option<Block>
-    requires { length line.text.now ≤ byte_limit }
+    requires { length line.text.now ≤ max_bytes }
     ensures { option_map kind.Title result ≡ option_map kind_of_token (first_some
         (λ b. option_map (read.title_token b) (title_of b (line_chars line.entry))) read.blocks) }
 {
@@ -110,7 +110,7 @@ fn titled(line: Line<'_>) -> Option<Block>
 
 /// A line that begins with a keyword or a fence, or any other one.
 fn word_kind(line: Line<'_>) -> Kind
-    requires { length line.text.now ≤ byte_limit }
+    requires { length line.text.now ≤ max_bytes }
     ensures { result
         ≡ kind_of_token (read.token_or_other (read.word_token (line_chars line.entry))) }
 {
@@ -128,7 +128,7 @@ fn word_kind(line: Line<'_>) -> Kind
 
 #[tactic(auto, unfolding(gk_grammar::specs::Token::token_of))]
 fn kind_of_line(alloc: Global, line: Line<'_>) -> Result<Kind, AllocError>
-    requires { length line.text.now ≤ byte_limit }
+    requires { length line.text.now ≤ max_bytes }
     ensures { IfOk result (λ k. k ≡ kind_of (read.line_of (numbered_line line.entry))) }
 {
     if is_blank(line) {
@@ -149,7 +149,7 @@ fn kind_of_line(alloc: Global, line: Line<'_>) -> Result<Kind, AllocError>
 /// The kinds of the lines of a text.
 #[tactic(auto, unfolding(gk_grammar::specs::Documents::lines_read))]
 pub(crate) fn kinds(alloc: Global, text: &str) -> Result<Vec<Kind>, AllocError>
-    requires short { length text.now ≤ byte_limit }
+    requires short { length text.now ≤ max_bytes }
     ensures { IfOk result (λ all. all.items ≡ map kind_of (lines_read text.now)) }
 {
     let mut all = Vec::new(alloc);

@@ -2,6 +2,7 @@
 ghost use Rattle.std.specs.Prelude.{◌≡◌};
 ghost use Rattle.gk_plain.specs.Plain.{rule_of};
 
+use self::Production::{Both, Either, EqualRows, Lines, Many, Maybe};
 use gk_line::Block;
 
 /// A part of a text.
@@ -76,43 +77,34 @@ pub(crate) fn rule_of(part: Part) -> Production
         | Part::StepLine
         | Part::Row(_)
         | Part::Heading(_)
-        | Part::DocString => Production::Lines,
-        Part::Rows(count) => Production::Many(Part::Row(count)),
-        Part::Table => Production::EqualRows,
-        Part::Argument => Production::Either(Part::Table, Part::DocString),
-        Part::MaybeArgument => Production::Maybe(Part::Argument),
-        Part::Step => Production::Both(Part::StepLine, Part::MaybeArgument),
-        Part::Steps => Production::Many(Part::Step),
-        Part::TagLines => Production::Many(Part::TagLine),
-        Part::MaybeTable => Production::Maybe(Part::Table),
-        Part::UntaggedExamples => Production::Both(
-            Part::Heading(Block::Examples),
-            Part::MaybeTable,
-        ),
-        Part::Examples => Production::Both(Part::TagLines, Part::UntaggedExamples),
-        Part::ExamplesBlocks => Production::Many(Part::Examples),
-        Part::BelowScenario => Production::Both(Part::Steps, Part::ExamplesBlocks),
-        Part::UntaggedScenario => Production::Both(
-            Part::Heading(Block::Scenario),
-            Part::BelowScenario,
-        ),
-        Part::Scenario => Production::Both(Part::TagLines, Part::UntaggedScenario),
-        Part::Scenarios => Production::Many(Part::Scenario),
-        Part::Background => Production::Both(Part::Heading(Block::Background), Part::Steps),
-        Part::MaybeBackground => Production::Maybe(Part::Background),
-        Part::BelowRule => Production::Both(Part::MaybeBackground, Part::Scenarios),
-        Part::UntaggedRule => Production::Both(Part::Heading(Block::Rule), Part::BelowRule),
-        Part::Rule => Production::Both(Part::TagLines, Part::UntaggedRule),
-        Part::Rules => Production::Many(Part::Rule),
-        Part::ScenariosAndRules => Production::Both(Part::Scenarios, Part::Rules),
-        Part::BelowFeature => Production::Both(Part::MaybeBackground, Part::ScenariosAndRules),
-        Part::UntaggedFeature => Production::Both(
-            Part::Heading(Block::Feature),
-            Part::BelowFeature,
-        ),
-        Part::Feature => Production::Both(Part::TagLines, Part::UntaggedFeature),
-        Part::SpokenGap => Production::Both(Part::PlainGap, Part::EnglishLine),
-        Part::Opening => Production::Either(Part::PlainGap, Part::SpokenGap),
-        Part::FeatureText => Production::Both(Part::Opening, Part::Feature),
+        | Part::DocString => Lines,
+        Part::Rows(count) => Many(Part::Row(count)),
+        Part::Table => EqualRows,
+        Part::Argument => Either(Part::Table, Part::DocString),
+        Part::MaybeArgument => Maybe(Part::Argument),
+        Part::Step => Both(Part::StepLine, Part::MaybeArgument),
+        Part::Steps => Many(Part::Step),
+        Part::TagLines => Many(Part::TagLine),
+        Part::MaybeTable => Maybe(Part::Table),
+        Part::UntaggedExamples => Both(Part::Heading(Block::Examples), Part::MaybeTable),
+        Part::Examples => Both(Part::TagLines, Part::UntaggedExamples),
+        Part::ExamplesBlocks => Many(Part::Examples),
+        Part::BelowScenario => Both(Part::Steps, Part::ExamplesBlocks),
+        Part::UntaggedScenario => Both(Part::Heading(Block::Scenario), Part::BelowScenario),
+        Part::Scenario => Both(Part::TagLines, Part::UntaggedScenario),
+        Part::Scenarios => Many(Part::Scenario),
+        Part::Background => Both(Part::Heading(Block::Background), Part::Steps),
+        Part::MaybeBackground => Maybe(Part::Background),
+        Part::BelowRule => Both(Part::MaybeBackground, Part::Scenarios),
+        Part::UntaggedRule => Both(Part::Heading(Block::Rule), Part::BelowRule),
+        Part::Rule => Both(Part::TagLines, Part::UntaggedRule),
+        Part::Rules => Many(Part::Rule),
+        Part::ScenariosAndRules => Both(Part::Scenarios, Part::Rules),
+        Part::BelowFeature => Both(Part::MaybeBackground, Part::ScenariosAndRules),
+        Part::UntaggedFeature => Both(Part::Heading(Block::Feature), Part::BelowFeature),
+        Part::Feature => Both(Part::TagLines, Part::UntaggedFeature),
+        Part::SpokenGap => Both(Part::PlainGap, Part::EnglishLine),
+        Part::Opening => Either(Part::PlainGap, Part::SpokenGap),
+        Part::FeatureText => Both(Part::Opening, Part::Feature),
     }
 }

@@ -4,7 +4,7 @@ ghost use Rattle.std.specs.List.{list_all};
 ghost use Rattle.gk_grammar.specs.Token.{Line};
 ghost use Rattle.gk_grammar.specs.Tree.{Document};
 ghost use Rattle.gk_grammar.specs.Place.{IsText, IsFront, IsFirstBad, IsOpenAtEnd};
-ghost use Rattle.gk_grammar.specs.Documents.{IsDocumentOf, byte_limit};
+ghost use Rattle.gk_grammar.specs.Documents.{IsDocumentOf, max_bytes};
 ghost use Rattle.gk_plain.specs.Plain.{kind_of, Is};
 ghost use Rattle.gk_plain.specs.PlainLines as spec;
 
@@ -257,7 +257,7 @@ pub(crate) fn first_bad(alloc: Global, lines: &[Kind]) -> Result<Option<usize>, 
 /// # Errors
 /// There is no memory for the kinds of the lines.
 pub fn has_document(alloc: Global, text: &str) -> Result<bool, AllocError>
-    requires short { length text.now ≤ byte_limit }
+    requires short { length text.now ≤ max_bytes }
     ensures { IfOk result (λ answer. IsTrue answer ↔ ((d : Document) × IsDocumentOf text.now d)) }
 {
     let kinds = kinds(alloc, text)?;

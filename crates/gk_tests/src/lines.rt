@@ -41,8 +41,8 @@ fn tag_line<'a>(alloc: Global, text: &'a str) -> Result<Vec<TagText<'a>>, Fail> 
     }
     match tags(alloc, line) {
         Ok(tags) => Ok(tags),
-        Err(LineFault::TagSpace(_)) => Err(Fail::from("white space in a tag")),
-        Err(LineFault::Memory) => Err(Fail::from("no memory")),
+        Err(TagFault::TagSpace(_)) => Err(Fail::from("white space in a tag")),
+        Err(TagFault::Memory) => Err(Fail::from("no memory")),
     }
 }
 
@@ -165,7 +165,7 @@ fn white_space_in_a_tag(rt: HostRuntime) -> Result<(), Fail> {
     if !is_tags(line) {
         return Err(Fail::from("no tag line"));
     }
-    assert!(rt; matches!(&tags(rt.alloc(), line), Err(LineFault::TagSpace(3))));
+    assert!(rt; matches!(&tags(rt.alloc(), line), Err(TagFault::TagSpace(3))));
     check_tags(&rt, rt.alloc(), "@ #c", "")
 }
 

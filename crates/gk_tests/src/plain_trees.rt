@@ -4,7 +4,7 @@ use gk_tree::{ParseFault, parse};
 use std::alloc::Global;
 use std::test::Fail;
 
-/// One line of each sort that a short text can tell apart.
+/// One line of each sort that a short text can distinguish.
 const LINES: [&str; 12] = [
     "Feature: f",
     "Rule: r",
@@ -20,7 +20,7 @@ const LINES: [&str; 12] = [
     "text",
 ];
 
-/// Other lines, and some of those again, to stand after the front of a text. Some have an indent.
+/// Other lines, and some of those again, to come after the front of a text. Some have an indent.
 const OTHER_LINES: [&str; 12] = [
     "  | b | c |",
     "```",
@@ -103,7 +103,7 @@ fn agree_below(
 }
 
 /// Whether they agree on each of these lines with any three after it.
-fn agree_behind(alloc: Global, firsts: &[&str]) -> Result<bool, Fail> {
+fn agree_after(alloc: Global, firsts: &[&str]) -> Result<bool, Fail> {
     for first in firsts {
         let mut head = String::new(alloc);
         head.push_str(first)?;
@@ -127,13 +127,13 @@ fn all_texts_of_up_to_three_lines(rt: HostRuntime) -> Result<(), Fail> {
 
 #[test]
 fn all_texts_of_four_lines(rt: HostRuntime) -> Result<(), Fail> {
-    assert!(rt; agree_behind(rt.alloc(), &LINES[..6])?);
+    assert!(rt; agree_after(rt.alloc(), &LINES[..6])?);
     Ok(())
 }
 
 #[test]
 fn all_other_texts_of_four_lines(rt: HostRuntime) -> Result<(), Fail> {
-    assert!(rt; agree_behind(rt.alloc(), &LINES[6..])?);
+    assert!(rt; agree_after(rt.alloc(), &LINES[6..])?);
     Ok(())
 }
 
@@ -172,7 +172,7 @@ Given x
 ";
 
 #[test]
-fn lines_behind_steps_and_tables(rt: HostRuntime) -> Result<(), Fail> {
+fn lines_after_steps_and_tables(rt: HostRuntime) -> Result<(), Fail> {
     for head in HEADS.split("---\n") {
         assert!(rt; agree_below(rt.alloc(), head, &OTHER_LINES, 144, 2)?);
     }

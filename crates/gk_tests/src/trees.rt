@@ -12,7 +12,7 @@ fn counts(alloc: Global, document: &Document) -> Result<String, AllocError> {
     format!(in alloc; "{nodes} nodes, {comments} comments")
 }
 
-/// What is told of a text: the counts of its document, or its fault.
+/// What is reported of a text: the counts of its document, or its fault.
 fn told(alloc: Global, text: &str) -> Result<String, AllocError> {
     match parse(alloc, text) {
         Ok(document) => {
@@ -30,7 +30,7 @@ fn check_told(rt: &impl Abort, alloc: Global, text: &str, wanted: &str) -> Resul
     Ok(())
 }
 
-/// Checks what is told of texts. A line has what is wanted, a semicolon, and the text with a slash for each line feed.
+/// Checks what is reported of texts. A line has what is wanted, a semicolon, and the text with a slash for each line feed.
 fn check_cases(rt: &impl Abort, alloc: Global, cases: &str) -> Result<(), Fail> {
     for case in cases.lines() {
         let (wanted, lines) = case.split_once(';').unwrap_or((case, ""));
@@ -182,7 +182,7 @@ fn comments_everywhere(rt: HostRuntime) -> Result<(), AllocError> {
     check_told(&rt, rt.alloc(), text, "8 nodes, 10 comments")
 }
 
-const BEHIND_TAGS: &str = "Unexpected at line 2, column 3;@t/  Background:
+const AFTER_TAGS: &str = "Unexpected at line 2, column 3;@t/  Background:
 Unexpected at line 2, column 2;@t/ Given x
 Unexpected at line 2, column 1;@t/| x |
 Unexpected at line 2, column 1;@t/```
@@ -195,12 +195,11 @@ UnexpectedEnd at line 4, column 1;Feature: f/Scenario: s/@t
 4 nodes, 0 comments;Feature: f/Background:/Given a/@t/Scenario: s";
 
 #[test]
-fn lines_behind_tags(rt: HostRuntime) -> Result<(), Fail> {
-    check_cases(&rt, rt.alloc(), BEHIND_TAGS)
+fn lines_after_tags(rt: HostRuntime) -> Result<(), Fail> {
+    check_cases(&rt, rt.alloc(), AFTER_TAGS)
 }
 
-const BEHIND_A_BACKGROUND: &str =
-    "Unexpected at line 4, column 1;Feature: f/Background:/@t/Examples:
+const AFTER_A_BACKGROUND: &str = "Unexpected at line 4, column 1;Feature: f/Background:/@t/Examples:
 Unexpected at line 5, column 1;Feature: f/Background:/Given a/@t/Examples:
 Unexpected at line 4, column 1;Feature: f/Background:/Given a/Examples:
 1 nodes, 0 comments;Feature: f/Background:/Examples:
@@ -210,8 +209,8 @@ Unexpected at line 4, column 3;Feature: f/  Scenario: s/    Given a/  Background
 Unexpected at line 3, column 1;Feature: f/@/Background:";
 
 #[test]
-fn lines_behind_a_background(rt: HostRuntime) -> Result<(), Fail> {
-    check_cases(&rt, rt.alloc(), BEHIND_A_BACKGROUND)
+fn lines_after_a_background(rt: HostRuntime) -> Result<(), Fail> {
+    check_cases(&rt, rt.alloc(), AFTER_A_BACKGROUND)
 }
 
 const SPACED_TAGS: &str = "TagSpace at line 1, column 3;  @a b/Feature: f

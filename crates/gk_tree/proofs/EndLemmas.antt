@@ -6,42 +6,42 @@ use Rattle.gk_grammar.specs.Token.{Line, line, line_of, Blank, Comment, Language
 use Rattle.gk_grammar.specs.Tree.{Document}
 use Rattle.gk_grammar.specs.Place.{IsFaultAt}
 use Rattle.gk_grammar.specs.Machine as machine
-use Rattle.gk_grammar.specs.Machine.{State, Bad, run, next, initial, blocks_at_end, ◌>>=◌}
+use Rattle.gk_grammar.specs.Machine.{State, PlacedFault, run, next, initial, blocks_at_end, ◌>>=◌}
 use Rattle.gk_grammar.specs.Assembly.{document_of}
 use Rattle.gk_grammar.specs.Documents.{lines_read, IsDocumentOf, HasFault, IsTooLong}
 use Rattle.gk_grammar.proofs.LawLemmas.{whole_run, stopped_run, open_run}
 use Rattle.gk_tree.specs.declared.fault.ParseFault.{ParseFault}
-use Rattle.gk_tree.specs.Views.{Gives, bad_of, out_of_memory, too_long}
+use Rattle.gk_tree.specs.Views.{Gives, placed_fault, out_of_memory, too_long}
 use Rattle.gk_tree.specs.Ends.{ended, document_at, Answers}
 
 -- ---- a line of a run
 
-pub turn_run : (all : Result State Bad) (s t : State) (ls rest : List (ℕ × List ℕ)) (x : ℕ × List ℕ) → all ≡ run s (map line_of ls) → ls ≡ x ∷ rest → next s (line_of x) ≡ Ok t → all ≡ run t (map line_of rest)
+pub turn_run : (all : Result State PlacedFault) (s t : State) (ls rest : List (ℕ × List ℕ)) (x : ℕ × List ℕ) → all ≡ run s (map line_of ls) → ls ≡ x ∷ rest → next s (line_of x) ≡ Ok t → all ≡ run t (map line_of rest)
 turn_run all s t ls rest x e h k =
-    e ∙ ap (λ (z : List (ℕ × List ℕ)). run s (map line_of z)) h ∙ ap (λ (z : Result State Bad). z >>= λ (y : State). run y (map line_of rest)) k
+    e ∙ ap (λ (z : List (ℕ × List ℕ)). run s (map line_of z)) h ∙ ap (λ (z : Result State PlacedFault). z >>= λ (y : State). run y (map line_of rest)) k
 
-pub stop_run : (all : Result State Bad) (s : State) (b : Bad) (ls rest : List (ℕ × List ℕ)) (x : ℕ × List ℕ) → all ≡ run s (map line_of ls) → ls ≡ x ∷ rest → next s (line_of x) ≡ Err b → all ≡ Err b
+pub stop_run : (all : Result State PlacedFault) (s : State) (b : PlacedFault) (ls rest : List (ℕ × List ℕ)) (x : ℕ × List ℕ) → all ≡ run s (map line_of ls) → ls ≡ x ∷ rest → next s (line_of x) ≡ Err b → all ≡ Err b
 stop_run all s b ls rest x e h k =
-    e ∙ ap (λ (z : List (ℕ × List ℕ)). run s (map line_of z)) h ∙ ap (λ (z : Result State Bad). z >>= λ (y : State). run y (map line_of rest)) k
+    e ∙ ap (λ (z : List (ℕ × List ℕ)). run s (map line_of z)) h ∙ ap (λ (z : Result State PlacedFault). z >>= λ (y : State). run y (map line_of rest)) k
 
 -- ---- the answer
 
-pub whole_answer : (text : List ℕ) (behind : ℕ) (s : State) (r : Result Document ParseFault) → run initial (lines_read text) ≡ Ok s → behind ≡ length (lines_read text) + 1 → Gives (λ (d : Document). d) r (document_at behind s) → Answers text r
-whole_answer text behind s r e b h = go r (blocks_at_end s.phase) refl h
+pub whole_answer : (text : List ℕ) (later : ℕ) (s : State) (r : Result Document ParseFault) → run initial (lines_read text) ≡ Ok s → later ≡ length (lines_read text) + 1 → Gives (λ (d : Document). d) r (document_at later s) → Answers text r
+whole_answer text later s r e b h = go r (blocks_at_end s.phase) refl h
   where
-    go : (r : Result Document ParseFault) (o : Option (List machine.FlatBlock)) → blocks_at_end s.phase ≡ o → Gives (λ (d : Document). d) r (ended behind o >>= λ last. Ok (document_of s last)) → Answers text r
+    go : (r : Result Document ParseFault) (o : Option (List machine.FlatBlock)) → blocks_at_end s.phase ≡ o → Gives (λ (d : Document). d) r (ended later o >>= λ last. Ok (document_of s last)) → Answers text r
     go (Ok d) (Some last) f h = let same : document_of s last ≡ d = cc in subst (λ (z : Document). IsDocumentOf text z) same (whole_run text s last e f).doc
     go (Ok d) None f h = absurd cc
     go (Err g) (Some last) f (inl m) = inl m
     go (Err g) (Some last) f (inr h) = absurd cc
     go (Err g) None f (inl m) = inl m
     go (Err g) None f (inr h) =
-        let same : record { kind = kind.UnexpectedEnd; line = behind; column = 1 } ≡ bad_of g = cc in
-        inr (subst (λ (z : Bad). HasFault text z.kind z.line z.column) same (subst (λ (n : ℕ). HasFault text kind.UnexpectedEnd n 1) (sym b) (open_run text s e f)))
+        let same : record { kind = kind.UnexpectedEnd; line = later; column = 1 } ≡ placed_fault g = cc in
+        inr (subst (λ (z : PlacedFault). HasFault text z.kind z.line z.column) same (subst (λ (n : ℕ). HasFault text kind.UnexpectedEnd n 1) (sym b) (open_run text s e f)))
 
 pub stop_answer : (text : List ℕ) (f : ParseFault) → Gives {X = State} (λ s. s) (Err f) (run initial (lines_read text)) → Answers text (Err f)
 stop_answer text f (inl m) = inl m
-stop_answer text f (inr h) = inr (stopped_run text (bad_of f) h)
+stop_answer text f (inr h) = inr (stopped_run text (placed_fault f) h)
 
 -- ---- the kinds of a text's fault
 

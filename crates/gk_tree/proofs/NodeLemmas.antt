@@ -17,8 +17,8 @@ use Rattle.gk_grammar.specs.declared.fault.FaultKind.{FaultKind}
 use Rattle.gk_grammar.specs.declared.fault.FaultKind.TheVariants as kind
 use Rattle.gk_grammar.specs.Grammar.{stops, is_fence, english}
 use Rattle.gk_grammar.specs.Tree as tree
-use Rattle.gk_grammar.specs.Token.{Text, TagText, Token, Blank, Comment, Language, Tags, Title, Step, Row, Fenced, Other, line, line_of, token_of, comment_token, title_token, step_token, fence_token, word_token, token_or_other, tag_list, tag_text, cell}
-use Rattle.gk_grammar.specs.Machine.{State, Bad, Phase, Start, AfterLanguage, AfterTags, InDescription, AfterStep, InDocString, InExamplesTable, FlatBlock, next, at_phase, close_block, another_row, step_row, step_fence, own_node, after_step, in_examples_table, before_first_block, at_start, after_language, after_tags, after_description, with_description, with_steps, with_rows, follows, takes_tags, open_block, pass_over, with_doc_string, count_of, row_at, same_text}
+use Rattle.gk_grammar.specs.Token.{Utf8, TagText, Token, Blank, Comment, Language, Tags, Title, Step, Row, Fenced, Other, line, line_of, token_of, comment_token, title_token, step_token, fence_token, word_token, token_or_other, tag_list, tag_text, cell}
+use Rattle.gk_grammar.specs.Machine.{State, PlacedFault, Phase, Start, AfterLanguage, AfterTags, InDescription, AfterStep, InDocString, InExamplesTable, FlatBlock, next, at_phase, close_block, another_row, step_row, step_fence, own_node, after_step, in_examples_table, before_first_block, at_start, after_language, after_tags, after_description, with_description, with_steps, with_rows, follows, takes_tags, open_block, pass_over, with_doc_string, count_of, row_at, same_text}
 use Rattle.gk_tree.proofs.TokenLemmas.{tags_bound, chars_bound}
 
 -- the tags of a tag line, and one node of any other line
@@ -26,7 +26,7 @@ room : Token → ℕ
 room (Tags (Ok words)) = suc (length words)
 room _ = 1
 
-IsAtMost : ℕ → Result State Bad → Type 0
+IsAtMost : ℕ → Result State PlacedFault → Type 0
 IsAtMost n (Ok s) = s.nodes ≤ n
 IsAtMost n (Err b) = Unit {0}
 
@@ -37,10 +37,10 @@ own_at_most block.Background = omega arith
 own_at_most block.Scenario = omega arith
 own_at_most block.Examples = omega arith
 
-abbrev place : FaultKind → ℕ → ℕ → Bad
+abbrev place : FaultKind → ℕ → ℕ → PlacedFault
 place k n column = record { kind = k; line = n; column = column }
 
-either : (n : ℕ) (b : Bool) (r t : Result State Bad) → IsAtMost n r → IsAtMost n t → IsAtMost n (cond b r t)
+either : (n : ℕ) (b : Bool) (r t : Result State PlacedFault) → IsAtMost n r → IsAtMost n t → IsAtMost n (cond b r t)
 either n true r t h k = h
 either n false r t h k = k
 
@@ -68,7 +68,7 @@ step_row_adds s c before last None n i cells = omega arith
 step_row_adds s c before last (Some (Table rows)) n i cells = row_adds s (λ rs. AfterStep c before (record last { argument = Some (Table rs) })) rows n i cells
 step_row_adds s c before last (Some (Quoted d)) n i cells = tt
 
-step_fence_adds : (s : State) (c : FlatBlock) (before : List tree.Step) (last : tree.Step) (a : Option tree.Argument) (n i : ℕ) (f : Fence) (media : Text) → IsAtMost (s.nodes + 1) (step_fence s c before last a n i f media)
+step_fence_adds : (s : State) (c : FlatBlock) (before : List tree.Step) (last : tree.Step) (a : Option tree.Argument) (n i : ℕ) (f : Fence) (media : Utf8) → IsAtMost (s.nodes + 1) (step_fence s c before last a n i f media)
 unfolding IsAtMost
 step_fence_adds s c before last None n i f media = omega arith
 step_fence_adds s c before last (Some a) n i f media = tt
@@ -193,7 +193,7 @@ line_adds s (InDocString c before last q inside) n i cs t =
     (omega arith) (omega arith)
 line_adds s (InExamplesTable c rows) n i cs t = listing_adds s c rows n i cs t
 
-at_most_of : (n m : ℕ) (r : Result State Bad) (x : State) → IsAtMost n r → r ≡ Ok x → n ≤ m → x.nodes ≤ m
+at_most_of : (n m : ℕ) (r : Result State PlacedFault) (x : State) → IsAtMost n r → r ≡ Ok x → n ≤ m → x.nodes ≤ m
 unfolding IsAtMost
 at_most_of n m (Ok s) x h e k = let same : s ≡ x = cc in omega (arith, h, k, ap (λ (z : State). z.nodes) same)
 at_most_of n m (Err b) x h e k = absurd cc

@@ -1,4 +1,4 @@
--- What stands after a block, in the grammar's terms, and the parts of blocks before it.
+-- What comes after a block, in the grammar's terms, and the parts of blocks before it.
 use Rattle.std.specs.Prelude.{List, [], ◌∷◌, reverse}
 use Rattle.gk_grammar.specs.Assembly as assembly
 use Rattle.gk_grammar.specs.Assembly.{with_block}
@@ -16,6 +16,6 @@ parts_view p =
     }
 
 -- the parts with these blocks before them
-abbrev pub parts_behind : List machine.FlatBlock → assembly.Parts → assembly.Parts
-parts_behind [] p = p
-parts_behind (c ∷ cs) p = with_block c.block c (parts_behind cs p)
+abbrev pub parts_after : List machine.FlatBlock → assembly.Parts → assembly.Parts
+parts_after [] p = p
+parts_after (c ∷ cs) p = with_block c.block c (parts_after cs p)

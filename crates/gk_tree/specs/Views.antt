@@ -4,9 +4,9 @@ use Rattle.std.specs.Str.{chars, encode_utf8_all}
 use Rattle.gk_line.specs.Views.{line_chars, numbered_line, tag_word, title_text, step_text, fence_text}
 use Rattle.gk_grammar.specs.declared.fault.FaultKind.TheVariants as kind
 use Rattle.gk_grammar.specs.Token as read
-use Rattle.gk_grammar.specs.Token.{Text, line, line_of, tag_text, title_token, step_token, fence_token}
+use Rattle.gk_grammar.specs.Token.{Utf8, line, line_of, tag_text, title_token, step_token, fence_token}
 use Rattle.gk_grammar.specs.Machine as machine
-use Rattle.gk_grammar.specs.Machine.{State, Bad}
+use Rattle.gk_grammar.specs.Machine.{State, PlacedFault}
 use Rattle.gk_line.specs.declared.tokens.TagText.{TagText}
 use Rattle.gk_tree.specs.declared.fault.ParseFault.{ParseFault}
 use Rattle.gk_tree.specs.declared.token.IndentedLine.{IndentedLine}
@@ -22,7 +22,7 @@ use Rattle.gk_tree.specs.declared.state.Phase.TheVariants as phase
 use Rattle.gk_tree.specs.declared.state.Parser.{Parser}
 
 -- the text of these bytes, as a token has it
-abbrev pub text_of : List ℕ → Text
+abbrev pub text_of : List ℕ → Utf8
 text_of bytes = encode_utf8_all (chars bytes)
 
 abbrev pub word_of : TagText → read.TagText
@@ -107,8 +107,8 @@ state_in p phase = state_at p (phase_of phase)
 abbrev pub state_of : Parser → State
 state_of p = state_in p.progress p.phase
 
-abbrev pub bad_of : ParseFault → Bad
-bad_of f = record { kind = f.kind; line = f.line; column = f.column }
+abbrev pub placed_fault : ParseFault → PlacedFault
+placed_fault f = record { kind = f.kind; line = f.line; column = f.column }
 
 abbrev pub out_of_memory : ParseFault
 out_of_memory = record { kind = kind.Memory; line = 0; column = 0 }
@@ -117,6 +117,6 @@ abbrev pub too_long : ParseFault
 too_long = record { kind = kind.TooLong; line = 0; column = 0 }
 
 -- what a function returned is what the machine gives, unless memory ran out
-abbrev pub Gives : {X Y : Type 0} → (X → Y) → Result X ParseFault → Result Y Bad → Type 0
+abbrev pub Gives : {X Y : Type 0} → (X → Y) → Result X ParseFault → Result Y PlacedFault → Type 0
 Gives view (Ok x) r = r ≡ Ok (view x)
-Gives view (Err fault) r = (fault ≡ out_of_memory) ⊎ (r ≡ Err (bad_of fault))
+Gives view (Err fault) r = (fault ≡ out_of_memory) ⊎ (r ≡ Err (placed_fault fault))

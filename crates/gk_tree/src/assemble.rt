@@ -14,7 +14,7 @@ use gk_line::Block;
 use std::alloc::{AllocError, Global};
 use std::mem::replace;
 
-/// What stands after a block: the examples of a scenario, a background and scenarios of a feature or rule, and
+/// What comes after a block: the examples of a scenario, a background and scenarios of a feature or rule, and
 /// further rules. The lists are back to front.
 #[derive(Drop)]
 struct Parts {

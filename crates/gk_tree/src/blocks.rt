@@ -19,7 +19,7 @@ use gk_document::{Cell, Row, Sequence};
 use gk_line::{Block, StepLine, Title};
 use std::alloc::Global;
 
-/// Whether the block may stand after the other one, or be the first.
+/// Whether the block may come after the other one, or be the first.
 pub(crate) fn follows(before: Option<Block>, block: Block) -> bool
     ensures { result ≡ machine.follows before block }
 {

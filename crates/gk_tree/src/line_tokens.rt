@@ -14,7 +14,7 @@ ghost use Rattle.gk_tree.specs.Views.{token_view};
 use crate::token::{IndentedLine, TagWords, Token};
 use gk_document::{Cell, Sequence};
 use gk_line::{
-    Block, Line, LineFault, cells, fence, indent, is_blank, is_comment, is_row, is_tags, language,
+    Block, Line, TagFault, cells, fence, indent, is_blank, is_comment, is_row, is_tags, language,
     step, tags, title,
 };
 use std::alloc::{AllocError, Global};
@@ -70,8 +70,8 @@ fn tag_token(alloc: Global, line: Line<'_>) -> Result<Token<'_>, AllocError>
 {
     match tags(alloc, line) {
         Ok(words) => Ok(Token::Tags(TagWords { words })),
-        Err(LineFault::TagSpace(column)) => Ok(Token::SpacedTag(column)),
-        Err(LineFault::Memory) => Err(AllocError),
+        Err(TagFault::TagSpace(column)) => Ok(Token::SpacedTag(column)),
+        Err(TagFault::Memory) => Err(AllocError),
     }
 }
 

@@ -3,7 +3,7 @@ ghost use Rattle.std.specs.Prelude.{◌≡◌, ◌≢◌, ◌≤◌, ◌<◌, �
 ghost use Rattle.gk_line.specs.declared.limit.TheConstants.{FEATURE_LIMIT};
 ghost use Rattle.gk_line.specs.Views.{numbered_line};
 ghost use Rattle.gk_grammar.specs.declared.fault.FaultKind.TheVariants as kind;
-ghost use Rattle.gk_grammar.specs.Documents.{lines_read, IsDocumentOf, HasFault, IsTooLong, byte_limit, line_limit};
+ghost use Rattle.gk_grammar.specs.Documents.{lines_read, IsDocumentOf, HasFault, IsTooLong, max_bytes, max_lines};
 ghost use Rattle.gk_grammar.specs.Token.{line_of};
 ghost use Rattle.gk_grammar.specs.Machine as machine;
 ghost use Rattle.gk_tree.specs.Views.{line_at, state_of, state_in, phase_of, Gives, out_of_memory, too_long};
@@ -56,7 +56,7 @@ pub fn parse(alloc: Global, text: &str) -> Result<Document, ParseFault>
 #[tactic(auto, unfolding(gk_grammar::specs::Documents::lines_read))]
 fn line_count(text: &str) -> Option<u32>
     ensures some { IfSome result (λ count. (count ≡ length (lines_read text.now))
-        × (count ≤ line_limit) × (length text.now ≤ byte_limit)) }
+        × (count ≤ max_lines) × (length text.now ≤ max_bytes)) }
     ensures none { (result ≡ None) ↔ IsTooLong text.now }
 {
     if text.len() > FEATURE_LIMIT {
@@ -74,8 +74,8 @@ fn line_count(text: &str) -> Option<u32>
 
 /// The document of a text within the limits, whose last line is before `end_line`.
 fn within_limits(alloc: Global, text: &str, end_line: u32) -> Result<Document, ParseFault>
-    requires short { length text.now ≤ byte_limit }
-    requires few { length (lines_read text.now) ≤ line_limit }
+    requires short { length text.now ≤ max_bytes }
+    requires few { length (lines_read text.now) ≤ max_lines }
     requires end_line { end_line ≡ length (lines_read text.now) + 1 }
     ensures { Answers text.now result }
 {
@@ -86,8 +86,8 @@ fn within_limits(alloc: Global, text: &str, end_line: u32) -> Result<Document, P
 /// Reads all lines.
 #[tactic(auto, unfolding(gk_grammar::specs::Documents::lines_read))]
 fn read_lines<'a>(alloc: Global, text: &'a str) -> Result<Parser<'a>, ParseFault>
-    requires short { length text.now ≤ byte_limit }
-    requires few { length (lines_read text.now) ≤ line_limit }
+    requires short { length text.now ≤ max_bytes }
+    requires few { length (lines_read text.now) ≤ max_lines }
     ensures { Gives state_of result (machine.run machine.initial (lines_read text.now)) }
 {
     let mut progress = Progress {

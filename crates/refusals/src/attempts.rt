@@ -84,7 +84,7 @@ fn add_with_room(
     })
 }
 
-// Tells whether the case was refused: then it isn't there, and each look-up answers as before.
+// Whether the case was refused: then it isn't there, and each look-up answers as before.
 fn is_case_refused(met: Met, wanted: Result<(), TrackFault>) -> Result<bool, Fail> {
     let is_refused = met.answer == Err(TrackFault::Memory);
     let is_case = met.start != Err(TrackFault::UnknownCase);
@@ -134,7 +134,7 @@ fn start_with_room(
     })
 }
 
-// Tells whether the start was refused: then no attempt is counted, and each look-up answers as before.
+// Whether the start was refused: then no attempt is counted, and each look-up answers as before.
 fn is_start_refused(met: Met) -> Result<bool, Fail> {
     let is_refused = met.answer == Err(TrackFault::Memory);
     let is_uncounted = met.start == Err(TrackFault::AttemptNumber);
@@ -201,7 +201,7 @@ const TAKEN: [Call; 5] = [
     Call::Finish(NEW),
 ];
 
-// Refusals are told without memory.
+// Refusals are reported without memory.
 fn refuses_without_memory(track: &mut Track) -> bool {
     for (call, fault) in REFUSED {
         if answer_of(track, call) != Err(fault) {

@@ -119,7 +119,7 @@ struct Met {
     after: LookUps,
 }
 
-// Tells whether the call was refused memory. Each look-up answers as before where the declaration isn't taken, and only there.
+// Whether the call was refused memory. Each look-up answers as before where the declaration isn't taken, and only there.
 fn is_refused(met: Met, wanted: Result<(), RefFault>) -> Result<bool, Fail> {
     let is_refused = met.answer == Err(RefFault::Memory);
     check(is_refused || met.answer == wanted, "another fault")?;
@@ -287,7 +287,7 @@ fn new_pickles(rt: HostRuntime) -> Result<(), Fail> {
     Ok(())
 }
 
-// What is declared already is told without memory.
+// What is declared already is reported without memory.
 fn names_are_taken(declared: &mut Declared) -> bool {
     for kind in KINDS {
         if declare(declared, kind, "a") != Err(taken(kind)) {

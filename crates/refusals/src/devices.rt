@@ -38,7 +38,7 @@ pub(crate) fn whole(text: &str) -> Bytes<'_> {
     in_pieces(text, usize::MAX)
 }
 
-// What a run tells where memory is refused.
+// What a run reports where memory is refused.
 const TROUBLE: &str = "trouble Memory\n";
 
 // Takes bytes and compares them with the text that is wanted, and with the trouble.

@@ -1,10 +1,9 @@
 //! Lines, documents and pickles in want of memory.
-ghost use Rattle.std.specs.Prelude.{◌≡◌, ◌≤◌, length, IfSome};
-ghost use Rattle.gk_line.specs.Views.{line_chars};
+ghost use Rattle.std.specs.Prelude.{◌≤◌, length, IfSome};
 
 use crate::meeting::{Came, SMALL, check, meet, meet_alone, right_if};
 use gk_line::{
-    Cell, Fence, Line, LineFault, TagText, cells, doc_line, is_row, is_tags, push_doc_line, tags,
+    Cell, Fence, Line, TagFault, TagText, cells, doc_line, is_row, is_tags, push_doc_line, tags,
 };
 use gk_pickle::{Pickle, StepType, compile, fill};
 use gk_tree::{Document, FaultKind, ParseFault, parse};
@@ -42,8 +41,8 @@ fn read_tags(alloc: Global) -> Came {
     }
     match tags(alloc, line) {
         Ok(found) => right_if(are_tags(found.as_slice())),
-        Err(LineFault::Memory) => Came::Refused,
-        Err(LineFault::TagSpace(_)) => Came::Wrong,
+        Err(TagFault::Memory) => Came::Refused,
+        Err(TagFault::TagSpace(_)) => Came::Wrong,
     }
 }
 
@@ -106,7 +105,7 @@ fn a_line_of_a_doc_string(rt: HostRuntime) -> Result<(), Fail> {
 // A line whose text is longer than the smallest block.
 const LONG_QUOTED: &str = r#"    y \"\"\" z, and more than a small block holds of it"#;
 
-// Adds the line to the text with this room. Tells whether it was refused: then the text is as it was.
+// Adds the line to the text with this room. Answers whether it was refused: then the text is as it was.
 fn is_push_refused(
     text: &mut String,
     alloc: Global,
@@ -127,7 +126,7 @@ fn is_push_refused(
 }
 
 #[test]
-fn a_line_behind_a_text(rt: HostRuntime) -> Result<(), Fail> {
+fn a_line_after_a_text(rt: HostRuntime) -> Result<(), Fail> {
     let alloc = rt.alloc();
     let mut text = String::from_str(alloc, "x")?;
     let mut shortage = Shortage::new(alloc)?;
@@ -219,7 +218,7 @@ fn fill_text(alloc: Global, header: &[Cell], row: &[Cell]) -> Came {
     }
 }
 
-// Fills the cells with this room. Tells whether it was refused.
+// Fills the cells with this room. Answers whether it was refused.
 fn is_fill_refused(
     alloc: Global,
     shortage: &mut Shortage,

@@ -90,7 +90,7 @@ fn stays(feed: &mut Feed, source: &mut Bytes<'_>, last: Next) -> bool {
     }
 }
 
-// Reads a stream with this room. Tells whether a growth was refused.
+// Reads a stream with this room. Answers whether a growth was refused.
 fn is_refused(
     alloc: Global,
     shortage: &mut Shortage,

@@ -25,7 +25,7 @@ const CACHED_SIZES: usize = 64;
 /// All memory that the process can get, but for 32,000,000 bytes of its heap. Of these it takes in turn all beyond a room
 /// that a test states, and gives them back. A drop gives back all.
 ///
-/// It rests on the heap of the GNU C library, and on address space that can be taken with no memory behind it. Where
+/// It rests on the heap of the GNU C library, and on address space that can be taken with no memory to it. Where
 /// memory can't be taken so, its calls fail or nothing is refused: a test has to see both a refusal and an answer.
 #[derive(Drop)]
 pub struct Shortage {

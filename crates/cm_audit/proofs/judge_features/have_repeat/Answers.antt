@@ -1,5 +1,5 @@
 use Rattle.std.proofs.Common.{◌≡◌, ◌∙◌, ap, sym, false, true, get_or, map, take, Bor}
-use Rattle.cm_attempt.specs.Table.{Text, has_text}
+use Rattle.cm_attempt.specs.Table.{Utf8, has_text}
 use Rattle.cm_refs.proofs.RepeatLemmas.{no_repeat_at, repeat_at}
 use Rattle.cm_audit.proofs.Repeats.{has_text_before, inserted_texts}
 use Rattle.cm_audit.proofs.judge_features.have_repeat.Goals as goal
@@ -20,7 +20,7 @@ loop-text-preserved c =
     let text = c.text-item.result in
     let new : has_text (get_or texts i text) (take i texts) ≡ false =
     has_text_before c.loop-text.set.keys texts i text c.loop-text.invariant.0 c.text-item.is false (rw (← c.as_str.ensures) c.if-contains.ensures) in (
-      ap (map (λ (k : Bor Text). k.now)) c.in_ok-insert.ensures.keys
+      ap (map (λ (k : Bor Utf8). k.now)) c.in_ok-insert.ensures.keys
           ∙ inserted_texts c.loop-text.set.keys texts i text c.loop-text.invariant.0 c.text-item.is c.as_str-in-loop-text.result c.as_str-in-loop-text.ensures c.loop-text-test.true new,
       no_repeat_at texts i text c.loop-text-test.true new c.loop-text.invariant.1,
     )

@@ -1,15 +1,15 @@
 use Rattle.std.specs.Str.{chars}
 use Rattle.gk_line.specs.DocStrings.{fence_characters}
 use Rattle.gk_document.specs.declared.tree.Fence.TheVariants.{Quotes, Backticks}
-use Rattle.gk_line.proofs.PlaceLemmas.{stands-read}
+use Rattle.gk_line.proofs.PlaceLemmas.{placed-read}
 use Rattle.gk_line.proofs.keyword_lines.fence.Goals as goal
 
 pub returns-in-Some-clause-place : goal.returns-in-Some-clause-place
 returns-in-Some-clause-place c =
-    stands-read (chars c.args.line.text.now) (chars c.trim_start-body.result.now) (fence_characters Quotes) (chars c.in-Some.rest.now) (chars c.trim.result.now) c.column.result
+    placed-read (chars c.args.line.text.now) (chars c.trim_start-body.result.now) (fence_characters Quotes) (chars c.in-Some.rest.now) (chars c.trim.result.now) c.column.result
     c.trim_start-body.ensures.value c.in-Some.ensures.value c.trim.ensures c.column.ensures.value
 
 pub returns-clause-place : goal.returns-clause-place
 returns-clause-place c =
-    stands-read (chars c.args.line.text.now) (chars c.trim_start-body.result.now) (fence_characters Backticks) (chars c.in_ok-rest.rest.now) (chars c.trim-2.result.now) c.column-2.result
+    placed-read (chars c.args.line.text.now) (chars c.trim_start-body.result.now) (fence_characters Backticks) (chars c.in_ok-rest.rest.now) (chars c.trim-2.result.now) c.column-2.result
     c.trim_start-body.ensures.value c.in_ok-rest.ensures.value c.trim-2.ensures c.column-2.ensures.value

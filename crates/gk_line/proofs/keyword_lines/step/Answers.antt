@@ -5,7 +5,7 @@ use Rattle.std.specs.Option.{option_map}
 use Rattle.std.specs.Str.{chars, NonePass}
 use Rattle.gk_line.specs.Texts.{IsCutAt}
 use Rattle.gk_line.specs.Views.{step_text}
-use Rattle.gk_line.proofs.PlaceLemmas.{step-stands}
+use Rattle.gk_line.proofs.PlaceLemmas.{step-placed}
 use Rattle.gk_line.proofs.TitleLemmas.{step-none, step-found, step-missed, step_keyword, cut_after_space}
 use Rattle.gk_line.proofs.keyword_lines.step.Goals as goal
 use Rattle.gk_line.specs.Characters.{plain_space}
@@ -33,4 +33,4 @@ returns-clause-value c =
     grind (arith, common_steps)
 
 pub returns-clause-place : goal.returns-clause-place
-returns-clause-place c = step-stands (chars c.args.line.text.now) (record { keyword = chars c.range.result.now; kind = c.in_ok-kind.kind; text = chars c.trim.result.now; column = c.column.result }) (sym (returns-clause-value c))
+returns-clause-place c = step-placed (chars c.args.line.text.now) (record { keyword = chars c.range.result.now; kind = c.in_ok-kind.kind; text = chars c.trim.result.now; column = c.column.result }) (sym (returns-clause-value c))

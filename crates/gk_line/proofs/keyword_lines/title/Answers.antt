@@ -5,7 +5,7 @@ use Rattle.std.specs.Option.{option_map}
 use Rattle.std.specs.Str.{chars, NonePass}
 use Rattle.gk_line.specs.Texts.{IsCutAt}
 use Rattle.gk_line.specs.Views.{title_text}
-use Rattle.gk_line.proofs.PlaceLemmas.{title-stands}
+use Rattle.gk_line.proofs.PlaceLemmas.{title-placed}
 use Rattle.gk_line.proofs.TitleLemmas.{title-none, title-cut}
 use Rattle.gk_line.proofs.keyword_lines.title.Goals as goal
 use Rattle.gk_line.specs.Characters.{colon}
@@ -28,4 +28,4 @@ returns-clause-value c =
     grind (arith, common_steps)
 
 pub returns-clause-place : goal.returns-clause-place
-returns-clause-place c = title-stands c.args.block (chars c.args.line.text.now) (record { keyword = chars c.in_ok-keyword.keyword.now; name = chars c.trim.result.now; column = c.column.result }) (sym (returns-clause-value c))
+returns-clause-place c = title-placed c.args.block (chars c.args.line.text.now) (record { keyword = chars c.in_ok-keyword.keyword.now; name = chars c.trim.result.now; column = c.column.result }) (sym (returns-clause-value c))

@@ -7,9 +7,9 @@ pub loop-row-preserved : goal.loop-row-preserved
 loop-row-preserved c =
     let row = c.row-item.result in
     let header = c.in_ok-columns.ensures ∙ c.as_slice.ensures in
-    one_row _ _ _ (λ row. pickle_of c.args.around.now c.args.scenario.now c.args.tags.now (row_filling c.args.table.now.header row))
+    one_row _ _ _ (λ row. pickle_of c.args.inherited.now c.args.scenario.now c.args.tags.now (row_filling c.args.table.now.header row))
     c.as_slice-row-items.result.now c.args.table.now.body c.loop-row.row-index row c.in_ok-pickle.pickle c.as_slice-row-items.ensures c.in_ok-push.ensures.items
     (c.in_ok-pickle.ensures
-    ∙ ap (pickle_of c.args.around.now c.args.scenario.now c.args.tags.now)
+    ∙ ap (pickle_of c.args.inherited.now c.args.scenario.now c.args.tags.now)
     (c.of_row-filling.ensures ∙ ap (λ h. record { header = h; cells = row.cells; rows = row.node ∷ [] }) header))
     c.loop-row-test.true c.row-item.is c.loop-row.invariant

@@ -5,5 +5,5 @@ use Rattle.gk_pickle.proofs.compiling.add_rows.Given as goal
 
 abbrev pub invariant-loop-row : goal.invariant-loop-row
 invariant-loop-row l =
-    let made = λ (row : Row). pickle_of l.around l.scenario l.tags (row_filling l.table.header row) in
+    let made = λ (row : Row). pickle_of l.inherited l.scenario l.tags (row_filling l.table.header row) in
     l.made.items ++ map made (drop l.row-index l.table.body) ≡ l.initial.made.items ++ map made l.table.body

@@ -5,26 +5,26 @@ use Rattle.gk_grammar.specs.Assembly.{no_parts, with_block}
 use Rattle.gk_grammar.specs.Machine as machine
 use Rattle.gk_tree.specs.declared.flat_block.FlatBlock.{FlatBlock}
 use Rattle.gk_tree.specs.Views.{flat_block_of}
-use Rattle.gk_tree.specs.Assembling.{parts_view, parts_behind}
+use Rattle.gk_tree.specs.Assembling.{parts_view, parts_after}
 use Rattle.gk_tree.proofs.assemble.parts_of.Goals as goal
 
-behind_nothing : (cs : List machine.FlatBlock) → parts_behind cs no_parts ≡ assembly.parts_of cs
-behind_nothing [] = refl
-behind_nothing (c ∷ cs) = ap (λ (z : assembly.Parts). with_block c.block c z) (behind_nothing cs)
+after_nothing : (cs : List machine.FlatBlock) → parts_after cs no_parts ≡ assembly.parts_of cs
+after_nothing [] = refl
+after_nothing (c ∷ cs) = ap (λ (z : assembly.Parts). with_block c.block c z) (after_nothing cs)
 
-one_before : (cs : List FlatBlock) (c : FlatBlock) (p : assembly.Parts) → parts_behind (map flat_block_of (cs ++ c ∷ [])) p ≡ parts_behind (map flat_block_of cs) (with_block c.block (flat_block_of c) p)
+one_before : (cs : List FlatBlock) (c : FlatBlock) (p : assembly.Parts) → parts_after (map flat_block_of (cs ++ c ∷ [])) p ≡ parts_after (map flat_block_of cs) (with_block c.block (flat_block_of c) p)
 one_before [] c p = refl
 one_before (x ∷ xs) c p = ap (λ (z : assembly.Parts). with_block x.block (flat_block_of x) z) (one_before xs c p)
 
 pub loop-flat_block-init : goal.loop-flat_block-init
 loop-flat_block-init c =
-    rw c.new.ensures.items (rw c.new-2.ensures.items (rw c.new-3.ensures.items (behind_nothing (map flat_block_of c.args.flat_blocks.items))))
+    rw c.new.ensures.items (rw c.new-2.ensures.items (rw c.new-3.ensures.items (after_nothing (map flat_block_of c.args.flat_blocks.items))))
 
 pub loop-flat_block-preserved : goal.loop-flat_block-preserved
 loop-flat_block-preserved c =
     let rest = c.pop.new.self.items in
-    let behind = parts_view c.loop-flat_block.parts in
-    ap (λ (z : assembly.Parts). parts_behind (map flat_block_of rest) z) c.in_ok-add_flat_block.ensures
-    ∙ sym (one_before rest c.in-Some.flat_block behind)
-    ∙ ap (λ (z : List FlatBlock). parts_behind (map flat_block_of z) behind) (sym c.in-Some.ensures.items)
+    let later = parts_view c.loop-flat_block.parts in
+    ap (λ (z : assembly.Parts). parts_after (map flat_block_of rest) z) c.in_ok-add_flat_block.ensures
+    ∙ sym (one_before rest c.in-Some.flat_block later)
+    ∙ ap (λ (z : List FlatBlock). parts_after (map flat_block_of z) later) (sym c.in-Some.ensures.items)
     ∙ c.loop-flat_block.invariant

@@ -13,10 +13,10 @@ loop-line-preserved c =
     let x = c.in-Some.line in
     let steps = c.in-Some.ensures.steps in
     let before = state_in c.loop-line.progress c.loop-line.phase in
-    let behind = state_in c.read_line.new.progress c.in_ok-phase.phase in
-    let rise = nodes_rise before behind x.number 16_777_216 x.text.now steps.1.0 c.in_ok-phase.ensures in
+    let later = state_in c.read_line.new.progress c.in_ok-phase.phase in
+    let rise = nodes_rise before later x.number 16_777_216 x.text.now steps.1.0 c.in_ok-phase.ensures in
     let fewer = ap (λ (z : List (ℕ × List ℕ)). length z) steps.0 in
     record {
-      rest = turn_run (machine.run machine.initial (lines_read c.args.text.now)) before behind (lines_left c.loop-line.line-iterator) (lines_left c.next.new.self) (numbered_line x) c.loop-line.invariant.rest steps.0 c.in_ok-phase.ensures;
+      rest = turn_run (machine.run machine.initial (lines_read c.args.text.now)) before later (lines_left c.loop-line.line-iterator) (lines_left c.next.new.self) (numbered_line x) c.loop-line.invariant.rest steps.0 c.in_ok-phase.ensures;
       room = omega arith;
     }

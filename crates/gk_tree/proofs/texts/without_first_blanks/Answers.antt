@@ -12,7 +12,7 @@ returns-then-not-is_blank c =
     let lines = c.args.lines.now in
     let x = c.index-lines-i.result in
     let within : c.loop-i.i < length lines = omega arith in
-    let text = subst (λ (z : IndentedLine). is_blank_line (line_chars z.line) ≡ false) c.index-lines-i.is (sym c.is_blank.ensures ∙ c.if-not-is_blank.true) in
+    let text = subst (λ (z : IndentedLine). is_blank_line (line_chars z.line) ≡ false) c.index-lines-i.is (sym c.is_blank.ensures.value ∙ c.if-not-is_blank.true) in
     ap (λ (z : List IndentedLine). map kept_line z) (all_left lines c.loop-i.i) ∙ sym (turn_text lines c.loop-i.i x within text) ∙ c.loop-i.invariant
 
 pub loop-i-preserved : goal.loop-i-preserved
@@ -20,5 +20,5 @@ loop-i-preserved c =
     let lines = c.args.lines.now in
     let x = c.index-lines-i.result in
     let within : c.loop-i.i < length lines = omega arith in
-    let blank = subst (λ (z : IndentedLine). is_blank_line (line_chars z.line) ≡ true) c.index-lines-i.is (sym c.is_blank.ensures ∙ c.if-not-is_blank.false) in
+    let blank = subst (λ (z : IndentedLine). is_blank_line (line_chars z.line) ≡ true) c.index-lines-i.is (sym c.is_blank.ensures.value ∙ c.if-not-is_blank.false) in
     sym (turn_blank lines c.loop-i.i x within blank) ∙ c.loop-i.invariant

@@ -13,7 +13,7 @@ returns-then-not-is_blank c =
     let x = c.index-lines-end.result in
     let back : (c.loop-end.end - 1) + 1 ≡ c.loop-end.end = omega arith in
     let within : c.loop-end.end - 1 < length lines = omega arith in
-    let text = sym c.is_blank.ensures ∙ c.if-not-is_blank.true in
+    let text = sym c.is_blank.ensures.value ∙ c.if-not-is_blank.true in
     let is = subst (λ (n : ℕ). from_text (reverse (map kept_line (take n lines))) ≡ reverse (map kept_line (take n lines))) back (turn_last_text lines (c.loop-end.end - 1) x within text) in
     sym (reverse-reverse (map kept_line (take c.loop-end.end lines))) ∙ ap (λ (z : List Line). reverse z) (sym is ∙ c.loop-end.invariant.same)
 
@@ -23,6 +23,6 @@ loop-end-preserved c =
     let x = c.index-lines-end.result in
     let back : (c.loop-end.end - 1) + 1 ≡ c.loop-end.end = omega arith in
     let within : c.loop-end.end - 1 < length lines = omega arith in
-    let blank = sym c.is_blank.ensures ∙ c.if-not-is_blank.false in
+    let blank = sym c.is_blank.ensures.value ∙ c.if-not-is_blank.false in
     let is = subst (λ (n : ℕ). from_text (reverse (map kept_line (take n lines))) ≡ from_text (reverse (map kept_line (take (c.loop-end.end - 1) lines)))) back (turn_last_blank lines (c.loop-end.end - 1) x within blank) in
     record { within = omega arith; same = sym is ∙ c.loop-end.invariant.same }

@@ -1,11 +1,11 @@
--- What a scenario's pickles take from around it.
+-- What a scenario's pickles inherit of its feature and rule.
 use Rattle.std.specs.Prelude.{ℕ, List, []}
 use Rattle.gk_document.specs.declared.tree.Cell.{Cell}
 use Rattle.gk_document.specs.declared.tree.Tag.{Tag}
 use Rattle.gk_document.specs.declared.tree.Step.{Step}
 
 -- the tags of the feature and the rule, and the steps of their backgrounds
-pub record Around : Type 0 where
+pub record Inherited : Type 0 where
   pub tags : List Tag
   pub steps : List Step
 
