@@ -17,15 +17,15 @@ use Rattle.gk_pickle.specs.Steps.{steps_after, keywords, pickle_steps}
 use Rattle.gk_pickle.specs.Pickles.{pickle_of, row_filling, table_pickles, examples_pickles, outline_pickles, scenario_pickles, background_steps, in_feature, in_rule, rule_pickles, pickles_in, pickles}
 use Rattle.gk_pickle.specs.Order.{rule_steps, document_steps, IsSubsequence, own_node, ComesFrom, StepsInDocumentOrder}
 
-front : (xs ys all : List Step) → IsSubsequence (xs ++ ys) all → IsSubsequence xs all
+pub front : (xs ys all : List Step) → IsSubsequence (xs ++ ys) all → IsSubsequence xs all
 front [] ys all h = tt
 front (x ∷ xs) ys all h = (h.0, h.1, h.2, front xs ys h.1 h.3)
 
-same : (xs : List Step) → IsSubsequence xs xs
+pub same : (xs : List Step) → IsSubsequence xs xs
 same [] = tt
 same (x ∷ xs) = ([], xs, refl, same xs)
 
-later : (before xs all : List Step) → IsSubsequence xs all → IsSubsequence xs (before ++ all)
+pub later : (before xs all : List Step) → IsSubsequence xs all → IsSubsequence xs (before ++ all)
 later before [] all h = tt
 later before (x ∷ xs) all h = (before ++ h.0, h.1, ap (λ l. before ++ l) h.2 ∙ sym (append_assoc before h.0 (x ∷ h.1)), h.3)
 
@@ -35,19 +35,19 @@ past (b ∷ bs) xs all h =
     let P : List Step → Type 0 = IsSubsequence xs in
     subst P (append_assoc h.0 (b ∷ []) h.1 ∙ sym h.2) (later (h.0 ++ b ∷ []) xs h.1 (past bs xs h.1 h.3))
 
-through : (xs ys all : List Step) → IsSubsequence xs ys → IsSubsequence ys all → IsSubsequence xs all
+pub through : (xs ys all : List Step) → IsSubsequence xs ys → IsSubsequence ys all → IsSubsequence xs all
 through [] ys all h k = tt
 through (x ∷ xs) ys all h k =
     let P : List Step → Type 0 = λ l. IsSubsequence l all in
     let here : IsSubsequence (x ∷ h.1) all = past h.0 (x ∷ h.1) all (subst P h.2 k) in
     (here.0, here.1, here.2, through xs h.1 here.1 h.3 here.3)
 
-kept : (xs ys zs : List Step) → IsSubsequence ys zs → IsSubsequence (xs ++ ys) (xs ++ zs)
+pub kept : (xs ys zs : List Step) → IsSubsequence ys zs → IsSubsequence (xs ++ ys) (xs ++ zs)
 kept [] ys zs h = h
 kept (x ∷ xs) ys zs h = ([], xs ++ zs, refl, kept xs ys zs h)
 
 module _ {A : Type 0} (P : A → Type 0) where
-  of_parts : (xs ys : List A) → AllByRecursion P xs → AllByRecursion P ys → AllByRecursion P (xs ++ ys)
+  pub of_parts : (xs ys : List A) → AllByRecursion P xs → AllByRecursion P ys → AllByRecursion P (xs ++ ys)
   of_parts [] ys h k = k
   of_parts (x ∷ xs) ys h k = (h.0, of_parts xs ys h.1 k)
 

@@ -1,0 +1,3 @@
+pub mod Faultless
+pub mod SomeGood
+pub mod SomeBytes

@@ -1,0 +1,4 @@
+pub mod Envelopes
+pub mod Streams
+pub mod Lines
+pub mod Laws

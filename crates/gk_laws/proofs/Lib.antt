@@ -1,0 +1,15 @@
+pub mod CellTexts
+pub mod FenceCuts
+pub mod Keywords
+pub mod LanguageParts
+pub mod LineDocuments
+pub mod OtherCounts
+pub mod OtherLanguages
+pub mod PickleScenarios
+pub mod RowCuts
+pub mod Stopped
+pub mod TagCuts
+pub mod TextParts
+pub mod TokenReadings
+pub mod Trims
+pub mod Units

@@ -1,0 +1,105 @@
+-- What holds of every list of lines and its document, and of the places of faults.
+use Rattle.std.specs.Prelude.{◌≡◌, ◌≢◌, ◌⊎◌, ℕ, List, ◌∷◌, ◌++◌, map, length, IsTrue, IsFalse}
+use Rattle.std.specs.List.{AllByRecursion, enumerate_from}
+use Rattle.gk_grammar.specs.Token.{Language, Row, Line, line, line_of, number, is_gap, is_language}
+use Rattle.gk_grammar.specs.Tree.{Document}
+use Rattle.gk_grammar.specs.Grammar.{Doc, english}
+use Rattle.gk_grammar.specs.Place.{IsFault, is_row_or_gap}
+use Rattle.gk_grammar.specs.declared.fault.FaultKind.{FaultKind}
+use Rattle.gk_grammar.specs.declared.fault.FaultKind.TheVariants as kind
+
+-- the lines of these characters, numbered from 1, as the grammar reads them
+abbrev pub read_lines : List (List ℕ) → List Line
+read_lines texts = map line_of (enumerate_from 1 texts)
+
+-- lines have one document at most
+abbrev pub OneDocumentOfLines : Type 0
+OneDocumentOfLines =
+    (texts : List (List ℕ)) (a b : Document) → Doc (read_lines texts) a → Doc (read_lines texts) b
+    → a ≡ b
+
+-- lines have a document, or a fault
+abbrev pub DocumentOrFaultOfLines : Type 0
+DocumentOrFaultOfLines =
+    (texts : List (List ℕ)) → ((d : Document) × Doc (read_lines texts) d)
+    ⊎ ((kind : FaultKind) × (n : ℕ) × (column : ℕ) × IsFault (read_lines texts) kind n column)
+
+-- and not both
+abbrev pub NoDocumentWithFaultOfLines : Type 0
+NoDocumentWithFaultOfLines =
+    (texts : List (List ℕ)) (d : Document) (kind : FaultKind) (n column : ℕ)
+    → Doc (read_lines texts) d → IsFault (read_lines texts) kind n column → ⊥
+
+-- lines have one fault at most
+abbrev pub OneFaultOfLines : Type 0
+OneFaultOfLines =
+    (texts : List (List ℕ)) (kind other_kind : FaultKind) (n other_n column other_column : ℕ)
+    → IsFault (read_lines texts) kind n column
+    → IsFault (read_lines texts) other_kind other_n other_column
+    → (kind ≡ other_kind) × (n ≡ other_n) × (column ≡ other_column)
+
+-- ---- the place of an unsupported language
+
+-- a language line whose word isn't `en`
+abbrev pub NamesOtherLanguage : Line → Type 0
+NamesOtherLanguage (line n t i (Language word)) = word ≢ english
+NamesOtherLanguage _ = ⊥
+
+-- a comment or a blank line, but no language line
+abbrev pub IsPlainLine : Line → Type 0
+IsPlainLine l = IsTrue (is_gap l) × IsFalse (is_language l)
+
+-- Line n names another language than English. Before it are comments and blank lines, and no language
+-- line.
+pub record IsOtherLanguage (ls : List Line) (n : ℕ) : Type 0 where
+  pub before : List Line
+  pub at : Line
+  pub after : List Line
+  pub cut : ls ≡ before ++ at ∷ after
+  pub here : number at ≡ n
+  pub opening : AllByRecursion IsPlainLine before
+  pub other : NamesOtherLanguage at
+
+abbrev pub OtherLanguageAtFault : Type 0
+OtherLanguageAtFault =
+    (texts : List (List ℕ)) (n column : ℕ)
+    → IsFault (read_lines texts) kind.UnsupportedLanguage n column
+    → IsOtherLanguage (read_lines texts) n
+
+-- ---- the place of a count of cells
+
+-- a row of so many cells
+abbrev pub HasCount : ℕ → Line → Type 0
+HasCount count (line n t i (Row cells)) = length cells ≡ count
+HasCount count _ = ⊥
+
+-- a row of so many cells, a comment or a blank line
+abbrev pub HasCountOrGap : ℕ → Line → Type 0
+HasCountOrGap count l = HasCount count l ⊎ IsTrue (is_gap l)
+
+-- Line n is a row with another count of cells than the first row of its table. That is the first row
+-- after a line which is neither a row nor a comment nor blank, and each row between the two has its
+-- count.
+pub record IsOtherCount (ls : List Line) (n : ℕ) : Type 0 where
+  pub before : List Line
+  pub last_before : Line
+  pub gap : List Line
+  pub first : Line
+  pub between : List Line
+  pub at : Line
+  pub after : List Line
+  pub cut : ls ≡ before ++ last_before ∷ (gap ++ first ∷ (between ++ at ∷ after))
+  pub here : number at ≡ n
+  pub no_row : IsFalse (is_row_or_gap last_before)
+  pub only_gap : AllByRecursion (λ l. IsTrue (is_gap l)) gap
+  pub table_count : ℕ
+  pub count : ℕ
+  pub first_row : HasCount table_count first
+  pub same_count : AllByRecursion (HasCountOrGap table_count) between
+  pub row : HasCount count at
+  pub other : count ≢ table_count
+
+abbrev pub OtherCountAtFault : Type 0
+OtherCountAtFault =
+    (texts : List (List ℕ)) (n column : ℕ) → IsFault (read_lines texts) kind.CellCount n column
+    → IsOtherCount (read_lines texts) n

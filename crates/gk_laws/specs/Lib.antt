@@ -1,0 +1,9 @@
+pub mod Documents
+pub mod Fences
+pub mod KeywordLines
+pub mod LanguageLines
+pub mod PickleSteps
+pub mod Rows
+pub mod TagLines
+pub mod TokenKinds
+pub mod Trimming

@@ -1,0 +1,34 @@
+//! What holds of every list of lines and its document, and of the places of faults.
+ghost use Rattle.gk_laws.specs.Documents.{OneDocumentOfLines, DocumentOrFaultOfLines, NoDocumentWithFaultOfLines, OneFaultOfLines, OtherLanguageAtFault, OtherCountAtFault};
+
+/// Lines have one document at most.
+pub fn one_document_of_lines()
+    ensures { OneDocumentOfLines }
+{}
+
+/// Lines have a document, or a fault.
+pub fn document_or_fault_of_lines()
+    ensures { DocumentOrFaultOfLines }
+{}
+
+/// Lines that have a document have no fault.
+pub fn no_document_with_fault_of_lines()
+    ensures { NoDocumentWithFaultOfLines }
+{}
+
+/// Lines have one fault at most: one kind, at one line and column.
+pub fn one_fault_of_lines()
+    ensures { OneFaultOfLines }
+{}
+
+/// Where the fault is an unsupported language, its line is the first language line, and names another
+/// language than English.
+pub fn other_language_at_fault()
+    ensures { OtherLanguageAtFault }
+{}
+
+/// Where the fault is a count of cells, its line is a row, and the first of its table with another
+/// count than the table's first row.
+pub fn other_count_at_fault()
+    ensures { OtherCountAtFault }
+{}

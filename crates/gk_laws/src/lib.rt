@@ -1,0 +1,31 @@
+//! Laws of feature files: what the definitions of lines, documents and pickles come to.
+//!
+//! Each public function is a law: its contract says the law, and it does nothing. No other crate is built on this one.
+//!
+//! ```
+//! ghost use Rattle.gk_laws.specs.Documents.{OneDocumentOfLines};
+//!
+//! use gk_laws::one_document_of_lines;
+//!
+//! /// Whatever reads lines, it can find one document only.
+//! pub fn readers_agree()
+//!     ensures { OneDocumentOfLines }
+//! {
+//!     one_document_of_lines()
+//! }
+//! ```
+#![tactic(auto)]
+
+mod documents;
+mod lines;
+mod pickles;
+
+pub use documents::{
+    document_or_fault_of_lines, no_document_with_fault_of_lines, one_document_of_lines,
+    one_fault_of_lines, other_count_at_fault, other_language_at_fault,
+};
+pub use lines::{
+    bars_cut_rows, escaped_fences_cut_lines, keyword_lines_have_parts, language_lines_have_parts,
+    marks_cut_tag_lines, tokens_read_lines, units_write_rows,
+};
+pub use pickles::steps_are_made;
