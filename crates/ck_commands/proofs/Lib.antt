@@ -5,3 +5,4 @@ pub mod Gates
 pub mod Lines
 pub mod Printing
 pub mod TextLemmas
+pub mod Asked

@@ -1,6 +1,7 @@
 -- What the command `gate` prints: the line of `audit`, and where a run that is truthfully reported isn't to be released, a second
 -- line with the reason.
 use Rattle.std.specs.Prelude.{ℕ, Bool, List, [], ◌∷◌, ◌++◌, Option, Some, None, codes}
+use Rattle.std.specs.Io.KnownBytes.{Appends}
 use Rattle.cm_envelope.specs.Lines.{line_feed}
 use Rattle.cm_attempt.specs.declared.settings.Settings.{Settings}
 use Rattle.cm_stream.specs.Release.{IsReleasedStream, hold_of}
@@ -9,7 +10,7 @@ use Rattle.cm_stream.specs.declared.verdict.Counts.{Counts}
 use Rattle.cm_stream.specs.declared.verdict.Hold.{Hold}
 use Rattle.cm_stream.specs.declared.verdict.Hold.TheVariants as hold
 use Rattle.ck_commands.specs.Output.{Report}
-use Rattle.ck_commands.specs.Verdicts.{verdict_report}
+use Rattle.ck_commands.specs.Verdicts.{counts_text, verdict_report}
 use Rattle.ck_commands.specs.declared.output.ExitStatus.{ExitStatus}
 use Rattle.ck_commands.specs.declared.output.ExitStatus.TheVariants.{Held}
 
@@ -37,7 +38,9 @@ gate_report allows_unrun a = record {
   status = held_status (hold_in allows_unrun a) (verdict_report a).status;
 }
 
--- a released stream, whatever its counts
-abbrev pub IsReleasedSomehow : Settings → (allows_unrun : Bool) → List ℕ → Type 0
-IsReleasedSomehow settings allows_unrun bytes =
+-- the counts of a released stream were printed
+abbrev pub PrintsReleased : Settings → (allows_unrun : Bool) → (old new : Option (List ℕ))
+    → (bytes : List ℕ) → Type 0
+PrintsReleased settings allows_unrun old new bytes =
     (counts : Counts) × IsReleasedStream settings allows_unrun bytes counts
+    × Appends old new (counts_text counts)

@@ -1,3 +1,4 @@
+pub mod Asked
 pub mod CommandLine
 pub mod Features
 pub mod Gate

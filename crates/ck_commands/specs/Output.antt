@@ -48,6 +48,10 @@ abbrev pub PrintsOrNoMemory : Report → ℕ → Option (List ℕ) → Option (L
 PrintsOrNoMemory report code old new =
     Prints report code old new ⊎ Prints (trouble_report Memory) code old new
 
+-- that, or the code is that of trouble, whatever was written
+abbrev pub PrintsOrTrouble : Report → ℕ → Option (List ℕ) → Option (List ℕ) → Type 0
+PrintsOrTrouble report code old new = Prints report code old new ⊎ (code ≡ code_of exit.Trouble)
+
 -- the report that the code made, and `trouble Memory` where it made none
 abbrev pub report_made : Result made.Report AllocError → Report
 report_made (Ok report) = record { text = string_bytes report.text; status = report.status }

@@ -1,6 +1,5 @@
 //! The record of the attempts of a message stream, read line by line.
-ghost use Rattle.std.specs.Prelude.{IfSome};
-ghost use Rattle.cm_envelope.specs.Device.{CountsFailure};
+ghost use Rattle.cm_envelope.specs.Device.{CountsFailure, OfSource};
 ghost use Rattle.ck_commands.specs.Outcome.{after_line, outcome_of};
 ghost use Rattle.ck_commands.specs.Reading.{HasOutcome, LeavesTable, is_failed_read};
 
@@ -35,7 +34,7 @@ pub(crate) fn read_attempts<S: ByteSource>(
     first_attempt: u64,
     source: &mut S,
 ) -> Result<Track, Result<Audited, Trouble>>
-    ensures outcome { IfSome (S.to_come source.old)
+    ensures outcome { OfSource (S.to_come source.old)
         (λ bytes. HasOutcome (outcome_of first_attempt bytes) result) }
     ensures failures { CountsFailure (is_failed_read result) (S.failed_calls source.old)
         (S.failed_calls source.new) }

@@ -1,6 +1,7 @@
 //! The command `compile`: the message lines of a feature file.
-ghost use Rattle.std.specs.Prelude.{◌≡◌, ◌≢◌, IfSome};
-ghost use Rattle.ck_commands.specs.Output.{NoneFailed, Undisturbed, code_of};
+ghost use Rattle.std.specs.Prelude.{◌≡◌, ◌≢◌};
+ghost use Rattle.cm_envelope.specs.Device.{OfSource};
+ghost use Rattle.ck_commands.specs.Output.{NoneFailed, PrintsOrNoMemory, Undisturbed, code_of, trouble_report};
 ghost use Rattle.ck_commands.specs.Run.{Compiles};
 
 use crate::command_parse::print_fault;
@@ -8,7 +9,7 @@ use crate::feature_input::FeatureFault;
 use crate::output::{ExitStatus, write_trouble};
 use crate::text_input::read_text;
 use cm_compile::{CompileFault, write_compiled};
-use cm_envelope::{ByteSink, ByteSource, DeviceFailed};
+use cm_envelope::{ByteSink, ByteSource, DeviceFailed, Trouble};
 use std::alloc::Global;
 
 // Writes the lines of a text and flushes them, or prints why there are none, and gives the exit code.
@@ -38,12 +39,16 @@ pub(crate) fn write_lines<R: ByteSource, W: ByteSink>(
 ) -> u8
     ensures printed { Undisturbed (R.failed_calls source.old) (R.failed_calls source.new)
         (W.failed_calls sink.old) (W.failed_calls sink.new)
-        → IfSome (R.to_come source.old) (λ bytes.
+        → OfSource (R.to_come source.old) (λ bytes.
         Compiles uri.now bytes result (W.taken sink.old) (W.taken sink.new)) }
     ensures unwritten { W.failed_calls sink.new ≢ W.failed_calls sink.old
         → result ≡ code_of ExitStatus.Trouble }
     ensures unread { result ≡ code_of ExitStatus.Done
         → R.failed_calls source.new ≡ R.failed_calls source.old }
+    ensures read_failed { R.failed_calls source.new ≢ R.failed_calls source.old
+        → NoneFailed (W.failed_calls sink.old) (W.failed_calls sink.new)
+        → PrintsOrNoMemory (trouble_report Trouble.ReadFailed) result (W.taken sink.old)
+        (W.taken sink.new) }
 {
     match read_text(alloc, source) {
         Ok(text) => compile_text(alloc, uri, text.as_str(), sink),

@@ -1,9 +1,12 @@
 //! The command `gate`: whether a run is to be released.
-ghost use Rattle.std.specs.Prelude.{◌≡◌, ◌≢◌, ◌++◌, IfOk, IfSome, Some, string_bytes};
+ghost use Rattle.std.specs.Prelude.{◌≡◌, ◌≢◌, ◌++◌, IfOk, Some, string_bytes};
+ghost use Rattle.cm_envelope.specs.Device.{OfReads, OfSource};
 ghost use Rattle.cm_stream.specs.Release.{hold_of};
-ghost use Rattle.cm_stream.specs.Stream.{answer_for, answered, first_fault};
-ghost use Rattle.ck_commands.specs.Gate.{IsReleasedSomehow, gate_report, hold_in, hold_name, hold_text};
-ghost use Rattle.ck_commands.specs.Output.{PrintsOrNoMemory, Undisturbed, code_of};
+ghost use Rattle.cm_stream.specs.Stream.{answered};
+ghost use Rattle.cm_audit.specs.Audit.{ShowNoFault};
+ghost use Rattle.ck_commands.specs.Gate.{PrintsReleased, gate_report, hold_in, hold_name, hold_text};
+ghost use Rattle.ck_commands.specs.Output.{NoneFailed, PrintsOrNoMemory, Undisturbed, code_of, trouble_report};
+ghost use Rattle.ck_commands.specs.Verdicts.{PrintsAnswer, PrintsAudit};
 
 use crate::command_audit::verdict_report;
 use crate::output::{ExitStatus, Report, write_report};
@@ -92,15 +95,23 @@ pub(crate) fn print_gate<R: ByteSource, W: ByteSink>(
 ) -> u8
     ensures printed { Undisturbed (R.failed_calls source.old) (R.failed_calls source.new)
         (W.failed_calls sink.old) (W.failed_calls sink.new)
-        → IfSome (R.to_come source.old) (λ bytes. PrintsOrNoMemory
-        (gate_report allows_unrun (answer_for (first_fault settings bytes))) result
-        (W.taken sink.old) (W.taken sink.new)) }
-    ensures released { result ≡ code_of ExitStatus.Done
-        → IfSome (R.to_come source.old) (IsReleasedSomehow settings allows_unrun) }
+        → OfSource (R.to_come source.old) (PrintsAnswer
+        (gate_report allows_unrun) settings result (W.taken sink.old) (W.taken sink.new)) }
+    ensures released { result ≡ code_of ExitStatus.Done → OfSource (R.to_come source.old)
+        (PrintsReleased settings allows_unrun (W.taken sink.old) (W.taken sink.new)) }
+    ensures verdict { result ≢ code_of ExitStatus.Trouble
+        → OfReads (R.to_come source.old) (R.to_come source.new) (PrintsAudit
+        (gate_report allows_unrun) settings result (W.taken sink.old) (W.taken sink.new)) }
+    ensures no_fault { R.failed_calls source.new ≢ R.failed_calls source.old
+        → OfReads (R.to_come source.old) (R.to_come source.new) (ShowNoFault settings) }
     ensures unwritten { W.failed_calls sink.new ≢ W.failed_calls sink.old
         → result ≡ code_of ExitStatus.Trouble }
     ensures unread { result ≡ code_of ExitStatus.Done
         → R.failed_calls source.new ≡ R.failed_calls source.old }
+    ensures read_failed { R.failed_calls source.new ≢ R.failed_calls source.old
+        → NoneFailed (W.failed_calls sink.old) (W.failed_calls sink.new)
+        → PrintsOrNoMemory (trouble_report Trouble.ReadFailed) result (W.taken sink.old)
+        (W.taken sink.new) }
 {
     let answer = audit_run(alloc, source, settings);
     write_report(sink, gate_report(alloc, allows_unrun, &answer))

@@ -1,8 +1,8 @@
 //! The command line: what the words after the program's name ask for.
-ghost use Rattle.std.specs.Prelude.{◌≡◌, IfOk, codes, false, map, option_map};
+ghost use Rattle.std.specs.Prelude.{◌≡◌, IfOk, false, map, option_map};
 ghost use Rattle.clap.specs.Words.{app_of, first_of, found_of, kind_of, new_app, rows_of, rule_of, subcommand_rows_of};
 ghost use Rattle.clap.specs.declared.builder.command.Command.TheViews.{out-Command as fields_of};
-ghost use Rattle.ck_commands.specs.CommandLine.{Chooses, allows_unrun_in, asked, attempts_rule, audit_command, bare_app};
+ghost use Rattle.ck_commands.specs.CommandLine.{Chooses, asked, attempts_rule, audit_command, bare_app};
 ghost use Rattle.ck_commands.specs.CommandLine.{command_app, command_named, command_of, compile_command, first_attempt_in};
 ghost use Rattle.ck_commands.specs.CommandLine.{flag_rule, gate_command, is_given, named, policy_in, results_command};
 ghost use Rattle.ck_commands.specs.CommandLine.{settings_in, uri_rule};

@@ -1,8 +1,9 @@
 //! The command `parse`: what a feature file has, or why it gives no document.
-ghost use Rattle.std.specs.Prelude.{◌≡◌, ◌≢◌, IfOk, IfSome, string_bytes};
+ghost use Rattle.std.specs.Prelude.{◌≡◌, ◌≢◌, IfOk, string_bytes};
+ghost use Rattle.cm_envelope.specs.Device.{OfSource};
 ghost use Rattle.ck_commands.specs.Features.{document_text, fault_report, kind_label, parse_report};
 ghost use Rattle.ck_commands.specs.Features.{refused_text};
-ghost use Rattle.ck_commands.specs.Output.{NoneFailed, PrintsOrNoMemory, Undisturbed, code_of};
+ghost use Rattle.ck_commands.specs.Output.{NoneFailed, PrintsOrNoMemory, Undisturbed, code_of, trouble_report};
 ghost use Rattle.ck_commands.specs.Run.{PrintsFeature};
 
 use crate::feature_input::{FeatureFault, read_document};
@@ -100,12 +101,16 @@ pub(crate) fn print_feature<R: ByteSource, W: ByteSink>(
 ) -> u8
     ensures printed { Undisturbed (R.failed_calls source.old) (R.failed_calls source.new)
         (W.failed_calls sink.old) (W.failed_calls sink.new)
-        → IfSome (R.to_come source.old) (λ bytes.
+        → OfSource (R.to_come source.old) (λ bytes.
         PrintsFeature bytes result (W.taken sink.old) (W.taken sink.new)) }
     ensures unwritten { W.failed_calls sink.new ≢ W.failed_calls sink.old
         → result ≡ code_of ExitStatus.Trouble }
     ensures unread { result ≡ code_of ExitStatus.Done
         → R.failed_calls source.new ≡ R.failed_calls source.old }
+    ensures read_failed { R.failed_calls source.new ≢ R.failed_calls source.old
+        → NoneFailed (W.failed_calls sink.old) (W.failed_calls sink.new)
+        → PrintsOrNoMemory (trouble_report Trouble.ReadFailed) result (W.taken sink.old)
+        (W.taken sink.new) }
 {
     let read = read_document(alloc, source);
     let report = parse_report(alloc, &read);

@@ -1,14 +1,15 @@
 //! One command, from the words to the exit code.
-ghost use Rattle.std.specs.Prelude.{◌≡◌, ◌≢◌, ◌∷◌, ℕ, Bool, List, IfOk, IfSome, codes, map};
+ghost use Rattle.std.specs.Prelude.{◌≡◌, ◌≢◌, ◌∷◌, ℕ, Bool, List, IfOk, codes, map};
+ghost use Rattle.cm_envelope.specs.Device.{OfReads, OfSource};
 ghost use Rattle.cm_attempt.specs.declared.settings.Settings.{Settings};
 ghost use Rattle.cm_stream.specs.Results as results;
-ghost use Rattle.cm_stream.specs.Stream.{answer_for, first_fault};
+ghost use Rattle.cm_audit.specs.Audit.{ShowNoFault};
 ghost use Rattle.ck_commands.specs.CommandLine.{Asks, AsksNothing, ask_audit, ask_compile, ask_gate, ask_parse, ask_results};
-ghost use Rattle.ck_commands.specs.Gate.{IsReleasedSomehow, gate_report};
-ghost use Rattle.ck_commands.specs.Output.{PrintsOrNoMemory, Undisturbed, code_of};
+ghost use Rattle.ck_commands.specs.Gate.{PrintsReleased, gate_report};
+ghost use Rattle.ck_commands.specs.Output.{NoneFailed, PrintsOrNoMemory, Undisturbed, code_of, trouble_report};
 ghost use Rattle.ck_commands.specs.Results.{results_report};
 ghost use Rattle.ck_commands.specs.Run.{Compiles, PrintsFeature};
-ghost use Rattle.ck_commands.specs.Verdicts.{IsGoodSomehow, verdict_report};
+ghost use Rattle.ck_commands.specs.Verdicts.{PrintsAnswer, PrintsAudit, PrintsBad, PrintsGood, PrintsUpTo, verdict_report};
 
 use crate::command_audit::print_audit;
 use crate::command_compile::write_lines;
@@ -17,7 +18,7 @@ use crate::command_line::{Choice, Refusal, choose};
 use crate::command_parse::print_feature;
 use crate::command_results::print_results;
 use crate::output::{ExitStatus, write_no_memory, write_text};
-use cm_envelope::{ByteSink, ByteSource};
+use cm_envelope::{ByteSink, ByteSource, Trouble};
 use std::alloc::{AllocError, Global};
 
 // The words with the program's name before them.
@@ -43,21 +44,34 @@ pub fn run<R: ByteSource, W: ByteSink>(
     ensures results { (first : ℕ) → Asks words.now (ask_results first)
         → Undisturbed (R.failed_calls source.old) (R.failed_calls source.new)
         (W.failed_calls sink.old) (W.failed_calls sink.new)
-        → IfSome (R.to_come source.old) (λ bytes. PrintsOrNoMemory
+        → OfSource (R.to_come source.old) (λ bytes. PrintsOrNoMemory
         (results_report (results.first_fault first bytes)) result (W.taken sink.old)
         (W.taken sink.new)) }
 
-    // The verdict is that of the stream over all its lines by the settings that the words ask for, and the code of Done is for
-    // good streams alone.
+    // The verdict is that of the stream over all its lines by the settings that the words ask for. The code of Done is for good
+    // streams alone, with their counts, and that of Refused for those that no good stream begins like.
     ensures audit { (settings : Settings) → Asks words.now (ask_audit settings)
         → Undisturbed (R.failed_calls source.old) (R.failed_calls source.new)
         (W.failed_calls sink.old) (W.failed_calls sink.new)
-        → IfSome (R.to_come source.old) (λ bytes. PrintsOrNoMemory
-        (verdict_report (answer_for (first_fault settings bytes))) result (W.taken sink.old)
-        (W.taken sink.new)) }
+        → OfSource (R.to_come source.old) (PrintsAnswer
+        verdict_report settings result (W.taken sink.old) (W.taken sink.new)) }
     ensures good { (settings : Settings) → Asks words.now (ask_audit settings)
         → result ≡ code_of ExitStatus.Done
-        → IfSome (R.to_come source.old) (IsGoodSomehow settings) }
+        → OfSource (R.to_come source.old)
+        (PrintsGood settings (W.taken sink.old) (W.taken sink.new)) }
+    ensures bad { (settings : Settings) → Asks words.now (ask_audit settings)
+        → result ≡ code_of ExitStatus.Refused
+        → OfSource (R.to_come source.old)
+        (PrintsBad settings (W.taken sink.old) (W.taken sink.new)) }
+    ensures ahead { (settings : Settings) → Asks words.now (ask_audit settings)
+        → result ≢ code_of ExitStatus.Trouble
+        → OfReads (R.to_come source.old) (R.to_come source.new)
+        (PrintsUpTo result (W.taken sink.old) (W.taken sink.new)) }
+    // All of these are of the same bytes:
+    ensures verdict { (settings : Settings) → Asks words.now (ask_audit settings)
+        → result ≢ code_of ExitStatus.Trouble
+        → OfReads (R.to_come source.old) (R.to_come source.new) (PrintsAudit
+        verdict_report settings result (W.taken sink.old) (W.taken sink.new)) }
 
     // The same verdict, and where the stream is good and its run isn't to be released, why not. The code of Done is for
     // released runs alone.
@@ -65,27 +79,45 @@ pub fn run<R: ByteSource, W: ByteSink>(
         → Asks words.now (ask_gate settings allows_unrun)
         → Undisturbed (R.failed_calls source.old) (R.failed_calls source.new)
         (W.failed_calls sink.old) (W.failed_calls sink.new)
-        → IfSome (R.to_come source.old) (λ bytes. PrintsOrNoMemory
-        (gate_report allows_unrun (answer_for (first_fault settings bytes))) result
-        (W.taken sink.old) (W.taken sink.new)) }
+        → OfSource (R.to_come source.old) (PrintsAnswer
+        (gate_report allows_unrun) settings result (W.taken sink.old) (W.taken sink.new)) }
     ensures released { (settings : Settings) (allows_unrun : Bool)
         → Asks words.now (ask_gate settings allows_unrun) → result ≡ code_of ExitStatus.Done
-        → IfSome (R.to_come source.old) (IsReleasedSomehow settings allows_unrun) }
+        → OfSource (R.to_come source.old)
+        (PrintsReleased settings allows_unrun (W.taken sink.old) (W.taken sink.new)) }
+    ensures gate_verdict { (settings : Settings) (allows_unrun : Bool)
+        → Asks words.now (ask_gate settings allows_unrun)
+        → result ≢ code_of ExitStatus.Trouble
+        → OfReads (R.to_come source.old) (R.to_come source.new) (PrintsAudit
+        (gate_report allows_unrun) settings result (W.taken sink.old) (W.taken sink.new)) }
 
     ensures parse { Asks words.now ask_parse
         → Undisturbed (R.failed_calls source.old) (R.failed_calls source.new)
         (W.failed_calls sink.old) (W.failed_calls sink.new)
-        → IfSome (R.to_come source.old) (λ bytes.
+        → OfSource (R.to_come source.old) (λ bytes.
         PrintsFeature bytes result (W.taken sink.old) (W.taken sink.new)) }
 
     ensures compile { (uri : List ℕ) → Asks words.now (ask_compile uri)
         → Undisturbed (R.failed_calls source.old) (R.failed_calls source.new)
         (W.failed_calls sink.old) (W.failed_calls sink.new)
-        → IfSome (R.to_come source.old) (λ bytes.
+        → OfSource (R.to_come source.old) (λ bytes.
         Compiles uri bytes result (W.taken sink.old) (W.taken sink.new)) }
 
     // Words that ask for no command leave the source alone.
     ensures refused { AsksNothing words.now → source.new ≡ source.old }
+
+    // After a failed read that is printed, whatever the words ask for, and the lines before it show no fault.
+    ensures read_failed { R.failed_calls source.new ≢ R.failed_calls source.old
+        → NoneFailed (W.failed_calls sink.old) (W.failed_calls sink.new)
+        → PrintsOrNoMemory (trouble_report Trouble.ReadFailed) result (W.taken sink.old)
+        (W.taken sink.new) }
+    ensures no_fault { (settings : Settings) → Asks words.now (ask_audit settings)
+        → R.failed_calls source.new ≢ R.failed_calls source.old
+        → OfReads (R.to_come source.old) (R.to_come source.new) (ShowNoFault settings) }
+    ensures gate_no_fault { (settings : Settings) (allows_unrun : Bool)
+        → Asks words.now (ask_gate settings allows_unrun)
+        → R.failed_calls source.new ≢ R.failed_calls source.old
+        → OfReads (R.to_come source.old) (R.to_come source.new) (ShowNoFault settings) }
 
     // A failed write or flush is seen in the code, and so is a failed read.
     ensures unwritten { W.failed_calls sink.new ≢ W.failed_calls sink.old

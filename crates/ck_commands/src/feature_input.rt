@@ -1,6 +1,6 @@
 //! The document of a feature file, read whole from a source.
-ghost use Rattle.std.specs.Prelude.{◌≡◌, IfSome, false};
-ghost use Rattle.cm_envelope.specs.Device.{CountsFailure};
+ghost use Rattle.std.specs.Prelude.{◌≡◌, false};
+ghost use Rattle.cm_envelope.specs.Device.{CountsFailure, OfSource};
 ghost use Rattle.ck_commands.specs.Features.{IsFeatureOf, is_failed_read};
 
 use crate::text_input::{TextFault, read_text};
@@ -64,7 +64,7 @@ pub(crate) fn read_document<R: ByteSource>(
     source: &mut R,
 ) -> Result<Document, FeatureFault>
     ensures feature { is_failed_read result ≡ false
-        → IfSome (R.to_come source.old) (λ bytes. IsFeatureOf bytes result) }
+        → OfSource (R.to_come source.old) (λ bytes. IsFeatureOf bytes result) }
     ensures failures { CountsFailure (is_failed_read result) (R.failed_calls source.old)
         (R.failed_calls source.new) }
 {

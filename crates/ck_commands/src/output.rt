@@ -2,7 +2,7 @@
 ghost use Rattle.std.specs.Prelude.{◌≡◌, ◌≢◌, ◌≤◌, ◌⊎◌, IfOk, string_bytes};
 ghost use Rattle.std.specs.Io.KnownBytes.{Appends};
 ghost use Rattle.cm_envelope.specs.Device.{greatest_count};
-ghost use Rattle.ck_commands.specs.Output.{NoneFailed, Prints, code_of, report_made};
+ghost use Rattle.ck_commands.specs.Output.{NoneFailed, Prints, PrintsOrTrouble, code_of, report_made};
 ghost use Rattle.ck_commands.specs.Output.{trouble_name, trouble_report};
 
 use cm_envelope::{ByteSink, DeviceFailed, Trouble, write_all};
@@ -87,7 +87,9 @@ pub(crate) fn write_text<W: ByteSink>(sink: &mut W, text: &str, status: ExitStat
         → (result ≡ code_of status) × Appends (W.taken sink.old) (W.taken sink.new) text.now }
     ensures failed { W.failed_calls sink.new ≢ W.failed_calls sink.old
         → result ≡ code_of ExitStatus.Trouble }
-    ensures status { (result ≡ code_of status) ⊎ (result ≡ code_of ExitStatus.Trouble) }
+    ensures status { ((result ≡ code_of status)
+        × Appends (W.taken sink.old) (W.taken sink.new) text.now)
+        ⊎ (result ≡ code_of ExitStatus.Trouble) }
 {
     match write_all(sink, text.as_bytes()) {
         Ok(()) => match sink.flush() {
@@ -113,8 +115,8 @@ pub(crate) fn write_report<W: ByteSink>(sink: &mut W, report: Result<Report, All
         → Prints (report_made report) result (W.taken sink.old) (W.taken sink.new) }
     ensures failed { W.failed_calls sink.new ≢ W.failed_calls sink.old
         → result ≡ code_of ExitStatus.Trouble }
-    ensures status { (result ≡ code_of (report_made report).status)
-        ⊎ (result ≡ code_of ExitStatus.Trouble) }
+    ensures status { PrintsOrTrouble (report_made report) result (W.taken sink.old)
+        (W.taken sink.new) }
 {
     match report {
         Ok(report) => write_text(sink, report.text.as_str(), report.status),

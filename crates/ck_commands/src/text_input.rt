@@ -1,7 +1,7 @@
 //! A text, read whole from a source.
-ghost use Rattle.std.specs.Prelude.{◌≡◌, ◌+◌, ◌≤◌, ℕ, List, [], length, string_bytes, IfOk, IfErr, IfSome, OnOk};
+ghost use Rattle.std.specs.Prelude.{◌≡◌, ◌+◌, ◌≤◌, ℕ, List, [], length, string_bytes, IfOk, IfErr, OnOk};
 ghost use Rattle.std.specs.Io.KnownBytes.{Consumes};
-ghost use Rattle.cm_envelope.specs.Device.{CountsFailure};
+ghost use Rattle.cm_envelope.specs.Device.{AreToCome, CountsFailure, OfSource};
 ghost use Rattle.ck_commands.specs.TextInput.{HasBytesFault, HasTextFault, IsTextOf, is_failed_read};
 
 use cm_envelope::{ByteSource, DeviceFailed};
@@ -63,8 +63,8 @@ fn gather<R: ByteSource>(
     ensures few { (read : List ℕ) × Consumes (R.to_come source.old) (R.to_come source.new) read
         × (length read ≤ TEXT_LIMIT + PIECE) }
     ensures ok { OnOk result ((length bytes.new.items ≤ TEXT_LIMIT)
-        × IfSome (R.to_come source.old) (λ all. bytes.new.items ≡ all)) }
-    ensures err { IfErr result (λ fault. IfSome (R.to_come source.old)
+        × AreToCome (R.to_come source.old) bytes.new.items) }
+    ensures err { IfErr result (λ fault. OfSource (R.to_come source.old)
         (λ all. HasBytesFault all fault)) }
     ensures failures { CountsFailure (is_failed_read result) (R.failed_calls source.old)
         (R.failed_calls source.new) }
@@ -85,8 +85,8 @@ fn read_bytes<R: ByteSource>(alloc: Global, source: &mut R) -> Result<Vec<u8>, T
     ensures few { (read : List ℕ) × Consumes (R.to_come source.old) (R.to_come source.new) read
         × (length read ≤ TEXT_LIMIT + PIECE) }
     ensures ok { IfOk result (λ bytes. (length bytes.items ≤ TEXT_LIMIT)
-        × IfSome (R.to_come source.old) (λ all. bytes.items ≡ all)) }
-    ensures err { IfErr result (λ fault. IfSome (R.to_come source.old)
+        × AreToCome (R.to_come source.old) bytes.items) }
+    ensures err { IfErr result (λ fault. OfSource (R.to_come source.old)
         (λ all. HasBytesFault all fault)) }
     ensures failures { CountsFailure (is_failed_read result) (R.failed_calls source.old)
         (R.failed_calls source.new) }
@@ -104,9 +104,9 @@ fn read_bytes<R: ByteSource>(alloc: Global, source: &mut R) -> Result<Vec<u8>, T
 /// # Errors
 /// A read failed; or there are more than 16,777,216 bytes, else they aren't UTF-8; or memory was refused.
 pub fn read_text<R: ByteSource>(alloc: Global, source: &mut R) -> Result<String, TextFault>
-    ensures ok { IfOk result (λ text. IfSome (R.to_come source.old)
+    ensures ok { IfOk result (λ text. OfSource (R.to_come source.old)
         (λ bytes. IsTextOf bytes (string_bytes text))) }
-    ensures fault { IfErr result (λ fault. IfSome (R.to_come source.old)
+    ensures fault { IfErr result (λ fault. OfSource (R.to_come source.old)
         (λ bytes. HasTextFault bytes fault)) }
     ensures few { (read : List ℕ) × Consumes (R.to_come source.old) (R.to_come source.new) read
         × (length read ≤ TEXT_LIMIT + PIECE) }

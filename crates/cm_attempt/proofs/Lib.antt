@@ -4,6 +4,7 @@ pub mod WorstLemmas
 pub mod IdLaws
 pub mod Growing
 pub mod Standing
+pub mod StepLemmas
 pub mod Tracked
 pub mod Fits
 pub mod NextCall

@@ -1,8 +1,8 @@
 //! What a call has to find before it changes anything.
-ghost use Rattle.std.specs.Prelude.{◌≡◌, ◌<◌, if◌then◌else◌, [], IfOk, IfSome, IsOk, MatchOption, None, Ok, Some, length, map, option_map};
+ghost use Rattle.std.specs.Prelude.{◌≡◌, ◌<◌, if◌then◌else◌, [], false, IfOk, IfSome, IsOk, MatchOption, None, Ok, Some, length, map, option_map};
 ghost use Rattle.std.specs.String.{string_bytes};
 ghost use Rattle.cm_attempt.specs.Rows.{attempt_row, table_of};
-ghost use Rattle.cm_attempt.specs.Table.{after_step, find_attempt as row_of};
+ghost use Rattle.cm_attempt.specs.Table.{after_step, find_attempt as row_of, has_text, steps_of as steps_in};
 ghost use Rattle.cm_attempt.specs.Table.{finish_fault_at, is_closed_to_new as closed_to_new, is_next as next_step};
 ghost use Rattle.cm_attempt.specs.Table.{start_fault, step_fault_of, step_finish_fault, step_start_fault};
 ghost use Rattle.cm_attempt.specs.Table.{may_finish as ends_in_order, may_start as starts_in_order};
@@ -62,17 +62,16 @@ fn finished_in_order(cursor: Option<Cursor>, steps: &[String], step: &str) -> Op
     }
 }
 
-fn check_step(is_known: bool, is_in_order: bool) -> Result<(), TrackFault>
-    ensures { MatchOption (step_fault_of is_known is_in_order)
-        (result ≡ Ok tt) (λ fault. result ≡ Err fault) }
+/// Why a step that is out of order is refused.
+fn step_refusal(cases: &Cases, case: &str, step: &str) -> TrackFault
+    ensures { step_fault_of
+        (has_text step.now (steps_in (table_of 0 cases.now.entries []) case.now)) false
+        ≡ Some result }
 {
-    if !is_known {
-        return Err(TrackFault::UnknownStep);
-    }
-    if is_in_order {
-        Ok(())
+    if case_has_step(cases, case, step) {
+        TrackFault::StepOrder
     } else {
-        Err(TrackFault::StepOrder)
+        TrackFault::UnknownStep
     }
 }
 
@@ -119,28 +118,10 @@ pub(crate) fn check_start(
         return Err(TrackFault::UnknownAttempt);
     };
     let case = attempt.case_id.as_str();
-    let is_known = case_has_step(cases, case, step);
-    let steps = steps_of(cases, case);
-    check_step(is_known, may_start(attempt.cursor, steps, step))
-}
-
-fn check_running(
-    is_known: bool,
-    cursor: Option<Cursor>,
-    steps: &[String],
-    step: &str,
-) -> Result<Cursor, TrackFault>
-    ensures answer { MatchOption
-        (step_fault_of is_known (ends_in_order step.now cursor (map string_bytes steps.now)))
-        (IsOk result) (λ fault. result ≡ Err fault) }
-    ensures next { IfOk result (λ next. option_map after_step cursor ≡ Some next) }
-{
-    if !is_known {
-        return Err(TrackFault::UnknownStep);
-    }
-    match finished_in_order(cursor, steps, step) {
-        Some(next) => Ok(next),
-        None => Err(TrackFault::StepOrder),
+    if may_start(attempt.cursor, steps_of(cases, case), step) {
+        Ok(())
+    } else {
+        Err(step_refusal(cases, case, step))
     }
 }
 
@@ -162,8 +143,10 @@ pub(crate) fn check_finish(
         return Err(TrackFault::UnknownAttempt);
     };
     let case = attempt.case_id.as_str();
-    let is_known = case_has_step(cases, case, step);
-    check_running(is_known, attempt.cursor, steps_of(cases, case), step)
+    match finished_in_order(attempt.cursor, steps_of(cases, case), step) {
+        Some(next) => Ok(next),
+        None => Err(step_refusal(cases, case, step)),
+    }
 }
 
 /// Whether the attempt may end.

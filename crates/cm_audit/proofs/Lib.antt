@@ -1,6 +1,7 @@
 pub mod Answering
 pub mod Cases
 pub mod Counted
+pub mod Deciding
 pub mod Judged
 pub mod KeptRows
 pub mod Parsed

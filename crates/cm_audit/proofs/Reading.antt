@@ -1,10 +1,10 @@
 -- What an audit has read and judged of a stream, line by line.
-use Rattle.std.proofs.Common.{◌≡◌, ◌≤◌, ◌<◌, ℕ, ◌+◌, refl, sym, ap, ◌∙◌, List, [], ◌∷◌, ◌++◌, Option, Some, None, Result, Ok, Err, true, false, Bool, append_assoc, append-nil, map, length, arith, inl, inr}
-use Rattle.std.specs.Prelude.{IfSome, if◌then◌else◌}
+use Rattle.std.proofs.Common.{◌≡◌, ◌≤◌, ◌<◌, ℕ, ◌+◌, refl, sym, ap, ◌∙◌, List, [], ◌∷◌, ◌++◌, Option, Some, None, Result, Ok, Err, true, false, Bool, append_assoc, append-nil, map, length, arith}
+use Rattle.std.specs.Prelude.{if◌then◌else◌}
 use Rattle.std.specs.List.{flat_map}
 use Rattle.cm_envelope.specs.Lines.{Line, Fed, size, line_feed, line_then, nothing, trouble_alone}
 use Rattle.cm_envelope.specs.Reading.{LineFault}
-use Rattle.cm_envelope.specs.Feeds.{Stored, ShowNothing, written, given_line, not_given, left, new_feed, GivesLine, IsNextLine, WhereTold}
+use Rattle.cm_envelope.specs.Feeds.{Stored, ShowNothing, written, given_line, not_given, left, new_feed, GivesLine, IsNextLine}
 use Rattle.cm_envelope.specs.declared.envelope.Envelope.{Envelope}
 use Rattle.cm_envelope.specs.declared.feed.Trouble.{Trouble}
 use Rattle.cm_envelope.specs.declared.feed.Trouble.TheVariants.{ReadFailed}
@@ -128,15 +128,15 @@ first_lines {before} {ys} {feed} r ahead rest e = record {
   first = ap (λ (f : Fed). f.lines) r.fed;
 }
 
-no_further : {before ys : List ℕ} {feed : Stored} {n : ℕ} (r : HasRead before ys feed n) → length feed.held ≤ 65536 → ReadsNoFurther n before ys
-no_further {before} {ys} {feed} {n} r few = go feed.is_ended refl
+no_further : {before ys : List ℕ} {feed : Stored} {n : ℕ} (r : HasRead before ys feed n) → length feed.held ≤ 65536 → (feed.is_ended ≡ true → ys ≡ []) → ReadsNoFurther n before ys
+no_further {before} {ys} {feed} {n} r few none = record { lines = r.lines; ahead = feed.held; begins = first_lines r feed.held ys (all feed.is_ended refl); count = r.count; few = few }
   where
-    go : (b : Bool) → feed.is_ended ≡ b → ReadsNoFurther n before ys
-    go true e = record { lines = r.lines; ahead = feed.held; rest = []; begins = first_lines r feed.held [] (rw e (sym (append-nil feed.held))); count = r.count; few = few; left = inr refl }
-    go false e = record { lines = r.lines; ahead = feed.held; rest = ys; begins = first_lines r feed.held ys (rw e refl); count = r.count; few = few; left = inl refl }
+    all : (b : Bool) → feed.is_ended ≡ b → not_given feed ys ≡ feed.held ++ ys
+    all true e = rw e (sym (append-nil feed.held) ∙ ap (λ l. feed.held ++ l) (sym (none e)))
+    all false e = rw e refl
 
-pub up_to_here : (before ys zs : List ℕ) (feed later : Stored) (n : ℕ) (line : List ℕ) → HasRead before ys feed n → IsNextLine feed later ys zs line → GivesLine feed later line → ReadsNoFurther (n + 1) before zs
-up_to_here before ys zs feed later n line r i g = no_further (next_read r i g) g.ahead
+pub up_to_here : (before ys zs : List ℕ) (feed later : Stored) (n : ℕ) (line : List ℕ) → HasRead before ys feed n → IsNextLine feed later ys zs line → GivesLine feed later line → (later.is_ended ≡ true → zs ≡ []) → ReadsNoFurther (n + 1) before zs
+up_to_here before ys zs feed later n line r i g none = no_further (next_read r i g) g.ahead none
 
 -- past the last line
 pub fewer_lines : {before ys : List ℕ} {feed : Stored} {n : ℕ} (r : HasRead before ys feed n) → left feed ys ≡ nothing → length (fed before).lines < n + 1
@@ -158,20 +158,3 @@ held_no_fault settings before ys zs feed after_it n s r h line stream e shows = 
   faultless = ap (λ ls. judged_of settings (nothing_seen settings.first_attempt) 1 ls (Some ReadFailed)) (sym (append-nil (bytes_of r.lines))) ∙ h [] (Some ReadFailed);
   nothing = rw (r.long, ← line, ← stream) shows;
 }
-
--- ---- sources that show their bytes
-
-pub told_then : {P Q R : List ℕ → List ℕ → Type 0} (a b c : Option (List ℕ)) → WhereTold a b P → WhereTold b c Q → ((xs ys zs : List ℕ) → P xs ys → Q ys zs → R xs zs) → WhereTold a c R
-told_then None b c p q f = tt
-told_then (Some xs) None c p q f = absurd p
-told_then (Some xs) (Some ys) None p q f = absurd q
-told_then (Some xs) (Some ys) (Some zs) p q f = f xs ys zs p q
-
-pub told_first : {P : List ℕ → List ℕ → Type 0} {Q : List ℕ → Type 0} (a b : Option (List ℕ)) → WhereTold a b P → ((xs ys : List ℕ) → P xs ys → Q xs) → IfSome a Q
-told_first None b p f = tt
-told_first (Some xs) None p f = absurd p
-told_first (Some xs) (Some ys) p f = f xs ys p
-
-pub told_same : (P : List ℕ → List ℕ → Type 0) (a : Option (List ℕ)) → ((xs : List ℕ) → P xs xs) → WhereTold a a P
-told_same P None f = tt
-told_same P (Some xs) f = f xs

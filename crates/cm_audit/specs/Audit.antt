@@ -1,5 +1,5 @@
 -- What an audit answers of the bytes of a stream, and how far it reads.
-use Rattle.std.specs.Prelude.{◌≡◌, ◌⊎◌, ◌≤◌, ◌<◌, ⊤, Bool, true, false, ℕ, List, [], ◌++◌, Option, Some, None, Result, Ok, Err, length, map}
+use Rattle.std.specs.Prelude.{◌≡◌, ◌⊎◌, ◌≤◌, ◌<◌, ⊤, Bool, true, false, ℕ, List, ◌++◌, Option, Some, None, Result, Ok, Err, length, map}
 use Rattle.std.specs.List.{flat_map}
 use Rattle.cm_envelope.specs.Lines.{Line}
 use Rattle.cm_envelope.specs.Reading.{LineFault}
@@ -9,7 +9,9 @@ use Rattle.cm_envelope.specs.declared.feed.Trouble.{Trouble}
 use Rattle.cm_envelope.specs.declared.feed.Trouble.TheVariants.{ReadFailed, Memory}
 use Rattle.cm_attempt.specs.declared.settings.Settings.{Settings}
 use Rattle.cm_stream.specs.Findings.{IsBad, NoEnvelope}
-use Rattle.cm_stream.specs.Stream.{Answer, Troubled, fed, first_fault, first_fault_of, answered, answer_for, max_line_bytes, max_stream_bytes}
+use Rattle.cm_stream.specs.Stream.{FirstFault, IsFirstFault, IsFirstFaultOf, IsGoodRun, IsGoodStream, GoodWith, Answer, GoodOnlyForGood, GoodRunsOnly, NoneIsGood, Troubled, fed, answered, answer_for, max_line_bytes, max_stream_bytes, verdict_in}
+use Rattle.cm_stream.specs.Unsupported.{ShowsReason}
+use Rattle.cm_stream.specs.declared.verdict.Counts.{Counts}
 use Rattle.cm_stream.specs.declared.verdict.Audited.{Audited}
 use Rattle.cm_stream.specs.declared.verdict.Verdict.{Verdict}
 use Rattle.cm_stream.specs.declared.verdict.Verdict.TheVariants as verdict
@@ -27,8 +29,11 @@ AnswersAs a (Err Memory) = ⊤
 AnswersAs a answer = answered answer ≡ a
 
 -- the answer is that for the first fault of the bytes
-abbrev pub AnswersTold : Settings → List ℕ → Result Audited Trouble → Type 0
-AnswersTold settings bytes answer = AnswersAs (answer_for (first_fault settings bytes)) answer
+pub record AnswersTold (settings : Settings) (bytes : List ℕ)
+    (answer : Result Audited Trouble) : Type 0 where
+  pub first : FirstFault
+  pub is_first : IsFirstFault settings bytes first
+  pub answers : AnswersAs (answer_for first) answer
 
 -- a verdict, with this word of success
 abbrev pub saying : Bool → Result Verdict Trouble → Result Audited Trouble
@@ -67,7 +72,7 @@ pub record Begins (bytes : List ℕ) (lines : List Line) (ahead rest : List ℕ)
 -- none of these lines has a fault, where a read failed after them
 abbrev pub HaveNoFault : Settings → List Line → Type 0
 HaveNoFault settings lines =
-    first_fault_of settings [] 1 (contents lines) (Some ReadFailed) ≡ Troubled ReadFailed
+    IsFirstFaultOf settings (contents lines) (Some ReadFailed) (Troubled ReadFailed)
 
 -- Before a failed read, lines without a fault were read, and then `ahead`, which is no whole line and passes no limit.
 pub record ShowNoFault (settings : Settings) (before after : List ℕ) : Type 0 where
@@ -81,12 +86,9 @@ pub record ShowNoFault (settings : Settings) (before after : List ℕ) : Type 0 
 pub record ReadsNoFurther (n : ℕ) (before after : List ℕ) : Type 0 where
   pub lines : List Line
   pub ahead : List ℕ
-  pub rest : List ℕ
-  pub begins : Begins before lines ahead rest
+  pub begins : Begins before lines ahead after
   pub count : length lines ≡ n
   pub few : length ahead ≤ 65536
-  -- the rest is still to come, or there is none since the end was read
-  pub left : (rest ≡ after) ⊎ (rest ≡ [])
 
 -- no more than that is read before a finding at line n is reported, unless n is past the last line
 abbrev pub ReadsUpTo : Result Verdict Trouble → (before after : List ℕ) → Type 0
@@ -94,6 +96,57 @@ ReadsUpTo (Ok (verdict.Bad n b)) before after =
     (length (fed before).lines < n) ⊎ ReadsNoFurther n before after
 ReadsUpTo (Ok (verdict.Unsupported n r)) before after = ReadsNoFurther n before after
 ReadsUpTo _ before after = ⊤
+
+-- ---- what is answered of a good stream, and of one that isn't judged
+
+-- a good stream is answered Good, with its counts and what it says of success, unless a read failed or memory was refused
+abbrev pub DecidesGood : Settings → List ℕ → Result Audited Trouble → Type 0
+DecidesGood settings bytes answer =
+    (counts : Counts) (success : Bool) → IsGoodRun settings bytes counts success
+    → AnswersAs (GoodWith counts success) answer
+
+-- Good with these counts, unless a read failed or memory was refused
+abbrev pub IsGoodVerdict : Counts → Result Verdict Trouble → Type 0
+IsGoodVerdict counts (Err ReadFailed) = ⊤
+IsGoodVerdict counts (Err Memory) = ⊤
+IsGoodVerdict counts v = v ≡ Ok (verdict.Good counts)
+
+-- the verdict on a good stream is that
+abbrev pub VerdictDecidesGood : Settings → List ℕ → Result Verdict Trouble → Type 0
+VerdictDecidesGood settings bytes v =
+    (counts : Counts) → IsGoodStream settings bytes counts → IsGoodVerdict counts v
+
+-- Unsupported only at a line that shows the reason
+abbrev pub ShowsUnsupported : List ℕ → Result Verdict Trouble → Type 0
+ShowsUnsupported bytes (Ok (verdict.Unsupported n r)) = ShowsReason bytes n r
+ShowsUnsupported bytes _ = ⊤
+
+-- ---- both, of the same bytes
+
+-- What the answer of an audit says of the bytes of its stream, and of those that were left to come.
+pub record IsAuditOf (settings : Settings) (answer : Result Audited Trouble)
+    (bytes rest : List ℕ) : Type 0 where
+  -- Good is for good streams, Bad where no good one begins so, and the first fault decides
+  pub good : GoodRunsOnly settings bytes answer
+  pub bad : NoneIsGood settings bytes (verdict_in answer)
+  pub told : AnswersTold settings bytes answer
+  -- each good stream is answered Good, and Unsupported is for a line that shows the reason
+  pub decided : DecidesGood settings bytes answer
+  pub unsupported : ShowsUnsupported bytes (verdict_in answer)
+  -- how far it was read, also where a read failed
+  pub read_failed : answer ≡ Err ReadFailed → ShowNoFault settings bytes rest
+  pub ahead : ReadsUpTo (verdict_in answer) bytes rest
+
+-- the same of the verdict alone
+pub record IsVerdictOf (settings : Settings) (verdict : Result Verdict Trouble)
+    (bytes rest : List ℕ) : Type 0 where
+  pub good : GoodOnlyForGood settings bytes verdict
+  pub bad : NoneIsGood settings bytes verdict
+  pub told : VerdictTold settings bytes verdict
+  pub decided : VerdictDecidesGood settings bytes verdict
+  pub unsupported : ShowsUnsupported bytes verdict
+  pub read_failed : verdict ≡ Err ReadFailed → ShowNoFault settings bytes rest
+  pub ahead : ReadsUpTo verdict bytes rest
 
 -- ---- a line
 

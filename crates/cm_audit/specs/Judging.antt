@@ -1,14 +1,15 @@
 -- The answer line by line, and what was read of a stream.
-use Rattle.std.specs.Prelude.{◌≡◌, ◌+◌, ℕ, List, ◌++◌, Option, Some, length}
+use Rattle.std.specs.Prelude.{◌≡◌, ◌+◌, ℕ, List, ◌++◌, Option, Some, Result, Err, length}
 use Rattle.cm_envelope.specs.Lines.{Line, Fed}
 use Rattle.cm_envelope.specs.Feeds.{Stored, ShowNothing, not_given, left}
 use Rattle.cm_envelope.specs.declared.feed.Trouble.{Trouble}
 use Rattle.cm_envelope.specs.declared.feed.Trouble.TheVariants.{ReadFailed}
 use Rattle.cm_attempt.specs.declared.settings.Settings.{Settings}
-use Rattle.cm_stream.specs.Stream.{Answer, Failed, fed, max_line_bytes, max_stream_bytes}
+use Rattle.cm_stream.specs.Stream.{Answer, Failed, fed, max_line_bytes, max_stream_bytes, verdict_in}
+use Rattle.cm_stream.specs.declared.verdict.Audited.{Audited}
 use Rattle.cm_state.specs.Summary.{Summary, nothing_seen}
 use Rattle.cm_state.specs.Laws.{judged_of}
-use Rattle.cm_audit.specs.Audit.{Begins, all_written, contents}
+use Rattle.cm_audit.specs.Audit.{AnswersAs, Begins, ReadsUpTo, all_written, contents}
 
 -- the answer line by line, from the first line on, and then for the trouble or the end
 abbrev pub judged_from_first : Settings → List (List ℕ) → Option Trouble → Answer
@@ -50,3 +51,10 @@ pub record HasJudged (settings : Settings) (before after : List ℕ) (feed : Sto
     (s : Summary) : Type 0 where
   pub read : HasRead before after feed number
   pub judges : JudgesTo settings read.lines number s
+
+-- `IsAuditOf`, where the lines are judged one by one
+pub record JudgesAs (settings : Settings) (answer : Result Audited Trouble)
+    (bytes rest : List ℕ) : Type 0 where
+  pub told : AnswersAs (judged settings bytes) answer
+  pub read_failed : answer ≡ Err ReadFailed → HoldNoFault settings bytes rest
+  pub ahead : ReadsUpTo (verdict_in answer) bytes rest

@@ -1,13 +1,13 @@
 //! The audit of a stream of Cucumber Messages.
-ghost use Rattle.std.specs.Prelude.{◌≡◌, Err, IfSome};
-ghost use Rattle.cm_envelope.specs.Device.{CountsFailure};
-ghost use Rattle.cm_envelope.specs.Feeds.{WhereTold};
+ghost use Rattle.std.specs.Prelude.{◌≡◌, Err};
+ghost use Rattle.cm_envelope.specs.Device.{CountsFailure, OfReads, OfSource};
 ghost use Rattle.cm_envelope.specs.declared.feed.Trouble.TheVariants.{ReadFailed};
 ghost use Rattle.cm_attempt.specs.Settings.{settings_of};
 ghost use Rattle.cm_stream.specs.Stream.{GoodOnlyForGood, GoodRunsOnly, NoneIsGood, shown, verdict_in};
-ghost use Rattle.cm_audit.specs.Audit.{AnswersAs, AnswersTold, ReadsUpTo, ShowNoFault, TakesLine, VerdictTold};
+ghost use Rattle.cm_audit.specs.Audit.{AnswersTold, DecidesGood, IsAuditOf, IsVerdictOf, ReadsUpTo, ShowNoFault, ShowsUnsupported};
+ghost use Rattle.cm_audit.specs.Audit.{TakesLine, VerdictDecidesGood, VerdictTold};
 ghost use Rattle.cm_audit.specs.Audit.{audited_at, is_failed_read, unsuccessful};
-ghost use Rattle.cm_audit.specs.Judging.{HoldNoFault, judged};
+ghost use Rattle.cm_audit.specs.Judging.{JudgesAs};
 ghost use Rattle.cm_audit.specs.State.{AreFewer, IsListed, summary_of};
 ghost use Rattle.cm_state.specs.Summary.{nothing_seen};
 
@@ -65,14 +65,10 @@ fn judge_lines<R: ByteSource>(
 ) -> Result<Audited, Trouble>
     requires nothing { summary_of state.old ≡ nothing_seen settings.first_attempt }
     requires listed { IsListed state.old }
-    ensures judged { IfSome (R.to_come source.old)
-        (λ bytes. AnswersAs (judged settings bytes) result) }
+    ensures judged { OfReads (R.to_come source.old) (R.to_come source.new)
+        (JudgesAs settings result) }
     ensures failures { CountsFailure (is_failed_read result) (R.failed_calls source.old)
         (R.failed_calls source.new) }
-    ensures read_failed { result ≡ Err ReadFailed
-        → WhereTold (R.to_come source.old) (R.to_come source.new) (HoldNoFault settings) }
-    ensures ahead { WhereTold (R.to_come source.old) (R.to_come source.new)
-        (ReadsUpTo (verdict_in result)) }
 {
     let mut feed = Feed::new(alloc);
     let mut number: u64 = 0;
@@ -120,22 +116,33 @@ pub fn audit_run<R: ByteSource>(
     source: &mut R,
     settings: Settings,
 ) -> Result<Audited, Trouble>
+    // The clauses hold of the bytes that the source has to come, where it shows them; where it doesn't, of bytes that it may
+    // have had. All of these are of the same bytes:
+    ensures same_bytes { OfReads (R.to_come source.old) (R.to_come source.new)
+        (IsAuditOf settings result) }
+
     // Good only for a good stream, and with its counts and what it says of success: references, sources, cases, attempts,
     // their numbers, retries, success and the rest.
-    ensures good { IfSome (R.to_come source.old) (λ bytes. GoodRunsOnly settings bytes result) }
+    ensures good { OfSource (R.to_come source.old) (λ bytes. GoodRunsOnly settings bytes result) }
     // Bad only where no good stream has these first lines.
-    ensures bad { IfSome (R.to_come source.old)
+    ensures bad { OfSource (R.to_come source.old)
         (λ bytes. NoneIsGood settings bytes (verdict_in result)) }
     // The verdict is that of the first line that has a fault.
-    ensures told { IfSome (R.to_come source.old) (λ bytes. AnswersTold settings bytes result) }
+    ensures told { OfSource (R.to_come source.old) (λ bytes. AnswersTold settings bytes result) }
+    // A good stream is answered Good, unless a read failed or memory was refused.
+    ensures decided { OfSource (R.to_come source.old)
+        (λ bytes. DecidesGood settings bytes result) }
+    // Unsupported only at a line that shows the reason.
+    ensures unsupported { OfSource (R.to_come source.old)
+        (λ bytes. ShowsUnsupported bytes (verdict_in result)) }
 
     // A failed read is reported, and only where the lines before it show no fault.
     ensures failures { CountsFailure (is_failed_read result) (R.failed_calls source.old)
         (R.failed_calls source.new) }
     ensures read_failed { result ≡ Err ReadFailed
-        → WhereTold (R.to_come source.old) (R.to_come source.new) (ShowNoFault settings) }
+        → OfReads (R.to_come source.old) (R.to_come source.new) (ShowNoFault settings) }
 
-    ensures ahead { WhereTold (R.to_come source.old) (R.to_come source.new)
+    ensures ahead { OfReads (R.to_come source.old) (R.to_come source.new)
         (ReadsUpTo (verdict_in result)) }
 {
     let mut state = State::new(alloc, settings.first_attempt);
@@ -163,16 +170,25 @@ pub fn audit_by<R: ByteSource>(
     source: &mut R,
     settings: Settings,
 ) -> Result<Verdict, Trouble>
-    ensures good { IfSome (R.to_come source.old) (λ bytes. GoodOnlyForGood settings bytes result) }
-    ensures bad { IfSome (R.to_come source.old) (λ bytes. NoneIsGood settings bytes result) }
-    ensures told { IfSome (R.to_come source.old) (λ bytes. VerdictTold settings bytes result) }
+    ensures same_bytes { OfReads (R.to_come source.old) (R.to_come source.new)
+        (IsVerdictOf settings result) }
+    ensures good { OfSource (R.to_come source.old)
+        (λ bytes. GoodOnlyForGood settings bytes result) }
+    ensures bad { OfSource (R.to_come source.old)
+        (λ bytes. NoneIsGood settings bytes result) }
+    ensures told { OfSource (R.to_come source.old)
+        (λ bytes. VerdictTold settings bytes result) }
+    ensures decided { OfSource (R.to_come source.old)
+        (λ bytes. VerdictDecidesGood settings bytes result) }
+    ensures unsupported { OfSource (R.to_come source.old)
+        (λ bytes. ShowsUnsupported bytes result) }
 
     ensures failures { CountsFailure (is_failed_read result) (R.failed_calls source.old)
         (R.failed_calls source.new) }
     ensures read_failed { result ≡ Err ReadFailed
-        → WhereTold (R.to_come source.old) (R.to_come source.new) (ShowNoFault settings) }
+        → OfReads (R.to_come source.old) (R.to_come source.new) (ShowNoFault settings) }
 
-    ensures ahead { WhereTold (R.to_come source.old) (R.to_come source.new) (ReadsUpTo result) }
+    ensures ahead { OfReads (R.to_come source.old) (R.to_come source.new) (ReadsUpTo result) }
 {
     verdict_of(audit_run(alloc, source, settings))
 }
@@ -186,20 +202,25 @@ pub fn audit_with<R: ByteSource>(
     source: &mut R,
     policy: Policy,
 ) -> Result<Verdict, Trouble>
-    ensures good { IfSome (R.to_come source.old)
+    ensures same_bytes { OfReads (R.to_come source.old) (R.to_come source.new)
+        (IsVerdictOf (settings_of policy) result) }
+    ensures good { OfSource (R.to_come source.old)
         (λ bytes. GoodOnlyForGood (settings_of policy) bytes result) }
-    ensures bad { IfSome (R.to_come source.old)
+    ensures bad { OfSource (R.to_come source.old)
         (λ bytes. NoneIsGood (settings_of policy) bytes result) }
-    ensures told { IfSome (R.to_come source.old)
+    ensures told { OfSource (R.to_come source.old)
         (λ bytes. VerdictTold (settings_of policy) bytes result) }
+    ensures decided { OfSource (R.to_come source.old)
+        (λ bytes. VerdictDecidesGood (settings_of policy) bytes result) }
+    ensures unsupported { OfSource (R.to_come source.old)
+        (λ bytes. ShowsUnsupported bytes result) }
 
     ensures failures { CountsFailure (is_failed_read result) (R.failed_calls source.old)
         (R.failed_calls source.new) }
     ensures read_failed { result ≡ Err ReadFailed
-        → WhereTold (R.to_come source.old) (R.to_come source.new)
-        (ShowNoFault (settings_of policy)) }
+        → OfReads (R.to_come source.old) (R.to_come source.new) (ShowNoFault (settings_of policy)) }
 
-    ensures ahead { WhereTold (R.to_come source.old) (R.to_come source.new) (ReadsUpTo result) }
+    ensures ahead { OfReads (R.to_come source.old) (R.to_come source.new) (ReadsUpTo result) }
 {
     audit_by(alloc, source, Settings::from(policy))
 }
@@ -209,20 +230,26 @@ pub fn audit_with<R: ByteSource>(
 /// # Errors
 /// As those of `audit_run`.
 pub fn audit<R: ByteSource>(alloc: Global, source: &mut R) -> Result<Verdict, Trouble>
-    ensures good { IfSome (R.to_come source.old)
+    ensures same_bytes { OfReads (R.to_come source.old) (R.to_come source.new)
+        (IsVerdictOf (settings_of Policy.Strict) result) }
+    ensures good { OfSource (R.to_come source.old)
         (λ bytes. GoodOnlyForGood (settings_of Policy.Strict) bytes result) }
-    ensures bad { IfSome (R.to_come source.old)
+    ensures bad { OfSource (R.to_come source.old)
         (λ bytes. NoneIsGood (settings_of Policy.Strict) bytes result) }
-    ensures told { IfSome (R.to_come source.old)
+    ensures told { OfSource (R.to_come source.old)
         (λ bytes. VerdictTold (settings_of Policy.Strict) bytes result) }
+    ensures decided { OfSource (R.to_come source.old)
+        (λ bytes. VerdictDecidesGood (settings_of Policy.Strict) bytes result) }
+    ensures unsupported { OfSource (R.to_come source.old)
+        (λ bytes. ShowsUnsupported bytes result) }
 
     ensures failures { CountsFailure (is_failed_read result) (R.failed_calls source.old)
         (R.failed_calls source.new) }
     ensures read_failed { result ≡ Err ReadFailed
-        → WhereTold (R.to_come source.old) (R.to_come source.new)
+        → OfReads (R.to_come source.old) (R.to_come source.new)
         (ShowNoFault (settings_of Policy.Strict)) }
 
-    ensures ahead { WhereTold (R.to_come source.old) (R.to_come source.new) (ReadsUpTo result) }
+    ensures ahead { OfReads (R.to_come source.old) (R.to_come source.new) (ReadsUpTo result) }
 {
     audit_with(alloc, source, Policy::Strict)
 }

@@ -1,5 +1,5 @@
 //! The envelopes that say what a run is to execute: sources, documents, parse errors, pickles, definitions and hooks.
-ghost use Rattle.std.specs.Prelude.{◌≡◌, ◌&&◌, IfErr, IfOk, OnOk, false, map, true};
+ghost use Rattle.std.specs.Prelude.{◌≡◌, ◌&&◌, IfErr, IfOk, OnOk, false, true};
 ghost use Rattle.cm_attempt.specs.Table.{has_repeat, has_text};
 ghost use Rattle.cm_envelope.specs.declared.envelope.Envelope.TheVariants as envelope;
 ghost use Rattle.cm_state.specs.StateChecks.{plain_finding, is_next_by};
@@ -54,7 +54,7 @@ pub(crate) fn judge_source(state: &mut State, source: Source) -> Result<(), Stop
 fn have_repeat(alloc: Global, texts: &[Text]) -> Result<bool, AllocError>
     ensures { IfOk result (λ found. found ≡ has_repeat texts.now) }
 {
-    let mut set = IndexSet::new(alloc);
+    let mut set = IndexSet::with_capacity(alloc, texts.len())?;
     for text in texts {
         if set.contains(text.as_str()) {
             return Ok(true);

@@ -18,20 +18,21 @@ use gk_grammar::FaultKind;
 use gk_pickle::{Pickle as DuePickle, compile};
 use gk_tree::parse;
 use std::alloc::{AllocError, Global};
+use std::collections::VecDeque;
 use std::marker::Model;
 
-/// A source whose text is of the grammar: its document, what that compiles to, the ids of the stream's document once it
-/// came, and how many of the pickles came.
+/// A source whose text is of the grammar: its document, the ids of the stream's document once it came, how many of the
+/// pickles that it compiles to came, and the others.
 #[derive(Drop)]
 pub(crate) struct Accepted {
     document: Document,
-    pickles: Vec<DuePickle>,
+    due: VecDeque<DuePickle>,
     ids: Option<Sequence<Text>>,
     matched: usize,
 }
 
 impl Model for Accepted {
-    ghost use Rattle.std.specs.Prelude.{◌≡◌};
+    ghost use Rattle.std.specs.Prelude.{◌≡◌, ◌<◌, ◌^◌, drop, length};
     ghost use Rattle.gk_pickle.specs.Pickles.{pickles as compiled};
     ghost use Rattle.cm_audit.specs.AcceptedSource.{AcceptedSource};
 
@@ -39,7 +40,8 @@ impl Model for Accepted {
 
     ghost view = { λ a. record { document = a.document; ids = a.ids; matched = a.matched } };
 
-    ghost invariant = { λ a. a.pickles.items ≡ compiled a.document };
+    ghost invariant = { λ a. (a.due.items ≡ drop a.matched (compiled a.document))
+        × (length (compiled a.document) < 2 ^ 64) };
 }
 
 impl Accepted {
@@ -50,7 +52,7 @@ impl Accepted {
         let pickles = compile(alloc, &document)?;
         Ok(Accepted {
             document,
-            pickles,
+            due: VecDeque::from_vec(pickles),
             ids: None,
             matched: 0,
         })
@@ -78,17 +80,18 @@ impl Accepted {
             Some(ids) => ids.as_slice(),
             None => &[],
         };
-        match self.pickles.get(self.matched) {
+        match self.due.front() {
             Some(due) => is_due_pickle(pickle, ids, due),
             None => false,
         }
     }
 
-    /// The next pickle came.
+    /// The next pickle came, and isn't kept any longer.
     pub(crate) fn count_pickle(&mut self)
         requires { self.old.matched < length (pickles self.old.document) }
         ensures { self.new ≡ record self.old { matched = self.old.matched + 1 } }
     {
+        drop(self.due.pop_front());
         self.matched += 1;
     }
 
@@ -96,7 +99,7 @@ impl Accepted {
     pub(crate) fn lacks_some(&self) -> bool
         ensures { result ≡ lacks_by (accepted_text self.now.document) (accepted_row [] self.now) }
     {
-        self.ids.is_none() || self.matched < self.pickles.len()
+        self.ids.is_none() || !self.due.is_empty()
     }
 }
 

@@ -34,7 +34,3 @@ compiled_lines uri text d =
 abbrev pub IsCompiledOf : (uri text bytes : List ℕ) → Type 0
 IsCompiledOf uri text bytes =
     (d : Document) × IsDocumentOf text d × (bytes ≡ concat (compiled_lines uri text d))
-
--- these are the lines of the document that the text has
-abbrev pub HasLines : (uri text : List ℕ) → List (List ℕ) → Type 0
-HasLines uri text lines = (d : Document) × IsDocumentOf text d × (lines ≡ compiled_lines uri text d)

@@ -1,61 +1,33 @@
 //! The lines of a feature file.
-ghost use Rattle.std.specs.Prelude.{◌≡◌, ◌≢◌, ◌+◌, ◌<◌, ◌^◌, ◌++◌, ◌↔◌, false, ℕ, List, Err, IfOk, OnOk, IfErr, sum_by};
+ghost use Rattle.std.specs.Prelude.{◌≡◌, ◌≢◌, ◌+◌, ◌<◌, ◌^◌, ◌++◌, ◌↔◌, ℕ, List, Err, IfOk, OnOk, IfErr, sum_by, codes};
+ghost use Rattle.std.specs.List.{concat};
 ghost use Rattle.std.specs.Io.KnownBytes.{Appends};
 ghost use Rattle.gk_grammar.specs.Documents.{IsTooLong};
 ghost use Rattle.gk_tree.specs.declared.fault.ParseFault.{ParseFault};
 ghost use Rattle.gk_tree.specs.Views.{too_long};
-ghost use Rattle.serde_json.specs.View.{view};
-ghost use Rattle.serde_json.specs.Written.{has_float};
 ghost use Rattle.gk_pickle.specs.Pickles.{pickles};
-ghost use Rattle.gk_pickle.specs.Json.{pickle_data};
 ghost use Rattle.gk_pickle.specs.TreeJson.{source_data, document_data};
 ghost use Rattle.cm_envelope.specs.Device.{count_up};
 ghost use Rattle.cm_compile.specs.declared.fault.CompileFault.TheVariants.{Parse, WriteFailed};
-ghost use Rattle.cm_compile.specs.Compiled.{json_line, id_count, pickle_lines, compiled_lines, IsCompiledOf, HasLines};
+ghost use Rattle.cm_compile.specs.Compiled.{json_line, id_count, pickle_lines, compiled_lines, IsCompiledOf};
 ghost use Rattle.cm_compile.specs.Faults.{IsRefusedWith};
 ghost use Rattle.cm_envelope.specs.Writing.{AppendsFront};
 
 use crate::fault::CompileFault;
-use cm_envelope::{ByteSink, write_lines};
-use gk_document::{Document, Text};
-use gk_pickle::{Pickle, compile, document_value, pickle_value, source_value};
+use cm_envelope::{ByteSink, write_all};
+use cm_messages::{document_text, pickle_text, source_text};
+use gk_document::Document;
+use gk_pickle::{Pickle, compile};
 use gk_tree::parse;
-use serde_json::Value;
 use std::alloc::{AllocError, Global};
 
-/// A value on a line of its own.
-fn line_of(alloc: Global, value: &Value) -> Result<Text, AllocError>
-    requires { has_float (view value.now) ≡ false }
-    ensures { IfOk result (λ line. line ≡ json_line (view value.now)) }
+/// Adds a text as a line of its own.
+fn add_line(lines: &mut Vec<u8>, text: &[u8]) -> Result<(), AllocError>
+    ensures { OnOk result (lines.new.items ≡ lines.old.items ++ (text.now ++ codes "\n")) }
 {
-    let mut line = value.to_string(alloc)?;
-    line.push('\n')?;
-    Ok(Text::from(line))
-}
-
-#[tactic(auto, using(crate::proofs::Floats::source_plain))]
-fn source_line(alloc: Global, uri: &str, text: &str) -> Result<Text, AllocError>
-    ensures { IfOk result (λ line. line ≡ json_line (source_data uri.now text.now)) }
-{
-    let value = source_value(alloc, uri, text)?;
-    line_of(alloc, &value)
-}
-
-#[tactic(auto, using(crate::proofs::Floats::document_plain))]
-fn document_line(alloc: Global, uri: &str, document: &Document) -> Result<Text, AllocError>
-    ensures { IfOk result (λ line. line ≡ json_line (document_data uri.now document.now)) }
-{
-    let value = document_value(alloc, uri, document)?;
-    line_of(alloc, &value)
-}
-
-#[tactic(auto, using(crate::proofs::Floats::pickle_plain))]
-fn pickle_line(alloc: Global, uri: &str, pickle: &Pickle, first_id: u64) -> Result<Text, AllocError>
-    requires { first_id + id_count pickle.now < 2 ^ 64 }
-    ensures { IfOk result (λ line. line ≡ json_line (pickle_data uri.now first_id pickle.now)) }
-{
-    let value = pickle_value(alloc, uri, pickle, first_id)?;
-    line_of(alloc, &value)
+    lines.extend_from_slice(text)?;
+    lines.push(b'\n')?;
+    Ok(())
 }
 
 /// Adds the lines of pickles, whose ids go on from the first one.
@@ -64,19 +36,36 @@ fn add_pickle_lines(
     uri: &str,
     pickles: &[Pickle],
     first_id: u64,
-    lines: &mut Vec<Text>,
+    lines: &mut Vec<u8>,
 ) -> Result<(), AllocError>
     requires { first_id + sum_by id_count pickles.now < 2 ^ 64 }
     ensures { OnOk result
-        (lines.new.items ≡ lines.old.items ++ pickle_lines uri.now first_id pickles.now) }
+        (lines.new.items ≡ lines.old.items ++ concat (pickle_lines uri.now first_id pickles.now)) }
 {
     let mut id = first_id;
     'pickles: for pickle in pickles {
-        let line = pickle_line(alloc, uri, pickle, id)?;
-        lines.push(line)?;
+        let text = pickle_text(alloc, uri, pickle, id)?;
+        add_line(lines, text.as_slice())?;
         id += pickle.steps.len() as u64 + 1;
     }
     Ok(())
+}
+
+/// The line of a source, and that of its document.
+fn lines_of_tree(
+    alloc: Global,
+    uri: &str,
+    text: &str,
+    document: &Document,
+) -> Result<Vec<u8>, AllocError>
+    ensures { IfOk result (λ lines. lines.items ≡ json_line (source_data uri.now text.now)
+        ++ json_line (document_data uri.now document.now)) }
+{
+    let mut lines = source_text(alloc, uri, text)?;
+    lines.push(b'\n')?;
+    let document = document_text(alloc, uri, document)?;
+    add_line(&mut lines, document.as_slice())?;
+    Ok(lines)
 }
 
 /// All lines of a feature file whose document is read.
@@ -85,21 +74,20 @@ fn lines_of_document(
     uri: &str,
     text: &str,
     document: &Document,
-) -> Result<Vec<Text>, AllocError>
+) -> Result<Vec<u8>, AllocError>
     requires { document.now.nodes + sum_by id_count (pickles document.now) < 2 ^ 64 }
-    ensures { IfOk result (λ lines. lines.items ≡ compiled_lines uri.now text.now document.now) }
+    ensures { IfOk result (λ lines.
+        lines.items ≡ concat (compiled_lines uri.now text.now document.now)) }
 {
+    let mut lines = lines_of_tree(alloc, uri, text, document)?;
     let pickles = compile(alloc, document)?;
-    let mut lines = Vec::new(alloc);
-    lines.push(source_line(alloc, uri, text)?)?;
-    lines.push(document_line(alloc, uri, document)?)?;
     add_pickle_lines(alloc, uri, pickles.as_slice(), document.nodes, &mut lines)?;
     Ok(lines)
 }
 
 /// All lines of a feature file.
-fn lines_of(alloc: Global, uri: &str, text: &str) -> Result<Vec<Text>, CompileFault>
-    ensures ok { IfOk result (λ lines. HasLines uri.now text.now lines.items) }
+fn lines_of(alloc: Global, uri: &str, text: &str) -> Result<Vec<u8>, CompileFault>
+    ensures ok { IfOk result (λ lines. IsCompiledOf uri.now text.now lines.items) }
     ensures refused { (f : ParseFault) → result ≡ Err (Parse f) → IsRefusedWith text.now f }
     ensures too_long { (result ≡ Err (Parse too_long)) ↔ IsTooLong text.now }
     ensures nothing_written { result ≢ Err WriteFailed }
@@ -141,5 +129,5 @@ pub fn write_compiled<W: ByteSink>(
     ensures untouched { IfErr result (λ e. e ≢ WriteFailed → sink.new ≡ sink.old) }
 {
     let lines = lines_of(alloc, uri, text)?;
-    Ok(write_lines(sink, lines.as_slice())?)
+    Ok(write_all(sink, lines.as_slice())?)
 }

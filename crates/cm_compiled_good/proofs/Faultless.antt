@@ -13,8 +13,7 @@ use Rattle.cm_attempt.specs.declared.settings.Settings.{Settings}
 use Rattle.cm_stream.specs.Readings.{Accepted}
 use Rattle.cm_stream.specs.OnePass.{reads}
 use Rattle.cm_stream.specs.References.{Name, PickleNamed, PickleStep, declares_it, sources, documents_of, pickles_of, as_source, as_document, as_case, as_start, as_run_hook, as_run_hook_end, is_run_started, is_run_finished, has_run_finished}
-use Rattle.cm_stream.specs.Checks.{fault, is_incomplete}
-use Rattle.cm_stream.specs.Laws.{HasNoFault}
+use Rattle.cm_stream.specs.ByOnePass.{fault, is_incomplete, HasNoFault}
 use Rattle.cm_stream.proofs.Found.{bytes_same}
 use Rattle.cm_stream.proofs.Skeletons.{same_skeletons}
 use Rattle.cm_read_back.specs.Documents.{document_read, kept}

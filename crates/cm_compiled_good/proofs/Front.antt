@@ -11,8 +11,9 @@ use Rattle.cm_envelope.specs.declared.envelope.Envelope.TheVariants as envelope
 use Rattle.cm_envelope.specs.declared.pickle.Pickle as told
 use Rattle.cm_stream.specs.Readings.{Accepted}
 use Rattle.cm_stream.specs.OnePass.{reads}
-use Rattle.cm_stream.specs.References.{SourceOf, DocumentOf, declares_it, pickles_of, reading_of}
-use Rattle.cm_stream.specs.Checks.{document_ids, next_pickle, is_next_pickle, refers_to_unknown}
+use Rattle.cm_stream.specs.References.{SourceOf, DocumentOf, declares_it, pickles_of}
+use Rattle.cm_stream.specs.Checks.{document_ids, refers_to_unknown}
+use Rattle.cm_stream.specs.ByOnePass.{reading_of, next_pickle, is_next_pickle}
 use Rattle.cm_stream.proofs.Found.{bytes_same}
 use Rattle.cm_stream.proofs.Lists.{at_length, count_none}
 use Rattle.cm_read_back.specs.Documents.{document_read}

@@ -3,6 +3,7 @@ pub mod Giving
 pub mod Later
 pub mod Ends
 pub mod Finding
+pub mod Sources
 pub mod Taking
 pub mod Each
 pub mod Judged

@@ -1,6 +1,7 @@
 -- What a feed stores between two calls, and what one call does to it.
 use Rattle.std.specs.Prelude.{ℕ, ◌≡◌, ◌+◌, ◌<◌, ◌≤◌, ◌⊎◌, ⊤, Bool, true, false, not, IsTrue, ◌||◌, ◌==◌, List, [], ◌∷◌, ◌++◌, length, Option, Some, None, Result, Ok, Err, IsSome, if◌then◌else◌}
-use Rattle.std.specs.Io.KnownBytes.{IsAtEnd}
+use Rattle.std.specs.Io.KnownBytes.{Consumes, IsAtEnd}
+use Rattle.cm_envelope.specs.Device.{AreToCome}
 use Rattle.cm_envelope.specs.Lines.{Line, Fed, size, line_feed, lines_of, feed_lines, trouble_of, nothing, trouble_alone, line_then}
 use Rattle.cm_envelope.specs.declared.feed.Trouble.{Trouble}
 use Rattle.cm_envelope.specs.declared.feed.Trouble.TheVariants.{ReadFailed, LineTooLong, StreamTooLong, Memory}
@@ -138,11 +139,10 @@ Gives old new before after (Err LineTooLong) = left old before ≡ trouble_alone
 Gives old new before after (Err StreamTooLong) = left old before ≡ trouble_alone StreamTooLong
 Gives old new before after (Err Memory) = ⊤
 
--- P of the bytes to come before and after, where the source shows them
-abbrev pub WhereTold : Option (List ℕ) → Option (List ℕ) → (List ℕ → List ℕ → Type 0) → Type 0
-WhereTold None after P = ⊤
-WhereTold (Some xs) None P = ⊥
-WhereTold (Some xs) (Some ys) P = P xs ys
+-- bytes that may be left after a call: the source's own where it shows them, and none where the call read the end
+abbrev pub MayBeLeft : (old new : Stored) → Option (List ℕ) → List ℕ → Type 0
+MayBeLeft old new after rest =
+    AreToCome after rest × (old.is_ended ≡ false → new.is_ended ≡ true → rest ≡ [])
 
 -- P of the line, where one is answered
 abbrev pub OnLine : NextLine → (List ℕ → Type 0) → Type 0
@@ -161,6 +161,11 @@ pub record Leaves (old new : Stored) (before after : Option (List ℕ))
   pub ended : answer ≡ Ok None → new.is_ended ≡ true
   -- once the end was read, nothing is left to come of the source
   pub source : EndsWithSource old before → EndsWithSource new after
+  -- what was read of the source, which is nothing once the end was read
+  pub read : List ℕ
+  pub consumed : Consumes before after read
+  pub past : old.is_ended ≡ true → (read ≡ []) × (new.is_ended ≡ true)
   -- what is counted and held after a line, and what is left to answer after any call
   pub line : old.over ≡ None → OnLine answer (λ line. GivesLine old new line)
-  pub gives : old.over ≡ None → WhereTold before after (λ xs ys. Gives old new xs ys answer)
+  pub gives : old.over ≡ None → (rest : List ℕ) → MayBeLeft old new after rest
+      → Gives old new (read ++ rest) rest answer

@@ -1,5 +1,5 @@
 -- The envelope of a line.
-use Rattle.std.specs.Prelude.{◌≡◌, ℕ, List, [], ◌∷◌, if◌then◌else◌, Option, Some, None, is_some, option_map, Result, Ok, Err, codes}
+use Rattle.std.specs.Prelude.{◌≡◌, ℕ, List, [], ◌∷◌, if◌then◌else◌, Option, Some, None, is_some, option_map, Result, Ok, Err, codes, find, bytes_eq}
 use Rattle.std.specs.List.{filter_map}
 use Rattle.std.specs.Str.{is_utf8}
 use Rattle.std.specs.Borrow.{Bor}
@@ -52,6 +52,10 @@ kind_name TestRunFinished = codes "testRunFinished"
 kind_name Attachment = codes "attachment"
 kind_name TestRunHookStarted = codes "testRunHookStarted"
 kind_name TestRunHookFinished = codes "testRunHookFinished"
+
+-- the kind whose member has this name
+abbrev pub kind_named : List ℕ → Option Kind
+kind_named name = find (λ k. bytes_eq name (kind_name k)) kinds
 
 abbrev pub result_map : {A B E : Type 0} → (A → B) → Result A E → Result B E
 result_map f (Ok x) = Ok (f x)

@@ -2,7 +2,7 @@
 ghost use Rattle.std.specs.Prelude.{◌≡◌, ◌≤◌, ◌<◌, ◌-◌, ◌+◌, ◌++◌, ◌&&◌, ℕ, List, length, true, false, [], None, Some, Ok, IfNone, IfSome, is_none};
 ghost use Rattle.std.specs.Borrow.{sem};
 ghost use Rattle.std.specs.Io.BufRead.{Rests};
-ghost use Rattle.cm_envelope.specs.Device.{CountsFailure};
+ghost use Rattle.cm_envelope.specs.Device.{CountsFailure, OfSource};
 ghost use Rattle.cm_envelope.specs.Feeds.{has_line_feed, new_feed, answer_of, last_answer, left, is_failed_read, NeedsNoRead, AnswersFirst, OnLine, IsLineWithin, EndsWithSource, Leaves};
 ghost use Rattle.cm_envelope.specs.Held.{items, FindsEnd, Judges, Finds};
 ghost use Rattle.std.specs.Io.KnownBytes.{Consumes, IsAtEnd};
@@ -125,7 +125,7 @@ impl Feed {
     pub fn next_line<S: ByteSource>(&mut self, source: &mut S) -> Result<Option<&[u8]>, Trouble>
         // A feed that is over answers the same again, and any other the first of what is left.
         ensures repeats { IfSome self.old.over (λ over. answer_of result ≡ last_answer over) }
-        ensures first { IfNone self.old.over (IfSome (S.to_come source.old)
+        ensures first { IfNone self.old.over (OfSource (S.to_come source.old)
             (λ bytes. AnswersFirst (left self.old bytes) (answer_of result))) }
         ensures line { OnLine (answer_of result) (IsLineWithin self.old.line_limit) }
 

@@ -21,26 +21,32 @@ pub(crate) enum Kind {
 
 impl Kind {
     ghost use Rattle.std.specs.Prelude.{◌≡◌};
-    ghost use Rattle.cm_envelope.specs.Reading.{kind_name};
+    ghost use Rattle.cm_envelope.specs.Reading.{kind_name, kind_named};
 
-    pub(crate) const ALL: [Kind; 16] = [
-        Kind::Source,
-        Kind::GherkinDocument,
-        Kind::ParseError,
-        Kind::Pickle,
-        Kind::StepDefinition,
-        Kind::Hook,
-        Kind::TestCase,
-        Kind::TestRunStarted,
-        Kind::TestCaseStarted,
-        Kind::TestStepStarted,
-        Kind::TestStepFinished,
-        Kind::TestCaseFinished,
-        Kind::TestRunFinished,
-        Kind::Attachment,
-        Kind::TestRunHookStarted,
-        Kind::TestRunHookFinished,
-    ];
+    /// The kind whose member in an envelope has this name.
+    pub(crate) fn named(name: &str) -> Option<Kind>
+        ensures { result ≡ kind_named name.now }
+    {
+        match name {
+            "source" => Some(Kind::Source),
+            "gherkinDocument" => Some(Kind::GherkinDocument),
+            "parseError" => Some(Kind::ParseError),
+            "pickle" => Some(Kind::Pickle),
+            "stepDefinition" => Some(Kind::StepDefinition),
+            "hook" => Some(Kind::Hook),
+            "testCase" => Some(Kind::TestCase),
+            "testRunStarted" => Some(Kind::TestRunStarted),
+            "testCaseStarted" => Some(Kind::TestCaseStarted),
+            "testStepStarted" => Some(Kind::TestStepStarted),
+            "testStepFinished" => Some(Kind::TestStepFinished),
+            "testCaseFinished" => Some(Kind::TestCaseFinished),
+            "testRunFinished" => Some(Kind::TestRunFinished),
+            "attachment" => Some(Kind::Attachment),
+            "testRunHookStarted" => Some(Kind::TestRunHookStarted),
+            "testRunHookFinished" => Some(Kind::TestRunHookFinished),
+            _ => None,
+        }
+    }
 
     /// The name of the kind's member in an envelope.
     pub(crate) fn name(self) -> &'static str

@@ -497,6 +497,7 @@ impl ReadNode for Feature {
 impl ReadObject for GherkinDocument {
     ghost reads = { gherkin_document };
 
+    #[inline(never)]
     fn read(alloc: Global, object: &Value) -> Result<GherkinDocument, MemberFault> {
         let uri = text(alloc, object, "uri")?;
         let mut ids = Sequence::new(alloc);

@@ -74,6 +74,7 @@ fn all_have_one_of(objects: &[Value], first: &str, second: &str) -> bool
 impl ReadObject for Source {
     ghost reads = { source };
 
+    #[inline(never)]
     fn read(alloc: Global, object: &Value) -> Result<Source, MemberFault> {
         Ok(Source {
             uri: text(alloc, object, "uri")?,
@@ -96,6 +97,7 @@ impl ReadObject for SourceReference {
 impl ReadObject for ParseError {
     ghost reads = { parse_error };
 
+    #[inline(never)]
     fn read(alloc: Global, object: &Value) -> Result<ParseError, MemberFault> {
         Ok(ParseError {
             source: nested(alloc, object, "source")?,
@@ -106,6 +108,7 @@ impl ReadObject for ParseError {
 impl ReadObject for StepDefinition {
     ghost reads = { step_definition };
 
+    #[inline(never)]
     fn read(alloc: Global, object: &Value) -> Result<StepDefinition, MemberFault> {
         Ok(StepDefinition {
             id: text(alloc, object, "id")?,
@@ -116,6 +119,7 @@ impl ReadObject for StepDefinition {
 impl ReadObject for Hook {
     ghost reads = { hook };
 
+    #[inline(never)]
     fn read(alloc: Global, object: &Value) -> Result<Hook, MemberFault> {
         Ok(Hook {
             id: text(alloc, object, "id")?,
@@ -126,6 +130,7 @@ impl ReadObject for Hook {
 impl ReadObject for TestRunStarted {
     ghost reads = { test_run_started };
 
+    #[inline(never)]
     fn read(alloc: Global, object: &Value) -> Result<TestRunStarted, MemberFault> {
         Ok(TestRunStarted {
             id: optional_text(alloc, object, "id")?,
@@ -136,6 +141,7 @@ impl ReadObject for TestRunStarted {
 impl ReadObject for TestRunFinished {
     ghost reads = { test_run_finished };
 
+    #[inline(never)]
     fn read(alloc: Global, object: &Value) -> Result<TestRunFinished, MemberFault> {
         Ok(TestRunFinished {
             test_run_started_id: optional_text(alloc, object, "testRunStartedId")?,
@@ -148,6 +154,7 @@ impl ReadObject for TestRunFinished {
 impl ReadObject for Attachment {
     ghost reads = { attachment };
 
+    #[inline(never)]
     fn read(alloc: Global, object: &Value) -> Result<Attachment, MemberFault> {
         Ok(Attachment {
             test_case_started_id: optional_text(alloc, object, "testCaseStartedId")?,
@@ -172,6 +179,7 @@ impl ReadObject for TestStep {
 impl ReadObject for TestCase {
     ghost reads = { test_case };
 
+    #[inline(never)]
     fn read(alloc: Global, object: &Value) -> Result<TestCase, MemberFault> {
         let id = text(alloc, object, "id")?;
         let pickle_id = text(alloc, object, "pickleId")?;
@@ -191,6 +199,7 @@ impl ReadObject for TestCase {
 impl ReadObject for TestCaseStarted {
     ghost reads = { test_case_started };
 
+    #[inline(never)]
     fn read(alloc: Global, object: &Value) -> Result<TestCaseStarted, MemberFault> {
         Ok(TestCaseStarted {
             id: text(alloc, object, "id")?,
@@ -203,6 +212,7 @@ impl ReadObject for TestCaseStarted {
 impl ReadObject for TestStepStarted {
     ghost reads = { test_step_started };
 
+    #[inline(never)]
     fn read(alloc: Global, object: &Value) -> Result<TestStepStarted, MemberFault> {
         Ok(TestStepStarted {
             test_case_started_id: text(alloc, object, "testCaseStartedId")?,
@@ -224,6 +234,7 @@ impl ReadObject for TestStepResult {
 impl ReadObject for TestStepFinished {
     ghost reads = { test_step_finished };
 
+    #[inline(never)]
     fn read(alloc: Global, object: &Value) -> Result<TestStepFinished, MemberFault> {
         Ok(TestStepFinished {
             test_case_started_id: text(alloc, object, "testCaseStartedId")?,
@@ -236,6 +247,7 @@ impl ReadObject for TestStepFinished {
 impl ReadObject for TestCaseFinished {
     ghost reads = { test_case_finished };
 
+    #[inline(never)]
     fn read(alloc: Global, object: &Value) -> Result<TestCaseFinished, MemberFault> {
         Ok(TestCaseFinished {
             test_case_started_id: text(alloc, object, "testCaseStartedId")?,
@@ -247,6 +259,7 @@ impl ReadObject for TestCaseFinished {
 impl ReadObject for TestRunHookStarted {
     ghost reads = { test_run_hook_started };
 
+    #[inline(never)]
     fn read(alloc: Global, object: &Value) -> Result<TestRunHookStarted, MemberFault> {
         Ok(TestRunHookStarted {
             id: text(alloc, object, "id")?,
@@ -259,6 +272,7 @@ impl ReadObject for TestRunHookStarted {
 impl ReadObject for TestRunHookFinished {
     ghost reads = { test_run_hook_finished };
 
+    #[inline(never)]
     fn read(alloc: Global, object: &Value) -> Result<TestRunHookFinished, MemberFault> {
         Ok(TestRunHookFinished {
             test_run_hook_started_id: text(alloc, object, "testRunHookStartedId")?,

@@ -1,19 +1,19 @@
 //! From a line to its envelope.
-ghost use Rattle.std.specs.Prelude.{option_map};
-ghost use Rattle.serde_json.specs.View.{view};
-ghost use Rattle.cm_envelope.specs.Member.{Gives as GivesMembers};
-ghost use Rattle.cm_envelope.specs.Reading.{members, judged, the_one, seen, envelope_in, envelope_of as envelope_of_value, json_of_line as json_of, envelope_of_line, Gives, GivesOf};
+ghost use Rattle.std.specs.Prelude.{◌≡◌, option_map, option_and_then};
+ghost use Rattle.serde_json.specs.Data.{object as json_object};
+ghost use Rattle.serde_json.specs.View.{view, members_view};
+ghost use Rattle.cm_envelope.specs.Member.{Gives as GivesMembers, unless_null};
+ghost use Rattle.cm_envelope.specs.Reading.{members as members_of_kind, kind_named, judged, the_one, seen, envelope_in, envelope_of as envelope_of_value, json_of_line as json_of, envelope_of_line, Gives, GivesOf};
 
 use crate::envelope::Envelope;
 use crate::fault::{EnvelopeFault, LineFault, MemberFault};
 use crate::kind::Kind;
-use crate::member::present;
 use crate::object::ReadObject;
-use serde_json::Value;
+use serde_json::{Map, Value};
 use std::alloc::Global;
 
 fn members_of(alloc: Global, kind: Kind, object: &Value) -> Result<Envelope, MemberFault>
-    ensures { GivesMembers result (members kind (view object.now)) }
+    ensures { GivesMembers result (members_of_kind kind (view object.now)) }
 {
     match kind {
         Kind::Source => Ok(Envelope::Source(ReadObject::read(alloc, object)?)),
@@ -39,13 +39,24 @@ fn members_of(alloc: Global, kind: Kind, object: &Value) -> Result<Envelope, Mem
     }
 }
 
+/// The judged kind that a member is of. A null member is of none.
+fn judged_kind(name: &str, value: &Value) -> Option<Kind>
+    ensures { result ≡ option_and_then (λ v. kind_named name.now) (unless_null (view value.now)) }
+{
+    if value.is_null() {
+        return None;
+    }
+    Kind::named(name)
+}
+
 /// The one judged kind that the object has, with its value.
-fn judged_of(object: &Value) -> Result<Option<(Kind, &Value)>, EnvelopeFault>
-    ensures { GivesOf (option_map seen) result (the_one (judged (view object.now))) }
+fn judged_of(members: &Map<String, Value>) -> Result<Option<(Kind, &Value)>, EnvelopeFault>
+    ensures { GivesOf (option_map seen) result
+        (the_one (judged (json_object (members_view members.now.entries)))) }
 {
     let mut found = None;
-    for kind in Kind::ALL {
-        if let Some(value) = present(object, kind.name()) {
+    for (name, value) in members.iter() {
+        if let Some(kind) = judged_kind(name.as_str(), value) {
             if found.is_some() {
                 return Err(EnvelopeFault::Line(LineFault::Shape));
             }
@@ -74,10 +85,10 @@ fn judged_envelope(alloc: Global, kind: Kind, value: &Value) -> Result<Envelope,
 fn envelope_of(alloc: Global, value: &Value) -> Result<Envelope, EnvelopeFault>
     ensures { Gives result (envelope_of_value (view value.now)) }
 {
-    if !value.is_object() {
+    let Some(members) = value.as_object() else {
         return Err(EnvelopeFault::Line(LineFault::Shape));
-    }
-    match judged_of(value)? {
+    };
+    match judged_of(members)? {
         Some((kind, value)) => judged_envelope(alloc, kind, value),
         None => Ok(Envelope::Other),
     }

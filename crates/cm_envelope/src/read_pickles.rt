@@ -141,6 +141,7 @@ impl ReadObject for PickleStep {
 impl ReadObject for Pickle {
     ghost reads = { pickle };
 
+    #[inline(never)]
     fn read(alloc: Global, object: &Value) -> Result<Pickle, MemberFault> {
         Ok(Pickle {
             id: text(alloc, object, "id")?,

@@ -1,6 +1,6 @@
 -- Some streams are good.
 use lib.Utf8.{encode}
-use Rattle.std.proofs.Common.{◌≡◌, refl, [], true}
+use Rattle.std.proofs.Common.{refl}
 use Rattle.std.specs.Str.{chars}
 use Rattle.gk_line.specs.Lines.{lines_of, numbered_lines, without_mark}
 use Rattle.gk_line.specs.Texts.{after, body_of, first_some, trimmed}

@@ -1,6 +1,6 @@
--- The envelopes that the streams are made of: those of a feature file with one scenario of one step,
--- of attempts at it, and of the run.
-use Rattle.std.specs.Prelude.{ℕ, List, [], ◌∷◌, ◌++◌, Some, None, false, true, Bool, codes}
+-- The envelopes that the streams are made of: those of a feature file with one scenario of one
+-- step, of attempts at it, and of the run.
+use Rattle.std.specs.Prelude.{ℕ, [], ◌∷◌, ◌++◌, Some, None, false, Bool, codes}
 use Rattle.gk_document.specs.declared.tree.KeywordType.TheVariants as keyword
 use Rattle.gk_document.specs.declared.tree.Location.{Location}
 use Rattle.gk_document.specs.declared.tree.Step.{Step}

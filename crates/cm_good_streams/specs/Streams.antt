@@ -1,5 +1,5 @@
 -- Three streams, as lists of envelopes.
-use Rattle.std.specs.Prelude.{List, [], ◌∷◌, ◌++◌, true, false, codes}
+use Rattle.std.specs.Prelude.{List, [], ◌∷◌, true, false, codes}
 use Rattle.cm_envelope.specs.declared.envelope.Envelope.{Envelope}
 use Rattle.cm_envelope.specs.declared.envelope.Status.TheVariants.{Passed, Failed}
 use Rattle.cm_stream.specs.Texts.{Utf8}

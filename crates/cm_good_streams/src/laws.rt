@@ -1,16 +1,18 @@
 //! Some streams are good.
-ghost use Rattle.cm_good_streams.specs.Laws.{RetriedAreGood, InterleavedAreGood, RefusedAreGood, RetriedBytesAreGood};
+ghost use Rattle.cm_good_streams.specs.Laws.{RetriedAreGood, InterleavedAreGood, RefusedAreGood, RetriedBytesAreGood, InterleavedBytesAreGood, RefusedBytesAreGood};
 
-/// Good are: a stream whose first attempt failed and whose retry passed; one whose two sources, test
-/// cases and attempts are interleaved; and one with a refused source beside an accepted one, whose
-/// run doesn't say success.
+/// Good are: a stream whose first attempt failed and whose retry passed; one whose two sources,
+/// test cases and attempts are interleaved; and one with a refused source beside an accepted one,
+/// whose run doesn't say success.
 pub fn some_streams_are_good()
     ensures retried { RetriedAreGood }
     ensures interleaved { InterleavedAreGood }
     ensures refused { RefusedAreGood }
 {}
 
-/// The lines of JSON of the stream with the retry are a good stream of bytes, with these counts.
+/// The same three, as lines of JSON, are good streams of bytes, with their counts.
 pub fn some_bytes_are_good()
-    ensures { RetriedBytesAreGood }
+    ensures retried { RetriedBytesAreGood }
+    ensures interleaved { InterleavedBytesAreGood }
+    ensures refused { RefusedBytesAreGood }
 {}

@@ -60,7 +60,7 @@ pub fn distinct_texts(
     ensures same { IfOk result (λ set. IfSome set
         (λ s. map string_bytes s.keys ≡ map string_bytes texts.now)) }
 {
-    let mut set = IndexSet::new(alloc);
+    let mut set = IndexSet::with_capacity(alloc, texts.len())?;
     for text in texts {
         if set.contains(text.as_str()) {
             return Ok(None);

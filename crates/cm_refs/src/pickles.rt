@@ -1,8 +1,7 @@
 //! Pickles by their ids.
-ghost use Rattle.std.specs.Prelude.{◌≡◌, ◌++◌, ◌∷◌, [], None, OnErr, OnOk, find, map, option_map};
+ghost use Rattle.std.specs.Prelude.{◌≡◌, ◌++◌, ◌∷◌, [], None, OnErr, OnOk, find, option_map};
 ghost use Rattle.std.specs.Option.{option_map_or};
 ghost use Rattle.std.specs.Str.{bytes_eq};
-ghost use Rattle.std.specs.String.{string_bytes};
 ghost use Rattle.cm_refs.specs.Declarations.{has_text};
 ghost use Rattle.cm_refs.specs.Rows.{pickle_row, pickle_rows};
 

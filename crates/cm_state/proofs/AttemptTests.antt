@@ -6,7 +6,8 @@ use Rattle.cm_attempt.specs.Worst.{worst_of}
 use Rattle.cm_attempt.specs.declared.policy.Policy.{Policy}
 use Rattle.cm_attempt.proofs.WorstLemmas.{is_known, good_worst}
 use Rattle.cm_stream.specs.Texts.{Utf8}
-use Rattle.cm_stream.specs.References.{Attempt, step_names, attachment_names, all_well, hook_statuses}
+use Rattle.cm_stream.specs.References.{Attempt, step_names, attachment_names, hook_statuses}
+use Rattle.cm_stream.specs.ByOnePass.{all_well}
 use Rattle.cm_stream.specs.Record.{table_of}
 use Rattle.cm_stream.specs.Good.{is_unknown, has_unknown_result}
 use Rattle.cm_stream.specs.Statuses.{kept_status}

@@ -5,12 +5,12 @@ use Rattle.cm_envelope.specs.Reading.{LineFault, envelope_of_line}
 use Rattle.cm_envelope.specs.declared.envelope.Envelope.{Envelope}
 use Rattle.cm_envelope.specs.declared.feed.Trouble.{Trouble}
 use Rattle.cm_attempt.specs.declared.settings.Settings.{Settings}
-use Rattle.cm_stream.specs.Checks.{fault, fault_at_end}
+use Rattle.cm_stream.specs.Checks.{fault_at_end}
 use Rattle.cm_stream.specs.Findings.{Finding}
 use Rattle.cm_stream.specs.References.{has_run_finished}
-use Rattle.cm_stream.specs.Stream.{first_fault_line, first_fault_of, answer_for}
+use Rattle.cm_stream.specs.Stream.{answer_for}
 use Rattle.cm_stream.specs.Stream as stream
-use Rattle.cm_stream.specs.FaultlessLines.{IsFaultless}
+use Rattle.cm_stream.specs.ByOnePass.{fault, first_fault_line, first_fault_of, IsFaultless}
 use Rattle.cm_state.specs.Summary.{Summary, seen, nothing_seen, after}
 use Rattle.cm_state.specs.StateChecks.{finding, finding_at_end}
 use Rattle.cm_state.proofs.Checked.{findings_are_faults as findings}

@@ -13,8 +13,9 @@ use Rattle.cm_stream.specs.Texts.{Utf8}
 use Rattle.cm_stream.specs.Readings.{Reading, Accepted}
 use Rattle.cm_stream.specs.OnePass.{reads}
 use Rattle.cm_stream.specs.Sources.{is_due}
-use Rattle.cm_stream.specs.References.{sources, documents_of, pickles_of, is_accepted, reading_of}
-use Rattle.cm_stream.specs.Checks.{is_uri_accepted, due_pickles, first_ids, document_ids, is_next_pickle, lacks, is_incomplete}
+use Rattle.cm_stream.specs.References.{sources, documents_of, pickles_of, is_accepted}
+use Rattle.cm_stream.specs.Checks.{due_pickles, first_ids, document_ids, lacks}
+use Rattle.cm_stream.specs.ByOnePass.{reading_of, is_uri_accepted, is_next_pickle, is_incomplete}
 use Rattle.cm_envelope.specs.declared.envelope.Envelope.{Envelope}
 use Rattle.cm_envelope.specs.declared.envelope.Source.{Source}
 use Rattle.cm_envelope.specs.declared.envelope.GherkinDocument.{GherkinDocument}

@@ -4,10 +4,9 @@ use Rattle.cm_envelope.specs.Reading.{LineFault}
 use Rattle.cm_envelope.specs.declared.envelope.Envelope.{Envelope}
 use Rattle.cm_envelope.specs.declared.feed.Trouble.{Trouble}
 use Rattle.cm_attempt.specs.declared.settings.Settings.{Settings}
-use Rattle.cm_stream.specs.Checks.{fault}
 use Rattle.cm_stream.specs.Findings.{Finding, IsBad, NoEnvelope}
-use Rattle.cm_stream.specs.Stream.{Answer, GoodWith, Found, Failed, shown, first_fault_of, answer_for}
-use Rattle.cm_stream.specs.FaultlessLines.{IsFaultless}
+use Rattle.cm_stream.specs.Stream.{Answer, GoodWith, Found, Failed, shown, answer_for}
+use Rattle.cm_stream.specs.ByOnePass.{fault, first_fault_of, IsFaultless}
 use Rattle.cm_state.specs.Summary.{Summary, seen, nothing_seen, after}
 use Rattle.cm_state.specs.StateChecks.{finding, finding_at_end}
 

@@ -7,18 +7,18 @@ use Rattle.std.specs.Str.{bytes_eq}
 use Rattle.std.proofs.lemmas.Bool.Decides.{nat_tests}
 use Rattle.cm_attempt.specs.Table.{Table, has_text, has_repeat}
 use Rattle.cm_attempt.specs.Calls as call
-use Rattle.cm_attempt.specs.Calls.{Call, table_after}
+use Rattle.cm_attempt.specs.Calls.{table_after}
 use Rattle.cm_attempt.specs.CallFaults as calls
 use Rattle.cm_attempt.specs.CallFaults.{fault_of, step_fault}
 use Rattle.cm_attempt.specs.declared.fault.TrackFault.{TrackFault}
 use Rattle.cm_attempt.specs.declared.fault.TrackFault.TheVariants as refusal
 use Rattle.cm_stream.specs.Texts.{Utf8}
 use Rattle.cm_stream.specs.Findings as bad
-use Rattle.cm_stream.specs.Findings.{Finding, IsBad}
+use Rattle.cm_stream.specs.Findings.{Finding}
 use Rattle.cm_stream.specs.References.{has_run_started, Attempt, Case, Step, same_name, declares, times_declared, step_names, as_case, as_start, cases, starts, starts_of, find_case, is_ended, is_retried}
-use Rattle.cm_attempt.specs.Calls.{Move, Started, StepStarted, StepFinished, Ended, is_end, whole}
+use Rattle.cm_attempt.specs.Calls.{Move, StepStarted, StepFinished, Ended, whole}
 use Rattle.cm_stream.specs.Good.{has_same_names, is_unknown}
-use Rattle.cm_stream.specs.Checks.{checks_of, ◌if◌, ◌unsupported_if◌, has_steps_of_pickle, first_failed, refers_to_unknown, declares_again, is_next_move, steps_of_attempt}
+use Rattle.cm_stream.specs.Checks.{◌if◌, ◌unsupported_if◌, has_steps_of_pickle, first_failed, refers_to_unknown, declares_again, is_next_move, steps_of_attempt, checks_of_by}
 use Rattle.cm_attempt.specs.CallFaults.{same_move}
 use Rattle.cm_stream.specs.Refusals.{refusal_finding, own_checks, OwnAreChecks}
 use Rattle.cm_stream.specs.declared.verdict.Reason.TheVariants as reason
@@ -242,13 +242,13 @@ faults_are_checks first es t taken e = go e
 -- ---- they are checks of the line
 
 pub own_are_checks : OwnAreChecks
-own_are_checks first es (envelope.TestCase c) = record {
+own_are_checks read first es (envelope.TestCase c) = record {
   front = bad.UnknownReference if refers_to_unknown es (envelope.TestCase c) ∷ bad.CaseStepsDiffer if not (has_steps_of_pickle es c) ∷ [];
   rest = [];
   cut = refl;
 }
-own_are_checks first es (envelope.TestCaseStarted s) = record { front = bad.OutsideRun if not (has_run_started es) ∷ []; rest = []; cut = refl }
-own_are_checks first es (envelope.TestStepStarted s) = record { front = []; rest = []; cut = refl }
-own_are_checks first es (envelope.TestStepFinished s) = record { front = []; rest = reason.UnknownStatus unsupported_if is_unknown s.test_step_result.status ∷ []; cut = refl }
-own_are_checks first es (envelope.TestCaseFinished f) = record { front = []; rest = []; cut = refl }
-own_are_checks first es e = record { front = []; rest = checks_of first es e; cut = refl }
+own_are_checks read first es (envelope.TestCaseStarted s) = record { front = bad.OutsideRun if not (has_run_started es) ∷ []; rest = []; cut = refl }
+own_are_checks read first es (envelope.TestStepStarted s) = record { front = []; rest = []; cut = refl }
+own_are_checks read first es (envelope.TestStepFinished s) = record { front = []; rest = reason.UnknownStatus unsupported_if is_unknown s.test_step_result.status ∷ []; cut = refl }
+own_are_checks read first es (envelope.TestCaseFinished f) = record { front = []; rest = []; cut = refl }
+own_are_checks read first es e = record { front = []; rest = checks_of_by read first es e; cut = refl }

@@ -5,7 +5,7 @@ use Rattle.std.specs.List.{list_any, list_all, cons_option}
 use Rattle.std.specs.Option.{option_map_or, option_and_then}
 use Rattle.std.specs.Str.{bytes_eq}
 use Rattle.cm_attempt.specs.Calls as call
-use Rattle.cm_attempt.specs.Calls.{Call, DeclaredCase, StartedAttempt, is_end}
+use Rattle.cm_attempt.specs.Calls.{DeclaredCase, StartedAttempt, is_end}
 use Rattle.cm_stream.specs.Texts.{Utf8}
 use Rattle.cm_stream.specs.References.{as_case, as_start, cases, starts, starts_of, find_case, steps_of, move_of, moves, is_ended, retry_in, ends_of, is_retried, is_final, status_in, statuses}
 use Rattle.cm_stream.specs.Checks.{steps_of_attempt}

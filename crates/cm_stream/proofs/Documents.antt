@@ -11,9 +11,10 @@ use Rattle.cm_attempt.specs.Table.{has_repeat}
 use Rattle.cm_stream.specs.Readings.{Reading, Accepted, Refused, OtherLanguage, TooLong}
 use Rattle.cm_stream.specs.OnePass.{reads}
 use Rattle.cm_stream.specs.Sources.{is_due}
-use Rattle.cm_stream.specs.References.{SourceOf, DocumentOf, PickleNamed, times_declared, as_source, as_document, as_pickle, sources, sources_of, documents_of, pickles_of, is_accepted, reading_of, find_pickle, pickle_step_ids}
+use Rattle.cm_stream.specs.References.{SourceOf, DocumentOf, PickleNamed, times_declared, as_source, as_document, as_pickle, sources, sources_of, documents_of, pickles_of, is_accepted, find_pickle, pickle_step_ids}
 use Rattle.cm_stream.specs.Good.{Sound, MeetsSource}
-use Rattle.cm_stream.specs.Checks.{is_uri_accepted, has_skeleton_of, first_ids, document_ids, is_next_pickle, has_steps_of_pickle}
+use Rattle.cm_stream.specs.Checks.{has_skeleton_of, first_ids, document_ids, has_steps_of_pickle}
+use Rattle.cm_stream.specs.ByOnePass.{reading_of, is_uri_accepted, is_next_pickle}
 use Rattle.cm_envelope.specs.declared.envelope.Envelope.{Envelope}
 use Rattle.cm_envelope.specs.declared.envelope.Envelope.TheVariants as envelope
 use Rattle.cm_envelope.specs.declared.envelope.GherkinDocument.{GherkinDocument}

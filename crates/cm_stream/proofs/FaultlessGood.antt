@@ -1,5 +1,6 @@
 -- A list without a fault is good.
-use Rattle.cm_stream.specs.Laws.{FaultlessAreGood}
+use Rattle.cm_stream.specs.Laws.{FaultlessAreGoodBy}
+use Rattle.cm_stream.specs.OnePass.{reads}
 use Rattle.cm_stream.proofs.Passing.{plain_passes, success_passes}
 use Rattle.cm_stream.proofs.Distinct.{all_distinct, all_refer}
 use Rattle.cm_stream.proofs.Order.{the_end, in_order}
@@ -8,7 +9,7 @@ use Rattle.cm_stream.proofs.WholeAttempts.{all_attempts}
 use Rattle.cm_stream.proofs.Sourced.{all_sources}
 use Rattle.cm_stream.proofs.RunHooks.{all_hooks}
 
-pub faultless_are_good : FaultlessAreGood
+pub faultless_are_good : FaultlessAreGoodBy reads
 faultless_are_good settings es h =
     let pass = plain_passes settings es h.lines in
     let end = the_end es pass h.end in

@@ -30,3 +30,5 @@ pub mod Tables
 pub mod TableSteps
 pub mod TableWords
 pub mod ResultsFaults
+pub mod ByGrammar
+pub mod Reasons

@@ -4,8 +4,10 @@ use Rattle.std.specs.List.{AllByRecursion, flat_map}
 use Rattle.cm_stream.specs.References.{Run, PickleNamed, times_declared, if_any, test_step_names}
 use Rattle.cm_stream.specs.Good.{Good, Sound, NumbersGood}
 use Rattle.cm_attempt.specs.declared.settings.Settings.{Settings}
-use Rattle.cm_stream.specs.Checks.{Check, checks_of, success_check, plain_checks, checks}
-use Rattle.cm_stream.specs.Laws.{GoodHaveNoFault}
+use Rattle.cm_stream.specs.Checks.{Check}
+use Rattle.cm_stream.specs.ByOnePass.{checks_of, success_check, plain_checks, checks}
+use Rattle.cm_stream.specs.Laws.{GoodHaveNoFaultBy}
+use Rattle.cm_stream.specs.OnePass.{reads}
 use Rattle.cm_envelope.specs.declared.envelope.Envelope.{Envelope}
 use Rattle.cm_envelope.specs.declared.envelope.Envelope.TheVariants as envelope
 use Rattle.cm_stream.proofs.Lists.{all_here}
@@ -66,7 +68,7 @@ tells_success settings es before (envelope.TestRunFinished f) after good cut =
     (success_right es before f after run settings good, tt)
 tells_success settings es before _ after good cut = tt
 
-pub good_have_no_fault : GoodHaveNoFault
+pub good_have_no_fault : GoodHaveNoFaultBy reads
 good_have_no_fault settings es good = record {
   lines = λ before e after cut. none_failed (checks settings before e)
       (both_pass (plain_checks settings.first_attempt before e) (success_check settings.policy before e)

@@ -5,10 +5,10 @@ use Rattle.std.specs.Option.{option_map_or}
 use Rattle.std.specs.Str.{bytes_eq}
 use Rattle.std.proofs.lemmas.Bool.Decides.{nat_tests}
 use Rattle.cm_stream.specs.Texts.{Utf8, same_list, same_texts}
-use Rattle.cm_stream.specs.FaultlessLines.{IsFaultless}
-use Rattle.cm_stream.specs.References.{is_retried, starts_of, all_well, find_pickle, pickle_step_ids, as_pickle}
+use Rattle.cm_stream.specs.References.{is_retried, starts_of, find_pickle, pickle_step_ids, as_pickle}
 use Rattle.cm_stream.specs.Good.{CasesGood, CaseGood, RetriesGood, RetryGood, NumbersGood, NumberGood, SuccessGood, SuccessOf, has_unknown_result}
-use Rattle.cm_stream.specs.Checks.{plain_checks, success_check, same_flag}
+use Rattle.cm_stream.specs.Checks.{same_flag}
+use Rattle.cm_stream.specs.ByOnePass.{IsFaultless, all_well, plain_checks, success_check}
 use Rattle.cm_attempt.specs.declared.policy.Policy.{Policy}
 use Rattle.cm_attempt.specs.declared.settings.Settings.{Settings}
 use Rattle.cm_envelope.specs.declared.envelope.Envelope.{Envelope}

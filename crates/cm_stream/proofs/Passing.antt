@@ -1,12 +1,11 @@
 -- What it says of each line that it passes its checks.
 use Rattle.std.proofs.Common.{◌≡◌, ℕ, refl, sym, ap, ◌∙◌, List, [], ◌∷◌, ◌++◌, Some, None, true, false, Bool, not, ◌&&◌, append_assoc, append-nil, subst}
 use Rattle.std.specs.List.{AllByRecursion}
-use Rattle.cm_stream.specs.Checks.{Check, checks_of, success_check, plain_checks, checks, first_failed, refers_to_unknown}
+use Rattle.cm_stream.specs.Checks.{Check, first_failed, refers_to_unknown}
 use Rattle.cm_attempt.specs.declared.policy.Policy.{Policy}
 use Rattle.cm_attempt.specs.declared.settings.Settings.{Settings}
-use Rattle.cm_stream.specs.FaultlessLines.{IsFaultless}
 use Rattle.cm_stream.specs.References.{is_judged, has_run_finished}
-use Rattle.cm_stream.specs.Laws.{HasNoFault}
+use Rattle.cm_stream.specs.ByOnePass.{checks_of, success_check, plain_checks, checks, IsFaultless, HasNoFault}
 use Rattle.cm_envelope.specs.declared.envelope.Envelope.{Envelope}
 use Rattle.cm_envelope.specs.declared.envelope.Envelope.TheVariants as envelope
 

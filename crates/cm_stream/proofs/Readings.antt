@@ -4,7 +4,8 @@ use Rattle.std.specs.Prelude.{◌↔◌}
 use Rattle.std.specs.List.{AllByRecursion, list_any, list_all}
 use Rattle.cm_stream.specs.Readings.{Reading, Accepted, Refused, OtherLanguage, TooLong, IsReading}
 use Rattle.cm_stream.specs.OnePass.{reads}
-use Rattle.cm_stream.specs.References.{sources, cases, hook_statuses, is_accepted, is_good_case, all_well}
+use Rattle.cm_stream.specs.References.{sources, cases, hook_statuses, is_accepted, is_good_case}
+use Rattle.cm_stream.specs.ByOnePass.{all_well}
 use Rattle.cm_attempt.specs.Table.{is_good_status}
 use Rattle.cm_attempt.specs.declared.policy.Policy.{Policy}
 use Rattle.cm_stream.specs.Good.{SourceGood, MeetsSource, IsAccepted, AllWell}

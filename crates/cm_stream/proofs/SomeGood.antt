@@ -14,7 +14,7 @@ use Rattle.cm_stream.specs.OnePass.{reads}
 use Rattle.cm_attempt.specs.declared.policy.Policy.TheVariants.{Strict}
 use Rattle.cm_stream.specs.Findings.{Finding}
 use Rattle.cm_stream.specs.Good.{Good}
-use Rattle.cm_stream.specs.Checks.{fault}
+use Rattle.cm_stream.specs.ByOnePass.{fault}
 use Rattle.cm_envelope.specs.declared.envelope.Envelope.{Envelope}
 use Rattle.cm_envelope.specs.declared.envelope.Status.TheVariants as status
 use Rattle.cm_stream.proofs.Lists.{and_true}

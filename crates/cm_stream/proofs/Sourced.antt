@@ -15,9 +15,10 @@ use Rattle.cm_attempt.specs.Table.{has_repeat}
 use Rattle.cm_stream.specs.Readings.{Reading, Accepted, Refused, OtherLanguage, TooLong}
 use Rattle.cm_stream.specs.OnePass.{reads}
 use Rattle.cm_stream.specs.Sources.{DuePickle, plain, is_due}
-use Rattle.cm_stream.specs.References.{SourceOf, DocumentOf, times_declared, declares_it, refers, as_source, as_document, as_pickle, sources, sources_of, documents_of, pickles_of, is_accepted, reading_of}
+use Rattle.cm_stream.specs.References.{SourceOf, DocumentOf, times_declared, declares_it, refers, as_source, as_document, as_pickle, sources, sources_of, documents_of, pickles_of, is_accepted}
 use Rattle.cm_stream.specs.Good.{SourcesGood, SourceGood, MeetsSource}
-use Rattle.cm_stream.specs.Checks.{is_too_long, is_other_language, is_uri_accepted, has_skeleton_of, due_pickles, first_ids, document_ids, is_next_pickle, lacks, is_incomplete}
+use Rattle.cm_stream.specs.Checks.{is_too_long, is_other_language, has_skeleton_of, due_pickles, first_ids, document_ids, lacks}
+use Rattle.cm_stream.specs.ByOnePass.{reading_of, is_uri_accepted, is_next_pickle, is_incomplete}
 use Rattle.cm_envelope.specs.declared.envelope.Envelope.{Envelope}
 use Rattle.cm_envelope.specs.declared.envelope.Envelope.TheVariants as envelope
 use Rattle.cm_envelope.specs.declared.envelope.GherkinDocument.{GherkinDocument}

@@ -11,7 +11,8 @@ use Rattle.cm_stream.specs.Sources.{plain, english}
 use Rattle.cm_attempt.specs.declared.policy.Policy.{Policy}
 use Rattle.cm_attempt.specs.declared.settings.Settings.{Settings}
 use Rattle.cm_attempt.specs.declared.policy.Policy.TheVariants.{Strict}
-use Rattle.cm_stream.specs.Checks.{fault, fault_at_end}
+use Rattle.cm_stream.specs.Checks.{fault_at_end}
+use Rattle.cm_stream.specs.ByOnePass.{fault}
 use Rattle.cm_stream.specs.Stream.{FirstFault, At, NoFault, at_line, at_end, counts_of}
 use Rattle.cm_envelope.specs.declared.envelope.Envelope.{Envelope}
 use Rattle.cm_envelope.specs.declared.envelope.Envelope.TheVariants as envelope

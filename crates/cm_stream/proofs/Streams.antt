@@ -1,15 +1,16 @@
 -- What is reported of a stream, and good streams.
 use Rattle.std.proofs.Common.{◌≡◌, ℕ, ◌+◌, ◌<◌, ◌≤◌, refl, sym, ap, ◌∙◌, List, [], ◌∷◌, ◌++◌, Option, Some, None, Result, Ok, Err, true, false, Bool, append_assoc, append-nil, map, length, arith, subst}
 use Rattle.cm_attempt.specs.declared.settings.Settings.{Settings}
-use Rattle.cm_stream.specs.Checks.{fault, fault_at_end}
-use Rattle.cm_stream.specs.Laws.{HasNoFault}
+use Rattle.cm_stream.specs.Checks.{fault_at_end}
+use Rattle.cm_stream.specs.declared.verdict.Audited.{Audited}
 use Rattle.cm_stream.specs.declared.verdict.Verdict.{Verdict}
 use Rattle.cm_stream.specs.declared.verdict.Verdict.TheVariants as verdict
 use Rattle.cm_stream.specs.Findings.{Finding}
-use Rattle.cm_stream.specs.StreamLaws.{FoundIsNotGood, AnswersAreRight}
+use Rattle.cm_stream.specs.StreamLaws.{IsRight}
 use Rattle.cm_stream.specs.Good.{Good}
 use Rattle.cm_stream.specs.References.{run_succeeded}
-use Rattle.cm_stream.specs.Stream.{FirstFault, Troubled, GoodWith, answer_in, answer_for, GoodRunIn, NoneIsGood, fed, numbered, read_line, as_read, envelopes, counts_of, IsRead, IsGoodStream, IsGoodRun, At, NoFault, at_end, at_line, shown, first_fault_line, first_fault_of, first_fault, HaveFirstLines}
+use Rattle.cm_stream.specs.Stream.{FirstFault, Troubled, GoodWith, answer_in, answered, answer_for, GoodRunIn, NoneIsGood, fed, numbered, read_line, as_read, envelopes, counts_of, IsRead, IsGoodStream, IsGoodRun, At, NoFault, at_end, at_line, shown, HaveFirstLines}
+use Rattle.cm_stream.specs.ByOnePass.{fault, HasNoFault, first_fault_line, first_fault_of, first_fault}
 use Rattle.cm_envelope.specs.declared.envelope.Envelope.{Envelope}
 use Rattle.cm_envelope.specs.Lines.{is_blank}
 use Rattle.cm_envelope.specs.Reading.{LineFault, envelope_of_line}
@@ -145,7 +146,7 @@ module _ (settings : Settings) where
   good_is_told bytes counts g = (envelopes g.lines, read_is_told bytes g.lines g.read g.good, g.exact)
 
   -- the answer for a good run
-  run_is_told : (bytes : List ℕ) (counts : Counts) (success : Bool) → IsGoodRun settings bytes counts success → answer_for (first_fault settings bytes) ≡ GoodWith counts success
+  pub run_is_told : (bytes : List ℕ) (counts : Counts) (success : Bool) → IsGoodRun settings bytes counts success → answer_for (first_fault settings bytes) ≡ GoodWith counts success
   run_is_told bytes counts success r =
       let here = read_is_told bytes r.lines r.read r.good in
       let exact = r.exact in
@@ -225,13 +226,8 @@ module _ (settings : Settings) where
   right_so bytes (verdict.Bad n b) success (Troubled t) h e = absurd cc
   right_so bytes (verdict.Unsupported n r) success t h e = (tt, tt)
 
-pub found_is_not_good : FoundIsNotGood
-found_is_not_good = record {
-  found = not_good;
-  troubled = λ settings bytes t counts h good. let told_good = (good_is_told settings bytes counts good).1 in cc;
-}
-
-pub answers_are_right : AnswersAreRight
+-- an audit that answers what is reported is right
+pub answers_are_right : (settings : Settings) (bytes : List ℕ) (answer : Result Audited Trouble) → answered answer ≡ answer_for (first_fault settings bytes) → IsRight settings bytes answer
 answers_are_right settings bytes (Ok a) e =
     let both = right_so settings bytes a.verdict a.success (first_fault settings bytes) refl e in
     record { good = both.0; bad = both.1; decided = λ counts success run. e ∙ run_is_told settings bytes counts success run }

@@ -7,10 +7,12 @@ use Rattle.cm_attempt.specs.Table.{table_from}
 use Rattle.cm_attempt.specs.Calls.{table_after}
 use Rattle.cm_attempt.specs.declared.settings.Settings.{Settings}
 use Rattle.cm_stream.specs.Calls.{calls_of}
-use Rattle.cm_stream.specs.Checks.{checks_of, first_failed}
-use Rattle.cm_stream.specs.Refusals.{refusal_finding, refused, own_checks, RefusalsAreTold}
+use Rattle.cm_stream.specs.Checks.{first_failed}
+use Rattle.cm_stream.specs.Refusals.{refusal_finding, refused, own_checks}
 use Rattle.cm_stream.specs.Record.{table_of, changed}
-use Rattle.cm_stream.specs.FaultlessLines.{IsFaultless, TableSteps, NoneIsRefused}
+use Rattle.cm_stream.specs.FaultlessLines.{TableSteps, NoneIsRefusedBy}
+use Rattle.cm_stream.specs.ByOnePass.{checks_of, IsFaultless, RefusalsAre}
+use Rattle.cm_stream.specs.OnePass.{reads}
 use Rattle.cm_envelope.specs.declared.envelope.Envelope.{Envelope}
 use Rattle.cm_stream.proofs.Passing.{Passes, plain_pass, front_of, back_of, none_failed}
 use Rattle.cm_stream.proofs.CallChecks.{own_are_checks, faults_are_checks}
@@ -28,7 +30,7 @@ AreAccepted first es = table_after first (calls_of es) ≡ Some (table_of first 
 -- a line that passes its checks passes those that its call makes
 own_pass : (first : ℕ) (es : List Envelope) (e : Envelope) → Passes (checks_of first es e) → first_failed (own_checks first es e) ≡ None
 own_pass first es e h =
-    let among = own_are_checks first es e in
+    let among = own_are_checks reads first es e in
     let parts : Passes (among.front ++ own_checks first es e ++ among.rest) = subst Passes among.cut h in
     none_failed (own_checks first es e) (back_of among.front (own_checks first es e) (front_of (among.front ++ own_checks first es e) among.rest parts))
 
@@ -39,7 +41,7 @@ one_more settings es e h accepted =
     tables_change first es (table_of first es) accepted e (faults_are_checks first es (table_of first es) accepted e ∙ own)
     ∙ ap (λ t. Some t) (sym (table_steps first es e))
 
-pub none_is_refused : NoneIsRefused
+pub none_is_refused : NoneIsRefusedBy reads
 none_is_refused settings es none = go [] es none refl
   where
     first : ℕ
@@ -57,5 +59,5 @@ none_is_refused settings es none = go [] es none refl
 pub own_refused : (first : ℕ) (es : List Envelope) (e : Envelope) → AreAccepted first es → option_and_then refusal_finding (refused (table_of first es) e) ≡ first_failed (own_checks first es e)
 own_refused first es e accepted = refused_for_faults first es (table_of first es) accepted e ∙ faults_are_checks first es (table_of first es) accepted e
 
-pub refusals_are_told : RefusalsAreTold
+pub refusals_are_told : (e : Envelope) → RefusalsAre e
 refusals_are_told e settings es none = own_refused settings.first_attempt es e (none_is_refused settings es none)

@@ -26,7 +26,8 @@ use Rattle.cm_stream.proofs.Lists.{or_false, none_counts, none_or_all}
 use Rattle.cm_stream.proofs.Found.{bytes_same, by_id}
 use Rattle.cm_stream.proofs.CallWords.{start_told, starts_told, starts_of_told, attempt_steps_told, ended_told, final_told, statuses_told, case_ids}
 use Rattle.cm_stream.proofs.CallChecks.{start_seen}
-use Rattle.cm_stream.specs.FaultlessLines.{TablesAgree}
+use Rattle.cm_stream.specs.FaultlessLines.{TablesAgreeBy}
+use Rattle.cm_stream.specs.OnePass.{reads}
 use Rattle.cm_stream.proofs.TableSteps.{AreAccepted, none_is_refused}
 use Rattle.cm_stream.proofs.Declared.{is_of}
 
@@ -133,7 +134,7 @@ good_cases policy first es accepted =
     ∙ list_all-map good (λ (c : TestCase). c.id) (cases es)
     ∙ same_all (λ (c : TestCase). good c.id) (is_good_case policy es) (λ c. ap (is_good policy) (reports first (calls_of es) t accepted c.id) ∙ good_result policy es c) (cases es)
 
-pub lines_agree : TablesAgree
+pub lines_agree : TablesAgreeBy reads
 lines_agree settings es none =
     let first = settings.first_attempt in
     let accepted = none_is_refused settings es none in

@@ -12,7 +12,7 @@ use Rattle.cm_stream.specs.Calls.{calls_of}
 use Rattle.cm_stream.specs.Checks.{steps_of_attempt, declares_again}
 use Rattle.cm_stream.specs.Good.{AttemptsGood, AttemptGood}
 use Rattle.cm_stream.specs.Record.{table_of}
-use Rattle.cm_stream.specs.FaultlessLines.{IsFaultless}
+use Rattle.cm_stream.specs.ByOnePass.{IsFaultless}
 use Rattle.cm_stream.specs.References.{Attempt, times_declared, declares_it, as_start, starts, steps_of, move_of, moves, is_ended}
 use Rattle.cm_envelope.specs.declared.envelope.Envelope.{Envelope}
 use Rattle.cm_envelope.specs.declared.envelope.Envelope.TheVariants as envelope

@@ -8,16 +8,17 @@ use Rattle.cm_attempt.specs.Table.{Table, has_text, has_step, find_attempt, open
 use Rattle.cm_attempt.specs.declared.policy.Policy.{Policy}
 use Rattle.cm_stream.specs.Texts.{Utf8}
 use Rattle.cm_stream.specs.References.{cases, starts, is_ended, is_good_case}
-use Rattle.cm_stream.specs.Checks.{fault, steps_of_attempt}
+use Rattle.cm_stream.specs.Checks.{fault_by, steps_of_attempt}
+use Rattle.cm_stream.specs.Readings.{Reading, ByTheGrammar}
 use Rattle.cm_stream.specs.Calls.{calls_of}
 use Rattle.cm_stream.specs.Record.{table_of, changed}
 use Rattle.cm_envelope.specs.declared.envelope.Envelope.{Envelope}
 
--- the first lines have no fault, each after those before it
-abbrev pub IsFaultless : Settings → List Envelope → Type 0
-IsFaultless settings es =
+-- the first lines have no fault, each after those before it, where sources' texts are read so
+abbrev pub IsFaultlessBy : (Utf8 → Reading) → Settings → List Envelope → Type 0
+IsFaultlessBy read settings es =
     (before : List Envelope) (e : Envelope) (after : List Envelope) → es ≡ before ++ e ∷ after
-    → fault settings before e ≡ None
+    → fault_by read settings before e ≡ None
 
 -- the table of the lines so far changes by a line as the call for it changes a table
 abbrev pub TableSteps : Type 0
@@ -26,11 +27,14 @@ TableSteps =
     → table_of first (es ++ e ∷ []) ≡ changed (table_of first es) e
 
 -- after lines without a fault no call is refused, and the table is the one that the calls leave
-abbrev pub NoneIsRefused : Type 0
-NoneIsRefused =
-    (settings : Settings) (es : List Envelope) → IsFaultless settings es
+abbrev pub NoneIsRefusedBy : (Utf8 → Reading) → Type 0
+NoneIsRefusedBy read =
+    (settings : Settings) (es : List Envelope) → IsFaultlessBy read settings es
     → table_after settings.first_attempt (calls_of es)
     ≡ Some (table_of settings.first_attempt es)
+
+abbrev pub NoneIsRefused : Type 0
+NoneIsRefused = ByTheGrammar NoneIsRefusedBy
 
 -- what the table of the lines says of attempts and cases is what the lines say of them
 pub record AgreesWith (es : List Envelope) (t : Table) : Type 0 where
@@ -42,7 +46,10 @@ pub record AgreesWith (es : List Envelope) (t : Table) : Type 0 where
       ≡ list_all (is_good_case policy es) (cases es)
 
 -- after lines without a fault
-abbrev pub TablesAgree : Type 0
-TablesAgree =
-    (settings : Settings) (es : List Envelope) → IsFaultless settings es
+abbrev pub TablesAgreeBy : (Utf8 → Reading) → Type 0
+TablesAgreeBy read =
+    (settings : Settings) (es : List Envelope) → IsFaultlessBy read settings es
     → AgreesWith es (table_of settings.first_attempt es)
+
+abbrev pub TablesAgree : Type 0
+TablesAgree = ByTheGrammar TablesAgreeBy

@@ -15,5 +15,7 @@ pub mod FaultlessLines
 pub mod Laws
 pub mod StreamLaws
 pub mod Refusals
+pub mod ByOnePass
+pub mod Unsupported
 pub mod Release
 pub mod Results

@@ -38,3 +38,11 @@ IsReading text TooLong = IsTooLong text
 -- a text is accepted with one document, refused, in another language, or too long, and never two of these
 abbrev pub OneReading : Type 0
 OneReading = (text : Utf8) (a b : Reading) → IsReading text a → IsReading text b → a ≡ b
+
+-- the function gives of each text its reading; by the law above there is no other such function
+abbrev pub ReadsByTheGrammar : (Utf8 → Reading) → Type 0
+ReadsByTheGrammar read = (text : Utf8) → IsReading text (read text)
+
+-- it holds of the function that reads texts by the grammar
+abbrev pub ByTheGrammar : ((Utf8 → Reading) → Type 0) → Type 0
+ByTheGrammar P = (read : Utf8 → Reading) → ReadsByTheGrammar read → P read

@@ -6,7 +6,6 @@ use Rattle.std.specs.Option.{option_and_then, option_map, option_map_or}
 use Rattle.std.specs.Str.{bytes_eq}
 use Rattle.cm_stream.specs.Texts.{Utf8}
 use Rattle.cm_stream.specs.Readings.{Reading, Accepted}
-use Rattle.cm_stream.specs.OnePass.{reads}
 use Rattle.cm_envelope.specs.declared.envelope.Envelope.{Envelope}
 use Rattle.cm_envelope.specs.declared.envelope.Envelope.TheVariants as envelope
 use Rattle.cm_envelope.specs.declared.envelope.Source.{Source}
@@ -213,11 +212,12 @@ refers before (envelope.Attachment a) =
     attachment_names before a.test_case_started_id a.test_step_id
 refers before _ = []
 
--- ---- sources
+-- ---- sources, whose texts are read by the given function
 
 -- what the source of a uri is read as
-abbrev pub reading_of : Utf8 → List Envelope → Option Reading
-reading_of uri es = option_map (λ s. reads s.content) (find (λ s. bytes_eq uri s.uri) (sources es))
+abbrev pub reading_of_by : (read : Utf8 → Reading) → Utf8 → List Envelope → Option Reading
+reading_of_by read uri es =
+    option_map (λ s. read s.content) (find (λ s. bytes_eq uri s.uri) (sources es))
 
 abbrev pub is_accepted : Reading → Bool
 is_accepted (Accepted d) = true
@@ -302,8 +302,8 @@ is_good_case policy es c =
     option_map_or (λ s. ends_well policy es s.id) (last_of (starts_of c.id es)) false
 
 -- each case has a final attempt that is at worst of a good status, each run hook's result is good, and no source is refused
-abbrev pub all_well : Policy → List Envelope → Bool
-all_well policy es =
+abbrev pub all_well_by : (read : Utf8 → Reading) → Policy → List Envelope → Bool
+all_well_by read policy es =
     list_all (is_good_case policy es) (cases es)
     && list_all (is_good_status policy) (hook_statuses es)
-    && list_all (λ s. is_accepted (reads s.content)) (sources es)
+    && list_all (λ s. is_accepted (read s.content)) (sources es)

@@ -2,15 +2,17 @@
 use Rattle.std.specs.Prelude.{◌≡◌, ℕ, ◌+◌, ◌==◌, not, List, [], ◌∷◌, ◌++◌, Option, Some, None, length}
 use Rattle.std.specs.List.{list_all}
 use Rattle.std.specs.Option.{option_and_then}
+use Rattle.cm_stream.specs.Texts.{Utf8}
+use Rattle.cm_stream.specs.Readings.{Reading, ByTheGrammar}
 use Rattle.cm_stream.specs.References.{starts_of, is_ended, is_retried}
 use Rattle.cm_attempt.specs.Calls.{StepStarted, StepFinished, Ended}
-use Rattle.cm_stream.specs.Checks.{Check, checks_of, ◌if◌, first_failed, refers_to_unknown, declares_again, is_next_move}
+use Rattle.cm_stream.specs.Checks.{Check, checks_of_by, ◌if◌, first_failed, refers_to_unknown, declares_again, is_next_move}
 use Rattle.cm_attempt.specs.Table.{Table}
 use Rattle.cm_attempt.specs.Calls.{refusal_of}
 use Rattle.cm_stream.specs.Calls.{call_of}
 use Rattle.cm_stream.specs.Record.{table_of}
 use Rattle.cm_attempt.specs.declared.settings.Settings.{Settings}
-use Rattle.cm_stream.specs.FaultlessLines.{IsFaultless}
+use Rattle.cm_stream.specs.FaultlessLines.{IsFaultlessBy}
 use Rattle.cm_envelope.specs.declared.envelope.Envelope.{Envelope}
 use Rattle.cm_envelope.specs.declared.envelope.Envelope.TheVariants as envelope
 use Rattle.cm_stream.specs.Findings as bad
@@ -59,20 +61,23 @@ own_checks first es (envelope.TestCaseFinished f) =
 own_checks first es _ = []
 
 -- after lines without a fault the call is refused for what the first failed of these checks reports
-abbrev pub RefusalsAre : Envelope → Type 0
-RefusalsAre e = (settings : Settings) (es : List Envelope) → IsFaultless settings es
+abbrev pub RefusalsAreBy : (Utf8 → Reading) → Envelope → Type 0
+RefusalsAreBy read e = (settings : Settings) (es : List Envelope) → IsFaultlessBy read settings es
     → option_and_then refusal_finding (refused (table_of settings.first_attempt es) e)
     ≡ first_failed (own_checks settings.first_attempt es e)
 
--- they are checks of the line, one after another
-pub record AreAmongChecks (first : ℕ) (es : List Envelope) (e : Envelope) : Type 0 where
-  pub front : List Check
-  pub rest : List Check
-  pub cut : checks_of first es e ≡ front ++ own_checks first es e ++ rest
-
-abbrev pub OwnAreChecks : Type 0
-OwnAreChecks = (first : ℕ) (es : List Envelope) (e : Envelope) → AreAmongChecks first es e
-
 -- that of each line
 abbrev pub RefusalsAreTold : Type 0
-RefusalsAreTold = (e : Envelope) → RefusalsAre e
+RefusalsAreTold = ByTheGrammar (λ read. (e : Envelope) → RefusalsAreBy read e)
+
+-- they are checks of the line, one after another
+pub record AreAmongChecks (read : Utf8 → Reading) (first : ℕ) (es : List Envelope)
+    (e : Envelope) : Type 0 where
+  pub front : List Check
+  pub rest : List Check
+  pub cut : checks_of_by read first es e ≡ front ++ own_checks first es e ++ rest
+
+abbrev pub OwnAreChecks : Type 0
+OwnAreChecks =
+    (read : Utf8 → Reading) (first : ℕ) (es : List Envelope) (e : Envelope)
+    → AreAmongChecks read first es e

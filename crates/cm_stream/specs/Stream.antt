@@ -10,7 +10,9 @@ use Rattle.cm_envelope.specs.Reading.{LineFault, envelope_of_line}
 use Rattle.cm_attempt.specs.declared.settings.Settings.{Settings}
 use Rattle.cm_stream.specs.References.{sources, pickles, cases, starts, run_succeeded}
 use Rattle.cm_stream.specs.Good.{Good}
-use Rattle.cm_stream.specs.Checks.{fault, fault_at_end}
+use Rattle.cm_stream.specs.Checks.{fault_by, fault_at_end}
+use Rattle.cm_stream.specs.Texts.{Utf8}
+use Rattle.cm_stream.specs.Readings.{Reading, ReadsByTheGrammar}
 use Rattle.cm_envelope.specs.declared.envelope.Envelope.{Envelope}
 use Rattle.cm_stream.specs.Findings.{Finding, IsBad, IsUnsupported, named, NoEnvelope}
 use Rattle.cm_stream.specs.declared.verdict.Audited.{Audited}
@@ -99,24 +101,33 @@ at_line n (Some f) more = At n f
 abbrev pub shown : List ℕ → Option (Result Envelope LineFault)
 shown line = if is_blank line then None else Some (envelope_of_line line)
 
-abbrev pub first_fault_line : Settings → (before : List Envelope) → (n : ℕ)
-    → Option (Result Envelope LineFault) → (List Envelope → FirstFault) → FirstFault
-first_fault_line settings before n None more = more before
-first_fault_line settings before n (Some (Err b)) more = At n (IsBad (NoEnvelope b))
-first_fault_line settings before n (Some (Ok e)) more =
-    at_line n (fault settings before e) (more (before ++ e ∷ []))
+abbrev pub first_fault_line_by : (read : Utf8 → Reading) → Settings → (before : List Envelope)
+    → (n : ℕ) → Option (Result Envelope LineFault) → (List Envelope → FirstFault) → FirstFault
+first_fault_line_by read settings before n None more = more before
+first_fault_line_by read settings before n (Some (Err b)) more = At n (IsBad (NoEnvelope b))
+first_fault_line_by read settings before n (Some (Ok e)) more =
+    at_line n (fault_by read settings before e) (more (before ++ e ∷ []))
 
--- of these lines, the first of which has the number n, and then the trouble or the end, after envelopes without a fault
-abbrev pub first_fault_of : Settings → (before : List Envelope) → (n : ℕ) → List (List ℕ)
-    → Option Trouble → FirstFault
-first_fault_of settings before n [] (Some t) = Troubled t
-first_fault_of settings before n [] None = at_end n before (fault_at_end before)
-first_fault_of settings before n (l ∷ ls) t =
-    first_fault_line settings before n (shown l)
-    (λ (now : List Envelope). first_fault_of settings now (n + 1) ls t)
+-- Of these lines, the first of which has the number n, and then the trouble or the end, after envelopes without a fault. A
+-- source's text is read by the function.
+abbrev pub first_fault_of_by : (read : Utf8 → Reading) → Settings → (before : List Envelope)
+    → (n : ℕ) → List (List ℕ) → Option Trouble → FirstFault
+first_fault_of_by read settings before n [] (Some t) = Troubled t
+first_fault_of_by read settings before n [] None = at_end n before (fault_at_end before)
+first_fault_of_by read settings before n (l ∷ ls) t =
+    first_fault_line_by read settings before n (shown l)
+    (λ (now : List Envelope). first_fault_of_by read settings now (n + 1) ls t)
 
-abbrev pub first_fault : Settings → List ℕ → FirstFault
-first_fault settings bytes = first_fault_of settings [] 1 (fed bytes).lines (fed bytes).trouble
+-- that is reported of the lines and of the trouble or the end after them, where sources' texts are read by the grammar
+pub record IsFirstFaultOf (settings : Settings) (lines : List (List ℕ)) (trouble : Option Trouble)
+    (f : FirstFault) : Type 0 where
+  pub read : Utf8 → Reading
+  pub by_the_grammar : ReadsByTheGrammar read
+  pub first : f ≡ first_fault_of_by read settings [] 1 lines trouble
+
+-- that is the first fault of the bytes
+abbrev pub IsFirstFault : Settings → List ℕ → FirstFault → Type 0
+IsFirstFault settings bytes f = IsFirstFaultOf settings (fed bytes).lines (fed bytes).trouble f
 
 -- ---- what an audit promises
 

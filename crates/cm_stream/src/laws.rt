@@ -7,7 +7,8 @@ ghost use Rattle.cm_stream.specs.Release.{ReleasedIsNotHeld, ReleasedRan};
 ghost use Rattle.cm_stream.specs.Results.{FaultsAreChecks, FaultsAreExact, FaultsAreFirst, FrontsAreWellOrdered, NoFaultIsExact};
 ghost use Rattle.cm_stream.specs.Results.{RefusedForFaults, TablesChange, TablesHaveResults, TroublesAreLast, WellOrderedAreAccepted};
 ghost use Rattle.cm_stream.specs.FaultlessLines.{NoneIsRefused, TableSteps, TablesAgree};
-ghost use Rattle.cm_stream.specs.StreamLaws.{AnswersAreRight, FoundIsNotGood, GoodIsNoFault, NoFaultIsGood, NoneBeginsSo};
+ghost use Rattle.cm_stream.specs.StreamLaws.{AnswersAreRight, FoundIsNotGood, GoodIsNoFault, NoFaultIsGood, NoneBeginsSo, OneFirstFault};
+ghost use Rattle.cm_stream.specs.Unsupported.{ReasonsAreShown};
 
 /// Each text is accepted with one document, refused, in another language, or too long, and never two of these.
 pub fn each_text_has_one_reading()
@@ -23,6 +24,11 @@ pub fn good_streams_have_no_fault()
 /// A list of envelopes without a fault at its lines or at its end is good.
 pub fn streams_without_fault_are_good()
     ensures { FaultlessAreGood }
+{}
+
+/// Of each stream one first fault is reported, where its sources' texts are read by the grammar.
+pub fn each_stream_has_one_first_fault()
+    ensures { OneFirstFault }
 {}
 
 /// Where no fault is reported of a stream, it is good.
@@ -43,6 +49,11 @@ pub fn none_begins_so()
 /// A stream of which a fault is reported isn't good, also where the fault is past the last line.
 pub fn found_is_not_good()
     ensures { FoundIsNotGood }
+{}
+
+/// Where a stream isn't judged for a reason, the line that is reported shows that reason.
+pub fn reasons_are_shown()
+    ensures { ReasonsAreShown }
 {}
 
 /// An audit that answers what is reported of the stream's bytes is right in both directions.

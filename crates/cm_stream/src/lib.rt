@@ -1,18 +1,20 @@
 //! Good streams of Cucumber Messages, the first fault of a stream, and the laws of both.
 //!
 //! The crate gives definitions, and no judge: good lists of envelopes (`specs/Good`), the checks of each line in order
-//! (`specs/Checks`), what is reported of a stream's bytes (`specs/Stream`), which good runs are released (`specs/Release`),
-//! and a stream's results (`specs/Results`). Each public function is a law: its contract says the law, and it does nothing.
-//! The types are what an audit answers.
+//! (`specs/Checks`), what is reported of a stream's bytes (`specs/Stream`), why a stream isn't judged (`specs/Unsupported`),
+//! which good runs are released (`specs/Release`), and a stream's results (`specs/Results`). What they say of a source's text
+//! is said by the grammar; `specs/ByOnePass` has the same where texts are read in one pass, for proofs and private functions.
+//! Each public function is a law: its contract says the law, and it does nothing. The types are what an audit answers.
 //!
 //! A judge's contract cites the definitions:
 //!
 //! ```text
-//! ghost use Rattle.cm_stream.specs.Stream.{answer_for, answered, first_fault};
+//! ghost use Rattle.cm_stream.specs.Stream.{FirstFault, IsFirstFault, answer_for, answered};
 //!
 //! /// Audits the stream of these bytes.
 //! pub fn audit(bytes: &[u8], settings: Settings) -> Result<Audited, Trouble>
-//!     ensures { answered result ≡ answer_for (first_fault settings bytes.now) }
+//!     ensures { (first : FirstFault) × IsFirstFault settings bytes.now first
+//!         × (answered result ≡ answer_for first) }
 //! ```
 //!
 //! By the law `answers_are_right` its answer is then right: it is `Good`, with the counts of the stream and with what its run
@@ -23,11 +25,12 @@ mod laws;
 mod verdict;
 
 pub use laws::{
-    answers_are_right, each_text_has_one_reading, faults_are_exact, found_is_not_good,
-    fronts_are_well_ordered, good_is_no_fault, good_streams_have_no_fault, no_fault_is_good,
-    none_begins_so, refusals_are_faults, refusals_are_told, released_is_not_held,
-    released_scenarios_ran, results_faults_are_first, results_troubles_are_last,
-    results_without_fault_are_exact, streams_without_fault_are_good, table_steps, tables_agree,
-    tables_change, tables_have_results, well_ordered_are_accepted,
+    answers_are_right, each_stream_has_one_first_fault, each_text_has_one_reading,
+    faults_are_exact, found_is_not_good, fronts_are_well_ordered, good_is_no_fault,
+    good_streams_have_no_fault, no_fault_is_good, none_begins_so, reasons_are_shown,
+    refusals_are_faults, refusals_are_told, released_is_not_held, released_scenarios_ran,
+    results_faults_are_first, results_troubles_are_last, results_without_fault_are_exact,
+    streams_without_fault_are_good, table_steps, tables_agree, tables_change, tables_have_results,
+    well_ordered_are_accepted,
 };
 pub use verdict::{Audited, Counts, Hold, Reason, StreamFault, Verdict};

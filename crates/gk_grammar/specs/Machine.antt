@@ -243,7 +243,8 @@ abbrev pub with_doc_string : tree.Step → OpenDocString → List Line → tree.
 with_doc_string last q inside = record last { argument = Some (Quoted (doc_string q inside)) }
 
 -- a line after steps
-abbrev pub after_step : State → FlatBlock → List tree.Step → tree.Step → Line → Result State PlacedFault
+abbrev pub after_step : State → FlatBlock → List tree.Step → tree.Step → Line
+    → Result State PlacedFault
 after_step s c before last (line n t i (Step k y m)) =
     Ok (add_node s (AfterStep c (before ++ last ∷ []) (step_at s n i k y m)))
 after_step s c before last (line n t i (Row cells)) =
@@ -343,7 +344,8 @@ blocks_at_end (InDocString c before last q inside) = None
 blocks_at_end (InExamplesTable c rows) = Some (with_rows c rows ∷ [])
 
 infixl 10 ◌>>=◌
-abbrev pub ◌>>=◌ : {A B : Type 0} → Result A PlacedFault → (A → Result B PlacedFault) → Result B PlacedFault
+abbrev pub ◌>>=◌ : {A B : Type 0} → Result A PlacedFault → (A → Result B PlacedFault)
+    → Result B PlacedFault
 (Ok x) >>= f = f x
 (Err e) >>= f = Err e
 

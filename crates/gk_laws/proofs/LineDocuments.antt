@@ -1,6 +1,10 @@
 -- The laws of documents, of lists of lines.
-use Rattle.std.proofs.Common.{ℕ, List}
-use Rattle.gk_laws.specs.Documents.{read_lines, OneDocumentOfLines, DocumentOrFaultOfLines, NoDocumentWithFaultOfLines, OneFaultOfLines}
+use Rattle.std.proofs.Common.{ℕ, List, refl}
+use Rattle.std.specs.Str.{chars}
+use Rattle.std.specs.Str.Lines.{lines}
+use Rattle.gk_line.specs.Lines.{lines_of, numbered_lines, without_mark}
+use Rattle.gk_grammar.specs.Documents.{lines_read}
+use Rattle.gk_laws.specs.Documents.{read_lines, TextsAreLines, OneDocumentOfLines, DocumentOrFaultOfLines, NoDocumentWithFaultOfLines, OneFaultOfLines}
 use Rattle.gk_grammar.proofs.Places.{AreLines}
 use Rattle.gk_grammar.proofs.Reading.{numbered_are_lines}
 use Rattle.gk_grammar.proofs.Accepted.{one_doc}
@@ -8,6 +12,10 @@ use Rattle.gk_grammar.proofs.Placed.{text_or_fault, fault_is_no_text, one_fault}
 
 pub are_lines : (texts : List (List ℕ)) → AreLines 1 (read_lines texts)
 are_lines texts = numbered_are_lines 1 texts
+
+pub texts_are_lines_holds : TextsAreLines
+unfolding lines_read lines_of numbered_lines
+texts_are_lines_holds text = (lines (without_mark (chars text)), refl)
 
 pub one_document_holds : OneDocumentOfLines
 one_document_holds texts a b h k = one_doc (read_lines texts) (are_lines texts) a b h k

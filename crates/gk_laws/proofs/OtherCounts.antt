@@ -10,13 +10,13 @@ use Rattle.gk_document.specs.declared.tree.Argument.TheVariants.{Table, Text as 
 use Rattle.gk_grammar.specs.Token.{Utf8, Blank, Comment, Language, Tags, Title, Step, Row, Fenced, Other, Line, line, is_gap}
 use Rattle.gk_grammar.specs.Tree as tree
 use Rattle.gk_grammar.specs.Tree.{Argument}
-use Rattle.gk_grammar.specs.Grammar.{Piece, Then, Each, AtMostOne, OneLine, IsRow, IsTable, HaveEqualCounts, IsTitle, Titled, IsArgument, IsStepLine, IsStep, stops, is_fence}
-use Rattle.gk_grammar.specs.Machine.{FlatBlock, Phase, Start, AfterLanguage, AfterTags, InDescription, AfterStep, InDocString, InExamplesTable, State, PlacedFault, at_phase, step_row, another_row, count_of, with_table}
+use Rattle.gk_grammar.specs.Grammar.{Piece, Then, Each, AtMostOne, OneLine, IsRow, IsTable, IsTitle, Titled, IsArgument, IsStepLine, IsStep, stops, is_fence}
+use Rattle.gk_grammar.specs.Machine.{FlatBlock, Phase, Start, AfterLanguage, AfterTags, InDescription, AfterStep, InDocString, InExamplesTable, State, PlacedFault, at_phase, step_row, count_of}
 use Rattle.gk_grammar.specs.Place.{IsFaultAt, is_row_or_gap}
 use Rattle.gk_grammar.specs.declared.fault.FaultKind.{FaultKind}
 use Rattle.gk_grammar.specs.declared.fault.FaultKind.TheVariants as kind
-use Rattle.gk_grammar.proofs.Open.{Holds, IsDone, IsOpen, IsHead, FlatBlockTags}
-use Rattle.gk_laws.specs.Documents.{read_lines, HasCount, HasCountOrGap, IsOtherCount, OtherCountAtFault}
+use Rattle.gk_grammar.proofs.Open.{Holds, IsDone, IsOpen, IsHead}
+use Rattle.gk_laws.specs.Documents.{read_lines, HasCount, HasCountOrGap, OtherCountAtFault}
 use Rattle.gk_laws.proofs.LineDocuments.{are_lines}
 use Rattle.gk_laws.proofs.Stopped.{StopsAt, stops_there}
 

@@ -4,8 +4,6 @@ use Rattle.std.specs.Prelude.{IsTrue, IsFalse, ◌≢◌, ◌⊎◌}
 use Rattle.std.specs.List.{AllByRecursion}
 use Rattle.gk_line.specs.declared.tokens.Block.{Block}
 use Rattle.gk_line.specs.declared.tokens.Block.TheVariants as block
-use Rattle.gk_document.specs.declared.tree.Fence.{Fence}
-use Rattle.gk_document.specs.declared.tree.Fence.TheVariants as fence
 use Rattle.gk_grammar.specs.Token.{Utf8, Blank, Comment, Language, Tags, Title, Step, Row, Fenced, Other, Line, line, is_gap, is_language}
 use Rattle.gk_grammar.specs.Grammar.{english, stops, is_fence}
 use Rattle.gk_grammar.specs.Machine.{Phase, Start, AfterLanguage, AfterTags, InDescription, AfterStep, InDocString, InExamplesTable, State, PlacedFault, at_phase, same_text, after_description, with_description, pass_over}
@@ -13,7 +11,7 @@ use Rattle.gk_grammar.specs.Place.{IsFaultAt}
 use Rattle.gk_grammar.specs.declared.fault.FaultKind.{FaultKind}
 use Rattle.gk_grammar.specs.declared.fault.FaultKind.TheVariants as kind
 use Rattle.gk_grammar.proofs.Open.{Holds}
-use Rattle.gk_laws.specs.Documents.{read_lines, NamesOtherLanguage, IsPlainLine, IsOtherLanguage, OtherLanguageAtFault}
+use Rattle.gk_laws.specs.Documents.{read_lines, NamesOtherLanguage, IsPlainLine, OtherLanguageAtFault}
 use Rattle.gk_laws.proofs.LineDocuments.{are_lines}
 use Rattle.gk_laws.proofs.Stopped.{StopsAt, stops_there}
 

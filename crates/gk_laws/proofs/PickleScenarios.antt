@@ -1,5 +1,5 @@
 -- Each pickle is of a scenario of the document, and its steps are made of the scenario's.
-use Rattle.std.proofs.Common.{◌≡◌, ◌⊎◌, ℕ, List, [], ◌∷◌, ◌++◌, map, Option, Some, None, unwrap_or, append-nil, refl, sym, ap, ◌∙◌, subst, append_assoc, inl, inr}
+use Rattle.std.proofs.Common.{◌≡◌, List, [], ◌∷◌, ◌++◌, map, Option, Some, None, unwrap_or, append-nil, refl, sym, ap, ◌∙◌, subst, append_assoc, inl, inr}
 use Rattle.std.specs.Prelude.{Contains}
 use Rattle.std.specs.List.{flat_map, filter_map, AllByRecursion}
 use Rattle.std.proofs.lemmas.List.{map-append}
@@ -17,9 +17,7 @@ use Rattle.gk_document.specs.declared.tree.Feature.{Feature}
 use Rattle.gk_document.specs.declared.tree.Document.{Document}
 use Rattle.gk_pickle.specs.declared.pickle.StepType.{StepType}
 use Rattle.gk_pickle.specs.declared.pickle.StepType.TheVariants.{Unknown}
-use Rattle.gk_pickle.specs.declared.pickle.PickleArgument.{PickleArgument}
 use Rattle.gk_pickle.specs.declared.pickle.PickleStep.{PickleStep}
-use Rattle.gk_pickle.specs.declared.pickle.Pickle.{Pickle}
 use Rattle.gk_pickle.specs.Inherited.{Inherited, Filling, unfilled}
 use Rattle.gk_pickle.specs.Steps.{own_type, last_or, type_of, keywords, filled_by, filled_step, steps_after, pickle_steps}
 use Rattle.gk_pickle.specs.Pickles.{pickle_of, row_filling, table_pickles, examples_pickles, outline_pickles, scenario_pickles, background_steps, in_feature, in_rule, rule_pickles, pickles_in, pickles}

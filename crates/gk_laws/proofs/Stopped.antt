@@ -1,7 +1,7 @@
 -- Where lines have a fault other than an early end, the pass over them stops at it.
-use Rattle.std.proofs.Common.{◌≡◌, ℕ, ◌+◌, List, [], ◌∷◌, ◌++◌, length, Option, Some, None, Result, Ok, Err, refl, sym, ap, subst, ◌∙◌, arith}
+use Rattle.std.proofs.Common.{◌≡◌, ℕ, ◌+◌, List, [], ◌∷◌, ◌++◌, length, Option, Some, None, Result, Ok, Err, refl, sym, subst, ◌∙◌}
 use Rattle.std.specs.Prelude.{IfOk, ◌≢◌}
-use Rattle.gk_grammar.specs.Token.{Line, line, number}
+use Rattle.gk_grammar.specs.Token.{Line, number}
 use Rattle.gk_grammar.specs.Machine.{FlatBlock, State, PlacedFault, run, blocks_at_end, initial, next}
 use Rattle.gk_grammar.specs.Place.{IsFault, IsFaultAt}
 use Rattle.gk_grammar.specs.declared.fault.FaultKind.{FaultKind}

@@ -5,12 +5,17 @@ use Rattle.gk_grammar.specs.Token.{Language, Row, Line, line, line_of, number, i
 use Rattle.gk_grammar.specs.Tree.{Document}
 use Rattle.gk_grammar.specs.Grammar.{Doc, english}
 use Rattle.gk_grammar.specs.Place.{IsFault, is_row_or_gap}
+use Rattle.gk_grammar.specs.Documents.{lines_read}
 use Rattle.gk_grammar.specs.declared.fault.FaultKind.{FaultKind}
 use Rattle.gk_grammar.specs.declared.fault.FaultKind.TheVariants as kind
 
 -- the lines of these characters, numbered from 1, as the grammar reads them
 abbrev pub read_lines : List (List ℕ) → List Line
 read_lines texts = map line_of (enumerate_from 1 texts)
+
+-- the lines of a text are such lines, so that what holds of these holds of texts
+abbrev pub TextsAreLines : Type 0
+TextsAreLines = (text : List ℕ) → (texts : List (List ℕ)) × (lines_read text ≡ read_lines texts)
 
 -- lines have one document at most
 abbrev pub OneDocumentOfLines : Type 0
@@ -49,8 +54,8 @@ NamesOtherLanguage _ = ⊥
 abbrev pub IsPlainLine : Line → Type 0
 IsPlainLine l = IsTrue (is_gap l) × IsFalse (is_language l)
 
--- Line n names another language than English. Before it are comments and blank lines, and no language
--- line.
+-- Line n names another language than English. Before it are comments and blank lines, and no
+-- language line.
 pub record IsOtherLanguage (ls : List Line) (n : ℕ) : Type 0 where
   pub before : List Line
   pub at : Line
@@ -77,9 +82,9 @@ HasCount count _ = ⊥
 abbrev pub HasCountOrGap : ℕ → Line → Type 0
 HasCountOrGap count l = HasCount count l ⊎ IsTrue (is_gap l)
 
--- Line n is a row with another count of cells than the first row of its table. That is the first row
--- after a line which is neither a row nor a comment nor blank, and each row between the two has its
--- count.
+-- Line n is a row with another count of cells than the first row of its table. That is the first
+-- row after a line which is neither a row nor a comment nor blank, and each row between the two has
+-- its count.
 pub record IsOtherCount (ls : List Line) (n : ℕ) : Type 0 where
   pub before : List Line
   pub last_before : Line

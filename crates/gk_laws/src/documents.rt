@@ -1,5 +1,10 @@
 //! What holds of every list of lines and its document, and of the places of faults.
-ghost use Rattle.gk_laws.specs.Documents.{OneDocumentOfLines, DocumentOrFaultOfLines, NoDocumentWithFaultOfLines, OneFaultOfLines, OtherLanguageAtFault, OtherCountAtFault};
+ghost use Rattle.gk_laws.specs.Documents.{TextsAreLines, OneDocumentOfLines, DocumentOrFaultOfLines, NoDocumentWithFaultOfLines, OneFaultOfLines, OtherLanguageAtFault, OtherCountAtFault};
+
+/// The lines of a text are lines of characters, numbered from 1, of which the other laws speak.
+pub fn texts_are_lines()
+    ensures { TextsAreLines }
+{}
 
 /// Lines have one document at most.
 pub fn one_document_of_lines()
@@ -21,8 +26,8 @@ pub fn one_fault_of_lines()
     ensures { OneFaultOfLines }
 {}
 
-/// Where the fault is an unsupported language, its line is the first language line, and names another
-/// language than English.
+/// Where the fault is an unsupported language, its line is the first language line, and names
+/// another language than English.
 pub fn other_language_at_fault()
     ensures { OtherLanguageAtFault }
 {}

@@ -15,7 +15,8 @@ body_rows e = body_of e.table
 -- a scenario without examples blocks gives one pickle
 abbrev pub OneWithoutExamples : Type 0
 OneWithoutExamples =
-    (inherited : Inherited) (s : Scenario) → s.examples ≡ [] → length (scenario_pickles inherited s) ≡ 1
+    (inherited : Inherited) (s : Scenario) → s.examples ≡ []
+    → length (scenario_pickles inherited s) ≡ 1
 
 -- any other scenario gives as many as its blocks have body rows
 abbrev pub OneForEachRow : Type 0

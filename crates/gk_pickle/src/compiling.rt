@@ -34,7 +34,8 @@ fn pickle_tags(
     block_tags: &[Tag],
 ) -> Result<Sequence<PickleTag>, AllocError>
     ensures { IfOk result
-        (λ made. made ≡ map pickle_tag (inherited.now.tags ++ scenario_tags.now ++ block_tags.now)) }
+        (λ made. made
+        ≡ map pickle_tag (inherited.now.tags ++ scenario_tags.now ++ block_tags.now)) }
 {
     let mut made = Vec::new(alloc);
     add_tags(alloc, inherited.feature_tags, &mut made)?;
@@ -150,7 +151,8 @@ fn add_scenarios(
     made: &mut Vec<Pickle>,
 ) -> Result<(), AllocError>
     ensures { OnOk result
-        (made.new.items ≡ made.old.items ++ flat_map (scenario_pickles inherited.now) scenarios.now) }
+        (made.new.items
+        ≡ made.old.items ++ flat_map (scenario_pickles inherited.now) scenarios.now) }
 {
     for scenario in scenarios {
         add_scenario(alloc, inherited, scenario, made)?;

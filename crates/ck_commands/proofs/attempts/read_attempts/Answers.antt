@@ -1,7 +1,34 @@
-use Rattle.std.proofs.Common.{Ok, Some, rules}
-use Rattle.cm_envelope.specs.Feeds.{Leaves}
-use Rattle.ck_commands.proofs.Lines.{stops}
+use Rattle.std.proofs.Common.{◌∙◌, None, Ok, Err, Some, refl, arith, rules}
+use Rattle.cm_envelope.specs.Feeds.{GivesLine, Leaves}
+use Rattle.ck_commands.proofs.Lines.{begins, ends, goes_on, stops, troubled}
 use Rattle.ck_commands.proofs.attempts.read_attempts.Goals as goal
+
+pub lines-init : goal.lines-init
+lines-init g c = record {
+  open_still = rw c.new-feed.ensures refl;
+  stream_limit = rw c.new-feed.ensures refl;
+  counted = omega arith;
+  few = rw c.new-feed.ensures (omega arith);
+  ends = rw c.new-feed.ensures (λ ended. cc);
+  told = begins c.args.first_attempt c.new-feed.result c.new-feed.ensures c.counting_from-attempts.result c.counting_from-attempts.ensures (g.S.ByteSource.to_come c.args.source.now);
+  no_failure = refl;
+}
+
+pub lines-preserved : goal.lines-preserved
+lines-preserved g c =
+    let later = c.next_line.follows.lender-at-none in
+    let line = c.in-Ok-Some.line.now in
+    let leaves : Leaves c.lines.feed later (g.S.ByteSource.to_come c.lines.source) (g.S.ByteSource.to_come c.next_line.new.source) (Ok (Some line)) = search rules in
+    let given : GivesLine c.lines.feed later line = leaves.line c.lines.invariant.open_still in
+    record {
+      open_still = leaves.over;
+      stream_limit = leaves.stream_limit ∙ c.lines.invariant.stream_limit;
+      counted = omega (arith, c.lines.invariant.counted, given.some);
+      few = omega (arith, given.fits, c.lines.invariant.stream_limit);
+      ends = leaves.source c.lines.invariant.ends;
+      told = goes_on c.args.first_attempt c.lines.feed later c.lines.number c.lines.attempts c.take_line.new.attempts line _ _ _ c.lines.invariant.told c.lines.invariant.open_still leaves c.in-Ok.ensures;
+      no_failure = search rules;
+    }
 
 pub returns-in-Err-take_line-clause-outcome : goal.returns-in-Err-take_line-clause-outcome
 returns-in-Err-take_line-clause-outcome g c =
@@ -9,4 +36,16 @@ returns-in-Err-take_line-clause-outcome g c =
     let line = c.in-Ok-Some.line.now in
     let leaves : Leaves c.lines.feed later (g.S.ByteSource.to_come c.lines.source) (g.S.ByteSource.to_come c.next_line.new.source) (Ok (Some line)) = search rules in
     rw c.audited_at.ensures
-    (stops c.args.first_attempt c.lines.feed later c.lines.number c.lines.attempts c.take_line.new.attempts line _ _ _ c.lines.invariant.told (leaves.gives c.lines.invariant.open_still) c.in-Err-take_line.stop c.in-Err-take_line.ensures)
+    (stops c.args.first_attempt c.lines.feed later c.lines.number c.lines.attempts c.take_line.new.attempts line _ _ _ c.lines.invariant.told c.lines.invariant.open_still c.lines.invariant.ends leaves c.in-Err-take_line.stop c.in-Err-take_line.ensures)
+
+pub returns-in-Ok-None-clause-outcome : goal.returns-in-Ok-None-clause-outcome
+returns-in-Ok-None-clause-outcome g c =
+    let later = c.next_line.follows.lender-at-none in
+    let leaves : Leaves c.lines.feed later (g.S.ByteSource.to_come c.lines.source) (g.S.ByteSource.to_come c.next_line.new.source) (Ok None) = search rules in
+    ends c.args.first_attempt c.lines.feed later c.lines.number c.lines.attempts _ _ _ c.lines.invariant.told c.lines.invariant.open_still c.lines.invariant.ends leaves
+
+pub returns-in-Err-clause-outcome : goal.returns-in-Err-clause-outcome
+returns-in-Err-clause-outcome g c =
+    let later = c.next_line.follows.lender-at-none in
+    let leaves : Leaves c.lines.feed later (g.S.ByteSource.to_come c.lines.source) (g.S.ByteSource.to_come c.next_line.new.source) (Err c.in-Err.trouble) = search rules in
+    troubled c.args.first_attempt c.lines.feed later c.lines.number c.lines.attempts _ _ _ c.lines.invariant.told c.lines.invariant.open_still c.lines.invariant.ends c.in-Err.trouble leaves

@@ -1,5 +1,10 @@
+use Rattle.std.proofs.Common.{◌∙◌, refl, sym, map}
+use Rattle.std.specs.String.{string_bytes}
+use Rattle.cm_attempt.proofs.StepLemmas.{chosen, finish_passes}
 use Rattle.cm_attempt.proofs.checks.check_finish.Goals as goal
 
-pub returns-clause-answer : goal.returns-clause-answer
-returns-clause-answer c =
-    rw (← c.in-Some.ensures, ← c.as_str-case.ensures.value, ← c.case_has_step-is_known.ensures, ← c.steps_of.ensures) c.check_running.ensures.answer
+pub returns-in-Some-finished_in_order-clause-answer : goal.returns-in-Some-finished_in_order-clause-answer
+returns-in-Some-finished_in_order-clause-answer c =
+    let steps = map string_bytes c.steps_of.result.now in
+    let passes = finish_passes c.args.step.now c.in-Some.attempt.now.cursor steps (chosen _ _ _ (sym c.finished_in_order.ensures ∙ c.in-Some-finished_in_order.is)) in
+    rw (← c.in-Some.ensures, ← c.as_str-case.ensures.value, ← c.steps_of.ensures, passes) refl

@@ -1,5 +1,10 @@
+use Rattle.std.proofs.Common.{◌∙◌, refl, sym, map}
+use Rattle.std.specs.String.{string_bytes}
+use Rattle.cm_attempt.proofs.StepLemmas.{start_passes}
 use Rattle.cm_attempt.proofs.checks.check_start.Goals as goal
 
-pub returns : goal.returns
-returns c =
-    rw (← c.in-Some.ensures, ← c.as_str-case.ensures.value, ← c.case_has_step-is_known.ensures, ← c.steps_of-steps.ensures, ← c.may_start.ensures) c.check_step.ensures
+pub returns-then-may_start : goal.returns-then-may_start
+returns-then-may_start c =
+    let steps = map string_bytes c.steps_of.result.now in
+    let passes = start_passes c.args.step.now c.in-Some.attempt.now.cursor steps (sym c.may_start.ensures ∙ c.if-may_start.true) in
+    rw (← c.in-Some.ensures, ← c.as_str-case.ensures.value, ← c.steps_of.ensures, passes) refl

@@ -1,9 +1,8 @@
-use Rattle.std.proofs.Common.{rules, ◌≡◌, ◌+◌, ◌∙◌, refl, Ok, Err, Some, None, arith}
+use Rattle.std.proofs.Common.{rules, ◌+◌, ◌∙◌, refl, Ok, Err, Some, None, arith}
 use Rattle.cm_envelope.specs.Feeds.{Leaves, GivesLine}
 use Rattle.cm_stream.specs.Stream.{shown}
 use Rattle.cm_audit.specs.State.{summary_of}
-use Rattle.cm_audit.proofs.Answering.{begins, few_at_first, still_listed, goes_on, stops, stops_there, reads_all, read_failed}
-use Rattle.cm_envelope.specs.declared.feed.Trouble.TheVariants.{ReadFailed}
+use Rattle.cm_audit.proofs.Answering.{begins, ends_early, ends_well, few_at_first, goes_on, still_listed, stops, troubled}
 use Rattle.cm_audit.proofs.Counted.{still_fewer}
 use Rattle.cm_audit.proofs.auditing.judge_lines.Goals as goal
 
@@ -16,6 +15,7 @@ lines-init g c = record {
   few = rw c.new-feed.ensures (omega arith);
   listed = c.requires.listed;
   fewer = few_at_first c.args.settings.first_attempt c.args.state.now c.requires.nothing;
+  ends = rw c.new-feed.ensures (λ ended. cc);
   judged = begins c.args.settings c.new-feed.result c.new-feed.ensures (summary_of c.args.state.now) c.requires.nothing (g.R.ByteSource.to_come c.args.source.now);
   no_failure = refl;
 }
@@ -35,7 +35,8 @@ lines-preserved g c =
       few = omega (arith, given.fits, c.lines.invariant.stream_limit);
       listed = still_listed c.args.settings c.lines.state c.take_line.new.state (shown line) taken;
       fewer = still_fewer c.args.settings (c.lines.number + 1) c.lines.state c.take_line.new.state (shown line) taken c.lines.invariant.fewer;
-      judged = goes_on c.args.settings c.lines.feed later c.lines.state c.take_line.new.state c.lines.number line _ _ _ c.lines.invariant.judged (leaves.gives c.lines.invariant.open_still) given taken;
+      ends = leaves.source c.lines.invariant.ends;
+      judged = goes_on c.args.settings c.lines.feed later c.lines.state c.take_line.new.state c.lines.number line _ _ _ c.lines.invariant.judged c.lines.invariant.open_still leaves given taken;
       no_failure = search rules;
     }
 
@@ -45,26 +46,23 @@ returns-in-Err-take_line-clause-judged g c =
     let line = c.in-Ok-Some.line.now in
     let leaves : Leaves c.lines.feed later (g.R.ByteSource.to_come c.lines.source) (g.R.ByteSource.to_come c.next_line.new.source) (Ok (Some line)) = search rules in
     rw c.audited_at.ensures
-    (stops c.args.settings c.lines.feed later c.lines.state c.take_line.new.state c.lines.number line _ _ _ c.lines.invariant.judged (leaves.gives c.lines.invariant.open_still) c.in-Err-take_line.stop c.in-Err-take_line.ensures)
+    (stops c.args.settings c.lines.feed later c.lines.state c.take_line.new.state c.lines.number line _ _ _ c.lines.invariant.judged c.lines.invariant.open_still c.lines.invariant.ends leaves c.in-Err-take_line.stop c.in-Err-take_line.ensures)
 
-pub returns-in-Err-take_line-clause-ahead : goal.returns-in-Err-take_line-clause-ahead
-returns-in-Err-take_line-clause-ahead g c =
+pub returns-in-Ok-None-clause-judged : goal.returns-in-Ok-None-clause-judged
+returns-in-Ok-None-clause-judged g c =
     let later = c.next_line.follows.lender-at-none in
-    let line = c.in-Ok-Some.line.now in
-    let leaves : Leaves c.lines.feed later (g.R.ByteSource.to_come c.lines.source) (g.R.ByteSource.to_come c.next_line.new.source) (Ok (Some line)) = search rules in
-    rw c.audited_at.ensures
-    (stops_there c.args.settings c.lines.feed later (summary_of c.lines.state) c.lines.number line _ _ _ c.lines.invariant.judged (leaves.gives c.lines.invariant.open_still) (leaves.line c.lines.invariant.open_still) c.in-Err-take_line.stop)
+    let leaves : Leaves c.lines.feed later (g.R.ByteSource.to_come c.lines.source) (g.R.ByteSource.to_come c.next_line.new.source) (Ok None) = search rules in
+    ends_well c.args.settings c.lines.feed later (summary_of c.lines.state) c.lines.number _ _ _ c.lines.invariant.judged c.lines.invariant.open_still c.lines.invariant.ends leaves (search rules)
 
-pub returns-in-Ok-None-2-clause-ahead : goal.returns-in-Ok-None-2-clause-ahead
-returns-in-Ok-None-2-clause-ahead g c =
+pub returns-in-Ok-None-2-clause-judged : goal.returns-in-Ok-None-2-clause-judged
+returns-in-Ok-None-2-clause-judged g c =
     let later = c.next_line.follows.lender-at-none in
     let leaves : Leaves c.lines.feed later (g.R.ByteSource.to_come c.lines.source) (g.R.ByteSource.to_come c.next_line.new.source) (Ok None) = search rules in
     rw c.unsuccessful.ensures
-    (reads_all c.args.settings c.lines.feed later (summary_of c.lines.state) c.lines.number _ _ _ c.lines.invariant.judged (leaves.gives c.lines.invariant.open_still))
+    (ends_early c.args.settings c.lines.feed later (summary_of c.lines.state) c.lines.number _ _ _ c.lines.invariant.judged c.lines.invariant.open_still c.lines.invariant.ends leaves (search rules))
 
-pub returns-in-Err-clause-read_failed : goal.returns-in-Err-clause-read_failed
-returns-in-Err-clause-read_failed g c = λ failed.
+pub returns-in-Err-clause-judged : goal.returns-in-Err-clause-judged
+returns-in-Err-clause-judged g c =
     let later = c.next_line.follows.lender-at-none in
     let leaves : Leaves c.lines.feed later (g.R.ByteSource.to_come c.lines.source) (g.R.ByteSource.to_come c.next_line.new.source) (Err c.in-Err.trouble) = search rules in
-    let why : c.in-Err.trouble ≡ ReadFailed = cc in
-    read_failed c.args.settings c.lines.feed later (summary_of c.lines.state) c.lines.number _ _ _ c.lines.invariant.judged c.lines.invariant.line_limit c.lines.invariant.stream_limit c.in-Err.trouble (leaves.gives c.lines.invariant.open_still) why
+    troubled c.args.settings c.lines.feed later (summary_of c.lines.state) c.lines.number _ _ _ c.lines.invariant.judged c.lines.invariant.open_still c.lines.invariant.ends c.lines.invariant.line_limit c.lines.invariant.stream_limit c.in-Err.trouble leaves

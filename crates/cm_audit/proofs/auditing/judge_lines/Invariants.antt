@@ -1,5 +1,6 @@
 use Rattle.std.proofs.Common.{◌≡◌, ◌≤◌, ◌+◌, ◌-◌, None}
-use Rattle.cm_envelope.specs.Feeds.{WhereTold}
+use Rattle.cm_envelope.specs.Feeds.{EndsWithSource}
+use Rattle.cm_envelope.proofs.Sources.{HasReadSo}
 use Rattle.cm_audit.specs.Judging.{HasJudged}
 use Rattle.cm_audit.specs.State.{AreFewer, IsListed, summary_of}
 use Rattle.cm_audit.proofs.auditing.judge_lines.Given as goal
@@ -13,7 +14,8 @@ invariant-lines g l = record {
   few : l.feed.given ≤ 1073741824;
   listed : IsListed l.state;
   fewer : AreFewer (l.number + 1) l.state.counts;
-  judged : WhereTold (g.R.ByteSource.to_come l.fn.source) (g.R.ByteSource.to_come l.source) (λ xs ys. HasJudged l.fn.settings xs ys l.feed l.number (summary_of l.state));
+  ends : EndsWithSource l.feed (g.R.ByteSource.to_come l.source);
+  judged : HasReadSo l.feed (g.R.ByteSource.to_come l.fn.source) (g.R.ByteSource.to_come l.source) (λ xs ys. HasJudged l.fn.settings xs ys l.feed l.number (summary_of l.state));
   no_failure : g.R.ByteSource.failed_calls l.source ≡ g.R.ByteSource.failed_calls l.fn.source;
 }
 

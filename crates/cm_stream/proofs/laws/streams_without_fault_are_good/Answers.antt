@@ -1,5 +1,5 @@
-use Rattle.cm_stream.proofs.FaultlessGood.{faultless_are_good}
+use Rattle.cm_stream.proofs.ByGrammar.{faultless_are_good_law}
 use Rattle.cm_stream.proofs.laws.streams_without_fault_are_good.Goals as goal
 
 pub returns : goal.returns
-returns c = faultless_are_good
+returns c = faultless_are_good_law

@@ -1,5 +1,5 @@
-use Rattle.cm_stream.proofs.TableWords.{lines_agree}
+use Rattle.cm_stream.proofs.ByGrammar.{tables_agree_law}
 use Rattle.cm_stream.proofs.laws.tables_agree.Goals as goal
 
 pub returns : goal.returns
-returns c = lines_agree
+returns c = tables_agree_law

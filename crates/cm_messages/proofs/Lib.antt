@@ -1,0 +1,4 @@
+pub mod Floats
+pub mod Layouts
+pub mod Sent
+pub mod Texts
