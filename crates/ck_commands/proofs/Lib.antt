@@ -3,6 +3,7 @@ pub mod Choosing
 pub mod Compiles
 pub mod Gates
 pub mod Lines
+pub mod LinesTaken
 pub mod Printing
 pub mod TextLemmas
 pub mod Asked

@@ -81,13 +81,17 @@ failure_printed report no_read answer code b c failed p =
     let is : report (answered answer) ≡ trouble_report ReadFailed = ap (λ (x : Result Audited Trouble). report (answered x)) (failed_answer answer failed) ∙ no_read in
     subst (λ r. PrintsOrNoMemory r code b c) is p
 
+-- it is that of a failed read
+pub failed_read : (held : Result Table (Result Audited Trouble)) → results_failed held ≡ true → held ≡ Err (Err ReadFailed)
+failed_read (Ok t) e = cc
+failed_read (Err (Ok a)) e = cc
+failed_read (Err (Err ReadFailed)) e = refl
+failed_read (Err (Err LineTooLong)) e = cc
+failed_read (Err (Err StreamTooLong)) e = cc
+failed_read (Err (Err Memory)) e = cc
+
 failed_outcome : (held : Result Table (Result Audited Trouble)) → results_failed held ≡ true → outcome_report (held_outcome held) ≡ trouble_report ReadFailed
-failed_outcome (Ok t) e = cc
-failed_outcome (Err (Ok a)) e = cc
-failed_outcome (Err (Err ReadFailed)) e = refl
-failed_outcome (Err (Err LineTooLong)) e = cc
-failed_outcome (Err (Err StreamTooLong)) e = cc
-failed_outcome (Err (Err Memory)) e = cc
+failed_outcome held e = ap (λ (h : Result Table (Result Audited Trouble)). outcome_report (held_outcome h)) (failed_read held e)
 
 pub failed_results_printed : (held : Result Table (Result Audited Trouble)) (code : ℕ) (b c : Option (List ℕ)) → results_failed held ≡ true
     → PrintsOrNoMemory (outcome_report (held_outcome held)) code b c → PrintsOrNoMemory (trouble_report ReadFailed) code b c

@@ -1,7 +1,10 @@
 //! The record of the attempts of a message stream, read line by line.
-ghost use Rattle.cm_envelope.specs.Device.{CountsFailure, OfSource};
+ghost use Rattle.std.specs.Prelude.{◌≡◌, Err};
+ghost use Rattle.cm_envelope.specs.Device.{CountsFailure, OfReads, OfSource};
+ghost use Rattle.cm_envelope.specs.declared.feed.Trouble.TheVariants.{ReadFailed};
 ghost use Rattle.ck_commands.specs.Outcome.{after_line, outcome_of};
 ghost use Rattle.ck_commands.specs.Reading.{HasOutcome, LeavesTable, is_failed_read};
+ghost use Rattle.ck_commands.specs.Results.{ResultsShowNoFault};
 
 use cm_attempt::Track;
 use cm_audit::{Audited, Stop, audited_at, track};
@@ -38,6 +41,9 @@ pub(crate) fn read_attempts<S: ByteSource>(
         (λ bytes. HasOutcome (outcome_of first_attempt bytes) result) }
     ensures failures { CountsFailure (is_failed_read result) (S.failed_calls source.old)
         (S.failed_calls source.new) }
+    ensures no_fault { result ≡ Err (Err ReadFailed)
+        → OfReads (S.to_come source.old) (S.to_come source.new)
+        (ResultsShowNoFault first_attempt) }
 {
     let mut feed = Feed::new(alloc);
     let mut attempts = Track::counting_from(alloc, first_attempt);

@@ -123,7 +123,8 @@ fn bad_text(alloc: Global, line: u64, fault: StreamFault) -> Result<String, Allo
 }
 
 fn unsupported_text(alloc: Global, line: u64, reason: Reason) -> Result<String, AllocError>
-    ensures { IfOk result (λ text. string_bytes text ≡ finding_text line (IsUnsupported reason)) }
+    ensures { IfOk result
+        (λ text. string_bytes text ≡ finding_text line (IsUnsupported reason)) }
 {
     let label = reason_name(reason);
     let text = format!(in alloc; "unsupported line {line}: {label}\n")?;

@@ -167,7 +167,8 @@ fn refusal_of(alloc: Global, error: &Error) -> Refusal
 
 // The text after an option or a flag.
 fn text_of<'a>(values: &ArgMatches<'a>, name: &str) -> Option<&'a str>
-    ensures { option_map (λ s. s.now) result ≡ first_of name.now (rows_of (found_of values.now)) }
+    ensures { option_map (λ s. s.now) result
+        ≡ first_of name.now (rows_of (found_of values.now)) }
 {
     values.get_str(name)
 }

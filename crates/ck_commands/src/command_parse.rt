@@ -70,7 +70,8 @@ fn fault_report(alloc: Global, fault: FeatureFault) -> Result<Report, AllocError
 
 /// The report of a feature file that was read.
 fn parse_report(alloc: Global, read: &Result<Document, FeatureFault>) -> Result<Report, AllocError>
-    ensures text { IfOk result (λ report. string_bytes report.text ≡ (parse_report read.now).text) }
+    ensures text { IfOk result
+        (λ report. string_bytes report.text ≡ (parse_report read.now).text) }
     ensures status { IfOk result (λ report. report.status ≡ (parse_report read.now).status) }
 {
     match read {

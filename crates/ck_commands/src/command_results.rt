@@ -1,11 +1,11 @@
 //! The command `results`: the status of each test case of a stream.
 ghost use Rattle.std.specs.Prelude.{◌≡◌, ◌≢◌, IfOk, string_bytes};
-ghost use Rattle.cm_envelope.specs.Device.{OfSource};
+ghost use Rattle.cm_envelope.specs.Device.{OfReads, OfSource};
 ghost use Rattle.cm_stream.specs.Results.{first_fault};
 ghost use Rattle.ck_commands.specs.Outcome.{outcome_report, table_text};
 ghost use Rattle.ck_commands.specs.Output.{NoneFailed, PrintsOrNoMemory, Undisturbed, code_of, trouble_report};
 ghost use Rattle.ck_commands.specs.Reading.{held_outcome};
-ghost use Rattle.ck_commands.specs.Results.{results_report};
+ghost use Rattle.ck_commands.specs.Results.{ResultsShowNoFault, results_report};
 
 use crate::attempts::read_attempts;
 use crate::command_audit::verdict_report;
@@ -71,6 +71,9 @@ pub(crate) fn print_results<R: ByteSource, W: ByteSink>(
         → NoneFailed (W.failed_calls sink.old) (W.failed_calls sink.new)
         → PrintsOrNoMemory (trouble_report Trouble.ReadFailed) result (W.taken sink.old)
         (W.taken sink.new) }
+    ensures no_fault { R.failed_calls source.new ≢ R.failed_calls source.old
+        → OfReads (R.to_come source.old) (R.to_come source.new)
+        (ResultsShowNoFault first_attempt) }
 {
     let read = read_attempts(alloc, first_attempt, source);
     let report = report_of(alloc, &read);

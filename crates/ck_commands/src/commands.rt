@@ -7,7 +7,7 @@ ghost use Rattle.cm_audit.specs.Audit.{ShowNoFault};
 ghost use Rattle.ck_commands.specs.CommandLine.{Asks, AsksNothing, ask_audit, ask_compile, ask_gate, ask_parse, ask_results};
 ghost use Rattle.ck_commands.specs.Gate.{PrintsReleased, gate_report};
 ghost use Rattle.ck_commands.specs.Output.{NoneFailed, PrintsOrNoMemory, Undisturbed, code_of, trouble_report};
-ghost use Rattle.ck_commands.specs.Results.{results_report};
+ghost use Rattle.ck_commands.specs.Results.{ResultsShowNoFault, results_report};
 ghost use Rattle.ck_commands.specs.Run.{Compiles, PrintsFeature};
 ghost use Rattle.ck_commands.specs.Verdicts.{PrintsAnswer, PrintsAudit, PrintsBad, PrintsGood, PrintsUpTo, verdict_report};
 
@@ -118,6 +118,10 @@ pub fn run<R: ByteSource, W: ByteSink>(
         → Asks words.now (ask_gate settings allows_unrun)
         → R.failed_calls source.new ≢ R.failed_calls source.old
         → OfReads (R.to_come source.old) (R.to_come source.new) (ShowNoFault settings) }
+
+    ensures results_no_fault { (first : ℕ) → Asks words.now (ask_results first)
+        → R.failed_calls source.new ≢ R.failed_calls source.old
+        → OfReads (R.to_come source.old) (R.to_come source.new) (ResultsShowNoFault first) }
 
     // A failed write or flush is seen in the code, and so is a failed read.
     ensures unwritten { W.failed_calls sink.new ≢ W.failed_calls sink.old

@@ -115,7 +115,8 @@ pub(crate) fn is_good_last(last: Last, policy: Policy) -> bool
 
 /// How the attempt leaves its case.
 pub(crate) fn outcome(attempt: &Attempt, will_be_retried: bool) -> Last
-    ensures { (id : List ℕ) → result ≡ specs_outcome (attempt_row id attempt.now) will_be_retried }
+    ensures { (id : List ℕ)
+        → result ≡ specs_outcome (attempt_row id attempt.now) will_be_retried }
 {
     let status = attempt.worst.unwrap_or(Status::Passed);
     if will_be_retried {

@@ -34,7 +34,7 @@ flat_snoc f (y ∷ xs) x = ap (λ ys. f y ++ ys) (flat_snoc f xs x) ∙ sym (app
 abbrev pub bytes_of : List Line → List (List ℕ)
 bytes_of lines = map (λ (l : Line). l.bytes) lines
 
-one_more : (lines : List Line) (l : Line) (more : List (List ℕ)) → bytes_of (lines ++ l ∷ []) ++ more ≡ bytes_of lines ++ l.bytes ∷ more
+pub one_more : (lines : List Line) (l : Line) (more : List (List ℕ)) → bytes_of (lines ++ l ∷ []) ++ more ≡ bytes_of lines ++ l.bytes ∷ more
 one_more lines l more = ap (λ ls. ls ++ more) (map-append (λ (x : Line). x.bytes) lines (l ∷ [])) ∙ append_assoc (bytes_of lines) (l.bytes ∷ []) more
 
 as_long : (l : Line) → length (written l) ≡ size l
@@ -44,10 +44,10 @@ as_long l = go l.has_end
     go true = length-both l.bytes (line_feed ∷ [])
     go false = ap length (append-nil l.bytes) ∙ omega arith
 
-nothing_read : (bytes : List ℕ) → HasRead bytes bytes (new_feed 67108864 1073741824) 0
+pub nothing_read : (bytes : List ℕ) → HasRead bytes bytes (new_feed 67108864 1073741824) 0
 nothing_read bytes = record { lines = []; count = refl; cut = refl; fed = refl; long = refl }
 
-next_read : {before ys zs : List ℕ} {old new : Stored} {n : ℕ} {line : List ℕ} (r : HasRead before ys old n) → IsNextLine old new ys zs line → GivesLine old new line → HasRead before zs new (n + 1)
+pub next_read : {before ys zs : List ℕ} {old new : Stored} {n : ℕ} {line : List ℕ} (r : HasRead before ys old n) → IsNextLine old new ys zs line → GivesLine old new line → HasRead before zs new (n + 1)
 next_read {before} {ys} {zs} {old} {new} {n} {line} r i g =
     let l = given_line new line in
     record {
@@ -119,7 +119,7 @@ at_trouble {n = n} {s = s} settings r h t e = judged_left settings r h ∙ ap (�
 
 -- ---- how far it reads
 
-first_lines : {before ys : List ℕ} {feed : Stored} {n : ℕ} (r : HasRead before ys feed n) (ahead rest : List ℕ) → not_given feed ys ≡ ahead ++ rest → Begins before r.lines ahead rest
+pub first_lines : {before ys : List ℕ} {feed : Stored} {n : ℕ} (r : HasRead before ys feed n) (ahead rest : List ℕ) → not_given feed ys ≡ ahead ++ rest → Begins before r.lines ahead rest
 first_lines {before} {ys} {feed} r ahead rest e = record {
   read = flat_map written r.lines ++ ahead;
   cut = r.cut ∙ ap (λ b. flat_map written r.lines ++ b) e ∙ sym (append_assoc (flat_map written r.lines) ahead rest);

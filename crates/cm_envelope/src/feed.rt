@@ -136,7 +136,8 @@ impl Feed {
             (S.failed_calls source.old) (S.failed_calls source.new) }
 
         // At the end nothing is left to come.
-        ensures end { EndsWithSource self.old (S.to_come source.old) → answer_of result ≡ Ok None
+        ensures end { EndsWithSource self.old (S.to_come source.old)
+            → answer_of result ≡ Ok None
             → IsAtEnd (S.to_come source.new) }
 
         // What the feed is like once the line is let go.

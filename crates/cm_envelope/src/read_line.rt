@@ -41,7 +41,8 @@ fn members_of(alloc: Global, kind: Kind, object: &Value) -> Result<Envelope, Mem
 
 /// The judged kind that a member is of. A null member is of none.
 fn judged_kind(name: &str, value: &Value) -> Option<Kind>
-    ensures { result ≡ option_and_then (λ v. kind_named name.now) (unless_null (view value.now)) }
+    ensures { result ≡ option_and_then (λ v. kind_named name.now)
+        (unless_null (view value.now)) }
 {
     if value.is_null() {
         return None;

@@ -91,7 +91,8 @@ impl Reading {
         ensures found { IfOk result
             (λ found. option_map (λ f. (f.0, f.1.now)) found
             ≡ (closed columns.now row.now done self.old).0) }
-        ensures left { IfOk result (λ _. self.new ≡ (closed columns.now row.now done self.old).1) }
+        ensures left { IfOk result
+            (λ _. self.new ≡ (closed columns.now row.now done self.old).1) }
         ensures within { IfOk result (λ found. IfSome found (λ f. f.0 < length row.now)) }
     {
         if let Some(open) = self.opens.pop() {

@@ -231,7 +231,8 @@ fn step_value(alloc: Global, step: &PickleStep, id: u64) -> Result<Value, AllocE
 /// Steps with the ids from the first one on.
 fn steps_value(alloc: Global, steps: &[PickleStep], first_id: u64) -> Result<Value, AllocError>
     requires { first_id + length steps.now < 2 ^ 64 }
-    ensures { IfOk result (λ v. view v ≡ array (items_of (pickle_steps_data first_id steps.now))) }
+    ensures { IfOk result
+        (λ v. view v ≡ array (items_of (pickle_steps_data first_id steps.now))) }
 {
     let mut values = Vec::new(alloc);
     let mut id = first_id;

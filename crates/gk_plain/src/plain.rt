@@ -204,8 +204,8 @@ fn is_feature_file(lines: &[Kind]) -> bool
 
 /// Whether the lines, and then this one, are a text of the grammar.
 fn completes(alloc: Global, lines: &[Kind], last: Kind) -> Result<bool, AllocError>
-    ensures { IfOk result (λ answer. (ls : List Line) → map kind_of ls ≡ lines.now ++ last ∷ []
-        → IsTrue answer ↔ IsText ls) }
+    ensures { IfOk result (λ answer. (ls : List Line)
+        → map kind_of ls ≡ lines.now ++ last ∷ [] → IsTrue answer ↔ IsText ls) }
 {
     let mut all = lines.to_vec(alloc)?;
     all.push(last)?;
@@ -235,10 +235,10 @@ fn is_front(alloc: Global, lines: &[Kind]) -> Result<bool, AllocError>
 /// The number of the first line up to which the lines are no front of a text, or of the line after the last one where they
 /// are a front and no text, or none where they are a text.
 pub(crate) fn first_bad(alloc: Global, lines: &[Kind]) -> Result<Option<usize>, AllocError>
-    ensures none { IfOk result (λ n. n ≡ None → (ls : List Line) → map kind_of ls ≡ lines.now
-        → IsText ls) }
-    ensures some { IfOk result (λ n. IfSome n (λ n. (ls : List Line) → map kind_of ls ≡ lines.now
-        → IsFirstBad ls n ⊎ IsOpenAtEnd ls n)) }
+    ensures none { IfOk result (λ n. n ≡ None → (ls : List Line)
+        → map kind_of ls ≡ lines.now → IsText ls) }
+    ensures some { IfOk result (λ n. IfSome n (λ n. (ls : List Line)
+        → map kind_of ls ≡ lines.now → IsFirstBad ls n ⊎ IsOpenAtEnd ls n)) }
 {
     for before in 0..lines.len() {
         let (front, _) = lines.split_at(before + 1);
@@ -258,7 +258,8 @@ pub(crate) fn first_bad(alloc: Global, lines: &[Kind]) -> Result<Option<usize>, 
 /// There is no memory for the kinds of the lines.
 pub fn has_document(alloc: Global, text: &str) -> Result<bool, AllocError>
     requires short { length text.now ≤ max_bytes }
-    ensures { IfOk result (λ answer. IsTrue answer ↔ ((d : Document) × IsDocumentOf text.now d)) }
+    ensures { IfOk result
+        (λ answer. IsTrue answer ↔ ((d : Document) × IsDocumentOf text.now d)) }
 {
     let kinds = kinds(alloc, text)?;
     Ok(is_feature_file(&kinds))
