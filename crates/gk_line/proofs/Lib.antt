@@ -7,6 +7,7 @@ pub mod KindLemmas
 pub mod LineLemmas
 pub mod PlaceLemmas
 pub mod RowLemmas
+pub mod SpaceLemmas
 pub mod TagLemmas
 pub mod TextLemmas
 pub mod TitleLemmas
