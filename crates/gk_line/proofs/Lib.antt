@@ -1,6 +1,7 @@
 pub mod ColumnLemmas
 pub mod CommentLemmas
 pub mod CutLemmas
+pub mod EndLemmas
 pub mod FenceLemmas
 pub mod KeywordLemmas
 pub mod KindLemmas

@@ -1,6 +1,6 @@
 -- The white space at a text's start, by its bytes.
-use Rattle.std.proofs.Common.{◌≡◌, ℕ, suc, ◌+◌, ◌-◌, ◌<◌, Bool, true, false, cond, List, [], ◌∷◌, ◌++◌, length, drop, sym, refl, ap, ◌∙◌, subst, arith, length-drop}
-use Rattle.std.specs.Prelude.{◌&&◌, ◌==◌, not, slice_index, is_some, if◌then◌else◌, Some, None}
+use Rattle.std.proofs.Common.{◌≡◌, ℕ, zero, suc, ◌+◌, ◌-◌, ◌<◌, ◌≤◌, Bool, true, false, cond, List, [], ◌∷◌, ◌++◌, length, drop, sym, refl, ap, ◌∙◌, subst, arith, length-drop}
+use Rattle.std.specs.Prelude.{◌&&◌, ◌==◌, nat_lt, not, slice_index, is_some, if◌then◌else◌, Some, None}
 use Rattle.std.specs.Char.{is_ascii, is_whitespace}
 use Rattle.std.specs.List.{prefix_len, list_all}
 use Rattle.std.specs.Str.{chars, IsUtf8, IsCharBoundary, skip_leading_whitespace, encode_utf8_all}
@@ -9,7 +9,8 @@ use Rattle.std.proofs.lemmas.List.Sums.{prefix_len-le-length}
 use Rattle.std.proofs.lemmas.Bool.{eqb-true, eq-eqb, ne_eqb, false≢true}
 use Rattle.std.proofs.lemmas.Str.{chars-nil, encode_ascii, encodes-chars, byte_from_char, char_from_byte, IsUtf8-past_char, IsCharBoundary-from_drop}
 use Rattle.gk_line.specs.Texts.{is_ascii_space, body_of, after}
-use Rattle.gk_line.specs.Tokens.{is_blank_line}
+use Rattle.gk_line.specs.Tokens.{is_blank_line, indent_of}
+use Rattle.gk_line.specs.DocStrings.{outdented}
 use Rattle.gk_line.proofs.TextLemmas.{and_true}
 use Rattle.gk_line.proofs.TagLemmas.{test_cases}
 
@@ -129,3 +130,25 @@ blank-body (c ∷ cs) = test_cases (is_whitespace c)
 pub blank-line : (line : List ℕ) → is_blank_line line ≡ (length (body_of line) == 0)
 unfolding is_blank_line body_of
 blank-line line = blank-body line
+
+-- the first n bytes, where they are ASCII white space, are the first n characters
+pub spaces-dropped : (n : ℕ) (bs : List ℕ) → n ≤ prefix_len is_ascii_space bs → IsUtf8 bs → (chars (drop n bs) ≡ drop n (chars bs)) × (n ≤ prefix_len is_whitespace (chars bs)) × IsUtf8 (drop n bs)
+spaces-dropped zero bs l u = (refl, omega arith, u)
+spaces-dropped (suc n) [] l u = absurd (omega arith)
+spaces-dropped (suc n) (b ∷ bs) l u =
+    test_cases (is_ascii_space b)
+    (λ e. let both = and_true (is_ascii b) (is_whitespace b) e in
+    let more = prefix-space b bs e in
+    let below = spaces-dropped n bs (omega (arith, l, more.0)) (IsUtf8-past_ascii b bs both.0 u) in
+    (below.0 ∙ ap (λ q. drop (suc n) q) (sym (chars-ascii b bs both.0)), omega (arith, below.1, more.1), below.2))
+    (λ e. absurd (omega (arith, l, ap (λ t. cond t (1 + prefix_len is_ascii_space bs) 0) e)))
+
+pub outdented-spaces : (n : ℕ) (bs : List ℕ) → n ≤ prefix_len is_ascii_space bs → IsUtf8 bs → chars (drop n bs) ≡ outdented n (chars bs)
+unfolding outdented indent_of
+outdented-spaces n bs l u =
+    let all = spaces-dropped n bs l u in
+    let none : nat_lt (prefix_len is_whitespace (chars bs)) n ≡ false = grind (arith, common_steps, all.1) in
+    rw none all.0
+
+pub spaces-boundary : (n : ℕ) (bs : List ℕ) → n ≤ prefix_len is_ascii_space bs → IsUtf8 bs → IsCharBoundary bs n
+spaces-boundary n bs l u = IsCharBoundary-from_drop bs n (omega (arith, l, prefix_len-le-length is_ascii_space bs)) (spaces-dropped n bs l u).2

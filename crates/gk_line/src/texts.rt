@@ -1,14 +1,15 @@
 //! The text functions that the readings of a line use, by characters.
-ghost use Rattle.std.specs.Prelude.{◌≡◌, ◌≤◌, ◌+◌, [], ◌<◌, ◌==◌, ◌∷◌, ◌++◌, IsTrue, IfSome, MatchOption, length, drop, slice_index, is_some, ◌^◌};
+ghost use Rattle.std.specs.Prelude.{◌≡◌, ◌≤◌, ◌+◌, ◌-◌, false, [], ◌<◌, ◌==◌, ◌∷◌, ◌++◌, IsTrue, IfSome, MatchOption, length, drop, slice_index, is_some, ◌^◌};
 ghost use Rattle.std.specs.Char.{is_ascii, is_whitespace};
 ghost use Rattle.std.specs.List.{list_all, prefix_len};
 ghost use Rattle.std.specs.Option.{option_map};
-ghost use Rattle.std.specs.Str.{chars, NonePass, IsUtf8};
+ghost use Rattle.std.specs.Str.{chars, drop_trailing_whitespace, NonePass, IsUtf8};
 ghost use Rattle.gk_line.specs.Texts.{body_of, trimmed, after, is_ascii_space, TakesFirst, IsCutAt};
 
 use memchr::memchr;
 
 /// The text without the white space at its start.
+#[inline]
 pub(crate) fn trim_start(text: &str) -> &str
     ensures value { chars result.now ≡ body_of (chars text.now) }
     ensures bound { length result.now ≤ length text.now }
@@ -21,6 +22,7 @@ pub(crate) fn trim_start(text: &str) -> &str
 }
 
 /// The text without the ASCII white space at its start.
+#[inline]
 fn past_ascii_spaces(text: &str) -> &str
     ensures value { result.now ≡ drop (prefix_len is_ascii_space text.now) text.now }
     ensures bound { length result.now ≤ length text.now }
@@ -31,7 +33,7 @@ fn past_ascii_spaces(text: &str) -> &str
 /// How many ASCII white space characters the text begins with.
 // Not inlined, so that its calls on one line become one.
 #[inline(never)]
-fn ascii_spaces(text: &str) -> usize
+pub(crate) fn ascii_spaces(text: &str) -> usize
     ensures value { result ≡ prefix_len is_ascii_space text.now }
     ensures bound { result ≤ length text.now }
 {
@@ -56,7 +58,31 @@ fn begins_in_ascii(text: &str) -> bool
 pub(crate) fn trim(text: &str) -> &str
     ensures { chars result.now ≡ trimmed (chars text.now) }
 {
-    text.trim()
+    let body = before_ascii_spaces(trim_start(text));
+    if ends_in_ascii(body) {
+        return body;
+    }
+    body.trim_end()
+}
+
+/// The text without the ASCII white space at its end.
+fn before_ascii_spaces(text: &str) -> &str
+    ensures value { drop_trailing_whitespace (chars result.now)
+        ≡ drop_trailing_whitespace (chars text.now) }
+    ensures last { is_ascii_space (slice_index result.now (length result.now - 1)) ≡ false }
+{
+    let mut end = text.len();
+    while end > 0 && is_ascii_space(text.as_bytes()[end - 1]) {
+        end -= 1;
+    }
+    &text[..end]
+}
+
+/// Whether the text is empty or ends in an ASCII character.
+fn ends_in_ascii(text: &str) -> bool
+    ensures { result ≡ is_ascii (slice_index text.now (length text.now - 1)) }
+{
+    text.is_empty() || text.as_bytes()[text.len() - 1] < 128
 }
 
 /// What follows an ASCII front, where the text begins with it.
@@ -110,6 +136,7 @@ pub(crate) fn after_first(text: &str) -> Option<&str>
 }
 
 /// How many white space characters the text begins with.
+#[inline]
 pub(crate) fn leading_space(text: &str) -> u32
     requires { length text.now < 2 ^ 32 }
     ensures value { result ≡ prefix_len is_whitespace (chars text.now) }
