@@ -6,7 +6,7 @@ use Rattle.std.specs.List.{list_all, list_any, AllByRecursion}
 use Rattle.std.specs.Option.{option_map}
 use Rattle.std.specs.Str.{chars, bytes_eq, NonePass, IsUtf8}
 use Rattle.gk_line.specs.Texts.{body_of, trimmed, first_some, or_else, IsCutAt}
-use Rattle.gk_line.specs.Tokens.{TitleText, StepText, title_of, block_title_of, blocks, step_of, keywords, step_words, indent_of}
+use Rattle.gk_line.specs.Tokens.{TitleText, StepText, fence_of, title_of, block_title_of, blocks, step_of, keywords, step_words, indent_of}
 use Rattle.gk_line.specs.declared.tokens.Block.{Block}
 use Rattle.gk_line.specs.declared.tokens.Block.TheVariants.{Feature, Rule, Background, Scenario, Examples}
 use Rattle.gk_document.specs.declared.tree.KeywordType.{KeywordType}
@@ -20,11 +20,11 @@ use Rattle.std.specs.Str.{IsCharBoundary}
 use Rattle.std.proofs.lemmas.Grind.{common_steps}
 use Rattle.std.proofs.lemmas.Str.{chars-IsAscii, IsAscii-append, IsCharBoundary-after_ascii}
 use Rattle.gk_line.proofs.TextLemmas.{find-chars, list_any-chars, and_true, ascii_bytes}
-use Rattle.gk_line.proofs.KeywordLemmas.{lacks, begins_in, keyed_letter, keyed_none, keyed_cut, find_same}
+use Rattle.gk_line.proofs.KeywordLemmas.{lacks, after_letter, begins_in, keyed_letter, keyed_none, keyed_cut, find_same}
 use Rattle.gk_line.proofs.PlaceLemmas.{first_some-found, option_map-found}
 use Rattle.gk_line.specs.Kinds.Kind.{TitleLine}
 use Rattle.gk_line.proofs.KindLemmas.{kinds_exclude}
-use Rattle.gk_line.specs.Characters.{colon, plain_space}
+use Rattle.gk_line.specs.Characters.{colon, plain_space, quotation_mark, backtick}
 
 keywords_plain : (block : Block) → list_all (λ k. lacks colon k) (keywords block) ≡ true
 keywords_plain Feature = refl
@@ -197,3 +197,10 @@ block_title-other line found block e other = by_option (title_of block line) ref
   by_option : (o : Option TitleText) → title_of block line ≡ o → o ≡ None
   by_option None is = refl
   by_option (Some t) is = absurd (other (same_block (kinds_exclude line (TitleLine found.0) (TitleLine block) (ap is_some (block_title-is line found e)) (ap is_some is))))
+
+-- a line whose body begins with no character of a fence
+pub fence-letter : (line body : List ℕ) → IsUtf8 body → chars body ≡ body_of line → list_any (nat_eq (slice_index body 0)) (quotation_mark ∷ backtick ∷ []) ≡ false → fence_of line ≡ None
+unfolding fence_of first_some
+fence-letter line body u is h =
+    let marks : List ℕ = quotation_mark ∷ backtick ∷ [] in
+    rw (sym is, after_letter marks (quotation_mark ∷ []) (quotation_mark ∷ quotation_mark ∷ []) body u h refl, after_letter marks (backtick ∷ []) (backtick ∷ backtick ∷ []) body u h refl) refl

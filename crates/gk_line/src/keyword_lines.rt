@@ -166,6 +166,9 @@ pub fn fence<'a>(line: Line<'a>) -> Option<FenceLine<'a>>
     ensures utf8 { IfSome result (λ fence. IsUtf8 fence.media.now) }
 {
     let body = trim_start(line.text);
+    if !begins_fence(first_byte(body)) {
+        return None;
+    }
     if let Some(rest) = strip(body, "\"\"\"") {
         return Some(FenceLine {
             fence: Fence::Quotes,
@@ -179,6 +182,13 @@ pub fn fence<'a>(line: Line<'a>) -> Option<FenceLine<'a>>
         media: trim(rest),
         column: column(line),
     })
+}
+
+/// Whether a fence begins with this byte.
+fn begins_fence(byte: u8) -> bool
+    ensures { result ≡ list_any (nat_eq byte) (codes "\"`") }
+{
+    byte == b'"' || byte == b'`'
 }
 
 /// The word of the language line that the line reads as: `#`, `language`, `:` and one or more ASCII letters, `-` or

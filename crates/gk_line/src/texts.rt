@@ -9,7 +9,7 @@ ghost use Rattle.gk_line.specs.Texts.{body_of, trimmed, after, is_ascii_space, T
 use memchr::memchr;
 
 /// The text without the white space at its start.
-#[inline]
+#[inline(always)]
 pub(crate) fn trim_start(text: &str) -> &str
     ensures value { chars result.now ≡ body_of (chars text.now) }
     ensures bound { length result.now ≤ length text.now }
@@ -18,11 +18,21 @@ pub(crate) fn trim_start(text: &str) -> &str
     if begins_in_ascii(rest) {
         return rest;
     }
-    rest.trim_start()
+    trim_start_by_characters(rest)
+}
+
+/// The same, one character after another.
+#[cold]
+#[inline(never)]
+fn trim_start_by_characters(text: &str) -> &str
+    ensures value { chars result.now ≡ body_of (chars text.now) }
+    ensures bound { length result.now ≤ length text.now }
+{
+    text.trim_start()
 }
 
 /// The text without the ASCII white space at its start.
-#[inline]
+#[inline(always)]
 fn past_ascii_spaces(text: &str) -> &str
     ensures value { result.now ≡ drop (prefix_len is_ascii_space text.now) text.now }
     ensures bound { length result.now ≤ length text.now }
@@ -31,7 +41,8 @@ fn past_ascii_spaces(text: &str) -> &str
 }
 
 /// How many ASCII white space characters the text begins with.
-// Not inlined, so that its calls on one line become one.
+///
+/// Not inlined, so that its calls on one line become one.
 #[inline(never)]
 pub(crate) fn ascii_spaces(text: &str) -> usize
     ensures value { result ≡ prefix_len is_ascii_space text.now }
@@ -62,7 +73,16 @@ pub(crate) fn trim(text: &str) -> &str
     if ends_in_ascii(body) {
         return body;
     }
-    body.trim_end()
+    trim_end_by_characters(body)
+}
+
+/// The text without the white space at its end, one character after another.
+#[cold]
+#[inline(never)]
+fn trim_end_by_characters(text: &str) -> &str
+    ensures { chars result.now ≡ drop_trailing_whitespace (chars text.now) }
+{
+    text.trim_end()
 }
 
 /// The text without the ASCII white space at its end.
@@ -136,7 +156,7 @@ pub(crate) fn after_first(text: &str) -> Option<&str>
 }
 
 /// How many white space characters the text begins with.
-#[inline]
+#[inline(always)]
 pub(crate) fn leading_space(text: &str) -> u32
     requires { length text.now < 2 ^ 32 }
     ensures value { result ≡ prefix_len is_whitespace (chars text.now) }
@@ -151,6 +171,8 @@ pub(crate) fn leading_space(text: &str) -> u32
 }
 
 /// The same, one character after another.
+#[cold]
+#[inline(never)]
 fn leading_characters(text: &str) -> u32
     requires { length text.now < 2 ^ 32 }
     ensures value { result ≡ prefix_len is_whitespace (chars text.now) }
