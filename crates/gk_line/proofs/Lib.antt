@@ -1,12 +1,14 @@
 pub mod ColumnLemmas
 pub mod CommentLemmas
 pub mod CutLemmas
+pub mod EndLemmas
 pub mod FenceLemmas
 pub mod KeywordLemmas
 pub mod KindLemmas
 pub mod LineLemmas
 pub mod PlaceLemmas
 pub mod RowLemmas
+pub mod SpaceLemmas
 pub mod TagLemmas
 pub mod TextLemmas
 pub mod TitleLemmas

@@ -101,7 +101,7 @@ some-same : {T : Type 0} {x y : T} → Some x ≡ Some y → x ≡ y
 some-same e = cc
 
 -- what the first element gives that gives anything
-first_some-found : {A B : Type 0} (P : B → Type 0) (f : A → Option B) (xs : List A) → ((x : A) (y : B) → f x ≡ Some y → P y) → (y : B) → first_some f xs ≡ Some y → P y
+pub first_some-found : {A B : Type 0} (P : B → Type 0) (f : A → Option B) (xs : List A) → ((x : A) (y : B) → f x ≡ Some y → P y) → (y : B) → first_some f xs ≡ Some y → P y
 unfolding first_some
 first_some-found P f [] h y e = absurd (none-some e)
 first_some-found {A} {B} P f (x ∷ xs) h y e = by_first (f x) refl e (first_some-found P f xs h y) where
@@ -109,7 +109,7 @@ first_some-found {A} {B} P f (x ∷ xs) h y e = by_first (f x) refl e (first_som
   by_first None is e later = later e
   by_first (Some z) is e later = h x y (is ∙ e)
 
-option_map-found : {A B : Type 0} (P : B → Type 0) (g : A → B) (o : Option A) → ((a : A) → o ≡ Some a → P (g a)) → (y : B) → option_map g o ≡ Some y → P y
+pub option_map-found : {A B : Type 0} (P : B → Type 0) (g : A → B) (o : Option A) → ((a : A) → o ≡ Some a → P (g a)) → (y : B) → option_map g o ≡ Some y → P y
 option_map-found P g None h y e = absurd (none-some e)
 option_map-found P g (Some a) h y e = subst P (some-same e) (h a refl)
 

@@ -1,12 +1,12 @@
 -- A title and a step, read by a cut at the character that ends the keyword.
 use Rattle.std.proofs.Common.{◌≡◌, ℕ, ◌+◌, Bool, true, false, cond, List, [], ◌∷◌, ◌++◌, Option, Some, None, sym, refl, ap, ◌∙◌, codes}
-use Rattle.std.specs.Prelude.{◌==◌, if◌then◌else◌, find}
+use Rattle.std.specs.Prelude.{◌==◌, nat_eq, if◌then◌else◌, find, is_some, slice_index}
 use Rattle.std.specs.Char.{is_ascii}
-use Rattle.std.specs.List.{list_all, list_any}
+use Rattle.std.specs.List.{list_all, list_any, AllByRecursion}
 use Rattle.std.specs.Option.{option_map}
 use Rattle.std.specs.Str.{chars, bytes_eq, NonePass, IsUtf8}
-use Rattle.gk_line.specs.Texts.{body_of, trimmed, IsCutAt}
-use Rattle.gk_line.specs.Tokens.{TitleText, StepText, title_of, step_of, keywords, step_words, indent_of}
+use Rattle.gk_line.specs.Texts.{body_of, trimmed, first_some, or_else, IsCutAt}
+use Rattle.gk_line.specs.Tokens.{TitleText, StepText, fence_of, title_of, block_title_of, blocks, step_of, keywords, step_words, indent_of}
 use Rattle.gk_line.specs.declared.tokens.Block.{Block}
 use Rattle.gk_line.specs.declared.tokens.Block.TheVariants.{Feature, Rule, Background, Scenario, Examples}
 use Rattle.gk_document.specs.declared.tree.KeywordType.{KeywordType}
@@ -20,8 +20,11 @@ use Rattle.std.specs.Str.{IsCharBoundary}
 use Rattle.std.proofs.lemmas.Grind.{common_steps}
 use Rattle.std.proofs.lemmas.Str.{chars-IsAscii, IsAscii-append, IsCharBoundary-after_ascii}
 use Rattle.gk_line.proofs.TextLemmas.{find-chars, list_any-chars, and_true, ascii_bytes}
-use Rattle.gk_line.proofs.KeywordLemmas.{lacks, keyed_none, keyed_cut, find_same}
-use Rattle.gk_line.specs.Characters.{colon, plain_space}
+use Rattle.gk_line.proofs.KeywordLemmas.{lacks, after_letter, begins_in, keyed_letter, keyed_none, keyed_cut, find_same}
+use Rattle.gk_line.proofs.PlaceLemmas.{first_some-found, option_map-found}
+use Rattle.gk_line.specs.Kinds.Kind.{TitleLine}
+use Rattle.gk_line.proofs.KindLemmas.{kinds_exclude}
+use Rattle.gk_line.specs.Characters.{colon, plain_space, quotation_mark, backtick}
 
 keywords_plain : (block : Block) → list_all (λ k. lacks colon k) (keywords block) ≡ true
 keywords_plain Feature = refl
@@ -50,12 +53,51 @@ title-cut block line w rest u cut =
     rw (cut.parts, list_any-chars (keywords block) w u (keywords_ascii block))
     (keyed_cut colon (λ k. k) (title_at line) (chars w) rest (keywords block) (keywords_plain block) cut.first ∙ find_same (λ k. title_at line k rest) (chars w) (keywords block))
 
+title_letters : (block : Block) → list_all (begins_in (codes "ABEFRS")) (keywords block) ≡ true
+title_letters Feature = refl
+title_letters Rule = refl
+title_letters Background = refl
+title_letters Scenario = refl
+title_letters Examples = refl
+
+-- a line whose body begins with no letter of a block's keyword
+pub title-letter : (block : Block) (line body : List ℕ) → IsUtf8 body → chars body ≡ body_of line → list_any (nat_eq (slice_index body 0)) (codes "ABEFRS") ≡ false → title_of block line ≡ None
+unfolding title_of
+title-letter block line body u is h =
+    rw (sym is) (keyed_letter colon (λ k. k) (title_at line) (codes "ABEFRS") body (keywords block) u h (title_letters block))
+
+-- the line is the title of no block
+pub block_title-none : (line : List ℕ) → ((block : Block) → title_of block line ≡ None) → block_title_of line ≡ None
+unfolding first_some
+block_title-none line h = rw (h Feature, h Rule, h Background, h Scenario, h Examples) refl
+
+abbrev titled : Block → TitleText → Block × TitleText
+titled block title = (block, title)
+
+-- a line with a colon is the title of the block that the word before it is a keyword of
+pub block_title-cut : (line w rest : List ℕ) → IsUtf8 w → IsCutAt colon (body_of line) (chars w) rest → block_title_of line ≡ option_map (λ block. titled block (title_at line (chars w) rest)) (find (λ block. list_any (bytes_eq w) (keywords block)) blocks)
+unfolding first_some
+block_title-cut line w rest u cut = of_blocks blocks where
+  by_test : (t : Bool) (b : Block) (o : Option (Block × TitleText)) (found : Option Block) → o ≡ option_map (λ block. titled block (title_at line (chars w) rest)) found → or_else (option_map (titled b) (if t then Some (title_at line (chars w) rest) else None)) o ≡ option_map (λ block. titled block (title_at line (chars w) rest)) (cond t (Some b) found)
+  by_test true b o found e = refl
+  by_test false b o found e = e
+
+  of_blocks : (bs : List Block) → first_some (λ block. option_map (titled block) (title_of block line)) bs ≡ option_map (λ block. titled block (title_at line (chars w) rest)) (find (λ block. list_any (bytes_eq w) (keywords block)) bs)
+  of_blocks [] = refl
+  of_blocks (b ∷ bs) = rw (title-cut b line w rest u cut) (by_test (list_any (bytes_eq w) (keywords b)) b _ _ (of_blocks bs))
+
 abbrev pub step_at : List ℕ → (List ℕ × KeywordType) → List ℕ → StepText
 step_at line entry rest = record { keyword = entry.0 ++ codes " "; kind = entry.1; text = trimmed rest; column = indent_of line + 1 }
 
 pub step-none : (line : List ℕ) → NonePass (λ d. d == plain_space) (body_of line) → step_of line ≡ None
 unfolding step_of
 step-none line h = keyed_none plain_space (λ entry. entry.0) (step_at line) (body_of line) step_words h
+
+-- a line whose body begins with no letter of a step's keyword
+pub step-letter : (line body : List ℕ) → IsUtf8 body → chars body ≡ body_of line → list_any (nat_eq (slice_index body 0)) (codes "*ABGTW") ≡ false → step_of line ≡ None
+unfolding step_of
+step-letter line body u is h =
+    rw (sym is) (keyed_letter plain_space (λ entry. entry.0) (step_at line) (codes "*ABGTW") body step_words u h refl)
 
 pub step-cut : (line w rest : List ℕ) → IsUtf8 w → IsCutAt plain_space (body_of line) (chars w) rest → step_of line ≡ option_map (λ entry. step_at line entry rest) (find (λ entry. bytes_eq w entry.0) step_words)
 unfolding step_of
@@ -116,3 +158,49 @@ cut_after_space body w text u parts =
     let inside : length w < length body = omega (arith, ap length parts, length-append w (plain_space ∷ text)) in
     let space : get_or body (length w) 0 ≡ plain_space = rw parts (grind (arith, common_steps)) in
     IsCharBoundary-after_ascii body (length w) u inside (omega (arith, space))
+
+-- the line is the title of that block
+pub block_title-is : (line : List ℕ) (found : Block × TitleText) → block_title_of line ≡ Some found → title_of found.0 line ≡ Some found.1
+block_title-is line found e =
+    first_some-found (λ (found : Block × TitleText). title_of found.0 line ≡ Some found.1) (λ b. option_map (titled b) (title_of b line)) blocks
+    (λ b y h. option_map-found (λ (found : Block × TitleText). title_of found.0 line ≡ Some found.1) (titled b) (title_of b line) (λ t is. is) y h)
+    found e
+
+first_some-none : {A B : Type 0} (f : A → Option B) (xs : List A) → first_some f xs ≡ None → AllByRecursion (λ x. f x ≡ None) xs
+unfolding first_some
+first_some-none f [] e = tt
+first_some-none {A} {B} f (x ∷ xs) e = by_first (f x) refl e (first_some-none f xs) where
+  by_first : (o : Option B) → f x ≡ o → or_else o (first_some f xs) ≡ None → (first_some f xs ≡ None → AllByRecursion (λ x. f x ≡ None) xs) → AllByRecursion (λ x. f x ≡ None) (x ∷ xs)
+  by_first None is h later = (is, later h)
+  by_first (Some y) is h later = absurd (cc)
+
+option_map-none : {A B : Type 0} (g : A → B) (o : Option A) → option_map g o ≡ None → o ≡ None
+option_map-none g None e = refl
+option_map-none g (Some a) e = absurd (cc)
+
+-- a line that is the title of no block is none of each
+pub block_title-misses : (line : List ℕ) → block_title_of line ≡ None → (block : Block) → title_of block line ≡ None
+block_title-misses line e block = option_map-none (titled block) (title_of block line) (at block (first_some-none (λ b. option_map (titled b) (title_of b line)) blocks e)) where
+  at : (b : Block) → AllByRecursion (λ b. option_map (titled b) (title_of b line) ≡ None) blocks → option_map (titled b) (title_of b line) ≡ None
+  at Feature h = h.0
+  at Rule h = h.1.0
+  at Background h = h.1.1.0
+  at Scenario h = h.1.1.1.0
+  at Examples h = h.1.1.1.1.0
+
+-- a line that is the title of one block is that of no other
+pub block_title-other : (line : List ℕ) (found : Block × TitleText) (block : Block) → block_title_of line ≡ Some found → (found.0 ≡ block → ⊥) → title_of block line ≡ None
+block_title-other line found block e other = by_option (title_of block line) refl where
+  same_block : TitleLine found.0 ≡ TitleLine block → found.0 ≡ block
+  same_block e = cc
+
+  by_option : (o : Option TitleText) → title_of block line ≡ o → o ≡ None
+  by_option None is = refl
+  by_option (Some t) is = absurd (other (same_block (kinds_exclude line (TitleLine found.0) (TitleLine block) (ap is_some (block_title-is line found e)) (ap is_some is))))
+
+-- a line whose body begins with no character of a fence
+pub fence-letter : (line body : List ℕ) → IsUtf8 body → chars body ≡ body_of line → list_any (nat_eq (slice_index body 0)) (quotation_mark ∷ backtick ∷ []) ≡ false → fence_of line ≡ None
+unfolding fence_of first_some
+fence-letter line body u is h =
+    let marks : List ℕ = quotation_mark ∷ backtick ∷ [] in
+    rw (sym is, after_letter marks (quotation_mark ∷ []) (quotation_mark ∷ quotation_mark ∷ []) body u h refl, after_letter marks (backtick ∷ []) (backtick ∷ backtick ∷ []) body u h refl) refl

@@ -222,6 +222,13 @@ meanings-append : (us vs : List CellUnit) → meanings (us ++ vs) ≡ meanings u
 meanings-append [] vs = refl
 meanings-append (u ∷ us) vs = ap (λ q. u.meaning ∷ q) (meanings-append us vs)
 
+-- without a backslash each character means itself
+pub plain_means : (cs : List ℕ) → NonePass (λ c. c == backslash) cs → meanings (units cs) ≡ cs
+plain_means cs h = ap (λ q. meanings (units q)) (sym (append-nil cs)) ∙ ap meanings (units-run (cs ++ []) ∙ run-plain cs [] h ∙ append-nil (map plain cs)) ∙ own cs where
+  own : (cs : List ℕ) → meanings (map plain cs) ≡ cs
+  own [] = refl
+  own (c ∷ cs) = ap (λ q. c ∷ q) (own cs)
+
 pub alone_means : (c : ℕ) → meanings (units (c ∷ [])) ≡ c ∷ []
 unfolding units
 alone_means c = refl

@@ -46,6 +46,14 @@ title_of block line =
     (after (keyword ++ codes ":") (body_of line)))
     (keywords block)
 
+abbrev pub blocks : List Block
+blocks = Feature ∷ Rule ∷ Background ∷ Scenario ∷ Examples ∷ []
+
+-- the first block that the line is the title of, and that title
+abbrev pub block_title_of : List ℕ → Option (Block × TitleText)
+block_title_of line =
+    first_some (λ block. option_map (λ title. (block, title)) (title_of block line)) blocks
+
 -- steps: after the indent a keyword, which ends in one space, and the text
 pub record StepText : Type 0 where
   pub keyword : List ℕ

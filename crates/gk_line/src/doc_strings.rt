@@ -9,7 +9,7 @@ ghost use Rattle.gk_line.specs.DocStrings.{doc_line_of, outdented, fences_unesca
 ghost use Rattle.gk_line.specs.Characters.{backslash};
 ghost use Rattle.gk_line.specs.Views.{line_chars};
 
-use crate::texts::{after_first, cut, leading_space, strip, trim_start};
+use crate::texts::{after_first, ascii_spaces, cut, leading_space, strip, trim_start};
 use crate::tokens::Line;
 use gk_document::Fence;
 use std::alloc::{AllocError, Global};
@@ -113,7 +113,9 @@ fn outdent(text: &str, indent: u32) -> &str
     requires { length text.now ≤ FEATURE_LIMIT }
     ensures { chars result.now ≡ outdented indent (chars text.now) }
 {
-    if leading_space(text) < indent {
+    if indent as usize <= ascii_spaces(text) {
+        &text[indent as usize..]
+    } else if leading_space(text) < indent {
         trim_start(text)
     } else {
         skip(text, indent)

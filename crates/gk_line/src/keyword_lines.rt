@@ -1,18 +1,47 @@
 //! The lines that begin with a keyword, a fence or a language mark: titles, steps, doc string fences and language lines.
-ghost use Rattle.std.specs.Prelude.{◌≡◌, ◌≤◌, ◌++◌, ℕ, length, find, codes, IfSome};
+ghost use Rattle.std.specs.Prelude.{◌≡◌, ◌≤◌, ◌++◌, ℕ, length, find, codes, nat_eq, IfSome};
 ghost use Rattle.std.specs.List.{list_any, list_all};
 ghost use Rattle.std.specs.Str.{chars, bytes_eq, IsUtf8};
 ghost use Rattle.std.specs.Option.{option_map};
 ghost use Rattle.gk_line.specs.declared.limit.TheConstants.{FEATURE_LIMIT};
 ghost use Rattle.gk_line.specs.DocStrings.{fence_characters};
 ghost use Rattle.gk_line.specs.Places.{IsAtColumn};
-ghost use Rattle.gk_line.specs.Tokens.{title_of, step_of, fence_of, language_of, keywords, step_words, is_language_word, is_word_character};
+ghost use Rattle.gk_line.specs.Tokens.{title_of, block_title_of, blocks, step_of, fence_of, language_of, keywords, step_words, is_language_word, is_word_character};
 ghost use Rattle.gk_line.specs.Views.{line_chars, title_text, step_text, fence_text};
 
 use crate::kinds::column;
-use crate::texts::{cut, strip, trim, trim_start};
+use crate::texts::{cut, first_byte, strip, trim, trim_start};
 use crate::tokens::{Block, FenceLine, Line, StepLine, Title};
 use gk_document::{Fence, KeywordType};
+
+/// The first block that the line is the title of, and that title: after its indent one of the block's keywords, at once a
+/// colon, and the name.
+///
+/// A line is the title of one block at most.
+///
+/// Source: Gherkin reference, "Keywords"; `gherkin.berp`, `FeatureLine` to `ExamplesLine`.
+pub fn block_title<'a>(line: Line<'a>) -> Option<(Block, Title<'a>)>
+    requires { length line.text.now ≤ FEATURE_LIMIT }
+    ensures value { option_map (λ (block, title). (block, title_text title)) result
+        ≡ block_title_of (line_chars line.entry) }
+    ensures place { IfSome result (λ (block, title). IsAtColumn (line_chars line.entry)
+        (chars title.keyword.now ++ codes ":") (chars title.name.now) title.column) }
+    ensures utf8 { IfSome result (λ (block, title). IsUtf8 title.keyword.now
+        × IsUtf8 title.name.now) }
+{
+    let body = trim_start(line.text);
+    if !begins_title(first_byte(body)) {
+        return None;
+    }
+    let (keyword, rest) = cut(body, b':')?;
+    let block = block_of(keyword)?;
+    let title = Title {
+        keyword,
+        name: trim(rest),
+        column: column(line),
+    };
+    Some((block, title))
+}
 
 /// The title of this block that the line reads as: after its indent one of the block's keywords, at once a colon, and
 /// the name.
@@ -25,15 +54,34 @@ pub fn title<'a>(line: Line<'a>, block: Block) -> Option<Title<'a>>
         (chars title.keyword.now ++ codes ":") (chars title.name.now) title.column) }
     ensures utf8 { IfSome result (λ title. IsUtf8 title.keyword.now × IsUtf8 title.name.now) }
 {
-    let (keyword, rest) = cut(trim_start(line.text), b':')?;
-    if !is_keyword(block, keyword) {
-        return None;
+    let (found, title) = block_title(line)?;
+    if found == block { Some(title) } else { None }
+}
+
+/// Whether a keyword of a block begins with this byte.
+fn begins_title(byte: u8) -> bool
+    ensures { result ≡ list_any (nat_eq byte) (codes "ABEFRS") }
+{
+    matches!(byte, b'A' | b'B' | b'E' | b'F' | b'R' | b'S')
+}
+
+/// The block that the word is a keyword of.
+fn block_of(word: &str) -> Option<Block>
+    ensures { result ≡ find (λ block. list_any (bytes_eq word.now) (keywords block)) blocks }
+{
+    if is_keyword(Block::Feature, word) {
+        Some(Block::Feature)
+    } else if is_keyword(Block::Rule, word) {
+        Some(Block::Rule)
+    } else if is_keyword(Block::Background, word) {
+        Some(Block::Background)
+    } else if is_keyword(Block::Scenario, word) {
+        Some(Block::Scenario)
+    } else if is_keyword(Block::Examples, word) {
+        Some(Block::Examples)
+    } else {
+        None
     }
-    Some(Title {
-        keyword,
-        name: trim(rest),
-        column: column(line),
-    })
 }
 
 /// Whether the word is one of the keywords of the block.
@@ -66,6 +114,9 @@ pub fn step<'a>(line: Line<'a>) -> Option<StepLine<'a>>
     ensures utf8 { IfSome result (λ step. IsUtf8 step.keyword.now × IsUtf8 step.text.now) }
 {
     let body = trim_start(line.text);
+    if !begins_step(first_byte(body)) {
+        return None;
+    }
     let (word, text) = cut(body, b' ')?;
     let kind = keyword_type(word)?;
     Some(StepLine {
@@ -74,6 +125,13 @@ pub fn step<'a>(line: Line<'a>) -> Option<StepLine<'a>>
         text: trim(text),
         column: column(line),
     })
+}
+
+/// Whether a keyword of a step begins with this byte.
+fn begins_step(byte: u8) -> bool
+    ensures { result ≡ list_any (nat_eq byte) (codes "*ABGTW") }
+{
+    matches!(byte, b'*' | b'A' | b'B' | b'G' | b'T' | b'W')
 }
 
 /// The type of the step keyword that is this word and a space.
@@ -108,6 +166,9 @@ pub fn fence<'a>(line: Line<'a>) -> Option<FenceLine<'a>>
     ensures utf8 { IfSome result (λ fence. IsUtf8 fence.media.now) }
 {
     let body = trim_start(line.text);
+    if !begins_fence(first_byte(body)) {
+        return None;
+    }
     if let Some(rest) = strip(body, "\"\"\"") {
         return Some(FenceLine {
             fence: Fence::Quotes,
@@ -121,6 +182,13 @@ pub fn fence<'a>(line: Line<'a>) -> Option<FenceLine<'a>>
         media: trim(rest),
         column: column(line),
     })
+}
+
+/// Whether a fence begins with this byte.
+fn begins_fence(byte: u8) -> bool
+    ensures { result ≡ list_any (nat_eq byte) (codes "\"`") }
+{
+    byte == b'"' || byte == b'`'
 }
 
 /// The word of the language line that the line reads as: `#`, `language`, `:` and one or more ASCII letters, `-` or

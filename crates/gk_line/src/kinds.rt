@@ -1,12 +1,12 @@
 //! The indent of a line, and the kinds that its first characters decide.
-ghost use Rattle.std.specs.Prelude.{◌≡◌, ◌≤◌, ◌+◌, length, codes, IsTrue};
-ghost use Rattle.std.specs.Char.{is_ascii};
-ghost use Rattle.std.specs.List.{list_all};
+ghost use Rattle.std.specs.Prelude.{◌≡◌, ◌≤◌, ◌<◌, ◌+◌, ◌∷◌, [], length, codes};
+ghost use Rattle.std.specs.List.{slice_get};
 ghost use Rattle.gk_line.specs.declared.limit.TheConstants.{FEATURE_LIMIT};
+ghost use Rattle.gk_line.specs.Texts.{body_of};
 ghost use Rattle.gk_line.specs.Tokens.{indent_of, is_blank_line, begins_by};
 ghost use Rattle.gk_line.specs.Views.{line_chars};
 
-use crate::texts::{strip, trim_start};
+use crate::texts::{begins_with, leading_space, trim_start};
 use crate::tokens::Line;
 
 /// How many white space characters the line begins with.
@@ -18,7 +18,7 @@ pub fn indent(line: Line<'_>) -> u32
     ensures value { result ≡ indent_of (line_chars line.entry) }
     ensures bound { result ≤ FEATURE_LIMIT }
 {
-    line.text.chars().take_while(|c| c.is_whitespace()).count() as u32
+    leading_space(line.text)
 }
 
 /// The column of the first character after the indent.
@@ -30,12 +30,19 @@ pub(crate) fn column(line: Line<'_>) -> u32
     indent(line) + 1
 }
 
+/// The first character after the indent, which a blank line doesn't have.
+pub fn first_character(line: Line<'_>) -> Option<char>
+    ensures { result ≡ slice_get (body_of (line_chars line.entry)) 0 }
+{
+    trim_start(line.text).chars().next()
+}
+
 /// Whether the line is white space alone.
 #[tactic(auto, unfolding(crate::specs::Tokens::is_blank_line))]
 pub fn is_blank(line: Line<'_>) -> bool
     ensures value { result ≡ is_blank_line (line_chars line.entry) }
 {
-    line.text.chars().all(|c| c.is_whitespace())
+    trim_start(line.text).is_empty()
 }
 
 /// Whether the line is a comment: after its indent it begins with `#`. Its text is the whole line, from column 1.
@@ -44,7 +51,7 @@ pub fn is_blank(line: Line<'_>) -> bool
 pub fn is_comment(line: Line<'_>) -> bool
     ensures value { result ≡ begins_by (codes "#") (line_chars line.entry) }
 {
-    begins(line, "#")
+    begins(line, b'#')
 }
 
 /// Whether the line is a tag line: after its indent it begins with `@`.
@@ -53,7 +60,7 @@ pub fn is_comment(line: Line<'_>) -> bool
 pub fn is_tags(line: Line<'_>) -> bool
     ensures value { result ≡ begins_by (codes "@") (line_chars line.entry) }
 {
-    begins(line, "@")
+    begins(line, b'@')
 }
 
 /// Whether the line is a row of a table: after its indent it begins with `|`.
@@ -62,14 +69,14 @@ pub fn is_tags(line: Line<'_>) -> bool
 pub fn is_row(line: Line<'_>) -> bool
     ensures value { result ≡ begins_by (codes "|") (line_chars line.entry) }
 {
-    begins(line, "|")
+    begins(line, b'|')
 }
 
-/// Whether this ASCII text comes first after the indent.
+/// Whether this ASCII character comes first after the indent.
 #[tactic(auto, unfolding(crate::specs::Tokens::begins_by))]
-fn begins(line: Line<'_>, first: &str) -> bool
-    requires { IsTrue (list_all is_ascii first.now) }
-    ensures { result ≡ begins_by first.now (line_chars line.entry) }
+fn begins(line: Line<'_>, first: u8) -> bool
+    requires { first < 128 }
+    ensures { result ≡ begins_by (first ∷ []) (line_chars line.entry) }
 {
-    strip(trim_start(line.text), first).is_some()
+    begins_with(trim_start(line.text), first)
 }

@@ -10,7 +10,7 @@ ghost use Rattle.gk_line.specs.Tokens.{begins_by};
 ghost use Rattle.gk_line.specs.Views.{line_chars, cell_text};
 
 use crate::kinds::column;
-use crate::texts::{after_first, count, leading_space, strip, trim, trim_start};
+use crate::texts::{after_first, count, cut, leading_space, strip, trim, trim_start};
 use crate::tokens::Line;
 use gk_document::{Cell, Text};
 use memchr::memchr2;
@@ -59,12 +59,23 @@ fn cell(alloc: Global, part: &str, column: u32) -> Result<Cell, AllocError>
     })
 }
 
-/// The text that a cell's units mean.
+/// The text that a cell's units mean: its own characters, where it has no backslash.
 fn unescape(alloc: Global, text: &str) -> Result<String, AllocError>
     ensures { IfOk result (λ value. chars (string_bytes value)
         ≡ meanings (units (chars text.now))) }
 {
-    let mut value = String::new(alloc);
+    match cut(text, b'\\') {
+        Some(_) => unescape_units(alloc, text),
+        None => Ok(String::from_str(alloc, text)?),
+    }
+}
+
+/// The text that a cell's units mean, one character after another.
+fn unescape_units(alloc: Global, text: &str) -> Result<String, AllocError>
+    ensures { IfOk result (λ value. chars (string_bytes value)
+        ≡ meanings (units (chars text.now))) }
+{
+    let mut value = String::with_capacity(alloc, text.len())?;
     let mut escaped = false;
     for c in text.chars() {
         if !escaped && c == '\\' {

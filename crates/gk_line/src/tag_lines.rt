@@ -91,6 +91,17 @@ fn without_comment(text: &str) -> &str
     ensures value { chars result.now ≡ uncommented (chars text.now) }
     ensures bound { length result.now ≤ length text.now }
 {
+    match cut(text, b'#') {
+        Some(_) => before_comment(text),
+        None => text,
+    }
+}
+
+/// The same, one character after another.
+fn before_comment(text: &str) -> &str
+    ensures value { chars result.now ≡ uncommented (chars text.now) }
+    ensures bound { length result.now ≤ length text.now }
+{
     let mut rest = text;
     while let Some(next) = after_first(rest) {
         if begins_comment(rest, next) {

@@ -1,26 +1,108 @@
 //! The text functions that the readings of a line use, by characters.
-ghost use Rattle.std.specs.Prelude.{◌≡◌, ◌≤◌, ◌+◌, [], ◌<◌, ◌==◌, ◌∷◌, ◌++◌, IsTrue, IfSome, MatchOption, length, ◌^◌};
+ghost use Rattle.std.specs.Prelude.{◌≡◌, ◌≤◌, ◌+◌, ◌-◌, false, [], ◌<◌, ◌==◌, ◌∷◌, ◌++◌, IsTrue, IfSome, MatchOption, length, drop, slice_index, is_some, ◌^◌};
 ghost use Rattle.std.specs.Char.{is_ascii, is_whitespace};
 ghost use Rattle.std.specs.List.{list_all, prefix_len};
 ghost use Rattle.std.specs.Option.{option_map};
-ghost use Rattle.std.specs.Str.{chars, NonePass, IsUtf8};
-ghost use Rattle.gk_line.specs.Texts.{body_of, trimmed, after, TakesFirst, IsCutAt};
+ghost use Rattle.std.specs.Str.{chars, drop_trailing_whitespace, NonePass, IsUtf8};
+ghost use Rattle.gk_line.specs.Texts.{body_of, trimmed, after, is_ascii_space, TakesFirst, IsCutAt};
 
 use memchr::memchr;
 
 /// The text without the white space at its start.
+#[inline(always)]
 pub(crate) fn trim_start(text: &str) -> &str
+    ensures value { chars result.now ≡ body_of (chars text.now) }
+    ensures bound { length result.now ≤ length text.now }
+{
+    let rest = past_ascii_spaces(text);
+    if begins_in_ascii(rest) {
+        return rest;
+    }
+    trim_start_by_characters(rest)
+}
+
+/// The same, one character after another.
+#[cold]
+#[inline(never)]
+fn trim_start_by_characters(text: &str) -> &str
     ensures value { chars result.now ≡ body_of (chars text.now) }
     ensures bound { length result.now ≤ length text.now }
 {
     text.trim_start()
 }
 
+/// The text without the ASCII white space at its start.
+#[inline(always)]
+fn past_ascii_spaces(text: &str) -> &str
+    ensures value { result.now ≡ drop (prefix_len is_ascii_space text.now) text.now }
+    ensures bound { length result.now ≤ length text.now }
+{
+    &text[ascii_spaces(text)..]
+}
+
+/// How many ASCII white space characters the text begins with.
+///
+/// Not inlined, so that its calls on one line become one.
+#[inline(never)]
+pub(crate) fn ascii_spaces(text: &str) -> usize
+    ensures value { result ≡ prefix_len is_ascii_space text.now }
+    ensures bound { result ≤ length text.now }
+{
+    text.bytes().take_while(|b| is_ascii_space(*b)).count()
+}
+
+/// Whether the byte is ASCII white space.
+fn is_ascii_space(byte: u8) -> bool
+    ensures { result ≡ is_ascii_space byte }
+{
+    byte == b' ' || (byte > 8 && byte < 14)
+}
+
+/// Whether the text is empty or begins with an ASCII character.
+fn begins_in_ascii(text: &str) -> bool
+    ensures { result ≡ is_ascii (slice_index text.now 0) }
+{
+    first_byte(text) < 128
+}
+
 /// The text without the white space at both its ends.
 pub(crate) fn trim(text: &str) -> &str
     ensures { chars result.now ≡ trimmed (chars text.now) }
 {
-    text.trim()
+    let body = before_ascii_spaces(trim_start(text));
+    if ends_in_ascii(body) {
+        return body;
+    }
+    trim_end_by_characters(body)
+}
+
+/// The text without the white space at its end, one character after another.
+#[cold]
+#[inline(never)]
+fn trim_end_by_characters(text: &str) -> &str
+    ensures { chars result.now ≡ drop_trailing_whitespace (chars text.now) }
+{
+    text.trim_end()
+}
+
+/// The text without the ASCII white space at its end.
+fn before_ascii_spaces(text: &str) -> &str
+    ensures value { drop_trailing_whitespace (chars result.now)
+        ≡ drop_trailing_whitespace (chars text.now) }
+    ensures last { is_ascii_space (slice_index result.now (length result.now - 1)) ≡ false }
+{
+    let mut end = text.len();
+    while end > 0 && is_ascii_space(text.as_bytes()[end - 1]) {
+        end -= 1;
+    }
+    &text[..end]
+}
+
+/// Whether the text is empty or ends in an ASCII character.
+fn ends_in_ascii(text: &str) -> bool
+    ensures { result ≡ is_ascii (slice_index text.now (length text.now - 1)) }
+{
+    text.is_empty() || text.as_bytes()[text.len() - 1] < 128
 }
 
 /// What follows an ASCII front, where the text begins with it.
@@ -31,6 +113,24 @@ pub(crate) fn strip<'a>(text: &'a str, front: &str) -> Option<&'a str>
     ensures utf8 { IfSome result (λ rest. IsUtf8 rest.now) }
 {
     text.strip_prefix(front)
+}
+
+/// Whether the text begins with this ASCII character.
+pub(crate) fn begins_with(text: &str, first: u8) -> bool
+    requires { first < 128 }
+    ensures { result ≡ is_some (after (first ∷ []) (chars text.now)) }
+{
+    !text.is_empty() && first_byte(text) == first
+}
+
+/// The first byte, and 0 where there is none.
+pub(crate) fn first_byte(text: &str) -> u8
+    ensures { result ≡ slice_index text.now 0 }
+{
+    if text.is_empty() {
+        return 0;
+    }
+    text.as_bytes()[0]
 }
 
 /// The text before the first place of an ASCII character, and the text after it.
@@ -56,7 +156,24 @@ pub(crate) fn after_first(text: &str) -> Option<&str>
 }
 
 /// How many white space characters the text begins with.
+#[inline(always)]
 pub(crate) fn leading_space(text: &str) -> u32
+    requires { length text.now < 2 ^ 32 }
+    ensures value { result ≡ prefix_len is_whitespace (chars text.now) }
+    ensures bound { result ≤ length text.now }
+{
+    let rest = past_ascii_spaces(text);
+    let spaces = text.len() - rest.len();
+    if begins_in_ascii(rest) {
+        return spaces as u32;
+    }
+    spaces as u32 + leading_characters(rest)
+}
+
+/// The same, one character after another.
+#[cold]
+#[inline(never)]
+fn leading_characters(text: &str) -> u32
     requires { length text.now < 2 ^ 32 }
     ensures value { result ≡ prefix_len is_whitespace (chars text.now) }
     ensures bound { result ≤ length text.now }
@@ -70,5 +187,8 @@ pub(crate) fn count(text: &str) -> u32
     ensures value { result ≡ length (chars text.now) }
     ensures bound { result ≤ length text.now }
 {
+    if text.is_ascii() {
+        return text.len() as u32;
+    }
     text.chars().count() as u32
 }

@@ -1,14 +1,20 @@
 use Rattle.std.proofs.Common.{sym, ap, ◌∙◌, subst, arith}
 use Rattle.std.proofs.lemmas.Grind.{common_steps}
-use Rattle.std.specs.Prelude.{◌==◌}
+use Rattle.std.specs.Prelude.{◌==◌, nat_eq, codes}
+use Rattle.std.specs.List.{list_any}
 use Rattle.std.specs.Option.{option_map}
 use Rattle.std.specs.Str.{chars, NonePass}
 use Rattle.gk_line.specs.Texts.{IsCutAt}
 use Rattle.gk_line.specs.Views.{step_text}
 use Rattle.gk_line.proofs.PlaceLemmas.{step-placed}
-use Rattle.gk_line.proofs.TitleLemmas.{step-none, step-found, step-missed, step_keyword, cut_after_space}
+use Rattle.gk_line.proofs.TitleLemmas.{step-letter, step-none, step-found, step-missed, step_keyword, cut_after_space}
 use Rattle.gk_line.proofs.keyword_lines.step.Goals as goal
 use Rattle.gk_line.specs.Characters.{plain_space}
+
+pub returns-then-not-begins_step-clause-value : goal.returns-then-not-begins_step-clause-value
+returns-then-not-begins_step-clause-value c =
+    sym (step-letter (chars c.args.line.text.now) c.trim_start-body.result.now c.trim_start-body.utf8 c.trim_start-body.ensures.value
+    (ap (λ n. list_any (nat_eq n) (codes "*ABGTW")) (sym c.first_byte.ensures) ∙ sym c.begins_step.ensures ∙ c.if-not-begins_step.true))
 
 pub returns-in_err-word-clause-value : goal.returns-in_err-word-clause-value
 returns-in_err-word-clause-value c =
