@@ -161,10 +161,12 @@ fn last_block(
         Phase::Start => Ok(None),
         Phase::InDescription(mut flat_block, lines) => {
             flat_block.description = description(alloc, &lines)?;
-            Ok(Some(flat_block))
+            Ok(Some(Box::into_inner(flat_block)))
         }
         Phase::AfterStep(stepped) => Ok(Some(with_steps(stepped)?)),
-        Phase::InExamplesTable(flat_block, rows) => Ok(Some(with_rows(flat_block, rows))),
+        Phase::InExamplesTable(flat_block, rows) => {
+            Ok(Some(with_rows(Box::into_inner(flat_block), rows)))
+        }
         _ => Err(early_end(end_line)),
     }
 }

@@ -95,16 +95,16 @@ fn cell_count(rows: &[Row]) -> usize
 }
 
 /// The block with its steps below it.
-pub(crate) fn with_steps(stepped: BlockWithSteps) -> Result<FlatBlock, AllocError>
+pub(crate) fn with_steps(stepped: Box<BlockWithSteps>) -> Result<FlatBlock, AllocError>
     ensures { IfOk result (λ c. flat_block_of c
-        ≡ machine.with_steps (flat_block_of stepped.flat_block)
-        (stepped.before ++ stepped.last ∷ [])) }
+        ≡ machine.with_steps (flat_block_of stepped.value.flat_block)
+        (stepped.value.before ++ stepped.value.last ∷ [])) }
 {
     let BlockWithSteps {
         mut flat_block,
         mut before,
         last,
-    } = stepped;
+    } = Box::into_inner(stepped);
     before.push(last)?;
     flat_block.body = Body::Steps(before);
     Ok(flat_block)
@@ -114,14 +114,14 @@ pub(crate) fn with_steps(stepped: BlockWithSteps) -> Result<FlatBlock, AllocErro
 fn step_line<'a>(
     alloc: Global,
     progress: &mut Progress,
-    mut stepped: BlockWithSteps,
+    mut stepped: Box<BlockWithSteps>,
     at: IndentedLine<'a>,
     line: StepLine<'a>,
 ) -> Result<Phase<'a>, ParseFault>
     requires room { progress.old.nodes < 2 ^ 63 }
     ensures { Gives (state_in progress.new) result
         (machine.after_step (made progress.old)
-        (flat_block_of stepped.flat_block) stepped.before stepped.last
+        (flat_block_of stepped.value.flat_block) stepped.value.before stepped.value.last
         (read.line at.entry.line.number (line_chars at.entry.line) at.entry.indent
         (read.step_token (step_text line.entry)))) }
 {
@@ -152,14 +152,14 @@ fn add_step_row(alloc: Global, step: &mut Step, row: Row) -> Result<(), ParseFau
 fn row_line<'a>(
     alloc: Global,
     progress: &mut Progress,
-    mut stepped: BlockWithSteps,
+    mut stepped: Box<BlockWithSteps>,
     at: IndentedLine<'a>,
     cells: Sequence<Cell>,
 ) -> Result<Phase<'a>, ParseFault>
     requires room { progress.old.nodes < 2 ^ 63 }
     ensures { Gives (state_in progress.new) result
         (machine.after_step (made progress.old)
-        (flat_block_of stepped.flat_block) stepped.before stepped.last
+        (flat_block_of stepped.value.flat_block) stepped.value.before stepped.value.last
         (read.line at.entry.line.number (line_chars at.entry.line) at.entry.indent
         (read.Row cells))) }
 {
@@ -172,13 +172,14 @@ fn row_line<'a>(
 /// A fence after a step.
 fn step_fence<'a>(
     alloc: Global,
-    stepped: BlockWithSteps,
+    stepped: Box<BlockWithSteps>,
     at: IndentedLine<'a>,
     line: FenceLine<'a>,
 ) -> Result<Phase<'a>, ParseFault>
     ensures { (p : Progress) → Gives (state_in p) result
-        (machine.step_fence (made p) (flat_block_of stepped.flat_block) stepped.before stepped.last
-        stepped.last.argument at.entry.line.number at.entry.indent line.entry.fence
+        (machine.step_fence (made p) (flat_block_of stepped.value.flat_block)
+        stepped.value.before stepped.value.last stepped.value.last.argument
+        at.entry.line.number at.entry.indent line.entry.fence
         (text_of line.entry.media.now)) }
 {
     if stepped.last.argument.is_some() {
@@ -197,14 +198,14 @@ fn step_fence<'a>(
 fn leaving_steps<'a>(
     alloc: Global,
     progress: &mut Progress,
-    stepped: BlockWithSteps,
+    stepped: Box<BlockWithSteps>,
     at: IndentedLine<'a>,
     token: Token<'a>,
 ) -> Result<Phase<'a>, ParseFault>
     requires room { progress.old.nodes < 2 ^ 63 }
     ensures { Gives (state_in progress.new) result (machine.close_block (made progress.old)
-        (machine.with_steps (flat_block_of stepped.flat_block)
-        (stepped.before ++ stepped.last ∷ [])) (line_at at.entry token.entry)) }
+        (machine.with_steps (flat_block_of stepped.value.flat_block)
+        (stepped.value.before ++ stepped.value.last ∷ [])) (line_at at.entry token.entry)) }
 {
     let flat_block = with_steps(stepped)?;
     close_block(alloc, progress, flat_block, at, token)
@@ -214,14 +215,14 @@ fn leaving_steps<'a>(
 pub(crate) fn after_step<'a>(
     alloc: Global,
     progress: &mut Progress,
-    stepped: BlockWithSteps,
+    stepped: Box<BlockWithSteps>,
     at: IndentedLine<'a>,
     token: Token<'a>,
 ) -> Result<Phase<'a>, ParseFault>
     requires room { progress.old.nodes < 2 ^ 63 }
     ensures { Gives (state_in progress.new) result
         (machine.after_step (made progress.old)
-        (flat_block_of stepped.flat_block) stepped.before stepped.last
+        (flat_block_of stepped.value.flat_block) stepped.value.before stepped.value.last
         (line_at at.entry token.entry)) }
 {
     match token {
@@ -256,7 +257,7 @@ fn doc_string(
 /// A line in a doc string, or the one that closes it.
 pub(crate) fn in_doc_string<'a>(
     alloc: Global,
-    mut stepped: BlockWithSteps,
+    mut stepped: Box<BlockWithSteps>,
     quote: OpenDocString<'a>,
     mut lines: Vec<IndentedLine<'a>>,
     at: IndentedLine<'a>,
@@ -264,8 +265,8 @@ pub(crate) fn in_doc_string<'a>(
 ) -> Result<Phase<'a>, ParseFault>
     requires { IsRead at token.now }
     ensures { (p : Progress) → Gives (state_in p) result (machine.at_phase (made p)
-        (machine.InDocString (flat_block_of stepped.flat_block) stepped.before stepped.last
-        (open_doc_string_of quote.entry) (map kept_line lines.entry.items))
+        (machine.InDocString (flat_block_of stepped.value.flat_block) stepped.value.before
+        stepped.value.last (open_doc_string_of quote.entry) (map kept_line lines.entry.items))
         (line_at at.entry token.now)) }
 {
     if is_fence(quote, token) {
