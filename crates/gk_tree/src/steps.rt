@@ -6,7 +6,6 @@ ghost use Rattle.gk_grammar.specs.Grammar as grammar;
 ghost use Rattle.gk_grammar.specs.Machine as machine;
 ghost use Rattle.gk_tree.specs.Views.{text_of, token_view, line_at, flat_block_of, open_doc_string_of, kept_line, made, state_in, Gives};
 ghost use Rattle.gk_tree.specs.Rows.{rows_with, row_after};
-ghost use Rattle.gk_tree.specs.Read.{IsRead};
 ghost use Rattle.gk_tree.specs.declared.state.Progress.{Progress};
 
 use crate::blocks::close_block;
@@ -16,9 +15,9 @@ use crate::headings::{fault, keep_comment_and_stay, location, unexpected};
 use crate::state::{BlockWithSteps, OpenDocString, Phase, Progress};
 use crate::texts::{content, copied, copied_media};
 use crate::token::{IndentedLine, Token};
-use gk_document::{Argument, Cell, DocString, Row, Sequence, Step};
+use gk_document::{Argument, Cell, DocString, Fence, Row, Sequence, Step};
 use gk_grammar::FaultKind;
-use gk_line::{FenceLine, StepLine};
+use gk_line::{FenceLine, StepLine, fence};
 use std::alloc::{AllocError, Global};
 use std::mem::replace;
 
@@ -261,15 +260,13 @@ pub(crate) fn in_doc_string<'a>(
     quote: OpenDocString<'a>,
     mut lines: Vec<IndentedLine<'a>>,
     at: IndentedLine<'a>,
-    token: &Token<'a>,
 ) -> Result<Phase<'a>, ParseFault>
-    requires { IsRead at token.now }
     ensures { (p : Progress) → Gives (state_in p) result (machine.at_phase (made p)
         (machine.InDocString (flat_block_of stepped.value.flat_block) stepped.value.before
         stepped.value.last (open_doc_string_of quote.entry) (map kept_line lines.entry.items))
-        (line_at at.entry token.now)) }
+        (kept_line at.entry)) }
 {
-    if is_fence(quote, token) {
+    if closes(quote.fence, at) {
         let text = doc_string(alloc, quote, &lines)?;
         stepped.last.argument = Some(Argument::Text(text));
         return Ok(Phase::AfterStep(stepped));
@@ -278,13 +275,12 @@ pub(crate) fn in_doc_string<'a>(
     Ok(Phase::InDocString(stepped, quote, lines))
 }
 
-/// Whether the line closes the doc string.
-fn is_fence(quote: OpenDocString<'_>, token: &Token<'_>) -> bool
-    ensures { (n : ℕ) (text : List ℕ) (i : ℕ) → result
-        ≡ grammar.is_fence quote.entry.fence (read.line n text i (token_view token.now)) }
+/// Whether the line closes a doc string that this fence opened.
+fn closes(opened: Fence, at: IndentedLine<'_>) -> bool
+    ensures { result ≡ grammar.is_fence opened (kept_line at.entry) }
 {
-    match token {
-        Token::Fenced(line) => line.fence == quote.fence,
-        _ => false,
+    match fence(at.line) {
+        Some(line) => line.fence == opened,
+        None => false,
     }
 }
