@@ -75,13 +75,14 @@ phase_of phase.Start = machine.Start
 phase_of phase.AfterLanguage = machine.AfterLanguage
 phase_of (phase.AfterTags before tags) = machine.AfterTags before tags
 phase_of (phase.InDescription flat_block lines) =
-    machine.InDescription (flat_block_of flat_block) (map kept_line lines.items)
-phase_of (phase.AfterStep s) = machine.AfterStep (flat_block_of s.flat_block) s.before s.last
+    machine.InDescription (flat_block_of flat_block.value) (map kept_line lines.items)
+phase_of (phase.AfterStep s) =
+    machine.AfterStep (flat_block_of s.value.flat_block) s.value.before s.value.last
 phase_of (phase.InDocString s quote lines) =
-    machine.InDocString (flat_block_of s.flat_block) s.before s.last (open_doc_string_of quote)
-    (map kept_line lines.items)
+    machine.InDocString (flat_block_of s.value.flat_block) s.value.before s.value.last
+    (open_doc_string_of quote) (map kept_line lines.items)
 phase_of (phase.InExamplesTable flat_block rows) =
-    machine.InExamplesTable (flat_block_of flat_block) rows
+    machine.InExamplesTable (flat_block_of flat_block.value) rows
 
 -- before the first block, after the language line or not
 abbrev pub head_of : Bool → machine.Phase

@@ -110,36 +110,37 @@ pub(crate) fn title_line<'a>(
 fn first_step<'a>(
     alloc: Global,
     progress: &mut Progress,
-    flat_block: FlatBlock,
+    flat_block: Box<FlatBlock>,
     at: IndentedLine<'a>,
     line: StepLine<'a>,
 ) -> Result<Phase<'a>, ParseFault>
     requires room { progress.old.nodes < 2 ^ 63 }
     ensures { Gives (state_in progress.new) result
-        (machine.after_description (made progress.old) (flat_block_of flat_block)
+        (machine.after_description (made progress.old) (flat_block_of flat_block.value)
         (read.line at.entry.line.number (line_chars at.entry.line) at.entry.indent
         (read.step_token (step_text line.entry)))) }
 {
     let last = step_at(alloc, progress.nodes, at, line)?;
     progress.nodes += 1;
-    Ok(Phase::AfterStep(BlockWithSteps {
-        flat_block,
+    let stepped = BlockWithSteps {
+        flat_block: Box::into_inner(flat_block),
         before: Sequence::new(alloc),
         last,
-    }))
+    };
+    Ok(Phase::AfterStep(Box::new(alloc, stepped)?))
 }
 
 /// The first row of an examples table.
 fn first_row<'a>(
     alloc: Global,
     progress: &mut Progress,
-    flat_block: FlatBlock,
+    flat_block: Box<FlatBlock>,
     at: IndentedLine<'a>,
     cells: Sequence<Cell>,
 ) -> Result<Phase<'a>, ParseFault>
     requires room { progress.old.nodes < 2 ^ 63 }
     ensures { Gives (state_in progress.new) result
-        (machine.after_description (made progress.old) (flat_block_of flat_block)
+        (machine.after_description (made progress.old) (flat_block_of flat_block.value)
         (read.line at.entry.line.number (line_chars at.entry.line) at.entry.indent
         (read.Row cells))) }
 {
@@ -152,19 +153,19 @@ fn first_row<'a>(
 fn after_description<'a>(
     alloc: Global,
     progress: &mut Progress,
-    flat_block: FlatBlock,
+    flat_block: Box<FlatBlock>,
     at: IndentedLine<'a>,
     token: Token<'a>,
 ) -> Result<Phase<'a>, ParseFault>
     requires room { progress.old.nodes < 2 ^ 63 }
     ensures { Gives (state_in progress.new) result
-        (machine.after_description (made progress.old) (flat_block_of flat_block)
+        (machine.after_description (made progress.old) (flat_block_of flat_block.value)
         (line_at at.entry token.entry)) }
 {
     match token {
         Token::Step(line) => first_step(alloc, progress, flat_block, at, line),
         Token::Row(cells) => first_row(alloc, progress, flat_block, at, cells),
-        token => close_block(alloc, progress, flat_block, at, token),
+        token => close_block(alloc, progress, Box::into_inner(flat_block), at, token),
     }
 }
 
@@ -172,7 +173,7 @@ fn after_description<'a>(
 pub(crate) fn in_description<'a>(
     alloc: Global,
     progress: &mut Progress,
-    mut flat_block: FlatBlock,
+    mut flat_block: Box<FlatBlock>,
     mut lines: Vec<IndentedLine<'a>>,
     at: IndentedLine<'a>,
     token: Token<'a>,
@@ -180,7 +181,7 @@ pub(crate) fn in_description<'a>(
     requires room { progress.old.nodes < 2 ^ 63 }
     requires read { IsRead at token }
     ensures { Gives (state_in progress.new) result (machine.at_phase (made progress.old)
-        (machine.InDescription (flat_block_of flat_block) (map kept_line lines.entry.items))
+        (machine.InDescription (flat_block_of flat_block.value) (map kept_line lines.entry.items))
         (line_at at.entry token.entry)) }
 {
     if stops(flat_block.block, &token) {
@@ -196,14 +197,14 @@ pub(crate) fn in_description<'a>(
 pub(crate) fn in_examples_table<'a>(
     alloc: Global,
     progress: &mut Progress,
-    flat_block: FlatBlock,
+    flat_block: Box<FlatBlock>,
     mut rows: Sequence<Row>,
     at: IndentedLine<'a>,
     token: Token<'a>,
 ) -> Result<Phase<'a>, ParseFault>
     requires room { progress.old.nodes < 2 ^ 63 }
     ensures { Gives (state_in progress.new) result
-        (machine.in_examples_table (made progress.old) (flat_block_of flat_block) rows
+        (machine.in_examples_table (made progress.old) (flat_block_of flat_block.value) rows
         (line_at at.entry token.entry)) }
 {
     match token {
@@ -221,7 +222,10 @@ pub(crate) fn in_examples_table<'a>(
                 at,
             )
         }
-        token => close_block(alloc, progress, with_rows(flat_block, rows), at, token),
+        token => {
+            let flat_block = with_rows(Box::into_inner(flat_block), rows);
+            close_block(alloc, progress, flat_block, at, token)
+        }
     }
 }
 

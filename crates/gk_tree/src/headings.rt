@@ -201,7 +201,7 @@ pub(crate) fn open_block<'a>(
 {
     let flat_block = new_block(alloc, progress.nodes, block, tags, at, title)?;
     progress.nodes += own_node(block);
-    Ok(Phase::InDescription(flat_block, Vec::new(alloc)))
+    Ok(Phase::InDescription(Box::new(alloc, flat_block)?, Vec::new(alloc)))
 }
 
 /// The block of a title line, without its description and what is below it.

@@ -1,22 +1,21 @@
 //! What a line is read as: its token, and its indent.
-ghost use Rattle.std.specs.Prelude.{◌≡◌, ◌≤◌, length, map, codes, IfOk, IsTrue};
+ghost use Rattle.std.specs.Prelude.{◌≡◌, ◌≤◌, ◌++◌, [], length, map, codes, IfOk, IsTrue, MatchOption};
+ghost use Rattle.std.specs.List.{list_any};
 ghost use Rattle.std.specs.Option.{option_map};
 ghost use Rattle.gk_line.specs.declared.limit.TheConstants.{FEATURE_LIMIT};
 ghost use Rattle.gk_line.specs.Cells.{cells_of};
-ghost use Rattle.gk_line.specs.Texts.{first_some};
-ghost use Rattle.gk_line.specs.Tokens.{indent_of, title_of, begins_by, language_of};
+ghost use Rattle.gk_line.specs.Texts.{body_of, first_some};
+ghost use Rattle.gk_line.specs.Tokens.{indent_of, keywords, step_words, fences, title_of, step_of, fence_of, begins_by, language_of};
 ghost use Rattle.gk_line.specs.Tags.{spaced_piece, tags_of};
-ghost use Rattle.gk_line.specs.Views.{line_chars, numbered_line};
+ghost use Rattle.gk_line.specs.Views.{line_chars, numbered_line, title_text};
 ghost use Rattle.gk_grammar.specs.Token as read;
-ghost use Rattle.gk_grammar.specs.Token.{token_of, comment_token as comment_or_language, title_token as titled, tag_list, word_token as by_word, token_or_other, blocks, cell};
+ghost use Rattle.gk_grammar.specs.Token.{token_of, comment_token as comment_or_language, title_token as titled, step_token as stepped, fence_token as fenced, tag_list, word_token as by_word, token_or_other, blocks, cell};
+ghost use Rattle.gk_tree.specs.Heads.{BeginsWith, may_begin};
 ghost use Rattle.gk_tree.specs.Views.{token_view};
 
 use crate::token::{IndentedLine, TagWords, Token};
 use gk_document::{Cell, Sequence};
-use gk_line::{
-    Block, Line, TagFault, cells, fence, indent, is_blank, is_comment, is_row, is_tags, language,
-    step, tags, title,
-};
+use gk_line::{Block, Line, TagFault, Title, cells, fence, indent, language, step, tags, title};
 use std::alloc::{AllocError, Global};
 
 /// The line with its indent.
@@ -31,25 +30,26 @@ pub(crate) fn indented(line: Line<'_>) -> IndentedLine<'_>
     }
 }
 
+/// The first character of a line after its indent.
+fn first_char(line: Line<'_>) -> Option<char>
+    ensures { MatchOption result (body_of (line_chars line.entry) ≡ [])
+        (λ c. BeginsWith c (body_of (line_chars line.entry))) }
+{
+    line.text.trim_start().chars().next()
+}
+
 /// What the line is read as.
-#[tactic(auto, unfolding(gk_grammar::specs::Token::token_of))]
 pub(crate) fn token(alloc: Global, line: Line<'_>) -> Result<Token<'_>, AllocError>
     requires { length line.text.now ≤ FEATURE_LIMIT }
     ensures { IfOk result (λ t. token_view t ≡ token_of (line_chars line.entry)) }
 {
-    if is_blank(line) {
-        return Ok(Token::Blank);
+    match first_char(line) {
+        None => Ok(Token::Blank),
+        Some('#') => Ok(comment_token(line)),
+        Some('@') => tag_token(alloc, line),
+        Some('|') => Ok(Token::Row(row_cells(alloc, line)?)),
+        Some(first) => Ok(word_token(line, first)),
     }
-    if is_comment(line) {
-        return Ok(comment_token(line));
-    }
-    if is_tags(line) {
-        return tag_token(alloc, line);
-    }
-    if is_row(line) {
-        return Ok(Token::Row(row_cells(alloc, line)?));
-    }
-    Ok(word_token(line))
 }
 
 fn comment_token(line: Line<'_>) -> Token<'_>
@@ -86,40 +86,104 @@ fn row_cells(alloc: Global, line: Line<'_>) -> Result<Sequence<Cell>, AllocError
 }
 
 /// A line that begins with a keyword or a fence, or any other one.
-fn word_token(line: Line<'_>) -> Token<'_>
-    requires { length line.text.now ≤ FEATURE_LIMIT }
+fn word_token(line: Line<'_>, first: char) -> Token<'_>
+    requires short { length line.text.now ≤ FEATURE_LIMIT }
+    requires first { BeginsWith first (body_of (line_chars line)) }
     ensures { token_view result ≡ token_or_other (by_word (line_chars line.entry)) }
 {
-    if let Some(token) = title_token(line) {
+    if let Some(token) = step_token(line, first) {
         return token;
     }
-    if let Some(step) = step(line) {
-        return Token::Step(step);
+    if let Some(token) = fence_token(line, first) {
+        return token;
     }
-    match fence(line) {
-        Some(fence) => Token::Fenced(fence),
+    match title_token(line, first) {
+        Some(token) => token,
         None => Token::Other,
     }
 }
 
+fn step_token(line: Line<'_>, first: char) -> Option<Token<'_>>
+    requires short { length line.text.now ≤ FEATURE_LIMIT }
+    requires first { BeginsWith first (body_of (line_chars line)) }
+    ensures { option_map token_view result
+        ≡ option_map stepped (step_of (line_chars line.entry)) }
+{
+    if !may_begin_step(first) {
+        return None;
+    }
+    Some(Token::Step(step(line)?))
+}
+
+/// Whether a step keyword begins with the character.
+fn may_begin_step(first: char) -> bool
+    ensures { result ≡ list_any (λ word. may_begin first (word.0 ++ codes " ")) step_words }
+{
+    matches!(first, '*' | 'G' | 'W' | 'T' | 'A' | 'B')
+}
+
+fn fence_token(line: Line<'_>, first: char) -> Option<Token<'_>>
+    requires short { length line.text.now ≤ FEATURE_LIMIT }
+    requires first { BeginsWith first (body_of (line_chars line)) }
+    ensures { option_map token_view result
+        ≡ option_map fenced (fence_of (line_chars line.entry)) }
+{
+    if !may_begin_fence(first) {
+        return None;
+    }
+    Some(Token::Fenced(fence(line)?))
+}
+
+/// Whether a fence begins with the character.
+fn may_begin_fence(first: char) -> bool
+    ensures { result ≡ list_any (λ mark. may_begin first mark.0) fences }
+{
+    first == '"' || first == '`'
+}
+
 #[tactic(auto, unfolding(gk_line::specs::Texts::first_some))]
-fn title_token(line: Line<'_>) -> Option<Token<'_>>
-    requires { length line.text.now ≤ FEATURE_LIMIT }
+fn title_token(line: Line<'_>, first: char) -> Option<Token<'_>>
+    requires short { length line.text.now ≤ FEATURE_LIMIT }
+    requires first { BeginsWith first (body_of (line_chars line)) }
     ensures { option_map token_view result
         ≡ first_some (λ b. option_map (titled b) (title_of b (line_chars line.entry))) blocks }
 {
-    if let Some(title) = title(line, Block::Feature) {
+    if let Some(title) = block_title(line, Block::Feature, first) {
         return Some(Token::Title(Block::Feature, title));
     }
-    if let Some(title) = title(line, Block::Rule) {
+    if let Some(title) = block_title(line, Block::Rule, first) {
         return Some(Token::Title(Block::Rule, title));
     }
-    if let Some(title) = title(line, Block::Background) {
+    if let Some(title) = block_title(line, Block::Background, first) {
         return Some(Token::Title(Block::Background, title));
     }
-    if let Some(title) = title(line, Block::Scenario) {
+    if let Some(title) = block_title(line, Block::Scenario, first) {
         return Some(Token::Title(Block::Scenario, title));
     }
-    let title = title(line, Block::Examples)?;
+    let title = block_title(line, Block::Examples, first)?;
     Some(Token::Title(Block::Examples, title))
+}
+
+/// The title of this block that the line reads as.
+fn block_title<'a>(line: Line<'a>, block: Block, first: char) -> Option<Title<'a>>
+    requires short { length line.text.now ≤ FEATURE_LIMIT }
+    requires first { BeginsWith first (body_of (line_chars line)) }
+    ensures { option_map title_text result ≡ title_of block (line_chars line.entry) }
+{
+    if !may_begin_title(block, first) {
+        return None;
+    }
+    title(line, block)
+}
+
+/// Whether a keyword of the block begins with the character.
+fn may_begin_title(block: Block, first: char) -> bool
+    ensures { result ≡ list_any (λ word. may_begin first (word ++ codes ":")) (keywords block) }
+{
+    match block {
+        Block::Feature => first == 'F' || first == 'B' || first == 'A',
+        Block::Rule => first == 'R',
+        Block::Background => first == 'B',
+        Block::Scenario | Block::Examples => first == 'E' || first == 'S',
+    }
 }

@@ -102,7 +102,7 @@ fn read_lines<'a>(alloc: Global, text: &'a str) -> Result<Parser<'a>, ParseFault
     Ok(Parser { progress, phase })
 }
 
-/// Reads one line, and gives the phase after it.
+/// Reads one line, and gives the phase after it. Inside a doc string it matters only whether the line is a fence.
 fn read_line<'a>(
     alloc: Global,
     progress: &mut Progress,
@@ -115,36 +115,33 @@ fn read_line<'a>(
         (machine.next (state_in progress.old phase.entry) (line_of (numbered_line line.entry))) }
 {
     let at = indented(line);
-    let token = token(alloc, line)?;
-    read_token(alloc, progress, phase, at, token)
-}
-
-/// One line, read as this token.
-fn read_token<'a>(
-    alloc: Global,
-    progress: &mut Progress,
-    phase: Phase<'a>,
-    at: IndentedLine<'a>,
-    token: Token<'a>,
-) -> Result<Phase<'a>, ParseFault>
-    requires room { progress.old.nodes < 2 ^ 63 }
-    requires read { IsRead at token }
-    ensures { Gives (state_in progress.new) result
-        (machine.next (state_in progress.old phase.entry) (line_at at.entry token.entry)) }
-{
     match phase {
-        Phase::Start => at_start(alloc, progress, at, token),
-        Phase::AfterLanguage => after_language(alloc, progress, at, token),
-        Phase::AfterTags(before, tags) => after_tags(alloc, progress, before, tags, at, token),
+        Phase::Start => at_start(alloc, progress, at, token(alloc, line)?),
+        Phase::AfterLanguage => after_language(alloc, progress, at, token(alloc, line)?),
+        Phase::AfterTags(before, tags) => {
+            after_tags(alloc, progress, before, tags, at, token(alloc, line)?)
+        }
         Phase::InDescription(flat_block, lines) => in_description(
-            alloc, progress, flat_block, lines, at, token,
+            alloc,
+            progress,
+            flat_block,
+            lines,
+            at,
+            token(alloc, line)?,
         ),
-        Phase::AfterStep(stepped) => after_step(alloc, progress, stepped, at, token),
-        Phase::InDocString(stepped, quote, lines) => in_doc_string(
-            alloc, stepped, quote, lines, at, &token,
-        ),
+        Phase::AfterStep(stepped) => {
+            after_step(alloc, progress, stepped, at, token(alloc, line)?)
+        }
+        Phase::InDocString(stepped, quote, lines) => {
+            in_doc_string(alloc, stepped, quote, lines, at)
+        }
         Phase::InExamplesTable(flat_block, rows) => in_examples_table(
-            alloc, progress, flat_block, rows, at, token,
+            alloc,
+            progress,
+            flat_block,
+            rows,
+            at,
+            token(alloc, line)?,
         ),
     }
 }
@@ -161,10 +158,12 @@ fn last_block(
         Phase::Start => Ok(None),
         Phase::InDescription(mut flat_block, lines) => {
             flat_block.description = description(alloc, &lines)?;
-            Ok(Some(flat_block))
+            Ok(Some(Box::into_inner(flat_block)))
         }
         Phase::AfterStep(stepped) => Ok(Some(with_steps(stepped)?)),
-        Phase::InExamplesTable(flat_block, rows) => Ok(Some(with_rows(flat_block, rows))),
+        Phase::InExamplesTable(flat_block, rows) => {
+            Ok(Some(with_rows(Box::into_inner(flat_block), rows)))
+        }
         _ => Err(early_end(end_line)),
     }
 }

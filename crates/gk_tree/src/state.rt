@@ -39,13 +39,13 @@ pub(crate) enum Phase<'a> {
     /// After tag lines, and the block before them.
     AfterTags(Option<Block>, Sequence<Tag>),
     /// In the description of a block, with its lines so far.
-    InDescription(FlatBlock, Vec<IndentedLine<'a>>),
+    InDescription(Box<FlatBlock>, Vec<IndentedLine<'a>>),
     /// After steps.
-    AfterStep(BlockWithSteps),
+    AfterStep(Box<BlockWithSteps>),
     /// In the doc string of the last step, with its lines so far.
-    InDocString(BlockWithSteps, OpenDocString<'a>, Vec<IndentedLine<'a>>),
+    InDocString(Box<BlockWithSteps>, OpenDocString<'a>, Vec<IndentedLine<'a>>),
     /// After rows of an examples table.
-    InExamplesTable(FlatBlock, Sequence<Row>),
+    InExamplesTable(Box<FlatBlock>, Sequence<Row>),
 }
 
 /// Between two lines: what was made of those before, and where the pass is.

@@ -6,7 +6,6 @@ ghost use Rattle.gk_grammar.specs.Grammar as grammar;
 ghost use Rattle.gk_grammar.specs.Machine as machine;
 ghost use Rattle.gk_tree.specs.Views.{text_of, token_view, line_at, flat_block_of, open_doc_string_of, kept_line, made, state_in, Gives};
 ghost use Rattle.gk_tree.specs.Rows.{rows_with, row_after};
-ghost use Rattle.gk_tree.specs.Read.{IsRead};
 ghost use Rattle.gk_tree.specs.declared.state.Progress.{Progress};
 
 use crate::blocks::close_block;
@@ -16,9 +15,9 @@ use crate::headings::{fault, keep_comment_and_stay, location, unexpected};
 use crate::state::{BlockWithSteps, OpenDocString, Phase, Progress};
 use crate::texts::{content, copied, copied_media};
 use crate::token::{IndentedLine, Token};
-use gk_document::{Argument, Cell, DocString, Row, Sequence, Step};
+use gk_document::{Argument, Cell, DocString, Fence, Row, Sequence, Step};
 use gk_grammar::FaultKind;
-use gk_line::{FenceLine, StepLine};
+use gk_line::{FenceLine, StepLine, fence};
 use std::alloc::{AllocError, Global};
 use std::mem::replace;
 
@@ -95,16 +94,16 @@ fn cell_count(rows: &[Row]) -> usize
 }
 
 /// The block with its steps below it.
-pub(crate) fn with_steps(stepped: BlockWithSteps) -> Result<FlatBlock, AllocError>
+pub(crate) fn with_steps(stepped: Box<BlockWithSteps>) -> Result<FlatBlock, AllocError>
     ensures { IfOk result (λ c. flat_block_of c
-        ≡ machine.with_steps (flat_block_of stepped.flat_block)
-        (stepped.before ++ stepped.last ∷ [])) }
+        ≡ machine.with_steps (flat_block_of stepped.value.flat_block)
+        (stepped.value.before ++ stepped.value.last ∷ [])) }
 {
     let BlockWithSteps {
         mut flat_block,
         mut before,
         last,
-    } = stepped;
+    } = Box::into_inner(stepped);
     before.push(last)?;
     flat_block.body = Body::Steps(before);
     Ok(flat_block)
@@ -114,14 +113,14 @@ pub(crate) fn with_steps(stepped: BlockWithSteps) -> Result<FlatBlock, AllocErro
 fn step_line<'a>(
     alloc: Global,
     progress: &mut Progress,
-    mut stepped: BlockWithSteps,
+    mut stepped: Box<BlockWithSteps>,
     at: IndentedLine<'a>,
     line: StepLine<'a>,
 ) -> Result<Phase<'a>, ParseFault>
     requires room { progress.old.nodes < 2 ^ 63 }
     ensures { Gives (state_in progress.new) result
         (machine.after_step (made progress.old)
-        (flat_block_of stepped.flat_block) stepped.before stepped.last
+        (flat_block_of stepped.value.flat_block) stepped.value.before stepped.value.last
         (read.line at.entry.line.number (line_chars at.entry.line) at.entry.indent
         (read.step_token (step_text line.entry)))) }
 {
@@ -152,14 +151,14 @@ fn add_step_row(alloc: Global, step: &mut Step, row: Row) -> Result<(), ParseFau
 fn row_line<'a>(
     alloc: Global,
     progress: &mut Progress,
-    mut stepped: BlockWithSteps,
+    mut stepped: Box<BlockWithSteps>,
     at: IndentedLine<'a>,
     cells: Sequence<Cell>,
 ) -> Result<Phase<'a>, ParseFault>
     requires room { progress.old.nodes < 2 ^ 63 }
     ensures { Gives (state_in progress.new) result
         (machine.after_step (made progress.old)
-        (flat_block_of stepped.flat_block) stepped.before stepped.last
+        (flat_block_of stepped.value.flat_block) stepped.value.before stepped.value.last
         (read.line at.entry.line.number (line_chars at.entry.line) at.entry.indent
         (read.Row cells))) }
 {
@@ -172,13 +171,14 @@ fn row_line<'a>(
 /// A fence after a step.
 fn step_fence<'a>(
     alloc: Global,
-    stepped: BlockWithSteps,
+    stepped: Box<BlockWithSteps>,
     at: IndentedLine<'a>,
     line: FenceLine<'a>,
 ) -> Result<Phase<'a>, ParseFault>
     ensures { (p : Progress) → Gives (state_in p) result
-        (machine.step_fence (made p) (flat_block_of stepped.flat_block) stepped.before stepped.last
-        stepped.last.argument at.entry.line.number at.entry.indent line.entry.fence
+        (machine.step_fence (made p) (flat_block_of stepped.value.flat_block)
+        stepped.value.before stepped.value.last stepped.value.last.argument
+        at.entry.line.number at.entry.indent line.entry.fence
         (text_of line.entry.media.now)) }
 {
     if stepped.last.argument.is_some() {
@@ -197,14 +197,14 @@ fn step_fence<'a>(
 fn leaving_steps<'a>(
     alloc: Global,
     progress: &mut Progress,
-    stepped: BlockWithSteps,
+    stepped: Box<BlockWithSteps>,
     at: IndentedLine<'a>,
     token: Token<'a>,
 ) -> Result<Phase<'a>, ParseFault>
     requires room { progress.old.nodes < 2 ^ 63 }
     ensures { Gives (state_in progress.new) result (machine.close_block (made progress.old)
-        (machine.with_steps (flat_block_of stepped.flat_block)
-        (stepped.before ++ stepped.last ∷ [])) (line_at at.entry token.entry)) }
+        (machine.with_steps (flat_block_of stepped.value.flat_block)
+        (stepped.value.before ++ stepped.value.last ∷ [])) (line_at at.entry token.entry)) }
 {
     let flat_block = with_steps(stepped)?;
     close_block(alloc, progress, flat_block, at, token)
@@ -214,14 +214,14 @@ fn leaving_steps<'a>(
 pub(crate) fn after_step<'a>(
     alloc: Global,
     progress: &mut Progress,
-    stepped: BlockWithSteps,
+    stepped: Box<BlockWithSteps>,
     at: IndentedLine<'a>,
     token: Token<'a>,
 ) -> Result<Phase<'a>, ParseFault>
     requires room { progress.old.nodes < 2 ^ 63 }
     ensures { Gives (state_in progress.new) result
         (machine.after_step (made progress.old)
-        (flat_block_of stepped.flat_block) stepped.before stepped.last
+        (flat_block_of stepped.value.flat_block) stepped.value.before stepped.value.last
         (line_at at.entry token.entry)) }
 {
     match token {
@@ -256,19 +256,17 @@ fn doc_string(
 /// A line in a doc string, or the one that closes it.
 pub(crate) fn in_doc_string<'a>(
     alloc: Global,
-    mut stepped: BlockWithSteps,
+    mut stepped: Box<BlockWithSteps>,
     quote: OpenDocString<'a>,
     mut lines: Vec<IndentedLine<'a>>,
     at: IndentedLine<'a>,
-    token: &Token<'a>,
 ) -> Result<Phase<'a>, ParseFault>
-    requires { IsRead at token.now }
     ensures { (p : Progress) → Gives (state_in p) result (machine.at_phase (made p)
-        (machine.InDocString (flat_block_of stepped.flat_block) stepped.before stepped.last
-        (open_doc_string_of quote.entry) (map kept_line lines.entry.items))
-        (line_at at.entry token.now)) }
+        (machine.InDocString (flat_block_of stepped.value.flat_block) stepped.value.before
+        stepped.value.last (open_doc_string_of quote.entry) (map kept_line lines.entry.items))
+        (kept_line at.entry)) }
 {
-    if is_fence(quote, token) {
+    if closes(quote.fence, at) {
         let text = doc_string(alloc, quote, &lines)?;
         stepped.last.argument = Some(Argument::Text(text));
         return Ok(Phase::AfterStep(stepped));
@@ -277,13 +275,12 @@ pub(crate) fn in_doc_string<'a>(
     Ok(Phase::InDocString(stepped, quote, lines))
 }
 
-/// Whether the line closes the doc string.
-fn is_fence(quote: OpenDocString<'_>, token: &Token<'_>) -> bool
-    ensures { (n : ℕ) (text : List ℕ) (i : ℕ) → result
-        ≡ grammar.is_fence quote.entry.fence (read.line n text i (token_view token.now)) }
+/// Whether the line closes a doc string that this fence opened.
+fn closes(opened: Fence, at: IndentedLine<'_>) -> bool
+    ensures { result ≡ grammar.is_fence opened (kept_line at.entry) }
 {
-    match token {
-        Token::Fenced(line) => line.fence == quote.fence,
-        _ => false,
+    match fence(at.line) {
+        Some(line) => line.fence == opened,
+        None => false,
     }
 }
