@@ -10,7 +10,6 @@ use Rattle.cm_refs.specs.Declarations.{RunHookRow, find_pickle, find_run_hook, f
 use Rattle.cm_stream.specs.Texts.{Utf8}
 use Rattle.cm_stream.specs.Readings.{Reading, Accepted, Refused, OtherLanguage, TooLong}
 use Rattle.cm_stream.specs.OnePass.{reads}
-use Rattle.cm_stream.specs.Skeleton.{same_skeleton}
 use Rattle.cm_stream.specs.Sources.{plain}
 use Rattle.cm_stream.specs.Checks.{is_too_long, is_other_language}
 use Rattle.cm_stream.specs.Findings as bad
@@ -23,14 +22,13 @@ use Rattle.cm_envelope.specs.declared.envelope.GherkinDocument.{GherkinDocument}
 use Rattle.cm_envelope.specs.declared.envelope.ParseError.{ParseError}
 use Rattle.cm_envelope.specs.declared.envelope.TestRunHookStarted.{TestRunHookStarted}
 use Rattle.cm_envelope.specs.declared.pickle.Pickle.{Pickle}
-use Rattle.cm_state.specs.Summary.{SourceRow, Summary, new_source}
-use Rattle.cm_state.specs.StateChecks.{find_source, plain_finding, is_accepted_by, is_next_by, knows_run_hook, or_else}
-use Rattle.cm_audit.specs.AcceptedSource.{AcceptedSource}
+use Rattle.cm_state.specs.Summary.{Summary, new_row, new_source}
+use Rattle.cm_state.specs.StateChecks.{find_source, plain_finding, is_accepted_by, is_awaited_of, is_next_by, knows_run_hook, or_else}
 use Rattle.cm_audit.specs.Kept.{ReadsAs, accepted_row, kept_row}
 use Rattle.cm_audit.specs.State.{Checks, Judges, Refuses, summary_of}
 use Rattle.cm_audit.specs.Stops.{StopsFor, refused_reference}
+use Rattle.cm_audit.specs.declared.source.Accepted.{Accepted as AcceptedSource}
 use Rattle.cm_audit.specs.declared.source.Kept.{Kept}
-use Rattle.cm_audit.specs.declared.source.Kept.TheVariants as kept
 use Rattle.cm_audit.specs.declared.state.State.{State}
 use Rattle.cm_audit.specs.declared.stop.Stop.{Stop}
 use Rattle.cm_audit.specs.declared.stop.Stop.TheVariants as stop
@@ -120,14 +118,22 @@ module _ (s : Summary) (x : Source) where
 
       pub source_fits : (k : Kept) → ReadsAs (reads x.content) (Ok k) → plain_finding s (envelope.Source x) ≡ None
       unfolding of_reading
-      source_fits k h = rw (new, media) (subst (λ r. of_reading r ≡ None) (ap (λ (r : SourceRow). r.reading) h) (fits k))
+      source_fits k h = rw (new, media) (fits (reads x.content) h)
         where
-          fits : (k : Kept) → of_reading (kept_row [] k).reading ≡ None
-          fits kept.Refused = refl
-          fits (kept.Accepted a) = refl
+          fits : (r : Reading) → ReadsAs r (Ok k) → of_reading r ≡ None
+          fits (Accepted d) h = refl
+          fits Refused h = refl
+          fits TooLong h = absurd h
+          fits OtherLanguage h = absurd h
+
+row_read : (r : Reading) (k : Kept) → ReadsAs r (Ok k) → kept_row [] k ≡ new_row [] r
+row_read (Accepted d) k h = h
+row_read Refused k h = h
+row_read TooLong k h = absurd h
+row_read OtherLanguage k h = absurd h
 
 pub kept_source : (x : Source) (uri : Utf8) (k : Kept) → uri ≡ x.uri → ReadsAs (reads x.content) (Ok k) → kept_row uri k ≡ new_source x
-kept_source x uri k e h = moved_row uri k ∙ (λ i. record (h i) { uri = e i })
+kept_source x uri k e h = moved_row uri k ∙ (λ i. record (row_read (reads x.content) k h i) { uri = e i })
 
 -- ---- a parse error
 
@@ -157,10 +163,10 @@ module _ (s : Summary) (d : GherkinDocument) where
       document_of_refused e = rw (known, first, e) refl
 
       module _ (a : AcceptedSource) (row : find_source s d.uri ≡ Some (accepted_row d.uri a)) where
-        pub document_differs : same_skeleton d.document a.document ≡ false → plain_finding s (envelope.GherkinDocument d) ≡ Some (IsBad bad.TreeDiffers)
+        pub document_differs : is_awaited_of d.document (accepted_row [] a) ≡ false → plain_finding s (envelope.GherkinDocument d) ≡ Some (IsBad bad.TreeDiffers)
         document_differs e = rw (known, first, row, e) refl
 
-        module _ (same : same_skeleton d.document a.document ≡ true) where
+        module _ (same : is_awaited_of d.document (accepted_row [] a) ≡ true) where
           pub document_repeats : has_repeat d.ids ≡ true → plain_finding s (envelope.GherkinDocument d) ≡ Some (IsBad bad.DuplicateId)
           document_repeats e = rw (known, first, row, same, e) refl
 

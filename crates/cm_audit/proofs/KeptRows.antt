@@ -1,17 +1,13 @@
 -- The rows of the sources that are kept.
-use Rattle.std.proofs.Common.{◌≡◌, ◌∙◌, refl, sym, ap, subst, arith, ℕ, zero, suc, ◌<◌, length, Bool, true, false, List, [], ◌∷◌, map, Option, Some, None, Bor}
-use Rattle.std.specs.Prelude.{find, is_some, option_map, slice_get, unwrap_or}
-use Rattle.std.specs.Option.{option_map_or}
+use Rattle.std.proofs.Common.{◌≡◌, ◌∙◌, refl, sym, ap, subst, Bool, true, false, List, [], ◌∷◌, map, Option, Some, None, Bor}
+use Rattle.std.specs.Prelude.{find, is_some, option_map}
 use Rattle.std.specs.Str.{bytes_eq}
 use Rattle.cm_attempt.specs.Table.{change_first, has_text}
 use Rattle.cm_stream.specs.Texts.{Utf8}
 use Rattle.cm_state.specs.Summary.{SourceRow}
-use Rattle.cm_stream.specs.Checks.{due_pickles}
-use Rattle.cm_stream.specs.Sources.{DuePickle, is_due}
 use Rattle.cm_envelope.specs.declared.pickle.Pickle.{Pickle}
 use Rattle.cm_state.specs.StateChecks.{is_next_of}
-use Rattle.cm_stream.specs.References.{is_accepted}
-use Rattle.cm_audit.specs.Kept.{HasMore, kept_row}
+use Rattle.cm_audit.specs.Kept.{kept_row}
 use Rattle.cm_audit.specs.declared.source.Kept.{Kept}
 use Rattle.cm_audit.specs.declared.source.Kept.TheVariants as kept
 
@@ -55,13 +51,9 @@ changed_uris p f keeps (r ∷ rows) = go (p r) refl (changed_uris p f keeps rows
     go false e rest = rw e (ap (λ ts. r.uri ∷ ts) rest)
 
 -- what is asked of a row doesn't ask for its key
-pub good_bare : (uri : Utf8) (k : Kept) → is_accepted (kept_row uri k).reading ≡ true → is_accepted (kept_row [] k).reading ≡ true
+pub good_bare : (uri : Utf8) (k : Kept) → (kept_row uri k).is_accepted ≡ true → (kept_row [] k).is_accepted ≡ true
 good_bare uri kept.Refused h = h
 good_bare uri (kept.Accepted a) h = h
-
-pub more_bare : (uri : Utf8) (k : Kept) → HasMore (kept_row uri k) → HasMore (kept_row [] k)
-more_bare uri kept.Refused h = h
-more_bare uri (kept.Accepted a) h = h
 
 -- whether a row is found, by the list of the uris
 pub listed_is : (uri : Utf8) (rows : List SourceRow) (names : List Utf8) (o : Option SourceRow) → map (λ r. r.uri) rows ≡ names
@@ -85,12 +77,3 @@ found_none uri o rows e h = sym (ap (option_map (λ (k : Bor Kept). kept_row uri
 pub next_bare : (uri : Utf8) (p : Pickle) (k : Kept) → is_next_of p (kept_row uri k) ≡ is_next_of p (kept_row [] k)
 next_bare uri p kept.Refused = refl
 next_bare uri p (kept.Accepted a) = refl
-
--- the next pickle of a row is one that its source compiles to
-pub next_more : (p : Pickle) (r : SourceRow) → is_next_of p r ≡ true → HasMore r
-next_more p r h = within (due_pickles (Some r.reading)) r.matched h
-  where
-    within : (dues : List DuePickle) (n : ℕ) → option_map_or (λ due. is_due (unwrap_or r.ids []) p due) (slice_get dues n) false ≡ true → n < length dues
-    within [] n h = cc
-    within (d ∷ ds) zero h = omega arith
-    within (d ∷ ds) (suc n) h = let less : n < length ds = within ds n h in omega arith

@@ -1,32 +1,27 @@
 -- What is asked of all sources, over the rows that they are kept as.
-use Rattle.std.proofs.Common.{◌≡◌, refl, Bool, List, [], ◌∷◌, ◌||◌}
+use Rattle.std.proofs.Common.{◌≡◌, refl, List, [], ◌∷◌, ◌||◌}
 use Rattle.std.specs.List.{list_all, list_any}
 use Rattle.std.specs.Map.{values_of}
 use Rattle.std.specs.String.{string_bytes}
 use Rattle.cm_stream.specs.Texts.{Utf8}
-use Rattle.cm_stream.specs.References.{is_accepted}
 use Rattle.cm_refs.proofs.EntryLemmas.{Key}
 use Rattle.cm_attempt.proofs.EntryLemmas.{list_all-rows}
-use Rattle.cm_state.specs.Summary.{SourceRow}
 use Rattle.cm_state.specs.StateChecks.{lacks_by}
 use Rattle.cm_audit.specs.Kept.{kept_row, kept_rows}
 use Rattle.cm_audit.specs.declared.source.Kept.{Kept}
 use Rattle.cm_audit.specs.declared.source.Kept.TheVariants as kept
 
-abbrev lacks : SourceRow → Bool
-lacks r = lacks_by r.reading r
-
-lacks_anywhere : (uri : Utf8) (k : Kept) → lacks (kept_row uri k) ≡ lacks (kept_row [] k)
+lacks_anywhere : (uri : Utf8) (k : Kept) → lacks_by (kept_row uri k) ≡ lacks_by (kept_row [] k)
 lacks_anywhere uri kept.Refused = refl
 lacks_anywhere uri (kept.Accepted a) = refl
 
-accepted_anywhere : (uri : Utf8) (k : Kept) → is_accepted (kept_row uri k).reading ≡ is_accepted (kept_row [] k).reading
+accepted_anywhere : (uri : Utf8) (k : Kept) → (kept_row uri k).is_accepted ≡ (kept_row [] k).is_accepted
 accepted_anywhere uri kept.Refused = refl
 accepted_anywhere uri (kept.Accepted a) = refl
 
-pub rows_lack : (es : List (Key × Kept)) → list_any (λ r. lacks_by r.reading r) (kept_rows es) ≡ list_any (λ k. lacks_by (kept_row [] k).reading (kept_row [] k)) (values_of es)
+pub rows_lack : (es : List (Key × Kept)) → list_any lacks_by (kept_rows es) ≡ list_any (λ k. lacks_by (kept_row [] k)) (values_of es)
 rows_lack [] = refl
 rows_lack (e ∷ es) = λ i. lacks_anywhere (string_bytes e.0) e.1 i || rows_lack es i
 
-pub rows_accepted : (es : List (Key × Kept)) → list_all (λ r. is_accepted r.reading) (kept_rows es) ≡ list_all (λ k. is_accepted (kept_row [] k).reading) (values_of es)
-rows_accepted es = list_all-rows kept_row (λ r. is_accepted r.reading) accepted_anywhere es
+pub rows_accepted : (es : List (Key × Kept)) → list_all (λ r. r.is_accepted) (kept_rows es) ≡ list_all (λ k. (kept_row [] k).is_accepted) (values_of es)
+rows_accepted es = list_all-rows kept_row (λ r. r.is_accepted) accepted_anywhere es

@@ -1,6 +1,5 @@
 pub mod Matching
 pub mod Stops
-pub mod AcceptedSource
 pub mod Kept
 pub mod State
 pub mod Audit

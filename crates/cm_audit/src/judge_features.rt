@@ -4,7 +4,7 @@ ghost use Rattle.cm_attempt.specs.Table.{has_repeat, has_text};
 ghost use Rattle.cm_envelope.specs.declared.envelope.Envelope.TheVariants as envelope;
 ghost use Rattle.cm_state.specs.StateChecks.{plain_finding, is_next_by};
 ghost use Rattle.cm_state.specs.Summary.{change_source, one_more, with_ids};
-ghost use Rattle.cm_audit.specs.Kept.{HasMoreAt, IsAcceptedAt, kept_rows};
+ghost use Rattle.cm_audit.specs.Kept.{IsAcceptedAt, kept_rows};
 ghost use Rattle.cm_audit.specs.State.{AreFewer, Checks, IsListed, Judges, summary_of};
 ghost use Rattle.cm_audit.specs.Stops.{StopsFor};
 
@@ -76,9 +76,8 @@ fn set_ids(sources: &mut Sources, uri: &str, ids: Sequence<Text>)
     }
 }
 
-/// The next pickle of an accepted source came.
+/// The next pickle of a source came.
 fn count_pickle(sources: &mut Sources, uri: &str)
-    requires { HasMoreAt uri.now (kept_rows sources.old.entries) }
     ensures { kept_rows sources.new.entries ≡ change_source uri.now one_more
         (kept_rows sources.old.entries) }
 {
@@ -108,7 +107,7 @@ fn check_document(state: &State, document: &GherkinDocument) -> Result<(), Stop>
         Kept::Accepted(accepted) => accepted,
         Kept::Refused => return Err(Stop::Bad(StreamFault::DocumentOfRefusedSource)),
     };
-    if !accepted.has_skeleton_of(&document.document) {
+    if !accepted.is_awaited(&document.document) {
         return Err(Stop::Bad(StreamFault::TreeDiffers));
     }
     if have_repeat(state.alloc, document.ids.as_slice())? {
@@ -152,7 +151,6 @@ fn check_pickle(state: &State, pickle: &Pickle) -> Result<(), Stop>
     ensures known { OnOk result ((has_text pickle.now.uri state.now.declared.sources
         && has_text pickle.now.uri state.now.declared.documents) ≡ true) }
     ensures next { OnOk result (is_next_by (summary_of state.now) pickle.now ≡ true) }
-    ensures more { OnOk result (HasMoreAt pickle.now.uri (kept_rows state.now.sources.entries)) }
 {
     let uri = pickle.uri.as_str();
     let kept = match find_source(&state.sources, uri) {

@@ -5,7 +5,6 @@ ghost use Rattle.cm_envelope.specs.declared.envelope.Envelope.TheVariants as Env
 ghost use Rattle.indexmap.specs.IndexMap.{values};
 ghost use Rattle.cm_attempt.specs.Table.{is_good_status};
 ghost use Rattle.cm_stream.specs.Checks.{same_flag};
-ghost use Rattle.cm_stream.specs.References.{is_accepted};
 ghost use Rattle.cm_state.specs.StateChecks.{is_well, knows_place, knows_run_hook, lacks_by};
 ghost use Rattle.cm_audit.specs.Kept.{kept_row};
 ghost use Rattle.cm_audit.specs.State.{AreFewer, IsListed, Judges, JudgesBy, summary_of};
@@ -159,15 +158,14 @@ pub(crate) fn judge_attachment(state: &State, attachment: &Attachment) -> Result
 
 /// Whether one of the sources lacks its document or one of its pickles.
 fn lack_some(sources: &Sources) -> bool
-    ensures { result ≡ list_any (λ k. lacks_by (kept_row [] k).reading (kept_row [] k))
-        (values sources.now) }
+    ensures { result ≡ list_any (λ k. lacks_by (kept_row [] k)) (values sources.now) }
 {
     sources.values().any(|kept| kept.lacks_some())
 }
 
 /// Whether no source is refused.
 fn are_accepted(sources: &Sources) -> bool
-    ensures { result ≡ list_all (λ k. is_accepted (kept_row [] k).reading) (values sources.now) }
+    ensures { result ≡ list_all (λ k. (kept_row [] k).is_accepted) (values sources.now) }
 {
     sources
         .values()
@@ -176,7 +174,7 @@ fn are_accepted(sources: &Sources) -> bool
 
 /// Whether a document or a pickle of a source is still to come.
 fn is_incomplete(state: &State) -> bool
-    ensures { result ≡ list_any (λ r. lacks_by r.reading r) (summary_of state.now).sources }
+    ensures { result ≡ list_any lacks_by (summary_of state.now).sources }
 {
     lack_some(&state.sources)
 }

@@ -1,11 +1,12 @@
 -- What one more line changes in what is kept of the sources.
-use Rattle.std.proofs.Common.{◌≡◌, refl, sym, ap, ◌∙◌, List, [], ◌∷◌, ◌++◌, Option, Some, None, true, false, append-nil, subst, map, length, arith}
+use Rattle.std.proofs.Common.{◌≡◌, refl, sym, ap, ◌∙◌, List, [], ◌∷◌, ◌++◌, Some, None, true, false, append-nil, subst, map, drop, length, arith}
 use Rattle.std.specs.Prelude.{nat_lt, find}
 use Rattle.std.specs.List.{AllByRecursion, filter, filter_map}
-use Rattle.std.specs.Option.{option_map}
 use Rattle.std.specs.Str.{bytes_eq}
-use Rattle.std.proofs.lemmas.List.{map-append}
+use Rattle.std.proofs.lemmas.List.{map-append, drop-drop}
 use Rattle.cm_stream.specs.Texts.{Utf8}
+use Rattle.cm_stream.specs.OnePass.{reads}
+use Rattle.cm_stream.specs.Checks.{due_pickles}
 use Rattle.cm_stream.specs.References.{Name, SourceOf, DocumentOf, times_declared, refers, as_source, as_document, as_pickle, sources, documents_of, pickles_of}
 use Rattle.cm_envelope.specs.declared.envelope.Envelope.{Envelope}
 use Rattle.cm_envelope.specs.declared.envelope.Envelope.TheVariants as envelope
@@ -19,24 +20,22 @@ use Rattle.cm_stream.proofs.Documents.{documents_both, pickles_both}
 use Rattle.cm_stream.proofs.Passing.{AllPass, front_passes, last_passes}
 use Rattle.cm_stream.proofs.Distinct.{all_distinct, at_most_once}
 use Rattle.cm_stream.proofs.OneRow.{OnlyOne, only_one, change_one}
-use Rattle.cm_state.specs.Summary.{SourceRow, first_of, source_row, new_source, with_ids, one_more, change_source}
+use Rattle.cm_state.specs.Summary.{SourceRow, row_of, source_row, new_source, with_ids, one_more, change_source}
 use Rattle.cm_state.proofs.OneMore.{kept_named, not_found, none_refers}
 
 -- what is kept of the sources
 abbrev pub rows : List Envelope → List SourceRow
 rows es = map (source_row es) (sources es)
 
-row_is : (r q : SourceRow) → r.uri ≡ q.uri → r.reading ≡ q.reading → r.ids ≡ q.ids → r.matched ≡ q.matched → r ≡ q
-row_is r q a b c d = λ i. record { uri = a i; reading = b i; ids = c i; matched = d i }
-
-abbrev ids_of : List GherkinDocument → Option (List Utf8)
-ids_of ds = option_map (λ d. d.ids) (first_of ds)
-
 -- ---- a line that is none of them
+
+-- the row of a source of which these documents and pickles came
+abbrev row_by : Source → List GherkinDocument → List Pickle → SourceRow
+row_by s documents pickles = row_of s.uri (reads s.content) documents pickles
 
 same_row : (es : List Envelope) (e : Envelope) (s : Source) → documents_of s.uri (es ++ e ∷ []) ≡ documents_of s.uri es → pickles_of s.uri (es ++ e ∷ []) ≡ pickles_of s.uri es
     → source_row (es ++ e ∷ []) s ≡ source_row es s
-same_row es e s d p = row_is (source_row (es ++ e ∷ []) s) (source_row es s) refl refl (ap ids_of d) (ap length p)
+same_row es e s d p = λ i. row_by s (d i) (p i)
 
 documents_stay : (es : List Envelope) (e : Envelope) → as_document e ≡ None → (u : Utf8) → documents_of u (es ++ e ∷ []) ≡ documents_of u es
 documents_stay es e none u = ap (filter (λ d. bytes_eq u d.uri)) (found_more as_document es e none)
@@ -73,8 +72,9 @@ source_rows es s more =
     let pass = front_passes es (e ∷ []) more in
     let new = (or_false (nat_lt 0 (times_declared (SourceOf s.uri) es)) false ((last_passes es e more).passes).0).0 in
     let none = not_found (SourceOf s.uri) as_source (λ (x : Source). bytes_eq s.uri x.uri) (declares_source s.uri) es new in
-    let fresh : source_row (es ++ e ∷ []) s ≡ new_source s = row_is (source_row (es ++ e ∷ []) s) (new_source s) refl refl
-    (ap ids_of (documents_stay es e refl s.uri ∙ no_documents es pass s.uri none)) (ap length (pickles_stay es e refl s.uri ∙ no_pickles es pass s.uri none)) in
+    let no_document : documents_of s.uri (es ++ e ∷ []) ≡ [] = documents_stay es e refl s.uri ∙ no_documents es pass s.uri none in
+    let no_pickle : pickles_of s.uri (es ++ e ∷ []) ≡ [] = pickles_stay es e refl s.uri ∙ no_pickles es pass s.uri none in
+    let fresh : source_row (es ++ e ∷ []) s ≡ new_source s = λ i. row_by s (no_document i) (no_pickle i) in
     ap (map (source_row (es ++ e ∷ []))) (found_push as_source es e s refl) ∙ map-append (source_row (es ++ e ∷ [])) (sources es) (s ∷ [])
     ∙ ap (λ rs. rs ++ source_row (es ++ e ∷ []) s ∷ []) (rows_stay es e refl refl)
     ∙ ap (λ r. rows es ++ r ∷ []) fresh
@@ -103,7 +103,7 @@ document_rows es d more =
         let same : s.uri ≡ d.uri = sym (bytes_are d.uri s.uri k) in
         let here : documents_of d.uri (e ∷ []) ≡ d ∷ [] = rw (bytes_same d.uri) refl in
         let all : documents_of s.uri (es ++ e ∷ []) ≡ d ∷ [] = ap (λ u. documents_of u (es ++ e ∷ [])) same ∙ documents_both d.uri es (e ∷ []) ∙ ap (λ ds. ds ++ documents_of d.uri (e ∷ [])) none ∙ here in
-        row_is (source_row (es ++ e ∷ []) s) (with_ids d.ids (source_row es s)) refl refl (ap ids_of all) (ap length (pickles_stay es e refl s.uri))
+        λ i. row_by s (all i) (pickles_stay es e refl s.uri i)
 
     other : (s : Source) → bytes_eq d.uri s.uri ≡ false → source_row (es ++ envelope.GherkinDocument d ∷ []) s ≡ source_row es s
     other s k =
@@ -124,7 +124,10 @@ pickle_rows es p more =
         let same : s.uri ≡ p.uri = sym (bytes_are p.uri s.uri k) in
         let here : pickles_of s.uri (e ∷ []) ≡ p ∷ [] = rw (same, bytes_same p.uri) refl in
         let all : pickles_of s.uri (es ++ e ∷ []) ≡ pickles_of s.uri es ++ p ∷ [] = pickles_both s.uri es (e ∷ []) ∙ ap (λ ps. pickles_of s.uri es ++ ps) here in
-        row_is (source_row (es ++ e ∷ []) s) (one_more (source_row es s)) refl refl (ap ids_of (documents_stay es e refl s.uri)) (ap length all ∙ length-both (pickles_of s.uri es) (p ∷ []))
+        let due = due_pickles (Some (reads s.content)) in
+        let left : drop (length (pickles_of s.uri (es ++ e ∷ []))) due ≡ drop 1 (drop (length (pickles_of s.uri es)) due) =
+        ap (λ n. drop n due) (ap length all ∙ length-both (pickles_of s.uri es) (p ∷ [])) ∙ sym (drop-drop 1 (length (pickles_of s.uri es)) due) in
+        λ i. record (row_by s (documents_stay es e refl s.uri i) []) { due = left i }
 
     other : (s : Source) → bytes_eq p.uri s.uri ≡ false → source_row (es ++ envelope.Pickle p ∷ []) s ≡ source_row es s
     other s k =

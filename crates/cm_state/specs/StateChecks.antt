@@ -1,21 +1,21 @@
 -- What is reported of a line, by what an audit keeps of the lines before it.
-use Rattle.std.specs.Prelude.{◌==◌, ◌&&◌, ◌||◌, nat_lt, Bool, true, false, not, List, [], ◌∷◌, Option, Some, None, is_some, is_none, if◌then◌else◌, map, length, find, slice_get, unwrap_or}
+use Rattle.std.specs.Prelude.{◌==◌, ◌&&◌, ◌||◌, Bool, true, false, not, List, [], ◌∷◌, Option, Some, None, is_some, is_none, if◌then◌else◌, map, length, find, slice_get, unwrap_or}
 use Rattle.std.specs.List.{list_any, list_all}
-use Rattle.std.specs.Option.{option_map, option_map_or, option_and_then}
+use Rattle.std.specs.Option.{option_map_or, option_and_then}
 use Rattle.std.specs.Str.{bytes_eq}
 use Rattle.cm_refs.specs.Declarations.{find_pickle, find_run_hook, pickle_fault, open_count as open_hook_count}
 use Rattle.cm_attempt.specs.Table.{has_text, has_repeat, has_step, find_attempt, is_good_case, is_good_status, open_count}
 use Rattle.cm_attempt.specs.declared.status.Status.TheVariants.{Passed}
 use Rattle.cm_attempt.specs.declared.policy.Policy.{Policy}
 use Rattle.cm_attempt.specs.declared.settings.Settings.{Settings}
-use Rattle.gk_pickle.specs.Pickles.{pickles as compiled}
+use Rattle.gk_document.specs.declared.tree.Document.{Document}
 use Rattle.cm_stream.specs.Texts.{Utf8, same_texts}
-use Rattle.cm_stream.specs.Readings.{Reading, Accepted}
+use Rattle.cm_stream.specs.Skeleton.{same_skeleton}
 use Rattle.cm_stream.specs.OnePass.{reads}
 use Rattle.cm_stream.specs.Sources.{plain, is_due}
-use Rattle.cm_stream.specs.References.{is_judged, is_accepted, pickle_step_ids}
+use Rattle.cm_stream.specs.References.{is_judged, pickle_step_ids}
 use Rattle.cm_stream.specs.Good.{is_unknown}
-use Rattle.cm_stream.specs.Checks.{Check, ◌if◌, ◌unsupported_if◌, first_failed, is_too_long, is_other_language, has_skeleton_of, due_pickles, same_flag}
+use Rattle.cm_stream.specs.Checks.{Check, ◌if◌, ◌unsupported_if◌, first_failed, is_too_long, is_other_language, same_flag}
 use Rattle.cm_stream.specs.Refusals.{refusal_finding, refused}
 use Rattle.cm_envelope.specs.declared.envelope.Envelope.{Envelope}
 use Rattle.cm_envelope.specs.declared.envelope.Envelope.TheVariants as envelope
@@ -23,6 +23,7 @@ use Rattle.cm_envelope.specs.declared.envelope.TestCase.{TestCase}
 use Rattle.cm_envelope.specs.declared.envelope.TestStep.{TestStep}
 use Rattle.cm_envelope.specs.declared.envelope.TestRunStarted.{TestRunStarted}
 use Rattle.cm_envelope.specs.declared.envelope.TestRunHookStarted.{TestRunHookStarted}
+use Rattle.cm_envelope.specs.declared.envelope.GherkinDocument.{GherkinDocument}
 use Rattle.cm_envelope.specs.declared.pickle.Pickle.{Pickle}
 use Rattle.cm_stream.specs.Findings as bad
 use Rattle.cm_stream.specs.Findings.{Finding, IsBad}
@@ -34,17 +35,19 @@ use Rattle.cm_state.specs.Summary.{SourceRow, Summary}
 abbrev pub find_source : Summary → Utf8 → Option SourceRow
 find_source s uri = find (λ r. bytes_eq uri r.uri) s.sources
 
-abbrev pub reading_by : Summary → Utf8 → Option Reading
-reading_by s uri = option_map (λ r. r.reading) (find_source s uri)
-
 abbrev pub is_accepted_by : Summary → Utf8 → Bool
-is_accepted_by s uri = option_map_or is_accepted (reading_by s uri) false
+is_accepted_by s uri = option_map_or (λ r. r.is_accepted) (find_source s uri) false
+
+-- the document has the skeleton of the one that is awaited; where none is, an earlier check refuses it
+abbrev pub is_awaited_of : Document → SourceRow → Bool
+is_awaited_of d r = option_map_or (same_skeleton d) r.awaited false
+
+abbrev pub is_awaited_by : Summary → GherkinDocument → Bool
+is_awaited_by s d = option_map_or (is_awaited_of d.document) (find_source s d.uri) false
 
 -- the pickle is the next one of the source
 abbrev pub is_next_of : Pickle → SourceRow → Bool
-is_next_of p r =
-    option_map_or (λ due. is_due (unwrap_or r.ids []) p due)
-    (slice_get (due_pickles (Some r.reading)) r.matched) false
+is_next_of p r = option_map_or (λ due. is_due r.ids p due) (slice_get r.due 0) false
 
 abbrev pub is_next_by : Summary → Pickle → Bool
 is_next_by s p = option_map_or (is_next_of p) (find_source s p.uri) false
@@ -88,10 +91,9 @@ knows_place s None step = true
 knows_place s (Some attempt) None = is_some (find_attempt s.table attempt)
 knows_place s (Some attempt) (Some step) = has_step s.table attempt step
 
--- an accepted source without its document, or with fewer pickles than it compiles to
-abbrev pub lacks_by : Reading → SourceRow → Bool
-lacks_by (Accepted d) r = is_none r.ids || nat_lt r.matched (length (compiled d))
-lacks_by _ r = false
+-- its document is awaited, or one of its pickles
+abbrev pub lacks_by : SourceRow → Bool
+lacks_by r = is_some r.awaited || not (length r.due == 0)
 
 -- the hook is declared, and the run, where one is named, is the one that started
 abbrev pub knows_run_hook : Summary → TestRunHookStarted → Bool
@@ -106,7 +108,7 @@ abbrev pub is_well : Policy → Summary → Bool
 is_well policy s =
     list_all (is_good_case policy) s.table.cases
     && is_good_status policy (unwrap_or s.hooks_worst Passed)
-    && list_all (λ r. is_accepted r.reading) s.sources
+    && list_all (λ r. r.is_accepted) s.sources
 
 -- ---- the checks of a line before the one that the record of attempts makes, and after it
 
@@ -120,7 +122,7 @@ checks_before s (envelope.GherkinDocument d) =
     bad.UnknownReference if not (has_text d.uri s.declared.sources)
     ∷ bad.DuplicateUri if has_text d.uri s.declared.documents
     ∷ bad.DocumentOfRefusedSource if not (is_accepted_by s d.uri)
-    ∷ bad.TreeDiffers if not (has_skeleton_of d.document (reading_by s d.uri))
+    ∷ bad.TreeDiffers if not (is_awaited_by s d)
     ∷ bad.DuplicateId if has_repeat d.ids ∷ []
 checks_before s (envelope.ParseError p) =
     bad.UnknownReference if not (has_text p.source.uri s.declared.sources)
@@ -143,7 +145,7 @@ checks_before s (envelope.TestRunFinished f) =
     ∷ bad.UnknownReference if not (knows_run s f.test_run_started_id)
     ∷ bad.AttemptOpen if not (open_count s.table == 0)
     ∷ bad.RunHookOpen if not (open_hook_count s.declared == 0)
-    ∷ bad.SourceIncomplete if list_any (λ r. lacks_by r.reading r) s.sources ∷ []
+    ∷ bad.SourceIncomplete if list_any lacks_by s.sources ∷ []
 checks_before s (envelope.Attachment a) =
     bad.UnknownReference if not (knows_place s a.test_case_started_id a.test_step_id) ∷ []
 checks_before s (envelope.TestRunHookStarted x) =

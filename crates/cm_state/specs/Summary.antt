@@ -1,33 +1,41 @@
 -- What an audit keeps of the lines so far.
-use Rattle.std.specs.Prelude.{ℕ, ◌+◌, ◌-◌, Bool, false, true, List, [], ◌∷◌, ◌++◌, Option, Some, None, if◌then◌else◌, map, length}
+use Rattle.std.specs.Prelude.{ℕ, ◌+◌, ◌-◌, Bool, false, true, List, [], ◌∷◌, ◌++◌, Option, Some, None, if◌then◌else◌, map, length, drop}
 use Rattle.std.specs.List.{filter_map}
-use Rattle.std.specs.Option.{option_map}
 use Rattle.std.specs.Str.{bytes_eq}
+use Rattle.gk_document.specs.declared.tree.Document.{Document}
 use Rattle.cm_refs.specs.Declarations.{Declarations, PickleRow, RunHookRow, no_declarations, with_source, with_document, with_pickle, with_definition, with_hook, with_run_hook, with_finished}
 use Rattle.cm_attempt.specs.Table.{Table, table_from, change_first, has_text}
 use Rattle.cm_attempt.specs.Worst.{with_status, worst_so_far}
 use Rattle.cm_attempt.specs.declared.status.Status.{Status}
 use Rattle.cm_stream.specs.Statuses.{kept_status}
 use Rattle.cm_stream.specs.Texts.{Utf8}
-use Rattle.cm_stream.specs.Readings.{Reading}
+use Rattle.cm_stream.specs.Readings.{Reading, Accepted}
 use Rattle.cm_stream.specs.OnePass.{reads}
-use Rattle.cm_stream.specs.References.{as_document, sources, pickles, cases, run_hooks, hook_statuses, documents_of, pickles_of, has_run_finished, run_succeeded, is_hook_finished}
+use Rattle.cm_stream.specs.Sources.{DuePickle}
+use Rattle.cm_stream.specs.Checks.{due_pickles, first_ids}
+use Rattle.cm_stream.specs.References.{as_document, sources, pickles, cases, run_hooks, hook_statuses, documents_of, pickles_of, has_run_finished, is_accepted, run_succeeded, is_hook_finished}
 use Rattle.cm_stream.specs.Stream.{counts_of}
 use Rattle.cm_stream.specs.Record.{table_of, changed}
 use Rattle.cm_envelope.specs.declared.envelope.Envelope.{Envelope}
 use Rattle.cm_envelope.specs.declared.envelope.Envelope.TheVariants as envelope
 use Rattle.cm_envelope.specs.declared.envelope.Source.{Source}
+use Rattle.cm_envelope.specs.declared.envelope.GherkinDocument.{GherkinDocument}
 use Rattle.cm_envelope.specs.declared.envelope.TestRunStarted.{TestRunStarted}
 use Rattle.cm_envelope.specs.declared.envelope.TestRunHookStarted.{TestRunHookStarted}
 use Rattle.cm_envelope.specs.declared.pickle.Pickle.{Pickle}
 use Rattle.cm_stream.specs.declared.verdict.Counts.{Counts}
 
--- a source: what its text is read as, the ids of its document once that came, and how many of its pickles came
+-- a source
 pub record SourceRow : Type 0 where
   pub uri : Utf8
-  pub reading : Reading
-  pub ids : Option (List Utf8)
-  pub matched : ℕ
+  -- its text is of the grammar
+  pub is_accepted : Bool
+  -- the document that its text is read as, until the stream's document of the uri came
+  pub awaited : Option Document
+  -- the ids of the stream's document, once it came
+  pub ids : List Utf8
+  -- the pickles that it compiles to and that haven't come
+  pub due : List DuePickle
 
 pub record Summary : Type 0 where
   pub declared : Declarations
@@ -78,13 +86,28 @@ declared_in es = record {
   run_hooks = map (run_hook_row es) (run_hooks es);
 }
 
-abbrev pub source_row : List Envelope → Source → SourceRow
-source_row es s = record {
-  uri = s.uri;
-  reading = reads s.content;
-  ids = option_map (λ d. d.ids) (first_of (documents_of s.uri es));
-  matched = length (pickles_of s.uri es);
+-- the document that a text is read as
+abbrev pub document_of : Reading → Option Document
+document_of (Accepted d) = Some d
+document_of _ = None
+
+-- it, while none of the stream came
+abbrev pub awaited_of : Reading → (came : List GherkinDocument) → Option Document
+awaited_of reading [] = document_of reading
+awaited_of reading (d ∷ ds) = None
+
+-- a source whose text is read so, of which these documents and pickles came
+abbrev pub row_of : Utf8 → Reading → List GherkinDocument → List Pickle → SourceRow
+row_of uri reading documents pickles = record {
+  uri = uri;
+  is_accepted = is_accepted reading;
+  awaited = awaited_of reading documents;
+  ids = first_ids documents;
+  due = drop (length pickles) (due_pickles (Some reading));
 }
+
+abbrev pub source_row : List Envelope → Source → SourceRow
+source_row es s = row_of s.uri (reads s.content) (documents_of s.uri es) (pickles_of s.uri es)
 
 -- the names, and this one after them if it isn't among them
 abbrev pub with_name : List Utf8 → Utf8 → List Utf8
@@ -127,14 +150,20 @@ nothing_seen first = record {
   counts = record { sources = 0; pickles = 0; cases = 0; attempts = 0; unrun = 0 };
 }
 
+-- of which nothing came
+abbrev pub new_row : Utf8 → Reading → SourceRow
+new_row uri reading = row_of uri reading [] []
+
 abbrev pub new_source : Source → SourceRow
-new_source s = record { uri = s.uri; reading = reads s.content; ids = None; matched = 0 }
+new_source s = new_row s.uri (reads s.content)
 
+-- its document came, with these ids
 abbrev pub with_ids : List Utf8 → SourceRow → SourceRow
-with_ids ids r = record r { ids = Some ids }
+with_ids ids r = record r { awaited = None; ids = ids }
 
+-- one more of its pickles came
 abbrev pub one_more : SourceRow → SourceRow
-one_more r = record r { matched = r.matched + 1 }
+one_more r = record r { due = drop 1 r.due }
 
 abbrev pub change_source : Utf8 → (SourceRow → SourceRow) → List SourceRow → List SourceRow
 change_source uri f = change_first (λ r. bytes_eq uri r.uri) f

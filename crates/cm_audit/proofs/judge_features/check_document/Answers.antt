@@ -1,7 +1,6 @@
-use Rattle.std.proofs.Common.{◌≡◌, ◌∙◌, refl, ap, sym, true, false, Some, None}
+use Rattle.std.proofs.Common.{◌≡◌, ◌∙◌, [], refl, ap, sym, true, false, Some, None}
 use Rattle.cm_attempt.specs.Table.{has_text, has_repeat}
-use Rattle.cm_stream.specs.Skeleton.{same_skeleton}
-use Rattle.cm_state.specs.StateChecks.{find_source, is_accepted_by}
+use Rattle.cm_state.specs.StateChecks.{find_source, is_accepted_by, is_awaited_of}
 use Rattle.cm_audit.specs.Kept.{IsAcceptedAt, accepted_row, kept_row, kept_rows}
 use Rattle.cm_audit.specs.State.{summary_of}
 use Rattle.cm_audit.proofs.Judged.{document_again, document_differs, document_fits, document_of_refused, document_repeats, document_unknown, halts, no_answer}
@@ -43,8 +42,8 @@ returns-in-Refused-clause-found c =
     let bad : is_accepted_by (summary_of s) x.uri ≡ false = rw (← row, c.in-Refused.is) refl in
     document_of_refused (summary_of s) x known first bad
 
-pub returns-then-not-has_skeleton_of-clause-found : goal.returns-then-not-has_skeleton_of-clause-found
-returns-then-not-has_skeleton_of-clause-found c =
+pub returns-then-not-is_awaited-clause-found : goal.returns-then-not-is_awaited-clause-found
+returns-then-not-is_awaited-clause-found c =
     let s = c.args.state.now in
     let x = c.args.document.now in
     let rows = kept_rows s.sources.entries in
@@ -55,7 +54,7 @@ returns-then-not-has_skeleton_of-clause-found c =
     let first : has_text x.uri s.declared.documents ≡ false = ap (λ t. has_text t s.declared.documents) (sym c.as_str-uri.ensures) ∙ sym c.has_document.ensures ∙ c.if-has_document.false in
     let a = c.in-Accepted.accepted in
     let good : find_source (summary_of s) x.uri ≡ Some (accepted_row x.uri a) = sym row ∙ ap (λ k. Some (kept_row x.uri k)) c.in-Accepted.is in
-    document_differs (summary_of s) x known first a good (sym c.has_skeleton_of.ensures ∙ c.if-not-has_skeleton_of.true)
+    document_differs (summary_of s) x known first a good (sym c.is_awaited.ensures ∙ c.if-not-is_awaited.true)
 
 pub returns-in_err-have_repeat-clause-found : goal.returns-in_err-have_repeat-clause-found
 returns-in_err-have_repeat-clause-found c =
@@ -81,7 +80,7 @@ returns-then-branch-clause-found c =
     let first : has_text x.uri s.declared.documents ≡ false = ap (λ t. has_text t s.declared.documents) (sym c.as_str-uri.ensures) ∙ sym c.has_document.ensures ∙ c.if-has_document.false in
     let a = c.in-Accepted.accepted in
     let good : find_source (summary_of s) x.uri ≡ Some (accepted_row x.uri a) = sym row ∙ ap (λ k. Some (kept_row x.uri k)) c.in-Accepted.is in
-    let same : same_skeleton x.document a.document ≡ true = sym c.has_skeleton_of.ensures ∙ c.if-not-has_skeleton_of.false in
+    let same : is_awaited_of x.document (accepted_row [] a) ≡ true = sym c.is_awaited.ensures ∙ c.if-not-is_awaited.false in
     let repeat = ap has_repeat (sym c.as_slice.ensures) ∙ sym c.in_ok-have_repeat.ensures ∙ c.if-branch.true in
     document_repeats (summary_of s) x known first a good same repeat
 
@@ -97,7 +96,7 @@ returns-clause-found c =
     let first : has_text x.uri s.declared.documents ≡ false = ap (λ t. has_text t s.declared.documents) (sym c.as_str-uri.ensures) ∙ sym c.has_document.ensures ∙ c.if-has_document.false in
     let a = c.in-Accepted.accepted in
     let good : find_source (summary_of s) x.uri ≡ Some (accepted_row x.uri a) = sym row ∙ ap (λ k. Some (kept_row x.uri k)) c.in-Accepted.is in
-    let same : same_skeleton x.document a.document ≡ true = sym c.has_skeleton_of.ensures ∙ c.if-not-has_skeleton_of.false in
+    let same : is_awaited_of x.document (accepted_row [] a) ≡ true = sym c.is_awaited.ensures ∙ c.if-not-is_awaited.false in
     let repeat = ap has_repeat (sym c.as_slice.ensures) ∙ sym c.in_ok-have_repeat.ensures ∙ c.if-branch.false in
     document_fits (summary_of s) x known first a good same repeat
 

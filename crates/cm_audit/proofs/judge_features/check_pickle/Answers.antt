@@ -3,7 +3,7 @@ use Rattle.cm_attempt.specs.Table.{has_text}
 use Rattle.cm_audit.specs.Kept.{kept_row, kept_rows}
 use Rattle.cm_audit.specs.State.{summary_of}
 use Rattle.cm_audit.proofs.Judged.{pickle_differs, pickle_unknown}
-use Rattle.cm_audit.proofs.KeptRows.{found_by, found_kept, found_none, listed_is, next_bare, next_more}
+use Rattle.cm_audit.proofs.KeptRows.{found_by, found_kept, found_none, listed_is, next_bare}
 use Rattle.cm_audit.proofs.judge_features.check_pickle.Goals as goal
 
 pub returns-in-None-clause-err : goal.returns-in-None-clause-err
@@ -69,17 +69,3 @@ returns-clause-next c =
     let known : (has_text x.uri s.declared.sources && has_text x.uri s.declared.documents) ≡ true = rw (source, document) refl in
     let next = next_bare x.uri x k.now ∙ sym c.is_next.ensures ∙ c.if-not-is_next.false in
     rw (← row, next) refl
-
-pub returns-clause-more : goal.returns-clause-more
-returns-clause-more c =
-    let s = c.args.state.now in
-    let x = c.args.pickle.now in
-    let rows = kept_rows s.sources.entries in
-    let found = found_by c.as_str-uri.result.now x.uri c.find_source.result rows c.as_str-uri.ensures c.find_source.ensures in
-    let k = c.in-Some.kept in
-    let row = found_kept x.uri c.find_source.result k rows c.in-Some.is found in
-    let source : has_text x.uri s.declared.sources ≡ true = listed_is x.uri rows s.declared.sources (Some (kept_row x.uri k.now)) c.requires.listed row in
-    let document = ap (λ t. has_text t s.declared.documents) (sym c.as_str-uri.ensures) ∙ sym c.has_document.ensures ∙ c.if-not-has_document.false in
-    let known : (has_text x.uri s.declared.sources && has_text x.uri s.declared.documents) ≡ true = rw (source, document) refl in
-    let next = next_bare x.uri x k.now ∙ sym c.is_next.ensures ∙ c.if-not-is_next.false in
-    rw (← row) (next_more x (kept_row x.uri k.now) next)

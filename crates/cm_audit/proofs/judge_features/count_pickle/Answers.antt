@@ -3,14 +3,8 @@ use Rattle.std.specs.Str.{bytes_eq}
 use Rattle.cm_refs.proofs.EntryLemmas.{first_entry, no_entry}
 use Rattle.cm_state.specs.Summary.{one_more}
 use Rattle.cm_audit.specs.Kept.{kept_row}
-use Rattle.cm_audit.proofs.KeptRows.{more_bare, row_says}
+use Rattle.cm_audit.proofs.KeptRows.{row_says}
 use Rattle.cm_audit.proofs.judge_features.count_pickle.Goals as goal
-
-pub count_pickle-requires : goal.count_pickle-requires
-count_pickle-requires c =
-    let at = first_entry kept_row c.args.uri.now (λ r. bytes_eq c.args.uri.now r.uri) (row_says c.args.uri.now) c.args.sources.now.entries
-    c.in-Some.at c.index_mut-kept.result.now (search rules) c.index_mut-kept.ensures.value in
-    more_bare at.key c.index_mut-kept.result.now (rw at.row_at at c.requires)
 
 pub returns-in-Some : goal.returns-in-Some
 returns-in-Some c =

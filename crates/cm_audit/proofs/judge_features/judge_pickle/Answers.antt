@@ -1,10 +1,10 @@
-use Rattle.std.proofs.Common.{◌≡◌, ◌∙◌, refl, ap, sym, subst, map, arith, ◌+◌}
+use Rattle.std.proofs.Common.{◌≡◌, ◌∙◌, refl, ap, sym, map, arith, ◌+◌}
 use Rattle.std.specs.Str.{bytes_eq}
 use Rattle.std.specs.String.{string_bytes}
 use Rattle.cm_refs.specs.Declarations.{Declarations, with_pickle}
 use Rattle.cm_envelope.specs.declared.envelope.Envelope.TheVariants.{Pickle}
 use Rattle.cm_state.specs.Summary.{SourceRow, change_source, one_more}
-use Rattle.cm_audit.specs.Kept.{HasMoreAt, kept_rows}
+use Rattle.cm_audit.specs.Kept.{kept_rows}
 use Rattle.cm_audit.specs.State.{summary_of}
 use Rattle.cm_audit.specs.Stops.{refused_reference}
 use Rattle.cm_audit.specs.declared.stop.Stop.TheVariants.{Memory}
@@ -30,10 +30,6 @@ returns-in_err-declare_pickle c =
     c.from_residual-in_err-declare_pickle.result (refused_reference fault) c.from_residual-in_err-declare_pickle.ensures.1
     (pickle_told (summary_of c.args.state.now) c.args.pickle c.in_ok-check_pickle.ensures.known c.in_ok-check_pickle.ensures.next (map string_bytes c.as_slice.result.now) same fault answer)
     (λ i. record (summary_of c.args.state.now) { declared = c.in_err-declare_pickle.ensures.err i })
-
-pub count_pickle-requires : goal.count_pickle-requires
-count_pickle-requires c =
-    subst (λ t. HasMoreAt t (kept_rows c.args.state.now.sources.entries)) (sym c.as_str-2.ensures) c.in_ok-check_pickle.ensures.more
 
 pub overflow_add-state : goal.overflow_add-state
 overflow_add-state c = omega (arith, c.requires.few.pickles)
