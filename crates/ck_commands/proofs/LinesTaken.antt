@@ -107,7 +107,7 @@ shows_no_fault first feed later n t a b c p still ends line stream leaves =
     (leaves.source ends)
 
 -- the answer at a line is no failed read
-pub no_failed_read : {A : Type 0} (n : ℕ) (why : Stop) → (let answer : Result A (Result Audited Trouble) = Err (audited_at n why) in answer) ≡ Err (Err ReadFailed) → ⊥
+pub no_failed_read : (n : ℕ) (why : Stop) → (let answer : Result Table (Result Audited Trouble) = Err (audited_at n why) in answer) ≡ Err (Err ReadFailed) → ⊥
 no_failed_read n (stop.Bad fault) e = cc
 no_failed_read n (stop.Unsupported reason) e = cc
 no_failed_read n stop.Memory e = cc

@@ -44,10 +44,10 @@ as_long l = go l.has_end
     go true = length-both l.bytes (line_feed ∷ [])
     go false = ap length (append-nil l.bytes) ∙ omega arith
 
-pub nothing_read : (bytes : List ℕ) → HasRead bytes bytes (new_feed 67108864 1073741824) 0
+unfoldable pub nothing_read : (bytes : List ℕ) → HasRead bytes bytes (new_feed 67108864 1073741824) 0
 nothing_read bytes = record { lines = []; count = refl; cut = refl; fed = refl; long = refl }
 
-pub next_read : {before ys zs : List ℕ} {old new : Stored} {n : ℕ} {line : List ℕ} (r : HasRead before ys old n) → IsNextLine old new ys zs line → GivesLine old new line → HasRead before zs new (n + 1)
+unfoldable pub next_read : {before ys zs : List ℕ} {old new : Stored} {n : ℕ} {line : List ℕ} (r : HasRead before ys old n) → IsNextLine old new ys zs line → GivesLine old new line → HasRead before zs new (n + 1)
 next_read {before} {ys} {zs} {old} {new} {n} {line} r i g =
     let l = given_line new line in
     record {
