@@ -1,8 +1,8 @@
 -- The lines that were taken, one by one, and that none of them has a fault.
-use Rattle.std.proofs.Common.{◌≡◌, ◌∙◌, ℕ, ◌+◌, List, [], ◌∷◌, ◌++◌, Option, Some, None, Result, Ok, Err, Bool, true, false, refl, sym, ap, append-nil}
+use Rattle.std.proofs.Common.{◌≡◌, ◌∙◌, ℕ, ◌+◌, List, [], ◌∷◌, ◌++◌, Option, Some, None, Result, Ok, Err, Bool, true, false, refl, sym, ap, subst, append-nil}
 use Rattle.std.specs.Prelude.{option_and_then, if◌then◌else◌}
 use Rattle.cm_envelope.specs.Device.{OfReads}
-use Rattle.cm_envelope.specs.Feeds.{EndsWithSource, Gives, GivesLine, Leaves, Stored, new_feed}
+use Rattle.cm_envelope.specs.Feeds.{EndsWithSource, Gives, GivesLine, Leaves, Stored, given_line, new_feed}
 use Rattle.cm_envelope.proofs.Sources.{HasReadSo, read_so_far, reads_no_more, reads_then}
 use Rattle.cm_envelope.specs.Lines.{Line, is_blank}
 use Rattle.cm_envelope.specs.Member.{◌>>=◌}
@@ -14,7 +14,7 @@ use Rattle.cm_attempt.specs.Table.{Table, table_from}
 use Rattle.cm_attempt.specs.Calls.{table_after}
 use Rattle.cm_audit.specs.Audit.{audited_at, contents}
 use Rattle.cm_audit.specs.Judging.{HasRead}
-use Rattle.cm_audit.proofs.Reading.{first_lines, next_read, nothing_read, one_more}
+use Rattle.cm_audit.proofs.Reading.{first_lines, next_read, next_read_lines, nothing_read, one_more}
 use Rattle.cm_audit.specs.declared.stop.Stop.{Stop}
 use Rattle.cm_audit.specs.declared.stop.Stop.TheVariants as stop
 use Rattle.cm_stream.specs.Calls.{calls_of}
@@ -52,8 +52,12 @@ takes_next first lines n t new l h k more = ap (after_lines 0 (table_from first)
 
 next_taken : (first : ℕ) (xs ys zs : List ℕ) (feed later : Stored) (n : ℕ) (t new : Table) (line : List ℕ) → HasTakenLines first xs ys feed n t → Gives feed later ys zs (Ok (Some line)) → GivesLine feed later line
     → LeavesTable (after_line t line) new (Ok tt) → HasTakenLines first xs zs later (n + 1) new
-unfolding next_read
-next_taken first xs ys zs feed later n t new line h i g k = record { read = next_read h.read i g; takes = takes_next first (h.read).lines n t new _ h.takes k }
+next_taken first xs ys zs feed later n t new line h i g k =
+    let TakesAll : List Line → Type 0 = λ ls. TakesTo first ls (n + 1) new in
+    record {
+      read = next_read h.read i g;
+      takes = subst TakesAll (sym (next_read_lines h.read i g)) (takes_next first (h.read).lines n t new (given_line later line) h.takes k);
+    }
 
 pub goes_on_lines : (first : ℕ) (feed later : Stored) (n : ℕ) (t new : Table) (line : List ℕ) (a b c : Option (List ℕ)) → HasReadSo feed a b (λ xs ys. HasTakenLines first xs ys feed n t) → feed.over ≡ None
     → Leaves feed later b c (Ok (Some line)) → GivesLine feed later line → LeavesTable (after_line t line) new (Ok tt) → HasReadSo later a c (λ xs ys. HasTakenLines first xs ys later (n + 1) new)

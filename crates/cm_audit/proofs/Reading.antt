@@ -47,7 +47,7 @@ as_long l = go l.has_end
 unfoldable pub nothing_read : (bytes : List ℕ) → HasRead bytes bytes (new_feed 67108864 1073741824) 0
 nothing_read bytes = record { lines = []; count = refl; cut = refl; fed = refl; long = refl }
 
-unfoldable pub next_read : {before ys zs : List ℕ} {old new : Stored} {n : ℕ} {line : List ℕ} (r : HasRead before ys old n) → IsNextLine old new ys zs line → GivesLine old new line → HasRead before zs new (n + 1)
+pub next_read : {before ys zs : List ℕ} {old new : Stored} {n : ℕ} {line : List ℕ} (r : HasRead before ys old n) → IsNextLine old new ys zs line → GivesLine old new line → HasRead before zs new (n + 1)
 next_read {before} {ys} {zs} {old} {new} {n} {line} r i g =
     let l = given_line new line in
     record {
@@ -60,6 +60,10 @@ next_read {before} {ys} {zs} {old} {new} {n} {line} r i g =
   where
     shift : (l : Line) → lines_then (bytes_of r.lines) (line_then l.bytes (left new zs)) ≡ lines_then (bytes_of (r.lines ++ l ∷ [])) (left new zs)
     shift l = λ j. record { lines = sym (one_more r.lines l (left new zs).lines) j; trouble = (left new zs).trouble }
+
+pub next_read_lines : {before ys zs : List ℕ} {old new : Stored} {n : ℕ} {line : List ℕ} (r : HasRead before ys old n) (i : IsNextLine old new ys zs line) (g : GivesLine old new line) → (next_read r i g).lines ≡ r.lines ++ given_line new line ∷ []
+unfolding next_read
+next_read_lines r i g = refl
 
 -- ---- what was judged
 
