@@ -1,10 +1,12 @@
 -- The search for the bar that ends a cell.
-use Rattle.std.proofs.Common.{◌≡◌, ◌≢◌, ℕ, suc, ◌+◌, ◌-◌, ◌<◌, true, List, [], ◌∷◌, ◌++◌, length, take, drop, get_or, drop-cons, add-one, Some, None, sym, refl, ap, ◌∙◌, subst, arith, length-append}
+use Rattle.std.proofs.Common.{◌≡◌, ◌≢◌, ℕ, suc, ◌+◌, ◌-◌, ◌<◌, Bool, true, false, List, [], ◌∷◌, ◌++◌, length, take, drop, get_or, drop-cons, add-one, Some, None, sym, refl, ap, ◌∙◌, subst, arith, length-append}
 use Rattle.std.specs.Prelude.{◌==◌, ◌||◌, map, slice_range}
-use Rattle.std.specs.Str.{chars, IsUtf8, NonePass}
+use Rattle.std.specs.Str.{chars, IsAscii, IsNotAscii, IsUtf8, NonePass}
+use Rattle.std.specs.Bool.{MatchBool}
+use Rattle.std.proofs.lemmas.Bool.{false≢true}
 use Rattle.std.proofs.lemmas.List.{append_assoc, take-append-drop, get_or-take, length-take}
-use Rattle.std.proofs.Math.Seq.{take-append_seam}
-use Rattle.std.proofs.lemmas.Str.{chars-append, chars-nil, IsUtf8-append, IsUtf8-nil, IsUtf8-from_ascii, chars-IsAscii}
+use Rattle.std.proofs.Math.Seq.{take-append_seam, drop-append_seam}
+use Rattle.std.proofs.lemmas.Str.{chars-append, chars-nil, IsUtf8-append, IsUtf8-nil, IsUtf8-from_ascii, chars-IsAscii, IsAscii-take, IsAscii-drop}
 use Rattle.std.proofs.lemmas.Grind.{common_steps}
 use Rattle.memchr.specs.Find.{IsFirstByte, is_byte2}
 use native.Mathlib.Nat.{sub-zero}
@@ -62,6 +64,16 @@ state_chars : (text rest front : List ℕ) (place b : ℕ) → IsUtf8 front → 
 state_chars text rest front place b uf whole found =
     ap chars whole ∙ chars-append front rest uf ∙ ap (λ q. chars front ++ q) found.split
 
+-- what is before the bar and what follows it, by their bytes
+pub State-cut : (text rest part next : List ℕ) (place : ℕ) → State text rest → Special rest place vertical_bar → next ≡ drop (place + 1) rest → part ≡ slice_range text 0 (length text - length next - 1) → text ≡ part ++ vertical_bar ∷ next
+State-cut text rest part next place (front, us, whole, uf, ur, reads) found is_next is_part =
+    let pre = take place rest in
+    let more = drop (place + 1) rest in
+    let parts : text ≡ (front ++ pre) ++ vertical_bar ∷ more = whole ∙ ap (λ q. front ++ q) found.bytes ∙ sym (append_assoc front pre (vertical_bar ∷ more)) in
+    let long : length text - length next - 1 ≡ length (front ++ pre) = omega (arith, ap length parts, length-append (front ++ pre) (vertical_bar ∷ more), ap length is_next) in
+    let cut : part ≡ front ++ pre = is_part ∙ rw (sub-zero, long) (ap (take (length (front ++ pre))) parts ∙ take-append_seam (front ++ pre) (vertical_bar ∷ more)) in
+    parts ∙ rw (cut, is_next) refl
+
 pub State-bar : (text rest part next : List ℕ) (place : ℕ) → State text rest → Special rest place vertical_bar → next ≡ drop (place + 1) rest → part ≡ slice_range text 0 (length text - length next - 1) → IsCutAtBar (units (chars text)) (units (chars part)) (units (chars next))
 State-bar text rest part next place (front, us, whole, uf, ur, reads) found is_next is_part =
     let pre = take place rest in
@@ -112,3 +124,15 @@ pub other_is_backslash : (rest : List ℕ) (place : ℕ) → IsFirstByte (is_byt
 other_is_backslash rest place h other = by_value (get_or rest place 0) h.1 other where
   by_value : (x : ℕ) → (x == vertical_bar || x == backslash) ≡ true → x ≢ vertical_bar → x ≡ backslash
   by_value x e n = grind (arith, common_steps)
+
+-- parts of a text of ASCII alone
+pub ascii_parts : (text part next : List ℕ) → text ≡ part ++ vertical_bar ∷ next → IsAscii text → IsAscii part × IsAscii next
+ascii_parts text part next parts a =
+    let front : take (length part) text ≡ part = ap (take (length part)) parts ∙ take-append_seam part (vertical_bar ∷ next) in
+    let whole : text ≡ (part ++ vertical_bar ∷ []) ++ next = parts ∙ sym (append_assoc part (vertical_bar ∷ []) next) in
+    let back : drop (length (part ++ vertical_bar ∷ [])) text ≡ next = ap (drop (length (part ++ vertical_bar ∷ []))) whole ∙ drop-append_seam (part ++ vertical_bar ∷ []) next in
+    (subst IsAscii front (IsAscii-take text (length part) a), subst IsAscii back (IsAscii-drop text (length (part ++ vertical_bar ∷ [])) a))
+
+pub ascii_told : (b : Bool) (text : List ℕ) → MatchBool b (IsAscii text) (IsNotAscii text) → b ≡ true → IsAscii text
+ascii_told true text h e = h
+ascii_told false text h e = absurd (false≢true e)

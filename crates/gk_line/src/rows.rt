@@ -1,10 +1,10 @@
 //! The cells of a table row.
 ghost use Rattle.std.specs.Prelude.{◌≡◌, ◌≤◌, ◌<◌, ◌+◌, ◌∷◌, ◌++◌, ◌^◌, map, length, IfOk, IfSome, OnOk, MatchOption, [], if◌then◌else◌, codes, IsTrue};
 ghost use Rattle.std.specs.List.{AllByRecursion};
-ghost use Rattle.std.specs.Str.{chars, IsUtf8};
+ghost use Rattle.std.specs.Str.{chars, IsAscii, IsUtf8};
 ghost use Rattle.std.specs.String.{string_bytes};
 ghost use Rattle.gk_line.specs.declared.limit.TheConstants.{FEATURE_LIMIT};
-ghost use Rattle.gk_line.specs.Characters.{backslash};
+ghost use Rattle.gk_line.specs.Characters.{backslash, vertical_bar};
 ghost use Rattle.gk_line.specs.Cells.{units, escaped, cells_of, cell_at, meanings, IsCutAtBar, NoBar};
 ghost use Rattle.gk_line.specs.Tokens.{begins_by};
 ghost use Rattle.gk_line.specs.Views.{line_chars, cell_text};
@@ -38,12 +38,28 @@ pub fn cells(alloc: Global, line: Line<'_>) -> Result<Vec<Cell>, AllocError>
     let Some(mut rest) = strip(trim_start(line.text), "|") else {
         return Ok(cells);
     };
+    let is_ascii = rest.is_ascii();
     while let Some((part, next)) = cut_at_bar(rest) {
         cells.push(cell(alloc, part, column)?)?;
-        column += count(part) + 1;
+        column += width(part, is_ascii) + 1;
         rest = next;
     }
     Ok(cells)
+}
+
+/// How many characters the text has, where it is known whether it is ASCII.
+#[inline(always)]
+fn width(text: &str, is_ascii: bool) -> u32
+    requires short { length text.now < 2 ^ 32 }
+    requires ascii { IsTrue is_ascii → IsAscii text.now }
+    ensures value { result ≡ length (chars text.now) }
+    ensures bound { result ≤ length text.now }
+{
+    if is_ascii {
+        text.len() as u32
+    } else {
+        count(text)
+    }
 }
 
 /// The cell that is written as this text from this column on.
@@ -126,6 +142,8 @@ fn cut_at_bar(text: &str) -> Option<(&str, &str)>
     ensures place { MatchOption result (NoBar (units (chars text.now)))
         (λ parts. IsCutAtBar (units (chars text.now))
         (units (chars parts.0.now)) (units (chars parts.1.now))) }
+    ensures bytes { IfSome result
+        (λ parts. text.now ≡ parts.0.now ++ vertical_bar ∷ parts.1.now) }
     ensures utf8 { IfSome result (λ parts. IsUtf8 parts.1.now) }
 {
     let mut rest = text;

@@ -2,7 +2,7 @@ use Rattle.std.proofs.Common.{Some, None, subst, sym, ap, ◌∙◌, get_or}
 use Rattle.std.proofs.lemmas.Str.{IsCharBoundary-after_ascii}
 use Rattle.memchr.specs.Find.{IsFirstByte, is_byte2}
 use Rattle.gk_line.specs.Texts.{TakesFirst}
-use Rattle.gk_line.proofs.RowLemmas.{State-nil, State-bar, State-end, State-last, State-pair, special, other_is_backslash, either_small}
+use Rattle.gk_line.proofs.RowLemmas.{State-nil, State-bar, State-cut, State-end, State-last, State-pair, special, other_is_backslash, either_small}
 use Rattle.gk_line.proofs.rows.cut_at_bar.Goals as goal
 use Rattle.gk_line.specs.Characters.{backslash, vertical_bar}
 
@@ -43,3 +43,10 @@ loop-place-preserved c =
 
 pub returns-then-as_bytes-place-eq124-clause-utf8 : goal.returns-then-as_bytes-place-eq124-clause-utf8
 returns-then-as_bytes-place-eq124-clause-utf8 c = c.range_from-next.utf8
+
+pub returns-then-as_bytes-place-eq124-clause-bytes : goal.returns-then-as_bytes-place-eq124-clause-bytes
+returns-then-as_bytes-place-eq124-clause-bytes c =
+    let found = subst (λ bytes. IsFirstByte (is_byte2 vertical_bar backslash) bytes (Some c.in-Some.place)) c.as_bytes.ensures.value c.in-Some.ensures in
+    let at = sym (ap (λ q. get_or q c.in-Some.place 0) c.as_bytes-in-Some.ensures.value) ∙ c.if-as_bytes-place-eq124.true in
+    State-cut c.args.text.now c.loop-place.rest.now c.range.result.now c.range_from-next.result.now c.in-Some.place c.loop-place.invariant
+    (special c.loop-place.rest.now c.in-Some.place vertical_bar c.loop-place.invariant.4 found at) c.range_from-next.ensures.value c.range.ensures.value
