@@ -1,5 +1,5 @@
 -- The search for the bar that ends a cell.
-use Rattle.std.proofs.Common.{◌≡◌, ◌≢◌, ℕ, suc, ◌+◌, ◌-◌, ◌<◌, Bool, true, false, List, [], ◌∷◌, ◌++◌, length, take, drop, get_or, drop-cons, add-one, Some, None, sym, refl, ap, ◌∙◌, subst, arith, length-append}
+use Rattle.std.proofs.Common.{◌≡◌, ◌≢◌, ℕ, suc, ◌+◌, ◌-◌, ◌<◌, Bool, true, false, List, [], ◌∷◌, ◌++◌, length, take, drop, get_or, drop-cons, add-one, Some, None, sym, refl, ap, ◌∙◌, subst, arith, length-append, length-drop}
 use Rattle.std.specs.Prelude.{◌==◌, ◌||◌, map, slice_range}
 use Rattle.std.specs.Str.{chars, IsAscii, IsNotAscii, IsUtf8, NonePass}
 use Rattle.std.specs.Bool.{MatchBool}
@@ -10,7 +10,8 @@ use Rattle.std.proofs.lemmas.Str.{chars-append, chars-nil, IsUtf8-append, IsUtf8
 use Rattle.std.proofs.lemmas.Grind.{common_steps}
 use Rattle.memchr.specs.Find.{IsFirstByte, is_byte2}
 use native.Mathlib.Nat.{sub-zero}
-use Rattle.gk_line.specs.Texts.{TakesFirst}
+use Rattle.gk_line.specs.Texts.{TakesFirst, trimmed}
+use Rattle.gk_line.proofs.PlaceLemmas.{trimmed-split}
 use Rattle.gk_line.specs.Cells.{CellUnit, plain, units, IsCutAtBar, NoBar}
 use Rattle.gk_line.proofs.TextLemmas.{ascii_bytes}
 use Rattle.gk_line.proofs.LineLemmas.{none_from_text, chars-cut}
@@ -83,6 +84,24 @@ State-bar text rest part next place (front, us, whole, uf, ur, reads) found is_n
     let cut : part ≡ front ++ pre = is_part ∙ rw (sub-zero, long) (ap (take (length (front ++ pre))) parts ∙ take-append_seam (front ++ pre) (vertical_bar ∷ more)) in
     rw (state_chars text rest front place vertical_bar uf whole found, cut, chars-append front pre uf, is_next)
     (Reads-bar (chars front) (chars pre) (chars more) us reads found.no_backslash found.no_bar)
+
+-- where the search found the bar at once, no backslash is before it
+pub State-plain : (text rest part next : List ℕ) (place : ℕ) → rest ≡ text → Special rest place vertical_bar → next ≡ drop (place + 1) rest → part ≡ slice_range text 0 (length text - length next - 1) → NonePass (λ c. c == backslash) (chars part)
+State-plain text rest part next place same found is_next is_part =
+    let long : length text - length next - 1 ≡ place = omega (arith, ap length same, ap length is_next, length-drop (place + 1) rest, found.inside) in
+    let cut : part ≡ take place rest = is_part ∙ rw (sub-zero, long, same) refl in
+    subst (λ q. NonePass (λ c. c == backslash) (chars q)) (sym cut) found.no_backslash
+
+none-append : (at : ℕ) (xs ys : List ℕ) → NonePass (λ c. c == at) (xs ++ ys) → NonePass (λ c. c == at) xs × NonePass (λ c. c == at) ys
+none-append at [] ys h = (tt, h)
+none-append at (x ∷ xs) ys h = let more = none-append at xs ys h.1 in ((h.0, more.0), more.1)
+
+-- a part of a text without backslashes has none
+pub trimmed-plain : (text : List ℕ) → NonePass (λ c. c == backslash) text → NonePass (λ c. c == backslash) (trimmed text)
+trimmed-plain text h =
+    let split = trimmed-split text in
+    let whole = subst (NonePass (λ c. c == backslash)) split.2 h in
+    (none-append backslash (trimmed text) split.1 (none-append backslash split.0 (trimmed text ++ split.1) whole).1).0
 
 pub State-end : (text rest : List ℕ) → State text rest → IsFirstByte (is_byte2 vertical_bar backslash) rest None → NoBar (units (chars text))
 State-end text rest (front, us, whole, uf, ur, reads) none =
