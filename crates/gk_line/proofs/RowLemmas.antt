@@ -1,14 +1,17 @@
 -- The search for the bar that ends a cell.
-use Rattle.std.proofs.Common.{◌≡◌, ◌≢◌, ℕ, suc, ◌+◌, ◌-◌, ◌<◌, true, List, [], ◌∷◌, ◌++◌, length, take, drop, get_or, drop-cons, add-one, Some, None, sym, refl, ap, ◌∙◌, subst, arith, length-append}
+use Rattle.std.proofs.Common.{◌≡◌, ◌≢◌, ℕ, suc, ◌+◌, ◌-◌, ◌<◌, Bool, true, false, List, [], ◌∷◌, ◌++◌, length, take, drop, get_or, drop-cons, add-one, Some, None, sym, refl, ap, ◌∙◌, subst, arith, length-append, length-drop}
 use Rattle.std.specs.Prelude.{◌==◌, ◌||◌, map, slice_range}
-use Rattle.std.specs.Str.{chars, IsUtf8, NonePass}
+use Rattle.std.specs.Str.{chars, IsAscii, IsNotAscii, IsUtf8, NonePass}
+use Rattle.std.specs.Bool.{MatchBool}
+use Rattle.std.proofs.lemmas.Bool.{false≢true}
 use Rattle.std.proofs.lemmas.List.{append_assoc, take-append-drop, get_or-take, length-take}
-use Rattle.std.proofs.Math.Seq.{take-append_seam}
-use Rattle.std.proofs.lemmas.Str.{chars-append, chars-nil, IsUtf8-append, IsUtf8-nil, IsUtf8-from_ascii, chars-IsAscii}
+use Rattle.std.proofs.Math.Seq.{take-append_seam, drop-append_seam}
+use Rattle.std.proofs.lemmas.Str.{chars-append, chars-nil, IsUtf8-append, IsUtf8-nil, IsUtf8-from_ascii, chars-IsAscii, IsAscii-take, IsAscii-drop}
 use Rattle.std.proofs.lemmas.Grind.{common_steps}
 use Rattle.memchr.specs.Find.{IsFirstByte, is_byte2}
 use native.Mathlib.Nat.{sub-zero}
-use Rattle.gk_line.specs.Texts.{TakesFirst}
+use Rattle.gk_line.specs.Texts.{TakesFirst, trimmed}
+use Rattle.gk_line.proofs.PlaceLemmas.{trimmed-split}
 use Rattle.gk_line.specs.Cells.{CellUnit, plain, units, IsCutAtBar, NoBar}
 use Rattle.gk_line.proofs.TextLemmas.{ascii_bytes}
 use Rattle.gk_line.proofs.LineLemmas.{none_from_text, chars-cut}
@@ -62,6 +65,16 @@ state_chars : (text rest front : List ℕ) (place b : ℕ) → IsUtf8 front → 
 state_chars text rest front place b uf whole found =
     ap chars whole ∙ chars-append front rest uf ∙ ap (λ q. chars front ++ q) found.split
 
+-- what is before the bar and what follows it, by their bytes
+pub State-cut : (text rest part next : List ℕ) (place : ℕ) → State text rest → Special rest place vertical_bar → next ≡ drop (place + 1) rest → part ≡ slice_range text 0 (length text - length next - 1) → text ≡ part ++ vertical_bar ∷ next
+State-cut text rest part next place (front, us, whole, uf, ur, reads) found is_next is_part =
+    let pre = take place rest in
+    let more = drop (place + 1) rest in
+    let parts : text ≡ (front ++ pre) ++ vertical_bar ∷ more = whole ∙ ap (λ q. front ++ q) found.bytes ∙ sym (append_assoc front pre (vertical_bar ∷ more)) in
+    let long : length text - length next - 1 ≡ length (front ++ pre) = omega (arith, ap length parts, length-append (front ++ pre) (vertical_bar ∷ more), ap length is_next) in
+    let cut : part ≡ front ++ pre = is_part ∙ rw (sub-zero, long) (ap (take (length (front ++ pre))) parts ∙ take-append_seam (front ++ pre) (vertical_bar ∷ more)) in
+    parts ∙ rw (cut, is_next) refl
+
 pub State-bar : (text rest part next : List ℕ) (place : ℕ) → State text rest → Special rest place vertical_bar → next ≡ drop (place + 1) rest → part ≡ slice_range text 0 (length text - length next - 1) → IsCutAtBar (units (chars text)) (units (chars part)) (units (chars next))
 State-bar text rest part next place (front, us, whole, uf, ur, reads) found is_next is_part =
     let pre = take place rest in
@@ -71,6 +84,24 @@ State-bar text rest part next place (front, us, whole, uf, ur, reads) found is_n
     let cut : part ≡ front ++ pre = is_part ∙ rw (sub-zero, long) (ap (take (length (front ++ pre))) parts ∙ take-append_seam (front ++ pre) (vertical_bar ∷ more)) in
     rw (state_chars text rest front place vertical_bar uf whole found, cut, chars-append front pre uf, is_next)
     (Reads-bar (chars front) (chars pre) (chars more) us reads found.no_backslash found.no_bar)
+
+-- where the search found the bar at once, no backslash is before it
+pub State-plain : (text rest part next : List ℕ) (place : ℕ) → rest ≡ text → Special rest place vertical_bar → next ≡ drop (place + 1) rest → part ≡ slice_range text 0 (length text - length next - 1) → NonePass (λ c. c == backslash) (chars part)
+State-plain text rest part next place same found is_next is_part =
+    let long : length text - length next - 1 ≡ place = omega (arith, ap length same, ap length is_next, length-drop (place + 1) rest, found.inside) in
+    let cut : part ≡ take place rest = is_part ∙ rw (sub-zero, long, same) refl in
+    subst (λ q. NonePass (λ c. c == backslash) (chars q)) (sym cut) found.no_backslash
+
+none-append : (at : ℕ) (xs ys : List ℕ) → NonePass (λ c. c == at) (xs ++ ys) → NonePass (λ c. c == at) xs × NonePass (λ c. c == at) ys
+none-append at [] ys h = (tt, h)
+none-append at (x ∷ xs) ys h = let more = none-append at xs ys h.1 in ((h.0, more.0), more.1)
+
+-- a part of a text without backslashes has none
+pub trimmed-plain : (text : List ℕ) → NonePass (λ c. c == backslash) text → NonePass (λ c. c == backslash) (trimmed text)
+trimmed-plain text h =
+    let split = trimmed-split text in
+    let whole = subst (NonePass (λ c. c == backslash)) split.2 h in
+    (none-append backslash (trimmed text) split.1 (none-append backslash split.0 (trimmed text ++ split.1) whole).1).0
 
 pub State-end : (text rest : List ℕ) → State text rest → IsFirstByte (is_byte2 vertical_bar backslash) rest None → NoBar (units (chars text))
 State-end text rest (front, us, whole, uf, ur, reads) none =
@@ -112,3 +143,15 @@ pub other_is_backslash : (rest : List ℕ) (place : ℕ) → IsFirstByte (is_byt
 other_is_backslash rest place h other = by_value (get_or rest place 0) h.1 other where
   by_value : (x : ℕ) → (x == vertical_bar || x == backslash) ≡ true → x ≢ vertical_bar → x ≡ backslash
   by_value x e n = grind (arith, common_steps)
+
+-- parts of a text of ASCII alone
+pub ascii_parts : (text part next : List ℕ) → text ≡ part ++ vertical_bar ∷ next → IsAscii text → IsAscii part × IsAscii next
+ascii_parts text part next parts a =
+    let front : take (length part) text ≡ part = ap (take (length part)) parts ∙ take-append_seam part (vertical_bar ∷ next) in
+    let whole : text ≡ (part ++ vertical_bar ∷ []) ++ next = parts ∙ sym (append_assoc part (vertical_bar ∷ []) next) in
+    let back : drop (length (part ++ vertical_bar ∷ [])) text ≡ next = ap (drop (length (part ++ vertical_bar ∷ []))) whole ∙ drop-append_seam (part ++ vertical_bar ∷ []) next in
+    (subst IsAscii front (IsAscii-take text (length part) a), subst IsAscii back (IsAscii-drop text (length (part ++ vertical_bar ∷ [])) a))
+
+pub ascii_told : (b : Bool) (text : List ℕ) → MatchBool b (IsAscii text) (IsNotAscii text) → b ≡ true → IsAscii text
+ascii_told true text h e = h
+ascii_told false text h e = absurd (false≢true e)

@@ -2,13 +2,13 @@
 use Rattle.std.proofs.Common.{◌≡◌, ℕ, zero, suc, ◌+◌, ◌-◌, ◌<◌, ◌≤◌, Bool, true, false, cond, List, [], ◌∷◌, ◌++◌, length, drop, sym, refl, ap, ◌∙◌, subst, arith, length-drop}
 use Rattle.std.specs.Prelude.{◌&&◌, ◌==◌, nat_lt, not, slice_index, is_some, if◌then◌else◌, Some, None}
 use Rattle.std.specs.Char.{is_ascii, is_whitespace}
-use Rattle.std.specs.List.{prefix_len, list_all}
+use Rattle.std.specs.List.{prefix_len, list_all, list_any}
 use Rattle.std.specs.Str.{chars, IsUtf8, IsCharBoundary, skip_leading_whitespace, encode_utf8_all}
 use Rattle.std.proofs.lemmas.Grind.{common_steps}
 use Rattle.std.proofs.lemmas.List.Sums.{prefix_len-le-length}
 use Rattle.std.proofs.lemmas.Bool.{eqb-true, eq-eqb, ne_eqb, false≢true}
 use Rattle.std.proofs.lemmas.Str.{chars-nil, encode_ascii, encodes-chars, byte_from_char, char_from_byte, IsUtf8-past_char, IsCharBoundary-from_drop}
-use Rattle.gk_line.specs.Texts.{is_ascii_space, body_of, after}
+use Rattle.gk_line.specs.Texts.{is_ascii_space, is_visible_ascii, body_of, after}
 use Rattle.gk_line.specs.Tokens.{is_blank_line, indent_of}
 use Rattle.gk_line.specs.DocStrings.{outdented}
 use Rattle.gk_line.proofs.TextLemmas.{and_true}
@@ -152,3 +152,14 @@ outdented-spaces n bs l u =
 
 pub spaces-boundary : (n : ℕ) (bs : List ℕ) → n ≤ prefix_len is_ascii_space bs → IsUtf8 bs → IsCharBoundary bs n
 spaces-boundary n bs l u = IsCharBoundary-from_drop bs n (omega (arith, l, prefix_len-le-length is_ascii_space bs)) (spaces-dropped n bs l u).2
+
+visible_alone : (b : ℕ) → is_visible_ascii b ≡ true → (is_ascii b ≡ true) × (is_whitespace b ≡ false)
+visible_alone b h = (grind (arith, common_steps), grind (arith, common_steps))
+
+-- a text of visible ASCII characters has no white space
+pub visible-none : (bs : List ℕ) → list_all is_visible_ascii bs ≡ true → list_any is_whitespace (chars bs) ≡ false
+visible-none [] h = rw chars-nil refl
+visible-none (b ∷ bs) h =
+    let both = and_true (is_visible_ascii b) (list_all is_visible_ascii bs) h in
+    let alone = visible_alone b both.0 in
+    rw (chars-ascii b bs alone.0, alone.1) (visible-none bs both.1)

@@ -10,10 +10,10 @@ use Rattle.std.specs.Str.Pattern.{FindsTextPrefix, StripsPrefix}
 use Rattle.std.proofs.lemmas.Str.{IsUtf8-drop, chars_past_char, cons_from_encodes, IsUtf8-encode}
 use Rattle.std.proofs.Common.{Bor, length-drop}
 use Rattle.std.proofs.lemmas.List.{append-nil, append_assoc}
-use Rattle.std.specs.Str.{chars, IsUtf8, all_scalars, encode_utf8_all, skip_leading_whitespace, drop_trailing_whitespace, trim_start, trim_end, trim, IsAscii, IsCharBoundary, bytes_eq}
-use Rattle.std.proofs.lemmas.Str.{chars-encodes, chars_from_encodes, encodes-chars, chars-nil, scalars-chars, chars-append, chars-IsAscii, encodes-append, encodes-IsAscii, IsUtf8-from_ascii}
+use Rattle.std.specs.Str.{chars, IsUtf8, all_scalars, encode_utf8_all, skip_leading_whitespace, trim_start, IsAscii, IsCharBoundary, bytes_eq}
+use Rattle.std.proofs.lemmas.Str.{chars_from_encodes, encodes-chars, chars-nil, scalars-chars, chars-append, chars-IsAscii, encodes-append, encodes-IsAscii, IsUtf8-from_ascii}
 use Rattle.std.proofs.lemmas.Grind.{common_steps}
-use Rattle.gk_line.specs.Texts.{body_of, trimmed, after, TakesFirst}
+use Rattle.gk_line.specs.Texts.{body_of, after, TakesFirst}
 
 pub and_true : (a b : Bool) → (a && b) ≡ true → (a ≡ true) × (b ≡ true)
 and_true true b h = (refl, h)
@@ -23,22 +23,10 @@ scalars-skip : (cs : List ℕ) → all_scalars cs ≡ true → all_scalars (skip
 scalars-skip [] h = refl
 scalars-skip (c ∷ cs) h = grind (arith, common_steps, scalars-skip cs)
 
-scalars-drop_trailing : (cs : List ℕ) → all_scalars cs ≡ true → all_scalars (drop_trailing_whitespace cs) ≡ true
-scalars-drop_trailing [] h = refl
-scalars-drop_trailing (c ∷ cs) h = grind (arith, common_steps, scalars-drop_trailing cs)
-
 -- the characters of what `trim_start` gives
 pub chars-trim_start : (bs t : List ℕ) → IsUtf8 t → t ≡ trim_start bs → chars t ≡ body_of (chars bs)
 unfolding trim_start body_of
 chars-trim_start bs t u e = sym (chars_from_encodes (skip_leading_whitespace (chars bs)) t u (sym e))
-
--- the characters of what `trim` gives
-pub chars-trim : (bs t : List ℕ) → IsUtf8 bs → IsUtf8 t → t ≡ trim bs → chars t ≡ trimmed (chars bs)
-unfolding trim_start trim_end trimmed
-chars-trim bs t ub ut e =
-    let inner : chars (encode_utf8_all (skip_leading_whitespace (chars bs))) ≡ skip_leading_whitespace (chars bs) =
-    chars-encodes _ (scalars-skip (chars bs) (scalars-chars bs ub)) in
-    sym (chars_from_encodes (drop_trailing_whitespace (skip_leading_whitespace (chars bs))) t ut (sym (e ∙ ap (λ cs. encode_utf8_all (drop_trailing_whitespace cs)) inner)))
 
 -- a text of ASCII alone
 pub ascii_bytes : (p : List ℕ) → list_all is_ascii p ≡ true → IsAscii p

@@ -46,6 +46,7 @@ title_of block line =
     (after (keyword ++ codes ":") (body_of line)))
     (keywords block)
 
+-- the blocks, in the order of their declaration
 abbrev pub blocks : List Block
 blocks = Feature ∷ Rule ∷ Background ∷ Scenario ∷ Examples ∷ []
 

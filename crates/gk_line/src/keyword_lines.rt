@@ -14,10 +14,8 @@ use crate::texts::{cut, first_byte, strip, trim, trim_start};
 use crate::tokens::{Block, FenceLine, Line, StepLine, Title};
 use gk_document::{Fence, KeywordType};
 
-/// The first block that the line is the title of, and that title: after its indent one of the block's keywords, at once a
-/// colon, and the name.
-///
-/// A line is the title of one block at most.
+/// The block that the line is the title of, and that title: after its indent one of the block's keywords, at once a
+/// colon, and the name. No line is the title of two blocks.
 ///
 /// Source: Gherkin reference, "Keywords"; `gherkin.berp`, `FeatureLine` to `ExamplesLine`.
 pub fn block_title<'a>(line: Line<'a>) -> Option<(Block, Title<'a>)>

@@ -57,6 +57,7 @@ impl<'a> Iterator for Lines<'a> {
 
     ghost remaining = { item_count lines_left };
 
+    #[inline(always)]
     fn next(&mut self) -> Option<Line<'a>> {
         if self.rest.is_empty() {
             return None;
@@ -73,6 +74,7 @@ impl<'a> Iterator for Lines<'a> {
 }
 
 /// The first line of a text that is not empty, and what follows its line end.
+#[inline(always)]
 fn first_line(text: &str) -> (&str, &str)
     requires { 0 < length text.now }
     ensures value { lines (chars text.now) ≡ chars result.0.now ∷ lines (chars result.1.now) }

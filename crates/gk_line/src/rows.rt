@@ -1,16 +1,16 @@
 //! The cells of a table row.
-ghost use Rattle.std.specs.Prelude.{◌≡◌, ◌≤◌, ◌<◌, ◌+◌, ◌∷◌, ◌++◌, ◌^◌, map, length, IfOk, IfSome, OnOk, MatchOption, [], if◌then◌else◌, codes, IsTrue};
+ghost use Rattle.std.specs.Prelude.{◌≡◌, ◌==◌, ◌≤◌, ◌<◌, ◌+◌, ◌∷◌, ◌++◌, ◌^◌, map, length, IfOk, IfSome, OnOk, MatchOption, [], if◌then◌else◌, codes, IsTrue};
 ghost use Rattle.std.specs.List.{AllByRecursion};
-ghost use Rattle.std.specs.Str.{chars, IsUtf8};
+ghost use Rattle.std.specs.Str.{chars, IsAscii, IsUtf8, NonePass};
 ghost use Rattle.std.specs.String.{string_bytes};
 ghost use Rattle.gk_line.specs.declared.limit.TheConstants.{FEATURE_LIMIT};
-ghost use Rattle.gk_line.specs.Characters.{backslash};
+ghost use Rattle.gk_line.specs.Characters.{backslash, vertical_bar};
 ghost use Rattle.gk_line.specs.Cells.{units, escaped, cells_of, cell_at, meanings, IsCutAtBar, NoBar};
 ghost use Rattle.gk_line.specs.Tokens.{begins_by};
 ghost use Rattle.gk_line.specs.Views.{line_chars, cell_text};
 
 use crate::kinds::column;
-use crate::texts::{after_first, count, cut, leading_space, strip, trim, trim_start};
+use crate::texts::{after_first, count, leading_space, strip, trim, trim_start};
 use crate::tokens::Line;
 use gk_document::{Cell, Text};
 use memchr::memchr2;
@@ -38,36 +38,55 @@ pub fn cells(alloc: Global, line: Line<'_>) -> Result<Vec<Cell>, AllocError>
     let Some(mut rest) = strip(trim_start(line.text), "|") else {
         return Ok(cells);
     };
-    while let Some((part, next)) = cut_at_bar(rest) {
-        cells.push(cell(alloc, part, column)?)?;
-        column += count(part) + 1;
+    let is_ascii = rest.is_ascii();
+    while let Some((part, next, plain)) = cut_at_bar(rest) {
+        cells.push(cell(alloc, part, plain, column)?)?;
+        column += width(part, is_ascii) + 1;
         rest = next;
     }
     Ok(cells)
 }
 
-/// The cell that is written as this text from this column on.
-fn cell(alloc: Global, part: &str, column: u32) -> Result<Cell, AllocError>
-    requires { column + length part.now < 2 ^ 32 }
+/// How many characters the text has, where it is known whether it is ASCII.
+#[inline(always)]
+fn width(text: &str, is_ascii: bool) -> u32
+    requires short { length text.now < 2 ^ 32 }
+    requires ascii { IsTrue is_ascii → IsAscii text.now }
+    ensures value { result ≡ length (chars text.now) }
+    ensures bound { result ≤ length text.now }
+{
+    if is_ascii {
+        text.len() as u32
+    } else {
+        count(text)
+    }
+}
+
+/// The cell that is written as this text from this column on, where a plain text has no backslash.
+fn cell(alloc: Global, part: &str, plain: bool, column: u32) -> Result<Cell, AllocError>
+    requires short { column + length part.now < 2 ^ 32 }
+    requires plain { IsTrue plain → NonePass (λ c. c == backslash) (chars part.now) }
     ensures value { IfOk result
         (λ cell. cell_text cell ≡ cell_at column (units (chars part.now))) }
     ensures utf8 { IfOk result (λ cell. IsUtf8 cell.value) }
 {
     Ok(Cell {
-        value: Text::from(unescape(alloc, trim(part))?),
+        value: Text::from(unescape(alloc, trim(part), plain)?),
         column: column + leading_space(part),
     })
 }
 
 /// The text that a cell's units mean: its own characters, where it has no backslash.
-fn unescape(alloc: Global, text: &str) -> Result<String, AllocError>
+fn unescape(alloc: Global, text: &str, plain: bool) -> Result<String, AllocError>
+    requires { IsTrue plain → NonePass (λ c. c == backslash) (chars text.now) }
     ensures { IfOk result (λ value. chars (string_bytes value)
         ≡ meanings (units (chars text.now))) }
 {
-    match cut(text, b'\\') {
-        Some(_) => unescape_units(alloc, text),
-        None => Ok(String::from_str(alloc, text)?),
+    if !plain {
+        return unescape_units(alloc, text);
     }
+    let value = String::from_str(alloc, text)?;
+    Ok(value)
 }
 
 /// The text that a cell's units mean, one character after another.
@@ -119,21 +138,28 @@ fn unescaped(c: char) -> Option<char>
     }
 }
 
-/// The text before the first bar that no backslash escapes, and the text after that bar.
-fn cut_at_bar(text: &str) -> Option<(&str, &str)>
+/// The text before the first bar that no backslash escapes, the text after that bar, and whether the text before it is
+/// known to have no backslash.
+fn cut_at_bar(text: &str) -> Option<(&str, &str, bool)>
     ensures lengths { IfSome result
         (λ parts. length parts.0.now + length parts.1.now + 1 ≡ length text.now) }
     ensures place { MatchOption result (NoBar (units (chars text.now)))
         (λ parts. IsCutAtBar (units (chars text.now))
         (units (chars parts.0.now)) (units (chars parts.1.now))) }
+    ensures bytes { IfSome result
+        (λ parts. text.now ≡ parts.0.now ++ vertical_bar ∷ parts.1.now) }
     ensures utf8 { IfSome result (λ parts. IsUtf8 parts.1.now) }
+    ensures plain { IfSome result (λ parts. IsTrue parts.2
+        → NonePass (λ c. c == backslash) (chars parts.0.now)) }
 {
+    let mut plain = true;
     let mut rest = text;
     while let Some(place) = memchr2(b'|', b'\\', rest.as_bytes()) {
         let next = &rest[place + 1..];
         if rest.as_bytes()[place] == b'|' {
-            return Some((&text[..text.len() - next.len() - 1], next));
+            return Some((&text[..text.len() - next.len() - 1], next, plain));
         }
+        plain = false;
         rest = after_first(next)?;
     }
     None

@@ -1,12 +1,12 @@
 //! The tags of a tag line.
 ghost use Rattle.std.specs.Prelude.{◌≡◌, ◌≤◌, ◌∷◌, ◌++◌, [], ◌&&◌, ℕ, List, length, map, filter, find, false, codes, is_some, None, IfOk, OnOk, IfErr, IsTrue};
 ghost use Rattle.std.specs.Char.{is_whitespace};
-ghost use Rattle.std.specs.List.{list_any, AllByRecursion};
+ghost use Rattle.std.specs.List.{list_any, list_all, AllByRecursion};
 ghost use Rattle.std.specs.Str.{chars, IsUtf8};
 ghost use Rattle.gk_line.specs.declared.limit.TheConstants.{FEATURE_LIMIT};
 ghost use Rattle.gk_line.specs.Places.{IsAtColumn};
 ghost use Rattle.gk_line.specs.Tags.{uncommented, tags_of, spaced_piece, is_tag, has_space, piece_at};
-ghost use Rattle.gk_line.specs.Texts.{after};
+ghost use Rattle.gk_line.specs.Texts.{after, is_visible_ascii};
 ghost use Rattle.gk_line.specs.Tokens.{begins_by};
 ghost use Rattle.gk_line.specs.Views.{line_chars, tag_word, IsTagFault};
 
@@ -83,7 +83,14 @@ fn push_tag<'a>(tags: &mut Vec<TagText<'a>>, tag: TagText<'a>) -> Result<(), All
 fn has_white_space(word: &str) -> bool
     ensures { result ≡ list_any is_whitespace (chars word.now) }
 {
-    word.chars().any(|c| c.is_whitespace())
+    !is_visible_ascii(word) && word.chars().any(|c| c.is_whitespace())
+}
+
+/// Whether each character is ASCII, and past the space.
+fn is_visible_ascii(word: &str) -> bool
+    ensures { result ≡ list_all is_visible_ascii word.now }
+{
+    word.bytes().all(|b| b > b' ' && b < 128)
 }
 
 /// The text up to the first white space that `#` follows.

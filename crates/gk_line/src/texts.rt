@@ -66,17 +66,25 @@ fn begins_in_ascii(text: &str) -> bool
 }
 
 /// The text without the white space at both its ends.
+#[inline(always)]
 pub(crate) fn trim(text: &str) -> &str
     ensures { chars result.now ≡ trimmed (chars text.now) }
 {
-    let body = before_ascii_spaces(trim_start(text));
-    if ends_in_ascii(body) {
-        return body;
-    }
-    trim_end_by_characters(body)
+    trim_end(trim_start(text))
 }
 
-/// The text without the white space at its end, one character after another.
+/// The text without the white space at its end.
+fn trim_end(text: &str) -> &str
+    ensures { chars result.now ≡ drop_trailing_whitespace (chars text.now) }
+{
+    let front = before_ascii_spaces(text);
+    if ends_in_ascii(front) {
+        return front;
+    }
+    trim_end_by_characters(front)
+}
+
+/// The same, one character after another.
 #[cold]
 #[inline(never)]
 fn trim_end_by_characters(text: &str) -> &str

@@ -1,6 +1,9 @@
 use Rattle.std.proofs.Common.{ap, sym, subst, ◌∙◌, ◌+◌}
 use Rattle.std.proofs.lemmas.Str.{IsUtf8-string_bytes}
-use Rattle.std.specs.Str.{chars, IsUtf8}
+use Rattle.std.specs.Str.{chars, IsUtf8, NonePass}
+use Rattle.std.specs.Prelude.{◌==◌}
+use Rattle.gk_line.specs.Characters.{backslash}
+use Rattle.gk_line.proofs.RowLemmas.{trimmed-plain}
 use Rattle.gk_line.specs.Cells.{units, meanings}
 use Rattle.gk_line.proofs.UnitLemmas.{units-trimmed, leading-units}
 use Rattle.gk_line.proofs.rows.cell.Goals as goal
@@ -13,3 +16,7 @@ returns-clause-value c =
 
 pub returns-clause-utf8 : goal.returns-clause-utf8
 returns-clause-utf8 c = subst IsUtf8 (sym c.from.ensures) (IsUtf8-string_bytes c.in_ok-unescape.field-0)
+
+pub unescape-requires : goal.unescape-requires
+unescape-requires c = λ is.
+    subst (NonePass (λ q. q == backslash)) (sym c.trim.ensures) (trimmed-plain (chars c.args.part.now) (c.requires.plain is))
