@@ -16,11 +16,11 @@ use crate::before_blocks::{after_language, after_tags, at_start};
 use crate::blocks::{in_description, in_examples_table, with_rows};
 use crate::fault::ParseFault;
 use crate::flat_block::FlatBlock;
-use crate::line_tokens::{indented, token};
+use crate::line_tokens::{head, token};
 use crate::state::{Parser, Phase, Progress};
 use crate::steps::{after_step, in_doc_string, with_steps};
 use crate::texts::description;
-use crate::token::{IndentedLine, Token};
+use crate::token::{Head, IndentedLine};
 use gk_document::{Document, Sequence};
 use gk_grammar::FaultKind;
 use gk_line::{FEATURE_LIMIT, Line, lines};
@@ -114,12 +114,20 @@ fn read_line<'a>(
     ensures { Gives (state_in progress.new) result
         (machine.next (state_in progress.old phase.entry) (line_of (numbered_line line.entry))) }
 {
-    let at = indented(line);
+    let Head { indent, first } = head(line.text);
+    let at = IndentedLine { line, indent };
     match phase {
-        Phase::Start => at_start(alloc, progress, at, token(alloc, line)?),
-        Phase::AfterLanguage => after_language(alloc, progress, at, token(alloc, line)?),
+        Phase::Start => at_start(alloc, progress, at, token(alloc, line, first)?),
+        Phase::AfterLanguage => after_language(alloc, progress, at, token(alloc, line, first)?),
         Phase::AfterTags(before, tags) => {
-            after_tags(alloc, progress, before, tags, at, token(alloc, line)?)
+            after_tags(
+                alloc,
+                progress,
+                before,
+                tags,
+                at,
+                token(alloc, line, first)?,
+            )
         }
         Phase::InDescription(flat_block, lines) => in_description(
             alloc,
@@ -127,10 +135,10 @@ fn read_line<'a>(
             flat_block,
             lines,
             at,
-            token(alloc, line)?,
+            token(alloc, line, first)?,
         ),
         Phase::AfterStep(stepped) => {
-            after_step(alloc, progress, stepped, at, token(alloc, line)?)
+            after_step(alloc, progress, stepped, at, token(alloc, line, first)?)
         }
         Phase::InDocString(stepped, quote, lines) => {
             in_doc_string(alloc, stepped, quote, lines, at)
@@ -141,7 +149,7 @@ fn read_line<'a>(
             flat_block,
             rows,
             at,
-            token(alloc, line)?,
+            token(alloc, line, first)?,
         ),
     }
 }
