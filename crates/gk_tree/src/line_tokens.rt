@@ -44,6 +44,7 @@ pub(crate) fn head(text: &str) -> Head
 }
 
 /// What the line is read as, where this is the first character after its indent.
+#[inline(never)]
 pub(crate) fn token(
     alloc: Global,
     line: Line<'_>,

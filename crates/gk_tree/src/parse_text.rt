@@ -20,7 +20,7 @@ use crate::line_tokens::{head, token};
 use crate::state::{Parser, Phase, Progress};
 use crate::steps::{after_step, in_doc_string, with_steps};
 use crate::texts::description;
-use crate::token::{Head, IndentedLine};
+use crate::token::{Head, IndentedLine, Token};
 use gk_document::{Document, Sequence};
 use gk_grammar::FaultKind;
 use gk_line::{FEATURE_LIMIT, Line, lines};
@@ -117,39 +117,39 @@ fn read_line<'a>(
     let Head { indent, first } = head(line.text);
     let at = IndentedLine { line, indent };
     match phase {
-        Phase::Start => at_start(alloc, progress, at, token(alloc, line, first)?),
-        Phase::AfterLanguage => after_language(alloc, progress, at, token(alloc, line, first)?),
-        Phase::AfterTags(before, tags) => {
-            after_tags(
-                alloc,
-                progress,
-                before,
-                tags,
-                at,
-                token(alloc, line, first)?,
-            )
+        Phase::InDocString(stepped, quote, lines) => {
+            in_doc_string(alloc, stepped, quote, lines, at)
         }
+        phase => read_token(alloc, progress, phase, at, token(alloc, line, first)?),
+    }
+}
+
+/// One line, read as this token.
+fn read_token<'a>(
+    alloc: Global,
+    progress: &mut Progress,
+    phase: Phase<'a>,
+    at: IndentedLine<'a>,
+    token: Token<'a>,
+) -> Result<Phase<'a>, ParseFault>
+    requires room { progress.old.nodes < 2 ^ 63 }
+    requires read { IsRead at token }
+    ensures { Gives (state_in progress.new) result
+        (machine.next (state_in progress.old phase.entry) (line_at at.entry token.entry)) }
+{
+    match phase {
+        Phase::Start => at_start(alloc, progress, at, token),
+        Phase::AfterLanguage => after_language(alloc, progress, at, token),
+        Phase::AfterTags(before, tags) => after_tags(alloc, progress, before, tags, at, token),
         Phase::InDescription(flat_block, lines) => in_description(
-            alloc,
-            progress,
-            flat_block,
-            lines,
-            at,
-            token(alloc, line, first)?,
+            alloc, progress, flat_block, lines, at, token,
         ),
-        Phase::AfterStep(stepped) => {
-            after_step(alloc, progress, stepped, at, token(alloc, line, first)?)
-        }
+        Phase::AfterStep(stepped) => after_step(alloc, progress, stepped, at, token),
         Phase::InDocString(stepped, quote, lines) => {
             in_doc_string(alloc, stepped, quote, lines, at)
         }
         Phase::InExamplesTable(flat_block, rows) => in_examples_table(
-            alloc,
-            progress,
-            flat_block,
-            rows,
-            at,
-            token(alloc, line, first)?,
+            alloc, progress, flat_block, rows, at, token,
         ),
     }
 }
