@@ -1,6 +1,8 @@
 //! The one pass over the lines of a text.
 ghost use Rattle.std.specs.Prelude.{◌≡◌, ◌≢◌, ◌≤◌, ◌<◌, ◌+◌, ◌^◌, ◌↔◌, None, Ok, Err, length, IfOk, IfErr, IfSome};
+ghost use Rattle.std.specs.Str.{chars};
 ghost use Rattle.gk_line.specs.declared.limit.TheConstants.{FEATURE_LIMIT};
+ghost use Rattle.gk_line.specs.Lines.{lines_of};
 ghost use Rattle.gk_line.specs.Views.{numbered_line};
 ghost use Rattle.gk_grammar.specs.declared.fault.FaultKind.TheVariants as kind;
 ghost use Rattle.gk_grammar.specs.Documents.{lines_read, IsDocumentOf, HasFault, IsTooLong, max_bytes, max_lines};
@@ -24,6 +26,7 @@ use crate::token::{Head, IndentedLine, Token};
 use gk_document::{Document, Sequence};
 use gk_grammar::FaultKind;
 use gk_line::{FEATURE_LIMIT, Line, lines};
+use memchr::memchr;
 use std::alloc::Global;
 
 /// The most lines of a text.
@@ -62,14 +65,25 @@ fn line_count(text: &str) -> Option<u32>
     if text.len() > FEATURE_LIMIT {
         return None;
     }
-    let mut count = 0;
-    for _line in lines(text) {
-        if count == MAX_LINES {
-            return None;
-        }
-        count += 1;
+    let count = count_lines(text);
+    if count > MAX_LINES {
+        return None;
     }
     Some(count)
+}
+
+/// How many lines a text has.
+fn count_lines(text: &str) -> u32
+    requires { length text.now ≤ FEATURE_LIMIT }
+    ensures { result ≡ length (lines_of (chars text.now)) }
+{
+    let mut rest = text.strip_prefix('\u{FEFF}').unwrap_or(text);
+    let mut count = 0;
+    while let Some(end) = memchr(b'\n', rest.as_bytes()) {
+        count += 1;
+        rest = &rest[end + 1..];
+    }
+    if rest.is_empty() { count } else { count + 1 }
 }
 
 /// The document of a text within the limits, whose last line is before `end_line`.
