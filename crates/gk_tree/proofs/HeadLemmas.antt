@@ -1,10 +1,11 @@
 -- What the first character of a line after its indent says of its token.
-use Rattle.std.proofs.Common.{◌≡◌, ℕ, ◌+◌, Bool, true, false, cond, List, [], ◌∷◌, ◌++◌, Option, Some, None, refl, sym, ap, codes, arith, is_some}
+use Rattle.std.proofs.Common.{◌≡◌, ℕ, suc, ◌+◌, ◌<◌, length, get_or, drop, drop-cons, add-one, Bool, true, false, cond, List, [], ◌∷◌, ◌++◌, Option, Some, None, refl, sym, ap, ◌∙◌, subst, codes, arith, is_some}
 use Rattle.std.proofs.lemmas.Grind.{common_steps}
 use Rattle.std.proofs.lemmas.Bool.{eqb-true, false≢true}
+use Rattle.std.proofs.lemmas.List.{drop_all}
 use Rattle.std.specs.Prelude.{◌&&◌, ◌||◌, ◌==◌, if◌then◌else◌, map, MatchOption}
 use Rattle.std.specs.Char.{is_whitespace}
-use Rattle.std.specs.List.{list_all, list_any, slice_get}
+use Rattle.std.specs.List.{list_all, list_any, prefix_len}
 use Rattle.std.specs.Option.{option_map}
 use Rattle.std.specs.Str.{skip_leading_whitespace}
 use Rattle.gk_line.specs.Texts.{after, body_of, trimmed, first_some}
@@ -37,13 +38,6 @@ not_skipped (x ∷ cs) rest c h = grind (arith, common_steps, not_skipped cs res
 pub blank_token : (cs : List ℕ) → body_of cs ≡ [] → token_of cs ≡ read.Blank
 unfolding body_of is_blank_line token_of
 blank_token cs h = rw (skipped cs h) refl
-
--- the first character of a text
-pub first_of : (r : Option ℕ) (text : List ℕ) → r ≡ slice_get text 0 → MatchOption r (text ≡ []) (λ c. BeginsWith c text)
-first_of None [] e = refl
-first_of None (x ∷ xs) e = absurd cc
-first_of (Some c) [] e = absurd cc
-first_of (Some c) (x ∷ xs) e = (xs, cc)
 
 -- ---- lines that their first character decides
 
@@ -145,3 +139,55 @@ step_word cs t e = rw (no_titles cs Step (λ b d. absurd cc) (is_there step_toke
 
 pub fence_word : (cs : List ℕ) (t : Token) → option_map step_token (step_of cs) ≡ None → option_map fence_token (fence_of cs) ≡ Some t → word_token cs ≡ Some t
 fence_word cs t s e = rw (no_titles cs DocStringFence (λ b d. absurd cc) (is_there fence_token (fence_of cs) t e), s, e) refl
+
+-- ---- the indent of a line, passed over character by character
+
+module _ (cs : List ℕ) (n c : ℕ) (at : (n < length cs) × (c ≡ get_or cs n c)) where
+  cut : drop n cs ≡ c ∷ drop (n + 1) cs
+  cut = rw add-one (drop-cons cs n c at.0 ∙ ap (λ (z : ℕ). z ∷ drop (suc n) cs) (sym at.1))
+
+  pub turn_indent : is_whitespace c ≡ true → indent_of cs ≡ n + indent_of (drop n cs) → indent_of cs ≡ (n + 1) + indent_of (drop (n + 1) cs)
+  unfolding indent_of
+  turn_indent white so_far =
+      so_far
+      ∙ ap (λ (z : List ℕ). n + prefix_len is_whitespace z) cut
+      ∙ ap (λ (b : Bool). n + cond b (1 + prefix_len is_whitespace (drop (n + 1) cs)) 0) white
+      ∙ omega arith
+
+  pub turn_body : is_whitespace c ≡ true → body_of cs ≡ body_of (drop n cs) → body_of cs ≡ body_of (drop (n + 1) cs)
+  unfolding body_of
+  turn_body white so_far =
+      so_far
+      ∙ ap (λ (z : List ℕ). skip_leading_whitespace z) cut
+      ∙ ap (λ (b : Bool). cond b (skip_leading_whitespace (drop (n + 1) cs)) (c ∷ drop (n + 1) cs)) white
+
+  pub end_indent : is_whitespace c ≡ false → indent_of cs ≡ n + indent_of (drop n cs) → indent_of cs ≡ n
+  unfolding indent_of
+  end_indent black so_far =
+      so_far
+      ∙ ap (λ (z : List ℕ). n + prefix_len is_whitespace z) cut
+      ∙ ap (λ (b : Bool). n + cond b (1 + prefix_len is_whitespace (drop (n + 1) cs)) 0) black
+      ∙ omega arith
+
+  pub end_body : is_whitespace c ≡ false → body_of cs ≡ body_of (drop n cs) → BeginsWith c (body_of cs)
+  unfolding body_of
+  end_body black so_far = (
+    drop (n + 1) cs,
+    so_far
+        ∙ ap (λ (z : List ℕ). skip_leading_whitespace z) cut
+        ∙ ap (λ (b : Bool). cond b (skip_leading_whitespace (drop (n + 1) cs)) (c ∷ drop (n + 1) cs)) black,
+  )
+
+pub all_indent : (cs : List ℕ) (n : ℕ) → n ≡ length cs → indent_of cs ≡ n + indent_of (drop n cs) → indent_of cs ≡ n
+unfolding indent_of
+all_indent cs n e so_far =
+    so_far ∙ ap (λ (z : List ℕ). n + prefix_len is_whitespace z) (drop_all n cs (omega (arith, e))) ∙ omega arith
+
+pub all_body : (cs : List ℕ) (n : ℕ) → n ≡ length cs → body_of cs ≡ body_of (drop n cs) → body_of cs ≡ []
+unfolding body_of
+all_body cs n e so_far = so_far ∙ ap (λ (z : List ℕ). skip_leading_whitespace z) (drop_all n cs (omega (arith, e)))
+
+-- the first character, where it is this one
+pub first_is : (first : Option ℕ) (text : List ℕ) (c x : ℕ) → MatchOption first (text ≡ []) (λ c. BeginsWith c text) → first ≡ Some c → c ≡ x → BeginsWith x text
+first_is first text c x h e same =
+    subst (λ (z : ℕ). BeginsWith z text) same (subst (λ (o : Option ℕ). MatchOption o (text ≡ []) (λ c. BeginsWith c text)) e h)

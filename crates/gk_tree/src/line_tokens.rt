@@ -1,49 +1,61 @@
 //! What a line is read as: its token, and its indent.
 ghost use Rattle.std.specs.Prelude.{◌≡◌, ◌≤◌, ◌++◌, [], length, map, codes, IfOk, IsTrue, MatchOption};
 ghost use Rattle.std.specs.List.{list_any};
+ghost use Rattle.std.specs.Str.{chars};
 ghost use Rattle.std.specs.Option.{option_map};
 ghost use Rattle.gk_line.specs.declared.limit.TheConstants.{FEATURE_LIMIT};
 ghost use Rattle.gk_line.specs.Cells.{cells_of};
 ghost use Rattle.gk_line.specs.Texts.{body_of, first_some};
 ghost use Rattle.gk_line.specs.Tokens.{indent_of, keywords, step_words, fences, title_of, step_of, fence_of, begins_by, language_of};
 ghost use Rattle.gk_line.specs.Tags.{spaced_piece, tags_of};
-ghost use Rattle.gk_line.specs.Views.{line_chars, numbered_line, title_text};
+ghost use Rattle.gk_line.specs.Views.{line_chars, title_text};
 ghost use Rattle.gk_grammar.specs.Token as read;
 ghost use Rattle.gk_grammar.specs.Token.{token_of, comment_token as comment_or_language, title_token as titled, step_token as stepped, fence_token as fenced, tag_list, word_token as by_word, token_or_other, blocks, cell};
 ghost use Rattle.gk_tree.specs.Heads.{BeginsWith, may_begin};
 ghost use Rattle.gk_tree.specs.Views.{token_view};
 
-use crate::token::{IndentedLine, TagWords, Token};
+use crate::token::{Head, TagWords, Token};
 use gk_document::{Cell, Sequence};
-use gk_line::{Block, Line, TagFault, Title, cells, fence, indent, language, step, tags, title};
+use gk_line::{Block, Line, TagFault, Title, cells, fence, language, step, tags, title};
 use std::alloc::{AllocError, Global};
 
-/// The line with its indent.
-pub(crate) fn indented(line: Line<'_>) -> IndentedLine<'_>
-    requires { length line.text.now ≤ FEATURE_LIMIT }
-    ensures line { numbered_line result.line ≡ numbered_line line.entry }
-    ensures indent { result.indent ≡ indent_of (line_chars line.entry) }
+/// The indent of a line with this text, and the first character after it.
+pub(crate) fn head(text: &str) -> Head
+    requires { length text.now ≤ FEATURE_LIMIT }
+    ensures indent { result.indent ≡ indent_of (chars text.now) }
+    ensures bound { result.indent ≤ FEATURE_LIMIT }
+    ensures first { MatchOption result.first (body_of (chars text.now) ≡ [])
+        (λ c. BeginsWith c (body_of (chars text.now))) }
 {
-    IndentedLine {
-        line,
-        indent: indent(line),
+    let mut indent = 0;
+    for c in text.chars() {
+        if !c.is_whitespace() {
+            return Head {
+                indent,
+                first: Some(c),
+            };
+        }
+        indent += 1;
+    }
+    Head {
+        indent,
+        first: None,
     }
 }
 
-/// The first character of a line after its indent.
-fn first_char(line: Line<'_>) -> Option<char>
-    ensures { MatchOption result (body_of (line_chars line.entry) ≡ [])
-        (λ c. BeginsWith c (body_of (line_chars line.entry))) }
-{
-    line.text.trim_start().chars().next()
-}
-
-/// What the line is read as.
-pub(crate) fn token(alloc: Global, line: Line<'_>) -> Result<Token<'_>, AllocError>
-    requires { length line.text.now ≤ FEATURE_LIMIT }
+/// What the line is read as, where this is the first character after its indent.
+#[inline(never)]
+pub(crate) fn token(
+    alloc: Global,
+    line: Line<'_>,
+    first: Option<char>,
+) -> Result<Token<'_>, AllocError>
+    requires short { length line.text.now ≤ FEATURE_LIMIT }
+    requires first { MatchOption first (body_of (line_chars line) ≡ [])
+        (λ c. BeginsWith c (body_of (line_chars line))) }
     ensures { IfOk result (λ t. token_view t ≡ token_of (line_chars line.entry)) }
 {
-    match first_char(line) {
+    match first {
         None => Ok(Token::Blank),
         Some('#') => Ok(comment_token(line)),
         Some('@') => tag_token(alloc, line),

@@ -1,6 +1,8 @@
 //! The one pass over the lines of a text.
 ghost use Rattle.std.specs.Prelude.{◌≡◌, ◌≢◌, ◌≤◌, ◌<◌, ◌+◌, ◌^◌, ◌↔◌, None, Ok, Err, length, IfOk, IfErr, IfSome};
+ghost use Rattle.std.specs.Str.{chars};
 ghost use Rattle.gk_line.specs.declared.limit.TheConstants.{FEATURE_LIMIT};
+ghost use Rattle.gk_line.specs.Lines.{lines_of};
 ghost use Rattle.gk_line.specs.Views.{numbered_line};
 ghost use Rattle.gk_grammar.specs.declared.fault.FaultKind.TheVariants as kind;
 ghost use Rattle.gk_grammar.specs.Documents.{lines_read, IsDocumentOf, HasFault, IsTooLong, max_bytes, max_lines};
@@ -16,14 +18,15 @@ use crate::before_blocks::{after_language, after_tags, at_start};
 use crate::blocks::{in_description, in_examples_table, with_rows};
 use crate::fault::ParseFault;
 use crate::flat_block::FlatBlock;
-use crate::line_tokens::{indented, token};
+use crate::line_tokens::{head, token};
 use crate::state::{Parser, Phase, Progress};
 use crate::steps::{after_step, in_doc_string, with_steps};
 use crate::texts::description;
-use crate::token::{IndentedLine, Token};
+use crate::token::{Head, IndentedLine, Token};
 use gk_document::{Document, Sequence};
 use gk_grammar::FaultKind;
 use gk_line::{FEATURE_LIMIT, Line, lines};
+use memchr::memchr;
 use std::alloc::Global;
 
 /// The most lines of a text.
@@ -62,14 +65,25 @@ fn line_count(text: &str) -> Option<u32>
     if text.len() > FEATURE_LIMIT {
         return None;
     }
-    let mut count = 0;
-    for _line in lines(text) {
-        if count == MAX_LINES {
-            return None;
-        }
-        count += 1;
+    let count = count_lines(text);
+    if count > MAX_LINES {
+        return None;
     }
     Some(count)
+}
+
+/// How many lines a text has.
+fn count_lines(text: &str) -> u32
+    requires { length text.now ≤ FEATURE_LIMIT }
+    ensures { result ≡ length (lines_of (chars text.now)) }
+{
+    let mut rest = text.strip_prefix('\u{FEFF}').unwrap_or(text);
+    let mut count = 0;
+    while let Some(end) = memchr(b'\n', rest.as_bytes()) {
+        count += 1;
+        rest = &rest[end + 1..];
+    }
+    if rest.is_empty() { count } else { count + 1 }
 }
 
 /// The document of a text within the limits, whose last line is before `end_line`.
@@ -114,34 +128,42 @@ fn read_line<'a>(
     ensures { Gives (state_in progress.new) result
         (machine.next (state_in progress.old phase.entry) (line_of (numbered_line line.entry))) }
 {
-    let at = indented(line);
+    let Head { indent, first } = head(line.text);
+    let at = IndentedLine { line, indent };
     match phase {
-        Phase::Start => at_start(alloc, progress, at, token(alloc, line)?),
-        Phase::AfterLanguage => after_language(alloc, progress, at, token(alloc, line)?),
-        Phase::AfterTags(before, tags) => {
-            after_tags(alloc, progress, before, tags, at, token(alloc, line)?)
+        Phase::InDocString(stepped, quote, lines) => {
+            in_doc_string(alloc, stepped, quote, lines, at)
         }
+        phase => read_token(alloc, progress, phase, at, token(alloc, line, first)?),
+    }
+}
+
+/// One line, read as this token.
+fn read_token<'a>(
+    alloc: Global,
+    progress: &mut Progress,
+    phase: Phase<'a>,
+    at: IndentedLine<'a>,
+    token: Token<'a>,
+) -> Result<Phase<'a>, ParseFault>
+    requires room { progress.old.nodes < 2 ^ 63 }
+    requires read { IsRead at token }
+    ensures { Gives (state_in progress.new) result
+        (machine.next (state_in progress.old phase.entry) (line_at at.entry token.entry)) }
+{
+    match phase {
+        Phase::Start => at_start(alloc, progress, at, token),
+        Phase::AfterLanguage => after_language(alloc, progress, at, token),
+        Phase::AfterTags(before, tags) => after_tags(alloc, progress, before, tags, at, token),
         Phase::InDescription(flat_block, lines) => in_description(
-            alloc,
-            progress,
-            flat_block,
-            lines,
-            at,
-            token(alloc, line)?,
+            alloc, progress, flat_block, lines, at, token,
         ),
-        Phase::AfterStep(stepped) => {
-            after_step(alloc, progress, stepped, at, token(alloc, line)?)
-        }
+        Phase::AfterStep(stepped) => after_step(alloc, progress, stepped, at, token),
         Phase::InDocString(stepped, quote, lines) => {
             in_doc_string(alloc, stepped, quote, lines, at)
         }
         Phase::InExamplesTable(flat_block, rows) => in_examples_table(
-            alloc,
-            progress,
-            flat_block,
-            rows,
-            at,
-            token(alloc, line)?,
+            alloc, progress, flat_block, rows, at, token,
         ),
     }
 }

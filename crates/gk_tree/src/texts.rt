@@ -31,7 +31,7 @@ pub(crate) fn copied_media(alloc: Global, media: &str) -> Result<Option<Text>, A
 pub(crate) fn tag_name(alloc: Global, word: &str) -> Result<Text, AllocError>
     ensures { IfOk result (λ t. t ≡ codes "@" ++ text_of word.now) }
 {
-    let mut name = String::new(alloc);
+    let mut name = String::with_capacity(alloc, word.len() + 1)?;
     name.push('@')?;
     name.push_str(word)?;
     Ok(Text::from(name))

@@ -14,6 +14,13 @@ pub(crate) struct IndentedLine<'a> {
     ghost bound: { indent ≤ FEATURE_LIMIT },
 }
 
+/// The indent of a line, and the first character after it.
+#[derive(Clone, Copy)]
+pub(crate) struct Head {
+    pub indent: u32,
+    pub first: Option<char>,
+}
+
 /// The tags of a tag line.
 #[derive(Drop)]
 pub(crate) struct TagWords<'a> {
