@@ -1,8 +1,6 @@
 //! The indent of a line, and the kinds that its first characters decide.
 ghost use Rattle.std.specs.Prelude.{◌≡◌, ◌≤◌, ◌<◌, ◌+◌, ◌∷◌, [], length, codes};
-ghost use Rattle.std.specs.List.{slice_get};
 ghost use Rattle.gk_line.specs.declared.limit.TheConstants.{FEATURE_LIMIT};
-ghost use Rattle.gk_line.specs.Texts.{body_of};
 ghost use Rattle.gk_line.specs.Tokens.{indent_of, is_blank_line, begins_by};
 ghost use Rattle.gk_line.specs.Views.{line_chars};
 
@@ -28,13 +26,6 @@ pub(crate) fn column(line: Line<'_>) -> u32
     ensures bound { result ≤ FEATURE_LIMIT + 1 }
 {
     indent(line) + 1
-}
-
-/// The first character after the indent, which a blank line doesn't have.
-pub fn first_character(line: Line<'_>) -> Option<char>
-    ensures { result ≡ slice_get (body_of (line_chars line.entry)) 0 }
-{
-    trim_start(line.text).chars().next()
 }
 
 /// Whether the line is white space alone.

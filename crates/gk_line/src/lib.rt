@@ -35,7 +35,7 @@ pub use cut_lines::lines;
 pub use doc_strings::{doc_line, push_doc_line};
 pub use gk_document::{Cell, Fence, KeywordType, Sequence, Text};
 pub use keyword_lines::{block_title, fence, language, step, title};
-pub use kinds::{first_character, indent, is_blank, is_comment, is_row, is_tags};
+pub use kinds::{indent, is_blank, is_comment, is_row, is_tags};
 pub use laws::{columns_rise, kinds_exclude, lines_are_cut};
 pub use limit::FEATURE_LIMIT;
 pub use line_ends::Lines;
