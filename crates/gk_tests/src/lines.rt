@@ -230,6 +230,8 @@ fn lines_that_open_a_doc_string(rt: HostRuntime) {
 
 fn check_title(rt: &impl Abort, block: Block, text: &str, wanted: Title<'_>) {
     assert!(rt; title(short_line(rt, text), block) == Some(wanted));
+    let found = block_title(short_line(rt, text));
+    assert!(rt; matches!(found, Some((of, title)) if of == block && title == wanted));
 }
 
 /// Checks titles of the name x at column 2. A line has the title line, a semicolon, and the keyword.
@@ -270,6 +272,7 @@ fn every_title_keyword(rt: HostRuntime) {
 fn titles_with_white_space(rt: HostRuntime) {
     let spaced = short_line(&rt, "Scenario : x");
     assert!(rt; title(spaced, Block::Scenario).is_none());
+    assert!(rt; block_title(spaced).is_none());
     let wanted = Title {
         keyword: "Scenario Outline",
         name: "o",
