@@ -1,4 +1,5 @@
 pub mod Answered
+pub mod CasesPrinted
 pub mod Choosing
 pub mod Compiles
 pub mod Gates

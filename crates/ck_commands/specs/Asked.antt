@@ -6,7 +6,7 @@ use Rattle.clap.specs.Words.{Text}
 use Rattle.cm_attempt.specs.declared.policy.Policy.{Policy}
 use Rattle.cm_attempt.specs.declared.policy.Policy.TheVariants.{Strict, PendingPasses}
 use Rattle.cm_attempt.specs.declared.settings.Settings.{Settings}
-use Rattle.ck_commands.specs.CommandLine.{Command, ask_parse, ask_compile, ask_audit, ask_gate, ask_results, Asks, AsksNothing}
+use Rattle.ck_commands.specs.CommandLine.{Command, ask_parse, ask_compile, ask_audit, ask_gate, ask_results, ask_cases, Asks, AsksNothing}
 
 -- words that are these texts ask for the command
 abbrev pub Ask : List Text → Command → Type 0
@@ -50,6 +50,15 @@ pub record ResultsAreAsked : Type 0 where
   pub alone : Ask (codes "results" ∷ []) (ask_results 0)
   pub from_one : Ask (codes "results" ∷ attempts_from (codes "1")) (ask_results 1)
 
+-- `cases`, alone and with its options
+pub record CasesAreAsked : Type 0 where
+  pub alone : Ask (codes "cases" ∷ []) (ask_cases (by Strict 0))
+  pub pending_passes :
+      Ask (codes "cases" ∷ codes "--pending-passes" ∷ []) (ask_cases (by PendingPasses 0))
+  pub from_one : Ask (codes "cases" ∷ attempts_from (codes "1")) (ask_cases (by Strict 1))
+  pub both : Ask (codes "cases" ∷ codes "--pending-passes" ∷ attempts_from (codes "1"))
+      (ask_cases (by PendingPasses 1))
+
 -- a word of a hyphen and more
 abbrev pub is_option : Text → Bool
 is_option [] = false
@@ -68,7 +77,8 @@ pub record FeaturesAreAsked : Type 0 where
 -- the names of the commands
 abbrev pub command_names : List Text
 command_names =
-    codes "parse" ∷ codes "compile" ∷ codes "audit" ∷ codes "gate" ∷ codes "results" ∷ []
+    codes "parse" ∷ codes "compile" ∷ codes "audit" ∷ codes "gate" ∷ codes "results"
+    ∷ codes "cases" ∷ []
 
 -- Nothing is asked for without a word, by a first word that is neither an option nor the name of a
 -- command, by `compile` without a uri, by a number other than 0 and 1, or by an option of another

@@ -23,6 +23,7 @@ pub data Command : Type 0 where
   ask_audit : Settings → Command
   ask_gate : Settings → Bool → Command
   ask_results : ℕ → Command
+  ask_cases : Settings → Command
 
 -- the command, as the code holds it
 abbrev pub asked : Choice → Command
@@ -31,6 +32,7 @@ asked (choice.Compile uri) = ask_compile uri.now
 asked (choice.Audit settings) = ask_audit settings
 asked (choice.Gate settings allows_unrun) = ask_gate settings allows_unrun
 asked (choice.Results first_attempt) = ask_results first_attempt
+asked (choice.Cases settings) = ask_cases settings
 
 -- `--uri URI`, which must be given; its value has one name
 abbrev pub uri_rule : Rule
@@ -76,6 +78,10 @@ gate_command =
 abbrev pub results_command : App
 results_command = with_rule (new_app (codes "results")) attempts_rule
 
+-- the command `cases [--pending-passes] [--attempts-from N]`
+abbrev pub cases_command : App
+cases_command = with_rule (with_rule (new_app (codes "cases")) pending_rule) attempts_rule
+
 -- the program, which has a version and wants a command
 abbrev pub bare_app : App
 bare_app =
@@ -98,9 +104,13 @@ audit_app = with_subcommand compile_app audit_command.top
 abbrev pub gate_app : App
 gate_app = with_subcommand audit_app gate_command.top
 
--- the program with all its commands: `parse`, `compile`, `audit`, `gate` and `results`
+-- the program with its commands up to `results`
+abbrev pub results_app : App
+results_app = with_subcommand gate_app results_command.top
+
+-- the program with all its commands: `parse`, `compile`, `audit`, `gate`, `results` and `cases`
 abbrev pub command_app : App
-command_app = with_subcommand gate_app results_command.top
+command_app = with_subcommand results_app cases_command.top
 
 -- a flag is given where its text is `true`
 abbrev pub is_given : Option Text → Bool
@@ -143,6 +153,7 @@ command_named name rows =
     else if bytes_eq name (codes "gate") then option_map (λ s. ask_gate s (allows_unrun_in rows))
     (settings_in rows)
     else if bytes_eq name (codes "results") then option_map ask_results (first_attempt_in rows)
+    else if bytes_eq name (codes "cases") then option_map ask_cases (settings_in rows)
     else None
 
 abbrev pub named : Option (Text × List Row) → Option Command

@@ -2,6 +2,7 @@ pub mod Asked
 pub mod CommandLine
 pub mod Features
 pub mod Gate
+pub mod Cases
 pub mod Outcome
 pub mod Output
 pub mod Reading

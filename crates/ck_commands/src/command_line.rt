@@ -2,7 +2,7 @@
 ghost use Rattle.std.specs.Prelude.{◌≡◌, IfOk, false, map, option_map};
 ghost use Rattle.clap.specs.Words.{app_of, first_of, found_of, kind_of, new_app, rows_of, rule_of, subcommand_rows_of};
 ghost use Rattle.clap.specs.declared.builder.command.Command.TheViews.{out-Command as fields_of};
-ghost use Rattle.ck_commands.specs.CommandLine.{Chooses, asked, attempts_rule, audit_command, bare_app};
+ghost use Rattle.ck_commands.specs.CommandLine.{Chooses, asked, attempts_rule, audit_command, bare_app, cases_command};
 ghost use Rattle.ck_commands.specs.CommandLine.{command_app, command_named, command_of, compile_command, first_attempt_in};
 ghost use Rattle.ck_commands.specs.CommandLine.{flag_rule, gate_command, is_given, named, policy_in, results_command};
 ghost use Rattle.ck_commands.specs.CommandLine.{settings_in, uri_rule};
@@ -27,6 +27,8 @@ pub(crate) enum Choice<'a> {
     Gate(Settings, bool),
     /// The table of the test cases of a stream, with the number of each test case's first attempt.
     Results(u64),
+    /// The lines of the test cases of a good stream, by these settings.
+    Cases(Settings),
 }
 
 /// Why the words give no choice.
@@ -127,6 +129,16 @@ fn results_command<'a>(alloc: Global) -> Result<Command<'a>, AllocError>
     new_command(alloc, "results", help::RESULTS, help::AFTER_RESULTS).arg(attempts_argument(alloc))
 }
 
+// `cases [--pending-passes] [--attempts-from N]`.
+fn cases_command<'a>(alloc: Global) -> Result<Command<'a>, AllocError>
+    ensures app { IfOk result (λ c. app_of c ≡ cases_command) }
+    ensures local { IfOk result (λ c. (fields_of c).has_globals ≡ false) }
+{
+    new_command(alloc, "cases", help::CASES, help::AFTER_CASES)
+        .arg(flag(alloc, "pending-passes", help::PENDING_PASSES))?
+        .arg(attempts_argument(alloc))
+}
+
 // The program with no command so far.
 fn bare_command<'a>(alloc: Global) -> Command<'a>
     ensures { app_of result ≡ bare_app }
@@ -146,7 +158,8 @@ fn command<'a>(alloc: Global) -> Result<Command<'a>, AllocError>
     let with_compile = with_parse.subcommand(compile_command(alloc)?)?;
     let with_audit = with_compile.subcommand(audit_command(alloc)?)?;
     let with_gate = with_audit.subcommand(gate_command(alloc)?)?;
-    with_gate.subcommand(results_command(alloc)?)
+    let with_results = with_gate.subcommand(results_command(alloc)?)?;
+    with_results.subcommand(cases_command(alloc)?)
 }
 
 fn refusal_of(alloc: Global, error: &Error) -> Refusal
@@ -239,6 +252,9 @@ fn choice_named<'a>(name: &str, values: &ArgMatches<'a>) -> Option<Choice<'a>>
     }
     if name == "results" {
         return Some(Choice::Results(first_attempt_in(values)?));
+    }
+    if name == "cases" {
+        return Some(Choice::Cases(settings_in(values)?));
     }
     None
 }

@@ -4,7 +4,8 @@ ghost use Rattle.cm_envelope.specs.Device.{OfReads, OfSource};
 ghost use Rattle.cm_attempt.specs.declared.settings.Settings.{Settings};
 ghost use Rattle.cm_stream.specs.Results as results;
 ghost use Rattle.cm_audit.specs.Audit.{ShowNoFault};
-ghost use Rattle.ck_commands.specs.CommandLine.{Asks, AsksNothing, ask_audit, ask_compile, ask_gate, ask_parse, ask_results};
+ghost use Rattle.ck_commands.specs.Cases.{PrintsCases, PrintsListed};
+ghost use Rattle.ck_commands.specs.CommandLine.{Asks, AsksNothing, ask_audit, ask_cases, ask_compile, ask_gate, ask_parse, ask_results};
 ghost use Rattle.ck_commands.specs.Gate.{PrintsReleased, gate_report};
 ghost use Rattle.ck_commands.specs.Output.{NoneFailed, PrintsOrNoMemory, Undisturbed, code_of, trouble_report};
 ghost use Rattle.ck_commands.specs.Results.{ResultsShowNoFault, results_report};
@@ -12,6 +13,7 @@ ghost use Rattle.ck_commands.specs.Run.{Compiles, PrintsFeature};
 ghost use Rattle.ck_commands.specs.Verdicts.{PrintsAnswer, PrintsAudit, PrintsBad, PrintsGood, PrintsUpTo, verdict_report};
 
 use crate::command_audit::print_audit;
+use crate::command_cases::print_cases;
 use crate::command_compile::write_lines;
 use crate::command_gate::print_gate;
 use crate::command_line::{Choice, Refusal, choose};
@@ -103,6 +105,22 @@ pub fn run<R: ByteSource, W: ByteSink>(
         → OfSource (R.to_come source.old) (λ bytes.
         Compiles uri bytes result (W.taken sink.old) (W.taken sink.new)) }
 
+    // The lines are those of the cases and of the unrun pickles of the stream, where it is good by the settings that the words
+    // ask for, and else the verdict is printed. The code of Done is for good streams alone.
+    ensures cases { (settings : Settings) → Asks words.now (ask_cases settings)
+        → Undisturbed (R.failed_calls source.old) (R.failed_calls source.new)
+        (W.failed_calls sink.old) (W.failed_calls sink.new)
+        → OfSource (R.to_come source.old)
+        (PrintsCases settings result (W.taken sink.old) (W.taken sink.new)) }
+    ensures cases_good { (settings : Settings) → Asks words.now (ask_cases settings)
+        → result ≡ code_of ExitStatus.Done
+        → OfSource (R.to_come source.old)
+        (PrintsListed settings (W.taken sink.old) (W.taken sink.new)) }
+    ensures cases_bad { (settings : Settings) → Asks words.now (ask_cases settings)
+        → result ≡ code_of ExitStatus.Refused
+        → OfSource (R.to_come source.old)
+        (PrintsBad settings (W.taken sink.old) (W.taken sink.new)) }
+
     // Words that ask for no command leave the source alone.
     ensures refused { AsksNothing words.now → source.new ≡ source.old }
 
@@ -122,6 +140,9 @@ pub fn run<R: ByteSource, W: ByteSink>(
     ensures results_no_fault { (first : ℕ) → Asks words.now (ask_results first)
         → R.failed_calls source.new ≢ R.failed_calls source.old
         → OfReads (R.to_come source.old) (R.to_come source.new) (ResultsShowNoFault first) }
+    ensures cases_no_fault { (settings : Settings) → Asks words.now (ask_cases settings)
+        → R.failed_calls source.new ≢ R.failed_calls source.old
+        → OfReads (R.to_come source.old) (R.to_come source.new) (ShowNoFault settings) }
 
     // A failed write or flush is seen in the code, and so is a failed read.
     ensures unwritten { W.failed_calls sink.new ≢ W.failed_calls sink.old
@@ -140,6 +161,7 @@ pub fn run<R: ByteSource, W: ByteSink>(
             print_gate(alloc, settings, allows_unrun, source, sink)
         }
         Ok(Choice::Results(first_attempt)) => print_results(alloc, first_attempt, source, sink),
+        Ok(Choice::Cases(settings)) => print_cases(alloc, settings, source, sink),
         Err(Refusal::Usage(text)) => write_text(sink, text.as_str(), ExitStatus::Usage),
         Err(Refusal::Help(text)) => write_text(sink, text.as_str(), ExitStatus::Done),
         Err(Refusal::Memory) => write_no_memory(sink),

@@ -15,10 +15,10 @@ pub(crate) const AFTER_PROGRAM: &str =
 Exit status:
   0  done; by audit: the stream is a true report, whether its tests passed or failed;
      by gate: and its run is to be released
-  1  audit, gate, results: the stream is bad; parse, compile: the feature file is refused
+  1  audit, gate, results, cases: the stream is bad; parse, compile: the feature file is refused
   2  a mistake in the words
   3  trouble: a read or a write failed, the input is too long or no UTF-8, or there is no memory
-  4  audit, gate: the stream isn't judged
+  4  audit, gate, cases: the stream isn't judged
   5  gate: the report is true, and the run isn't to be released
 
 `cukecheck COMMAND --help` says what a command reads and prints.";
@@ -171,3 +171,24 @@ Prints, with the exit status after it:
                           in no possible order
   trouble Name         3  the stream can't be read to its end, or there is no memory
 The numbers and names are those of `audit`, which says whether the report is true: ask it first.";
+
+pub(crate) const CASES: &str =
+    "Lists the test cases of a good stream by status, place and name, and pickles without one.";
+
+pub(crate) const AFTER_CASES: &str =
+    "Reads a stream of Cucumber Messages (one JSON object a line) from standard input:
+
+  cukecheck cases < run.ndjson
+
+Audits it, and of a good stream prints these lines and no other, with exit status 0 whatever the
+statuses are:
+  STATUS URI:LINE NAME  for each test case, in order of declaration; STATUS as `results` has it
+  UNRUN URI:LINE NAME   then for each pickle that no test case names, in order of the stream
+LINE is that of the scenario, or of the row of examples, and NAME is the pickle's. In URI and NAME
+a backslash is `\\\\`; \\b, \\t, \\n, \\f and \\r are written so, and each other character that could
+break, turn or hide the line as \\u and four hexadecimal digits.
+Of any other stream it prints the line of `audit`, with its exit status:
+  bad line L: N Name       1
+  trouble Name             3
+  unsupported line L: ..   4
+`cukecheck audit --help` explains the numbers and names.";

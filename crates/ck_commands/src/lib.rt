@@ -14,6 +14,7 @@
 
 mod attempts;
 mod command_audit;
+mod command_cases;
 mod command_compile;
 mod command_gate;
 mod command_line;

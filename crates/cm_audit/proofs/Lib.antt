@@ -1,7 +1,9 @@
 pub mod Answering
 pub mod Cases
+pub mod CasesAudit
 pub mod Counted
 pub mod Deciding
+pub mod Following
 pub mod Judged
 pub mod KeptRows
 pub mod Parsed

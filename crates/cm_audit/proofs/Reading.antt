@@ -74,6 +74,10 @@ pub nothing_judged : (settings : Settings) (bytes : List ℕ) → HasJudged sett
 unfolding nothing_read
 nothing_judged settings bytes = record { read = nothing_read bytes; judges = judges_nothing settings }
 
+pub nothing_lines : (settings : Settings) (bytes : List ℕ) → ((nothing_judged settings bytes).read).lines ≡ []
+unfolding nothing_judged nothing_read
+nothing_lines settings bytes = refl
+
 taken : (settings : Settings) (old new : State) (n : ℕ) (r : Option (Result Envelope LineFault)) (more : Summary → Answer) → TakesLine settings old new r (Ok tt)
     → judged_line settings (summary_of old) n r more ≡ more (summary_of new)
 taken settings old new n None more k = ap more (sym k.0)
@@ -90,6 +94,11 @@ pub next_judged : (settings : Settings) (before ys zs : List ℕ) (feed later : 
     → IsNextLine feed later ys zs line → GivesLine feed later line → TakesLine settings old new (shown line) (Ok tt) → HasJudged settings before zs later (n + 1) (summary_of new)
 unfolding next_read
 next_judged settings before ys zs feed later n old new line h i g k = record { read = next_read h.read i g; judges = judges_next settings (h.read).lines n old new (given_line later line) h.judges k }
+
+pub next_lines : (settings : Settings) (before ys zs : List ℕ) (feed later : Stored) (n : ℕ) (old new : State) (line : List ℕ) (h : HasJudged settings before ys feed n (summary_of old)) (i : IsNextLine feed later ys zs line)
+    (g : GivesLine feed later line) (k : TakesLine settings old new (shown line) (Ok tt)) → ((next_judged settings before ys zs feed later n old new line h i g k).read).lines ≡ (h.read).lines ++ given_line later line ∷ []
+unfolding next_judged next_read
+next_lines settings before ys zs feed later n old new line h i g k = refl
 
 -- ---- the answer
 

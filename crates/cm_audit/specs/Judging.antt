@@ -1,11 +1,15 @@
 -- The answer line by line, and what was read of a stream.
-use Rattle.std.specs.Prelude.{◌≡◌, ◌+◌, ℕ, List, ◌++◌, Option, Some, Result, Err, length}
+use Rattle.std.specs.Prelude.{◌≡◌, ◌+◌, ℕ, List, [], ◌∷◌, ◌++◌, Option, Some, Result, Ok, Err, length}
+use Rattle.std.specs.List.{flat_map}
 use Rattle.cm_envelope.specs.Lines.{Line, Fed}
 use Rattle.cm_envelope.specs.Feeds.{Stored, ShowNothing, not_given, left}
+use Rattle.cm_envelope.specs.Reading.{LineFault}
+use Rattle.cm_envelope.specs.declared.envelope.Envelope.{Envelope}
 use Rattle.cm_envelope.specs.declared.feed.Trouble.{Trouble}
 use Rattle.cm_envelope.specs.declared.feed.Trouble.TheVariants.{ReadFailed}
 use Rattle.cm_attempt.specs.declared.settings.Settings.{Settings}
-use Rattle.cm_stream.specs.Stream.{Answer, Failed, fed, max_line_bytes, max_stream_bytes, verdict_in}
+use Rattle.cm_stream.specs.Stream.{Answer, Failed, fed, max_line_bytes, max_stream_bytes, shown, verdict_in}
+use Rattle.cm_stream.specs.Record.{table_of}
 use Rattle.cm_stream.specs.declared.verdict.Audited.{Audited}
 use Rattle.cm_state.specs.Summary.{Summary, nothing_seen}
 use Rattle.cm_state.specs.Laws.{judged_of}
@@ -18,6 +22,15 @@ judged_from_first settings lines trouble =
 
 abbrev pub judged : Settings → List ℕ → Answer
 judged settings bytes = judged_from_first settings (fed bytes).lines (fed bytes).trouble
+
+-- the envelope of a line that is read so, if any
+abbrev pub envelope_in : Option (Result Envelope LineFault) → List Envelope
+envelope_in (Some (Ok e)) = e ∷ []
+envelope_in _ = []
+
+-- the envelopes of lines
+abbrev pub envelopes_in : List (List ℕ) → List Envelope
+envelopes_in lines = flat_map (λ l. envelope_in (shown l)) lines
 
 -- `ShowNoFault`, where the lines are judged one by one
 pub record HoldNoFault (settings : Settings) (before after : List ℕ) : Type 0 where
@@ -51,6 +64,13 @@ pub record HasJudged (settings : Settings) (before after : List ℕ) (feed : Sto
     (s : Summary) : Type 0 where
   pub read : HasRead before after feed number
   pub judges : JudgesTo settings read.lines number s
+
+-- that, and these are their envelopes, of which `follows` holds, and the table is that of their calls
+pub record HasFollowed (settings : Settings) (follows : List Envelope → Type 0)
+    (before after : List ℕ) (feed : Stored) (number : ℕ) (s : Summary) : Type 0 where
+  pub judged : HasJudged settings before after feed number s
+  pub followed : follows (envelopes_in (contents judged.read.lines))
+  pub table : s.table ≡ table_of settings.first_attempt (envelopes_in (contents judged.read.lines))
 
 -- `IsAuditOf`, where the lines are judged one by one
 pub record JudgesAs (settings : Settings) (answer : Result Audited Trouble)

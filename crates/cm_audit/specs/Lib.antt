@@ -4,4 +4,5 @@ pub mod Kept
 pub mod State
 pub mod Audit
 pub mod Judging
+pub mod Cases
 pub mod Record

@@ -1,13 +1,15 @@
 //! The audit of a stream of Cucumber Messages.
-ghost use Rattle.std.specs.Prelude.{◌≡◌, Err};
+ghost use Rattle.std.specs.Prelude.{◌≡◌, ◌++◌, [], List, Err, OnOk};
 ghost use Rattle.cm_envelope.specs.Device.{CountsFailure, OfReads, OfSource};
+ghost use Rattle.cm_envelope.specs.declared.envelope.Envelope.{Envelope as SomeEnvelope};
 ghost use Rattle.cm_envelope.specs.declared.feed.Trouble.TheVariants.{ReadFailed};
 ghost use Rattle.cm_attempt.specs.Settings.{settings_of};
 ghost use Rattle.cm_stream.specs.Stream.{GoodOnlyForGood, GoodRunsOnly, NoneIsGood, shown, verdict_in};
 ghost use Rattle.cm_audit.specs.Audit.{AnswersTold, DecidesGood, IsAuditOf, IsVerdictOf, ReadsUpTo, ShowNoFault, ShowsUnsupported};
 ghost use Rattle.cm_audit.specs.Audit.{TakesLine, VerdictDecidesGood, VerdictTold};
 ghost use Rattle.cm_audit.specs.Audit.{audited_at, is_failed_read, unsuccessful};
-ghost use Rattle.cm_audit.specs.Judging.{JudgesAs};
+ghost use Rattle.cm_audit.specs.Cases.{JudgesWith};
+ghost use Rattle.cm_audit.specs.Judging.{envelope_in};
 ghost use Rattle.cm_audit.specs.State.{AreFewer, IsListed, summary_of};
 ghost use Rattle.cm_state.specs.Summary.{nothing_seen};
 
@@ -15,22 +17,34 @@ use crate::judge::judge;
 use crate::limits::MOST;
 use crate::state::State;
 use crate::stop::Stop;
+use crate::watch::{Unwatched, Watch};
 use cm_attempt::{Policy, Settings};
 use cm_envelope::{ByteSource, Feed, Trouble, is_blank_line, read_envelope};
 use cm_stream::{Audited, StreamFault, Verdict};
 use std::alloc::Global;
 
 /// Judges a line, and takes it where it has no fault.
-fn take_line(alloc: Global, state: &mut State, line: &[u8], settings: Settings) -> Result<(), Stop>
+fn take_line<W: Watch>(
+    alloc: Global,
+    state: &mut State,
+    watch: &mut W,
+    line: &[u8],
+    settings: Settings,
+) -> Result<(), Stop>
     requires listed { IsListed state.old }
     requires few { AreFewer MOST state.old.counts }
-    ensures { TakesLine settings state.old state.new (shown line.now) result }
+    ensures taken { TakesLine settings state.old state.new (shown line.now) result }
+    ensures followed { OnOk result ((es : List SomeEnvelope) → W.follows watch.old es
+        → W.follows watch.new (es ++ envelope_in (shown line.now))) }
 {
     if is_blank_line(line) {
         return Ok(());
     }
     match read_envelope(alloc, line) {
-        Ok(envelope) => judge(state, envelope, settings),
+        Ok(envelope) => {
+            watch.note(alloc, &envelope)?;
+            judge(state, envelope, settings)
+        }
         Err(fault) => Err(Stop::from(fault)),
     }
 }
@@ -57,16 +71,18 @@ pub fn audited_at(stop: Stop, line: u64) -> Result<Audited, Trouble>
 }
 
 /// Judges a stream line by line, from its start.
-fn judge_lines<R: ByteSource>(
+pub(crate) fn judge_lines<R: ByteSource, W: Watch>(
     alloc: Global,
     state: &mut State,
+    watch: &mut W,
     source: &mut R,
     settings: Settings,
 ) -> Result<Audited, Trouble>
     requires nothing { summary_of state.old ≡ nothing_seen settings.first_attempt }
     requires listed { IsListed state.old }
+    requires starts { W.follows watch.old [] }
     ensures judged { OfReads (R.to_come source.old) (R.to_come source.new)
-        (JudgesAs settings result) }
+        (JudgesWith settings (W.follows watch.new) (summary_of state.new).table result) }
     ensures failures { CountsFailure (is_failed_read result) (R.failed_calls source.old)
         (R.failed_calls source.new) }
 {
@@ -76,7 +92,7 @@ fn judge_lines<R: ByteSource>(
         match feed.next_line(source) {
             Ok(Some(line)) => {
                 number += 1;
-                match take_line(alloc, state, line, settings) {
+                match take_line(alloc, state, watch, line, settings) {
                     Ok(()) => {}
                     Err(stop) => return audited_at(stop, number),
                 }
@@ -146,7 +162,7 @@ pub fn audit_run<R: ByteSource>(
         (ReadsUpTo (verdict_in result)) }
 {
     let mut state = State::new(alloc, settings.first_attempt);
-    let audited = judge_lines(alloc, &mut state, source, settings);
+    let audited = judge_lines(alloc, &mut state, &mut Unwatched, source, settings);
     drop(state);
     audited
 }

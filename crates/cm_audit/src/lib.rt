@@ -14,7 +14,7 @@
 //! ```
 //!
 //! `audit_run` is the audit, by settings; `audit_by`, `audit_with` and `audit` give its verdict alone, by settings, by a
-//! policy and by the strict one. `audited_at` is the answer where the reading ends at a line, for a `Stop`. `track` takes
+//! policy and by the strict one. `audit_cases` keeps what the cases of a good stream say. `audited_at` is the answer where the reading ends at a line, for a `Stop`. `track` takes
 //! an envelope into a record of attempts, and `kept_status` gives the status that such a record keeps.
 #![tactic(auto)]
 
@@ -25,14 +25,17 @@ mod judge_cases;
 mod judge_features;
 mod judge_run;
 mod limits;
+mod listed_cases;
 mod matching;
 mod record;
 mod source;
 mod state;
 mod stop;
+mod watch;
 
 pub use auditing::{audit, audit_by, audit_run, audit_with, audited_at};
 pub use cm_attempt::{Policy, Settings};
 pub use cm_stream::{Audited, Counts, Reason, StreamFault, Verdict};
+pub use listed_cases::{AuditedCases, audit_cases};
 pub use record::{kept_status, track};
 pub use stop::Stop;

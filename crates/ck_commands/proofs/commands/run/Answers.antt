@@ -5,6 +5,7 @@ use Rattle.cm_stream.specs.Results as results
 use Rattle.ck_commands.specs.Gate.{gate_report}
 use Rattle.ck_commands.specs.Results.{results_report}
 use Rattle.ck_commands.specs.Verdicts.{PrintsBad, verdict_report}
+use Rattle.ck_commands.proofs.CasesPrinted.{cases_no_memory}
 use Rattle.ck_commands.proofs.Compiles.{compile_no_memory, feature_no_memory}
 use Rattle.ck_commands.proofs.Printing.{no_memory_printed, answer_no_memory}
 use Rattle.ck_commands.proofs.commands.run.Goals as goal
@@ -17,6 +18,9 @@ returns-in_default-clause-audit g c = λ settings asked h. answer_no_memory verd
 
 pub returns-in_default-clause-gate : goal.returns-in_default-clause-gate
 returns-in_default-clause-gate g c = λ settings allows_unrun asked h. answer_no_memory (gate_report allows_unrun) settings (g.R.ByteSource.to_come c.args.source.now) _ _ _ (c.write_no_memory.ensures.written h.writes)
+
+pub returns-in_default-clause-cases : goal.returns-in_default-clause-cases
+returns-in_default-clause-cases g c = λ settings asked h. cases_no_memory settings (g.R.ByteSource.to_come c.args.source.now) _ _ _ (c.write_no_memory.ensures.written h.writes)
 
 pub returns-in_default-clause-parse : goal.returns-in_default-clause-parse
 returns-in_default-clause-parse g c = λ asked h. feature_no_memory (g.R.ByteSource.to_come c.args.source.now) _ _ _ (c.write_no_memory.ensures.written h.writes)
@@ -33,6 +37,9 @@ returns-clause-audit g c = λ settings asked h. answer_no_memory verdict_report 
 pub returns-clause-gate : goal.returns-clause-gate
 returns-clause-gate g c = λ settings allows_unrun asked h. answer_no_memory (gate_report allows_unrun) settings (g.R.ByteSource.to_come c.args.source.now) _ _ _ (c.write_no_memory-in-Err-Memory.ensures.written h.writes)
 
+pub returns-clause-cases : goal.returns-clause-cases
+returns-clause-cases g c = λ settings asked h. cases_no_memory settings (g.R.ByteSource.to_come c.args.source.now) _ _ _ (c.write_no_memory-in-Err-Memory.ensures.written h.writes)
+
 pub returns-clause-parse : goal.returns-clause-parse
 returns-clause-parse g c = λ asked h. feature_no_memory (g.R.ByteSource.to_come c.args.source.now) _ _ _ (c.write_no_memory-in-Err-Memory.ensures.written h.writes)
 
@@ -43,3 +50,8 @@ pub returns-in-Ok-Audit-clause-bad : goal.returns-in-Ok-Audit-clause-bad
 returns-in-Ok-Audit-clause-bad g c = λ settings asked refused.
     let same : c.in-Ok-Audit.settings ≡ settings = search rules in
     subst (λ (s : Settings). OfSource (g.R.ByteSource.to_come c.args.source.now) (PrintsBad s (g.W.ByteSink.taken c.args.sink.now) (g.W.ByteSink.taken c.print_audit.new.sink))) same (c.print_audit.ensures.bad refused)
+
+pub returns-in-Ok-Cases-clause-cases_bad : goal.returns-in-Ok-Cases-clause-cases_bad
+returns-in-Ok-Cases-clause-cases_bad g c = λ settings asked refused.
+    let same : c.in-Ok-Cases.settings ≡ settings = search rules in
+    subst (λ (s : Settings). OfSource (g.R.ByteSource.to_come c.args.source.now) (PrintsBad s (g.W.ByteSink.taken c.args.sink.now) (g.W.ByteSink.taken c.print_cases.new.sink))) same (c.print_cases.ensures.bad refused)

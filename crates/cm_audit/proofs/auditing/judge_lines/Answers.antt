@@ -2,8 +2,9 @@ use Rattle.std.proofs.Common.{rules, ◌+◌, ◌∙◌, refl, Ok, Err, Some, No
 use Rattle.cm_envelope.specs.Feeds.{Leaves, GivesLine}
 use Rattle.cm_stream.specs.Stream.{shown}
 use Rattle.cm_audit.specs.State.{summary_of}
-use Rattle.cm_audit.proofs.Answering.{begins, ends_early, ends_well, few_at_first, goes_on, still_listed, stops, troubled}
+use Rattle.cm_audit.proofs.Answering.{few_at_first, still_listed}
 use Rattle.cm_audit.proofs.Counted.{still_fewer}
+use Rattle.cm_audit.proofs.Following.{ends_early_with, ends_well_with, follows_first, follows_next, stops_with, troubled_with}
 use Rattle.cm_audit.proofs.auditing.judge_lines.Goals as goal
 
 pub lines-init : goal.lines-init
@@ -16,7 +17,7 @@ lines-init g c = record {
   listed = c.requires.listed;
   fewer = few_at_first c.args.settings.first_attempt c.args.state.now c.requires.nothing;
   ends = rw c.new-feed.ensures (λ ended. cc);
-  judged = begins c.args.settings c.new-feed.result c.new-feed.ensures (summary_of c.args.state.now) c.requires.nothing (g.R.ByteSource.to_come c.args.source.now);
+  judged = follows_first c.args.settings (g.W.Watch.follows c.args.watch.now) c.requires.starts c.new-feed.result c.new-feed.ensures (summary_of c.args.state.now) c.requires.nothing (g.R.ByteSource.to_come c.args.source.now);
   no_failure = refl;
 }
 
@@ -26,7 +27,7 @@ lines-preserved g c =
     let line = c.in-Ok-Some.line.now in
     let leaves : Leaves c.lines.feed later (g.R.ByteSource.to_come c.lines.source) (g.R.ByteSource.to_come c.next_line.new.source) (Ok (Some line)) = search rules in
     let given : GivesLine c.lines.feed later line = leaves.line c.lines.invariant.open_still in
-    let taken = c.in-Ok.ensures in
+    let taken = c.in-Ok.ensures.taken in
     record {
       open_still = leaves.over;
       line_limit = leaves.line_limit ∙ c.lines.invariant.line_limit;
@@ -36,7 +37,7 @@ lines-preserved g c =
       listed = still_listed c.args.settings c.lines.state c.take_line.new.state (shown line) taken;
       fewer = still_fewer c.args.settings (c.lines.number + 1) c.lines.state c.take_line.new.state (shown line) taken c.lines.invariant.fewer;
       ends = leaves.source c.lines.invariant.ends;
-      judged = goes_on c.args.settings c.lines.feed later c.lines.state c.take_line.new.state c.lines.number line _ _ _ c.lines.invariant.judged c.lines.invariant.open_still leaves given taken;
+      judged = follows_next c.args.settings (g.W.Watch.follows c.lines.watch) (g.W.Watch.follows c.take_line.new.watch) c.lines.feed later c.lines.state c.take_line.new.state c.lines.number line _ _ _ c.lines.invariant.judged c.lines.invariant.open_still leaves given taken c.in-Ok.ensures.followed;
       no_failure = search rules;
     }
 
@@ -46,23 +47,23 @@ returns-in-Err-take_line-clause-judged g c =
     let line = c.in-Ok-Some.line.now in
     let leaves : Leaves c.lines.feed later (g.R.ByteSource.to_come c.lines.source) (g.R.ByteSource.to_come c.next_line.new.source) (Ok (Some line)) = search rules in
     rw c.audited_at.ensures
-    (stops c.args.settings c.lines.feed later c.lines.state c.take_line.new.state c.lines.number line _ _ _ c.lines.invariant.judged c.lines.invariant.open_still c.lines.invariant.ends leaves c.in-Err-take_line.stop c.in-Err-take_line.ensures)
+    (stops_with c.args.settings (g.W.Watch.follows c.lines.watch) _ c.lines.feed later c.lines.state c.take_line.new.state c.lines.number line _ _ _ c.lines.invariant.judged c.lines.invariant.open_still c.lines.invariant.ends leaves c.in-Err-take_line.stop c.in-Err-take_line.ensures.taken _)
 
 pub returns-in-Ok-None-clause-judged : goal.returns-in-Ok-None-clause-judged
 returns-in-Ok-None-clause-judged g c =
     let later = c.next_line.follows.lender-at-none in
     let leaves : Leaves c.lines.feed later (g.R.ByteSource.to_come c.lines.source) (g.R.ByteSource.to_come c.next_line.new.source) (Ok None) = search rules in
-    ends_well c.args.settings c.lines.feed later (summary_of c.lines.state) c.lines.number _ _ _ c.lines.invariant.judged c.lines.invariant.open_still c.lines.invariant.ends leaves (search rules)
+    ends_well_with c.args.settings (g.W.Watch.follows c.lines.watch) c.lines.feed later (summary_of c.lines.state) c.lines.number _ _ _ c.lines.invariant.judged c.lines.invariant.open_still c.lines.invariant.ends leaves (search rules)
 
 pub returns-in-Ok-None-2-clause-judged : goal.returns-in-Ok-None-2-clause-judged
 returns-in-Ok-None-2-clause-judged g c =
     let later = c.next_line.follows.lender-at-none in
     let leaves : Leaves c.lines.feed later (g.R.ByteSource.to_come c.lines.source) (g.R.ByteSource.to_come c.next_line.new.source) (Ok None) = search rules in
     rw c.unsuccessful.ensures
-    (ends_early c.args.settings c.lines.feed later (summary_of c.lines.state) c.lines.number _ _ _ c.lines.invariant.judged c.lines.invariant.open_still c.lines.invariant.ends leaves (search rules))
+    (ends_early_with c.args.settings (g.W.Watch.follows c.lines.watch) _ c.lines.feed later (summary_of c.lines.state) c.lines.number _ _ _ c.lines.invariant.judged c.lines.invariant.open_still c.lines.invariant.ends leaves (search rules))
 
 pub returns-in-Err-clause-judged : goal.returns-in-Err-clause-judged
 returns-in-Err-clause-judged g c =
     let later = c.next_line.follows.lender-at-none in
     let leaves : Leaves c.lines.feed later (g.R.ByteSource.to_come c.lines.source) (g.R.ByteSource.to_come c.next_line.new.source) (Err c.in-Err.trouble) = search rules in
-    troubled c.args.settings c.lines.feed later (summary_of c.lines.state) c.lines.number _ _ _ c.lines.invariant.judged c.lines.invariant.open_still c.lines.invariant.ends c.lines.invariant.line_limit c.lines.invariant.stream_limit c.in-Err.trouble leaves
+    troubled_with c.args.settings (g.W.Watch.follows c.lines.watch) _ c.lines.feed later (summary_of c.lines.state) c.lines.number _ _ _ c.lines.invariant.judged c.lines.invariant.open_still c.lines.invariant.ends c.lines.invariant.line_limit c.lines.invariant.stream_limit c.in-Err.trouble leaves

@@ -1,7 +1,7 @@
 use Rattle.std.proofs.Common.{◌≡◌, ◌≤◌, ◌+◌, ◌-◌, None}
 use Rattle.cm_envelope.specs.Feeds.{EndsWithSource}
 use Rattle.cm_envelope.proofs.Sources.{HasReadSo}
-use Rattle.cm_audit.specs.Judging.{HasJudged}
+use Rattle.cm_audit.specs.Judging.{HasFollowed}
 use Rattle.cm_audit.specs.State.{AreFewer, IsListed, summary_of}
 use Rattle.cm_audit.proofs.auditing.judge_lines.Given as goal
 
@@ -15,7 +15,7 @@ invariant-lines g l = record {
   listed : IsListed l.state;
   fewer : AreFewer (l.number + 1) l.state.counts;
   ends : EndsWithSource l.feed (g.R.ByteSource.to_come l.source);
-  judged : HasReadSo l.feed (g.R.ByteSource.to_come l.fn.source) (g.R.ByteSource.to_come l.source) (λ xs ys. HasJudged l.fn.settings xs ys l.feed l.number (summary_of l.state));
+  judged : HasReadSo l.feed (g.R.ByteSource.to_come l.fn.source) (g.R.ByteSource.to_come l.source) (λ xs ys. HasFollowed l.fn.settings (g.W.Watch.follows l.watch) xs ys l.feed l.number (summary_of l.state));
   no_failure : g.R.ByteSource.failed_calls l.source ≡ g.R.ByteSource.failed_calls l.fn.source;
 }
 

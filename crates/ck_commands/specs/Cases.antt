@@ -1,0 +1,73 @@
+-- What the command `cases` prints, by the whole list of envelopes of a good stream.
+use Rattle.std.specs.Prelude.{◌≡◌, ℕ, List, ◌++◌, Option, Result, Ok, Err, string_bytes}
+use Rattle.std.specs.Io.KnownBytes.{Appends}
+use Rattle.std.specs.List.{flat_map}
+use Rattle.cm_attempt.specs.Results.{case_results}
+use Rattle.cm_attempt.specs.Table.{Table}
+use Rattle.cm_attempt.specs.declared.settings.Settings.{Settings}
+use Rattle.cm_attempt.specs.declared.status.Status.{Status}
+use Rattle.cm_cases.specs.Listed.{listing_of}
+use Rattle.cm_cases.specs.Places.{case_place, unrun_text}
+use Rattle.cm_cases.specs.declared.listing.Listing.{Listing}
+use Rattle.cm_envelope.specs.declared.envelope.Envelope.{Envelope}
+use Rattle.cm_envelope.specs.declared.feed.Trouble.{Trouble}
+use Rattle.cm_stream.specs.Good.{Good}
+use Rattle.cm_stream.specs.Results.{results_of}
+use Rattle.cm_stream.specs.Stream.{FirstFault, At, Troubled, NoFault, IsFirstFault, IsRead, answered, envelopes}
+use Rattle.cm_stream.specs.Texts.{Utf8}
+use Rattle.cm_stream.specs.declared.verdict.Audited.{Audited}
+use Rattle.cm_stream.specs.declared.verdict.Verdict.{Verdict}
+use Rattle.cm_stream.specs.declared.verdict.Verdict.TheVariants as verdict
+use Rattle.cm_audit.specs.declared.listed_cases.AuditedCases.{AuditedCases}
+use Rattle.ck_commands.specs.Output.{PrintsOrNoMemory, Report, trouble_report}
+use Rattle.ck_commands.specs.Statuses.{reported_word}
+use Rattle.ck_commands.specs.Verdicts.{finding_report, verdict_report}
+use Rattle.ck_commands.specs.declared.output.ExitStatus.TheVariants.{Done}
+use Rattle.ck_commands.specs.declared.output.Report as made
+
+-- `STATUS URI:LINE NAME` of a case, by its result
+abbrev pub case_text : List Envelope → Utf8 × Option Status → List ℕ
+case_text es r = reported_word r.1 ++ case_place es r.0
+
+-- one line for each case, in order of declaration, and then one for each pickle that no case names, in order
+abbrev pub cases_text : List Envelope → List ℕ
+cases_text es = flat_map (case_text es) (results_of es) ++ unrun_text es
+
+-- these lines; or the first fault, or why no further line could be read
+abbrev pub cases_report : FirstFault → Report
+cases_report (NoFault es) = record { text = cases_text es; status = Done }
+cases_report (At n f) = finding_report n f
+cases_report (Troubled t) = trouble_report t
+
+-- the report for the first fault of these bytes was printed, or `trouble Memory`
+abbrev pub PrintsCases : Settings → ℕ → (old new : Option (List ℕ)) → (bytes : List ℕ) → Type 0
+PrintsCases settings code old new bytes =
+    (first : FirstFault) × IsFirstFault settings bytes first
+    × PrintsOrNoMemory (cases_report first) code old new
+
+-- the stream is good, and the lines of its cases and unrun pickles were printed
+abbrev pub PrintsListed : Settings → (old new : Option (List ℕ)) → (bytes : List ℕ) → Type 0
+PrintsListed settings old new bytes =
+    (lines : List (ℕ × Envelope)) × IsRead bytes lines × Good settings (envelopes lines)
+    × Appends old new (cases_text (envelopes lines))
+
+-- ---- the report that the code makes
+
+-- the text is that of the envelopes that the listing and the attempts are of
+abbrev pub IsCasesText : Listing → Table → List ℕ → Type 0
+IsCasesText listing attempts text =
+    (es : List Envelope) → listing ≡ listing_of es → case_results attempts ≡ results_of es
+    → text ≡ cases_text es
+
+-- the report is this one
+abbrev pub IsReport : Report → made.Report → Type 0
+IsReport report r = (string_bytes r.text ≡ report.text) × (r.status ≡ report.status)
+
+abbrev pub ReportsVerdict : Listing → Table → Audited → Verdict → made.Report → Type 0
+ReportsVerdict listing attempts a (verdict.Good counts) r =
+    IsCasesText listing attempts (string_bytes r.text) × (r.status ≡ Done)
+ReportsVerdict listing attempts a _ r = IsReport (verdict_report (answered (Ok a))) r
+
+abbrev pub ReportsCases : Result AuditedCases Trouble → made.Report → Type 0
+ReportsCases (Ok a) r = ReportsVerdict a.listing a.attempts a.audited a.audited.verdict r
+ReportsCases (Err t) r = IsReport (trouble_report t) r

@@ -1,0 +1,23 @@
+-- The audit with what its cases say, from what was judged line by line.
+use Rattle.std.proofs.Common.{◌≡◌, ℕ, List, Option, Ok, Err}
+use Rattle.cm_attempt.specs.Table.{Table}
+use Rattle.cm_attempt.specs.declared.settings.Settings.{Settings}
+use Rattle.cm_cases.specs.Listed.{listing_of}
+use Rattle.cm_cases.specs.declared.listing.Listing.{Listing}
+use Rattle.cm_envelope.specs.Device.{OfReads}
+use Rattle.cm_envelope.specs.declared.envelope.Envelope.{Envelope}
+use Rattle.cm_envelope.specs.declared.feed.Trouble.{Trouble}
+use Rattle.cm_envelope.proofs.Sources.{reads_weaker}
+use Rattle.cm_stream.specs.declared.verdict.Audited.{Audited}
+use Rattle.cm_audit.specs.Cases.{IsCasesAuditOf, JudgesWith}
+use Rattle.cm_audit.proofs.Verdicts.{audit_of}
+
+pub cases_audit : (settings : Settings) (audited : Audited) (listing : Listing) (table : Table) (a b : Option (List ℕ)) → OfReads a b (JudgesWith settings (λ es. listing ≡ listing_of es) table (Ok audited))
+    → OfReads a b (IsCasesAuditOf settings (Ok (record { audited = audited; listing = listing; attempts = table })))
+cases_audit settings audited listing table a b p =
+    reads_weaker {P = JudgesWith settings (λ es. listing ≡ listing_of es) table (Ok audited)} {Q = IsCasesAuditOf settings (Ok (record { audited = audited; listing = listing; attempts = table }))} a b p
+    (λ xs ys h. record { audit = audit_of settings (Ok audited) xs ys h.judges; cases = h.follows_it })
+
+pub cases_trouble : (settings : Settings) (follows : List Envelope → Type 0) (table : Table) (t : Trouble) (a b : Option (List ℕ)) → OfReads a b (JudgesWith settings follows table (Err t)) → OfReads a b (IsCasesAuditOf settings (Err t))
+cases_trouble settings follows table t a b p =
+    reads_weaker {P = JudgesWith settings follows table (Err t)} {Q = IsCasesAuditOf settings (Err t)} a b p (λ xs ys h. record { audit = audit_of settings (Err t) xs ys h.judges; cases = tt })

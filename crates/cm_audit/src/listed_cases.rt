@@ -1,0 +1,54 @@
+//! The audit of a stream, with what its cases say.
+ghost use Rattle.std.specs.Prelude.{◌≡◌, Err};
+ghost use Rattle.cm_envelope.specs.Device.{CountsFailure, OfReads};
+ghost use Rattle.cm_envelope.specs.declared.feed.Trouble.TheVariants.{ReadFailed};
+ghost use Rattle.cm_audit.specs.Audit.{is_failed_read};
+ghost use Rattle.cm_audit.specs.Cases.{IsCasesAuditOf, audited_in};
+
+use crate::auditing::judge_lines;
+use crate::state::State;
+use cm_attempt::{Settings, Track};
+use cm_cases::Listing;
+use cm_envelope::{ByteSource, Trouble};
+use cm_stream::Audited;
+use std::alloc::Global;
+
+/// An audit; and of a good stream, what the lines of its cases name, and the record of their attempts.
+#[derive(Drop)]
+pub struct AuditedCases {
+    /// What `audit_run` answers.
+    pub audited: Audited,
+    pub listing: Listing,
+    pub attempts: Track,
+}
+
+/// Audits a stream by the settings, as `audit_run` does, and keeps what its cases say. Of a stream that isn't good the
+/// listing and the attempts say nothing.
+///
+/// # Errors
+/// As those of `audit_run`.
+pub fn audit_cases<R: ByteSource>(
+    alloc: Global,
+    source: &mut R,
+    settings: Settings,
+) -> Result<AuditedCases, Trouble>
+    // The audit, and for Good the listing of the stream's envelopes and the results of its cases, all of the same bytes.
+    ensures same_bytes { OfReads (R.to_come source.old) (R.to_come source.new)
+        (IsCasesAuditOf settings result) }
+    ensures failures { CountsFailure (is_failed_read result) (R.failed_calls source.old)
+        (R.failed_calls source.new) }
+{
+    let mut state = State::new(alloc, settings.first_attempt);
+    let mut listing = Listing::new(alloc);
+    match judge_lines(alloc, &mut state, &mut listing, source, settings) {
+        Ok(audited) => {
+            let State { track, .. } = state;
+            Ok(AuditedCases {
+                audited,
+                listing,
+                attempts: track,
+            })
+        }
+        Err(trouble) => Err(trouble),
+    }
+}

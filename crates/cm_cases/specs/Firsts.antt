@@ -1,0 +1,61 @@
+-- The first of some values with each text, as a map has them, and what is shown of what a listing keeps.
+use Rattle.std.specs.Prelude.{◌≡◌, ℕ, not, Bool, List, [], ◌∷◌, ◌++◌, Option, Some, None, codes, decimal, find, option_map}
+use Rattle.std.specs.List.{filter, flat_map, list_any}
+use Rattle.std.specs.Option.{option_and_then, option_map_or}
+use Rattle.std.specs.Map.{lookup}
+use Rattle.std.specs.Str.{bytes_eq}
+use Rattle.std.proofs.Common.{Bor}
+use Rattle.indexmap.specs.IndexMap.{IndexMap}
+use Rattle.cm_envelope.specs.Lines.{line_feed}
+use Rattle.cm_stream.specs.References.{if_any}
+use Rattle.cm_stream.specs.Texts.{Utf8}
+use Rattle.cm_cases.specs.Shown.{shown_text}
+use Rattle.cm_cases.specs.declared.listing.Listing.{Listing}
+use Rattle.cm_cases.specs.declared.listing.PickleEntry.{PickleEntry}
+
+-- ---- a map by texts
+
+module _ {V S : Type 0} where
+  -- what a map has for a text
+  abbrev pub value_at : IndexMap (Bor Utf8) V S → Utf8 → Option V
+  value_at m text = lookup (λ k. bytes_eq text k.now) m.entries
+
+  -- the first of the values whose text this is, in other words
+  abbrev pub HasFirsts : {X Y : Type 0} → (V → Y) → (X → Y) → (X → Utf8) → List X
+      → IndexMap (Bor Utf8) V S → Type 0
+  HasFirsts seen kept key xs m =
+      (text : Utf8) → option_map seen (value_at m text)
+      ≡ option_map kept (find (λ x. bytes_eq text (key x)) xs)
+
+-- one value, or else another
+abbrev pub or_else : {V : Type 0} → Option V → Option V → Option V
+or_else (Some v) other = Some v
+or_else None other = other
+
+-- ---- the lines of a listing
+
+abbrev pub line_in : Listing → PickleEntry → ℕ
+line_in l p =
+    option_map_or (λ x. x.line)
+    (find (λ x. bytes_eq p.node x.id)
+    (option_map_or (λ d. d.places) (find (λ d. bytes_eq p.uri d.uri) l.documents) [])) 0
+
+abbrev pub entry_text : Listing → PickleEntry → List ℕ
+entry_text l p =
+    codes " " ++ shown_text p.uri ++ codes ":" ++ decimal (line_in l p) ++ codes " "
+    ++ shown_text p.name ++ line_feed ∷ []
+
+abbrev pub entry_of : Listing → Utf8 → Option PickleEntry
+entry_of l id =
+    option_and_then (λ c. find (λ p. bytes_eq c.pickle_id p.id) l.pickles)
+    (find (λ c. bytes_eq id c.id) l.cases)
+
+abbrev pub case_text : Listing → Utf8 → List ℕ
+case_text l id = flat_map (entry_text l) (if_any (entry_of l id))
+
+abbrev pub is_named : Listing → PickleEntry → Bool
+is_named l p = list_any (λ c. bytes_eq p.id c.pickle_id) l.cases
+
+abbrev pub unrun_entries_text : Listing → List ℕ
+unrun_entries_text l =
+    flat_map (λ p. codes "UNRUN" ++ entry_text l p) (filter (λ p. not (is_named l p)) l.pickles)

@@ -1,0 +1,95 @@
+//! The first of some values with each text, by maps.
+ghost use Rattle.std.specs.Prelude.{◌≡◌, List, ℕ, None, Some, IfOk, OnOk, find, option_map, if◌then◌else◌};
+ghost use Rattle.std.specs.Str.{bytes_eq};
+ghost use Rattle.cm_cases.specs.Firsts.{HasFirsts, or_else, value_at};
+
+use crate::listing::{CaseEntry, DocumentEntry, PickleEntry, Place};
+use gk_document::Text;
+use indexmap::IndexMap;
+use std::alloc::{AllocError, Global};
+
+/// A value for each text.
+pub(crate) type ByText<'a, V> = IndexMap<&'a str, V>;
+
+/// A text by which values are found.
+pub(crate) trait Key<T> {
+    ghost text: { T → List ℕ };
+
+    fn of(item: &T) -> &str
+        ensures { result.now ≡ text item.now };
+}
+
+/// The id of a case.
+pub(crate) struct CaseId;
+
+impl Key<CaseEntry> for CaseId {
+    ghost text = { λ c. c.id };
+
+    fn of(item: &CaseEntry) -> &str {
+        item.id.as_str()
+    }
+}
+
+/// The pickle that a case names.
+pub(crate) struct CasePickle;
+
+impl Key<CaseEntry> for CasePickle {
+    ghost text = { λ c. c.pickle_id };
+
+    fn of(item: &CaseEntry) -> &str {
+        item.pickle_id.as_str()
+    }
+}
+
+/// The id of a pickle.
+pub(crate) struct PickleId;
+
+impl Key<PickleEntry> for PickleId {
+    ghost text = { λ p. p.id };
+
+    fn of(item: &PickleEntry) -> &str {
+        item.id.as_str()
+    }
+}
+
+/// The id of a scenario or of a row.
+pub(crate) struct PlaceId;
+
+impl Key<Place> for PlaceId {
+    ghost text = { λ x. x.id };
+
+    fn of(item: &Place) -> &str {
+        item.id.as_str()
+    }
+}
+
+/// Adds a value for a text that has none yet.
+pub(crate) fn add_first<'a, V: Drop>(
+    map: &mut ByText<'a, V>,
+    text: &'a str,
+    value: V,
+) -> Result<(), AllocError>
+    ensures { OnOk result ((other : List ℕ) → value_at map.new other
+        ≡ or_else (value_at map.old other) (if bytes_eq other text.now then Some value else None)) }
+{
+    if map.contains_key(text) {
+        drop(value);
+        return Ok(());
+    }
+    map.insert(text, value)?;
+    Ok(())
+}
+
+/// The first of the items with each text.
+pub(crate) fn firsts_of<'a, K: Key<T>, T>(
+    alloc: Global,
+    items: &'a [T],
+) -> Result<ByText<'a, &'a T>, AllocError>
+    ensures { IfOk result (λ m. HasFirsts (λ x. x.now) (λ x. x) K.text items.now m) }
+{
+    let mut map = IndexMap::new(alloc);
+    for item in items {
+        add_first(&mut map, K::of(item), item)?;
+    }
+    Ok(map)
+}

@@ -1,0 +1,30 @@
+//! The cases and pickles of a stream of Cucumber Messages, each with the place of its scenario.
+//!
+//! ```
+//! use cm_cases::{Listing, Places};
+//! use cm_envelope::Envelope;
+//! use std::alloc::{AllocError, Global};
+//!
+//! /// One line for each pickle that no test case names.
+//! fn unrun_lines(alloc: Global, envelopes: &[Envelope]) -> Result<String, AllocError> {
+//!     let mut listing = Listing::new(alloc);
+//!     for envelope in envelopes {
+//!         listing.note(alloc, envelope)?;
+//!     }
+//!     let mut text = String::new(alloc);
+//!     Places::of(alloc, &listing)?.add_unrun(&mut text)?;
+//!     Ok(text)
+//! }
+//! ```
+//!
+//! `Listing` keeps what the lines name, envelope by envelope, and `Places` writes them. What they say is defined over the
+//! whole list of envelopes, in `specs/Places` and `specs/Shown`.
+#![tactic(auto)]
+
+mod firsts;
+mod listing;
+mod places;
+mod shown;
+
+pub use listing::Listing;
+pub use places::Places;

@@ -1,0 +1,218 @@
+//! What is kept of a stream's envelopes for the lines of its cases.
+ghost use Rattle.std.specs.Prelude.{◌≡◌, ◌++◌, ◌∷◌, [], List, IfOk, OnErr, OnOk, map, option_map, slice_get, unwrap_or};
+ghost use Rattle.std.specs.List.{flat_map};
+ghost use Rattle.cm_envelope.specs.declared.envelope.Envelope.{Envelope as SomeEnvelope};
+ghost use Rattle.cm_cases.specs.Listed.{case_entry, document_entry, listing_of, pickle_entry};
+ghost use Rattle.cm_cases.specs.Places.{body_of, last_node, place, places_of, rows_of, scenario_places};
+
+use cm_envelope::{Envelope, GherkinDocument, Pickle, TestCase};
+use gk_document::{Examples, Location, Row, Rule, Scenario, Sequence, Text};
+use std::alloc::{AllocError, Global};
+
+/// A test case, by the pickle that it names.
+#[derive(Debug, Drop)]
+pub(crate) struct CaseEntry {
+    pub(crate) id: Text,
+    pub(crate) pickle_id: Text,
+}
+
+/// A pickle, with the last of the nodes that it is made of.
+#[derive(Debug, Drop)]
+pub(crate) struct PickleEntry {
+    pub(crate) id: Text,
+    pub(crate) uri: Text,
+    pub(crate) name: Text,
+    pub(crate) node: Text,
+}
+
+/// A scenario or a row of examples.
+#[derive(Debug, Drop)]
+pub(crate) struct Place {
+    pub(crate) id: Text,
+    pub(crate) line: u32,
+}
+
+/// A document, by its scenarios and rows of examples.
+#[derive(Debug, Drop)]
+pub(crate) struct DocumentEntry {
+    pub(crate) uri: Text,
+    pub(crate) places: Sequence<Place>,
+}
+
+/// What the lines of a stream's cases name, kept envelope by envelope.
+#[derive(Debug, Drop)]
+pub struct Listing {
+    pub(crate) cases: Sequence<CaseEntry>,
+    pub(crate) pickles: Sequence<PickleEntry>,
+    pub(crate) documents: Sequence<DocumentEntry>,
+}
+
+fn copy(alloc: Global, text: &Text) -> Result<Text, AllocError>
+    ensures { IfOk result (λ t. t ≡ text.now) }
+{
+    Text::copy_of(alloc, text.as_str())
+}
+
+// The text at an index, and none past the end.
+fn text_at(texts: &[Text], index: usize) -> &str
+    ensures { result.now ≡ unwrap_or (slice_get texts.now index) [] }
+{
+    match texts.get(index) {
+        Some(text) => text.as_str(),
+        None => "",
+    }
+}
+
+fn place_of(alloc: Global, ids: &[Text], node: u64, at: Location) -> Result<Place, AllocError>
+    ensures { IfOk result (λ p. p ≡ place ids.now node at) }
+{
+    let id = Text::copy_of(alloc, text_at(ids, node as usize))?;
+    Ok(Place { id, line: at.line })
+}
+
+fn add_rows(
+    alloc: Global,
+    places: &mut Sequence<Place>,
+    ids: &[Text],
+    rows: &[Row],
+) -> Result<(), AllocError>
+    ensures { OnOk result (places.new
+        ≡ places.old ++ map (λ r. place ids.now r.node r.location) rows.now) }
+{
+    for row in rows {
+        places.push(place_of(alloc, ids, row.node, row.location)?)?;
+    }
+    Ok(())
+}
+
+fn add_examples(
+    alloc: Global,
+    places: &mut Sequence<Place>,
+    ids: &[Text],
+    examples: &[Examples],
+) -> Result<(), AllocError>
+    ensures { OnOk result (places.new ≡ places.old
+        ++ map (λ r. place ids.now r.node r.location) (flat_map (λ x. body_of x.table) examples.now)) }
+{
+    for block in examples {
+        if let Some(table) = &block.table {
+            add_rows(alloc, places, ids, table.body.as_slice())?;
+        }
+    }
+    Ok(())
+}
+
+fn add_scenarios(
+    alloc: Global,
+    places: &mut Sequence<Place>,
+    ids: &[Text],
+    scenarios: &[Scenario],
+) -> Result<(), AllocError>
+    ensures { OnOk result (places.new
+        ≡ places.old ++ flat_map (scenario_places ids.now) scenarios.now) }
+{
+    for scenario in scenarios {
+        places.push(place_of(alloc, ids, scenario.node, scenario.location)?)?;
+        add_examples(alloc, places, ids, scenario.examples.as_slice())?;
+    }
+    Ok(())
+}
+
+fn add_rules(
+    alloc: Global,
+    places: &mut Sequence<Place>,
+    ids: &[Text],
+    rules: &[Rule],
+) -> Result<(), AllocError>
+    ensures { OnOk result (places.new ≡ places.old
+        ++ flat_map (scenario_places ids.now) (flat_map (λ r. r.scenarios) rules.now)) }
+{
+    for rule in rules {
+        add_scenarios(alloc, places, ids, rule.scenarios.as_slice())?;
+    }
+    Ok(())
+}
+
+fn places_of(alloc: Global, document: &GherkinDocument) -> Result<Sequence<Place>, AllocError>
+    ensures { IfOk result (λ places. places ≡ places_of document.now) }
+{
+    let mut places = Sequence::new(alloc);
+    let Some(feature) = &document.document.feature else {
+        return Ok(places);
+    };
+    let ids = document.ids.as_slice();
+    add_scenarios(alloc, &mut places, ids, feature.scenarios.as_slice())?;
+    add_rules(alloc, &mut places, ids, feature.rules.as_slice())?;
+    Ok(places)
+}
+
+fn case_entry(alloc: Global, case: &TestCase) -> Result<CaseEntry, AllocError>
+    ensures { IfOk result (λ entry. entry ≡ case_entry case.now) }
+{
+    Ok(CaseEntry {
+        id: copy(alloc, &case.id)?,
+        pickle_id: copy(alloc, &case.pickle_id)?,
+    })
+}
+
+// The last of the texts, and an empty one where there is none.
+fn last_text(texts: &[Text]) -> &str
+    ensures { (p : Pickle) → texts.now ≡ p.ast_node_ids → result.now ≡ last_node p }
+{
+    match texts.last() {
+        Some(text) => text.as_str(),
+        None => "",
+    }
+}
+
+fn pickle_entry(alloc: Global, pickle: &Pickle) -> Result<PickleEntry, AllocError>
+    ensures { IfOk result (λ entry. entry ≡ pickle_entry pickle.now) }
+{
+    Ok(PickleEntry {
+        id: copy(alloc, &pickle.id)?,
+        uri: copy(alloc, &pickle.uri)?,
+        name: copy(alloc, &pickle.name)?,
+        node: Text::copy_of(alloc, last_text(pickle.ast_node_ids.as_slice()))?,
+    })
+}
+
+fn document_entry(alloc: Global, document: &GherkinDocument) -> Result<DocumentEntry, AllocError>
+    ensures { IfOk result (λ entry. entry ≡ document_entry document.now) }
+{
+    Ok(DocumentEntry {
+        uri: copy(alloc, &document.uri)?,
+        places: places_of(alloc, document)?,
+    })
+}
+
+impl Listing {
+    /// That of no envelope. It takes no memory.
+    pub fn new(alloc: Global) -> Listing
+        ensures { result ≡ listing_of [] }
+    {
+        Listing {
+            cases: Sequence::new(alloc),
+            pickles: Sequence::new(alloc),
+            documents: Sequence::new(alloc),
+        }
+    }
+
+    /// Keeps what the lines name of one envelope more.
+    ///
+    /// # Errors
+    /// Only where there is no memory for it; then the listing is as it was.
+    pub fn note(&mut self, alloc: Global, envelope: &Envelope) -> Result<(), AllocError>
+        ensures ok { OnOk result ((es : List SomeEnvelope) → self.old ≡ listing_of es
+            → self.new ≡ listing_of (es ++ envelope.now ∷ [])) }
+        ensures err { OnErr result (self.new ≡ self.old) }
+    {
+        match envelope {
+            Envelope::TestCase(case) => self.cases.push(case_entry(alloc, case)?),
+            Envelope::Pickle(pickle) => self.pickles.push(pickle_entry(alloc, pickle)?),
+            Envelope::GherkinDocument(document) => {
+                self.documents.push(document_entry(alloc, document)?)
+            }
+            _ => Ok(()),
+        }
+    }
+}

@@ -1,0 +1,180 @@
+//! The lines of cases and pickles.
+ghost use Rattle.std.specs.Prelude.{◌≡◌, ◌++◌, List, [], IfOk, OnOk, find, option_map, string_bytes};
+ghost use Rattle.std.specs.Option.{option_map_or};
+ghost use Rattle.std.specs.Str.{bytes_eq};
+ghost use Rattle.cm_envelope.specs.declared.envelope.Envelope.{Envelope};
+ghost use Rattle.cm_cases.specs.Firsts.{HasFirsts, case_text, entry_of, entry_text, is_named, line_in, unrun_entries_text};
+ghost use Rattle.cm_cases.specs.Listed.{listing_of};
+ghost use Rattle.cm_cases.specs.Places.{case_place, unrun_text};
+
+use crate::firsts::{ByText, CaseId, CasePickle, PickleId, PlaceId, add_first, firsts_of};
+use crate::listing::{CaseEntry, DocumentEntry, Listing, PickleEntry, Place};
+use crate::shown::add_shown;
+use gk_document::Sequence;
+use indexmap::IndexMap;
+use std::alloc::{AllocError, Global};
+use std::marker::Model;
+
+/// The places of a document by their ids.
+#[derive(Drop)]
+pub(crate) struct Lines<'a> {
+    places: &'a [Place],
+    by_id: ByText<'a, &'a Place>,
+}
+
+impl<'a> Model for Lines<'a> {
+    ghost use Rattle.std.specs.Prelude.{List};
+    ghost use Rattle.cm_cases.specs.Firsts.{HasFirsts};
+    ghost use Rattle.cm_cases.specs.declared.listing.Place.{Place as SomePlace};
+
+    ghost Value = { List SomePlace };
+
+    ghost view = { λ l. l.places.now };
+
+    ghost invariant = { λ l. HasFirsts (λ x. x.now) (λ x. x) (λ x. x.id) l.places.now l.by_id };
+}
+
+impl<'a> Lines<'a> {
+    fn of(alloc: Global, places: &'a [Place]) -> Result<Lines<'a>, AllocError>
+        ensures { IfOk result (λ lines. lines ≡ places.now) }
+    {
+        let by_id = firsts_of::<PlaceId, Place>(alloc, places)?;
+        Ok(Lines { places, by_id })
+    }
+
+    /// The line of the node, and 0 where it is none of the places.
+    fn line(&self, node: &str) -> u32
+        ensures { result ≡ option_map_or (λ x. x.line)
+            (find (λ x. bytes_eq node.now x.id) self.now) 0 }
+    {
+        match self.by_id.get(node) {
+            Some(place) => place.line,
+            None => 0,
+        }
+    }
+}
+
+/// The documents by their uris.
+fn documents<'a>(
+    alloc: Global,
+    entries: &'a [DocumentEntry],
+) -> Result<ByText<'a, Lines<'a>>, AllocError>
+    ensures { IfOk result (λ m. HasFirsts (λ l. l) (λ d. d.places) (λ d. d.uri) entries.now m) }
+{
+    let mut map = IndexMap::new(alloc);
+    for entry in entries {
+        let lines = Lines::of(alloc, entry.places.as_slice())?;
+        add_first(&mut map, entry.uri.as_str(), lines)?;
+    }
+    Ok(map)
+}
+
+/// What a listing keeps, by its ids and uris.
+#[derive(Drop)]
+pub struct Places<'a> {
+    listing: &'a Listing,
+    cases: ByText<'a, &'a CaseEntry>,
+    named: ByText<'a, &'a CaseEntry>,
+    pickles: ByText<'a, &'a PickleEntry>,
+    documents: ByText<'a, Lines<'a>>,
+}
+
+impl<'a> Model for Places<'a> {
+    ghost use Rattle.cm_cases.specs.Firsts.{HasFirsts};
+    ghost use Rattle.cm_cases.specs.declared.listing.Listing.{Listing as SomeListing};
+
+    ghost Value = { SomeListing };
+
+    ghost view = { λ p. p.listing.now };
+
+    ghost invariant = { λ p.
+        HasFirsts (λ x. x.now) (λ x. x) (λ c. c.id) p.listing.now.cases p.cases
+        × HasFirsts (λ x. x.now) (λ x. x) (λ c. c.pickle_id) p.listing.now.cases p.named
+        × HasFirsts (λ x. x.now) (λ x. x) (λ q. q.id) p.listing.now.pickles p.pickles
+        × HasFirsts (λ l. l) (λ d. d.places) (λ d. d.uri) p.listing.now.documents p.documents };
+}
+
+impl<'a> Places<'a> {
+    /// Of a listing.
+    ///
+    /// # Errors
+    /// Only where there is no memory.
+    pub fn of(alloc: Global, listing: &'a Listing) -> Result<Places<'a>, AllocError>
+        ensures { IfOk result (λ places. places ≡ listing.now) }
+    {
+        Ok(Places {
+            listing,
+            cases: firsts_of::<CaseId, CaseEntry>(alloc, listing.cases.as_slice())?,
+            named: firsts_of::<CasePickle, CaseEntry>(alloc, listing.cases.as_slice())?,
+            pickles: firsts_of::<PickleId, PickleEntry>(alloc, listing.pickles.as_slice())?,
+            documents: documents(alloc, listing.documents.as_slice())?,
+        })
+    }
+
+    fn line(&self, pickle: &PickleEntry) -> u32
+        ensures { result ≡ line_in self.now pickle.now }
+    {
+        match self.documents.get(pickle.uri.as_str()) {
+            Some(lines) => lines.line(pickle.node.as_str()),
+            None => 0,
+        }
+    }
+
+    fn pickle(&self, case: &str) -> Option<&PickleEntry>
+        ensures { option_map (λ p. p.now) result ≡ entry_of self.now case.now }
+    {
+        let case = self.cases.get(case)?;
+        let pickle = self.pickles.get(case.pickle_id.as_str())?;
+        Some(*pickle)
+    }
+
+    fn is_named(&self, pickle: &PickleEntry) -> bool
+        ensures { result ≡ is_named self.now pickle.now }
+    {
+        self.named.contains_key(pickle.id.as_str())
+    }
+
+    fn add_entry(&self, text: &mut String, pickle: &PickleEntry) -> Result<(), AllocError>
+        ensures { OnOk result (string_bytes text.new
+            ≡ string_bytes text.old ++ entry_text self.now pickle.now) }
+    {
+        text.push_str(" ")?;
+        add_shown(text, pickle.uri.as_str())?;
+        text.push_str(":")?;
+        write!(text, "{}", self.line(pickle))?;
+        text.push_str(" ")?;
+        add_shown(text, pickle.name.as_str())?;
+        text.push_str("\n")
+    }
+
+    /// Adds where the pickle of a case stands, to the end of its line.
+    ///
+    /// # Errors
+    /// Only where there is no memory.
+    pub fn add_case(&self, text: &mut String, case: &str) -> Result<(), AllocError>
+        ensures { OnOk result ((es : List Envelope) → self.now ≡ listing_of es
+            → string_bytes text.new ≡ string_bytes text.old ++ case_place es case.now) }
+    {
+        match self.pickle(case) {
+            Some(pickle) => self.add_entry(text, pickle),
+            None => Ok(()),
+        }
+    }
+
+    /// Adds a line for each pickle that no case names.
+    ///
+    /// # Errors
+    /// Only where there is no memory.
+    pub fn add_unrun(&self, text: &mut String) -> Result<(), AllocError>
+        ensures { OnOk result ((es : List Envelope) → self.now ≡ listing_of es
+            → string_bytes text.new ≡ string_bytes text.old ++ unrun_text es) }
+    {
+        for pickle in self.listing.pickles.as_slice() {
+            if !self.is_named(pickle) {
+                text.push_str("UNRUN")?;
+                self.add_entry(text, pickle)?;
+            }
+        }
+        Ok(())
+    }
+}

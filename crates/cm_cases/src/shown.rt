@@ -1,0 +1,72 @@
+//! Texts as they are shown within a line.
+ghost use Rattle.std.specs.Prelude.{◌≡◌, ◌<◌, ◌++◌, ◌∷◌, [], OnOk, string_bytes};
+ghost use Rattle.std.specs.Char.{digit_char};
+ghost use Rattle.cm_cases.specs.Shown.{four_digits, is_hidden, shown_char, shown_text};
+
+use std::alloc::AllocError;
+
+/// Whether a character can break, turn or hide a line.
+fn is_hidden(c: char) -> bool
+    ensures { result ≡ is_hidden c }
+{
+    matches!(
+        c,
+        '\u{0}'..='\u{1f}'
+            | '\u{7f}'..='\u{9f}'
+            | '\u{2028}'..='\u{2029}'
+            | '\u{61c}'
+            | '\u{200e}'..='\u{200f}'
+            | '\u{202a}'..='\u{202e}'
+            | '\u{2066}'..='\u{2069}'
+    )
+}
+
+fn add_digit(text: &mut String, digit: u32) -> Result<(), AllocError>
+    requires { digit < 16 }
+    ensures { OnOk result (string_bytes text.new ≡ string_bytes text.old ++ digit_char digit ∷ []) }
+{
+    match char::from_digit(digit, 16) {
+        Some(c) => text.push(c),
+        None => Ok(()),
+    }
+}
+
+fn add_number(text: &mut String, number: u32) -> Result<(), AllocError>
+    ensures { OnOk result (string_bytes text.new
+        ≡ string_bytes text.old ++ four_digits number) }
+{
+    add_digit(text, number / 4096 % 16)?;
+    add_digit(text, number / 256 % 16)?;
+    add_digit(text, number / 16 % 16)?;
+    add_digit(text, number % 16)
+}
+
+fn add_char(text: &mut String, c: char) -> Result<(), AllocError>
+    ensures { OnOk result (string_bytes text.new ≡ string_bytes text.old ++ shown_char c) }
+{
+    match c {
+        '\\' => text.push_str("\\\\"),
+        '\u{8}' => text.push_str("\\b"),
+        '\t' => text.push_str("\\t"),
+        '\n' => text.push_str("\\n"),
+        '\u{c}' => text.push_str("\\f"),
+        '\r' => text.push_str("\\r"),
+        _ => {
+            if !is_hidden(c) {
+                return text.push(c);
+            }
+            text.push_str("\\u")?;
+            add_number(text, c as u32)
+        }
+    }
+}
+
+/// Adds a text as it is shown within a line.
+pub(crate) fn add_shown(text: &mut String, added: &str) -> Result<(), AllocError>
+    ensures { OnOk result (string_bytes text.new ≡ string_bytes text.old ++ shown_text added.now) }
+{
+    for c in added.chars() {
+        add_char(text, c)?;
+    }
+    Ok(())
+}
