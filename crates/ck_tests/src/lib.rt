@@ -6,6 +6,8 @@ mod audits;
 #[cfg(test)]
 mod calls;
 #[cfg(test)]
+mod cases;
+#[cfg(test)]
 mod compiled;
 #[cfg(test)]
 mod devices;
