@@ -116,7 +116,8 @@ impl Kept {
     /// The stream's document of an accepted source came, with these ids.
     pub(crate) fn set_ids(&mut self, ids: Sequence<Text>)
         requires { (kept_row [] self.old).is_accepted ≡ true }
-        ensures { (uri : List ℕ) → kept_row uri self.new ≡ with_ids ids (kept_row uri self.old) }
+        ensures { (uri : List ℕ)
+            → kept_row uri self.new ≡ with_ids ids (kept_row uri self.old) }
     {
         if let Kept::Accepted(accepted) = self {
             accepted.set_ids(ids);

@@ -23,7 +23,8 @@ fn is_hidden(c: char) -> bool
 
 fn add_digit(text: &mut String, digit: u32) -> Result<(), AllocError>
     requires { digit < 16 }
-    ensures { OnOk result (string_bytes text.new ≡ string_bytes text.old ++ digit_char digit ∷ []) }
+    ensures { OnOk result
+        (string_bytes text.new ≡ string_bytes text.old ++ digit_char digit ∷ []) }
 {
     match char::from_digit(digit, 16) {
         Some(c) => text.push(c),
@@ -63,7 +64,8 @@ fn add_char(text: &mut String, c: char) -> Result<(), AllocError>
 
 /// Adds a text as it is shown within a line.
 pub(crate) fn add_shown(text: &mut String, added: &str) -> Result<(), AllocError>
-    ensures { OnOk result (string_bytes text.new ≡ string_bytes text.old ++ shown_text added.now) }
+    ensures { OnOk result
+        (string_bytes text.new ≡ string_bytes text.old ++ shown_text added.now) }
 {
     for c in added.chars() {
         add_char(text, c)?;

@@ -20,7 +20,8 @@ fn append(names: &mut Names, alloc: Global, name: &str) -> Result<(), AllocError
     requires { has_text name.now (map string_bytes names.old.keys) ≡ false }
     ensures ok { OnOk result (map string_bytes names.new.keys
         ≡ map string_bytes names.old.keys ++ name.now ∷ []) }
-    ensures err { OnErr result (map string_bytes names.new.keys ≡ map string_bytes names.old.keys) }
+    ensures err { OnErr result
+        (map string_bytes names.new.keys ≡ map string_bytes names.old.keys) }
 {
     let owned = String::from_str(alloc, name)?;
     names.insert(owned)?;
@@ -38,7 +39,8 @@ pub(crate) fn declare(
         (IsOkUnless result RefFault.Memory) (λ fault. result ≡ Err fault) }
     ensures ok { OnOk result (map string_bytes names.new.keys
         ≡ map string_bytes names.old.keys ++ name.now ∷ []) }
-    ensures err { OnErr result (map string_bytes names.new.keys ≡ map string_bytes names.old.keys) }
+    ensures err { OnErr result
+        (map string_bytes names.new.keys ≡ map string_bytes names.old.keys) }
 {
     if contains(names, name) {
         return Err(taken);
@@ -56,7 +58,8 @@ pub fn distinct_texts(
     alloc: Global,
     texts: &[String],
 ) -> Result<Option<IndexSet<String>>, AllocError>
-    ensures repeated { IfOk result (λ set. is_none set ≡ has_repeat (map string_bytes texts.now)) }
+    ensures repeated { IfOk result
+        (λ set. is_none set ≡ has_repeat (map string_bytes texts.now)) }
     ensures same { IfOk result (λ set. IfSome set
         (λ s. map string_bytes s.keys ≡ map string_bytes texts.now)) }
 {

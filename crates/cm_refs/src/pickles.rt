@@ -41,7 +41,8 @@ pub(crate) fn append(
     requires { find (λ p. bytes_eq id.now p.id) (pickle_rows pickles.old.entries) ≡ None }
     ensures ok { OnOk result (pickle_rows pickles.new.entries
         ≡ pickle_rows pickles.old.entries ++ pickle_row id.now steps ∷ []) }
-    ensures err { OnErr result (pickle_rows pickles.new.entries ≡ pickle_rows pickles.old.entries) }
+    ensures err { OnErr result
+        (pickle_rows pickles.new.entries ≡ pickle_rows pickles.old.entries) }
 {
     let id = String::from_str(alloc, id)?;
     pickles.insert(id, steps)?;

@@ -128,7 +128,8 @@ fn begins_comment(text: &str, next: &str) -> bool
 }
 
 fn begins_with_space(text: &str) -> bool
-    ensures { (c : ℕ) (rest : List ℕ) → chars text.now ≡ c ∷ rest → result ≡ is_whitespace c }
+    ensures { (c : ℕ) (rest : List ℕ)
+        → chars text.now ≡ c ∷ rest → result ≡ is_whitespace c }
 {
     match text.chars().next() {
         Some(c) => c.is_whitespace(),

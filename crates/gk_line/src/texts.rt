@@ -116,8 +116,10 @@ fn ends_in_ascii(text: &str) -> bool
 /// What follows an ASCII front, where the text begins with it.
 pub(crate) fn strip<'a>(text: &'a str, front: &str) -> Option<&'a str>
     requires { IsTrue (list_all is_ascii front.now) }
-    ensures value { option_map (λ rest. chars rest.now) result ≡ after front.now (chars text.now) }
-    ensures bound { IfSome result (λ rest. length rest.now + length front.now ≡ length text.now) }
+    ensures value { option_map (λ rest. chars rest.now) result
+        ≡ after front.now (chars text.now) }
+    ensures bound { IfSome result
+        (λ rest. length rest.now + length front.now ≡ length text.now) }
     ensures utf8 { IfSome result (λ rest. IsUtf8 rest.now) }
 {
     text.strip_prefix(front)
