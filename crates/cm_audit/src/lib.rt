@@ -14,8 +14,9 @@
 //! ```
 //!
 //! `audit_run` is the audit, by settings; `audit_by`, `audit_with` and `audit` give its verdict alone, by settings, by a
-//! policy and by the strict one. `audit_cases` keeps what the cases of a good stream say. `audited_at` is the answer where the reading ends at a line, for a `Stop`. `track` takes
-//! an envelope into a record of attempts, and `kept_status` gives the status that such a record keeps.
+//! policy and by the strict one. `audit_cases` keeps what the cases of a good stream say. `audited_at` is the answer where
+//! the reading ends at a line, for a `Stop`. `track` takes an envelope into a record of attempts, and `kept_status` gives
+//! the status that such a record keeps.
 #![tactic(auto)]
 
 mod auditing;
