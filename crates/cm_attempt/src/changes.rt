@@ -15,19 +15,19 @@ use std::alloc::{AllocError, Global};
 /// Adds a case with its steps. The id is new.
 pub(crate) fn add_case(
     cases: &mut Cases,
-    alloc: Global,
-    id: &str,
+    id: String,
     steps: Steps,
     most: u64,
 ) -> Result<(), AllocError>
-    requires new { find (λ c. bytes_eq id.now c.id) (case_rows cases.old.entries) ≡ None }
+    requires new { find (λ c. bytes_eq (string_bytes id) c.id) (case_rows cases.old.entries)
+        ≡ None }
     requires few { All (λ c. c.attempts ≤ most) (values cases.old) }
     ensures ok { OnOk result (case_rows cases.new.entries
-        ≡ case_rows cases.old.entries ++ new_case id.now (map string_bytes steps.keys) ∷ []) }
+        ≡ case_rows cases.old.entries
+        ++ new_case (string_bytes id) (map string_bytes steps.keys) ∷ []) }
     ensures err { OnErr result (case_rows cases.new.entries ≡ case_rows cases.old.entries) }
     ensures few { All (λ c. c.attempts ≤ most) (values cases.new) }
 {
-    let id = String::from_str(alloc, id)?;
     let case = Case {
         steps,
         attempts: 0,

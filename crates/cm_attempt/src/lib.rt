@@ -4,9 +4,9 @@
 //! use cm_attempt::{Status, Track, TrackFault};
 //! use std::alloc::Global;
 //!
-//! fn run_once(alloc: Global, steps: &[String]) -> Result<Option<Status>, TrackFault> {
+//! fn run_once(alloc: Global, steps: Vec<String>) -> Result<Option<Status>, TrackFault> {
 //!     let mut track = Track::new(alloc);
-//!     track.add_case("case-1", steps)?;
+//!     track.add_case(String::from_str(alloc, "case-1")?, steps)?;
 //!     track.start("attempt-1", "case-1", 0)?;
 //!     track.step_started("attempt-1", "step-1")?;
 //!     track.step_finished("attempt-1", "step-1", Status::Passed)?;

@@ -42,7 +42,7 @@ fn status_of(word: &str) -> Option<Status> {
 
 fn add_case(track: &mut Track, alloc: Global, id: &str, steps: &str) -> Result<(), TrackFault> {
     let steps = texts(alloc, steps)?;
-    track.add_case(id, steps.as_slice())
+    track.add_case(String::from_str(alloc, id)?, steps)
 }
 
 fn start(track: &mut Track, id: &str, case: &str, number: &str) -> Result<(), TrackFault> {

@@ -85,26 +85,27 @@ impl Track {
     /// # Errors
     /// `DuplicateId` where the id is that of a case or two steps are equal, `Memory` where a
     /// growth is refused.
-    pub fn add_case(&mut self, id: &str, steps: &[String]) -> Result<(), TrackFault>
+    pub fn add_case(&mut self, id: String, steps: Vec<String>) -> Result<(), TrackFault>
         // Equal steps are found with memory, so want of it may be reported in their place.
-        ensures repeated_id { IfSome (case_of self.old id.now)
+        ensures repeated_id { IfSome (case_of self.old (string_bytes id))
             (λ _. result ≡ Err TrackFault.DuplicateId) }
-        ensures answer { MatchOption (add_case_fault self.old id.now (map string_bytes steps.now))
+        ensures answer { MatchOption
+            (add_case_fault self.old (string_bytes id) (map string_bytes steps.items))
             (IsOkUnless result TrackFault.Memory)
             (λ fault. IsErrAnd result (λ e. (e ≡ fault) ⊎ (e ≡ TrackFault.Memory))) }
         ensures ok { OnOk result
-            (self.new ≡ with_case id.now (map string_bytes steps.now) self.old) }
+            (self.new ≡ with_case (string_bytes id) (map string_bytes steps.items) self.old) }
         ensures err { OnErr result (self.new ≡ self.old) }
         ensures open_count { open_count self.new ≡ open_count self.old }
     {
-        if find_case(&self.cases, id).is_some() {
+        if find_case(&self.cases, id.as_str()).is_some() {
             return Err(TrackFault::DuplicateId);
         }
         let Some(steps) = distinct_texts(self.alloc, steps)? else {
             return Err(TrackFault::DuplicateId);
         };
         let most = self.attempts.len() as u64;
-        add_case(&mut self.cases, self.alloc, id, steps, most)?;
+        add_case(&mut self.cases, id, steps, most)?;
         Ok(())
     }
 

@@ -37,7 +37,7 @@ pub(crate) fn step_ids<Step: HasId>(
 ) -> Result<Vec<String>, AllocError>
     ensures { IfOk result (λ ids. map string_bytes ids.items ≡ map Step.id steps) }
 {
-    let mut ids = Vec::new(alloc);
+    let mut ids = Vec::with_capacity(alloc, steps.len())?;
     for step in steps.into_vec() {
         ids.push(step.into_id().into_string())?;
     }

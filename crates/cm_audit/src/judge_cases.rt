@@ -165,7 +165,7 @@ pub(crate) fn judge_case(state: &mut State, case: TestCase) -> Result<(), Stop>
         ..
     } = case;
     state.named.reserve(1)?;
-    add_case(state.alloc, &mut state.track, &id, test_steps)?;
+    add_case(state.alloc, &mut state.track, id, test_steps)?;
     let is_first = add_name(&mut state.named, pickle_id.into_string())?;
     count_case(&mut state.counts, is_first);
     Ok(())

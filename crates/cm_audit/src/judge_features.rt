@@ -56,10 +56,10 @@ fn have_repeat(alloc: Global, texts: &[Text]) -> Result<bool, AllocError>
 {
     let mut set = IndexSet::with_capacity(alloc, texts.len())?;
     for text in texts {
-        if set.contains(text.as_str()) {
+        let is_new = set.insert(text.as_str())?;
+        if !is_new {
             return Ok(true);
         }
-        set.insert(text.as_str())?;
     }
     Ok(false)
 }
@@ -175,9 +175,7 @@ pub(crate) fn judge_pickle(state: &mut State, pickle: Pickle) -> Result<(), Stop
     check_pickle(state, &pickle)?;
     let Pickle { id, uri, steps, .. } = pickle;
     let steps = step_ids(state.alloc, steps)?;
-    state
-        .declared
-        .declare_pickle(id.as_str(), steps.as_slice())?;
+    state.declared.declare_pickle(id.into_string(), steps)?;
     count_pickle(&mut state.sources, uri.as_str());
     state.counts.pickles += 1;
     state.counts.unrun += 1;

@@ -37,19 +37,19 @@ pub fn kept_status(status: LineStatus) -> Status
 pub(crate) fn add_case(
     alloc: Global,
     attempts: &mut Track,
-    id: &Text,
+    id: Text,
     steps: Sequence<TestStep>,
 ) -> Result<(), TrackFault>
     ensures answer { MatchOption
-        (add_case_fault attempts.old id.now (map (λ step. step.id) steps))
+        (add_case_fault attempts.old id (map (λ step. step.id) steps))
         (IsOkUnless result TrackFault.Memory)
         (λ fault. IsErrAnd result (λ e. (e ≡ fault) ⊎ (e ≡ TrackFault.Memory))) }
     ensures ok { OnOk result (attempts.new
-        ≡ with_case id.now (map (λ step. step.id) steps) attempts.old) }
+        ≡ with_case id (map (λ step. step.id) steps) attempts.old) }
     ensures err { OnErr result (attempts.new ≡ attempts.old) }
 {
     let steps = step_ids(alloc, steps)?;
-    attempts.add_case(id.as_str(), steps.as_slice())
+    attempts.add_case(id.into_string(), steps)
 }
 
 /// An attempt starts.
@@ -136,7 +136,7 @@ pub fn track(alloc: Global, attempts: &mut Track, envelope: Envelope) -> Result<
     match envelope {
         Envelope::TestCase(case) => {
             let TestCase { id, test_steps, .. } = case;
-            add_case(alloc, attempts, &id, test_steps)
+            add_case(alloc, attempts, id, test_steps)
         }
         Envelope::TestCaseStarted(started) => start_attempt(attempts, &started),
         Envelope::TestStepStarted(started) => start_step(attempts, &started),

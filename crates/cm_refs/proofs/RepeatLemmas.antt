@@ -59,23 +59,22 @@ pub no_repeat_at : (xs : List Utf8) (i : ℕ) (d : Utf8) → i < length xs → h
 no_repeat_at xs i d lt new none =
     ap has_repeat (take_more xs i d lt) ∙ has_repeat-push (take i xs) (get_or xs i d) ∙ (λ j. new j || none j)
 
--- what a set of the texts before an index says of the text at the index
-module _ (keys : List Key) (texts : List Utf8) (i : ℕ) (text : Utf8) (kept : map string_bytes keys ≡ take i texts)
-    (here : text ≡ get_or texts i text) where
-  pub has_text_before : (b : Bool) → b ≡ list_any (λ k. bytes_eq text (string_bytes k)) keys → has_text (get_or texts i text) (take i texts) ≡ b
-  has_text_before b found =
-      (λ j. list_any (bytes_eq (sym here j)) (sym kept j)) ∙ list_any-map (bytes_eq text) string_bytes keys ∙ sym found
-
-  -- and of the set after the text is inserted
-  pub inserted_texts : (k : Key) → string_bytes k ≡ text → i < length texts → has_text (get_or texts i text) (take i texts) ≡ false
-      → map string_bytes (insert_key string_eq keys k) ≡ take (i + 1) texts
-  inserted_texts k same lt new =
-      let absent : list_any (string_eq k) keys ≡ false =
-      sym (list_any-map (bytes_eq (string_bytes k)) string_bytes keys) ∙ (λ j. list_any (bytes_eq ((same ∙ here) j)) (kept j)) ∙ new in
-      ap (λ b. map string_bytes (if b then keys else keys ++ k ∷ [])) absent
-      ∙ map-append string_bytes keys (k ∷ [])
-      ∙ (λ j. kept j ++ (same ∙ here) j ∷ [])
-      ∙ sym (take_more texts i text lt)
+-- a text that is among those before its place
+pub repeat_after : (all yielded : List Key) (text : Key) → yielded ≡ take (length yielded) all → length yielded < length all → text ≡ get_or all (length yielded) text
+    → has_text (string_bytes text) (map string_bytes yielded) ≡ true → has_repeat (map string_bytes all) ≡ true
+repeat_after all yielded text so_far lt here there =
+    let next = length yielded + 1 in
+    let front : take next all ≡ yielded ++ text ∷ [] =
+    take_more all (length yielded) text lt ∙ (λ j. sym so_far j ++ sym here j ∷ []) in
+    let whole : all ≡ (yielded ++ text ∷ []) ++ drop next all =
+    sym (take-append-drop next all) ∙ ap (λ l. l ++ drop next all) front in
+    let texts = map string_bytes yielded in
+    let mapped : map string_bytes all ≡ (texts ++ string_bytes text ∷ []) ++ map string_bytes (drop next all) =
+    ap (map string_bytes) whole ∙ map-append string_bytes (yielded ++ text ∷ []) (drop next all)
+    ∙ ap (λ l. l ++ map string_bytes (drop next all)) (map-append string_bytes yielded (text ∷ [])) in
+    ap has_repeat mapped
+    ∙ has_repeat-front (texts ++ string_bytes text ∷ []) (map string_bytes (drop next all))
+    (has_repeat-push texts (string_bytes text) ∙ ap (λ b. b || has_repeat texts) there)
 
 -- a new text goes last
 pub appended_text : (keys : List Key) (k : Key) (name : Utf8) → string_bytes k ≡ name → has_text name (map string_bytes keys) ≡ false

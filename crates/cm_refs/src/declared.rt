@@ -93,24 +93,25 @@ impl Declared {
     /// # Errors
     /// `DuplicateId` where the id is that of a pickle or two of the step ids are equal, `Memory`
     /// where a growth is refused.
-    pub fn declare_pickle(&mut self, id: &str, steps: &[String]) -> Result<(), RefFault>
+    pub fn declare_pickle(&mut self, id: String, steps: Vec<String>) -> Result<(), RefFault>
         // Equal steps are found with memory, so want of it may be reported in their place.
-        ensures repeated_id { IfSome (find_pickle self.old id.now)
+        ensures repeated_id { IfSome (find_pickle self.old (string_bytes id))
             (λ _. result ≡ Err RefFault.DuplicateId) }
-        ensures answer { MatchOption (pickle_fault self.old id.now (map string_bytes steps.now))
+        ensures answer { MatchOption
+            (pickle_fault self.old (string_bytes id) (map string_bytes steps.items))
             (IsOkUnless result RefFault.Memory)
             (λ fault. IsErrAnd result (λ e. (e ≡ fault) ⊎ (e ≡ RefFault.Memory))) }
         ensures ok { OnOk result
-            (self.new ≡ with_pickle id.now (map string_bytes steps.now) self.old) }
+            (self.new ≡ with_pickle (string_bytes id) (map string_bytes steps.items) self.old) }
         ensures err { OnErr result (self.new ≡ self.old) }
     {
-        if steps_of(&self.pickles, id).is_some() {
+        if steps_of(&self.pickles, id.as_str()).is_some() {
             return Err(RefFault::DuplicateId);
         }
         let Some(steps) = distinct_texts(self.alloc, steps)? else {
             return Err(RefFault::DuplicateId);
         };
-        append(&mut self.pickles, self.alloc, id, steps)?;
+        append(&mut self.pickles, id, steps)?;
         Ok(())
     }
 

@@ -5,10 +5,10 @@
 //! use cm_refs::{Declared, RefFault};
 //! use std::alloc::Global;
 //!
-//! fn has_first_step(alloc: Global, steps: &[String]) -> Result<bool, RefFault> {
+//! fn has_first_step(alloc: Global, steps: Vec<String>) -> Result<bool, RefFault> {
 //!     let mut declared = Declared::new(alloc);
 //!     declared.declare_source("a.feature")?;
-//!     declared.declare_pickle("pickle-1", steps)?;
+//!     declared.declare_pickle(String::from_str(alloc, "pickle-1")?, steps)?;
 //!     Ok(declared.has_source("a.feature") && declared.has_step("pickle-1", "step-1"))
 //! }
 //! ```

@@ -53,22 +53,22 @@ pub(crate) fn declare(
 /// ask of the step ids of a `pickle` and of a `testCase`.
 ///
 /// # Errors
-/// Only where there is no memory for the set or a copy.
+/// Only where there is no memory for the set.
 pub fn distinct_texts(
     alloc: Global,
-    texts: &[String],
+    texts: Vec<String>,
 ) -> Result<Option<IndexSet<String>>, AllocError>
     ensures repeated { IfOk result
-        (λ set. is_none set ≡ has_repeat (map string_bytes texts.now)) }
+        (λ set. is_none set ≡ has_repeat (map string_bytes texts.items)) }
     ensures same { IfOk result (λ set. IfSome set
-        (λ s. map string_bytes s.keys ≡ map string_bytes texts.now)) }
+        (λ s. map string_bytes s.keys ≡ map string_bytes texts.items)) }
 {
     let mut set = IndexSet::with_capacity(alloc, texts.len())?;
     for text in texts {
-        if set.contains(text.as_str()) {
+        let is_new = set.insert(text)?;
+        if !is_new {
             return Ok(None);
         }
-        set.insert(text.clone()?)?;
     }
     Ok(Some(set))
 }

@@ -2,12 +2,13 @@
 ghost use Rattle.std.specs.Prelude.{◌≡◌, ◌++◌, ◌∷◌, [], None, OnErr, OnOk, find, option_map};
 ghost use Rattle.std.specs.Option.{option_map_or};
 ghost use Rattle.std.specs.Str.{bytes_eq};
+ghost use Rattle.std.specs.String.{string_bytes};
 ghost use Rattle.cm_refs.specs.Declarations.{has_text};
 ghost use Rattle.cm_refs.specs.Rows.{pickle_row, pickle_rows};
 
 use crate::names::{Names, contains};
 use indexmap::IndexMap;
-use std::alloc::{AllocError, Global};
+use std::alloc::AllocError;
 
 pub(crate) type Pickles = IndexMap<String, Names>;
 
@@ -32,19 +33,14 @@ pub(crate) fn has_step(pickles: &Pickles, id: &str, step: &str) -> bool
 }
 
 /// Appends a pickle whose id is new.
-pub(crate) fn append(
-    pickles: &mut Pickles,
-    alloc: Global,
-    id: &str,
-    steps: Names,
-) -> Result<(), AllocError>
-    requires { find (λ p. bytes_eq id.now p.id) (pickle_rows pickles.old.entries) ≡ None }
+pub(crate) fn append(pickles: &mut Pickles, id: String, steps: Names) -> Result<(), AllocError>
+    requires { find (λ p. bytes_eq (string_bytes id) p.id) (pickle_rows pickles.old.entries)
+        ≡ None }
     ensures ok { OnOk result (pickle_rows pickles.new.entries
-        ≡ pickle_rows pickles.old.entries ++ pickle_row id.now steps ∷ []) }
+        ≡ pickle_rows pickles.old.entries ++ pickle_row (string_bytes id) steps ∷ []) }
     ensures err { OnErr result
         (pickle_rows pickles.new.entries ≡ pickle_rows pickles.old.entries) }
 {
-    let id = String::from_str(alloc, id)?;
     pickles.insert(id, steps)?;
     Ok(())
 }

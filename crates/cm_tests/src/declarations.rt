@@ -104,7 +104,7 @@ fn declare_pickle(
     steps: &str,
 ) -> Result<(), RefFault> {
     let steps = texts(alloc, steps)?;
-    declared.declare_pickle(id, steps.as_slice())
+    declared.declare_pickle(String::from_str(alloc, id)?, steps)
 }
 
 // The texts in order, with `+` between two of them.
@@ -170,7 +170,7 @@ fn a_pickle_has_distinct_steps(rt: HostRuntime) -> Result<(), Fail> {
 // The set of the words, or `-` where two of them are equal.
 fn expect_set(rt: &impl Abort, alloc: Global, words: &str, told: &str) -> Result<(), AllocError> {
     let words = texts(alloc, words)?;
-    match distinct_texts(alloc, words.as_slice())? {
+    match distinct_texts(alloc, words)? {
         Some(set) => expect_texts(rt, alloc, Some(set.as_slice()), told),
         None => expect_texts(rt, alloc, None, told),
     }

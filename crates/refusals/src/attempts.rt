@@ -10,6 +10,8 @@ const NAMES: [&str; 9] = ["a", "b", "c", "d", "e", "f", "g", "h", "i"];
 
 const NEW: &str = "new";
 
+const STEPS: [&str; 2] = ["t", "u"];
+
 fn texts(alloc: Global, words: &[&str]) -> Result<Vec<String>, AllocError> {
     let mut owned = Vec::new(alloc);
     for word in words {
@@ -42,11 +44,11 @@ fn look_ups(track: &Track) -> LookUps {
     }
 }
 
-// Cases with the steps `t` and `u`, each with an open attempt.
-fn track_of(alloc: Global, count: usize, steps: &[String]) -> Result<Track, Fail> {
+// Cases with these steps, each with an open attempt.
+fn track_of(alloc: Global, count: usize) -> Result<Track, Fail> {
     let mut track = Track::new(alloc);
     for name in NAMES.iter().take(count) {
-        track.add_case(name, steps)?;
+        track.add_case(String::from_str(alloc, name)?, texts(alloc, &STEPS)?)?;
         track.start(name, name, 0)?;
     }
     Ok(track)
@@ -62,17 +64,19 @@ struct Met {
     start: Result<(), TrackFault>,
 }
 
-// Adds a case of these steps with this room. Its attempt with the number 1 isn't started.
+// Adds a case of these steps with this room, beside its id and its steps. Its attempt with the number 1 isn't started.
 fn add_with_room(
     track: &mut Track,
     alloc: Global,
     shortage: &mut Shortage,
     room: usize,
-    steps: &[String],
+    steps: &[&str],
 ) -> Result<Met, Fail> {
     let before = look_ups(track);
+    let id = String::from_str(alloc, NEW)?;
+    let steps = texts(alloc, steps)?;
     shortage.leave(alloc, room)?;
-    let answer = track.add_case(NEW, steps);
+    let answer = track.add_case(id, steps);
     let after = look_ups(track);
     let start = track.start("x", NEW, 1);
     shortage.relax(alloc);
@@ -99,7 +103,7 @@ fn meet_case(
     track: &mut Track,
     alloc: Global,
     shortage: &mut Shortage,
-    steps: &[String],
+    steps: &[&str],
     wanted: Result<(), TrackFault>,
 ) -> Result<(), Fail> {
     let first = add_with_room(track, alloc, shortage, 0, steps)?;
@@ -224,15 +228,11 @@ fn ends_without_memory(track: &mut Track) -> bool {
 // What is answered with no room.
 #[derive(Clone, Copy)]
 struct Answers {
-    twice: Result<(), TrackFault>,
     are_refused: bool,
     are_done: bool,
     again: Result<(), TrackFault>,
     reported: Option<Status>,
-}
-
-fn added_twice(track: &mut Track, steps: &[String]) -> Result<(), TrackFault> {
-    track.add_case(NEW, steps)
+    twice: Result<(), TrackFault>,
 }
 
 fn reported(track: &Track) -> Option<Status> {
@@ -243,15 +243,17 @@ fn answers_without_room(
     track: &mut Track,
     alloc: Global,
     shortage: &mut Shortage,
-    steps: &[String],
 ) -> Result<Answers, Fail> {
+    let id = String::from_str(alloc, NEW)?;
+    let steps = texts(alloc, &STEPS)?;
     shortage.leave(alloc, 0)?;
+    // The case comes last, since its id and its steps leave room.
     let answers = Answers {
-        twice: added_twice(track, steps),
         are_refused: refuses_without_memory(track),
         are_done: ends_without_memory(track),
         again: answer_of(track, Call::Finish(NEW)),
         reported: reported(track),
+        twice: track.add_case(id, steps),
     };
     shortage.relax(alloc);
     Ok(answers)
@@ -273,53 +275,33 @@ fn check_answers(answers: Answers) -> Result<(), Fail> {
 
 // A case with equal steps.
 fn meet_equal_steps(track: &mut Track, alloc: Global, shortage: &mut Shortage) -> Result<(), Fail> {
-    let equal = texts(alloc, &["t", "t"])?;
     let fault = Err(TrackFault::DuplicateId);
-    let met = meet_case(track, alloc, shortage, equal.as_slice(), fault);
-    drop(equal);
-    met
+    meet_case(track, alloc, shortage, &["t", "t"], fault)
 }
 
 // A case, its attempt, and with no room the rest.
-fn meet_calls(
-    track: &mut Track,
-    alloc: Global,
-    shortage: &mut Shortage,
-    steps: &[String],
-) -> Result<(), Fail> {
+fn meet_calls(track: &mut Track, alloc: Global, shortage: &mut Shortage) -> Result<(), Fail> {
     meet_equal_steps(track, alloc, shortage)?;
-    meet_case(track, alloc, shortage, steps, Ok(()))?;
+    meet_case(track, alloc, shortage, &STEPS, Ok(()))?;
     meet_start(track, alloc, shortage)?;
-    check_answers(answers_without_room(track, alloc, shortage, steps)?)
+    check_answers(answers_without_room(track, alloc, shortage)?)
 }
 
 // Where so many cases and attempts are there.
-fn meet_cases(
-    alloc: Global,
-    shortage: &mut Shortage,
-    count: usize,
-    steps: &[String],
-) -> Result<(), Fail> {
-    let mut track = track_of(alloc, count, steps)?;
-    let met = meet_calls(&mut track, alloc, shortage, steps);
+fn meet_cases(alloc: Global, shortage: &mut Shortage, count: usize) -> Result<(), Fail> {
+    let mut track = track_of(alloc, count)?;
+    let met = meet_calls(&mut track, alloc, shortage);
     drop(track);
     met
-}
-
-fn meet_all_cases(alloc: Global, steps: &[String]) -> Result<(), Fail> {
-    let mut shortage = Shortage::new(alloc)?;
-    for count in 0..9usize {
-        meet_cases(alloc, &mut shortage, count, steps)?;
-    }
-    drop(shortage);
-    Ok(())
 }
 
 #[test]
 fn new_cases_and_attempts(rt: HostRuntime) -> Result<(), Fail> {
     let alloc = rt.alloc();
-    let steps = texts(alloc, &["t", "u"])?;
-    let met = meet_all_cases(alloc, steps.as_slice());
-    drop(steps);
-    met
+    let mut shortage = Shortage::new(alloc)?;
+    for count in 0..9usize {
+        meet_cases(alloc, &mut shortage, count)?;
+    }
+    drop(shortage);
+    Ok(())
 }

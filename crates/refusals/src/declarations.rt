@@ -106,7 +106,7 @@ fn declared_names(alloc: Global, count: usize) -> Result<Declared, Fail> {
             declare(&mut declared, kind, name)?;
         }
         let steps = texts(alloc, &[*name])?;
-        declared.declare_pickle(name, steps.as_slice())?;
+        declared.declare_pickle(String::from_str(alloc, name)?, steps)?;
     }
     Ok(declared)
 }
@@ -193,17 +193,19 @@ fn new_names(rt: HostRuntime) -> Result<(), Fail> {
     Ok(())
 }
 
-// Declares a pickle of these steps with this room.
+// Declares a pickle of these steps with this room, beside its id and its steps.
 fn pickle_with_room(
     declared: &mut Declared,
     alloc: Global,
     shortage: &mut Shortage,
     room: usize,
-    steps: &[String],
+    steps: &[&str],
 ) -> Result<Met, Fail> {
     let before = look_ups(declared);
+    let id = String::from_str(alloc, NEW)?;
+    let steps = texts(alloc, steps)?;
     shortage.leave(alloc, room)?;
-    let answer = declared.declare_pickle(NEW, steps);
+    let answer = declared.declare_pickle(id, steps);
     let after = look_ups(declared);
     shortage.relax(alloc);
     Ok(Met {
@@ -218,7 +220,7 @@ fn meet_pickle(
     declared: &mut Declared,
     alloc: Global,
     shortage: &mut Shortage,
-    steps: &[String],
+    steps: &[&str],
     wanted: Result<(), RefFault>,
 ) -> Result<(), Fail> {
     let first = pickle_with_room(declared, alloc, shortage, 0, steps)?;
@@ -232,21 +234,14 @@ fn meet_pickle(
     check(false, "never answered")
 }
 
-fn declared_twice(declared: &mut Declared, id: &str, steps: &[String]) -> Result<(), RefFault> {
-    declared.declare_pickle(id, steps)
-}
-
 // A pickle with equal steps.
 fn meet_equal_steps(
     declared: &mut Declared,
     alloc: Global,
     shortage: &mut Shortage,
 ) -> Result<(), Fail> {
-    let equal = texts(alloc, &["s", "s"])?;
     let fault = Err(RefFault::DuplicateId);
-    let met = meet_pickle(declared, alloc, shortage, equal.as_slice(), fault);
-    drop(equal);
-    met
+    meet_pickle(declared, alloc, shortage, &["s", "s"], fault)
 }
 
 // A pickle, which is then there.
@@ -255,11 +250,8 @@ fn meet_new_pickle(
     alloc: Global,
     shortage: &mut Shortage,
 ) -> Result<(), Fail> {
-    let steps = texts(alloc, &[NEW])?;
-    let met = meet_pickle(declared, alloc, shortage, steps.as_slice(), Ok(()));
-    let again = declared_twice(declared, NEW, steps.as_slice());
-    drop(steps);
-    met?;
+    meet_pickle(declared, alloc, shortage, &[NEW], Ok(()))?;
+    let again = declared.declare_pickle(String::from_str(alloc, NEW)?, texts(alloc, &[NEW])?);
     check(again == Err(RefFault::DuplicateId), "declared twice")
 }
 
@@ -317,23 +309,25 @@ fn run_hooks_finish(declared: &mut Declared) -> bool {
 #[derive(Clone, Copy)]
 struct Answers {
     are_taken: bool,
-    pickle: Result<(), RefFault>,
     are_finished: bool,
     hook: Result<(), RefFault>,
+    pickle: Result<(), RefFault>,
 }
 
 fn answers_without_room(
     declared: &mut Declared,
     alloc: Global,
     shortage: &mut Shortage,
-    steps: &[String],
 ) -> Result<Answers, Fail> {
+    let id = String::from_str(alloc, "a")?;
+    let steps = texts(alloc, &["s"])?;
     shortage.leave(alloc, 0)?;
+    // The pickle comes last, since its id and its steps leave room.
     let answers = Answers {
         are_taken: names_are_taken(declared),
-        pickle: declared_twice(declared, "a", steps),
         are_finished: run_hooks_finish(declared),
         hook: declare(declared, Kind::Hook, NEW),
+        pickle: declared.declare_pickle(id, steps),
     };
     shortage.relax(alloc);
     Ok(answers)
@@ -349,13 +343,9 @@ fn check_answers(answers: Answers) -> Result<(), Fail> {
     check(answers.hook == Err(RefFault::Memory), "memory was there")
 }
 
-fn meet_without_room(
-    declared: &mut Declared,
-    alloc: Global,
-    steps: &[String],
-) -> Result<Answers, Fail> {
+fn meet_without_room(declared: &mut Declared, alloc: Global) -> Result<Answers, Fail> {
     let mut shortage = Shortage::new(alloc)?;
-    let answers = answers_without_room(declared, alloc, &mut shortage, steps);
+    let answers = answers_without_room(declared, alloc, &mut shortage);
     drop(shortage);
     answers
 }
@@ -364,10 +354,7 @@ fn meet_without_room(
 fn refusals_without_room(rt: HostRuntime) -> Result<(), Fail> {
     let alloc = rt.alloc();
     let mut declared = declared_names(alloc, 1)?;
-    let answers = match texts(alloc, &["s"]) {
-        Ok(steps) => meet_without_room(&mut declared, alloc, steps.as_slice()),
-        Err(AllocError) => Err(Fail::from("no memory")),
-    };
+    let answers = meet_without_room(&mut declared, alloc);
     drop(declared);
     check_answers(answers?)
 }

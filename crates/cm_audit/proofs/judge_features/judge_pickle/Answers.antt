@@ -24,11 +24,10 @@ returns-in_err-steps c =
 pub returns-in_err-declare_pickle : goal.returns-in_err-declare_pickle
 returns-in_err-declare_pickle c =
     let fault = c.in_err-declare_pickle.field-0.0 in
-    let answer = rw c.as_str.ensures at c.in_err-declare_pickle.ensures.answer in
-    let same : map string_bytes c.as_slice.result.now ≡ map (λ s. s.id) c.args.pickle.steps = ap (map string_bytes) c.as_slice.ensures.value ∙ c.in_ok-steps.ensures in
+    let answer = rw c.into_string.ensures at c.in_err-declare_pickle.ensures.answer in
     stops c.args.state.now (record (c.args.state.now) { declared = c.declare_pickle.new.self }) (Pickle c.args.pickle)
     c.from_residual-in_err-declare_pickle.result (refused_reference fault) c.from_residual-in_err-declare_pickle.ensures.1
-    (pickle_told (summary_of c.args.state.now) c.args.pickle c.in_ok-check_pickle.ensures.known c.in_ok-check_pickle.ensures.next (map string_bytes c.as_slice.result.now) same fault answer)
+    (pickle_told (summary_of c.args.state.now) c.args.pickle c.in_ok-check_pickle.ensures.known c.in_ok-check_pickle.ensures.next (map string_bytes c.in_ok-steps.steps.items) c.in_ok-steps.ensures fault answer)
     (λ i. record (summary_of c.args.state.now) { declared = c.in_err-declare_pickle.ensures.err i })
 
 pub overflow_add-state : goal.overflow_add-state
@@ -42,13 +41,13 @@ returns c =
     let old = c.args.state.now in
     let uri = c.args.pickle.uri in
     let rows = kept_rows old.sources.entries in
-    let steps = map string_bytes c.as_slice.result.now in
-    let same : map string_bytes c.as_slice.result.now ≡ map (λ s. s.id) c.args.pickle.steps = ap (map string_bytes) c.as_slice.ensures.value ∙ c.in_ok-steps.ensures in
-    let answer = rw c.as_str.ensures at c.in_ok-declare_pickle.ensures.answer in
+    let steps = map string_bytes c.in_ok-steps.steps.items in
+    let same : steps ≡ map (λ s. s.id) c.args.pickle.steps = c.in_ok-steps.ensures in
+    let answer = rw c.into_string.ensures at c.in_ok-declare_pickle.ensures.answer in
     let made : c.declare_pickle.new.self ≡ with_pickle c.args.pickle.id (map (λ s. s.id) c.args.pickle.steps) old.declared =
-    c.in_ok-declare_pickle.ensures.ok ∙ (λ i. with_pickle (c.as_str.ensures i) (same i) old.declared) in
+    c.in_ok-declare_pickle.ensures.ok ∙ (λ i. with_pickle (c.into_string.ensures i) (same i) old.declared) in
     let changed : kept_rows c.count_pickle.new.sources.entries ≡ change_source uri one_more rows =
-    c.count_pickle.ensures ∙ ap (λ t. change_source t one_more rows) c.as_str-2.ensures in (
+    c.count_pickle.ensures ∙ ap (λ t. change_source t one_more rows) c.as_str.ensures in (
       pickle_fits (summary_of old) c.args.pickle c.in_ok-check_pickle.ensures.known c.in_ok-check_pickle.ensures.next steps same answer,
       λ i. record (summary_of old) {
         declared = made i;

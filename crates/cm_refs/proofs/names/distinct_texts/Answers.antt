@@ -1,30 +1,34 @@
-use Rattle.std.proofs.Common.{◌≡◌, ◌∙◌, ◌<◌, ap, sym, false, true, length, get_or, map, take}
+use Rattle.std.proofs.Common.{◌≡◌, ◌∙◌, ◌++◌, ◌∷◌, ◌||◌, [], ap, sym, refl, true, false, map, map-id, rules}
+use Rattle.std.specs.Str.{bytes_eq}
 use Rattle.std.specs.String.{string_bytes}
-use Rattle.std.proofs.lemmas.List.{get_or-map, length-map}
-use Rattle.cm_refs.specs.Declarations.{has_text}
-use Rattle.cm_refs.proofs.RepeatLemmas.{has_text_before, inserted_texts, no_repeat_at, repeat_at}
+use Rattle.std.proofs.lemmas.List.{map-append}
+use Rattle.std.proofs.lemmas.Iterator.Adapters.{YieldsList-from_vec}
+use Rattle.std.proofs.lemmas.Iterator.Consumers.{YieldsList-so_far, YieldsList-turn}
+use Rattle.cm_refs.specs.Declarations.{has_repeat, has_text}
+use Rattle.cm_refs.proofs.EntryLemmas.{list_any-map}
+use Rattle.cm_refs.proofs.RepeatLemmas.{appended_text, has_repeat-push, repeat_after}
 use Rattle.cm_refs.proofs.names.distinct_texts.Goals as goal
 
-pub returns-then-contains-clause-repeated : goal.returns-then-contains-clause-repeated
-returns-then-contains-clause-repeated c =
-    let texts = map string_bytes c.args.texts.now in
-    let text = string_bytes c.text-item.result in
-    let lt : c.loop-text.text-index < length texts = rw length-map c.loop-text-test.true in
-    let here : text ≡ get_or texts c.loop-text.text-index text =
-    ap string_bytes c.text-item.is ∙ sym (get_or-map string_bytes c.args.texts.now c.loop-text.text-index c.text-item.result text c.loop-text-test.true) in
-    let there : has_text (get_or texts c.loop-text.text-index text) (take c.loop-text.text-index texts) ≡ true =
-    has_text_before c.loop-text.set.keys texts c.loop-text.text-index text c.loop-text.invariant.0 here true (rw (← c.as_str.ensures.value) c.if-contains.ensures) in
-    sym (repeat_at texts c.loop-text.text-index text lt there)
+pub returns-then-not-is_new-clause-repeated : goal.returns-then-not-is_new-clause-repeated
+returns-then-not-is_new-clause-repeated c =
+    let all = c.args.texts.items in
+    let yielded = c.loop-text.yielded in
+    let text = c.in-Some.text in
+    let gives = YieldsList-from_vec {s = c.into_iter-text-iterator.result} all (search rules) (search rules) in
+    let turn = YieldsList-turn gives yielded c.loop-text.text-iterator c.loop-text.yielded_by c.next.result c.next.new.self text c.in-Some.is c.next.ensures.steps in
+    let there : has_text (string_bytes text) (map string_bytes yielded) ≡ true =
+    ap (has_text (string_bytes text)) (sym c.loop-text.invariant.0) ∙ list_any-map (bytes_eq (string_bytes text)) string_bytes c.loop-text.set.keys ∙ search rules in
+    sym (repeat_after all yielded text (sym (map-id yielded) ∙ YieldsList-so_far gives yielded c.loop-text.text-iterator c.loop-text.yielded_by) turn.0 turn.1 there)
 
 pub loop-text-preserved : goal.loop-text-preserved
 loop-text-preserved c =
-    let texts = map string_bytes c.args.texts.now in
-    let text = string_bytes c.text-item.result in
-    let lt : c.loop-text.text-index < length texts = rw length-map c.loop-text-test.true in
-    let here : text ≡ get_or texts c.loop-text.text-index text =
-    ap string_bytes c.text-item.is ∙ sym (get_or-map string_bytes c.args.texts.now c.loop-text.text-index c.text-item.result text c.loop-text-test.true) in
-    let new : has_text (get_or texts c.loop-text.text-index text) (take c.loop-text.text-index texts) ≡ false =
-    has_text_before c.loop-text.set.keys texts c.loop-text.text-index text c.loop-text.invariant.0 here false (rw (← c.as_str.ensures.value) c.if-contains.ensures) in (
-      ap (map string_bytes) c.in_ok-insert.ensures.keys ∙ inserted_texts c.loop-text.set.keys texts c.loop-text.text-index text c.loop-text.invariant.0 here c.in_ok-clone.field-0 c.in_ok-clone.ensures.cases lt new,
-      no_repeat_at texts c.loop-text.text-index text lt new c.loop-text.invariant.1,
+    let yielded = c.loop-text.yielded in
+    let text = c.in-Some.text in
+    let new : has_text (string_bytes text) (map string_bytes c.loop-text.set.keys) ≡ false =
+    list_any-map (bytes_eq (string_bytes text)) string_bytes c.loop-text.set.keys ∙ search rules in
+    let texts = map-append string_bytes yielded (text ∷ []) in (
+      ap (map string_bytes) c.in_ok-is_new.ensures.keys ∙ appended_text c.loop-text.set.keys text (string_bytes text) refl new
+          ∙ ap (λ l. l ++ string_bytes text ∷ []) c.loop-text.invariant.0 ∙ sym texts,
+      ap has_repeat texts ∙ has_repeat-push (map string_bytes yielded) (string_bytes text)
+          ∙ (λ j. (ap (has_text (string_bytes text)) (sym c.loop-text.invariant.0) ∙ new) j || c.loop-text.invariant.1 j),
     )

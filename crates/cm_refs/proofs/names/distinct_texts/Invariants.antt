@@ -1,9 +1,9 @@
-use Rattle.std.proofs.Common.{◌≡◌, false, map, take}
+use Rattle.std.proofs.Common.{◌≡◌, false, map}
 use Rattle.std.specs.String.{string_bytes}
 use Rattle.cm_refs.specs.Declarations.{has_repeat}
 use Rattle.cm_refs.proofs.names.distinct_texts.Given as goal
 
 abbrev pub invariant-loop-text : goal.invariant-loop-text
 invariant-loop-text l =
-    (map string_bytes l.set.keys ≡ take l.text-index (map string_bytes l.texts))
-    × (has_repeat (take l.text-index (map string_bytes l.texts)) ≡ false)
+    (map string_bytes l.set.keys ≡ map string_bytes l.yielded)
+    × (has_repeat (map string_bytes l.yielded) ≡ false)

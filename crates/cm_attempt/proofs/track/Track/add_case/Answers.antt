@@ -9,7 +9,7 @@ pub invariant_of-self-2 : goal.invariant_of-self-2
 invariant_of-self-2 c = (
   search rules,
   record {
-    of_cases = distinct_after_push {X = CaseRow} (λ r. r.id) (new_case c.args.id.now (map string_bytes c.in-Some.steps.keys)) (case_rows c.self.inside.cases.entries) (case_rows c.add_case.new.cases.entries)
+    of_cases = distinct_after_push {X = CaseRow} (λ r. r.id) (new_case (string_bytes c.args.id) (map string_bytes c.in-Some.steps.keys)) (case_rows c.self.inside.cases.entries) (case_rows c.add_case.new.cases.entries)
         c.in_ok-add_case.ensures.ok (search rules) c.self.invariant.1.of_cases;
     of_attempts = c.self.invariant.1.of_attempts;
   },
