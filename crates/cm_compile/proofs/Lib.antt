@@ -1,3 +1,4 @@
 pub mod Ids
+pub mod InTurn
 pub mod Limits
 pub mod Nodes

@@ -6,6 +6,7 @@ ghost use Rattle.gk_grammar.specs.Documents.{IsTooLong};
 ghost use Rattle.gk_tree.specs.declared.fault.ParseFault.{ParseFault};
 ghost use Rattle.gk_tree.specs.Views.{too_long};
 ghost use Rattle.gk_pickle.specs.Pickles.{pickles};
+ghost use Rattle.gk_pickle.specs.Scenarios.{pickles_of_one};
 ghost use Rattle.gk_pickle.specs.TreeJson.{source_data, document_data};
 ghost use Rattle.cm_envelope.specs.Device.{count_up};
 ghost use Rattle.cm_compile.specs.declared.fault.CompileFault.TheVariants.{Parse, WriteFailed};
@@ -17,7 +18,7 @@ use crate::fault::CompileFault;
 use cm_envelope::{ByteSink, write_all};
 use cm_messages::{document_text, pickle_text, source_text};
 use gk_document::Document;
-use gk_pickle::{Pickle, compile};
+use gk_pickle::{Pickle, ScenarioInFeature, compile_scenario, scenarios};
 use gk_tree::parse;
 use std::alloc::{AllocError, Global};
 
@@ -30,17 +31,18 @@ fn add_line(lines: &mut Vec<u8>, text: &[u8]) -> Result<(), AllocError>
     Ok(())
 }
 
-/// Adds the lines of pickles, whose ids go on from the first one.
+/// Adds the lines of pickles, whose ids go on from the first one, and gives the id after theirs.
 fn add_pickle_lines(
     alloc: Global,
     uri: &str,
     pickles: &[Pickle],
     first_id: u64,
     lines: &mut Vec<u8>,
-) -> Result<(), AllocError>
+) -> Result<u64, AllocError>
     requires { first_id + sum_by id_count pickles.now < 2 ^ 64 }
-    ensures { OnOk result
+    ensures added { OnOk result
         (lines.new.items ≡ lines.old.items ++ concat (pickle_lines uri.now first_id pickles.now)) }
+    ensures next { IfOk result (λ id. id ≡ first_id + sum_by id_count pickles.now) }
 {
     let mut id = first_id;
     'pickles: for pickle in pickles {
@@ -48,7 +50,26 @@ fn add_pickle_lines(
         add_line(lines, text.as_slice())?;
         id += pickle.steps.len() as u64 + 1;
     }
-    Ok(())
+    Ok(id)
+}
+
+/// Adds the lines of a scenario's pickles, whose ids go on from the first one, and gives the id after theirs.
+/// The pickles are held until their lines are made.
+fn add_scenario_lines(
+    alloc: Global,
+    uri: &str,
+    scenario: &ScenarioInFeature<'_>,
+    first_id: u64,
+    lines: &mut Vec<u8>,
+) -> Result<u64, AllocError>
+    requires { first_id + sum_by id_count (pickles_of_one scenario.now) < 2 ^ 64 }
+    ensures added { OnOk result (lines.new.items ≡ lines.old.items
+        ++ concat (pickle_lines uri.now first_id (pickles_of_one scenario.now))) }
+    ensures next { IfOk result
+        (λ id. id ≡ first_id + sum_by id_count (pickles_of_one scenario.now)) }
+{
+    let pickles = compile_scenario(alloc, scenario)?;
+    add_pickle_lines(alloc, uri, pickles.as_slice(), first_id, lines)
 }
 
 /// The line of a source, and that of its document.
@@ -80,8 +101,11 @@ fn lines_of_document(
         lines.items ≡ concat (compiled_lines uri.now text.now document.now)) }
 {
     let mut lines = lines_of_tree(alloc, uri, text, document)?;
-    let pickles = compile(alloc, document)?;
-    add_pickle_lines(alloc, uri, pickles.as_slice(), document.nodes, &mut lines)?;
+    let scenarios = scenarios(alloc, document)?;
+    let mut id = document.nodes;
+    for scenario in scenarios.as_slice() {
+        id = add_scenario_lines(alloc, uri, scenario, id, &mut lines)?;
+    }
     Ok(lines)
 }
 

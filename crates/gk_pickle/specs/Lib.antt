@@ -4,6 +4,8 @@ pub mod Columns
 pub mod Inherited
 pub mod Steps
 pub mod Pickles
+pub mod InFeature
+pub mod Scenarios
 pub mod Json
 pub mod TreeJson
 pub mod Cut

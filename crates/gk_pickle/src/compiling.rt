@@ -1,15 +1,14 @@
 //! The pickles of a document.
 ghost use Rattle.std.specs.Prelude.{◌≡◌, ◌++◌, Some, map, IfOk, OnOk};
-ghost use Rattle.std.specs.List.{flat_map};
-ghost use Rattle.gk_pickle.specs.Pickles.{pickle_tag, pickle_of, table_pickles, scenario_pickles, background_steps, rule_pickles, feature_pickles, pickles};
+ghost use Rattle.gk_pickle.specs.Pickles.{pickle_tag, pickle_of, table_pickles, scenario_pickles, pickles};
+ghost use Rattle.gk_pickle.specs.Scenarios.{pickles_of_one};
 
 use crate::columns::Columns;
 use crate::inherited::{Filling, Inherited};
 use crate::pickle::{Pickle, PickleTag};
+use crate::scenario_in_feature::{ScenarioInFeature, scenarios};
 use crate::steps::all_steps;
-use gk_document::{
-    Background, Document, ExampleTable, Feature, Rule, Scenario, Sequence, Step, Tag, Text,
-};
+use gk_document::{Document, ExampleTable, Scenario, Sequence, Tag, Text};
 use std::alloc::{AllocError, Global};
 
 /// Adds what pickles take of tags.
@@ -143,66 +142,34 @@ fn add_scenario(
     Ok(())
 }
 
-/// Adds the pickles of scenarios.
-fn add_scenarios(
+/// Adds the pickles of a scenario in its feature.
+#[tactic(auto, unfolding(crate::specs::Scenarios::pickles_of_one))]
+fn add_pickles(
     alloc: Global,
-    inherited: &Inherited<'_>,
-    scenarios: &[Scenario],
+    scenario: &ScenarioInFeature<'_>,
     made: &mut Vec<Pickle>,
 ) -> Result<(), AllocError>
-    ensures { OnOk result
-        (made.new.items
-        ≡ made.old.items ++ flat_map (scenario_pickles inherited.now) scenarios.now) }
+    ensures { OnOk result (made.new.items ≡ made.old.items ++ pickles_of_one scenario.now) }
 {
-    for scenario in scenarios {
-        add_scenario(alloc, inherited, scenario, made)?;
-    }
-    Ok(())
+    add_scenario(alloc, &Inherited::of(scenario), scenario.scenario, made)
 }
 
-/// The steps of a background, where there is one.
-fn steps_of(background: &Option<Background>) -> &[Step]
-    ensures { result.now ≡ background_steps background.now }
-{
-    match background {
-        Some(background) => background.steps.as_slice(),
-        None => &[],
-    }
-}
-
-/// Adds the pickles of a rule.
-fn add_rule(
+/// The pickles of one scenario, in order: one where it has no examples blocks, else one for each body row.
+/// Only the row's columns that the header has too are filled, so no condition is on the tables.
+///
+/// Source: Cucumber's Gherkin reference on backgrounds, rules, scenario outlines and tag inheritance.
+///
+/// # Errors
+/// Only where there is no memory for the pickles.
+pub fn compile_scenario(
     alloc: Global,
-    feature: &Feature,
-    rule: &Rule,
-    made: &mut Vec<Pickle>,
-) -> Result<(), AllocError>
-    ensures { OnOk result (made.new.items ≡ made.old.items ++ rule_pickles feature.now rule.now) }
+    scenario: &ScenarioInFeature<'_>,
+) -> Result<Vec<Pickle>, AllocError>
+    ensures { IfOk result (λ made. made.items ≡ pickles_of_one scenario.now) }
 {
-    let inherited = Inherited {
-        feature_tags: feature.tags.as_slice(),
-        rule_tags: rule.tags.as_slice(),
-        feature_steps: steps_of(&feature.background),
-        rule_steps: steps_of(&rule.background),
-    };
-    add_scenarios(alloc, &inherited, rule.scenarios.as_slice(), made)
-}
-
-/// Adds the pickles of a feature.
-fn add_feature(alloc: Global, feature: &Feature, made: &mut Vec<Pickle>) -> Result<(), AllocError>
-    ensures { OnOk result (made.new.items ≡ made.old.items ++ feature_pickles feature.now) }
-{
-    let inherited = Inherited {
-        feature_tags: feature.tags.as_slice(),
-        rule_tags: &[],
-        feature_steps: steps_of(&feature.background),
-        rule_steps: &[],
-    };
-    add_scenarios(alloc, &inherited, feature.scenarios.as_slice(), made)?;
-    for rule in feature.rules.as_slice() {
-        add_rule(alloc, feature, rule, made)?;
-    }
-    Ok(())
+    let mut made = Vec::new(alloc);
+    add_pickles(alloc, scenario, &mut made)?;
+    Ok(made)
 }
 
 /// The pickles of a document, in order: one for a scenario without examples blocks, any other one for each body row.
@@ -212,13 +179,13 @@ fn add_feature(alloc: Global, feature: &Feature, made: &mut Vec<Pickle>) -> Resu
 ///
 /// # Errors
 /// Only where there is no memory for the pickles.
-#[tactic(auto, unfolding(crate::specs::Pickles::pickles))]
 pub fn compile(alloc: Global, document: &Document) -> Result<Vec<Pickle>, AllocError>
     ensures { IfOk result (λ made. made.items ≡ pickles document.now) }
 {
-    let mut made = Vec::new(alloc);
-    if let Some(feature) = &document.feature {
-        add_feature(alloc, feature, &mut made)?;
+    let scenarios = scenarios(alloc, document)?;
+    let mut pickles = Vec::new(alloc);
+    for scenario in scenarios.as_slice() {
+        add_pickles(alloc, scenario, &mut pickles)?;
     }
-    Ok(made)
+    Ok(pickles)
 }

@@ -1,11 +1,14 @@
 //! What a scenario's pickles inherit of its feature and its rule, and what fills their texts.
 ghost use Rattle.std.specs.Prelude.{◌≡◌, ◌∷◌, [], IfOk};
 ghost use Rattle.gk_pickle.specs.Inherited.{unfilled};
+ghost use Rattle.gk_pickle.specs.Pickles.{background_steps, in_feature, in_rule};
+ghost use Rattle.gk_pickle.specs.Scenarios.{inherited_in};
 ghost use Rattle.gk_pickle.specs.Steps.{filled_by};
 
 use crate::columns::Columns;
 use crate::filling::fill_from;
-use gk_document::{Cell, Row, Sequence, Step, Tag, Text};
+use crate::scenario_in_feature::ScenarioInFeature;
+use gk_document::{Background, Cell, Feature, Row, Rule, Sequence, Step, Tag, Text};
 use std::alloc::{AllocError, Global};
 use std::marker::Model;
 
@@ -28,6 +31,52 @@ impl<'a> Model for Inherited<'a> {
       tags = a.feature_tags.now ++ a.rule_tags.now;
       steps = a.feature_steps.now ++ a.rule_steps.now;
     } };
+}
+
+/// The steps of a background, where there is one.
+fn steps_of(background: &Option<Background>) -> &[Step]
+    ensures { result.now ≡ background_steps background.now }
+{
+    match background {
+        Some(background) => background.steps.as_slice(),
+        None => &[],
+    }
+}
+
+impl<'a> Inherited<'a> {
+    /// Of a scenario that is in the feature itself.
+    fn in_feature(feature: &'a Feature) -> Inherited<'a>
+        ensures { result ≡ in_feature feature.now }
+    {
+        Inherited {
+            feature_tags: feature.tags.as_slice(),
+            rule_tags: &[],
+            feature_steps: steps_of(&feature.background),
+            rule_steps: &[],
+        }
+    }
+
+    /// Of a scenario that is in a rule.
+    fn in_rule(feature: &'a Feature, rule: &'a Rule) -> Inherited<'a>
+        ensures { result ≡ in_rule feature.now rule.now }
+    {
+        Inherited {
+            feature_tags: feature.tags.as_slice(),
+            rule_tags: rule.tags.as_slice(),
+            feature_steps: steps_of(&feature.background),
+            rule_steps: steps_of(&rule.background),
+        }
+    }
+
+    /// Of a scenario.
+    pub(crate) fn of(scenario: &ScenarioInFeature<'a>) -> Inherited<'a>
+        ensures { result ≡ inherited_in scenario.now.feature scenario.now.rule }
+    {
+        match scenario.rule {
+            Some(rule) => Inherited::in_rule(scenario.feature, rule),
+            None => Inherited::in_feature(scenario.feature),
+        }
+    }
 }
 
 /// What fills a text: a row under its header, and the row's node.

@@ -4,6 +4,7 @@ ghost use Rattle.gk_pickle.specs.Characters.{FillsCharacters};
 ghost use Rattle.gk_pickle.specs.Counts.{OneWithoutExamples, OneForEachRow, RowsInOrder};
 ghost use Rattle.gk_pickle.specs.Cut.{ReplacedIsJoined, JoinedIsReplaced};
 ghost use Rattle.gk_pickle.specs.Order.{StepsInDocumentOrder};
+ghost use Rattle.gk_pickle.specs.Scenarios.{PicklesScenarioByScenario};
 
 /// Replacing cuts a text at the leftmost occurrences of a pattern that don't overlap, and joins the parts by the cell.
 pub fn replacing_law()
@@ -31,4 +32,9 @@ pub fn order_law()
 /// A scenario that has no placeholder of the header compiles alike for each row.
 pub fn alike_law()
     ensures { RowsCompileAlike }
+{}
+
+/// The pickles of a document are those of one scenario after another.
+pub fn scenarios_law()
+    ensures { PicklesScenarioByScenario }
 {}

@@ -20,12 +20,14 @@ mod inherited;
 mod json;
 mod laws;
 mod pickle;
+mod scenario_in_feature;
 mod steps;
 mod tree_json;
 
-pub use compiling::compile;
+pub use compiling::{compile, compile_scenario};
 pub use filling::fill;
 pub use json::pickle_value;
-pub use laws::{alike_law, characters_law, counting_law, order_law, replacing_law};
+pub use laws::{alike_law, characters_law, counting_law, order_law, replacing_law, scenarios_law};
 pub use pickle::{Pickle, PickleArgument, PickleDocString, PickleStep, PickleTag, StepType};
+pub use scenario_in_feature::{ScenarioInFeature, scenarios};
 pub use tree_json::{document_value, source_value};

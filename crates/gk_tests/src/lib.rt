@@ -3,6 +3,8 @@
 #![tactic(auto)]
 
 #[cfg(test)]
+mod document_parts;
+#[cfg(test)]
 mod filling;
 #[cfg(test)]
 mod lines;

@@ -1,7 +1,7 @@
 //! The pickles of texts that are parsed, as lines.
-use gk_pickle::{Pickle, compile, pickle_value};
+use gk_pickle::{Pickle, ScenarioInFeature, compile, compile_scenario, pickle_value, scenarios};
 use gk_tree::{Document, parse};
-use std::alloc::Global;
+use std::alloc::{AllocError, Global};
 use std::process::Abort;
 use std::test::Fail;
 
@@ -18,6 +18,12 @@ const MIXED_TEXT: &str = concat!(
     "      | a |\n    Examples:\n  Scenario: q\n    Given d\n      \"\"\"<m>\n",
     "      <n>\n      \"\"\"\n    And <n>\n      | <n> | é |\n    Examples:\n",
     "      | m | n |\n      |  | ü |\n# \u{1}\u{1F600}",
+);
+
+const PLACED_TEXT: &str = concat!(
+    "Feature: f\n  Background:\n    Given a\n  Scenario: s\n    When b\n",
+    "  Rule: r\n    Background:\n      Given c\n    Scenario Outline: <n>\n",
+    "      Then d\n      Examples:\n        | n |\n        | 1 |\n        | 2 |",
 );
 
 const STEPLESS_PICKLE: &str = concat!(
@@ -46,6 +52,29 @@ const MIXED_PICKLES: &str = concat!(
     r#""id":"17","text":"d","type":"Context"},"#,
     r#"{"argument":{"dataTable":{"rows":[{"cells":[{"value":"ü"},{"value":"é"}]}]}},"#,
     r#""astNodeIds":["9","13"],"id":"18","text":"ü","type":"Context"}],"tags":[],"#,
+    r#""uri":"u"}}"#,
+    "\n",
+);
+
+const PICKLE_IN_FEATURE: &str = concat!(
+    r#"{"pickle":{"astNodeIds":["2"],"id":"15","language":"en","name":"s","#,
+    r#""steps":[{"astNodeIds":["1"],"id":"13","text":"a","type":"Context"},"#,
+    r#"{"astNodeIds":["3"],"id":"14","text":"b","type":"Action"}],"tags":[],"#,
+    r#""uri":"u"}}"#,
+    "\n",
+);
+
+const PICKLES_IN_RULE: &str = concat!(
+    r#"{"pickle":{"astNodeIds":["7","11"],"id":"19","language":"en","name":"1","#,
+    r#""steps":[{"astNodeIds":["1"],"id":"16","text":"a","type":"Context"},"#,
+    r#"{"astNodeIds":["6"],"id":"17","text":"c","type":"Context"},"#,
+    r#"{"astNodeIds":["8","11"],"id":"18","text":"d","type":"Outcome"}],"tags":[],"#,
+    r#""uri":"u"}}"#,
+    "\n",
+    r#"{"pickle":{"astNodeIds":["7","12"],"id":"23","language":"en","name":"2","#,
+    r#""steps":[{"astNodeIds":["1"],"id":"20","text":"a","type":"Context"},"#,
+    r#"{"astNodeIds":["6"],"id":"21","text":"c","type":"Context"},"#,
+    r#"{"astNodeIds":["8","12"],"id":"22","text":"d","type":"Outcome"}],"tags":[],"#,
     r#""uri":"u"}}"#,
     "\n",
 );
@@ -111,4 +140,49 @@ fn an_outline_in_a_rule(rt: HostRuntime) -> Result<(), Fail> {
 #[test]
 fn types_tables_and_doc_strings(rt: HostRuntime) -> Result<(), Fail> {
     check_pickles(&rt, rt.alloc(), "u", MIXED_TEXT, MIXED_PICKLES)
+}
+
+/// The names of a scenario's feature, of its rule where it is in one, and of the scenario.
+fn told_place(alloc: Global, scenario: &ScenarioInFeature<'_>) -> Result<String, AllocError> {
+    let feature = scenario.feature.name.as_str();
+    let name = scenario.scenario.name.as_str();
+    match scenario.rule {
+        Some(rule) => format!(in alloc; "{feature}, {}, {name}", rule.name.as_str()),
+        None => format!(in alloc; "{feature}, {name}"),
+    }
+}
+
+fn check_scenario(
+    rt: &impl Abort,
+    alloc: Global,
+    scenario: &ScenarioInFeature<'_>,
+    first_id: u64,
+    wanted: (&str, &str),
+) -> Result<(), Fail> {
+    let place = told_place(alloc, scenario)?;
+    assert_eq!(rt; place.as_str(), wanted.0);
+    let pickles = compile_scenario(alloc, scenario)?;
+    let told = told(alloc, "u", pickles.as_slice(), first_id);
+    drop(pickles);
+    let told = told?;
+    assert_eq!(rt; told.as_str(), wanted.1);
+    Ok(())
+}
+
+fn check_placed(rt: &impl Abort, alloc: Global, document: &Document) -> Result<(), Fail> {
+    let scenarios = scenarios(alloc, document)?;
+    match scenarios.as_slice() {
+        [first, second] => {
+            check_scenario(rt, alloc, first, 13, ("f, s", PICKLE_IN_FEATURE))?;
+            check_scenario(rt, alloc, second, 16, ("f, r, <n>", PICKLES_IN_RULE))
+        }
+        _ => Err(Fail::from("another number of scenarios")),
+    }
+}
+
+#[test]
+fn one_scenario_after_another(rt: HostRuntime) -> Result<(), Fail> {
+    let alloc = rt.alloc();
+    let document = parse(alloc, PLACED_TEXT)?;
+    check_placed(&rt, alloc, &document)
 }

@@ -5,7 +5,9 @@ use crate::meeting::{Came, SMALL, check, meet, meet_alone, right_if};
 use gk_line::{
     Cell, Fence, Line, TagFault, TagText, cells, doc_line, is_row, is_tags, push_doc_line, tags,
 };
-use gk_pickle::{Pickle, StepType, compile, fill};
+use gk_pickle::{
+    Pickle, ScenarioInFeature, StepType, compile, compile_scenario, fill, scenarios,
+};
 use gk_tree::{Document, FaultKind, ParseFault, parse};
 use scarce::Shortage;
 use std::alloc::{AllocError, Global};
@@ -172,10 +174,31 @@ fn is_ruled_pickle(pickle: &Pickle) -> bool {
     }
 }
 
-fn compile_ruled(alloc: Global, document: &Document) -> Came {
-    match compile(alloc, document) {
+fn right_if_ruled(pickles: Result<Vec<Pickle>, AllocError>) -> Came {
+    match pickles {
         Ok(pickles) => match pickles.as_slice() {
             [pickle] => right_if(is_ruled_pickle(pickle)),
+            _ => Came::Wrong,
+        },
+        Err(AllocError) => Came::Refused,
+    }
+}
+
+fn is_ruled_scenario(scenario: &ScenarioInFeature<'_>) -> bool {
+    match scenario.rule {
+        Some(rule) => {
+            scenario.feature.name.as_str() == "f"
+                && rule.name.as_str() == "r"
+                && scenario.scenario.name.as_str() == "<n> o"
+        }
+        None => false,
+    }
+}
+
+fn find_ruled(alloc: Global, document: &Document) -> Came {
+    match scenarios(alloc, document) {
+        Ok(scenarios) => match scenarios.as_slice() {
+            [scenario] => right_if(is_ruled_scenario(scenario)),
             _ => Came::Wrong,
         },
         Err(AllocError) => Came::Refused,
@@ -193,11 +216,42 @@ fn pickles(rt: HostRuntime) -> Result<(), Fail> {
     let document = parse(alloc, RULED_TEXT)?;
     let mut shortage = Shortage::new(alloc)?;
     meet(alloc, &mut shortage, SMALL, |alloc| {
-        compile_ruled(alloc, &document)
+        right_if_ruled(compile(alloc, &document))
     })?;
     drop(shortage);
     drop(document);
     Ok(())
+}
+
+#[test]
+fn scenarios_of_a_document(rt: HostRuntime) -> Result<(), Fail> {
+    let alloc = rt.alloc();
+    let document = parse(alloc, RULED_TEXT)?;
+    let mut shortage = Shortage::new(alloc)?;
+    meet(alloc, &mut shortage, SMALL, |alloc| {
+        find_ruled(alloc, &document)
+    })?;
+    drop(shortage);
+    drop(document);
+    Ok(())
+}
+
+fn meet_scenario(alloc: Global, scenarios: &[ScenarioInFeature<'_>]) -> Result<(), Fail> {
+    let scenario = scenarios.first().ok_or("no scenario")?;
+    let mut shortage = Shortage::new(alloc)?;
+    meet(alloc, &mut shortage, SMALL, |alloc| {
+        right_if_ruled(compile_scenario(alloc, scenario))
+    })?;
+    drop(shortage);
+    Ok(())
+}
+
+#[test]
+fn pickles_of_a_scenario(rt: HostRuntime) -> Result<(), Fail> {
+    let alloc = rt.alloc();
+    let document = parse(alloc, RULED_TEXT)?;
+    let scenarios = scenarios(alloc, &document)?;
+    meet_scenario(alloc, scenarios.as_slice())
 }
 
 fn cells_of(alloc: Global, text: &str) -> Result<Vec<Cell>, Fail> {

@@ -19,6 +19,8 @@ mod feeds;
 #[cfg(test)]
 mod meeting;
 #[cfg(test)]
+mod parts;
+#[cfg(test)]
 mod rooms;
 #[cfg(test)]
 mod streams;

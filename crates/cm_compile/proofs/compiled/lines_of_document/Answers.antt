@@ -1,10 +1,46 @@
-use Rattle.std.proofs.Common.{◌<◌, ◌+◌, ◌∙◌, List, sym, subst}
-use Rattle.std.specs.List.{sum_by}
-use Rattle.gk_pickle.specs.declared.pickle.Pickle.{Pickle}
-use Rattle.cm_compile.specs.Compiled.{id_count}
+use Rattle.std.proofs.Common.{◌≡◌, ◌∙◌, ◌++◌, ap, sym, append_assoc, arith}
+use Rattle.std.specs.List.{sum_by, concat, flat_map}
+use Rattle.gk_pickle.specs.Pickles.{pickles}
+use Rattle.gk_pickle.specs.Scenarios.{pickles_of_one}
+use Rattle.gk_pickle.specs.TreeJson.{source_data, document_data}
+use Rattle.gk_pickle.proofs.InTurn.{scenario_by_scenario}
+use Rattle.cm_compile.specs.Compiled.{json_line, id_count, pickle_lines}
+use Rattle.cm_compile.proofs.InTurn.{ids_from_here, one_added, all_added}
 use Rattle.cm_compile.proofs.compiled.lines_of_document.Goals as goal
 
-pub add_pickle_lines-requires : goal.add_pickle_lines-requires
-add_pickle_lines-requires c =
-    let P : List Pickle → Type 0 = λ ps. c.args.document.now.nodes + sum_by id_count ps < 18446744073709551616 in
-    subst P (sym (c.as_slice.ensures.value ∙ c.in_ok-pickles.ensures)) c.requires
+pub add_scenario_lines-requires : goal.add_scenario_lines-requires
+add_scenario_lines-requires c =
+    let d = c.args.document.now in
+    let items = c.as_slice-scenario-items.result.now in
+    let i = c.loop-scenario.scenario-index in
+    let here = ids_from_here items i c.scenario-item.result c.loop-scenario-test.true c.scenario-item.is in
+    let all : flat_map pickles_of_one items ≡ pickles d =
+    ap (flat_map pickles_of_one) (c.as_slice-scenario-items.ensures.value ∙ c.in_ok-scenarios.ensures) ∙ sym (scenario_by_scenario d) in
+    let sums = ap (sum_by id_count) all in
+    omega (arith, here, sums, c.loop-scenario.invariant.ids, c.requires)
+
+pub loop-scenario-preserved : goal.loop-scenario-preserved
+loop-scenario-preserved c =
+    let items = c.as_slice-scenario-items.result.now in
+    let i = c.loop-scenario.scenario-index in
+    let here = ids_from_here items i c.scenario-item.result c.loop-scenario-test.true c.scenario-item.is in
+    record {
+      ids = omega (arith, here, c.in_ok-id.ensures.next, c.loop-scenario.invariant.ids);
+      made =
+          one_added _ _ _ _ _ items i c.scenario-item.result _ c.in_ok-id.ensures.added c.in_ok-id.ensures.next
+          c.loop-scenario-test.true c.scenario-item.is c.loop-scenario.invariant.made;
+    }
+
+pub returns : goal.returns
+returns c =
+    let d = c.args.document.now in
+    let uri = c.args.uri.now in
+    let items = c.as_slice-scenario-items.result.now in
+    let source = json_line (source_data uri c.args.text.now) in
+    let document = json_line (document_data uri d) in
+    let all : flat_map pickles_of_one items ≡ pickles d =
+    ap (flat_map pickles_of_one) (c.as_slice-scenario-items.ensures.value ∙ c.in_ok-scenarios.ensures) ∙ sym (scenario_by_scenario d) in
+    all_added _ _ _ items c.loop-scenario.scenario-index _ c.loop-scenario-test.false c.loop-scenario.invariant.made
+    ∙ ap (λ ls. ls ++ concat (pickle_lines uri d.nodes (flat_map pickles_of_one items))) c.in_ok-lines.ensures
+    ∙ append_assoc source document (concat (pickle_lines uri d.nodes (flat_map pickles_of_one items)))
+    ∙ ap (λ ps. source ++ (document ++ concat (pickle_lines uri d.nodes ps))) all

@@ -1,0 +1,4 @@
+pub mod ReadBack
+pub mod Skeletons
+pub mod Differences
+pub mod Found

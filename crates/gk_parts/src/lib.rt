@@ -1,0 +1,23 @@
+//! The parts of a document in the order of the file, and the first part in which two documents
+//! differ.
+//!
+//! ```
+//! use gk_document::Document;
+//! use gk_parts::first_difference;
+//! use std::alloc::{AllocError, Global};
+//!
+//! fn are_alike(alloc: Global, a: &Document, b: &Document) -> Result<bool, AllocError> {
+//!     let difference = first_difference(alloc, a, b)?;
+//!     Ok(difference.is_none())
+//! }
+//! ```
+#![tactic(auto)]
+
+mod comparing;
+mod differing;
+mod laws;
+mod listing;
+
+pub use differing::{FirstDifference, first_difference};
+pub use laws::{difference_law, parts_law};
+pub use listing::{Part, parts};

@@ -1,0 +1,114 @@
+//! The parts of texts that are parsed, and where two texts first differ.
+use gk_parts::{FirstDifference, Part, first_difference, parts};
+use gk_tree::{Document, parse};
+use std::alloc::{AllocError, Global};
+use std::process::Abort;
+use std::test::Fail;
+
+const TEXT: &str = concat!(
+    "Feature: f\n  Background:\n    Given b\n  @t\n  Scenario Outline: s\n    When <a>\n",
+    "      \"\"\"\n      x\n      \"\"\"\n    Examples: e\n      | a |\n      | 1 |\n",
+    "    Examples:\n  Rule: r\n    Background:\n      Given c\n    Example: n\n",
+    "      Then d\n        | y |",
+);
+
+const PARTS: &str = concat!(
+    "feature 1, background 2, step 3, scenario 5, step 6, examples 10, header 11, row 12, ",
+    "examples 13, rule 14, background 15, step 16, scenario 17, step 18, ",
+);
+
+/// What a part is, and its line.
+fn place(part: &Part<'_>) -> (&'static str, u32) {
+    match part {
+        Part::Feature(feature) => ("feature", feature.location.line),
+        Part::Rule(rule) => ("rule", rule.location.line),
+        Part::Background(background) => ("background", background.location.line),
+        Part::Scenario(scenario) => ("scenario", scenario.location.line),
+        Part::Step(step) => ("step", step.location.line),
+        Part::Examples(examples) => ("examples", examples.location.line),
+        Part::Header(row) => ("header", row.location.line),
+        Part::Row(row) => ("row", row.location.line),
+    }
+}
+
+fn told(alloc: Global, part: &Option<Part<'_>>) -> Result<String, AllocError> {
+    match part {
+        Some(part) => {
+            let (kind, line) = place(part);
+            format!(in alloc; "{kind} {line}, ")
+        }
+        None => String::from_str(alloc, "nothing, "),
+    }
+}
+
+fn told_parts(alloc: Global, document: &Document) -> Result<String, AllocError> {
+    let mut text = String::new(alloc);
+    for part in parts(alloc, document)? {
+        let part = told(alloc, &Some(part))?;
+        text.push_str(part.as_str())?;
+    }
+    Ok(text)
+}
+
+fn told_first(
+    alloc: Global,
+    difference: &Option<FirstDifference<'_>>,
+) -> Result<String, AllocError> {
+    match difference {
+        Some(difference) => {
+            let mut text = told(alloc, &difference.expected)?;
+            let found = told(alloc, &difference.found)?;
+            text.push_str(found.as_str())?;
+            Ok(text)
+        }
+        None => String::from_str(alloc, "alike"),
+    }
+}
+
+fn document_of(alloc: Global, text: &str) -> Result<Document, Fail> {
+    match parse(alloc, text) {
+        Ok(document) => Ok(document),
+        Err(_) => Err(Fail::from("refused")),
+    }
+}
+
+#[test]
+fn parts_in_the_order_of_the_file(rt: HostRuntime) -> Result<(), Fail> {
+    let document = document_of(rt.alloc(), TEXT)?;
+    let told = told_parts(rt.alloc(), &document)?;
+    assert_eq!(rt; told.as_str(), PARTS);
+    drop(document);
+    Ok(())
+}
+
+/// Checks where the text first differs from itself with `new` in the place of `old`.
+fn check_difference(
+    rt: &impl Abort,
+    alloc: Global,
+    old: &str,
+    new: &str,
+    wanted: &str,
+) -> Result<(), Fail> {
+    let other = TEXT.replace(alloc, old, new)?;
+    let expected = document_of(alloc, TEXT)?;
+    let found = document_of(alloc, other.as_str())?;
+    let difference = first_difference(alloc, &expected, &found)?;
+    let told = told_first(alloc, &difference)?;
+    assert_eq!(rt; told.as_str(), wanted);
+    drop(found);
+    drop(expected);
+    Ok(())
+}
+
+#[test]
+fn the_first_difference(rt: HostRuntime) -> Result<(), Fail> {
+    let alloc = rt.alloc();
+    check_difference(&rt, alloc, "| 1 |", "|   1 |", "alike")?;
+    check_difference(&rt, alloc, "| 1 |", "| 2 |", "row 12, row 12, ")?;
+    check_difference(&rt, alloc, "| 1 |", "", "row 12, examples 13, ")?;
+    check_difference(&rt, alloc, "y", "z", "step 18, step 18, ")?;
+    check_difference(&rt, alloc, "      x", "      z", "step 6, step 6, ")?;
+    check_difference(&rt, alloc, "@t", "@u", "scenario 5, scenario 5, ")?;
+    check_difference(&rt, alloc, "\n      Then d\n        | y |", "", "step 18, nothing, ")?;
+    check_difference(&rt, alloc, "| y |", "| y |\n      And d", "nothing, step 20, ")
+}
