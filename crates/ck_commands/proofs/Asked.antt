@@ -10,8 +10,8 @@ use Rattle.clap.specs.Lexer.{strip_byte}
 use Rattle.clap.specs.Walk.{bundle_met, walked}
 use Rattle.clap.specs.Faults.{flags_fault, walk_fault, defaults_fault}
 use Rattle.cm_attempt.specs.declared.policy.Policy.TheVariants.{Strict, PendingPasses}
-use Rattle.ck_commands.specs.CommandLine.{Command, ask_parse, ask_compile, ask_audit, ask_gate, ask_results, ask_cases, command_of}
-use Rattle.ck_commands.specs.Asked.{Ask, AskNothing, by, attempts_from, AuditIsAsked, CasesAreAsked, GateIsAsked, ResultsAreAsked, FeaturesAreAsked, NothingIsAsked, is_option, command_names}
+use Rattle.ck_commands.specs.CommandLine.{Command, ask_parse, ask_compile, ask_audit, ask_gate, ask_results, ask_cases, ask_differs, command_of}
+use Rattle.ck_commands.specs.Asked.{Ask, AskNothing, by, attempts_from, AuditIsAsked, CasesAreAsked, DifferencesAreAsked, GateIsAsked, ResultsAreAsked, FeaturesAreAsked, NothingIsAsked, is_option, command_names}
 
 -- what words that are these texts ask for
 abbrev asked_by : List Text → Option Command
@@ -58,6 +58,15 @@ cases_are_asked = record {
   pending_passes = asks (codes "cases" ∷ codes "--pending-passes" ∷ []) (ask_cases (by PendingPasses 0)) refl;
   from_one = asks (codes "cases" ∷ attempts_from (codes "1")) (ask_cases (by Strict 1)) refl;
   both = asks (codes "cases" ∷ codes "--pending-passes" ∷ attempts_from (codes "1")) (ask_cases (by PendingPasses 1)) refl;
+}
+
+pub differences_are_asked : DifferencesAreAsked
+unfolding command_of bundle_met walked flags_fault walk_fault defaults_fault
+differences_are_asked = record {
+  alone = asks (codes "differs" ∷ []) (ask_differs (by Strict 0)) refl;
+  pending_passes = asks (codes "differs" ∷ codes "--pending-passes" ∷ []) (ask_differs (by PendingPasses 0)) refl;
+  from_one = asks (codes "differs" ∷ attempts_from (codes "1")) (ask_differs (by Strict 1)) refl;
+  both = asks (codes "differs" ∷ codes "--pending-passes" ∷ attempts_from (codes "1")) (ask_differs (by PendingPasses 1)) refl;
 }
 
 -- ---- feature files
@@ -126,9 +135,10 @@ module _ (others : List Text) where
 
   -- a word without a first hyphen that is none of the names
   stray_word : (c : ℕ) (cs : Text) → (c == 45) ≡ false → bytes_eq (codes "help") (c ∷ cs) ≡ false → bytes_eq (codes "parse") (c ∷ cs) ≡ false → bytes_eq (codes "compile") (c ∷ cs) ≡ false
-      → bytes_eq (codes "audit") (c ∷ cs) ≡ false → bytes_eq (codes "gate") (c ∷ cs) ≡ false → bytes_eq (codes "results") (c ∷ cs) ≡ false → bytes_eq (codes "cases") (c ∷ cs) ≡ false → asked_by ((c ∷ cs) ∷ others) ≡ None
+      → bytes_eq (codes "audit") (c ∷ cs) ≡ false → bytes_eq (codes "gate") (c ∷ cs) ≡ false → bytes_eq (codes "results") (c ∷ cs) ≡ false → bytes_eq (codes "cases") (c ∷ cs) ≡ false → bytes_eq (codes "differs") (c ∷ cs) ≡ false
+      → asked_by ((c ∷ cs) ∷ others) ≡ None
   unfolding command_of bundle_met walked flags_fault walk_fault defaults_fault
-  stray_word c cs e h p m a g r k = let strip : strip_byte 45 (c ∷ cs) ≡ None = without_hyphen c cs e in rw (p, m, a, g, r, k, h, e, strip) refl
+  stray_word c cs e h p m a g r k d = let strip : strip_byte 45 (c ∷ cs) ≡ None = without_hyphen c cs e in rw (p, m, a, g, r, k, d, h, e, strip) refl
 
   unless_help : (c : ℕ) (cs : Text) → (c == 45) ≡ false → AllByRecursion (λ name. name ≢ (c ∷ cs)) command_names → asked_by ((c ∷ cs) ∷ others) ≡ None
   unless_help c cs e h = go (bytes_eq (codes "help") (c ∷ cs)) refl
@@ -137,7 +147,7 @@ module _ (others : List Text) where
       go true f = subst (λ (w : Text). asked_by (w ∷ others) ≡ None) ((bytes_eq-Decides (codes "help") (c ∷ cs)).0 f) help_word
       go false f =
           stray_word c cs e f (differ (codes "parse") (c ∷ cs) h.0) (differ (codes "compile") (c ∷ cs) h.1.0) (differ (codes "audit") (c ∷ cs) h.1.1.0) (differ (codes "gate") (c ∷ cs) h.1.1.1.0)
-          (differ (codes "results") (c ∷ cs) h.1.1.1.1.0) (differ (codes "cases") (c ∷ cs) h.1.1.1.1.1.0)
+          (differ (codes "results") (c ∷ cs) h.1.1.1.1.0) (differ (codes "cases") (c ∷ cs) h.1.1.1.1.1.0) (differ (codes "differs") (c ∷ cs) h.1.1.1.1.1.1.0)
 
   no_command : (word : Text) → is_option word ≡ false → AllByRecursion (λ name. name ≢ word) command_names → asked_by (word ∷ others) ≡ None
   no_command [] h k = empty_word

@@ -40,7 +40,7 @@ text_added {X} f v old mid new a b xs i d l o m n h =
 -- ---- the report
 
 -- the report that was made is the one that is asked for
-made_is : (report : Report) (x : made.Report) (code : ℕ) (old new : Option (List ℕ)) → IsReport report x → Prints (report_made (Ok x)) code old new → Prints report code old new
+pub made_is : (report : Report) (x : made.Report) (code : ℕ) (old new : Option (List ℕ)) → IsReport report x → Prints (report_made (Ok x)) code old new → Prints report code old new
 made_is report x code old new is p = (p.0 ∙ ap code_of is.1, subst (Appends old new) is.0 p.1)
 
 -- an answer that isn't Good has the same report
@@ -104,7 +104,7 @@ module _ (settings : Settings) (code : ℕ) (old new : Option (List ℕ)) where
       of_reads {P = IsCasesAuditOf settings answer} {Q = PrintsCases settings code old new} a b h (λ xs ys k. printed answer r xs ys is none p k)
 
   -- the report that was printed, where the code isn't that of trouble
-  was_made : (r : Result made.Report AllocError) → PrintsOrTrouble (report_made r) code old new → (code ≡ 3 → ⊥) → Prints (report_made r) code old new
+  pub was_made : (r : Result made.Report AllocError) → PrintsOrTrouble (report_made r) code old new → (code ≡ 3 → ⊥) → Prints (report_made r) code old new
   was_made r (inl p) other = p
   was_made r (inr e) other = absurd (other e)
 

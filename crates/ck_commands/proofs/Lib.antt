@@ -2,6 +2,7 @@ pub mod Answered
 pub mod CasesPrinted
 pub mod Choosing
 pub mod Compiles
+pub mod DiffersPrinted
 pub mod Gates
 pub mod Lines
 pub mod LinesTaken

@@ -6,7 +6,7 @@ use Rattle.clap.specs.Words.{Text}
 use Rattle.cm_attempt.specs.declared.policy.Policy.{Policy}
 use Rattle.cm_attempt.specs.declared.policy.Policy.TheVariants.{Strict, PendingPasses}
 use Rattle.cm_attempt.specs.declared.settings.Settings.{Settings}
-use Rattle.ck_commands.specs.CommandLine.{Command, ask_parse, ask_compile, ask_audit, ask_gate, ask_results, ask_cases, Asks, AsksNothing}
+use Rattle.ck_commands.specs.CommandLine.{Command, ask_parse, ask_compile, ask_audit, ask_gate, ask_results, ask_cases, ask_differs, Asks, AsksNothing}
 
 -- words that are these texts ask for the command
 abbrev pub Ask : List Text → Command → Type 0
@@ -59,6 +59,15 @@ pub record CasesAreAsked : Type 0 where
   pub both : Ask (codes "cases" ∷ codes "--pending-passes" ∷ attempts_from (codes "1"))
       (ask_cases (by PendingPasses 1))
 
+-- `differs`, alone and with its options
+pub record DifferencesAreAsked : Type 0 where
+  pub alone : Ask (codes "differs" ∷ []) (ask_differs (by Strict 0))
+  pub pending_passes :
+      Ask (codes "differs" ∷ codes "--pending-passes" ∷ []) (ask_differs (by PendingPasses 0))
+  pub from_one : Ask (codes "differs" ∷ attempts_from (codes "1")) (ask_differs (by Strict 1))
+  pub both : Ask (codes "differs" ∷ codes "--pending-passes" ∷ attempts_from (codes "1"))
+      (ask_differs (by PendingPasses 1))
+
 -- a word of a hyphen and more
 abbrev pub is_option : Text → Bool
 is_option [] = false
@@ -78,7 +87,7 @@ pub record FeaturesAreAsked : Type 0 where
 abbrev pub command_names : List Text
 command_names =
     codes "parse" ∷ codes "compile" ∷ codes "audit" ∷ codes "gate" ∷ codes "results"
-    ∷ codes "cases" ∷ []
+    ∷ codes "cases" ∷ codes "differs" ∷ []
 
 -- Nothing is asked for without a word, by a first word that is neither an option nor the name of a
 -- command, by `compile` without a uri, by a number other than 0 and 1, or by an option of another

@@ -24,6 +24,7 @@ pub data Command : Type 0 where
   ask_gate : Settings → Bool → Command
   ask_results : ℕ → Command
   ask_cases : Settings → Command
+  ask_differs : Settings → Command
 
 -- the command, as the code holds it
 abbrev pub asked : Choice → Command
@@ -33,6 +34,7 @@ asked (choice.Audit settings) = ask_audit settings
 asked (choice.Gate settings allows_unrun) = ask_gate settings allows_unrun
 asked (choice.Results first_attempt) = ask_results first_attempt
 asked (choice.Cases settings) = ask_cases settings
+asked (choice.Differs settings) = ask_differs settings
 
 -- `--uri URI`, which must be given; its value has one name
 abbrev pub uri_rule : Rule
@@ -82,6 +84,10 @@ results_command = with_rule (new_app (codes "results")) attempts_rule
 abbrev pub cases_command : App
 cases_command = with_rule (with_rule (new_app (codes "cases")) pending_rule) attempts_rule
 
+-- the command `differs [--pending-passes] [--attempts-from N]`
+abbrev pub differs_command : App
+differs_command = with_rule (with_rule (new_app (codes "differs")) pending_rule) attempts_rule
+
 -- the program, which has a version and wants a command
 abbrev pub bare_app : App
 bare_app =
@@ -108,9 +114,14 @@ gate_app = with_subcommand audit_app gate_command.top
 abbrev pub results_app : App
 results_app = with_subcommand gate_app results_command.top
 
--- the program with all its commands: `parse`, `compile`, `audit`, `gate`, `results` and `cases`
+-- the program with its commands up to `cases`
+abbrev pub cases_app : App
+cases_app = with_subcommand results_app cases_command.top
+
+-- the program with all its commands: `parse`, `compile`, `audit`, `gate`, `results`, `cases` and
+-- `differs`
 abbrev pub command_app : App
-command_app = with_subcommand results_app cases_command.top
+command_app = with_subcommand cases_app differs_command.top
 
 -- a flag is given where its text is `true`
 abbrev pub is_given : Option Text → Bool
@@ -154,6 +165,7 @@ command_named name rows =
     (settings_in rows)
     else if bytes_eq name (codes "results") then option_map ask_results (first_attempt_in rows)
     else if bytes_eq name (codes "cases") then option_map ask_cases (settings_in rows)
+    else if bytes_eq name (codes "differs") then option_map ask_differs (settings_in rows)
     else None
 
 abbrev pub named : Option (Text × List Row) → Option Command

@@ -3,6 +3,7 @@ pub mod CommandLine
 pub mod Features
 pub mod Gate
 pub mod Cases
+pub mod Differs
 pub mod Outcome
 pub mod Output
 pub mod Reading

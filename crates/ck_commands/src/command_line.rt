@@ -3,7 +3,8 @@ ghost use Rattle.std.specs.Prelude.{◌≡◌, IfOk, false, map, option_map};
 ghost use Rattle.clap.specs.Words.{app_of, first_of, found_of, kind_of, new_app, rows_of, rule_of, subcommand_rows_of};
 ghost use Rattle.clap.specs.declared.builder.command.Command.TheViews.{out-Command as fields_of};
 ghost use Rattle.ck_commands.specs.CommandLine.{Chooses, asked, attempts_rule, audit_command, bare_app, cases_command};
-ghost use Rattle.ck_commands.specs.CommandLine.{command_app, command_named, command_of, compile_command, first_attempt_in};
+ghost use Rattle.ck_commands.specs.CommandLine.{command_app, command_named, command_of, compile_command, differs_command};
+ghost use Rattle.ck_commands.specs.CommandLine.{first_attempt_in};
 ghost use Rattle.ck_commands.specs.CommandLine.{flag_rule, gate_command, is_given, named, policy_in, results_command};
 ghost use Rattle.ck_commands.specs.CommandLine.{settings_in, uri_rule};
 
@@ -29,6 +30,8 @@ pub(crate) enum Choice<'a> {
     Results(u64),
     /// The lines of the test cases of a good stream, by these settings.
     Cases(Settings),
+    /// The verdict on a stream, by these settings, and what differs from its sources.
+    Differs(Settings),
 }
 
 /// Why the words give no choice.
@@ -139,6 +142,16 @@ fn cases_command<'a>(alloc: Global) -> Result<Command<'a>, AllocError>
         .arg(attempts_argument(alloc))
 }
 
+// `differs [--pending-passes] [--attempts-from N]`.
+fn differs_command<'a>(alloc: Global) -> Result<Command<'a>, AllocError>
+    ensures app { IfOk result (λ c. app_of c ≡ differs_command) }
+    ensures local { IfOk result (λ c. (fields_of c).has_globals ≡ false) }
+{
+    new_command(alloc, "differs", help::DIFFERS, help::AFTER_DIFFERS)
+        .arg(flag(alloc, "pending-passes", help::PENDING_PASSES))?
+        .arg(attempts_argument(alloc))
+}
+
 // The program with no command so far.
 fn bare_command<'a>(alloc: Global) -> Command<'a>
     ensures { app_of result ≡ bare_app }
@@ -159,7 +172,8 @@ fn command<'a>(alloc: Global) -> Result<Command<'a>, AllocError>
     let with_audit = with_compile.subcommand(audit_command(alloc)?)?;
     let with_gate = with_audit.subcommand(gate_command(alloc)?)?;
     let with_results = with_gate.subcommand(results_command(alloc)?)?;
-    with_results.subcommand(cases_command(alloc)?)
+    let with_cases = with_results.subcommand(cases_command(alloc)?)?;
+    with_cases.subcommand(differs_command(alloc)?)
 }
 
 fn refusal_of(alloc: Global, error: &Error) -> Refusal
@@ -255,6 +269,9 @@ fn choice_named<'a>(name: &str, values: &ArgMatches<'a>) -> Option<Choice<'a>>
     }
     if name == "cases" {
         return Some(Choice::Cases(settings_in(values)?));
+    }
+    if name == "differs" {
+        return Some(Choice::Differs(settings_in(values)?));
     }
     None
 }

@@ -5,7 +5,9 @@ ghost use Rattle.cm_attempt.specs.declared.settings.Settings.{Settings};
 ghost use Rattle.cm_stream.specs.Results as results;
 ghost use Rattle.cm_audit.specs.Audit.{ShowNoFault};
 ghost use Rattle.ck_commands.specs.Cases.{PrintsCases, PrintsListed};
-ghost use Rattle.ck_commands.specs.CommandLine.{Asks, AsksNothing, ask_audit, ask_cases, ask_compile, ask_gate, ask_parse, ask_results};
+ghost use Rattle.ck_commands.specs.CommandLine.{Asks, AsksNothing, ask_audit, ask_cases, ask_compile, ask_differs};
+ghost use Rattle.ck_commands.specs.CommandLine.{ask_gate, ask_parse, ask_results};
+ghost use Rattle.ck_commands.specs.Differs.{PrintsBadDifference, PrintsDifference};
 ghost use Rattle.ck_commands.specs.Gate.{PrintsReleased, gate_report};
 ghost use Rattle.ck_commands.specs.Output.{NoneFailed, PrintsOrNoMemory, Undisturbed, code_of, trouble_report};
 ghost use Rattle.ck_commands.specs.Results.{ResultsShowNoFault, results_report};
@@ -15,6 +17,7 @@ ghost use Rattle.ck_commands.specs.Verdicts.{PrintsAnswer, PrintsAudit, PrintsBa
 use crate::command_audit::print_audit;
 use crate::command_cases::print_cases;
 use crate::command_compile::write_lines;
+use crate::command_differs::print_differs;
 use crate::command_gate::print_gate;
 use crate::command_line::{Choice, Refusal, choose};
 use crate::command_parse::print_feature;
@@ -121,6 +124,22 @@ pub fn run<R: ByteSource, W: ByteSink>(
         → OfSource (R.to_come source.old)
         (PrintsBad settings (W.taken sink.old) (W.taken sink.new)) }
 
+    // The verdict is printed, and where the stream isn't what its sources compile to, both sides of the difference by which
+    // its line fails. The code of Done is for good streams alone.
+    ensures differs { (settings : Settings) → Asks words.now (ask_differs settings)
+        → Undisturbed (R.failed_calls source.old) (R.failed_calls source.new)
+        (W.failed_calls sink.old) (W.failed_calls sink.new)
+        → OfSource (R.to_come source.old)
+        (PrintsDifference settings result (W.taken sink.old) (W.taken sink.new)) }
+    ensures differs_good { (settings : Settings) → Asks words.now (ask_differs settings)
+        → result ≡ code_of ExitStatus.Done
+        → OfSource (R.to_come source.old)
+        (PrintsGood settings (W.taken sink.old) (W.taken sink.new)) }
+    ensures differs_bad { (settings : Settings) → Asks words.now (ask_differs settings)
+        → result ≡ code_of ExitStatus.Refused
+        → OfSource (R.to_come source.old)
+        (PrintsBadDifference settings (W.taken sink.old) (W.taken sink.new)) }
+
     // Words that ask for no command leave the source alone.
     ensures refused { AsksNothing words.now → source.new ≡ source.old }
 
@@ -144,6 +163,10 @@ pub fn run<R: ByteSource, W: ByteSink>(
         → R.failed_calls source.new ≢ R.failed_calls source.old
         → OfReads (R.to_come source.old) (R.to_come source.new) (ShowNoFault settings) }
 
+    ensures differs_no_fault { (settings : Settings) → Asks words.now (ask_differs settings)
+        → R.failed_calls source.new ≢ R.failed_calls source.old
+        → OfReads (R.to_come source.old) (R.to_come source.new) (ShowNoFault settings) }
+
     // A failed write or flush is seen in the code, and so is a failed read.
     ensures unwritten { W.failed_calls sink.new ≢ W.failed_calls sink.old
         → result ≡ code_of ExitStatus.Trouble }
@@ -162,6 +185,7 @@ pub fn run<R: ByteSource, W: ByteSink>(
         }
         Ok(Choice::Results(first_attempt)) => print_results(alloc, first_attempt, source, sink),
         Ok(Choice::Cases(settings)) => print_cases(alloc, settings, source, sink),
+        Ok(Choice::Differs(settings)) => print_differs(alloc, settings, source, sink),
         Err(Refusal::Usage(text)) => write_text(sink, text.as_str(), ExitStatus::Usage),
         Err(Refusal::Help(text)) => write_text(sink, text.as_str(), ExitStatus::Done),
         Err(Refusal::Memory) => write_no_memory(sink),

@@ -15,10 +15,11 @@ pub(crate) const AFTER_PROGRAM: &str =
 Exit status:
   0  done; by audit: the stream is a true report, whether its tests passed or failed;
      by gate: and its run is to be released
-  1  audit, gate, results, cases: the stream is bad; parse, compile: the feature file is refused
+  1  audit, gate, results, cases, differs: the stream is bad;
+     parse, compile: the feature file is refused
   2  a mistake in the words
   3  trouble: a read or a write failed, the input is too long or no UTF-8, or there is no memory
-  4  audit, gate, cases: the stream isn't judged
+  4  audit, gate, cases, differs: the stream isn't judged
   5  gate: the report is true, and the run isn't to be released
 
 `cukecheck COMMAND --help` says what a command reads and prints.";
@@ -191,4 +192,26 @@ Of any other stream it prints the line of `audit`, with its exit status:
   bad line L: N Name       1
   trouble Name             3
   unsupported line L: ..   4
+`cukecheck audit --help` explains the numbers and names.";
+
+pub(crate) const DIFFERS: &str =
+    "Prints the verdict on a stream, and of a tree or a pickle that differs both sides.";
+
+pub(crate) const AFTER_DIFFERS: &str =
+    "Reads a stream of Cucumber Messages (one JSON object a line) from standard input:
+
+  cukecheck differs < run.ndjson
+
+Prints the line of `audit`, with its exit status. Three lines more come after
+  bad line L: 8 TreeDiffers
+  bad line L: 9 PickleDiffers
+  bad line L: 20 SourceIncomplete
+  uri URI        the feature file
+  expected JSON  what its text compiles to: of a document the first node that differs, with its
+                 line; the pickle that is due; where something is missing, the document or the
+                 first pickle that is
+  found JSON     what the stream has there
+Either says `nothing` where there is none. Ids that are free are left out. In URI a backslash is
+`\\\\`; \\b, \\t, \\n, \\f and \\r are written so, and in both each other character that could break,
+turn or hide the line as \\u and four hexadecimal digits.
 `cukecheck audit --help` explains the numbers and names.";

@@ -16,6 +16,7 @@ mod attempts;
 mod command_audit;
 mod command_cases;
 mod command_compile;
+mod command_differs;
 mod command_gate;
 mod command_line;
 mod command_parse;

@@ -57,7 +57,7 @@ fn options_of_cases(rt: HostRuntime) -> Result<(), Fail> {
 }
 
 // Pickles whose names and uri have characters that break, turn or hide a line, and an empty name.
-const HIDDEN: &str =
+pub(crate) const HIDDEN: &str =
     r##"{"source":{"data":"Feature: f\n\n  Scenario: a\tb\"c'\\d\u2028e\u2029f\u202eg\u0001h\u007fi\u0085j\u061ck\u2066l\u00e9m\u200bn\n\n  Scenario:\n\n  Scenario: <n>\n\n    Examples:\n      | n         |\n      | p\\nq\\\\r    |\n      | \u200fs\u206a  |\n\n  Rule: r\n\n    Scenario: in a rule\n","mediaType":"text/x.cucumber.gherkin+plain","uri":"a\nb\\c\u2028.feature"}}
 {"gherkinDocument":{"comments":[],"feature":{"children":[{"scenario":{"description":"","examples":[],"id":"0","keyword":"Scenario","location":{"column":3,"line":3},"name":"a\tb\"c'\\d\u2028e\u2029f\u202eg\u0001h\u007fi\u0085j\u061ck\u2066l\u00e9m\u200bn","steps":[],"tags":[]}},{"scenario":{"description":"","examples":[],"id":"1","keyword":"Scenario","location":{"column":3,"line":5},"name":"","steps":[],"tags":[]}},{"scenario":{"description":"","examples":[{"description":"","id":"3","keyword":"Examples","location":{"column":5,"line":9},"name":"","tableBody":[{"cells":[{"location":{"column":9,"line":11},"value":"p\nq\\r"}],"id":"5","location":{"column":7,"line":11}},{"cells":[{"location":{"column":9,"line":12},"value":"\u200fs\u206a"}],"id":"6","location":{"column":7,"line":12}}],"tableHeader":{"cells":[{"location":{"column":9,"line":10},"value":"n"}],"id":"4","location":{"column":7,"line":10}},"tags":[]}],"id":"2","keyword":"Scenario","location":{"column":3,"line":7},"name":"<n>","steps":[],"tags":[]}},{"rule":{"children":[{"scenario":{"description":"","examples":[],"id":"8","keyword":"Scenario","location":{"column":5,"line":16},"name":"in a rule","steps":[],"tags":[]}}],"description":"","id":"7","keyword":"Rule","location":{"column":3,"line":14},"name":"r","tags":[]}}],"description":"","keyword":"Feature","language":"en","location":{"column":1,"line":1},"name":"f","tags":[]},"uri":"a\nb\\c\u2028.feature"}}
 {"pickle":{"astNodeIds":["0"],"id":"9","language":"en","name":"a\tb\"c'\\d\u2028e\u2029f\u202eg\u0001h\u007fi\u0085j\u061ck\u2066l\u00e9m\u200bn","steps":[],"tags":[],"uri":"a\nb\\c\u2028.feature"}}
@@ -84,7 +84,7 @@ fn texts_that_could_hide_a_line(rt: HostRuntime) -> Result<(), Fail> {
 }
 
 // A stream of cucumber-ruby 12.0.0: two features in random order, of which a filter left out a scenario.
-const TWO_FEATURES: &str =
+pub(crate) const TWO_FEATURES: &str =
     r##"{"meta":{"protocolVersion":"34.2.1","implementation":{"name":"cucumber-ruby","version":"12.0.0"},"runtime":{"name":"ruby","version":"3.3.8"},"os":{"name":"linux-gnu","version":"#1 SMP PREEMPT_DYNAMIC @0"},"cpu":{"name":"x86_64"}}}
 {"stepDefinition":{"id":"f61582f3-893e-47ba-99d7-e2829bc582d2","pattern":{"source":"a thing","type":"CUCUMBER_EXPRESSION"},"sourceReference":{"uri":"steps/common.rb","location":{"line":1}}}}
 {"stepDefinition":{"id":"7365f79c-99aa-40e3-86c2-0eb36c4a99d1","pattern":{"source":"it is good","type":"CUCUMBER_EXPRESSION"},"sourceReference":{"uri":"steps/common.rb","location":{"line":2}}}}

@@ -12,6 +12,8 @@ mod compiled;
 #[cfg(test)]
 mod devices;
 #[cfg(test)]
+mod differs;
+#[cfg(test)]
 mod features;
 #[cfg(test)]
 mod fronts;

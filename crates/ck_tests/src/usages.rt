@@ -6,9 +6,9 @@ use std::process::Abort;
 use std::test::Fail;
 
 // The status, the words, and what the text has for the user.
-const TEXTS: &str = "0 --help = Usage: parse compile audit gate results cases
-0 help = Usage: parse compile audit gate results cases
-0 -h = Usage: parse compile audit gate results cases
+const TEXTS: &str = "0 --help = Usage: parse compile audit gate results cases differs
+0 help = Usage: parse compile audit gate results cases differs
+0 -h = Usage: parse compile audit gate results cases differs
 0 parse --help = Usage: parse
 0 compile --help = Usage: compile --uri
 0 audit --help = Usage: audit --pending-passes --attempts-from
@@ -16,7 +16,8 @@ const TEXTS: &str = "0 --help = Usage: parse compile audit gate results cases
 0 help gate = Usage: gate --allow-unrun --pending-passes --attempts-from stop
 0 results -h = Usage: results --attempts-from
 0 cases --help = Usage: cases --pending-passes --attempts-from UNRUN
-2 = Usage: parse compile audit gate results cases
+0 differs --help = Usage: differs --pending-passes --attempts-from expected found
+2 = Usage: parse compile audit gate results cases differs
 2 help x = Usage:
 2 parse x = Usage: parse
 2 parse --attempts-from 1 = Usage: parse
@@ -39,6 +40,8 @@ const TEXTS: &str = "0 --help = Usage: parse compile audit gate results cases
 2 results x = Usage: results
 2 cases x = Usage: cases
 2 cases --allow-unrun = Usage: cases
+2 differs x = Usage: differs
+2 differs --allow-unrun = Usage: differs
 2 results --pending-passes = Usage: results --pending-passes
 2 results --allow-unrun = Usage: results";
 
@@ -87,7 +90,7 @@ fn texts_that_ask_for_other_words(rt: HostRuntime) -> Result<(), Fail> {
 
 #[test]
 fn first_numbers_that_are_neither_0_nor_1(rt: HostRuntime) -> Result<(), Fail> {
-    for command in ["audit", "gate", "results", "cases"] {
+    for command in ["audit", "gate", "results", "cases", "differs"] {
         for row in WRONG_ATTEMPTS.lines() {
             let mut words: Vec<&str> = row.split_whitespace().collect(rt.alloc())?;
             words.insert(0, command)?;

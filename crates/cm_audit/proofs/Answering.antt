@@ -4,7 +4,7 @@ use Rattle.cm_envelope.specs.Lines.{is_blank}
 use Rattle.cm_envelope.specs.Reading.{LineFault, Fails, envelope_of_line}
 use Rattle.cm_envelope.specs.declared.fault.EnvelopeFault.{EnvelopeFault}
 use Rattle.cm_envelope.specs.declared.fault.EnvelopeFault.TheVariants as shape
-use Rattle.cm_envelope.specs.Feeds.{Stored, NextLine, new_feed, GivesLine, Gives, Leaves, EndsWithSource}
+use Rattle.cm_envelope.specs.Feeds.{Stored, NextLine, new_feed, GivesLine, Gives, Leaves, EndsWithSource, IsNextLine}
 use Rattle.cm_envelope.specs.Device.{OfReads}
 use Rattle.cm_envelope.proofs.Sources.{HasReadSo, read_so_far, reads_then, reads_no_more}
 use Rattle.cm_envelope.specs.declared.envelope.Envelope.{Envelope}
@@ -21,6 +21,7 @@ use Rattle.cm_state.specs.Laws.{at_end}
 use Rattle.cm_audit.specs.Audit.{AnswersAs, ReadsNoFurther, ReadsUpTo, TakesLine, audited_at, is_failed_read, unsuccessful}
 use Rattle.cm_audit.specs.Judging.{judged, HasJudged, HoldNoFault, JudgesAs}
 use Rattle.cm_audit.specs.Stops.{unread_line}
+use Rattle.cm_audit.specs.Told.{TellsLine}
 use Rattle.cm_audit.specs.State.{AreFewer, IsListed, summary_of}
 use Rattle.cm_audit.specs.declared.state.State.{State}
 use Rattle.cm_audit.specs.declared.stop.Stop.{Stop}
@@ -66,6 +67,15 @@ unread settings old shape.Memory (Err b) h = refl
 pub not_read : (settings : Settings) (old : State) (line : List ℕ) → is_blank line ≡ false → (fault : EnvelopeFault) → Fails fault (envelope_of_line line) → (why : Stop) → why ≡ unread_line fault → TakesLine settings old old (shown line) (Err why)
 not_read settings old line filled fault h why e = rw (filled, e) (unread settings old fault (envelope_of_line line) h)
 
+-- nothing is told of it
+told_unread : (tells : Summary → Envelope → Type 0) (s : Summary) (fault : EnvelopeFault) (r : Result Envelope LineFault) → Fails fault r → TellsLine tells s (Some r) (Err (unread_line fault))
+told_unread tells s (shape.Line line) r h = rw h tt
+told_unread tells s shape.Memory (Ok e) h = tt
+told_unread tells s shape.Memory (Err b) h = tt
+
+pub not_told : (tells : Summary → Envelope → Type 0) (s : Summary) (line : List ℕ) → is_blank line ≡ false → (fault : EnvelopeFault) → Fails fault (envelope_of_line line) → (why : Stop) → why ≡ unread_line fault → TellsLine tells s (shown line) (Err why)
+not_told tells s line filled fault h why e = rw (filled, e) (told_unread tells s fault (envelope_of_line line) h)
+
 pub not_failed : (n : ℕ) (why : Stop) → is_failed_read (audited_at n why) ≡ false
 not_failed n (stop.Bad b) = refl
 not_failed n (stop.Unsupported r) = refl
@@ -81,15 +91,14 @@ up_to n (stop.Bad b) xs zs r = inr r
 up_to n (stop.Unsupported u) xs zs r = r
 up_to n stop.Memory xs zs r = tt
 
-pub stops : (settings : Settings) (feed later : Stored) (old new : State) (n : ℕ) (line : List ℕ) (a b c : Option (List ℕ)) → HasReadSo feed a b (λ xs ys. HasJudged settings xs ys feed n (summary_of old)) → feed.over ≡ None
-    → EndsWithSource feed b → Leaves feed later b c (Ok (Some line)) → (why : Stop) → TakesLine settings old new (shown line) (Err why) → OfReads a c (JudgesAs settings (audited_at (n + 1) why))
-stops settings feed later old new n line a b c p still ends leaves why k =
-    answered settings (audited_at (n + 1) why) (Ok (Some line)) feed later n (summary_of old) a b c p still ends leaves
-    (λ xs ys zs none h i. record {
-      told = found_at settings xs ys zs feed later n old new line h.read h.judges i why k;
-      read_failed = λ e. absurd (never_failed (n + 1) why e);
-      ahead = up_to (n + 1) why xs zs (up_to_here xs ys zs feed later n line h.read i (leaves.line still) none);
-    })
+-- what is answered at a line that isn't taken
+pub stops_at : (settings : Settings) (feed later : Stored) (old new : State) (n : ℕ) (line xs ys zs : List ℕ) → HasJudged settings xs ys feed n (summary_of old) → IsNextLine feed later ys zs line → GivesLine feed later line
+    → (later.is_ended ≡ true → zs ≡ []) → (why : Stop) → TakesLine settings old new (shown line) (Err why) → JudgesAs settings (audited_at (n + 1) why) xs zs
+stops_at settings feed later old new n line xs ys zs h i g none why k = record {
+  told = found_at settings xs ys zs feed later n old new line h.read h.judges i why k;
+  read_failed = λ e. absurd (never_failed (n + 1) why e);
+  ahead = up_to (n + 1) why xs zs (up_to_here xs ys zs feed later n line h.read i g none);
+}
 
 -- ---- the end
 

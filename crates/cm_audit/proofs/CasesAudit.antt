@@ -9,15 +9,16 @@ use Rattle.cm_envelope.specs.declared.envelope.Envelope.{Envelope}
 use Rattle.cm_envelope.specs.declared.feed.Trouble.{Trouble}
 use Rattle.cm_envelope.proofs.Sources.{reads_weaker}
 use Rattle.cm_stream.specs.declared.verdict.Audited.{Audited}
+use Rattle.cm_state.specs.Summary.{Summary}
 use Rattle.cm_audit.specs.Cases.{IsCasesAuditOf, JudgesWith}
 use Rattle.cm_audit.proofs.Verdicts.{audit_of}
 
-pub cases_audit : (settings : Settings) (audited : Audited) (listing : Listing) (table : Table) (a b : Option (List ℕ)) → OfReads a b (JudgesWith settings (λ es. listing ≡ listing_of es) table (Ok audited))
+pub cases_audit : (settings : Settings) (audited : Audited) (listing : Listing) (tells : Summary → Envelope → Type 0) (table : Table) (a b : Option (List ℕ)) → OfReads a b (JudgesWith settings (λ es. listing ≡ listing_of es) tells table (Ok audited))
     → OfReads a b (IsCasesAuditOf settings (Ok (record { audited = audited; listing = listing; attempts = table })))
-cases_audit settings audited listing table a b p =
-    reads_weaker {P = JudgesWith settings (λ es. listing ≡ listing_of es) table (Ok audited)} {Q = IsCasesAuditOf settings (Ok (record { audited = audited; listing = listing; attempts = table }))} a b p
+cases_audit settings audited listing tells table a b p =
+    reads_weaker {P = JudgesWith settings (λ es. listing ≡ listing_of es) tells table (Ok audited)} {Q = IsCasesAuditOf settings (Ok (record { audited = audited; listing = listing; attempts = table }))} a b p
     (λ xs ys h. record { audit = audit_of settings (Ok audited) xs ys h.judges; cases = h.follows_it })
 
-pub cases_trouble : (settings : Settings) (follows : List Envelope → Type 0) (table : Table) (t : Trouble) (a b : Option (List ℕ)) → OfReads a b (JudgesWith settings follows table (Err t)) → OfReads a b (IsCasesAuditOf settings (Err t))
-cases_trouble settings follows table t a b p =
-    reads_weaker {P = JudgesWith settings follows table (Err t)} {Q = IsCasesAuditOf settings (Err t)} a b p (λ xs ys h. record { audit = audit_of settings (Err t) xs ys h.judges; cases = tt })
+pub cases_trouble : (settings : Settings) (follows : List Envelope → Type 0) (tells : Summary → Envelope → Type 0) (table : Table) (t : Trouble) (a b : Option (List ℕ)) → OfReads a b (JudgesWith settings follows tells table (Err t)) → OfReads a b (IsCasesAuditOf settings (Err t))
+cases_trouble settings follows tells table t a b p =
+    reads_weaker {P = JudgesWith settings follows tells table (Err t)} {Q = IsCasesAuditOf settings (Err t)} a b p (λ xs ys h. record { audit = audit_of settings (Err t) xs ys h.judges; cases = tt })

@@ -1,40 +1,45 @@
--- What goes along with an audit is what it has to be after the stream's envelopes.
+-- What goes along with an audit is what it has to be after the stream's envelopes, and at the line that has a fault.
 use Rattle.std.proofs.Common.{◌≡◌, ℕ, ◌+◌, refl, sym, ap, ◌∙◌, subst, List, [], ◌∷◌, ◌++◌, Option, Some, None, Result, Ok, Err, Bool, true, false, append-nil, map}
-use Rattle.std.proofs.lemmas.List.{map-append}
+use Rattle.std.proofs.lemmas.List.{length-map, map-append}
 use Rattle.std.proofs.lemmas.List.Concat.{flat_map-append}
 use Rattle.cm_envelope.specs.Device.{OfReads}
-use Rattle.cm_envelope.specs.Feeds.{Stored, EndsWithSource, GivesLine, Leaves, given_line, new_feed}
+use Rattle.cm_envelope.specs.Feeds.{Stored, EndsWithSource, GivesLine, IsNextLine, Leaves, given_line, left, new_feed}
 use Rattle.cm_envelope.specs.Lines.{Fed, Line, is_blank}
 use Rattle.cm_envelope.specs.Reading.{LineFault, envelope_of_line}
 use Rattle.cm_envelope.specs.declared.envelope.Envelope.{Envelope}
-use Rattle.cm_envelope.specs.declared.envelope.Envelope.TheVariants as envelope
 use Rattle.cm_envelope.specs.declared.feed.Trouble.{Trouble}
 use Rattle.cm_envelope.proofs.Sources.{HasReadSo, read_so_far, reads_no_more, reads_then, reads_weaker}
 use Rattle.cm_attempt.specs.Results.{case_results}
 use Rattle.cm_attempt.specs.Table.{Table}
 use Rattle.cm_attempt.specs.declared.settings.Settings.{Settings}
-use Rattle.cm_stream.specs.Record.{changed, table_of}
+use Rattle.cm_stream.specs.ByOnePass.{fault, IsFaultless}
+use Rattle.cm_stream.specs.Findings.{IsBad, NoEnvelope, named}
+use Rattle.cm_stream.specs.Record.{table_of}
 use Rattle.cm_stream.specs.Stream.{IsGoodRun, as_read, envelopes, fed, numbered, read_line, shown}
 use Rattle.cm_stream.specs.declared.verdict.Audited.{Audited}
 use Rattle.cm_stream.specs.declared.verdict.Counts.{Counts}
+use Rattle.cm_stream.specs.declared.verdict.StreamFault.{StreamFault}
 use Rattle.cm_stream.specs.declared.verdict.StreamFault.TheVariants as bad
 use Rattle.cm_stream.specs.declared.verdict.Verdict.TheVariants as verdict
 use Rattle.cm_stream.proofs.NoFault.{good_have_no_fault}
 use Rattle.cm_stream.proofs.Streams.{answers_are_right}
-use Rattle.cm_stream.proofs.TableSteps.{none_is_refused, table_steps}
+use Rattle.cm_stream.proofs.TableSteps.{none_is_refused}
 use Rattle.cm_stream.proofs.Tables.{tables_have_results}
 use Rattle.cm_state.specs.Laws.{at_end}
-use Rattle.cm_state.specs.StateChecks.{finding_at_end}
-use Rattle.cm_state.specs.Summary.{Summary, after, nothing_seen}
-use Rattle.cm_state.proofs.Judged.{judged_is_told}
+use Rattle.cm_state.specs.StateChecks.{finding, finding_at_end}
+use Rattle.cm_state.specs.Summary.{Summary, after, nothing_seen, seen}
+use Rattle.cm_state.proofs.Checked.{findings_are_faults}
+use Rattle.cm_state.proofs.Judged.{judged_is_told, none_yet, one_more_line}
+use Rattle.cm_state.proofs.Steps.{summaries_step}
 use Rattle.cm_audit.specs.Audit.{AnswersAs, TakesLine, audited_at, contents, unsuccessful}
 use Rattle.cm_audit.specs.Cases.{FollowsAnswer, IsFollowed, JudgesWith}
 use Rattle.cm_audit.specs.Judging.{HasFollowed, HasJudged, JudgesAs, envelope_in, envelopes_in, judged}
+use Rattle.cm_audit.specs.Told.{IsToldAt, TellsAnswer, TellsLine, is_of_envelope}
 use Rattle.cm_audit.specs.State.{summary_of}
 use Rattle.cm_audit.specs.declared.state.State.{State}
 use Rattle.cm_audit.specs.declared.stop.Stop.{Stop}
 use Rattle.cm_audit.specs.declared.stop.Stop.TheVariants as stop
-use Rattle.cm_audit.proofs.Answering.{ends_early, stops, troubled}
+use Rattle.cm_audit.proofs.Answering.{ends_early, stops_at, troubled}
 use Rattle.cm_audit.proofs.Reading.{at_the_end, next_judged, next_lines, nothing_judged, nothing_lines}
 
 -- ---- the envelopes of lines
@@ -64,33 +69,18 @@ read_all n (l ∷ ls) lines read = go (is_blank l) refl (read_all (n + 1) ls)
     go true e rec = rw e (rec lines (rw e at read))
     go false e rec = filled e lines (rw e at read) rec
 
--- ---- the table
+-- ---- what is kept
 
-changed_after : (s : Summary) (e : Envelope) → (after s e).table ≡ changed s.table e
-changed_after s (envelope.Source x) = refl
-changed_after s (envelope.GherkinDocument x) = refl
-changed_after s (envelope.ParseError x) = refl
-changed_after s (envelope.Pickle x) = refl
-changed_after s (envelope.StepDefinition x) = refl
-changed_after s (envelope.Hook x) = refl
-changed_after s (envelope.TestCase x) = refl
-changed_after s (envelope.TestRunStarted x) = refl
-changed_after s (envelope.TestCaseStarted x) = refl
-changed_after s (envelope.TestStepStarted x) = refl
-changed_after s (envelope.TestStepFinished x) = refl
-changed_after s (envelope.TestCaseFinished x) = refl
-changed_after s (envelope.TestRunFinished x) = refl
-changed_after s (envelope.Attachment x) = refl
-changed_after s (envelope.TestRunHookStarted x) = refl
-changed_after s (envelope.TestRunHookFinished x) = refl
-changed_after s envelope.Other = refl
-
-table_next : (settings : Settings) (old new : State) (r : Option (Result Envelope LineFault)) (es : List Envelope) → TakesLine settings old new r (Ok tt)
-    → (summary_of old).table ≡ table_of settings.first_attempt es → (summary_of new).table ≡ table_of settings.first_attempt (es ++ envelope_in r)
-table_next settings old new None es k h = ap (λ (s : Summary). s.table) k.0 ∙ h ∙ ap (table_of settings.first_attempt) (sym (append-nil es))
-table_next settings old new (Some (Err b)) es k h = absurd k
-table_next settings old new (Some (Ok e)) es k h =
-    ap (λ (s : Summary). s.table) k.1 ∙ changed_after (summary_of old) e ∙ ap (λ (t : Table). changed t e) h ∙ sym (table_steps settings.first_attempt es e)
+kept_next : (settings : Settings) (old new : State) (r : Option (Result Envelope LineFault)) (es : List Envelope) → TakesLine settings old new r (Ok tt) → IsFaultless settings es
+    → summary_of old ≡ seen settings.first_attempt es → IsFaultless settings (es ++ envelope_in r) × (summary_of new ≡ seen settings.first_attempt (es ++ envelope_in r))
+kept_next settings old new None es k none h =
+    let same : es ≡ es ++ [] = sym (append-nil es) in
+    (subst (IsFaultless settings) same none, k.0 ∙ h ∙ ap (seen settings.first_attempt) same)
+kept_next settings old new (Some (Err b)) es k none h = absurd k
+kept_next settings old new (Some (Ok e)) es k none h =
+    let found : fault settings es e ≡ None = sym (findings_are_faults settings es e none) ∙ ap (λ (s : Summary). finding settings s e) (sym h) ∙ k.0 in
+    let more : IsFaultless settings (es ++ e ∷ []) = one_more_line settings es e none found in
+    (more, k.1 ∙ ap (λ (s : Summary). after s e) h ∙ sym (summaries_step settings es e more))
 
 -- ---- line by line
 
@@ -104,8 +94,14 @@ follows_first settings follows start feed f s e a =
     (record {
       judged = nothing_judged settings xs;
       followed = subst follows (sym none) start;
-      table = ap (table_of settings.first_attempt) (sym none);
+      faultless = subst (IsFaultless settings) (sym none) (none_yet settings);
+      kept = ap (seen settings.first_attempt) (sym none);
     }))
+
+-- a line that isn't an envelope has no fault of one
+not_of_envelope : (b : StreamFault) (f : LineFault) → Some (IsBad (NoEnvelope f)) ≡ Some (IsBad (named b)) → is_of_envelope b ≡ true → ⊥
+not_of_envelope (bad.NoEnvelope x) f e some = cc
+not_of_envelope _ f e some = cc
 
 module _ (settings : Settings) (follows : List Envelope → Type 0) where
   only_judged : (feed : Stored) (n : ℕ) (s : Summary) (a b : Option (List ℕ)) → HasReadSo feed a b (λ xs ys. HasFollowed settings follows xs ys feed n s) → HasReadSo feed a b (λ xs ys. HasJudged settings xs ys feed n s)
@@ -121,37 +117,72 @@ module _ (settings : Settings) (follows : List Envelope → Type 0) where
       let es = envelopes_in (contents h.judged.read.lines) in
       let more : envelopes_in (contents (next_judged settings xs ys zs feed later n old new line h.judged i g k).read.lines) ≡ es ++ envelope_in (shown line) =
       ap (λ (ls : List Line). envelopes_in (contents ls)) lines ∙ one_more h.judged.read.lines (given_line later line) in
+      let kept = kept_next settings old new (shown line) es k h.faultless h.kept in
       record {
         judged = next_judged settings xs ys zs feed later n old new line h.judged i g k;
         followed = subst follows_new (sym more) (f es h.followed);
-        table = table_next settings old new (shown line) es k h.table ∙ ap (table_of settings.first_attempt) (sym more);
+        faultless = subst (IsFaultless settings) (sym more) kept.0;
+        kept = kept.1 ∙ ap (seen settings.first_attempt) (sym more);
       })
 
   -- ---- the answer
 
-  -- an answer that isn't Good
-  alone : (table : Table) (answer : Result Audited Trouble) (a c : Option (List ℕ)) → ((xs : List ℕ) → FollowsAnswer settings follows table xs answer) → OfReads a c (JudgesAs settings answer) → OfReads a c (JudgesWith settings follows table answer)
-  alone table answer a c f p = reads_weaker {P = JudgesAs settings answer} {Q = JudgesWith settings follows table answer} a c p (λ xs ys h. record { judges = h; follows_it = f xs })
+  -- an answer that isn't Good, and isn't a fault of an envelope
+  alone : (tells : Summary → Envelope → Type 0) (table : Table) (answer : Result Audited Trouble) (a c : Option (List ℕ)) → ((xs : List ℕ) → FollowsAnswer settings follows table xs answer) → ((xs : List ℕ) → TellsAnswer settings tells xs answer)
+      → OfReads a c (JudgesAs settings answer) → OfReads a c (JudgesWith settings follows tells table answer)
+  alone tells table answer a c f t p = reads_weaker {P = JudgesAs settings answer} {Q = JudgesWith settings follows tells table answer} a c p (λ xs ys h. record { judges = h; follows_it = f xs; told = t xs })
 
   not_followed : (after_it : List Envelope → Type 0) (table : Table) (n : ℕ) (why : Stop) (xs : List ℕ) → FollowsAnswer settings after_it table xs (audited_at n why)
   not_followed after_it table n (stop.Bad b) xs = tt
   not_followed after_it table n (stop.Unsupported r) xs = tt
   not_followed after_it table n stop.Memory xs = tt
 
-  pub stops_with : (table : Table) (feed later : Stored) (old new : State) (n : ℕ) (line : List ℕ) (a b c : Option (List ℕ)) → HasReadSo feed a b (λ xs ys. HasFollowed settings follows xs ys feed n (summary_of old)) → feed.over ≡ None
-      → EndsWithSource feed b → Leaves feed later b c (Ok (Some line)) → (why : Stop) → TakesLine settings old new (shown line) (Err why) → (after_it : List Envelope → Type 0) → OfReads a c (JudgesWith settings after_it table (audited_at (n + 1) why))
-  stops_with table feed later old new n line a b c p still ends leaves why k after_it =
-      reads_weaker {P = JudgesAs settings (audited_at (n + 1) why)} {Q = JudgesWith settings after_it table (audited_at (n + 1) why)} a c
-      (stops settings feed later old new n line a b c (only_judged feed n (summary_of old) a b p) still ends leaves why k)
-      (λ xs ys h. record { judges = h; follows_it = not_followed after_it table (n + 1) why xs })
+  told_at : (tells : Summary → Envelope → Type 0) (feed later : Stored) (old new : State) (n : ℕ) (line xs ys zs : List ℕ) → HasFollowed settings follows xs ys feed n (summary_of old) → IsNextLine feed later ys zs line → (why : Stop)
+      → TakesLine settings old new (shown line) (Err why) → TellsLine tells (summary_of old) (shown line) (Err why) → TellsAnswer settings tells xs (audited_at (n + 1) why)
+  told_at tells feed later old new n line xs ys zs h i (stop.Unsupported r) k told = tt
+  told_at tells feed later old new n line xs ys zs h i stop.Memory k told = tt
+  told_at tells feed later old new n line xs ys zs h i (stop.Bad b) k told = go (shown line) refl k told
+    where
+      es : List Envelope
+      es = envelopes_in (contents h.judged.read.lines)
 
-  pub ends_early_with : (table : Table) (feed later : Stored) (s : Summary) (n : ℕ) (a b c : Option (List ℕ)) → HasReadSo feed a b (λ xs ys. HasFollowed settings follows xs ys feed n s) → feed.over ≡ None
-      → EndsWithSource feed b → Leaves feed later b c (Ok None) → s.is_finished ≡ false → OfReads a c (JudgesWith settings follows table (Ok (unsuccessful (verdict.Bad (n + 1) bad.NoRunFinished))))
-  ends_early_with table feed later s n a b c p still ends leaves e = alone table _ a c (λ xs. tt) (ends_early settings feed later s n a b c (only_judged feed n s a b p) still ends leaves e)
+      go : (r : Option (Result Envelope LineFault)) → shown line ≡ r → TakesLine settings old new r (Err (stop.Bad b)) → TellsLine tells (summary_of old) r (Err (stop.Bad b)) → is_of_envelope b ≡ true → IsToldAt settings tells xs (n + 1) b
+      go None is k told some = absurd k
+      go (Some (Err f)) is k told some = absurd (not_of_envelope b f k some)
+      go (Some (Ok e)) is k told some = record {
+        before = contents h.judged.read.lines;
+        line = line;
+        after = (left later zs).lines;
+        cut = ap (λ (f : Fed). f.lines) h.judged.read.fed ∙ ap (λ (f : Fed). contents h.judged.read.lines ++ f.lines) i.first;
+        count = ap (λ m. m + 1) (sym h.judged.read.count ∙ sym (length-map h.judged.read.lines (λ (l : Line). l.bytes)));
+        said = e;
+        read = is;
+        faultless = h.faultless;
+        why = sym (findings_are_faults settings es e h.faultless) ∙ ap (λ (s : Summary). finding settings s e) (sym h.kept) ∙ k;
+        told = subst (λ (s : Summary). tells s e) h.kept told;
+      }
 
-  pub troubled_with : (table : Table) (feed later : Stored) (s : Summary) (n : ℕ) (a b c : Option (List ℕ)) → HasReadSo feed a b (λ xs ys. HasFollowed settings follows xs ys feed n s) → feed.over ≡ None
-      → EndsWithSource feed b → feed.line_limit ≡ 67108864 → feed.stream_limit ≡ 1073741824 → (t : Trouble) → Leaves feed later b c (Err t) → OfReads a c (JudgesWith settings follows table (Err t))
-  troubled_with table feed later s n a b c p still ends line stream t leaves = alone table _ a c (λ xs. tt) (troubled settings feed later s n a b c (only_judged feed n s a b p) still ends line stream t leaves)
+  pub stops_with : (tells : Summary → Envelope → Type 0) (table : Table) (feed later : Stored) (old new : State) (n : ℕ) (line : List ℕ) (a b c : Option (List ℕ)) → HasReadSo feed a b (λ xs ys. HasFollowed settings follows xs ys feed n (summary_of old))
+      → feed.over ≡ None → EndsWithSource feed b → Leaves feed later b c (Ok (Some line)) → (why : Stop) → TakesLine settings old new (shown line) (Err why) → TellsLine tells (summary_of old) (shown line) (Err why) → (after_it : List Envelope → Type 0)
+      → OfReads a c (JudgesWith settings after_it tells table (audited_at (n + 1) why))
+  stops_with tells table feed later old new n line a b c p still ends leaves why k told after_it =
+      let answer = audited_at (n + 1) why in
+      reads_no_more (JudgesWith settings after_it tells table answer) later a c
+      (reads_then {P = λ xs ys. HasFollowed settings follows xs ys feed n (summary_of old)} {R = JudgesWith settings after_it tells table answer} feed later a b c p still leaves
+      (λ xs ys zs none h i. record {
+        judges = stops_at settings feed later old new n line xs ys zs h.judged i (leaves.line still) none why k;
+        follows_it = not_followed after_it table (n + 1) why xs;
+        told = told_at tells feed later old new n line xs ys zs h i why k told;
+      }))
+      (leaves.source ends)
+
+  pub ends_early_with : (tells : Summary → Envelope → Type 0) (table : Table) (feed later : Stored) (s : Summary) (n : ℕ) (a b c : Option (List ℕ)) → HasReadSo feed a b (λ xs ys. HasFollowed settings follows xs ys feed n s) → feed.over ≡ None
+      → EndsWithSource feed b → Leaves feed later b c (Ok None) → s.is_finished ≡ false → OfReads a c (JudgesWith settings follows tells table (Ok (unsuccessful (verdict.Bad (n + 1) bad.NoRunFinished))))
+  ends_early_with tells table feed later s n a b c p still ends leaves e = alone tells table _ a c (λ xs. tt) (λ xs some. absurd cc) (ends_early settings feed later s n a b c (only_judged feed n s a b p) still ends leaves e)
+
+  pub troubled_with : (tells : Summary → Envelope → Type 0) (table : Table) (feed later : Stored) (s : Summary) (n : ℕ) (a b c : Option (List ℕ)) → HasReadSo feed a b (λ xs ys. HasFollowed settings follows xs ys feed n s) → feed.over ≡ None
+      → EndsWithSource feed b → feed.line_limit ≡ 67108864 → feed.stream_limit ≡ 1073741824 → (t : Trouble) → Leaves feed later b c (Err t) → OfReads a c (JudgesWith settings follows tells table (Err t))
+  troubled_with tells table feed later s n a b c p still ends line stream t leaves = alone tells table _ a c (λ xs. tt) (λ xs. tt) (troubled settings feed later s n a b c (only_judged feed n s a b p) still ends line stream t leaves)
 
   -- a good stream's lines were all read
   followed_good : (bytes : List ℕ) (s : Summary) (counts : Counts) (success : Bool) (ls : List (List ℕ)) → AnswersAs (judged settings bytes) (Ok (record { verdict = verdict.Good counts; success = success }))
@@ -171,12 +202,12 @@ module _ (settings : Settings) (follows : List Envelope → Type 0) where
         results = ap case_results here ∙ (tables_have_results settings.first_attempt es (table_of settings.first_attempt es) accepted).1;
       }
 
-  pub ends_well_with : (feed later : Stored) (s : Summary) (n : ℕ) (a b c : Option (List ℕ)) → HasReadSo feed a b (λ xs ys. HasFollowed settings follows xs ys feed n s) → feed.over ≡ None
-      → EndsWithSource feed b → Leaves feed later b c (Ok None) → s.is_finished ≡ true → OfReads a c (JudgesWith settings follows s.table (Ok (record { verdict = verdict.Good s.counts; success = s.success })))
-  ends_well_with feed later s n a b c p still ends leaves e =
+  pub ends_well_with : (tells : Summary → Envelope → Type 0) (feed later : Stored) (s : Summary) (n : ℕ) (a b c : Option (List ℕ)) → HasReadSo feed a b (λ xs ys. HasFollowed settings follows xs ys feed n s) → feed.over ≡ None
+      → EndsWithSource feed b → Leaves feed later b c (Ok None) → s.is_finished ≡ true → OfReads a c (JudgesWith settings follows tells s.table (Ok (record { verdict = verdict.Good s.counts; success = s.success })))
+  ends_well_with tells feed later s n a b c p still ends leaves e =
       let answer : Result Audited Trouble = Ok (record { verdict = verdict.Good s.counts; success = s.success }) in
-      reads_no_more (JudgesWith settings follows s.table answer) later a c
-      (reads_then {P = λ xs ys. HasFollowed settings follows xs ys feed n s} {R = JudgesWith settings follows s.table answer} feed later a b c p still leaves
+      reads_no_more (JudgesWith settings follows tells s.table answer) later a c
+      (reads_then {P = λ xs ys. HasFollowed settings follows xs ys feed n s} {R = JudgesWith settings follows tells s.table answer} feed later a b c p still leaves
       (λ xs ys zs none h i.
       let read = h.judged.read in
       let end : at_end (n + 1) s (finding_at_end s) ≡ at_end (n + 1) s None = rw e refl in
@@ -185,10 +216,12 @@ module _ (settings : Settings) (follows : List Envelope → Type 0) where
       ap (λ (f : Fed). f.lines) h.judged.read.fed ∙ ap (λ (f : Fed). contents h.judged.read.lines ++ f.lines) i ∙ append-nil (contents h.judged.read.lines) in
       record {
         judges = record { told = told; read_failed = λ failed. cc; ahead = tt };
-        follows_it = followed_good xs s s.counts s.success (contents h.judged.read.lines) told all h.followed h.table;
+        follows_it = followed_good xs s s.counts s.success (contents h.judged.read.lines) told all h.followed (ap (λ (u : Summary). u.table) h.kept);
+        told = tt;
       }))
       (leaves.source ends)
 
 -- the judgement alone
-pub without_watch : (settings : Settings) (follows : List Envelope → Type 0) (table : Table) (answer : Result Audited Trouble) (a b : Option (List ℕ)) → OfReads a b (JudgesWith settings follows table answer) → OfReads a b (JudgesAs settings answer)
-without_watch settings follows table answer a b p = reads_weaker {P = JudgesWith settings follows table answer} {Q = JudgesAs settings answer} a b p (λ xs ys h. h.judges)
+pub without_watch : (settings : Settings) (follows : List Envelope → Type 0) (tells : Summary → Envelope → Type 0) (table : Table) (answer : Result Audited Trouble) (a b : Option (List ℕ)) → OfReads a b (JudgesWith settings follows tells table answer)
+    → OfReads a b (JudgesAs settings answer)
+without_watch settings follows tells table answer a b p = reads_weaker {P = JudgesWith settings follows tells table answer} {Q = JudgesAs settings answer} a b p (λ xs ys h. h.judges)

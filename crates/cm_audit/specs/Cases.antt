@@ -12,8 +12,10 @@ use Rattle.cm_stream.specs.Stream.{IsRead, envelopes}
 use Rattle.cm_stream.specs.declared.verdict.Audited.{Audited}
 use Rattle.cm_stream.specs.declared.verdict.Verdict.{Verdict}
 use Rattle.cm_stream.specs.declared.verdict.Verdict.TheVariants as verdict
+use Rattle.cm_state.specs.Summary.{Summary}
 use Rattle.cm_audit.specs.Audit.{IsAuditOf}
 use Rattle.cm_audit.specs.Judging.{JudgesAs}
+use Rattle.cm_audit.specs.Told.{TellsAnswer}
 use Rattle.cm_audit.specs.declared.listed_cases.AuditedCases.{AuditedCases}
 
 -- The bytes are those of a good stream. What went along is what it has to be after the stream's envelopes, and the table has
@@ -40,10 +42,12 @@ FollowsAnswer settings follows table bytes (Ok a) =
 FollowsAnswer settings follows table bytes (Err t) = ⊤
 
 -- `JudgesAs`, and what went along with it
-pub record JudgesWith (settings : Settings) (follows : List Envelope → Type 0) (table : Table)
-    (answer : Result Audited Trouble) (bytes rest : List ℕ) : Type 0 where
+pub record JudgesWith (settings : Settings) (follows : List Envelope → Type 0)
+    (tells : Summary → Envelope → Type 0) (table : Table) (answer : Result Audited Trouble)
+    (bytes rest : List ℕ) : Type 0 where
   pub judges : JudgesAs settings answer bytes rest
   pub follows_it : FollowsAnswer settings follows table bytes answer
+  pub told : TellsAnswer settings tells bytes answer
 
 -- ---- the audit with its cases
 

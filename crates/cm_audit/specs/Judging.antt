@@ -9,9 +9,9 @@ use Rattle.cm_envelope.specs.declared.feed.Trouble.{Trouble}
 use Rattle.cm_envelope.specs.declared.feed.Trouble.TheVariants.{ReadFailed}
 use Rattle.cm_attempt.specs.declared.settings.Settings.{Settings}
 use Rattle.cm_stream.specs.Stream.{Answer, Failed, fed, max_line_bytes, max_stream_bytes, shown, verdict_in}
-use Rattle.cm_stream.specs.Record.{table_of}
+use Rattle.cm_stream.specs.ByOnePass.{IsFaultless}
 use Rattle.cm_stream.specs.declared.verdict.Audited.{Audited}
-use Rattle.cm_state.specs.Summary.{Summary, nothing_seen}
+use Rattle.cm_state.specs.Summary.{Summary, nothing_seen, seen}
 use Rattle.cm_state.specs.Laws.{judged_of}
 use Rattle.cm_audit.specs.Audit.{AnswersAs, Begins, ReadsUpTo, all_written, contents}
 
@@ -65,12 +65,13 @@ pub record HasJudged (settings : Settings) (before after : List ℕ) (feed : Sto
   pub read : HasRead before after feed number
   pub judges : JudgesTo settings read.lines number s
 
--- that, and these are their envelopes, of which `follows` holds, and the table is that of their calls
+-- that, and these are their envelopes: `follows` holds of them, they have no fault, and what is kept is what they leave
 pub record HasFollowed (settings : Settings) (follows : List Envelope → Type 0)
     (before after : List ℕ) (feed : Stored) (number : ℕ) (s : Summary) : Type 0 where
   pub judged : HasJudged settings before after feed number s
   pub followed : follows (envelopes_in (contents judged.read.lines))
-  pub table : s.table ≡ table_of settings.first_attempt (envelopes_in (contents judged.read.lines))
+  pub faultless : IsFaultless settings (envelopes_in (contents judged.read.lines))
+  pub kept : s ≡ seen settings.first_attempt (envelopes_in (contents judged.read.lines))
 
 -- `IsAuditOf`, where the lines are judged one by one
 pub record JudgesAs (settings : Settings) (answer : Result Audited Trouble)

@@ -4,5 +4,8 @@ pub mod Kept
 pub mod State
 pub mod Audit
 pub mod Judging
+pub mod Told
 pub mod Cases
+pub mod Differing
+pub mod Differs
 pub mod Record

@@ -9,6 +9,7 @@ ghost use Rattle.cm_audit.specs.Audit.{AnswersTold, DecidesGood, IsAuditOf, IsVe
 ghost use Rattle.cm_audit.specs.Audit.{TakesLine, VerdictDecidesGood, VerdictTold};
 ghost use Rattle.cm_audit.specs.Audit.{audited_at, is_failed_read, unsuccessful};
 ghost use Rattle.cm_audit.specs.Cases.{JudgesWith};
+ghost use Rattle.cm_audit.specs.Told.{TellsLine};
 ghost use Rattle.cm_audit.specs.Judging.{envelope_in};
 ghost use Rattle.cm_audit.specs.State.{AreFewer, IsListed, summary_of};
 ghost use Rattle.cm_state.specs.Summary.{nothing_seen};
@@ -36,13 +37,14 @@ fn take_line<W: Watch>(
     ensures taken { TakesLine settings state.old state.new (shown line.now) result }
     ensures followed { OnOk result ((es : List SomeEnvelope) → W.follows watch.old es
         → W.follows watch.new (es ++ envelope_in (shown line.now))) }
+    ensures told { TellsLine (W.tells watch.new) (summary_of state.old) (shown line.now) result }
 {
     if is_blank_line(line) {
         return Ok(());
     }
     match read_envelope(alloc, line) {
         Ok(envelope) => {
-            watch.note(alloc, &envelope)?;
+            watch.note(alloc, state, &envelope)?;
             judge(state, envelope, settings)
         }
         Err(fault) => Err(Stop::from(fault)),
@@ -82,7 +84,8 @@ pub(crate) fn judge_lines<R: ByteSource, W: Watch>(
     requires listed { IsListed state.old }
     requires starts { W.follows watch.old [] }
     ensures judged { OfReads (R.to_come source.old) (R.to_come source.new)
-        (JudgesWith settings (W.follows watch.new) (summary_of state.new).table result) }
+        (JudgesWith settings (W.follows watch.new) (W.tells watch.new) (summary_of state.new).table
+        result) }
     ensures failures { CountsFailure (is_failed_read result) (R.failed_calls source.old)
         (R.failed_calls source.new) }
 {

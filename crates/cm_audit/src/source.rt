@@ -1,5 +1,5 @@
 //! What an audit keeps of a source.
-ghost use Rattle.std.specs.Prelude.{◌≡◌, ℕ, List, [], IfOk, true};
+ghost use Rattle.std.specs.Prelude.{◌≡◌, ℕ, List, [], IfOk, option_map, slice_get, true};
 ghost use Rattle.cm_stream.specs.Readings.{Accepted as accepted_text};
 ghost use Rattle.cm_stream.specs.OnePass.{reads};
 ghost use Rattle.cm_state.specs.StateChecks.{is_awaited_of, is_next_of, lacks_by};
@@ -47,6 +47,27 @@ impl Accepted {
             Some(awaited) => same_skeleton(document, awaited),
             None => false,
         }
+    }
+
+    /// The document, until the stream's one came.
+    pub(crate) fn awaited(&self) -> Option<&Document>
+        ensures { option_map (λ d. d.now) result ≡ self.now.awaited }
+    {
+        self.awaited.as_ref()
+    }
+
+    /// The ids of the stream's document, once it came.
+    pub(crate) fn ids(&self) -> &[Text]
+        ensures { result.now ≡ self.now.ids }
+    {
+        self.ids.as_slice()
+    }
+
+    /// The first of its pickles that didn't come.
+    pub(crate) fn next_due(&self) -> Option<&DuePickle>
+        ensures { option_map (λ p. p.now) result ≡ slice_get self.now.due.items 0 }
+    {
+        self.due.front()
     }
 
     /// The stream's document came, with these ids, and the source's isn't kept any longer.

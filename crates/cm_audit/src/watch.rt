@@ -2,23 +2,30 @@
 ghost use Rattle.std.specs.Prelude.{◌≡◌, ◌++◌, ◌∷◌, [], List, OnOk, ⊤};
 ghost use Rattle.cm_envelope.specs.declared.envelope.Envelope.{Envelope as SomeEnvelope};
 ghost use Rattle.cm_cases.specs.Listed.{listing_of};
+ghost use Rattle.cm_state.specs.Summary.{Summary};
+ghost use Rattle.cm_audit.specs.State.{summary_of};
 
+use crate::state::State;
 use cm_cases::Listing;
 use cm_envelope::Envelope;
 use std::alloc::{AllocError, Global};
 
-/// What is told of each envelope of a stream, in order.
+/// What is told of each envelope of a stream, in order, before the envelope is judged.
 pub(crate) trait Watch {
     /// What it is after these envelopes.
     ghost follows: { Self → List SomeEnvelope → Type 0 };
 
-    /// One envelope more.
+    /// What it is once it was told of the envelope, where this is kept of the lines before.
+    ghost tells: { Self → Summary → SomeEnvelope → Type 0 };
+
+    /// One envelope more, and what is kept of the lines before it.
     ///
     /// # Errors
     /// Only where there is no memory for it.
-    fn note(&mut self, alloc: Global, envelope: &Envelope) -> Result<(), AllocError>
-        ensures { OnOk result ((es : List SomeEnvelope) → follows self.old es
-            → follows self.new (es ++ envelope.now ∷ [])) };
+    fn note(&mut self, alloc: Global, state: &State, envelope: &Envelope) -> Result<(), AllocError>
+        ensures follows { OnOk result ((es : List SomeEnvelope) → follows self.old es
+            → follows self.new (es ++ envelope.now ∷ [])) }
+        ensures tells { OnOk result (tells self.new (summary_of state.now) envelope.now) };
 }
 
 /// Nothing is kept of the envelopes.
@@ -28,7 +35,14 @@ pub(crate) struct Unwatched;
 impl Watch for Unwatched {
     ghost follows = { λ _ _. ⊤ };
 
-    fn note(&mut self, _alloc: Global, _envelope: &Envelope) -> Result<(), AllocError> {
+    ghost tells = { λ _ _ _. ⊤ };
+
+    fn note(
+        &mut self,
+        _alloc: Global,
+        _state: &State,
+        _envelope: &Envelope,
+    ) -> Result<(), AllocError> {
         Ok(())
     }
 }
@@ -36,7 +50,14 @@ impl Watch for Unwatched {
 impl Watch for Listing {
     ghost follows = { λ listing es. listing ≡ listing_of es };
 
-    fn note(&mut self, alloc: Global, envelope: &Envelope) -> Result<(), AllocError> {
+    ghost tells = { λ _ _ _. ⊤ };
+
+    fn note(
+        &mut self,
+        alloc: Global,
+        _state: &State,
+        envelope: &Envelope,
+    ) -> Result<(), AllocError> {
         Listing::note(self, alloc, envelope)
     }
 }

@@ -30,6 +30,10 @@ four_digits c =
     digit_char (c / 4096 % 16) ∷ digit_char (c / 256 % 16) ∷ digit_char (c / 16 % 16)
     ∷ digit_char (c % 16) ∷ []
 
+-- A hidden character has its number (RFC 8259, section 7), and all else stands as it is.
+abbrev pub json_char : ℕ → List ℕ
+json_char c = if is_hidden c then codes "\\u" ++ four_digits c else encode_utf8 c
+
 -- A backslash is doubled, five control characters have a letter and the others their number; all else stands as it is.
 abbrev pub shown_char : ℕ → List ℕ
 shown_char c =
@@ -39,9 +43,12 @@ shown_char c =
     else if c == 0xa then codes "\\n"
     else if c == 0xc then codes "\\f"
     else if c == 0xd then codes "\\r"
-    else if is_hidden c then codes "\\u" ++ four_digits c
-    else encode_utf8 c
+    else json_char c
 
 -- the text, character by character
 abbrev pub shown_text : List ℕ → List ℕ
 shown_text text = flat_map shown_char (chars text)
+
+-- JSON text, in whose strings alone a hidden character may stand, character by character
+abbrev pub shown_json : List ℕ → List ℕ
+shown_json json = flat_map json_char (chars json)

@@ -17,8 +17,9 @@
 //! }
 //! ```
 //!
-//! `Listing` keeps what the lines name, envelope by envelope, and `Places` writes them. What they say is defined over the
-//! whole list of envelopes, in `specs/Places` and `specs/Shown`.
+//! `Listing` keeps what the lines name, envelope by envelope, and `Places` writes them. `add_shown` and `add_shown_json` write
+//! texts so that they keep to their line. What they say is defined over the whole list of envelopes and over whole texts, in
+//! `specs/Places` and `specs/Shown`.
 #![tactic(auto)]
 
 mod firsts;
@@ -28,3 +29,4 @@ mod shown;
 
 pub use listing::Listing;
 pub use places::Places;
+pub use shown::{add_shown, add_shown_json};

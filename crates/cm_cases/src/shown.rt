@@ -1,7 +1,7 @@
 //! Texts as they are shown within a line.
 ghost use Rattle.std.specs.Prelude.{◌≡◌, ◌<◌, ◌++◌, ◌∷◌, [], OnOk, string_bytes};
 ghost use Rattle.std.specs.Char.{digit_char};
-ghost use Rattle.cm_cases.specs.Shown.{four_digits, is_hidden, shown_char, shown_text};
+ghost use Rattle.cm_cases.specs.Shown.{four_digits, is_hidden, json_char, shown_char, shown_json, shown_text};
 
 use std::alloc::AllocError;
 
@@ -42,6 +42,16 @@ fn add_number(text: &mut String, number: u32) -> Result<(), AllocError>
     add_digit(text, number % 16)
 }
 
+fn add_json_char(text: &mut String, c: char) -> Result<(), AllocError>
+    ensures { OnOk result (string_bytes text.new ≡ string_bytes text.old ++ json_char c) }
+{
+    if !is_hidden(c) {
+        return text.push(c);
+    }
+    text.push_str("\\u")?;
+    add_number(text, c as u32)
+}
+
 fn add_char(text: &mut String, c: char) -> Result<(), AllocError>
     ensures { OnOk result (string_bytes text.new ≡ string_bytes text.old ++ shown_char c) }
 {
@@ -52,23 +62,36 @@ fn add_char(text: &mut String, c: char) -> Result<(), AllocError>
         '\n' => text.push_str("\\n"),
         '\u{c}' => text.push_str("\\f"),
         '\r' => text.push_str("\\r"),
-        _ => {
-            if !is_hidden(c) {
-                return text.push(c);
-            }
-            text.push_str("\\u")?;
-            add_number(text, c as u32)
-        }
+        _ => add_json_char(text, c),
     }
 }
 
-/// Adds a text as it is shown within a line.
-pub(crate) fn add_shown(text: &mut String, added: &str) -> Result<(), AllocError>
+/// Adds a text as it is shown within a line: a backslash is doubled, five control characters have a letter, and each other
+/// character that can break, turn or hide the line has its number.
+///
+/// # Errors
+/// Only where there is no memory for it.
+pub fn add_shown(text: &mut String, added: &str) -> Result<(), AllocError>
     ensures { OnOk result
         (string_bytes text.new ≡ string_bytes text.old ++ shown_text added.now) }
 {
     for c in added.chars() {
         add_char(text, c)?;
+    }
+    Ok(())
+}
+
+/// Adds JSON text as it is shown within a line: each character that can break, turn or hide the line has its number. In compact
+/// JSON such characters stand within strings alone, so what is shown means the same.
+///
+/// # Errors
+/// Only where there is no memory for it.
+pub fn add_shown_json(text: &mut String, json: &str) -> Result<(), AllocError>
+    ensures { OnOk result
+        (string_bytes text.new ≡ string_bytes text.old ++ shown_json json.now) }
+{
+    for c in json.chars() {
+        add_json_char(text, c)?;
     }
     Ok(())
 }

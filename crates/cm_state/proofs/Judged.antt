@@ -37,7 +37,7 @@ cut_before {X} (z ∷ xs) e (y ∷ b) x a h =
     go same (inl k) = inl (rw (k.0, same) refl, k.1)
     go same (inr k) = inr (k.0, rw same (ap (λ ys. y ∷ ys) k.1))
 
-one_more_line : (settings : Settings) (before : List Envelope) (e : Envelope) → IsFaultless settings before → fault settings before e ≡ None → IsFaultless settings (before ++ e ∷ [])
+pub one_more_line : (settings : Settings) (before : List Envelope) (e : Envelope) → IsFaultless settings before → fault settings before e ≡ None → IsFaultless settings (before ++ e ∷ [])
 one_more_line settings before e h none b x a cut = go (cut_before before e b x a cut)
   where
     go : ((b ≡ before) × (x ≡ e)) ⊎ ((more : List Envelope) × (before ≡ b ++ x ∷ more)) → fault settings b x ≡ None
@@ -79,7 +79,7 @@ module _ (settings : Settings) where
       go true k skip rec = rw k skip
       go false k skip rec = rw k (on_read (envelope_of_line l) rec)
 
-  none_yet : IsFaultless settings []
+  pub none_yet : IsFaultless settings []
   none_yet b x a cut = absurd (empty_isnt b x a cut)
 
   judged_as_told : (lines : List (List ℕ)) (t : Option Trouble) → judged_of settings (nothing_seen settings.first_attempt) 1 lines t ≡ answer_for (first_fault_of settings [] 1 lines t)

@@ -55,7 +55,7 @@ same_accepted first es uri = asked_by (λ r. r.is_accepted) (λ o. option_map_or
 
 -- ---- the document
 
-no_document : (es : List Envelope) (uri : Utf8) → has_text uri (declared_in es).documents ≡ false → documents_of uri es ≡ []
+pub no_document : (es : List Envelope) (uri : Utf8) → has_text uri (declared_in es).documents ≡ false → documents_of uri es ≡ []
 no_document es uri new =
     keeps_none (λ (d : GherkinDocument). bytes_eq uri d.uri) (filter_map as_document es)
     (sym (list_any-map (bytes_eq uri) (λ (d : GherkinDocument). d.uri) (filter_map as_document es)) ∙ new)
@@ -75,7 +75,7 @@ same_awaited first es d new = asked_by (is_awaited_of d.document) (has_skeleton_
 
 -- ---- the next pickle
 
-first_left : {X : Type 0} (xs : List X) (n : ℕ) → slice_get (drop n xs) 0 ≡ slice_get xs n
+pub first_left : {X : Type 0} (xs : List X) (n : ℕ) → slice_get (drop n xs) 0 ≡ slice_get xs n
 first_left [] zero = refl
 first_left [] (suc n) = refl
 first_left (x ∷ xs) zero = refl
@@ -95,10 +95,10 @@ same_next first es p = asked_by (is_next_of p) (λ r. is_at p (document_ids p.ur
 
 -- ---- sources at the end
 
-not_zero : (n : ℕ) → (suc n == 0) ≡ false
+pub not_zero : (n : ℕ) → (suc n == 0) ≡ false
 not_zero n = grind (arith, nat_tests)
 
-some_left : {X : Type 0} (xs : List X) (n : ℕ) → not (length (drop n xs) == 0) ≡ nat_lt n (length xs)
+pub some_left : {X : Type 0} (xs : List X) (n : ℕ) → not (length (drop n xs) == 0) ≡ nat_lt n (length xs)
 some_left [] zero = refl
 some_left [] (suc n) = grind (arith, nat_tests)
 some_left (x ∷ xs) zero = grind (arith, nat_tests)
@@ -114,7 +114,7 @@ is_lacking (Accepted d) (x ∷ ds) = sym (not_zero (length ds))
 is_lacking _ [] = refl
 is_lacking _ (x ∷ ds) = refl
 
-same_lack : (es : List Envelope) (s : Source) (r : Reading) → lacks_by (row_of s.uri r (documents_of s.uri es) (pickles_of s.uri es)) ≡ lacks es s.uri r
+pub same_lack : (es : List Envelope) (s : Source) (r : Reading) → lacks_by (row_of s.uri r (documents_of s.uri es) (pickles_of s.uri es)) ≡ lacks es s.uri r
 same_lack es s (Accepted d) = λ i. is_lacking (Accepted d) (documents_of s.uri es) i || some_left (compiled d) (length (pickles_of s.uri es)) i
 same_lack es s r = λ i. is_lacking r (documents_of s.uri es) i || none_left (length (pickles_of s.uri es)) i
 

@@ -34,7 +34,7 @@ const OUTLINE_LINES: &str =
 
 const FULL_URI: &str = "ü/\"u\".feature";
 
-const FULL_TEXT: &str =
+pub(crate) const FULL_TEXT: &str =
     "# \u{1}\u{8}\u{c}\u{1f}\u{1F600}\\\n@f @g\nFeature: F \u{1F600}\n  Words \"q\" \\\n  # in\n  more\n\n  Background: b\n    When x\n      | a\\|b |  |\n\n  Rule: r\n    @s\n    Scenario Outline: <n> o\n      And <n>\n        \"\"\"json <n>\n        tab\tq\n         \\\"\\\"\\\"\n        \"\"\"\n      @e\n      Examples: E\n        d\n        | n |\n        | \u{1D11E} |\n        |  |\n";
 
 const FULL_LINES: &str =

@@ -1,5 +1,5 @@
-//! Tests of devices, feeds, envelopes, declarations, statuses, skeletons and written features by the public calls of their crates.
-//! They are a crate of their own since a crate with tests is proved twice.
+//! Tests of devices, feeds, envelopes, declarations, statuses, skeletons, differences and written features by the public calls of
+//! their crates. They are a crate of their own since a crate with tests is proved twice.
 #![tactic(auto)]
 
 #[cfg(test)]
@@ -8,6 +8,8 @@ mod compiled;
 mod declarations;
 #[cfg(test)]
 mod devices;
+#[cfg(test)]
+mod differences;
 #[cfg(test)]
 mod documents;
 #[cfg(test)]

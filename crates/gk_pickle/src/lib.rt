@@ -1,4 +1,4 @@
-//! The pickles of a feature file, and sources, documents and pickles as JSON.
+//! The scenarios and pickles of a feature file, and sources, documents and pickles as JSON.
 //!
 //! ```
 //! use gk_document::Document;

@@ -13,8 +13,8 @@ const TEXT: &str = concat!(
 );
 
 const PARTS: &str = concat!(
-    "feature 1, background 2, step 3, scenario 5, step 6, examples 10, header 11, row 12, ",
-    "examples 13, rule 14, background 15, step 16, scenario 17, step 18, ",
+    "feature:1, background:2, step:3, scenario:5, step:6, examples:10, header:11, row:12, ",
+    "examples:13, rule:14, background:15, step:16, scenario:17, step:18, ",
 );
 
 /// What a part is, and its line.
@@ -35,7 +35,7 @@ fn told(alloc: Global, part: &Option<Part<'_>>) -> Result<String, AllocError> {
     match part {
         Some(part) => {
             let (kind, line) = place(part);
-            format!(in alloc; "{kind} {line}, ")
+            format!(in alloc; "{kind}:{line}, ")
         }
         None => String::from_str(alloc, "nothing, "),
     }
@@ -104,11 +104,23 @@ fn check_difference(
 fn the_first_difference(rt: HostRuntime) -> Result<(), Fail> {
     let alloc = rt.alloc();
     check_difference(&rt, alloc, "| 1 |", "|   1 |", "alike")?;
-    check_difference(&rt, alloc, "| 1 |", "| 2 |", "row 12, row 12, ")?;
-    check_difference(&rt, alloc, "| 1 |", "", "row 12, examples 13, ")?;
-    check_difference(&rt, alloc, "y", "z", "step 18, step 18, ")?;
-    check_difference(&rt, alloc, "      x", "      z", "step 6, step 6, ")?;
-    check_difference(&rt, alloc, "@t", "@u", "scenario 5, scenario 5, ")?;
-    check_difference(&rt, alloc, "\n      Then d\n        | y |", "", "step 18, nothing, ")?;
-    check_difference(&rt, alloc, "| y |", "| y |\n      And d", "nothing, step 20, ")
+    check_difference(&rt, alloc, "| 1 |", "| 2 |", "row:12, row:12, ")?;
+    check_difference(&rt, alloc, "| 1 |", "", "row:12, examples:13, ")?;
+    check_difference(&rt, alloc, "y", "z", "step:18, step:18, ")?;
+    check_difference(&rt, alloc, "      x", "      z", "step:6, step:6, ")?;
+    check_difference(&rt, alloc, "@t", "@u", "scenario:5, scenario:5, ")?;
+    check_difference(
+        &rt,
+        alloc,
+        "\n      Then d\n        | y |",
+        "",
+        "step:18, nothing, ",
+    )?;
+    check_difference(
+        &rt,
+        alloc,
+        "| y |",
+        "| y |\n      And d",
+        "nothing, step:20, ",
+    )
 }

@@ -14,6 +14,20 @@ const PASSED: &str =
 {"testCaseFinished":{"testCaseStartedId":"a1","willBeRetried":false}}
 "#;
 
+// A stream without its pickle, and what is said of it.
+const INCOMPLETE: &str =
+    r#"{"source":{"data":"Feature: f\n\n  Scenario: s\n    Given a\n","mediaType":"text/x.cucumber.gherkin+plain","uri":"a.feature"}}
+{"gherkinDocument":{"comments":[],"feature":{"children":[{"scenario":{"description":"","examples":[],"id":"0","keyword":"Scenario","location":{"column":3,"line":3},"name":"s","steps":[{"id":"1","keyword":"Given ","keywordType":"Context","location":{"column":5,"line":4},"text":"a"}],"tags":[]}}],"description":"","keyword":"Feature","language":"en","location":{"column":1,"line":1},"name":"f","tags":[]},"uri":"a.feature"}}
+{"testRunStarted":{}}
+{"testRunFinished":{"success":true}}
+"#;
+
+const DIFFERENCE: &str = r#"bad line 4: 20 SourceIncomplete
+uri a.feature
+expected {"pickle":{"astNodeIds":["0"],"language":"en","name":"s","steps":[{"astNodeIds":["1"],"text":"a","type":"Context"}],"tags":[],"uri":"a.feature"}}
+found nothing
+"#;
+
 const OUTLINE_TEXT: &str =
     "Feature: f\n  Scenario: s\n    Given <a>\n    Examples:\n      | a |\n      | x |\n      | x |\n      | y |\n";
 
@@ -31,8 +45,8 @@ fn texts(rt: HostRuntime) -> Result<(), Fail> {
 }
 
 // A run that is refused memory says so, or nothing, and its status is that of a trouble.
-fn came_of_run(status: u8, sink: &Compared<'_>) -> Came {
-    if status == 0 {
+fn came_of_run(status: u8, wanted: ExitStatus, sink: &Compared<'_>) -> Came {
+    if status == wanted.code() {
         right_if(sink.has_wanted())
     } else if status == ExitStatus::Trouble.code() && (sink.has_none() || sink.has_trouble()) {
         Came::Refused
@@ -41,24 +55,41 @@ fn came_of_run(status: u8, sink: &Compared<'_>) -> Came {
     }
 }
 
-fn came_of_words(alloc: Global, words: &[&str], input: &str, output: &str) -> Came {
+fn came_of_words(
+    alloc: Global,
+    words: &[&str],
+    input: &str,
+    output: &str,
+    wanted: ExitStatus,
+) -> Came {
     let mut sink = expecting(output);
     let status = run(alloc, words, &mut whole(input), &mut sink);
-    came_of_run(status, &sink)
+    came_of_run(status, wanted, &sink)
 }
 
 fn run_results(alloc: Global) -> Came {
-    came_of_words(alloc, &["results"], PASSED, "c1 PASSED\n")
+    let told = "c1 PASSED\n";
+    came_of_words(alloc, &["results"], PASSED, told, ExitStatus::Done)
 }
 
 fn run_audit(alloc: Global) -> Came {
     let good = "good sources=1 pickles=1 cases=2 attempts=2\n";
-    came_of_words(alloc, &["audit"], INTERLEAVED, good)
+    came_of_words(alloc, &["audit"], INTERLEAVED, good, ExitStatus::Done)
 }
 
 fn run_compile(alloc: Global) -> Came {
     let words = ["compile", "--uri", "a.feature"];
-    came_of_words(alloc, &words, PLAIN_TEXT, PLAIN_LINES)
+    came_of_words(alloc, &words, PLAIN_TEXT, PLAIN_LINES, ExitStatus::Done)
+}
+
+fn run_cases(alloc: Global) -> Came {
+    let told = "PASSED a.feature:3 s\nSKIPPED a.feature:3 s\n";
+    came_of_words(alloc, &["cases"], INTERLEAVED, told, ExitStatus::Done)
+}
+
+fn run_differs(alloc: Global) -> Came {
+    let words = ["differs"];
+    came_of_words(alloc, &words, INCOMPLETE, DIFFERENCE, ExitStatus::Refused)
 }
 
 #[test]
@@ -74,4 +105,14 @@ fn runs_of_audit(rt: HostRuntime) -> Result<(), Fail> {
 #[test]
 fn runs_of_compile(rt: HostRuntime) -> Result<(), Fail> {
     meet_alone(rt.alloc(), RUNS, run_compile)
+}
+
+#[test]
+fn runs_of_cases(rt: HostRuntime) -> Result<(), Fail> {
+    meet_alone(rt.alloc(), RUNS, run_cases)
+}
+
+#[test]
+fn runs_of_differs(rt: HostRuntime) -> Result<(), Fail> {
+    meet_alone(rt.alloc(), RUNS, run_differs)
 }

@@ -5,9 +5,7 @@ use crate::meeting::{Came, SMALL, check, meet, meet_alone, right_if};
 use gk_line::{
     Cell, Fence, Line, TagFault, TagText, cells, doc_line, is_row, is_tags, push_doc_line, tags,
 };
-use gk_pickle::{
-    Pickle, ScenarioInFeature, StepType, compile, compile_scenario, fill, scenarios,
-};
+use gk_pickle::{Pickle, ScenarioInFeature, StepType, compile, compile_scenario, fill, scenarios};
 use gk_tree::{Document, FaultKind, ParseFault, parse};
 use scarce::Shortage;
 use std::alloc::{AllocError, Global};

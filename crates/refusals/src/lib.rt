@@ -13,6 +13,8 @@ mod declarations;
 #[cfg(test)]
 mod devices;
 #[cfg(test)]
+mod differences;
+#[cfg(test)]
 mod features;
 #[cfg(test)]
 mod feeds;

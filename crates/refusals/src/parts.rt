@@ -6,9 +6,11 @@ use scarce::Shortage;
 use std::alloc::{AllocError, Global};
 use std::test::Fail;
 
-const TEXT: &str = "Feature: f\n  Rule: r\n    Scenario Outline: s\n      Given <a>\n      Examples:\n        | a |\n        | 1 |";
+const TEXT: &str =
+    "Feature: f\n  Rule: r\n    Scenario Outline: s\n      Given <a>\n      Examples:\n        | a |\n        | 1 |";
 
-const OTHER_TEXT: &str = "Feature: f\n  Rule: r\n    Scenario Outline: s\n      Given <a>\n      Examples:\n        | a |\n        | 2 |";
+const OTHER_TEXT: &str =
+    "Feature: f\n  Rule: r\n    Scenario Outline: s\n      Given <a>\n      Examples:\n        | a |\n        | 2 |";
 
 fn list_parts(alloc: Global, document: &Document) -> Came {
     match parts(alloc, document) {

@@ -1,7 +1,7 @@
 use Rattle.std.proofs.Common.{ap, ap₂, ◌≡◌, ◌∙◌}
 use Rattle.std.proofs.lemmas.Result.{IfOk-weaker}
 use Rattle.clap.specs.Words.{App, app_of, with_subcommand}
-use Rattle.ck_commands.specs.CommandLine.{audit_app, compile_app, gate_app, parse_app, results_app}
+use Rattle.ck_commands.specs.CommandLine.{audit_app, cases_app, compile_app, gate_app, parse_app, results_app}
 use Rattle.ck_commands.proofs.command_line.command.Goals as goal
 
 abbrev top : {x y : App} → x ≡ y → x.top ≡ y.top
@@ -14,4 +14,5 @@ returns c =
     let audit_is : app_of c.in_ok-with_audit.with_audit ≡ audit_app = c.in_ok-with_audit.ensures.shape c.in_ok-audit_command.ensures.local ∙ ap₂ with_subcommand compile_is (top c.in_ok-audit_command.ensures.app) in
     let gate_is : app_of c.in_ok-with_gate.with_gate ≡ gate_app = c.in_ok-with_gate.ensures.shape c.in_ok-gate_command.ensures.local ∙ ap₂ with_subcommand audit_is (top c.in_ok-gate_command.ensures.app) in
     let results_is : app_of c.in_ok-with_results.with_results ≡ results_app = c.in_ok-with_results.ensures.shape c.in_ok-results_command.ensures.local ∙ ap₂ with_subcommand gate_is (top c.in_ok-results_command.ensures.app) in
-    IfOk-weaker c.subcommand-6.result _ _ (λ r h. h.shape c.in_ok-cases_command.ensures.local ∙ ap₂ with_subcommand results_is (top c.in_ok-cases_command.ensures.app)) c.subcommand-6.ensures
+    let cases_is : app_of c.in_ok-with_cases.with_cases ≡ cases_app = c.in_ok-with_cases.ensures.shape c.in_ok-cases_command.ensures.local ∙ ap₂ with_subcommand results_is (top c.in_ok-cases_command.ensures.app) in
+    IfOk-weaker c.subcommand-7.result _ _ (λ r h. h.shape c.in_ok-differs_command.ensures.local ∙ ap₂ with_subcommand cases_is (top c.in_ok-differs_command.ensures.app)) c.subcommand-7.ensures

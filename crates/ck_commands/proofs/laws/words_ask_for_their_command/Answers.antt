@@ -1,4 +1,4 @@
-use Rattle.ck_commands.proofs.Asked.{audit_is_asked, cases_are_asked, gate_is_asked, results_are_asked, features_are_asked, nothing_is_asked}
+use Rattle.ck_commands.proofs.Asked.{audit_is_asked, cases_are_asked, differences_are_asked, gate_is_asked, results_are_asked, features_are_asked, nothing_is_asked}
 use Rattle.ck_commands.proofs.laws.words_ask_for_their_command.Goals as goal
 
 pub returns-clause-audit : goal.returns-clause-audit
@@ -12,6 +12,9 @@ returns-clause-results c = results_are_asked
 
 pub returns-clause-cases : goal.returns-clause-cases
 returns-clause-cases c = cases_are_asked
+
+pub returns-clause-differs : goal.returns-clause-differs
+returns-clause-differs c = differences_are_asked
 
 pub returns-clause-features : goal.returns-clause-features
 returns-clause-features c = features_are_asked

@@ -7,26 +7,26 @@ use Rattle.cm_audit.proofs.Verdicts.{audit_of}
 use Rattle.cm_audit.proofs.auditing.audit_run.Goals as goal
 
 pub returns-clause-same_bytes : goal.returns-clause-same_bytes
-returns-clause-same_bytes g c = reads_weaker _ _ (without_watch c.args.settings _ _ c.judge_lines-audited.result _ _ c.judge_lines-audited.ensures.judged) (audit_of c.args.settings c.judge_lines-audited.result)
+returns-clause-same_bytes g c = reads_weaker _ _ (without_watch c.args.settings _ _ _ c.judge_lines-audited.result _ _ c.judge_lines-audited.ensures.judged) (audit_of c.args.settings c.judge_lines-audited.result)
 
 pub returns-clause-good : goal.returns-clause-good
-returns-clause-good g c = of_reads _ _ (without_watch c.args.settings _ _ c.judge_lines-audited.result _ _ c.judge_lines-audited.ensures.judged) (λ xs ys h. (audit_of c.args.settings c.judge_lines-audited.result xs ys h).good)
+returns-clause-good g c = of_reads _ _ (without_watch c.args.settings _ _ _ c.judge_lines-audited.result _ _ c.judge_lines-audited.ensures.judged) (λ xs ys h. (audit_of c.args.settings c.judge_lines-audited.result xs ys h).good)
 
 pub returns-clause-bad : goal.returns-clause-bad
-returns-clause-bad g c = of_reads _ _ (without_watch c.args.settings _ _ c.judge_lines-audited.result _ _ c.judge_lines-audited.ensures.judged) (λ xs ys h. (audit_of c.args.settings c.judge_lines-audited.result xs ys h).bad)
+returns-clause-bad g c = of_reads _ _ (without_watch c.args.settings _ _ _ c.judge_lines-audited.result _ _ c.judge_lines-audited.ensures.judged) (λ xs ys h. (audit_of c.args.settings c.judge_lines-audited.result xs ys h).bad)
 
 pub returns-clause-told : goal.returns-clause-told
-returns-clause-told g c = of_reads _ _ (without_watch c.args.settings _ _ c.judge_lines-audited.result _ _ c.judge_lines-audited.ensures.judged) (λ xs ys h. (audit_of c.args.settings c.judge_lines-audited.result xs ys h).told)
+returns-clause-told g c = of_reads _ _ (without_watch c.args.settings _ _ _ c.judge_lines-audited.result _ _ c.judge_lines-audited.ensures.judged) (λ xs ys h. (audit_of c.args.settings c.judge_lines-audited.result xs ys h).told)
 
 pub returns-clause-read_failed : goal.returns-clause-read_failed
-returns-clause-read_failed g c = λ failed. reads_weaker _ _ (without_watch c.args.settings _ _ c.judge_lines-audited.result _ _ c.judge_lines-audited.ensures.judged) (λ xs ys h. (audit_of c.args.settings c.judge_lines-audited.result xs ys h).read_failed failed)
+returns-clause-read_failed g c = λ failed. reads_weaker _ _ (without_watch c.args.settings _ _ _ c.judge_lines-audited.result _ _ c.judge_lines-audited.ensures.judged) (λ xs ys h. (audit_of c.args.settings c.judge_lines-audited.result xs ys h).read_failed failed)
 
 pub returns-clause-ahead : goal.returns-clause-ahead
 returns-clause-ahead g c =
-    reads_weaker {P = JudgesAs c.args.settings c.judge_lines-audited.result} {Q = ReadsUpTo (verdict_in c.judge_lines-audited.result)} _ _ (without_watch c.args.settings _ _ c.judge_lines-audited.result _ _ c.judge_lines-audited.ensures.judged) (λ xs ys h. h.ahead)
+    reads_weaker {P = JudgesAs c.args.settings c.judge_lines-audited.result} {Q = ReadsUpTo (verdict_in c.judge_lines-audited.result)} _ _ (without_watch c.args.settings _ _ _ c.judge_lines-audited.result _ _ c.judge_lines-audited.ensures.judged) (λ xs ys h. h.ahead)
 
 pub returns-clause-decided : goal.returns-clause-decided
-returns-clause-decided g c = of_reads _ _ (without_watch c.args.settings _ _ c.judge_lines-audited.result _ _ c.judge_lines-audited.ensures.judged) (λ xs ys h. (audit_of c.args.settings c.judge_lines-audited.result xs ys h).decided)
+returns-clause-decided g c = of_reads _ _ (without_watch c.args.settings _ _ _ c.judge_lines-audited.result _ _ c.judge_lines-audited.ensures.judged) (λ xs ys h. (audit_of c.args.settings c.judge_lines-audited.result xs ys h).decided)
 
 pub returns-clause-unsupported : goal.returns-clause-unsupported
-returns-clause-unsupported g c = of_reads _ _ (without_watch c.args.settings _ _ c.judge_lines-audited.result _ _ c.judge_lines-audited.ensures.judged) (λ xs ys h. (audit_of c.args.settings c.judge_lines-audited.result xs ys h).unsupported)
+returns-clause-unsupported g c = of_reads _ _ (without_watch c.args.settings _ _ _ c.judge_lines-audited.result _ _ c.judge_lines-audited.ensures.judged) (λ xs ys h. (audit_of c.args.settings c.judge_lines-audited.result xs ys h).unsupported)

@@ -47,23 +47,23 @@ returns-in-Err-take_line-clause-judged g c =
     let line = c.in-Ok-Some.line.now in
     let leaves : Leaves c.lines.feed later (g.R.ByteSource.to_come c.lines.source) (g.R.ByteSource.to_come c.next_line.new.source) (Ok (Some line)) = search rules in
     rw c.audited_at.ensures
-    (stops_with c.args.settings (g.W.Watch.follows c.lines.watch) _ c.lines.feed later c.lines.state c.take_line.new.state c.lines.number line _ _ _ c.lines.invariant.judged c.lines.invariant.open_still c.lines.invariant.ends leaves c.in-Err-take_line.stop c.in-Err-take_line.ensures.taken _)
+    (stops_with c.args.settings (g.W.Watch.follows c.lines.watch) (g.W.Watch.tells c.take_line.new.watch) _ c.lines.feed later c.lines.state c.take_line.new.state c.lines.number line _ _ _ c.lines.invariant.judged c.lines.invariant.open_still c.lines.invariant.ends leaves c.in-Err-take_line.stop c.in-Err-take_line.ensures.taken c.in-Err-take_line.ensures.told _)
 
 pub returns-in-Ok-None-clause-judged : goal.returns-in-Ok-None-clause-judged
 returns-in-Ok-None-clause-judged g c =
     let later = c.next_line.follows.lender-at-none in
     let leaves : Leaves c.lines.feed later (g.R.ByteSource.to_come c.lines.source) (g.R.ByteSource.to_come c.next_line.new.source) (Ok None) = search rules in
-    ends_well_with c.args.settings (g.W.Watch.follows c.lines.watch) c.lines.feed later (summary_of c.lines.state) c.lines.number _ _ _ c.lines.invariant.judged c.lines.invariant.open_still c.lines.invariant.ends leaves (search rules)
+    ends_well_with c.args.settings (g.W.Watch.follows c.lines.watch) (g.W.Watch.tells c.lines.watch) c.lines.feed later (summary_of c.lines.state) c.lines.number _ _ _ c.lines.invariant.judged c.lines.invariant.open_still c.lines.invariant.ends leaves (search rules)
 
 pub returns-in-Ok-None-2-clause-judged : goal.returns-in-Ok-None-2-clause-judged
 returns-in-Ok-None-2-clause-judged g c =
     let later = c.next_line.follows.lender-at-none in
     let leaves : Leaves c.lines.feed later (g.R.ByteSource.to_come c.lines.source) (g.R.ByteSource.to_come c.next_line.new.source) (Ok None) = search rules in
     rw c.unsuccessful.ensures
-    (ends_early_with c.args.settings (g.W.Watch.follows c.lines.watch) _ c.lines.feed later (summary_of c.lines.state) c.lines.number _ _ _ c.lines.invariant.judged c.lines.invariant.open_still c.lines.invariant.ends leaves (search rules))
+    (ends_early_with c.args.settings (g.W.Watch.follows c.lines.watch) (g.W.Watch.tells c.lines.watch) _ c.lines.feed later (summary_of c.lines.state) c.lines.number _ _ _ c.lines.invariant.judged c.lines.invariant.open_still c.lines.invariant.ends leaves (search rules))
 
 pub returns-in-Err-clause-judged : goal.returns-in-Err-clause-judged
 returns-in-Err-clause-judged g c =
     let later = c.next_line.follows.lender-at-none in
     let leaves : Leaves c.lines.feed later (g.R.ByteSource.to_come c.lines.source) (g.R.ByteSource.to_come c.next_line.new.source) (Err c.in-Err.trouble) = search rules in
-    troubled_with c.args.settings (g.W.Watch.follows c.lines.watch) _ c.lines.feed later (summary_of c.lines.state) c.lines.number _ _ _ c.lines.invariant.judged c.lines.invariant.open_still c.lines.invariant.ends c.lines.invariant.line_limit c.lines.invariant.stream_limit c.in-Err.trouble leaves
+    troubled_with c.args.settings (g.W.Watch.follows c.lines.watch) (g.W.Watch.tells c.lines.watch) _ c.lines.feed later (summary_of c.lines.state) c.lines.number _ _ _ c.lines.invariant.judged c.lines.invariant.open_still c.lines.invariant.ends c.lines.invariant.line_limit c.lines.invariant.stream_limit c.in-Err.trouble leaves

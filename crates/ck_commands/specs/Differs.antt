@@ -1,0 +1,84 @@
+-- What the command `differs` prints: the line of the audit, and what differs at that line.
+use Rattle.std.specs.Prelude.{◌≡◌, ◌⊎◌, ℕ, List, [], ◌∷◌, ◌++◌, Option, None, Result, Ok, Err, codes}
+use Rattle.std.specs.Option.{option_map_or}
+use Rattle.std.specs.Io.KnownBytes.{Appends}
+use Rattle.cm_attempt.specs.declared.settings.Settings.{Settings}
+use Rattle.cm_audit.specs.Differs.{DiffersAt, audited_of}
+use Rattle.cm_audit.specs.declared.differs.AuditedDifference.{AuditedDifference}
+use Rattle.cm_cases.specs.Shown.{shown_json, shown_text}
+use Rattle.cm_differs.specs.declared.difference.Difference.{Difference}
+use Rattle.cm_envelope.specs.Lines.{line_feed}
+use Rattle.cm_envelope.specs.declared.feed.Trouble.{Trouble}
+use Rattle.cm_envelope.specs.declared.feed.Trouble.TheVariants.{Memory}
+use Rattle.cm_stream.specs.Findings.{IsBad, named}
+use Rattle.cm_stream.specs.Stream.{Answer, FirstFault, At, IsFirstFault, NoneIsGood, answer_for, answered}
+use Rattle.cm_stream.specs.declared.verdict.StreamFault.{StreamFault}
+use Rattle.cm_stream.specs.declared.verdict.Verdict.TheVariants as verdict
+use Rattle.ck_commands.specs.Cases.{IsReport}
+use Rattle.ck_commands.specs.Output.{Prints, Report, trouble_report}
+use Rattle.ck_commands.specs.Verdicts.{finding_text, verdict_report}
+use Rattle.ck_commands.specs.declared.output.Report as made
+
+-- ---- the text
+
+-- one side: its JSON, in which no character can break, turn or hide the line, or `nothing`
+abbrev pub side_text : (name : List ℕ) → Option (List ℕ) → List ℕ
+side_text name json =
+    name ++ codes " " ++ option_map_or shown_json json (codes "nothing") ++ line_feed ∷ []
+
+-- three lines: the feature file, what its text compiles to, and what the stream has there
+abbrev pub difference_text : Difference → List ℕ
+difference_text d =
+    codes "uri " ++ shown_text d.uri ++ line_feed ∷ []
+    ++ side_text (codes "expected") d.expected ++ side_text (codes "found") d.found
+
+-- these lines, where there is a difference
+abbrev pub difference_lines : Option Difference → List ℕ
+difference_lines d = option_map_or difference_text d []
+
+-- the report of `audit`, and these lines after it
+abbrev pub differs_report : Option Difference → Answer → Report
+differs_report d a = record {
+  text = (verdict_report a).text ++ difference_lines d;
+  status = (verdict_report a).status;
+}
+
+-- ---- what is printed is right of the bytes of the stream
+
+-- the difference of what is reported first of these bytes: only a fault has one
+abbrev pub IsDifferenceOf : Settings → List ℕ → FirstFault → Option Difference → Type 0
+IsDifferenceOf settings bytes (At n (IsBad f)) d =
+    (b : StreamFault) × (f ≡ named b) × DiffersAt settings bytes n b d
+IsDifferenceOf settings bytes _ d = d ≡ None
+
+-- the report of what is reported first was printed, with its difference
+abbrev pub PrintsFirst : Settings → FirstFault → ℕ → (old new : Option (List ℕ))
+    → (bytes : List ℕ) → Type 0
+PrintsFirst settings first code old new bytes =
+    (d : Option Difference) × IsDifferenceOf settings bytes first d
+    × Prints (differs_report d (answer_for first)) code old new
+
+-- that for the first fault of these bytes, or `trouble Memory`
+abbrev pub PrintsDifference : Settings → ℕ → (old new : Option (List ℕ)) → (bytes : List ℕ)
+    → Type 0
+PrintsDifference settings code old new bytes =
+    (first : FirstFault) × IsFirstFault settings bytes first
+    × (PrintsFirst settings first code old new bytes
+    ⊎ Prints (trouble_report Memory) code old new)
+
+-- a fault that no good stream begins with was printed, with its difference
+abbrev pub PrintsBadDifference : Settings → (old new : Option (List ℕ)) → (bytes : List ℕ) → Type 0
+PrintsBadDifference settings old new bytes =
+    (n : ℕ) × (b : StreamFault) × NoneIsGood settings bytes (Ok (verdict.Bad n b))
+    × (d : Option Difference) × DiffersAt settings bytes n b d
+    × Appends old new (finding_text n (IsBad (named b)) ++ difference_lines d)
+
+-- ---- the report that the code makes
+
+abbrev pub difference_in : Result AuditedDifference Trouble → Option Difference
+difference_in (Ok a) = a.difference
+difference_in (Err t) = None
+
+abbrev pub ReportsDifference : Result AuditedDifference Trouble → made.Report → Type 0
+ReportsDifference answer r =
+    IsReport (differs_report (difference_in answer) (answered (audited_of answer))) r

@@ -1,0 +1,73 @@
+//! The audit of a stream, with what it differs in from its sources.
+ghost use Rattle.std.specs.Prelude.{◌≡◌};
+ghost use Rattle.cm_envelope.specs.Device.{CountsFailure, OfReads};
+ghost use Rattle.cm_audit.specs.Audit.{is_failed_read};
+ghost use Rattle.cm_audit.specs.Differs.{IsDiffersAuditOf, reported};
+
+use crate::auditing::judge_lines;
+use crate::differing::Differing;
+use crate::state::State;
+use cm_attempt::Settings;
+use cm_differs::Difference;
+use cm_envelope::{ByteSource, Trouble};
+use cm_stream::{Audited, StreamFault, Verdict};
+use std::alloc::Global;
+
+/// An audit; and where a stream is bad because it isn't what its sources compile to, how it differs.
+#[derive(Drop)]
+pub struct AuditedDifference {
+    /// What `audit_run` answers.
+    pub audited: Audited,
+    /// What the source of the verdict's line compiles to, and what the stream has in its place. It is there for the faults
+    /// `TreeDiffers`, `PickleDiffers` and `SourceIncomplete`, and for no other verdict.
+    pub difference: Option<Difference>,
+}
+
+/// The difference, where the verdict is a fault that has one.
+fn reported(verdict: &Verdict, difference: Option<Difference>) -> Option<Difference>
+    ensures { result ≡ reported verdict.now difference }
+{
+    match verdict {
+        Verdict::Bad {
+            fault: StreamFault::TreeDiffers
+            | StreamFault::PickleDiffers
+            | StreamFault::SourceIncomplete,
+            ..
+        } => difference,
+        _ => {
+            drop(difference);
+            None
+        }
+    }
+}
+
+/// Audits a stream by the settings, as `audit_run` does, and says how a stream that isn't what its sources compile to
+/// differs at the line of the verdict: the first part of the tree, the pickle, or at the end of the run the document or
+/// the first pickle that is missing of the first source that is incomplete.
+///
+/// # Errors
+/// As those of `audit_run`.
+pub fn audit_differs<R: ByteSource>(
+    alloc: Global,
+    source: &mut R,
+    settings: Settings,
+) -> Result<AuditedDifference, Trouble>
+    // The audit, and for a fault against a source the difference, all of the same bytes.
+    ensures same_bytes { OfReads (R.to_come source.old) (R.to_come source.new)
+        (IsDiffersAuditOf settings result) }
+    ensures failures { CountsFailure (is_failed_read result) (R.failed_calls source.old)
+        (R.failed_calls source.new) }
+{
+    let mut state = State::new(alloc, settings.first_attempt);
+    let mut differing = Differing { difference: None };
+    match judge_lines(alloc, &mut state, &mut differing, source, settings) {
+        Ok(audited) => {
+            let difference = reported(&audited.verdict, differing.difference);
+            Ok(AuditedDifference {
+                audited,
+                difference,
+            })
+        }
+        Err(trouble) => Err(trouble),
+    }
+}

@@ -1,0 +1,5 @@
+pub mod DueEqual
+pub mod PartTexts
+pub mod Plain
+pub mod Steps
+pub mod Written

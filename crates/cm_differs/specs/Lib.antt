@@ -1,0 +1,4 @@
+pub mod DuePickles
+pub mod PickleData
+pub mod PartData
+pub mod Differences

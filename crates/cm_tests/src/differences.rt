@@ -1,0 +1,129 @@
+//! In what streams differ from what their sources' texts compile to.
+use crate::compiled::{FULL_TEXT, PLAIN_TEXT};
+use cm_differs::{
+    Difference, missing_document, missing_pickle, pickle_difference, tree_difference,
+};
+use cm_envelope::{Envelope, read_envelope};
+use gk_document::{Document, Text};
+use gk_pickle::{Pickle, compile};
+use gk_tree::parse;
+use std::alloc::{AllocError, Global};
+use std::test::Fail;
+
+const URI: &str = "a.feature";
+
+fn is_text(text: &Option<Text>, json: Option<&str>) -> bool {
+    match (text, json) {
+        (Some(text), Some(json)) => text.as_str() == json,
+        (None, None) => true,
+        _ => false,
+    }
+}
+
+// Whether the difference is at the URI, with these texts.
+fn is_difference(difference: &Difference, expected: Option<&str>, found: Option<&str>) -> bool {
+    difference.uri.as_str() == URI
+        && is_text(&difference.expected, expected)
+        && is_text(&difference.found, found)
+}
+
+fn two_ids(alloc: Global) -> Result<Vec<Text>, AllocError> {
+    let mut ids = Vec::new(alloc);
+    ids.push(Text::copy_of(alloc, "x0")?)?;
+    ids.push(Text::copy_of(alloc, "x1")?)?;
+    Ok(ids)
+}
+
+const DUE_PICKLE: &str =
+    r#"{"pickle":{"astNodeIds":["x0"],"language":"en","name":"s","steps":[{"astNodeIds":["x1"],"text":"a","type":"Context"}],"tags":[],"uri":"a.feature"}}"#;
+
+const UNTYPED_PICKLE: &str =
+    r#"{"pickle":{"astNodeIds":["x0"],"language":"en","name":"s","steps":[{"astNodeIds":["x1"],"text":"a"}],"tags":[],"uri":"a.feature"}}"#;
+
+const FOUND_LINE: &str =
+    r#"{"pickle":{"uri":"a.feature","id":"9","astNodeIds":["x1"],"language":"de","name":"t","steps":[{"id":"8","astNodeIds":[],"text":"b","argument":{"dataTable":{"rows":[{"cells":[{"value":"\u202e"}]}]}}},{"id":"7","astNodeIds":["x0"],"text":"","type":"Outcome","argument":{"docString":{"content":"c","mediaType":"m"}}}],"tags":[{"name":"@t","astNodeId":"x0"}]}}"#;
+
+const FOUND_PICKLE: &str =
+    "{\"pickle\":{\"astNodeIds\":[\"x1\"],\"language\":\"de\",\"name\":\"t\",\"steps\":[{\"argument\":{\"dataTable\":{\"rows\":[{\"cells\":[{\"value\":\"\u{202e}\"}]}]}},\"astNodeIds\":[],\"text\":\"b\"},{\"argument\":{\"docString\":{\"content\":\"c\",\"mediaType\":\"m\"}},\"astNodeIds\":[\"x0\"],\"text\":\"\",\"type\":\"Outcome\"}],\"tags\":[{\"astNodeId\":\"x0\",\"name\":\"@t\"}],\"uri\":\"a.feature\"}}";
+
+// What differs where a pickle is due and the line is found, where nothing is due, and where nothing is found.
+fn pickles_differ(alloc: Global, due: &Pickle, ids: &[Text], line: &str) -> Result<bool, Fail> {
+    let read = read_envelope(alloc, line.as_bytes());
+    let Ok(Envelope::Pickle(found)) = &read else {
+        return Err(Fail::from("no pickle"));
+    };
+    let beside = pickle_difference(alloc, ids, Some(due), found)?;
+    let over = pickle_difference(alloc, ids, None, found)?;
+    let missing = missing_pickle(alloc, URI, ids, due)?;
+    Ok(
+        is_difference(&beside, Some(UNTYPED_PICKLE), Some(FOUND_PICKLE))
+            && is_difference(&over, None, Some(FOUND_PICKLE))
+            && is_difference(&missing, Some(DUE_PICKLE), None),
+    )
+}
+
+#[test]
+fn differences_of_pickles(rt: HostRuntime) -> Result<(), Fail> {
+    let alloc = rt.alloc();
+    let document = parse(alloc, PLAIN_TEXT)?;
+    let pickles = compile(alloc, &document)?;
+    let ids = two_ids(alloc)?;
+    let due = pickles.first().ok_or("no pickle")?;
+    assert!(rt; pickles_differ(alloc, due, &ids, FOUND_LINE)?);
+    Ok(())
+}
+
+const FULL_PARTS: &str =
+    r#"[{"feature":{"keyword":"Feature","language":"en","location":{"line":3},"name":"F 😀","tags":[{"location":{"line":2},"name":"@f"},{"location":{"line":2},"name":"@g"}]}},{"background":{"keyword":"Background","location":{"line":8},"name":"b"}},{"step":{"dataTable":{"rows":[{"cells":[{"value":"a|b"},{"value":""}],"location":{"line":10}}]},"keyword":"When ","location":{"line":9},"text":"x"}},{"rule":{"keyword":"Rule","location":{"line":12},"name":"r","tags":[]}},{"scenario":{"keyword":"Scenario Outline","location":{"line":14},"name":"<n> o","tags":[{"location":{"line":13},"name":"@s"}]}},{"step":{"docString":{"content":"tab\tq\n \"\"\"","location":{"line":16},"mediaType":"json <n>"},"keyword":"And ","location":{"line":15},"text":"<n>"}},{"examples":{"keyword":"Examples","location":{"line":21},"name":"E","tags":[{"location":{"line":20},"name":"@e"}]}},{"tableHeader":{"cells":[{"value":"n"}],"location":{"line":23}}},{"tableRow":{"cells":[{"value":"𝄞"}],"location":{"line":24}}},{"tableRow":{"cells":[{"value":""}],"location":{"line":25}}}]"#;
+
+#[test]
+fn missing_documents(rt: HostRuntime) -> Result<(), Fail> {
+    let alloc = rt.alloc();
+    let full = parse(alloc, FULL_TEXT)?;
+    let missing = missing_document(alloc, URI, &full)?;
+    assert!(rt; is_difference(&missing, Some(FULL_PARTS), None));
+    let empty = parse(alloc, "# c\n")?;
+    let missing = missing_document(alloc, URI, &empty)?;
+    assert!(rt; is_difference(&missing, Some("[]"), None));
+    Ok(())
+}
+
+const DUE_STEP: &str = r#"{"step":{"keyword":"Given ","location":{"line":4},"text":"a"}}"#;
+
+const OTHER_TEXT: &str = "Feature: f\n\n  Scenario: s\n    Given b\n  Scenario: t\n";
+
+const OTHER_STEP: &str = r#"{"step":{"keyword":"Given ","location":{"line":4},"text":"b"}}"#;
+
+const LONGER_TEXT: &str = "Feature: f\n\n  Scenario: s\n    Given a\n  Scenario: t\n";
+
+const MORE_SCENARIO: &str =
+    r#"{"scenario":{"keyword":"Scenario","location":{"line":5},"name":"t","tags":[]}}"#;
+
+const SAME_TEXT: &str = "Feature: f\n\n Scenario: s\n     Given a\n  # c\n";
+
+// Whether a text's document differs from the one that is due in these two texts.
+fn differs_in(
+    alloc: Global,
+    due: &Document,
+    text: &str,
+    expected: Option<&str>,
+    seen: Option<&str>,
+) -> Result<bool, Fail> {
+    let found = parse(alloc, text)?;
+    match tree_difference(alloc, URI, due, &found)? {
+        Some(difference) => Ok(is_difference(&difference, expected, seen)),
+        None => Ok(false),
+    }
+}
+
+#[test]
+fn differences_of_documents(rt: HostRuntime) -> Result<(), Fail> {
+    let alloc = rt.alloc();
+    let due = parse(alloc, PLAIN_TEXT)?;
+    assert!(rt; differs_in(alloc, &due, OTHER_TEXT, Some(DUE_STEP), Some(OTHER_STEP))?);
+    assert!(rt; differs_in(alloc, &due, LONGER_TEXT, None, Some(MORE_SCENARIO))?);
+    let same = parse(alloc, SAME_TEXT)?;
+    let difference = tree_difference(alloc, URI, &due, &same)?;
+    assert!(rt; difference.is_none());
+    Ok(())
+}

@@ -1,0 +1,125 @@
+//! What differs of documents and pickles, in want of memory.
+use crate::meeting::{Came, SMALL, meet, right_if};
+use crate::streams::PLAIN_TEXT;
+use cm_differs::{
+    Difference, missing_document, missing_pickle, pickle_difference, tree_difference,
+};
+use cm_envelope::{Envelope, Pickle, read_envelope};
+use gk_document::{Document, Text};
+use gk_pickle::{Pickle as DuePickle, compile};
+use gk_tree::parse;
+use scarce::Shortage;
+use std::alloc::{AllocError, Global};
+use std::test::Fail;
+
+const OTHER_TEXT: &str = "Feature: f\n\n  Scenario: s\n    Given b\n";
+
+const DUE_STEP: &str = r#"{"step":{"keyword":"Given ","location":{"line":4},"text":"a"}}"#;
+
+const OTHER_STEP: &str = r#"{"step":{"keyword":"Given ","location":{"line":4},"text":"b"}}"#;
+
+const FOUND_LINE: &str =
+    r#"{"pickle":{"uri":"u","id":"3","astNodeIds":["0"],"language":"en","name":"s","steps":[{"id":"2","astNodeIds":["1"],"text":"b"}],"tags":[]}}"#;
+
+const DUE_PICKLE: &str =
+    r#"{"pickle":{"astNodeIds":[""],"language":"en","name":"s","steps":[{"astNodeIds":[""],"text":"a"}],"tags":[],"uri":"u"}}"#;
+
+const FOUND_PICKLE: &str =
+    r#"{"pickle":{"astNodeIds":["0"],"language":"en","name":"s","steps":[{"astNodeIds":["1"],"text":"b"}],"tags":[],"uri":"u"}}"#;
+
+const MISSING_PICKLE: &str =
+    r#"{"pickle":{"astNodeIds":[""],"language":"en","name":"s","steps":[{"astNodeIds":[""],"text":"a","type":"Context"}],"tags":[],"uri":"u"}}"#;
+
+const PARTS: &str =
+    r#"[{"feature":{"keyword":"Feature","language":"en","location":{"line":1},"name":"f","tags":[]}},{"scenario":{"keyword":"Scenario","location":{"line":3},"name":"s","tags":[]}},{"step":{"keyword":"Given ","location":{"line":4},"text":"a"}}]"#;
+
+fn is_text(text: &Option<Text>, json: Option<&str>) -> bool {
+    match (text, json) {
+        (Some(text), Some(json)) => text.as_str() == json,
+        (None, None) => true,
+        _ => false,
+    }
+}
+
+fn came_of(
+    made: &Result<Difference, AllocError>,
+    expected: Option<&str>,
+    found: Option<&str>,
+) -> Came {
+    match made {
+        Ok(difference) => right_if(
+            difference.uri.as_str() == "u"
+                && is_text(&difference.expected, expected)
+                && is_text(&difference.found, found),
+        ),
+        Err(AllocError) => Came::Refused,
+    }
+}
+
+fn compare_trees(alloc: Global, due: &Document, found: &Document) -> Came {
+    match tree_difference(alloc, "u", due, found) {
+        Ok(Some(difference)) => came_of(&Ok(difference), Some(DUE_STEP), Some(OTHER_STEP)),
+        Ok(None) => Came::Wrong,
+        Err(AllocError) => Came::Refused,
+    }
+}
+
+fn list_missing(alloc: Global, due: &Document) -> Came {
+    let made = missing_document(alloc, "u", due);
+    came_of(&made, Some(PARTS), None)
+}
+
+fn compare_pickles(alloc: Global, due: &DuePickle, found: &Pickle) -> Came {
+    let made = pickle_difference(alloc, &[], Some(due), found);
+    came_of(&made, Some(DUE_PICKLE), Some(FOUND_PICKLE))
+}
+
+fn write_missing(alloc: Global, due: &DuePickle) -> Came {
+    let made = missing_pickle(alloc, "u", &[], due);
+    came_of(&made, Some(MISSING_PICKLE), None)
+}
+
+#[test]
+fn documents_that_differ(rt: HostRuntime) -> Result<(), Fail> {
+    let alloc = rt.alloc();
+    let due = parse(alloc, PLAIN_TEXT)?;
+    let found = parse(alloc, OTHER_TEXT)?;
+    let mut shortage = Shortage::new(alloc)?;
+    meet(alloc, &mut shortage, SMALL, |alloc| {
+        compare_trees(alloc, &due, &found)
+    })?;
+    meet(
+        alloc,
+        &mut shortage,
+        SMALL,
+        |alloc| list_missing(alloc, &due),
+    )?;
+    drop(shortage);
+    drop(found);
+    drop(due);
+    Ok(())
+}
+
+#[test]
+fn pickles_that_differ(rt: HostRuntime) -> Result<(), Fail> {
+    let alloc = rt.alloc();
+    let document = parse(alloc, PLAIN_TEXT)?;
+    let pickles = compile(alloc, &document)?;
+    let due = pickles.first().ok_or("no pickle")?;
+    let read = read_envelope(alloc, FOUND_LINE.as_bytes());
+    let Ok(Envelope::Pickle(found)) = &read else {
+        return Err(Fail::from("no pickle"));
+    };
+    let mut shortage = Shortage::new(alloc)?;
+    meet(alloc, &mut shortage, SMALL, |alloc| {
+        compare_pickles(alloc, due, found)
+    })?;
+    meet(
+        alloc,
+        &mut shortage,
+        SMALL,
+        |alloc| write_missing(alloc, due),
+    )?;
+    drop(shortage);
+    Ok(())
+}
