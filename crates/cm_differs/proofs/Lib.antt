@@ -2,4 +2,3 @@ pub mod DueEqual
 pub mod PartTexts
 pub mod Plain
 pub mod Steps
-pub mod Written

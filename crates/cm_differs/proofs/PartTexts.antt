@@ -5,6 +5,7 @@ use Rattle.serde_json.specs.Data.{Data, Members, array, object, put, string}
 use Rattle.serde_json.specs.View.{items_of}
 use Rattle.serde_json.specs.Written.{compact_text, has_float}
 use Rattle.gk_pickle.specs.Json.{list_data, members_of, object_of}
+use Rattle.gk_pickle.proofs.Floats.{ArePlain, IsPlain, plain_list, plain_map, plain_object, plain_put, plain_put_some}
 use Rattle.gk_document.specs.Skeleton.{bare_argument, bare_cell, bare_row, bare_step, bare_tag}
 use Rattle.gk_document.specs.declared.tree.Argument.{Argument}
 use Rattle.gk_document.specs.declared.tree.Argument.TheVariants.{Table, Text}
@@ -17,7 +18,6 @@ use Rattle.gk_document.specs.declared.tree.Tag.{Tag}
 use Rattle.gk_parts.specs.Parts.{Part, FeaturePart, RulePart, BackgroundPart, ScenarioPart, StepPart, ExamplesPart, HeaderPart, RowPart, alone, seen}
 use Rattle.gk_parts.specs.declared.listing.Part.{Part as DeclaredPart}
 use Rattle.cm_differs.specs.PartData.{cell_data, doc_string_data, feature_data, location_data, part_data, part_text, row_data, step_data, table_data, tag_data, tagged_data, with_argument}
-use Rattle.cm_differs.proofs.Plain.{ArePlain, IsPlain, plain_object, plain_list, plain_map, plain_put, plain_put_some}
 
 -- ---- parts alone
 

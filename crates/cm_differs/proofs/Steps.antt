@@ -1,10 +1,11 @@
--- One more step that is due, and the steps once none is left.
-use Rattle.std.proofs.Common.{◌≡◌, ℕ, zero, suc, ◌+◌, ◌<◌, ◌≤◌, List, [], ◌∷◌, ◌++◌, Option, Some, None, IfSome, length, drop, get_or, refl, sym, ap, ◌∙◌, append_assoc, append-nil, arith}
+-- One more step that is due.
+use Rattle.std.proofs.Common.{◌≡◌, ℕ, zero, suc, ◌+◌, ◌<◌, List, [], ◌∷◌, ◌++◌, Option, Some, None, IfSome, length, drop, get_or, refl, sym, ap, ◌∙◌, arith}
 use Rattle.std.specs.Borrow.{Bor}
 use Rattle.std.specs.Prelude.{is_some, ltb, option_map, slice_get}
 use Rattle.std.proofs.lemmas.Bool.{ltb-true, ltb-false}
-use Rattle.std.proofs.lemmas.List.{at_drop_all, drop_more}
+use Rattle.std.proofs.lemmas.List.{drop_more}
 use Rattle.std.proofs.lemmas.Option.{slice_get-get_or, slice_get_past}
+use Rattle.gk_pickle.proofs.Made.{next_made}
 use Rattle.cm_envelope.specs.declared.pickle.PickleStep.{PickleStep}
 use Rattle.cm_stream.specs.Sources.{DueStep}
 use Rattle.cm_stream.specs.Texts.{Utf8}
@@ -37,17 +38,7 @@ pub one_step : (ids : List Utf8) (beside : List PickleStep) (due : List DueStep)
     → steps ++ due_steps ids (drop i beside) (drop i due) ≡ all → new ++ due_steps ids (drop (i + 1) beside) (drop (i + 1) due) ≡ all
 one_step ids beside due i d steps new s all n is l e h =
     let rest : List PickleStep = due_steps ids (drop (i + 1) beside) (drop (i + 1) due) in
-    let cut : drop i due ≡ d ∷ drop (i + 1) due = drop_more due i d l ∙ ap (λ y. y ∷ drop (i + 1) due) (sym e) in
-    let here : due_steps ids (drop i beside) (drop i due) ≡ due_step ids (slice_get beside i) d ∷ rest =
-    ap (due_steps ids (drop i beside)) cut ∙ one_due ids (drop i beside) d (drop (i + 1) due)
+    next_made steps new (due_steps ids (drop i beside) (drop i due)) rest all s n
+    (ap (due_steps ids (drop i beside)) (drop_more due i d l ∙ ap (λ y. y ∷ drop (i + 1) due) (sym e)) ∙ one_due ids (drop i beside) d (drop (i + 1) due)
     ∙ ap (λ o. due_step ids o d ∷ due_steps ids (drop 1 (drop i beside)) (drop (i + 1) due)) (get_dropped beside i)
-    ∙ ap (λ b. due_step ids (slice_get beside i) d ∷ due_steps ids b (drop (i + 1) due)) (drop_next beside i) in
-    ap (λ ns. ns ++ rest) (n ∙ ap (λ x. steps ++ x ∷ []) is) ∙ append_assoc steps (due_step ids (slice_get beside i) d ∷ []) rest
-    ∙ ap (λ ys. steps ++ ys) (sym here) ∙ h
-
-none_due : (ids : List Utf8) (beside : List PickleStep) → due_steps ids beside [] ≡ []
-none_due ids beside = refl
-
-pub all_steps : (ids : List Utf8) (beside : List PickleStep) (due : List DueStep) (i : ℕ) (steps all : List PickleStep)
-    → length due ≤ i → steps ++ due_steps ids (drop i beside) (drop i due) ≡ all → steps ≡ all
-all_steps ids beside due i steps all l h = sym (ap (λ ys. steps ++ ys) (at_drop_all (due_steps ids (drop i beside)) due i l) ∙ append-nil steps) ∙ h
+    ∙ ap (λ b. due_step ids (slice_get beside i) d ∷ due_steps ids b (drop (i + 1) due)) (drop_next beside i) ∙ ap (λ x. x ∷ rest) (sym is)) h

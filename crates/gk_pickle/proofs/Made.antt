@@ -1,15 +1,17 @@
--- What one item more brings after what the items before it brought, and all once no item is left.
-use Rattle.std.proofs.Common.{◌≡◌, ◌∙◌, ℕ, ◌+◌, ◌<◌, ◌≤◌, List, ◌∷◌, ◌++◌, ap, append-nil, append_assoc, drop, get_or, length, sym}
-use Rattle.std.specs.List.{flat_map}
+-- One value more of a list, and all of them once no value is left.
+use Rattle.std.proofs.Common.{◌≡◌, ◌∙◌, ℕ, ◌+◌, ◌<◌, ◌≤◌, List, [], ◌∷◌, ◌++◌, ap, append-nil, append_assoc, drop, get_or, length, map, sym}
 use Rattle.std.proofs.lemmas.List.{at_drop_all, drop_more}
 
-module _ {X Y : Type 0} (f : X → List Y) where
-  pub one_made : (made new : List Y) (xs : List X) (i : ℕ) (x : X) (all : List Y)
-      → new ≡ made ++ f x → i < length xs → x ≡ get_or xs i x → made ++ flat_map f (drop i xs) ≡ all → new ++ flat_map f (drop (i + 1) xs) ≡ all
-  one_made made new xs i x all n l e h =
-      ap (λ ys. ys ++ flat_map f (drop (i + 1) xs)) n
-      ∙ append_assoc made (f x) (flat_map f (drop (i + 1) xs))
-      ∙ ap (λ ys. made ++ flat_map f ys) (sym (drop_more xs i x l ∙ ap (λ y. y ∷ drop (i + 1) xs) (sym e))) ∙ h
+-- the next value, made of what comes first in what is left
+pub next_made : {Y : Type 0} (values new left rest all : List Y) (v : Y) → new ≡ values ++ v ∷ [] → left ≡ v ∷ rest → values ++ left ≡ all → new ++ rest ≡ all
+next_made values new left rest all v n e h = ap (λ ys. ys ++ rest) n ∙ append_assoc values (v ∷ []) rest ∙ ap (λ ys. values ++ ys) (sym e) ∙ h
 
-  pub all_made : (made : List Y) (xs : List X) (i : ℕ) (all : List Y) → length xs ≤ i → made ++ flat_map f (drop i xs) ≡ all → made ≡ all
-  all_made made xs i all l h = sym (ap (λ ys. made ++ ys) (at_drop_all (flat_map f) xs i l) ∙ append-nil made) ∙ h
+pub one_made : {X Y : Type 0} (f : X → Y) (values new : List Y) (v : Y) (xs : List X) (i : ℕ) (x : X) (all : List Y)
+    → new ≡ values ++ v ∷ [] → v ≡ f x → i < length xs → x ≡ get_or xs i x → values ++ map f (drop i xs) ≡ all → new ++ map f (drop (i + 1) xs) ≡ all
+one_made f values new v xs i x all n is l e h =
+    next_made values new (map f (drop i xs)) (map f (drop (i + 1) xs)) all v n
+    (ap (map f) (drop_more xs i x l) ∙ ap (λ y. y ∷ map f (drop (i + 1) xs)) (ap f (sym e) ∙ sym is)) h
+
+pub all_made : {X Y : Type 0} (f : List X → List Y) (values : List Y) (xs : List X) (i : ℕ) (all : List Y)
+    → f [] ≡ [] → length xs ≤ i → values ++ f (drop i xs) ≡ all → values ≡ all
+all_made f values xs i all none l h = sym (ap (λ ys. values ++ ys) (at_drop_all f xs i l ∙ none) ∙ append-nil values) ∙ h

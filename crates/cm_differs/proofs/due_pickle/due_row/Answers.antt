@@ -1,6 +1,6 @@
-use Rattle.std.proofs.Common.{ap, ◌∙◌}
+use Rattle.std.proofs.Common.{ap, map, refl, ◌∙◌}
 use Rattle.cm_differs.specs.DuePickles.{due_cell}
-use Rattle.cm_differs.proofs.Written.{all_made, one_made}
+use Rattle.gk_pickle.proofs.Made.{all_made, one_made}
 use Rattle.cm_differs.proofs.due_pickle.due_row.Goals as goal
 
 pub loop-cell-preserved : goal.loop-cell-preserved
@@ -9,5 +9,5 @@ loop-cell-preserved c =
 
 pub returns : goal.returns
 returns c =
-    let made = all_made due_cell c.loop-cell.row c.args.cells.now c.loop-cell.cell-index _ c.loop-cell-test.false c.loop-cell.invariant in
+    let made = all_made (map due_cell) c.loop-cell.row c.args.cells.now c.loop-cell.cell-index _ refl c.loop-cell-test.false c.loop-cell.invariant in
     λ i. record { cells = made i }

@@ -1,6 +1,6 @@
-use Rattle.std.proofs.Common.{ap, ◌∙◌}
+use Rattle.std.proofs.Common.{ap, map, refl, ◌∙◌}
 use Rattle.cm_differs.specs.DuePickles.{due_row}
-use Rattle.cm_differs.proofs.Written.{all_made, one_made}
+use Rattle.gk_pickle.proofs.Made.{all_made, one_made}
 use Rattle.cm_differs.proofs.due_pickle.due_rows.Goals as goal
 
 pub loop-cells-preserved : goal.loop-cells-preserved
@@ -8,4 +8,4 @@ loop-cells-preserved c =
     one_made due_row _ _ _ _ _ _ _ c.in_ok-push.ensures.ok (c.in_ok-row.ensures ∙ ap due_row c.as_slice.ensures) c.loop-cells-test.true c.cells-item.is c.loop-cells.invariant
 
 pub returns : goal.returns
-returns c = all_made due_row _ _ _ _ c.loop-cells-test.false c.loop-cells.invariant
+returns c = all_made (map due_row) _ _ _ _ refl c.loop-cells-test.false c.loop-cells.invariant

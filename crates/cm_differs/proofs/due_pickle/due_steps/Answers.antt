@@ -1,6 +1,7 @@
-use Rattle.std.proofs.Common.{ap, ◌∙◌}
-use Rattle.cm_differs.specs.DuePickles.{due_step}
-use Rattle.cm_differs.proofs.Steps.{all_steps, one_step, step_at}
+use Rattle.std.proofs.Common.{ap, drop, refl, ◌∙◌}
+use Rattle.gk_pickle.proofs.Made.{all_made}
+use Rattle.cm_differs.specs.DuePickles.{due_step, due_steps}
+use Rattle.cm_differs.proofs.Steps.{one_step, step_at}
 use Rattle.cm_differs.proofs.due_pickle.due_steps.Goals as goal
 
 pub loop-i-preserved : goal.loop-i-preserved
@@ -9,4 +10,4 @@ loop-i-preserved c =
     c.loop-i-test.true c.index-due-i.is c.loop-i.invariant
 
 pub returns : goal.returns
-returns c = all_steps c.args.ids.now c.args.beside.now _ _ _ _ c.loop-i-test.false c.loop-i.invariant
+returns c = all_made (due_steps c.args.ids.now (drop c.loop-i.i c.args.beside.now)) _ _ _ _ refl c.loop-i-test.false c.loop-i.invariant

@@ -1,8 +1,9 @@
-use Rattle.std.proofs.Common.{◌∙◌, ap}
+use Rattle.std.proofs.Common.{◌∙◌, ap, map, refl}
 use Rattle.serde_json.specs.Data.{array}
 use Rattle.serde_json.specs.View.{items_of}
 use Rattle.serde_json.proofs.Views.{view-Array}
-use Rattle.cm_differs.proofs.Written.{all_written, one_written}
+use Rattle.gk_pickle.proofs.Made.{all_made}
+use Rattle.gk_pickle.proofs.Written.{one_written}
 use Rattle.cm_differs.proofs.writing.list_value.Goals as goal
 
 pub loop-item-preserved : goal.loop-item-preserved
@@ -11,4 +12,4 @@ loop-item-preserved g c = one_written g.T.WriteJson.json _ _ _ _ _ _ _ c.in_ok-p
 pub returns : goal.returns
 returns g c =
     view-Array c.loop-item.values
-    ∙ ap (λ ds. array (items_of ds)) (all_written g.T.WriteJson.json c.loop-item.values.items c.args.items.now c.loop-item.item-index _ c.loop-item-test.false c.loop-item.invariant)
+    ∙ ap (λ ds. array (items_of ds)) (all_made (map g.T.WriteJson.json) _ c.args.items.now c.loop-item.item-index _ refl c.loop-item-test.false c.loop-item.invariant)

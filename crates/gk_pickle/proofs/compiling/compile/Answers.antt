@@ -1,4 +1,4 @@
-use Rattle.std.proofs.Common.{◌∙◌, ap, sym}
+use Rattle.std.proofs.Common.{◌∙◌, ap, refl, sym}
 use Rattle.std.specs.List.{flat_map}
 use Rattle.gk_pickle.specs.Scenarios.{pickles_of_one}
 use Rattle.gk_pickle.proofs.InTurn.{scenario_by_scenario}
@@ -7,6 +7,6 @@ use Rattle.gk_pickle.proofs.compiling.compile.Goals as goal
 
 pub returns : goal.returns
 returns c =
-    all_made pickles_of_one _ _ _ _ c.loop-scenario-test.false c.loop-scenario.invariant
+    all_made (flat_map pickles_of_one) _ _ _ _ refl c.loop-scenario-test.false c.loop-scenario.invariant
     ∙ ap (flat_map pickles_of_one) (c.as_slice-scenario-items.ensures.value ∙ c.in_ok-scenarios.ensures)
     ∙ sym (scenario_by_scenario c.args.document.now)

@@ -3,7 +3,8 @@ use Rattle.serde_json.specs.Data.{array}
 use Rattle.serde_json.specs.View.{items_of}
 use Rattle.serde_json.proofs.Views.{view-Array}
 use Rattle.gk_pickle.specs.Json.{pickle_steps_data}
-use Rattle.gk_pickle.proofs.Written.{all_written, one_step_written}
+use Rattle.gk_pickle.proofs.Made.{all_made}
+use Rattle.gk_pickle.proofs.Written.{one_step_written}
 use Rattle.gk_pickle.proofs.json.steps_value.Goals as goal
 
 pub loop-step-preserved : goal.loop-step-preserved
@@ -15,4 +16,4 @@ loop-step-preserved c = record {
 pub returns : goal.returns
 returns c =
     view-Array c.loop-step.values
-    ∙ ap (λ ds. array (items_of ds)) (all_written (pickle_steps_data c.loop-step.id) c.loop-step.values.items c.args.steps.now c.loop-step.step-index _ refl c.loop-step-test.false c.loop-step.invariant.made)
+    ∙ ap (λ ds. array (items_of ds)) (all_made (pickle_steps_data c.loop-step.id) _ c.args.steps.now c.loop-step.step-index _ refl c.loop-step-test.false c.loop-step.invariant.made)

@@ -3,7 +3,8 @@ use Rattle.serde_json.specs.Data.{array}
 use Rattle.serde_json.specs.View.{items_of}
 use Rattle.serde_json.proofs.Views.{view-Array}
 use Rattle.gk_pickle.specs.TreeJson.{cell_data}
-use Rattle.gk_pickle.proofs.Written.{all_written, one_written}
+use Rattle.gk_pickle.proofs.Made.{all_made}
+use Rattle.gk_pickle.proofs.Written.{one_written}
 use Rattle.gk_pickle.proofs.tree_json.cells_value.Goals as goal
 
 pub loop-cell-preserved : goal.loop-cell-preserved
@@ -13,4 +14,4 @@ loop-cell-preserved c =
 pub returns : goal.returns
 returns c =
     view-Array c.loop-cell.values
-    ∙ ap (λ ds. array (items_of ds)) (all_written (map (cell_data c.args.line)) c.loop-cell.values.items c.args.cells.now c.loop-cell.cell-index _ refl c.loop-cell-test.false c.loop-cell.invariant)
+    ∙ ap (λ ds. array (items_of ds)) (all_made (map (cell_data c.args.line)) _ c.args.cells.now c.loop-cell.cell-index _ refl c.loop-cell-test.false c.loop-cell.invariant)
