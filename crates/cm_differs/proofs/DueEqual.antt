@@ -1,5 +1,5 @@
 -- A pickle is the one that is due exactly where both are equal without what is free.
-use Rattle.std.proofs.Common.{◌≡◌, refl, sym, ap, ◌∙◌, List, [], ◌∷◌, Option, Some, None, true, Bool, ◌&&◌, map}
+use Rattle.std.proofs.Common.{◌≡◌, refl, ap, ◌∙◌, List, [], ◌∷◌, Option, Some, None, true, Bool, map}
 use Rattle.std.specs.Prelude.{option_map, slice_get, unwrap_or}
 use Rattle.std.specs.Str.{bytes_eq}
 use Rattle.gk_pickle.specs.declared.pickle.PickleArgument.TheVariants as due_argument
@@ -19,76 +19,9 @@ use Rattle.cm_envelope.specs.declared.pickle.StepKind.TheVariants as line
 use Rattle.cm_stream.specs.Sources.{DueArgument, DuePickle, DueStep, english, fits_type, has_cells, ids_at, is_argument, is_due, is_due_step, is_due_tag, is_type}
 use Rattle.cm_stream.specs.Texts.{Utf8, same_list, same_option, same_texts}
 use Rattle.cm_stream.proofs.Lists.{and_true}
-use Rattle.cm_stream.proofs.Found.{bytes_are, bytes_same}
+use Rattle.cm_stream.proofs.Found.{bytes_are}
+use Rattle.cm_stream.proofs.Tells.{Tells, five, four, maybe_texts, text_lists, texts, whole_lists, whole_options}
 use Rattle.cm_differs.specs.DuePickles.{DueIsEqual, argument_of, due_cell, due_pickle, due_row, due_step, due_steps, due_tag, kind_of, without_id, without_ids}
-
--- the test passes exactly where what is left of the first is what is made of the second
-record Tells {A B C : Type 0} (same : A → B → Bool) (left : A → C) (made : B → C) : Type 0 where
-  is : (a : A) (b : B) → same a b ≡ true → left a ≡ made b
-  by : (a : A) (b : B) → left a ≡ made b → same a b ≡ true
-
-lists : {A B C : Type 0} (same : A → B → Bool) (left : A → C) (made : B → C) → Tells same left made → Tells (same_list same) (map left) (map made)
-lists {A} {B} same left made t = record { is = are; by = back }
-  where
-    are : (xs : List A) (ys : List B) → same_list same xs ys ≡ true → map left xs ≡ map made ys
-    are [] [] h = refl
-    are [] (y ∷ ys) h = cc
-    are (x ∷ xs) [] h = cc
-    are (x ∷ xs) (y ∷ ys) h =
-        let k = and_true (same x y) (same_list same xs ys) h in
-        let first = t.is x y k.0 in
-        let rest = are xs ys k.1 in
-        λ i. first i ∷ rest i
-
-    back : (xs : List A) (ys : List B) → map left xs ≡ map made ys → same_list same xs ys ≡ true
-    back [] [] e = refl
-    back [] (y ∷ ys) e = cc
-    back (x ∷ xs) [] e = cc
-    back (x ∷ xs) (y ∷ ys) e =
-        let first : left x ≡ made y = cc in
-        let rest : map left xs ≡ map made ys = cc in
-        rw (t.by x y first, back xs ys rest) refl
-
-options : {A B C : Type 0} (same : A → B → Bool) (left : A → C) (made : B → C) → Tells same left made → Tells (same_option same) (option_map left) (option_map made)
-options {A} {B} same left made t = record { is = are; by = back }
-  where
-    are : (xs : Option A) (ys : Option B) → same_option same xs ys ≡ true → option_map left xs ≡ option_map made ys
-    are None None h = refl
-    are None (Some y) h = cc
-    are (Some x) None h = cc
-    are (Some x) (Some y) h = ap Some (t.is x y h)
-
-    back : (xs : Option A) (ys : Option B) → option_map left xs ≡ option_map made ys → same_option same xs ys ≡ true
-    back None None e = refl
-    back None (Some y) e = cc
-    back (Some x) None e = cc
-    back (Some x) (Some y) e = let first : left x ≡ made y = cc in t.by x y first
-
-map_same : {A : Type 0} (xs : List A) → map (λ x. x) xs ≡ xs
-map_same [] = refl
-map_same (x ∷ xs) = ap (λ ys. x ∷ ys) (map_same xs)
-
-some_same : {A : Type 0} (o : Option A) → option_map (λ x. x) o ≡ o
-some_same None = refl
-some_same (Some x) = refl
-
-texts : Tells bytes_eq (λ t. t) (λ t. t)
-texts = record { is = bytes_are; by = λ a b e. ap (bytes_eq a) (sym e) ∙ bytes_same a }
-
-texts_are : (xs ys : List Utf8) → same_texts xs ys ≡ true → xs ≡ ys
-texts_are xs ys h = sym (map_same xs) ∙ (lists bytes_eq (λ t. t) (λ t. t) texts).is xs ys h ∙ map_same ys
-
-texts_same : (xs ys : List Utf8) → xs ≡ ys → same_texts xs ys ≡ true
-texts_same xs ys e = (lists bytes_eq (λ t. t) (λ t. t) texts).by xs ys (map_same xs ∙ e ∙ sym (map_same ys))
-
-maybe_are : (xs ys : Option Utf8) → same_option bytes_eq xs ys ≡ true → xs ≡ ys
-maybe_are xs ys h = sym (some_same xs) ∙ (options bytes_eq (λ t. t) (λ t. t) texts).is xs ys h ∙ some_same ys
-
-maybe_same : (xs ys : Option Utf8) → xs ≡ ys → same_option bytes_eq xs ys ≡ true
-maybe_same xs ys e = (options bytes_eq (λ t. t) (λ t. t) texts).by xs ys (some_same xs ∙ e ∙ sym (some_same ys))
-
-both : (a b : Bool) → a ≡ true → b ≡ true → (a && b) ≡ true
-both a b p q = rw (p, q) refl
 
 -- ---- tables and doc strings
 
@@ -103,8 +36,8 @@ cells = record {
 
 rows : Tells has_cells (λ r. r) due_row
 rows = record {
-  is = λ r ts h. let k = sym (map_same r.cells) ∙ (lists same_cell (λ c. c) due_cell cells).is r.cells ts h in λ i. record { cells = k i };
-  by = λ r ts e. (lists same_cell (λ c. c) due_cell cells).by r.cells ts (map_same r.cells ∙ ap (λ (x : PickleRow). x.cells) e);
+  is = λ r ts h. let k = (whole_lists cells).is r.cells ts h in λ i. record { cells = k i };
+  by = λ r ts e. (whole_lists cells).by r.cells ts (ap (λ (x : PickleRow). x.cells) e);
 }
 
 arguments : Tells is_argument (λ a. a) argument_of
@@ -112,11 +45,11 @@ arguments = record { is = are; by = back }
   where
     are : (a : PickleArgument) (due : DueArgument) → is_argument a due ≡ true → a ≡ argument_of due
     are (argument.Table t) (due_argument.Table due) h =
-        let k = sym (map_same t.rows) ∙ (lists has_cells (λ r. r) due_row rows).is t.rows due h in
+        let k = (whole_lists rows).is t.rows due h in
         λ i. argument.Table (record { rows = k i })
     are (argument.Text d) (due_argument.Text due) h =
         let k = and_true (same_option bytes_eq d.media_type due.media) (bytes_eq d.content due.content) h in
-        let m = maybe_are d.media_type due.media k.0 in
+        let m = maybe_texts.is d.media_type due.media k.0 in
         let t = bytes_are d.content due.content k.1 in
         λ i. argument.Text (record { content = t i; media_type = m i })
     are (argument.Table t) (due_argument.Text due) h = cc
@@ -125,11 +58,10 @@ arguments = record { is = are; by = back }
     back : (a : PickleArgument) (due : DueArgument) → a ≡ argument_of due → is_argument a due ≡ true
     back (argument.Table t) (due_argument.Table due) e =
         let same : t ≡ (record { rows = map due_row due }) = cc in
-        (lists has_cells (λ r. r) due_row rows).by t.rows due (map_same t.rows ∙ ap (λ (x : PickleTable). x.rows) same)
+        (whole_lists rows).by t.rows due (ap (λ (x : PickleTable). x.rows) same)
     back (argument.Text d) (due_argument.Text due) e =
         let same : d ≡ (record { content = due.content; media_type = due.media }) = cc in
-        both (same_option bytes_eq d.media_type due.media) (bytes_eq d.content due.content)
-        (maybe_same d.media_type due.media (ap (λ (x : PickleDocString). x.media_type) same)) (texts.by d.content due.content (ap (λ (x : PickleDocString). x.content) same))
+        rw (maybe_texts.by d.media_type due.media (ap (λ (x : PickleDocString). x.media_type) same), texts.by d.content due.content (ap (λ (x : PickleDocString). x.content) same)) refl
     back (argument.Table t) (due_argument.Text due) e = cc
     back (argument.Text d) (due_argument.Table due) e = cc
 
@@ -169,22 +101,21 @@ is_fit (Some k) due e = let same : k ≡ kind_of due = cc in ap (λ x. is_type x
 
 step_is : (ids : List Utf8) (s : PickleStep) (due : DueStep) → is_due_step ids s due ≡ true → without_id s ≡ due_step ids (Some s) due
 step_is ids s due h =
-    let p = and_true (bytes_eq s.text due.text && fits_type s.kind due.kind && same_texts s.ast_node_ids (ids_at ids due.nodes)) (same_option is_argument s.argument due.argument) h in
-    let q = and_true (bytes_eq s.text due.text && fits_type s.kind due.kind) (same_texts s.ast_node_ids (ids_at ids due.nodes)) p.0 in
-    let r = and_true (bytes_eq s.text due.text) (fits_type s.kind due.kind) q.0 in
-    let t = bytes_are s.text due.text r.0 in
-    let k = fits_is s.kind due.kind r.1 in
-    let n = texts_are s.ast_node_ids (ids_at ids due.nodes) q.1 in
-    let a = sym (some_same s.argument) ∙ (options is_argument (λ x. x) argument_of arguments).is s.argument due.argument p.1 in
-    λ i. record { id = []; text = t i; kind = k i; ast_node_ids = n i; argument = a i }
+    let k = four (bytes_eq s.text due.text) (fits_type s.kind due.kind) (same_texts s.ast_node_ids (ids_at ids due.nodes)) (same_option is_argument s.argument due.argument) h in
+    let t = bytes_are s.text due.text k.0 in
+    let f = fits_is s.kind due.kind k.1 in
+    let n = text_lists.is s.ast_node_ids (ids_at ids due.nodes) k.2 in
+    let a = (whole_options arguments).is s.argument due.argument k.3 in
+    λ i. record { id = []; text = t i; kind = f i; ast_node_ids = n i; argument = a i }
 
 step_by : (ids : List Utf8) (s : PickleStep) (due : DueStep) → without_id s ≡ due_step ids (Some s) due → is_due_step ids s due ≡ true
 step_by ids s due e =
-    both (bytes_eq s.text due.text && fits_type s.kind due.kind && same_texts s.ast_node_ids (ids_at ids due.nodes)) (same_option is_argument s.argument due.argument)
-    (both (bytes_eq s.text due.text && fits_type s.kind due.kind) (same_texts s.ast_node_ids (ids_at ids due.nodes))
-    (both (bytes_eq s.text due.text) (fits_type s.kind due.kind) (texts.by s.text due.text (ap (λ (x : PickleStep). x.text) e)) (is_fit s.kind due.kind (ap (λ (x : PickleStep). x.kind) e)))
-    (texts_same s.ast_node_ids (ids_at ids due.nodes) (ap (λ (x : PickleStep). x.ast_node_ids) e)))
-    ((options is_argument (λ x. x) argument_of arguments).by s.argument due.argument (some_same s.argument ∙ ap (λ (x : PickleStep). x.argument) e))
+    rw (
+      texts.by s.text due.text (ap (λ (x : PickleStep). x.text) e),
+      is_fit s.kind due.kind (ap (λ (x : PickleStep). x.kind) e),
+      text_lists.by s.ast_node_ids (ids_at ids due.nodes) (ap (λ (x : PickleStep). x.ast_node_ids) e),
+      (whole_options arguments).by s.argument due.argument (ap (λ (x : PickleStep). x.argument) e),
+    ) refl
 
 steps_are : (ids : List Utf8) (ss : List PickleStep) (due : List DueStep) → same_list (is_due_step ids) ss due ≡ true → map without_id ss ≡ due_steps ids ss due
 steps_are ids [] [] h = refl
@@ -203,7 +134,7 @@ steps_by ids (s ∷ ss) [] e = cc
 steps_by ids (s ∷ ss) (d ∷ ds) e =
     let first : without_id s ≡ due_step ids (Some s) d = cc in
     let rest : map without_id ss ≡ due_steps ids ss ds = cc in
-    both (is_due_step ids s d) (same_list (is_due_step ids) ss ds) (step_by ids s d first) (steps_by ids ss ds rest)
+    rw (step_by ids s d first, steps_by ids ss ds rest) refl
 
 -- ---- tags and pickles
 
@@ -212,36 +143,36 @@ tags ids = record {
   is = λ t due h.
       let k = and_true (bytes_eq t.name due.name) (same_texts (t.ast_node_id ∷ []) (ids_at ids (due.node ∷ []))) h in
       let n = bytes_are t.name due.name k.0 in
-      let here : (t.ast_node_id ∷ []) ≡ ids_at ids (due.node ∷ []) = texts_are (t.ast_node_id ∷ []) (ids_at ids (due.node ∷ [])) k.1 in
+      let here : (t.ast_node_id ∷ []) ≡ ids_at ids (due.node ∷ []) = text_lists.is (t.ast_node_id ∷ []) (ids_at ids (due.node ∷ [])) k.1 in
       let node : t.ast_node_id ≡ unwrap_or (slice_get ids due.node) [] = cc in
       λ i. record { name = n i; ast_node_id = node i };
   by = λ t due e.
-      both (bytes_eq t.name due.name) (same_texts (t.ast_node_id ∷ []) (ids_at ids (due.node ∷ []))) (texts.by t.name due.name (ap (λ (x : PickleTag). x.name) e))
-      (texts_same (t.ast_node_id ∷ []) (ids_at ids (due.node ∷ [])) (ap (λ (x : PickleTag). x.ast_node_id ∷ []) e));
+      rw (
+        texts.by t.name due.name (ap (λ (x : PickleTag). x.name) e),
+        text_lists.by (t.ast_node_id ∷ []) (ids_at ids (due.node ∷ [])) (ap (λ (x : PickleTag). x.ast_node_id ∷ []) e),
+      ) refl;
 }
 
 pickle_is : (ids : List Utf8) (p : Pickle) (due : DuePickle) → is_due ids p due ≡ true → without_ids p ≡ due_pickle p.uri ids p.steps due
 pickle_is ids p due h =
-    let a = and_true (bytes_eq p.language english && bytes_eq p.name due.name && same_texts p.ast_node_ids (ids_at ids due.nodes) && same_list (is_due_tag ids) p.tags due.tags) (same_list (is_due_step ids) p.steps due.steps) h in
-    let b = and_true (bytes_eq p.language english && bytes_eq p.name due.name && same_texts p.ast_node_ids (ids_at ids due.nodes)) (same_list (is_due_tag ids) p.tags due.tags) a.0 in
-    let c = and_true (bytes_eq p.language english && bytes_eq p.name due.name) (same_texts p.ast_node_ids (ids_at ids due.nodes)) b.0 in
-    let d = and_true (bytes_eq p.language english) (bytes_eq p.name due.name) c.0 in
-    let l = bytes_are p.language english d.0 in
-    let n = bytes_are p.name due.name d.1 in
-    let m = texts_are p.ast_node_ids (ids_at ids due.nodes) c.1 in
-    let t = sym (map_same p.tags) ∙ (lists (is_due_tag ids) (λ x. x) (due_tag ids) (tags ids)).is p.tags due.tags b.1 in
-    let s = steps_are ids p.steps due.steps a.1 in
+    let k = five (bytes_eq p.language english) (bytes_eq p.name due.name) (same_texts p.ast_node_ids (ids_at ids due.nodes))
+    (same_list (is_due_tag ids) p.tags due.tags) (same_list (is_due_step ids) p.steps due.steps) h in
+    let l = bytes_are p.language english k.0 in
+    let n = bytes_are p.name due.name k.1 in
+    let m = text_lists.is p.ast_node_ids (ids_at ids due.nodes) k.2 in
+    let t = (whole_lists (tags ids)).is p.tags due.tags k.3 in
+    let s = steps_are ids p.steps due.steps k.4 in
     λ i. record { id = []; uri = p.uri; name = n i; language = l i; ast_node_ids = m i; tags = t i; steps = s i }
 
 pickle_by : (ids : List Utf8) (p : Pickle) (due : DuePickle) → without_ids p ≡ due_pickle p.uri ids p.steps due → is_due ids p due ≡ true
 pickle_by ids p due e =
-    both (bytes_eq p.language english && bytes_eq p.name due.name && same_texts p.ast_node_ids (ids_at ids due.nodes) && same_list (is_due_tag ids) p.tags due.tags) (same_list (is_due_step ids) p.steps due.steps)
-    (both (bytes_eq p.language english && bytes_eq p.name due.name && same_texts p.ast_node_ids (ids_at ids due.nodes)) (same_list (is_due_tag ids) p.tags due.tags)
-    (both (bytes_eq p.language english && bytes_eq p.name due.name) (same_texts p.ast_node_ids (ids_at ids due.nodes))
-    (both (bytes_eq p.language english) (bytes_eq p.name due.name) (texts.by p.language english (ap (λ (x : Pickle). x.language) e)) (texts.by p.name due.name (ap (λ (x : Pickle). x.name) e)))
-    (texts_same p.ast_node_ids (ids_at ids due.nodes) (ap (λ (x : Pickle). x.ast_node_ids) e)))
-    ((lists (is_due_tag ids) (λ x. x) (due_tag ids) (tags ids)).by p.tags due.tags (map_same p.tags ∙ ap (λ (x : Pickle). x.tags) e)))
-    (steps_by ids p.steps due.steps (ap (λ (x : Pickle). x.steps) e))
+    rw (
+      texts.by p.language english (ap (λ (x : Pickle). x.language) e),
+      texts.by p.name due.name (ap (λ (x : Pickle). x.name) e),
+      text_lists.by p.ast_node_ids (ids_at ids due.nodes) (ap (λ (x : Pickle). x.ast_node_ids) e),
+      (whole_lists (tags ids)).by p.tags due.tags (ap (λ (x : Pickle). x.tags) e),
+      steps_by ids p.steps due.steps (ap (λ (x : Pickle). x.steps) e),
+    ) refl
 
 pub due_is_equal : DueIsEqual
 due_is_equal ids p due = (pickle_is ids p due, pickle_by ids p due)

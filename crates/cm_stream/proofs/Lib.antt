@@ -2,6 +2,7 @@ pub mod Lists
 pub mod Found
 pub mod Declared
 pub mod OnePass
+pub mod Tells
 pub mod Skeletons
 pub mod Readings
 pub mod Refuted
