@@ -1,8 +1,8 @@
 -- What stays true of the values of a map with text keys, and tests of its rows.
-use Rattle.std.proofs.Common.{◌≡◌, ap, refl, subst, ℕ, suc, zero, Bool, List, [], ◌∷◌, map, None, Some, All}
-use Rattle.std.specs.Prelude.{find, slice_get, unwrap_or}
+use Rattle.std.proofs.Common.{◌≡◌, ◌∙◌, ap, refl, subst, sym, ℕ, suc, zero, Bool, false, List, [], ◌∷◌, map, Option, None, Some, All}
+use Rattle.std.specs.Prelude.{find, is_some, position, slice_get, unwrap_or}
 use Rattle.std.specs.List.{list_all}
-use Rattle.std.specs.Map.{values_of}
+use Rattle.std.specs.Map.{keys_of, lookup, values_of}
 use Rattle.std.specs.Str.{bytes_eq}
 use Rattle.std.specs.String.{string_bytes}
 use Rattle.std.proofs.lemmas.List.Elements.{All-cons, All-head, All-tail, All-nil}
@@ -11,8 +11,13 @@ use Rattle.std.proofs.lemmas.List.{map-append}
 use Rattle.std.proofs.lemmas.List.Elements.{All-push}
 use Rattle.indexmap.specs.IndexMap.{IndexMap, insert_entry, set_value_at}
 use Rattle.indexmap.proofs.CallerLemmas.{insert_entry-new}
-use Rattle.cm_refs.proofs.EntryLemmas.{Key, absent_get}
-use Rattle.cm_attempt.specs.Table.{Utf8}
+use Rattle.indexmap.proofs.MapLemmas.{some_index}
+use Rattle.cm_refs.proofs.EntryLemmas.{Key, absent_get, is_key, no_entry}
+use Rattle.cm_attempt.specs.Table.{Utf8, change_first}
+
+none_of : {X : Type 0} (o : Option X) → is_some o ≡ false → o ≡ None
+none_of None h = refl
+none_of (Some x) h = cc
 
 module _ {V Y : Type 0} (row : Utf8 → V → Y) where
   abbrev pub rows : List (Key × V) → List Y
@@ -23,6 +28,10 @@ module _ {V Y : Type 0} (row : Utf8 → V → Y) where
         → (P : V → Type 0) → All P (values_of m.entries) → P v → All P (values_of (insert_entry string_eq m.entries k v))
     few_inserted k same m v h P all one =
         rw (insert_entry-new string_eq m k v (absent_get row id p says k same m.entries h), map-append) (All-push P (values_of m.entries) v all one)
+
+    -- nothing changes where no key is the id
+    pub nowhere : (es : List (Key × V)) → position (is_key id) (keys_of es) ≡ None → (g : Y → Y) → change_first p g (rows es) ≡ rows es
+    nowhere es h g = no_entry row id p says es (none_of (lookup (is_key id) es) (sym (some_index (is_key id) es) ∙ ap is_some h)) g
 
   -- a test that the key doesn't change
   pub list_all-rows : (p : Y → Bool) → ((t : Utf8) (v : V) → p (row t v) ≡ p (row [] v)) → (es : List (Key × V))

@@ -1,5 +1,5 @@
 -- What the changes of a table do to the number of open attempts.
-use Rattle.std.proofs.Common.{◌≡◌, ap, refl, ℕ, ◌+◌, Bool, true, false, cond, List, [], ◌∷◌, Option, None, Some, arith, Result, Ok, Err, MatchOption, IsOk, is_ok}
+use Rattle.std.proofs.Common.{◌≡◌, ap, refl, ℕ, ◌+◌, Bool, true, false, cond, List, [], ◌∷◌, Option, None, Some, arith, Result, Err, MatchOption, IsOk, is_ok}
 use Rattle.std.specs.Prelude.{count_by, find, fold, is_some, option_map, unwrap_or}
 use Rattle.cm_attempt.specs.Table.{AttemptRow, Table, change_first, ended, finish_fault_at}
 use Rattle.cm_attempt.specs.declared.rows.Cursor.{Cursor}
@@ -54,8 +54,8 @@ count_ended p a (x ∷ xs) h live = go (p x) refl (λ r. count_ended p a xs r li
         rw (e, count_cons is_open x (change_first p ended xs), count_cons is_open x xs) (omega (arith, one))
 
 -- an attempt that may end is open
-pub open_before_end : (t : Table) (a : AttemptRow) (r : Result (Unit {0}) TrackFault)
-    → MatchOption (finish_fault_at t (Some a)) (r ≡ Ok tt) (λ f. r ≡ Err f) → IsOk r → is_open a ≡ true
+pub open_before_end : {X : Type 0} (t : Table) (a : AttemptRow) (r : Result X TrackFault)
+    → MatchOption (finish_fault_at t (Some a)) (IsOk r) (λ f. r ≡ Err f) → IsOk r → is_open a ≡ true
 open_before_end t a r h ok = go a.cursor refl
   where
     go : (o : Option Cursor) → a.cursor ≡ o → is_some a.cursor ≡ true

@@ -1,5 +1,7 @@
 -- The rows of the table, as the entries of the maps have them.
-use Rattle.std.specs.Prelude.{ℕ, List, String, map}
+use Rattle.std.specs.Prelude.{ℕ, List, Option, String, map, position}
+use Rattle.std.specs.Map.{keys_of}
+use Rattle.std.specs.Str.{bytes_eq}
 use Rattle.std.specs.String.{string_bytes}
 use Rattle.std.specs.declared.alloc.Global.{Global}
 use Rattle.cm_attempt.specs.Table.{CaseRow, AttemptRow, Table, Utf8}
@@ -35,3 +37,7 @@ table_of first cases attempts = record {
   cases = case_rows cases;
   attempts = attempt_rows attempts;
 }
+
+-- where the entry of this id is among the entries
+abbrev pub place_of : {X : Type 0} → Utf8 → List (String Global × X) → Option ℕ
+place_of id entries = position (λ k. bytes_eq id (string_bytes k)) (keys_of entries)

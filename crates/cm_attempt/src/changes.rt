@@ -1,10 +1,10 @@
 //! The changes that a call makes once nothing is refused.
-ghost use Rattle.std.specs.Prelude.{◌≡◌, ◌+◌, ◌<◌, ◌≤◌, ◌++◌, ◌∷◌, [], All, IfSome, None, OnErr, OnOk, Some, find, map, option_map};
+ghost use Rattle.std.specs.Prelude.{◌≡◌, ◌+◌, ◌<◌, ◌≤◌, ◌++◌, ◌∷◌, [], All, IfSome, None, OnErr, OnOk, Option, Some, find, map, option_map, slice_get};
 ghost use Rattle.std.specs.Str.{bytes_eq};
 ghost use Rattle.std.specs.String.{string_bytes};
 ghost use Rattle.indexmap.specs.IndexMap.{index_map_len, values};
-ghost use Rattle.cm_attempt.specs.Rows.{attempt_rows, case_rows};
-ghost use Rattle.cm_attempt.specs.Table.{after_step, change_first, ended, opened, running, running_cursor};
+ghost use Rattle.cm_attempt.specs.Rows.{attempt_rows, case_rows, place_of};
+ghost use Rattle.cm_attempt.specs.Table.{Utf8, after_step, change_first, ended, opened, running, running_cursor};
 ghost use Rattle.cm_attempt.specs.Table.{step_done, with_last};
 ghost use Rattle.cm_attempt.specs.Table.{new_attempt as new_row, new_case};
 
@@ -66,28 +66,30 @@ pub(crate) fn add_attempt(
     Ok(())
 }
 
-/// Opens the last attempt of a case. Each case has fewer attempts than `most`.
-pub(crate) fn open_case(cases: &mut Cases, id: &str, most: u64)
-    requires { All (λ c. c.attempts < most) (values cases.old) }
-    ensures rows { case_rows cases.new.entries
-        ≡ change_first (λ c. bytes_eq id.now c.id) opened (case_rows cases.old.entries) }
+/// Opens the last attempt of the case at a place. Each case has fewer attempts than `most`.
+pub(crate) fn open_case(cases: &mut Cases, place: usize, most: u64)
+    requires few { All (λ c. c.attempts < most) (values cases.old) }
+    requires within { place < index_map_len cases.old }
+    ensures rows { (id : Utf8) → place_of id cases.old.entries ≡ Some place
+        → case_rows cases.new.entries
+        ≡ change_first (λ c. bytes_eq id c.id) opened (case_rows cases.old.entries) }
     ensures few { All (λ c. c.attempts ≤ most) (values cases.new) }
 {
-    if let Some(at) = cases.get_index_of(id) {
-        let case = &mut cases[at];
-        case.attempts += 1;
-        case.last = Last::Open;
-    }
+    let case = &mut cases[place];
+    case.attempts += 1;
+    case.last = Last::Open;
 }
 
-/// Sets the state of a case's last attempt.
-pub(crate) fn close_case(cases: &mut Cases, id: &str, last: Last, most: u64)
-    requires { All (λ c. c.attempts ≤ most) (values cases.old) }
-    ensures rows { case_rows cases.new.entries
-        ≡ change_first (λ c. bytes_eq id.now c.id) (with_last last) (case_rows cases.old.entries) }
+/// Sets the state of the last attempt of the case at a place, where there is one.
+pub(crate) fn close_case(cases: &mut Cases, place: Option<usize>, last: Last, most: u64)
+    requires few { All (λ c. c.attempts ≤ most) (values cases.old) }
+    requires within { IfSome place (λ at. at < index_map_len cases.old) }
+    ensures rows { (id : Utf8) → place_of id cases.old.entries ≡ place
+        → case_rows cases.new.entries
+        ≡ change_first (λ c. bytes_eq id c.id) (with_last last) (case_rows cases.old.entries) }
     ensures few { All (λ c. c.attempts ≤ most) (values cases.new) }
 {
-    if let Some(at) = cases.get_index_of(id) {
+    if let Some(at) = place {
         let case = &mut cases[at];
         case.last = last;
     }
@@ -103,41 +105,42 @@ fn started(cursor: Option<Cursor>) -> Option<Cursor>
     })
 }
 
-/// Sets the next step of an attempt running.
-pub(crate) fn set_running(attempts: &mut Attempts, id: &str)
-    ensures rows { attempt_rows attempts.new.entries
-        ≡ change_first (λ a. bytes_eq id.now a.id) running (attempt_rows attempts.old.entries) }
+/// Sets the next step of the attempt at a place running.
+pub(crate) fn set_running(attempts: &mut Attempts, place: usize)
+    requires { place < index_map_len attempts.old }
+    ensures rows { (id : Utf8) → place_of id attempts.old.entries ≡ Some place
+        → attempt_rows attempts.new.entries
+        ≡ change_first (λ a. bytes_eq id a.id) running (attempt_rows attempts.old.entries) }
     ensures len { index_map_len attempts.new ≡ index_map_len attempts.old }
 {
-    if let Some(at) = attempts.get_index_of(id) {
-        let running = &mut attempts[at];
-        running.cursor = started(running.cursor);
-    }
+    let running = &mut attempts[place];
+    running.cursor = started(running.cursor);
 }
 
-/// Ends an attempt.
-pub(crate) fn set_ended(attempts: &mut Attempts, id: &str)
-    ensures rows { attempt_rows attempts.new.entries
-        ≡ change_first (λ a. bytes_eq id.now a.id) ended (attempt_rows attempts.old.entries) }
+/// Ends the attempt at a place.
+pub(crate) fn set_ended(attempts: &mut Attempts, place: usize)
+    requires { place < index_map_len attempts.old }
+    ensures rows { (id : Utf8) → place_of id attempts.old.entries ≡ Some place
+        → attempt_rows attempts.new.entries
+        ≡ change_first (λ a. bytes_eq id a.id) ended (attempt_rows attempts.old.entries) }
     ensures len { index_map_len attempts.new ≡ index_map_len attempts.old }
 {
-    if let Some(at) = attempts.get_index_of(id) {
-        let ending = &mut attempts[at];
-        ending.cursor = None;
-    }
+    let ending = &mut attempts[place];
+    ending.cursor = None;
 }
 
-/// Counts the running step as finished, with its status. `next` is the cursor after it.
-pub(crate) fn note_status(attempts: &mut Attempts, id: &str, next: Cursor, status: Status)
-    requires { IfSome (find (λ a. bytes_eq id.now a.id) (attempt_rows attempts.old.entries))
+/// Counts the running step of the attempt at a place as finished, with its status. `next` is the
+/// cursor after it.
+pub(crate) fn note_status(attempts: &mut Attempts, place: usize, next: Cursor, status: Status)
+    requires within { place < index_map_len attempts.old }
+    requires next { IfSome (slice_get (values attempts.old) place)
         (λ a. option_map after_step a.cursor ≡ Some next) }
-    ensures rows { attempt_rows attempts.new.entries ≡ change_first
-        (λ a. bytes_eq id.now a.id) (step_done status) (attempt_rows attempts.old.entries) }
+    ensures rows { (id : Utf8) → place_of id attempts.old.entries ≡ Some place
+        → attempt_rows attempts.new.entries
+        ≡ change_first (λ a. bytes_eq id a.id) (step_done status) (attempt_rows attempts.old.entries) }
     ensures len { index_map_len attempts.new ≡ index_map_len attempts.old }
 {
-    if let Some(at) = attempts.get_index_of(id) {
-        let attempt = &mut attempts[at];
-        attempt.cursor = Some(next);
-        attempt.worst = Some(worst_with(attempt.worst, status));
-    }
+    let attempt = &mut attempts[place];
+    attempt.cursor = Some(next);
+    attempt.worst = Some(worst_with(attempt.worst, status));
 }

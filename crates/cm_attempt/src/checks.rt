@@ -1,15 +1,15 @@
 //! What a call has to find before it changes anything.
 ghost use Rattle.std.specs.Prelude.{◌≡◌, ◌<◌, if◌then◌else◌, [], false, IfOk, IfSome, IsOk, MatchOption, None, Ok, Some, length, map, option_map};
 ghost use Rattle.std.specs.String.{string_bytes};
-ghost use Rattle.cm_attempt.specs.Rows.{attempt_row, table_of};
-ghost use Rattle.cm_attempt.specs.Table.{after_step, find_attempt as row_of, has_text, steps_of as steps_in};
+ghost use Rattle.indexmap.specs.IndexMap.{index_map_len};
+ghost use Rattle.cm_attempt.specs.Rows.{attempt_row, place_of, table_of};
+ghost use Rattle.cm_attempt.specs.Table.{after_step, has_text, start_fault, step_fault_at, step_fault_of};
 ghost use Rattle.cm_attempt.specs.Table.{finish_fault_at, is_closed_to_new as closed_to_new, is_next as next_step};
-ghost use Rattle.cm_attempt.specs.Table.{start_fault, step_fault_of, step_finish_fault, step_start_fault};
 ghost use Rattle.cm_attempt.specs.Table.{may_finish as ends_in_order, may_start as starts_in_order};
 
 use crate::fault::TrackFault;
 use crate::rows::{
-    Attempt, Attempts, Cases, Cursor, Last, case_has_step, find_attempt, find_case, steps_of,
+    Attempt, Attempts, Cases, Cursor, Last, Steps, contains, find_attempt, find_case,
 };
 
 /// Whether no new attempt may start beside or after the last one.
@@ -63,19 +63,19 @@ fn finished_in_order(cursor: Option<Cursor>, steps: &[String], step: &str) -> Op
 }
 
 /// Why a step that is out of order is refused.
-fn step_refusal(cases: &Cases, case: &str, step: &str) -> TrackFault
-    ensures { step_fault_of
-        (has_text step.now (steps_in (table_of 0 cases.now.entries []) case.now)) false
+fn step_refusal(steps: &Steps, step: &str) -> TrackFault
+    ensures { step_fault_of (has_text step.now (map string_bytes steps.now.keys)) false
         ≡ Some result }
 {
-    if case_has_step(cases, case, step) {
+    if contains(steps, step) {
         TrackFault::StepOrder
     } else {
         TrackFault::UnknownStep
     }
 }
 
-/// Whether the attempt may start. The first attempt of each case has the number `first`.
+/// Whether the attempt may start, and the place of its case. The first attempt of each case has the
+/// number `first`.
 pub(crate) fn check_new(
     cases: &Cases,
     attempts: &Attempts,
@@ -83,12 +83,14 @@ pub(crate) fn check_new(
     id: &str,
     case: &str,
     number: u64,
-) -> Result<(), TrackFault>
-    ensures { MatchOption
+) -> Result<usize, TrackFault>
+    ensures answer { MatchOption
         (start_fault (table_of first cases.now.entries attempts.now.entries) id.now case.now number)
-        (result ≡ Ok tt) (λ fault. result ≡ Err fault) }
+        (IsOk result) (λ fault. result ≡ Err fault) }
+    ensures place { IfOk result (λ place. place_of case.now cases.now.entries ≡ Some place) }
+    ensures within { IfOk result (λ place. place < index_map_len cases.now) }
 {
-    let Some(found) = find_case(cases, case) else {
+    let Some((place, found)) = find_case(cases, case) else {
         return Err(TrackFault::UnknownCase);
     };
     if find_attempt(attempts, id).is_some() {
@@ -100,66 +102,64 @@ pub(crate) fn check_new(
     if is_closed_to_new(found.last) {
         return Err(TrackFault::AttemptOverlap);
     }
-    Ok(())
+    Ok(place)
 }
 
-/// Whether the step may start.
-pub(crate) fn check_start(
-    cases: &Cases,
-    attempts: &Attempts,
-    id: &str,
-    step: &str,
-) -> Result<(), TrackFault>
-    ensures { MatchOption
-        (step_start_fault (table_of 0 cases.now.entries attempts.now.entries) id.now step.now)
+/// Whether the step of the attempt may start.
+pub(crate) fn check_start(cases: &Cases, attempt: &Attempt, step: &str) -> Result<(), TrackFault>
+    ensures { MatchOption (step_fault_at (table_of 0 cases.now.entries []) step.now
+        (starts_in_order step.now) (Some (attempt_row [] attempt.now)))
         (result ≡ Ok tt) (λ fault. result ≡ Err fault) }
 {
-    let Some(attempt) = find_attempt(attempts, id) else {
-        return Err(TrackFault::UnknownAttempt);
+    let Some((_, case)) = find_case(cases, attempt.case_id.as_str()) else {
+        return Err(TrackFault::UnknownStep);
     };
-    let case = attempt.case_id.as_str();
-    if may_start(attempt.cursor, steps_of(cases, case), step) {
+    if may_start(attempt.cursor, case.steps.as_slice(), step) {
         Ok(())
     } else {
-        Err(step_refusal(cases, case, step))
+        Err(step_refusal(&case.steps, step))
     }
 }
 
-/// Whether the step may finish, and the attempt's cursor after it.
+/// Whether the step of the attempt may finish, and the attempt's cursor after it.
 pub(crate) fn check_finish(
     cases: &Cases,
-    attempts: &Attempts,
-    id: &str,
+    attempt: &Attempt,
     step: &str,
 ) -> Result<Cursor, TrackFault>
-    ensures answer { MatchOption
-        (step_finish_fault (table_of 0 cases.now.entries attempts.now.entries) id.now step.now)
+    ensures answer { MatchOption (step_fault_at (table_of 0 cases.now.entries []) step.now
+        (ends_in_order step.now) (Some (attempt_row [] attempt.now)))
         (IsOk result) (λ fault. result ≡ Err fault) }
-    ensures next { IfOk result (λ next. IfSome
-        (row_of (table_of 0 cases.now.entries attempts.now.entries) id.now)
-        (λ a. option_map after_step a.cursor ≡ Some next)) }
+    ensures next { IfOk result (λ next. option_map after_step attempt.now.cursor ≡ Some next) }
 {
-    let Some(attempt) = find_attempt(attempts, id) else {
-        return Err(TrackFault::UnknownAttempt);
+    let Some((_, case)) = find_case(cases, attempt.case_id.as_str()) else {
+        return Err(TrackFault::UnknownStep);
     };
-    let case = attempt.case_id.as_str();
-    match finished_in_order(attempt.cursor, steps_of(cases, case), step) {
+    match finished_in_order(attempt.cursor, case.steps.as_slice(), step) {
         Some(next) => Ok(next),
-        None => Err(step_refusal(cases, case, step)),
+        None => Err(step_refusal(&case.steps, step)),
     }
 }
 
-/// Whether the attempt may end.
-pub(crate) fn check_end(cases: &Cases, attempt: &Attempt) -> Result<(), TrackFault>
-    ensures { MatchOption
+/// Whether the attempt may end, and the place of its case.
+pub(crate) fn check_end(cases: &Cases, attempt: &Attempt) -> Result<Option<usize>, TrackFault>
+    ensures answer { MatchOption
         (finish_fault_at (table_of 0 cases.now.entries []) (Some (attempt_row [] attempt.now)))
-        (result ≡ Ok tt) (λ fault. result ≡ Err fault) }
+        (IsOk result) (λ fault. result ≡ Err fault) }
+    ensures place { IfOk result
+        (λ place. place_of (string_bytes attempt.now.case_id) cases.now.entries ≡ place) }
+    ensures within { IfOk result
+        (λ place. IfSome place (λ at. at < index_map_len cases.now)) }
 {
     let Some(cursor) = attempt.cursor else {
         return Err(TrackFault::StepOrder);
     };
-    if cursor.finished == steps_of(cases, attempt.case_id.as_str()).len() {
-        Ok(())
+    let (place, steps) = match find_case(cases, attempt.case_id.as_str()) {
+        Some((place, case)) => (Some(place), case.steps.len()),
+        None => (None, 0),
+    };
+    if cursor.finished == steps {
+        Ok(place)
     } else {
         Err(TrackFault::FinishedEarly)
     }

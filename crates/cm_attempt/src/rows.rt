@@ -1,11 +1,11 @@
 //! What a track keeps of a case and of an attempt, and the look-ups in it.
-ghost use Rattle.std.specs.Prelude.{◌≡◌, [], ℕ, List, count_by, false, find, is_some, map, option_map};
+ghost use Rattle.std.specs.Prelude.{◌≡◌, ◌<◌, [], ℕ, IfSome, List, Some, count_by, false, find, is_some, map, option_map, slice_get};
 ghost use Rattle.std.specs.Option.{option_map_or};
 ghost use Rattle.std.specs.List.{list_all};
 ghost use Rattle.std.specs.Str.{bytes_eq};
 ghost use Rattle.std.specs.String.{string_bytes};
-ghost use Rattle.indexmap.specs.IndexMap.{values};
-ghost use Rattle.cm_attempt.specs.Rows.{attempt_row, attempt_rows, case_row, case_rows, table_of};
+ghost use Rattle.indexmap.specs.IndexMap.{index_map_len, values};
+ghost use Rattle.cm_attempt.specs.Rows.{attempt_row, attempt_rows, case_row, case_rows, place_of, table_of};
 ghost use Rattle.cm_attempt.specs.Table.{has_step, has_text, is_good_case as is_good, is_good_status};
 ghost use Rattle.cm_attempt.specs.Table.{outcome as specs_outcome, status_of_last, steps_of as steps_in};
 
@@ -51,44 +51,42 @@ pub(crate) type Cases = IndexMap<String, Case>;
 
 pub(crate) type Attempts = IndexMap<String, Attempt>;
 
-pub(crate) fn find_case<'a>(cases: &'a Cases, id: &str) -> Option<&'a Case>
-    ensures { option_map (λ c. case_row id.now c.now) result
+/// The case, and its place among the cases.
+pub(crate) fn find_case<'a>(cases: &'a Cases, id: &str) -> Option<(usize, &'a Case)>
+    ensures row { option_map (λ found. case_row id.now found.1.now) result
         ≡ find (λ c. bytes_eq id.now c.id) (case_rows cases.now.entries) }
+    ensures place { option_map (λ found. found.0) result ≡ place_of id.now cases.now.entries }
+    ensures within { IfSome result (λ found. found.0 < index_map_len cases.now) }
 {
-    cases.get(id)
+    let (place, _, case) = cases.get_full(id)?;
+    Some((place, case))
 }
 
-pub(crate) fn find_attempt<'a>(attempts: &'a Attempts, id: &str) -> Option<&'a Attempt>
-    ensures { option_map (λ a. attempt_row id.now a.now) result
+/// The attempt, and its place among the attempts.
+pub(crate) fn find_attempt<'a>(attempts: &'a Attempts, id: &str) -> Option<(usize, &'a Attempt)>
+    ensures row { option_map (λ found. attempt_row id.now found.1.now) result
         ≡ find (λ a. bytes_eq id.now a.id) (attempt_rows attempts.now.entries) }
+    ensures place { option_map (λ found. found.0) result ≡ place_of id.now attempts.now.entries }
+    ensures value { IfSome result
+        (λ found. slice_get (values attempts.now) found.0 ≡ Some found.1.now) }
+    ensures within { IfSome result (λ found. found.0 < index_map_len attempts.now) }
 {
-    attempts.get(id)
+    let (place, _, attempt) = attempts.get_full(id)?;
+    Some((place, attempt))
 }
 
-/// The steps of the case, and none of an unknown case.
-pub(crate) fn steps_of<'a>(cases: &'a Cases, id: &str) -> &'a [String]
-    ensures { map string_bytes result.now
-        ≡ option_map_or (λ c. c.steps)
-        (find (λ c. bytes_eq id.now c.id) (case_rows cases.now.entries)) [] }
-{
-    match find_case(cases, id) {
-        Some(case) => case.steps.as_slice(),
-        None => &[],
-    }
-}
-
-fn contains(steps: &Steps, step: &str) -> bool
+pub(crate) fn contains(steps: &Steps, step: &str) -> bool
     ensures { result ≡ has_text step.now (map string_bytes steps.now.keys) }
 {
     steps.contains(step)
 }
 
 /// Whether the case has the step.
-pub(crate) fn case_has_step(cases: &Cases, id: &str, step: &str) -> bool
+fn case_has_step(cases: &Cases, id: &str, step: &str) -> bool
     ensures { result ≡ has_text step.now (steps_in (table_of 0 cases.now.entries []) id.now) }
 {
     match find_case(cases, id) {
-        Some(case) => contains(&case.steps, step),
+        Some((_, case)) => contains(&case.steps, step),
         None => false,
     }
 }
@@ -149,7 +147,7 @@ pub(crate) fn attempt_has_step(cases: &Cases, attempts: &Attempts, id: &str, ste
         ≡ has_step (table_of 0 cases.now.entries attempts.now.entries) id.now step.now }
 {
     match find_attempt(attempts, id) {
-        Some(attempt) => case_has_step(cases, attempt.case_id.as_str(), step),
+        Some((_, attempt)) => case_has_step(cases, attempt.case_id.as_str(), step),
         None => false,
     }
 }

@@ -124,10 +124,10 @@ impl Track {
         ensures opens { OnOk result (open_count self.new ≡ open_count self.old + 1) }
         ensures open_count_err { OnErr result (open_count self.new ≡ open_count self.old) }
     {
-        check_new(&self.cases, &self.attempts, self.first, id, case, attempt)?;
+        let place = check_new(&self.cases, &self.attempts, self.first, id, case, attempt)?;
         add_attempt(&mut self.attempts, self.alloc, id, case)?;
         let most = self.attempts.len() as u64;
-        open_case(&mut self.cases, case, most);
+        open_case(&mut self.cases, place, most);
         Ok(())
     }
 
@@ -143,8 +143,11 @@ impl Track {
         ensures err { OnErr result (self.new ≡ self.old) }
         ensures open_count { open_count self.new ≡ open_count self.old }
     {
-        check_start(&self.cases, &self.attempts, attempt, step)?;
-        set_running(&mut self.attempts, attempt);
+        let Some((place, found)) = find_attempt(&self.attempts, attempt) else {
+            return Err(TrackFault::UnknownAttempt);
+        };
+        check_start(&self.cases, found, step)?;
+        set_running(&mut self.attempts, place);
         Ok(())
     }
 
@@ -166,8 +169,11 @@ impl Track {
         ensures err { OnErr result (self.new ≡ self.old) }
         ensures open_count { open_count self.new ≡ open_count self.old }
     {
-        let next = check_finish(&self.cases, &self.attempts, attempt, step)?;
-        note_status(&mut self.attempts, attempt, next, status);
+        let Some((place, found)) = find_attempt(&self.attempts, attempt) else {
+            return Err(TrackFault::UnknownAttempt);
+        };
+        let next = check_finish(&self.cases, found, step)?;
+        note_status(&mut self.attempts, place, next, status);
         Ok(())
     }
 
@@ -185,14 +191,14 @@ impl Track {
         ensures closes { OnOk result (open_count self.new + 1 ≡ open_count self.old) }
         ensures open_count_err { OnErr result (open_count self.new ≡ open_count self.old) }
     {
-        let Some(found) = find_attempt(&self.attempts, attempt) else {
+        let Some((place, found)) = find_attempt(&self.attempts, attempt) else {
             return Err(TrackFault::UnknownAttempt);
         };
-        check_end(&self.cases, found)?;
+        let case = check_end(&self.cases, found)?;
         let last = outcome(found, will_be_retried);
         let most = self.attempts.len() as u64;
-        close_case(&mut self.cases, found.case_id.as_str(), last, most);
-        set_ended(&mut self.attempts, attempt);
+        close_case(&mut self.cases, case, last, most);
+        set_ended(&mut self.attempts, place);
         Ok(())
     }
 
@@ -202,7 +208,8 @@ impl Track {
         ensures value { result ≡ reported_of self.now case.now }
         ensures distinct { HasDistinctIds self.now }
     {
-        final_status(find_case(&self.cases, case)?.last)
+        let (_, found) = find_case(&self.cases, case)?;
+        final_status(found.last)
     }
 
     /// Each case in order of declaration, with its status as `reported` gives it.

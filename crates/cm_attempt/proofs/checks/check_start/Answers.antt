@@ -5,6 +5,6 @@ use Rattle.cm_attempt.proofs.checks.check_start.Goals as goal
 
 pub returns-then-may_start : goal.returns-then-may_start
 returns-then-may_start c =
-    let steps = map string_bytes c.steps_of.result.now in
-    let passes = start_passes c.args.step.now c.in-Some.attempt.now.cursor steps (sym c.may_start.ensures ∙ c.if-may_start.true) in
-    rw (← c.in-Some.ensures, ← c.as_str-case.ensures.value, ← c.steps_of.ensures, passes) refl
+    let steps = map string_bytes c.as_slice.result.now in
+    let passes = start_passes c.args.step.now c.args.attempt.now.cursor steps (sym c.may_start.ensures ∙ c.if-may_start.true) in
+    rw (← c.as_str.ensures.value, ← c.in-Some.ensures.row, ← c.as_slice.ensures.keys, passes) refl

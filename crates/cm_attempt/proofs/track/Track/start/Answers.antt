@@ -10,11 +10,13 @@ invariant_of-self-2 c = (
   search rules,
   record {
     of_cases = distinct_after_change {X = CaseRow} (λ r. r.id) (λ r. bytes_eq c.args.case.now r.id) opened (λ r. refl) (case_rows c.self.inside.cases.entries) (case_rows c.open_case.new.cases.entries)
-        c.open_case.ensures.rows c.self.invariant.1.of_cases;
+        (c.open_case.ensures.rows c.args.case.now (search rules)) c.self.invariant.1.of_cases;
     of_attempts = distinct_after_push {X = AttemptRow} (λ r. r.id) (new_attempt c.args.id.now c.args.case.now) (attempt_rows c.self.inside.attempts.entries) (attempt_rows c.add_attempt.new.attempts.entries)
         c.in_ok-add_attempt.ensures.ok (search rules) c.self.invariant.1.of_attempts;
   },
 )
 
-pub returns-in_err-check_new-clause-answer : goal.returns-in_err-check_new-clause-answer
-returns-in_err-check_new-clause-answer c = search rules
+pub returns-clause-ok : goal.returns-clause-ok
+returns-clause-ok c =
+    let cases = c.open_case.ensures.rows c.args.case.now (search rules) in
+    search rules

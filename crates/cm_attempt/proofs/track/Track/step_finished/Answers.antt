@@ -1,4 +1,4 @@
-use Rattle.std.proofs.Common.{rules, refl}
+use Rattle.std.proofs.Common.{rules, refl, sym}
 use Rattle.std.specs.Str.{bytes_eq}
 use Rattle.cm_attempt.specs.Table.{AttemptRow, after_step, step_done}
 use Rattle.cm_attempt.specs.Rows.{attempt_rows}
@@ -8,7 +8,7 @@ use Rattle.cm_attempt.proofs.track.Track.step_finished.Goals as goal
 
 pub returns-clause-open_count : goal.returns-clause-open_count
 returns-clause-open_count c =
-    rw (← c.self.view_is, c.note_status.ensures.rows)
+    rw (← c.self.view_is, c.note_status.ensures.rows c.args.attempt.now (sym c.in-Some.ensures.place))
     (count_kept (λ r. bytes_eq c.args.attempt.now r.id) is_open (step_done c.args.status) (λ a. open_kept after_step a.cursor) _)
 
 pub invariant_of-self : goal.invariant_of-self
@@ -17,6 +17,14 @@ invariant_of-self c = (
   record {
     of_cases = c.self.invariant.1.of_cases;
     of_attempts = distinct_after_change {X = AttemptRow} (λ r. r.id) (λ r. bytes_eq c.args.attempt.now r.id) (step_done c.args.status) (λ r. refl) (attempt_rows c.self.inside.attempts.entries) (attempt_rows c.note_status.new.attempts.entries)
-        c.note_status.ensures.rows c.self.invariant.1.of_attempts;
+        (c.note_status.ensures.rows c.args.attempt.now (sym c.in-Some.ensures.place)) c.self.invariant.1.of_attempts;
   },
 )
+
+pub returns-clause-ok : goal.returns-clause-ok
+returns-clause-ok c =
+    let rows = c.note_status.ensures.rows c.args.attempt.now (sym c.in-Some.ensures.place) in
+    search rules
+
+pub returns-in_err-next-clause-answer : goal.returns-in_err-next-clause-answer
+returns-in_err-next-clause-answer c = rw (← c.self.view_is, ← c.in-Some.ensures.row) (search rules)

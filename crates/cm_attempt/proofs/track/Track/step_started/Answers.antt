@@ -1,4 +1,4 @@
-use Rattle.std.proofs.Common.{rules, refl}
+use Rattle.std.proofs.Common.{rules, refl, sym}
 use Rattle.std.specs.Str.{bytes_eq}
 use Rattle.cm_attempt.specs.Table.{AttemptRow, running_cursor, running}
 use Rattle.cm_attempt.specs.Rows.{attempt_rows}
@@ -8,8 +8,13 @@ use Rattle.cm_attempt.proofs.track.Track.step_started.Goals as goal
 
 pub returns-clause-open_count : goal.returns-clause-open_count
 returns-clause-open_count c =
-    rw (← c.self.view_is, c.set_running.ensures.rows)
+    rw (← c.self.view_is, c.set_running.ensures.rows c.args.attempt.now (sym c.in-Some.ensures.place))
     (count_kept (λ r. bytes_eq c.args.attempt.now r.id) is_open running (λ a. open_kept running_cursor a.cursor) _)
+
+pub returns-clause-ok : goal.returns-clause-ok
+returns-clause-ok c =
+    let rows = c.set_running.ensures.rows c.args.attempt.now (sym c.in-Some.ensures.place) in
+    search rules
 
 pub invariant_of-self : goal.invariant_of-self
 invariant_of-self c = (
@@ -17,9 +22,9 @@ invariant_of-self c = (
   record {
     of_cases = c.self.invariant.1.of_cases;
     of_attempts = distinct_after_change {X = AttemptRow} (λ r. r.id) (λ r. bytes_eq c.args.attempt.now r.id) running (λ r. refl) (attempt_rows c.self.inside.attempts.entries) (attempt_rows c.set_running.new.attempts.entries)
-        c.set_running.ensures.rows c.self.invariant.1.of_attempts;
+        (c.set_running.ensures.rows c.args.attempt.now (sym c.in-Some.ensures.place)) c.self.invariant.1.of_attempts;
   },
 )
 
 pub returns-in_err-check_start-clause-answer : goal.returns-in_err-check_start-clause-answer
-returns-in_err-check_start-clause-answer c = search rules
+returns-in_err-check_start-clause-answer c = rw (← c.self.view_is, ← c.in-Some.ensures.row) (search rules)
