@@ -1,5 +1,5 @@
 //! The types of a feature file's tree: what a parser makes, and what is compiled and compared; the texts and sequences that
-//! they hold; and whether two documents have one skeleton.
+//! they hold; and whether two documents, or two parts of them, have one skeleton.
 //!
 //! ```
 //! use gk_document::{Location, Sequence, Tag, Text};
@@ -21,7 +21,7 @@ mod text;
 mod tree;
 
 pub use sequence::Sequence;
-pub use skeleton::same_skeleton;
+pub use skeleton::{Bare, are_like, both_like, same_skeleton};
 pub use text::Text;
 pub use tree::{
     Argument, Background, Cell, Comment, DocString, Document, ExampleTable, Examples, Feature,

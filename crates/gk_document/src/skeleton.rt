@@ -9,16 +9,21 @@ use crate::tree::{
     Scenario, Step, Tag,
 };
 
-/// A part of a document, of which some of its data is not compared.
-trait Bare {
+/// A part of a document that can be compared with another of its kind. Node numbers, columns,
+/// descriptions, comments, fences and keyword types are not compared.
+pub trait Bare {
     // The part without what is not compared.
     ghost bare: { Self → Self };
 
+    /// Whether both are equal, with all that is inside them, without what is not compared. It
+    /// takes no memory.
     fn is_like(&self, other: &Self) -> bool
         ensures { IsTrue result ↔ (bare self.now ≡ bare other.now) };
 }
 
-fn are_like<T: Bare>(a: &[T], b: &[T]) -> bool
+/// Whether two lists have equally many parts, each like the other's at its place. It takes no
+/// memory.
+pub fn are_like<T: Bare>(a: &[T], b: &[T]) -> bool
     ensures { IsTrue result ↔ (map T.bare a.now ≡ map T.bare b.now) }
 {
     if a.len() != b.len() {
@@ -32,7 +37,8 @@ fn are_like<T: Bare>(a: &[T], b: &[T]) -> bool
     true
 }
 
-fn both_like<T: Bare>(a: &Option<T>, b: &Option<T>) -> bool
+/// Whether there are two parts that are alike, or none. It takes no memory.
+pub fn both_like<T: Bare>(a: &Option<T>, b: &Option<T>) -> bool
     ensures { IsTrue result ↔ (option_map T.bare a.now ≡ option_map T.bare b.now) }
 {
     match (a, b) {
