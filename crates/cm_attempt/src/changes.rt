@@ -136,8 +136,8 @@ pub(crate) fn note_status(attempts: &mut Attempts, place: usize, next: Cursor, s
     requires next { IfSome (slice_get (values attempts.old) place)
         (λ a. option_map after_step a.cursor ≡ Some next) }
     ensures rows { (id : Utf8) → place_of id attempts.old.entries ≡ Some place
-        → attempt_rows attempts.new.entries
-        ≡ change_first (λ a. bytes_eq id a.id) (step_done status) (attempt_rows attempts.old.entries) }
+        → attempt_rows attempts.new.entries ≡ change_first (λ a. bytes_eq id a.id)
+        (step_done status) (attempt_rows attempts.old.entries) }
     ensures len { index_map_len attempts.new ≡ index_map_len attempts.old }
 {
     let attempt = &mut attempts[place];
