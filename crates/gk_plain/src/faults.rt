@@ -112,7 +112,8 @@ fn fault_at(kinds: &[Kind], columns: &[u32], before: usize) -> PlainFault
     requires within { before < length kinds.now }
     requires columns { before < length columns.now }
     ensures { (ls : List Line) → map kind_of ls ≡ kinds.now
-        → map first_column ls ≡ columns.now → IsFirstBad ls (before + 1) → IsFaultWithin ls result.kind result.line result.column }
+        → map first_column ls ≡ columns.now → IsFirstBad ls (before + 1)
+        → IsFaultWithin ls result.kind result.line result.column }
 {
     let at = kinds[before];
     let (front, _) = kinds.split_at(before);
