@@ -30,4 +30,6 @@ mod retries;
 #[cfg(test)]
 mod runs;
 #[cfg(test)]
+mod statuses;
+#[cfg(test)]
 mod usages;

@@ -1,15 +1,11 @@
-//! Tests of devices, feeds, envelopes, declarations, statuses, skeletons, differences and written features by the public calls of
-//! their crates. They are a crate of their own since a crate with tests is proved twice.
+//! Tests of devices, feeds, envelopes and declarations by the public calls of their crates. They are a crate of their own since a
+//! crate with tests is proved twice.
 #![tactic(auto)]
 
-#[cfg(test)]
-mod compiled;
 #[cfg(test)]
 mod declarations;
 #[cfg(test)]
 mod devices;
-#[cfg(test)]
-mod differences;
 #[cfg(test)]
 mod documents;
 #[cfg(test)]
@@ -22,7 +18,3 @@ mod members;
 mod pickles;
 #[cfg(test)]
 mod producers;
-#[cfg(test)]
-mod skeletons;
-#[cfg(test)]
-mod statuses;

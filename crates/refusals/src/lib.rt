@@ -5,11 +5,7 @@
 #![tactic(auto)]
 
 #[cfg(test)]
-mod attempts;
-#[cfg(test)]
 mod commands;
-#[cfg(test)]
-mod declarations;
 #[cfg(test)]
 mod devices;
 #[cfg(test)]

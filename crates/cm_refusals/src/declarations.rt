@@ -1,5 +1,5 @@
 //! Declarations in want of memory.
-use crate::meeting::check;
+use crate::checking::check;
 use cm_refs::{Declared, RefFault};
 use scarce::Shortage;
 use std::alloc::{AllocError, Global};

@@ -1,5 +1,5 @@
 //! Cases and attempts in want of memory.
-use crate::meeting::check;
+use crate::checking::check;
 use cm_attempt::{Status, Track, TrackFault};
 use scarce::Shortage;
 use std::alloc::{AllocError, Global};
