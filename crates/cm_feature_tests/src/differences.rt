@@ -3,7 +3,7 @@ use crate::compiled::{FULL_TEXT, PLAIN_TEXT};
 use cm_differs::{
     Difference, missing_document, missing_pickle, pickle_difference, tree_difference,
 };
-use cm_envelope::{Envelope, read_envelope};
+use cm_envelope::{Envelope, Pickle as FoundPickle, read_envelope};
 use gk_document::{Document, Text};
 use gk_pickle::{Pickle, compile};
 use gk_tree::parse;
@@ -46,45 +46,75 @@ const FOUND_LINE: &str =
 const FOUND_PICKLE: &str =
     "{\"pickle\":{\"astNodeIds\":[\"x1\"],\"language\":\"de\",\"name\":\"t\",\"steps\":[{\"argument\":{\"dataTable\":{\"rows\":[{\"cells\":[{\"value\":\"\u{202e}\"}]}]}},\"astNodeIds\":[],\"text\":\"b\"},{\"argument\":{\"docString\":{\"content\":\"c\",\"mediaType\":\"m\"}},\"astNodeIds\":[\"x0\"],\"text\":\"\",\"type\":\"Outcome\"}],\"tags\":[{\"astNodeId\":\"x0\",\"name\":\"@t\"}],\"uri\":\"a.feature\"}}";
 
-// What differs where a pickle is due and the line is found, where nothing is due, and where nothing is found.
-fn pickles_differ(alloc: Global, due: &Pickle, ids: &[Text], line: &str) -> Result<bool, Fail> {
-    let read = read_envelope(alloc, line.as_bytes());
-    let Ok(Envelope::Pickle(found)) = &read else {
-        return Err(Fail::from("no pickle"));
-    };
+// What differs where a pickle is due and another is found, where nothing is due, and where nothing is found.
+fn beside_differs(
+    alloc: Global,
+    due: &Pickle,
+    ids: &[Text],
+    found: &FoundPickle,
+) -> Result<bool, AllocError> {
     let beside = pickle_difference(alloc, ids, Some(due), found)?;
-    let over = pickle_difference(alloc, ids, None, found)?;
+    Ok(is_difference(&beside, Some(UNTYPED_PICKLE), Some(FOUND_PICKLE)))
+}
+
+fn surplus_differs(alloc: Global, ids: &[Text], found: &FoundPickle) -> Result<bool, AllocError> {
+    let surplus = pickle_difference(alloc, ids, None, found)?;
+    Ok(is_difference(&surplus, None, Some(FOUND_PICKLE)))
+}
+
+fn missing_differs(alloc: Global, due: &Pickle, ids: &[Text]) -> Result<bool, AllocError> {
     let missing = missing_pickle(alloc, URI, ids, due)?;
+    Ok(is_difference(&missing, Some(DUE_PICKLE), None))
+}
+
+fn pickles_differ(
+    alloc: Global,
+    due: &Pickle,
+    ids: &[Text],
+    found: &FoundPickle,
+) -> Result<bool, AllocError> {
     Ok(
-        is_difference(&beside, Some(UNTYPED_PICKLE), Some(FOUND_PICKLE))
-            && is_difference(&over, None, Some(FOUND_PICKLE))
-            && is_difference(&missing, Some(DUE_PICKLE), None),
+        beside_differs(alloc, due, ids, found)?
+            && surplus_differs(alloc, ids, found)?
+            && missing_differs(alloc, due, ids)?,
     )
+}
+
+fn line_differs(alloc: Global, due: &Pickle, ids: &[Text], line: &str) -> Result<bool, AllocError> {
+    match &read_envelope(alloc, line.as_bytes()) {
+        Ok(Envelope::Pickle(found)) => pickles_differ(alloc, due, ids, found),
+        _ => Ok(false),
+    }
+}
+
+fn differs_from_first(alloc: Global, document: &Document, line: &str) -> Result<bool, Fail> {
+    let pickles = compile(alloc, document)?;
+    let ids = two_ids(alloc)?;
+    let due = pickles.first().ok_or("no pickle")?;
+    Ok(line_differs(alloc, due, &ids, line)?)
 }
 
 #[test]
 fn differences_of_pickles(rt: HostRuntime) -> Result<(), Fail> {
-    let alloc = rt.alloc();
-    let document = parse(alloc, PLAIN_TEXT)?;
-    let pickles = compile(alloc, &document)?;
-    let ids = two_ids(alloc)?;
-    let due = pickles.first().ok_or("no pickle")?;
-    assert!(rt; pickles_differ(alloc, due, &ids, FOUND_LINE)?);
+    let document = parse(rt.alloc(), PLAIN_TEXT)?;
+    assert!(rt; differs_from_first(rt.alloc(), &document, FOUND_LINE)?);
     Ok(())
 }
 
 const FULL_PARTS: &str =
     r#"[{"feature":{"keyword":"Feature","language":"en","location":{"line":3},"name":"F 😀","tags":[{"location":{"line":2},"name":"@f"},{"location":{"line":2},"name":"@g"}]}},{"background":{"keyword":"Background","location":{"line":8},"name":"b"}},{"step":{"dataTable":{"rows":[{"cells":[{"value":"a|b"},{"value":""}],"location":{"line":10}}]},"keyword":"When ","location":{"line":9},"text":"x"}},{"rule":{"keyword":"Rule","location":{"line":12},"name":"r","tags":[]}},{"scenario":{"keyword":"Scenario Outline","location":{"line":14},"name":"<n> o","tags":[{"location":{"line":13},"name":"@s"}]}},{"step":{"docString":{"content":"tab\tq\n \"\"\"","location":{"line":16},"mediaType":"json <n>"},"keyword":"And ","location":{"line":15},"text":"<n>"}},{"examples":{"keyword":"Examples","location":{"line":21},"name":"E","tags":[{"location":{"line":20},"name":"@e"}]}},{"tableHeader":{"cells":[{"value":"n"}],"location":{"line":23}}},{"tableRow":{"cells":[{"value":"𝄞"}],"location":{"line":24}}},{"tableRow":{"cells":[{"value":""}],"location":{"line":25}}}]"#;
 
+// Whether the parts that are missing of a text's document are these.
+fn has_parts(alloc: Global, text: &str, parts: &str) -> Result<bool, Fail> {
+    let document = parse(alloc, text)?;
+    let missing = missing_document(alloc, URI, &document)?;
+    Ok(is_difference(&missing, Some(parts), None))
+}
+
 #[test]
 fn missing_documents(rt: HostRuntime) -> Result<(), Fail> {
-    let alloc = rt.alloc();
-    let full = parse(alloc, FULL_TEXT)?;
-    let missing = missing_document(alloc, URI, &full)?;
-    assert!(rt; is_difference(&missing, Some(FULL_PARTS), None));
-    let empty = parse(alloc, "# c\n")?;
-    let missing = missing_document(alloc, URI, &empty)?;
-    assert!(rt; is_difference(&missing, Some("[]"), None));
+    assert!(rt; has_parts(rt.alloc(), FULL_TEXT, FULL_PARTS)?);
+    assert!(rt; has_parts(rt.alloc(), "# c\n", "[]")?);
     Ok(())
 }
 
@@ -116,14 +146,23 @@ fn differs_in(
     }
 }
 
+// Whether a text's document has the skeleton of the one that is due.
+fn is_alike(alloc: Global, due: &Document, text: &str) -> Result<bool, Fail> {
+    let found = parse(alloc, text)?;
+    Ok(tree_difference(alloc, URI, due, &found)?.is_none())
+}
+
+fn documents_differ(alloc: Global, due: &Document) -> Result<bool, Fail> {
+    Ok(
+        differs_in(alloc, due, OTHER_TEXT, Some(DUE_STEP), Some(OTHER_STEP))?
+            && differs_in(alloc, due, LONGER_TEXT, None, Some(MORE_SCENARIO))?
+            && is_alike(alloc, due, SAME_TEXT)?,
+    )
+}
+
 #[test]
 fn differences_of_documents(rt: HostRuntime) -> Result<(), Fail> {
-    let alloc = rt.alloc();
-    let due = parse(alloc, PLAIN_TEXT)?;
-    assert!(rt; differs_in(alloc, &due, OTHER_TEXT, Some(DUE_STEP), Some(OTHER_STEP))?);
-    assert!(rt; differs_in(alloc, &due, LONGER_TEXT, None, Some(MORE_SCENARIO))?);
-    let same = parse(alloc, SAME_TEXT)?;
-    let difference = tree_difference(alloc, URI, &due, &same)?;
-    assert!(rt; difference.is_none());
+    let due = parse(rt.alloc(), PLAIN_TEXT)?;
+    assert!(rt; documents_differ(rt.alloc(), &due)?);
     Ok(())
 }
