@@ -65,16 +65,9 @@ fn told_first(
     }
 }
 
-fn document_of(alloc: Global, text: &str) -> Result<Document, Fail> {
-    match parse(alloc, text) {
-        Ok(document) => Ok(document),
-        Err(_) => Err(Fail::from("refused")),
-    }
-}
-
 #[test]
 fn parts_in_the_order_of_the_file(rt: HostRuntime) -> Result<(), Fail> {
-    let document = document_of(rt.alloc(), TEXT)?;
+    let document = parse(rt.alloc(), TEXT)?;
     let told = told_parts(rt.alloc(), &document)?;
     assert_eq!(rt; told.as_str(), PARTS);
     drop(document);
@@ -90,8 +83,8 @@ fn check_difference(
     wanted: &str,
 ) -> Result<(), Fail> {
     let other = TEXT.replace(alloc, old, new)?;
-    let expected = document_of(alloc, TEXT)?;
-    let found = document_of(alloc, other.as_str())?;
+    let expected = parse(alloc, TEXT)?;
+    let found = parse(alloc, other.as_str())?;
     let difference = first_difference(alloc, &expected, &found)?;
     let told = told_first(alloc, &difference)?;
     assert_eq!(rt; told.as_str(), wanted);
