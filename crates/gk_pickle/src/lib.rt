@@ -1,4 +1,4 @@
-//! The scenarios and pickles of a feature file, and sources, documents and pickles as JSON.
+//! The scenarios and pickles of a feature file.
 //!
 //! ```
 //! use gk_document::Document;
@@ -17,17 +17,13 @@ mod compiling;
 mod fill_single_pass;
 mod filling;
 mod inherited;
-mod json;
 mod laws;
 mod pickle;
 mod scenario_in_feature;
 mod steps;
-mod tree_json;
 
 pub use compiling::{compile, compile_scenario};
 pub use filling::fill;
-pub use json::pickle_value;
 pub use laws::{alike_law, characters_law, counting_law, order_law, replacing_law, scenarios_law};
 pub use pickle::{Pickle, PickleArgument, PickleDocString, PickleStep, PickleTag, StepType};
 pub use scenario_in_feature::{ScenarioInFeature, scenarios};
-pub use tree_json::{document_value, source_value};

@@ -1,6 +1,7 @@
 //! Outside examples of filling and of sources. Texts that are parsed are compiled in the tests of the crate above.
 use crate::lines::cells_of;
-use gk_pickle::{fill, source_value};
+use gk_pickle::fill;
+use gk_values::source_value;
 use std::alloc::{AllocError, Global};
 use std::process::Abort;
 use std::test::Fail;

@@ -1,6 +1,7 @@
 //! The pickles of texts that are parsed, as lines.
-use gk_pickle::{Pickle, ScenarioInFeature, compile, compile_scenario, pickle_value, scenarios};
+use gk_pickle::{Pickle, ScenarioInFeature, compile, compile_scenario, scenarios};
 use gk_tree::{Document, parse};
+use gk_values::pickle_value;
 use std::alloc::{AllocError, Global};
 use std::process::Abort;
 use std::test::Fail;

@@ -1,6 +1,6 @@
 //! Worked texts.
-use gk_pickle::document_value;
 use gk_tree::*;
+use gk_values::document_value;
 use std::alloc::{AllocError, Global};
 use std::process::Abort;
 use std::test::Fail;

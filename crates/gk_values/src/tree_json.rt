@@ -382,7 +382,7 @@ impl WriteJson for Feature {
 ///
 /// # Errors
 /// Only where there is no memory for the value.
-#[tactic(auto, unfolding(crate::specs::TreeJson::document_data))]
+#[tactic(auto, unfolding(gk_pickle::specs::TreeJson::document_data))]
 pub fn document_value(alloc: Global, uri: &str, document: &Document) -> Result<Value, AllocError>
     ensures { IfOk result (λ v. view v ≡ document_data uri.now document.now) }
 {
@@ -404,7 +404,7 @@ pub fn document_value(alloc: Global, uri: &str, document: &Document) -> Result<V
 ///
 /// # Errors
 /// Only where there is no memory for the value.
-#[tactic(auto, unfolding(crate::specs::TreeJson::source_data))]
+#[tactic(auto, unfolding(gk_pickle::specs::TreeJson::source_data))]
 pub fn source_value(alloc: Global, uri: &str, text: &str) -> Result<Value, AllocError>
     ensures { IfOk result (λ v. view v ≡ source_data uri.now text.now) }
 {

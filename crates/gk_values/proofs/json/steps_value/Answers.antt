@@ -5,7 +5,7 @@ use Rattle.serde_json.proofs.Views.{view-Array}
 use Rattle.gk_pickle.specs.Json.{pickle_steps_data}
 use Rattle.gk_pickle.proofs.Made.{all_made}
 use Rattle.gk_pickle.proofs.Written.{one_step_written}
-use Rattle.gk_pickle.proofs.json.steps_value.Goals as goal
+use Rattle.gk_values.proofs.json.steps_value.Goals as goal
 
 pub loop-step-preserved : goal.loop-step-preserved
 loop-step-preserved c = record {

@@ -5,7 +5,7 @@ use Rattle.serde_json.proofs.Views.{view-Array}
 use Rattle.gk_pickle.specs.TreeJson.{cell_data}
 use Rattle.gk_pickle.proofs.Made.{all_made}
 use Rattle.gk_pickle.proofs.Written.{one_written}
-use Rattle.gk_pickle.proofs.tree_json.cells_value.Goals as goal
+use Rattle.gk_values.proofs.tree_json.cells_value.Goals as goal
 
 pub loop-cell-preserved : goal.loop-cell-preserved
 loop-cell-preserved c =

@@ -1,0 +1,20 @@
+//! Sources, documents and pickles as JSON values, in the layout of Cucumber Messages.
+//!
+//! ```
+//! use gk_document::Document;
+//! use gk_values::document_value;
+//! use std::alloc::{AllocError, Global};
+//!
+//! /// The message of a document, as the text of its JSON.
+//! fn message(alloc: Global, uri: &str, document: &Document) -> Result<String, AllocError> {
+//!     let value = document_value(alloc, uri, document)?;
+//!     value.to_string(alloc)
+//! }
+//! ```
+#![tactic(auto)]
+
+mod json;
+mod tree_json;
+
+pub use json::pickle_value;
+pub use tree_json::{document_value, source_value};
