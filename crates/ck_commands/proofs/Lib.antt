@@ -1,6 +1,5 @@
 pub mod Answered
 pub mod CasesPrinted
-pub mod Choosing
 pub mod Compiles
 pub mod DiffersPrinted
 pub mod Gates
@@ -8,4 +7,3 @@ pub mod Lines
 pub mod LinesTaken
 pub mod Printing
 pub mod TextLemmas
-pub mod Asked

@@ -1,5 +1,3 @@
-pub mod Asked
-pub mod CommandLine
 pub mod Features
 pub mod Gate
 pub mod Cases

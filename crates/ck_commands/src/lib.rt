@@ -18,18 +18,14 @@ mod command_cases;
 mod command_compile;
 mod command_differs;
 mod command_gate;
-mod command_line;
 mod command_parse;
 mod command_results;
 mod commands;
 mod feature_input;
-mod help;
-mod laws;
 mod output;
 mod status_words;
 mod text_input;
 
 pub use commands::run;
-pub use laws::words_ask_for_their_command;
 pub use output::ExitStatus;
 pub use text_input::{TextFault, read_text};

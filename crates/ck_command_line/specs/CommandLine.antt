@@ -10,10 +10,10 @@ use Rattle.clap.specs.declared.builder.action.ArgAction.TheVariants.{Set, SetTru
 use Rattle.cm_attempt.specs.declared.policy.Policy.{Policy}
 use Rattle.cm_attempt.specs.declared.policy.Policy.TheVariants.{Strict, PendingPasses}
 use Rattle.cm_attempt.specs.declared.settings.Settings.{Settings}
-use Rattle.ck_commands.specs.declared.command_line.Choice.{Choice}
-use Rattle.ck_commands.specs.declared.command_line.Choice.TheVariants as choice
-use Rattle.ck_commands.specs.declared.command_line.Refusal.{Refusal}
-use Rattle.ck_commands.specs.declared.command_line.Refusal.TheVariants as refusal
+use Rattle.ck_command_line.specs.declared.command_line.Choice.{Choice}
+use Rattle.ck_command_line.specs.declared.command_line.Choice.TheVariants as choice
+use Rattle.ck_command_line.specs.declared.command_line.Refusal.{Refusal}
+use Rattle.ck_command_line.specs.declared.command_line.Refusal.TheVariants as refusal
 
 -- what the words may ask for; `compile` has its uri, `results` the number of each case's first attempt, `gate` whether it
 -- lets a run pass that has pickles without a case

@@ -2,11 +2,11 @@
 ghost use Rattle.std.specs.Prelude.{◌≡◌, IfOk, false, map, option_map};
 ghost use Rattle.clap.specs.Words.{app_of, first_of, found_of, kind_of, new_app, rows_of, rule_of, subcommand_rows_of};
 ghost use Rattle.clap.specs.declared.builder.command.Command.TheViews.{out-Command as fields_of};
-ghost use Rattle.ck_commands.specs.CommandLine.{Chooses, asked, attempts_rule, audit_command, bare_app, cases_command};
-ghost use Rattle.ck_commands.specs.CommandLine.{command_app, command_named, command_of, compile_command, differs_command};
-ghost use Rattle.ck_commands.specs.CommandLine.{first_attempt_in};
-ghost use Rattle.ck_commands.specs.CommandLine.{flag_rule, gate_command, is_given, named, policy_in, results_command};
-ghost use Rattle.ck_commands.specs.CommandLine.{settings_in, uri_rule};
+ghost use Rattle.ck_command_line.specs.CommandLine.{Chooses, asked, attempts_rule, audit_command, bare_app, cases_command};
+ghost use Rattle.ck_command_line.specs.CommandLine.{command_app, command_named, command_of, compile_command, differs_command};
+ghost use Rattle.ck_command_line.specs.CommandLine.{first_attempt_in};
+ghost use Rattle.ck_command_line.specs.CommandLine.{flag_rule, gate_command, is_given, named, policy_in, results_command};
+ghost use Rattle.ck_command_line.specs.CommandLine.{settings_in, uri_rule};
 
 use crate::help;
 use clap::error::ErrorKind;
@@ -16,7 +16,7 @@ use std::alloc::{AllocError, Global};
 
 /// What the words ask for.
 #[derive(Clone, Copy, Debug, PartialEq, Eq)]
-pub(crate) enum Choice<'a> {
+pub enum Choice<'a> {
     /// What a feature file is.
     Parse,
     /// The message lines of a feature file, with its uri.
@@ -36,7 +36,7 @@ pub(crate) enum Choice<'a> {
 
 /// Why the words give no choice.
 #[derive(Drop)]
-pub(crate) enum Refusal {
+pub enum Refusal {
     /// A mistake in the words, with the text for the user.
     Usage(String),
     /// A call for help or for the version, with its text.
@@ -295,7 +295,7 @@ fn wrong_attempts(alloc: Global) -> Refusal {
 ///
 /// # Errors
 /// The text for the user where the words name no command, or ask for help.
-pub(crate) fn choose<'a>(alloc: Global, words: &'a [&'a str]) -> Result<Choice<'a>, Refusal>
+pub fn choose<'a>(alloc: Global, words: &'a [&'a str]) -> Result<Choice<'a>, Refusal>
     ensures { Chooses (command_of (map (λ w. w.now) words.entry.now)) result }
 {
     let Ok(command) = command(alloc) else {

@@ -4,10 +4,10 @@ use Rattle.clap.specs.Words.{App, HasMatchesOf, Kinds, HasKind, Text, fault_of, 
 use Rattle.clap.specs.declared.error.Error.{Error}
 use Rattle.clap.specs.declared.error.kind.ErrorKind.TheVariants.{OutOfMemory}
 use Rattle.clap.specs.declared.parser.matches.ArgMatches.{ArgMatches}
-use Rattle.ck_commands.specs.CommandLine.{Chooses, Command, asked, command_app, command_of, named, where_none}
-use Rattle.ck_commands.specs.declared.command_line.Choice.{Choice}
-use Rattle.ck_commands.specs.declared.command_line.Refusal.{Refusal}
-use Rattle.ck_commands.specs.declared.command_line.Refusal.TheVariants.{Memory}
+use Rattle.ck_command_line.specs.CommandLine.{Chooses, Command, asked, command_app, command_of, named, where_none}
+use Rattle.ck_command_line.specs.declared.command_line.Choice.{Choice}
+use Rattle.ck_command_line.specs.declared.command_line.Refusal.{Refusal}
+use Rattle.ck_command_line.specs.declared.command_line.Refusal.TheVariants.{Memory}
 
 is_simple_command : (a : App) → a ≡ command_app → is_simple a ≡ true
 is_simple_command a is = subst (λ b. is_simple b ≡ true) (sym is) refl

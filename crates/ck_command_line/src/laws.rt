@@ -1,6 +1,6 @@
 //! What the words after the program's name ask for, on the definition of the command line.
-ghost use Rattle.ck_commands.specs.Asked.{AuditIsAsked, CasesAreAsked, DifferencesAreAsked, GateIsAsked, ResultsAreAsked};
-ghost use Rattle.ck_commands.specs.Asked.{FeaturesAreAsked, NothingIsAsked};
+ghost use Rattle.ck_command_line.specs.Asked.{AuditIsAsked, CasesAreAsked, DifferencesAreAsked, GateIsAsked, ResultsAreAsked};
+ghost use Rattle.ck_command_line.specs.Asked.{FeaturesAreAsked, NothingIsAsked};
 
 /// The words of each command ask for it, with what their options say; other words ask for none.
 pub fn words_ask_for_their_command()

@@ -10,8 +10,8 @@ use Rattle.clap.specs.Lexer.{strip_byte}
 use Rattle.clap.specs.Walk.{bundle_met, walked}
 use Rattle.clap.specs.Faults.{flags_fault, walk_fault, defaults_fault}
 use Rattle.cm_attempt.specs.declared.policy.Policy.TheVariants.{Strict, PendingPasses}
-use Rattle.ck_commands.specs.CommandLine.{Command, ask_parse, ask_compile, ask_audit, ask_gate, ask_results, ask_cases, ask_differs, command_of}
-use Rattle.ck_commands.specs.Asked.{Ask, AskNothing, by, attempts_from, AuditIsAsked, CasesAreAsked, DifferencesAreAsked, GateIsAsked, ResultsAreAsked, FeaturesAreAsked, NothingIsAsked, is_option, command_names}
+use Rattle.ck_command_line.specs.CommandLine.{Command, ask_parse, ask_compile, ask_audit, ask_gate, ask_results, ask_cases, ask_differs, command_of}
+use Rattle.ck_command_line.specs.Asked.{Ask, AskNothing, by, attempts_from, AuditIsAsked, CasesAreAsked, DifferencesAreAsked, GateIsAsked, ResultsAreAsked, FeaturesAreAsked, NothingIsAsked, is_option, command_names}
 
 -- what words that are these texts ask for
 abbrev asked_by : List Text → Option Command

@@ -1,6 +1,6 @@
 use Rattle.std.proofs.Common.{◌∙◌, map}
-use Rattle.ck_commands.proofs.Choosing.{chosen_none, chosen_some, refused, taken}
-use Rattle.ck_commands.proofs.command_line.choose.Goals as goal
+use Rattle.ck_command_line.proofs.Choosing.{chosen_none, chosen_some, refused, taken}
+use Rattle.ck_command_line.proofs.command_line.choose.Goals as goal
 
 pub returns-in-Some : goal.returns-in-Some
 returns-in-Some c =

@@ -1,8 +1,8 @@
 use Rattle.std.proofs.Common.{ap, ap₂, ◌≡◌, ◌∙◌}
 use Rattle.std.proofs.lemmas.Result.{IfOk-weaker}
 use Rattle.clap.specs.Words.{App, app_of, with_subcommand}
-use Rattle.ck_commands.specs.CommandLine.{audit_app, cases_app, compile_app, gate_app, parse_app, results_app}
-use Rattle.ck_commands.proofs.command_line.command.Goals as goal
+use Rattle.ck_command_line.specs.CommandLine.{audit_app, cases_app, compile_app, gate_app, parse_app, results_app}
+use Rattle.ck_command_line.proofs.command_line.command.Goals as goal
 
 abbrev top : {x y : App} → x ≡ y → x.top ≡ y.top
 top e = ap (λ (a : App). a.top) e

@@ -1,5 +1,5 @@
-use Rattle.ck_commands.proofs.Asked.{audit_is_asked, cases_are_asked, differences_are_asked, gate_is_asked, results_are_asked, features_are_asked, nothing_is_asked}
-use Rattle.ck_commands.proofs.laws.words_ask_for_their_command.Goals as goal
+use Rattle.ck_command_line.proofs.Asked.{audit_is_asked, cases_are_asked, differences_are_asked, gate_is_asked, results_are_asked, features_are_asked, nothing_is_asked}
+use Rattle.ck_command_line.proofs.laws.words_ask_for_their_command.Goals as goal
 
 pub returns-clause-audit : goal.returns-clause-audit
 returns-clause-audit c = audit_is_asked

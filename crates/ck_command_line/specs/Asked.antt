@@ -6,7 +6,7 @@ use Rattle.clap.specs.Words.{Text}
 use Rattle.cm_attempt.specs.declared.policy.Policy.{Policy}
 use Rattle.cm_attempt.specs.declared.policy.Policy.TheVariants.{Strict, PendingPasses}
 use Rattle.cm_attempt.specs.declared.settings.Settings.{Settings}
-use Rattle.ck_commands.specs.CommandLine.{Command, ask_parse, ask_compile, ask_audit, ask_gate, ask_results, ask_cases, ask_differs, Asks, AsksNothing}
+use Rattle.ck_command_line.specs.CommandLine.{Command, ask_parse, ask_compile, ask_audit, ask_gate, ask_results, ask_cases, ask_differs, Asks, AsksNothing}
 
 -- words that are these texts ask for the command
 abbrev pub Ask : List Text → Command → Type 0
