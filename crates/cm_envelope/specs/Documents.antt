@@ -29,6 +29,7 @@ use Rattle.cm_envelope.specs.declared.read_documents.Heading.{Heading}
 use Rattle.cm_envelope.specs.declared.read_documents.TaggedHeading.{TaggedHeading}
 use Rattle.cm_envelope.specs.declared.read_documents.Body.{Body}
 use Rattle.cm_envelope.specs.declared.read_documents.FeatureHeading.{FeatureHeading}
+use Rattle.cm_envelope.specs.declared.read_documents.FeatureBody.{FeatureBody}
 use Rattle.cm_envelope.specs.Member.{◌>>=◌, Fails, all_items, good, required, nested, optional_nested, list_of, items_in, present, rule, has_both, media_type, as_whole_number}
 
 abbrev pub Ids : Type 0
@@ -344,13 +345,19 @@ feature_heading ids d = do
     tags.1,
   )
 
+-- the children of a feature, by kind
+abbrev pub feature_body : Ids → Data → NodeRead FeatureBody
+feature_body ids d = do
+  children ← children_in true d
+  parts ← body ids children
+  rules ← each_node (node_in (codes "rule") rule_node) parts.1
+      (children_of (codes "rule") children)
+  Ok (record { body = parts.0; rules = rules.0 }, rules.1)
+
 abbrev pub feature : Ids → Data → NodeRead Feature
 feature ids d = do
   head ← feature_heading ids d
-  children ← children_in true d
-  parts ← body head.1 children
-  rules ← each_node (node_in (codes "rule") rule_node) parts.1
-      (children_of (codes "rule") children)
+  below ← feature_body head.1 d
   Ok (
     record {
       location = head.0.location;
@@ -359,11 +366,11 @@ feature ids d = do
       keyword = head.0.title.keyword;
       name = head.0.title.text;
       description = [];
-      background = parts.0.background;
-      scenarios = parts.0.scenarios;
-      rules = rules.0;
+      background = below.0.body.background;
+      scenarios = below.0.body.scenarios;
+      rules = below.0.rules;
     },
-    rules.1,
+    below.1,
   )
 
 -- the tree and the ids of its nodes in their order

@@ -3,7 +3,7 @@ ghost use Rattle.std.specs.Prelude.{◌≡◌, [], codes};
 ghost use Rattle.serde_json.specs.Data.{Data};
 ghost use Rattle.serde_json.specs.View.{view, items_view};
 ghost use Rattle.cm_envelope.specs.Member.{Gives, GivesOf, all_items, required};
-ghost use Rattle.cm_envelope.specs.Documents.{GivesNode, NodeRead, Ids, node_in, optional_node_in, optional_node as optional_node_of, each_node, nodes_of as nodes_of_member, children_of, background_in, rank_of as rank_of_child, are_in_order as children_are_in_order, children_in as children_in_member, as_line, location, cell, doc_string, mark, title, numbered, tag, row, data_table, argument_of, argument, heading, step, background, is_empty, is_object, table_of, body_rows, example_table as example_table_of, tagged_heading, examples, scenario, body, rule_node, feature_heading, feature, gherkin_document};
+ghost use Rattle.cm_envelope.specs.Documents.{GivesNode, NodeRead, Ids, node_in, optional_node_in, optional_node as optional_node_of, each_node, nodes_of as nodes_of_member, children_of, background_in, rank_of as rank_of_child, are_in_order as children_are_in_order, children_in as children_in_member, as_line, location, cell, doc_string, mark, title, numbered, tag, row, data_table, argument_of, argument, heading, step, background, is_empty, is_object, table_of, body_rows, example_table as example_table_of, tagged_heading, examples, scenario, body, rule_node, feature_heading, feature_body, feature, gherkin_document};
 
 use crate::envelope::GherkinDocument;
 use crate::fault::MemberFault;
@@ -586,6 +586,27 @@ fn read_feature_heading(
     })
 }
 
+/// The children of a feature, by kind.
+#[derive(Drop)]
+struct FeatureBody {
+    body: Body,
+    rules: Sequence<Rule>,
+}
+
+fn read_feature_body(
+    alloc: Global,
+    object: &Value,
+    ids: &mut Sequence<Text>,
+) -> Result<FeatureBody, MemberFault>
+    ensures { GivesNode result ids.new (feature_body ids.old (view object.now)) }
+{
+    let members = children_in(object, true)?;
+    Ok(FeatureBody {
+        body: read_body(alloc, members, ids)?,
+        rules: children(alloc, members, "rule", ids)?,
+    })
+}
+
 impl ReadNode for Feature {
     ghost reads = { feature };
 
@@ -595,9 +616,7 @@ impl ReadNode for Feature {
         ids: &mut Sequence<Text>,
     ) -> Result<Feature, MemberFault> {
         let heading = read_feature_heading(alloc, object, ids)?;
-        let members = children_in(object, true)?;
-        let body = read_body(alloc, members, ids)?;
-        let rules = children(alloc, members, "rule", ids)?;
+        let children = read_feature_body(alloc, object, ids)?;
         Ok(Feature {
             location: heading.location,
             tags: heading.tags,
@@ -605,9 +624,9 @@ impl ReadNode for Feature {
             keyword: heading.title.keyword,
             name: heading.title.text,
             description: no_text(alloc),
-            background: body.background,
-            scenarios: body.scenarios,
-            rules,
+            background: children.body.background,
+            scenarios: children.body.scenarios,
+            rules: children.rules,
         })
     }
 }
