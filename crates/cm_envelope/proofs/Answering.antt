@@ -1,5 +1,5 @@
 -- What a call answers and leaves.
-use Rattle.std.proofs.Common.{◌≡◌, ℕ, ◌+◌, ◌-◌, ◌≤◌, Bool, true, false, not, List, [], length, ◌++◌, slice_range, Option, Some, None, Ok, Err, refl, sym, subst, arith}
+use Rattle.std.proofs.Common.{◌≡◌, ℕ, ◌+◌, ◌-◌, ◌≤◌, Bool, true, false, not, List, [], ◌++◌, slice_range, Option, Some, None, Ok, Err, refl, subst, arith}
 use Rattle.std.specs.Prelude.{IfSome, IfNone}
 use Rattle.std.specs.Io.KnownBytes.{Consumes, IsAtEnd}
 use Rattle.std.proofs.KnownBytes.{Consumes-nil}
