@@ -141,7 +141,7 @@ doc_string d = do
 
 -- ---- nodes
 
--- what every node but a feature begins with
+-- what a node that has an id begins with
 abbrev pub mark : Data → Result Mark (List ℕ)
 mark d = do
   id ← required as_str (codes "id") d

@@ -206,7 +206,7 @@ impl ReadObject for DocString {
     }
 }
 
-/// What every node but a feature begins with.
+/// What a node that has an id begins with.
 #[derive(Drop)]
 struct Mark {
     id: Text,
