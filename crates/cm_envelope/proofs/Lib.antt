@@ -5,6 +5,7 @@ pub mod Ends
 pub mod Finding
 pub mod Sources
 pub mod Taking
+pub mod Answering
 pub mod Each
 pub mod Judged
 pub mod Json

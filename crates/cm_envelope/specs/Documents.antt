@@ -23,6 +23,13 @@ use Rattle.gk_document.specs.declared.tree.Feature.{Feature}
 use Rattle.cm_envelope.specs.declared.fault.MemberFault.{MemberFault}
 use Rattle.cm_envelope.specs.declared.envelope.GherkinDocument.{GherkinDocument}
 use Rattle.cm_envelope.specs.declared.read_documents.DataTable.{DataTable}
+use Rattle.cm_envelope.specs.declared.read_documents.Mark.{Mark}
+use Rattle.cm_envelope.specs.declared.read_documents.Title.{Title}
+use Rattle.cm_envelope.specs.declared.read_documents.Heading.{Heading}
+use Rattle.cm_envelope.specs.declared.read_documents.TaggedHeading.{TaggedHeading}
+use Rattle.cm_envelope.specs.declared.read_documents.Body.{Body}
+use Rattle.cm_envelope.specs.declared.read_documents.FeatureHeading.{FeatureHeading}
+use Rattle.cm_envelope.specs.declared.read_documents.FeatureBody.{FeatureBody}
 use Rattle.cm_envelope.specs.Member.{◌>>=◌, Fails, all_items, good, required, nested, optional_nested, list_of, items_in, present, rule, has_both, media_type, as_whole_number}
 
 abbrev pub Ids : Type 0
@@ -134,19 +141,30 @@ doc_string d = do
 
 -- ---- nodes
 
-abbrev pub tag : Ids → Data → NodeRead Tag
-tag ids d = do
+-- what a node that has an id begins with
+abbrev pub mark : Data → Result Mark (List ℕ)
+mark d = do
   id ← required as_str (codes "id") d
   place ← nested location (codes "location") d
+  Ok (record { id = id; location = place })
+
+-- the number of the node that has this id
+abbrev pub numbered : List ℕ → Ids → NodeRead ℕ
+numbered id ids = Ok (length ids, ids ++ id ∷ [])
+
+abbrev pub tag : Ids → Data → NodeRead Tag
+tag ids d = do
+  own ← mark d
   name ← required as_str (codes "name") d
-  Ok (record { node = length ids; location = place; name = name }, ids ++ id ∷ [])
+  node ← numbered own.id ids
+  Ok (record { node = node.0; location = own.location; name = name }, node.1)
 
 abbrev pub row : Ids → Data → NodeRead Row
 row ids d = do
-  id ← required as_str (codes "id") d
-  place ← nested location (codes "location") d
+  own ← mark d
   cells ← list_of cell (codes "cells") d
-  Ok (record { node = length ids; location = place; cells = cells }, ids ++ id ∷ [])
+  node ← numbered own.id ids
+  Ok (record { node = node.0; location = own.location; cells = cells }, node.1)
 
 -- without rows it is a table all the same
 abbrev pub data_table : Ids → Data → NodeRead DataTable
@@ -159,40 +177,55 @@ argument_of (Some table) text = Some (Table table.rows)
 argument_of None (Some text) = Some (Text text)
 argument_of None None = None
 
-abbrev pub step : Ids → Data → NodeRead Step
-step ids d = do
-  id ← required as_str (codes "id") d
-  place ← nested location (codes "location") d
-  keyword ← required as_str (codes "keyword") d
-  text ← required as_str (codes "text") d
-  table ← optional_node data_table (codes "dataTable") (ids ++ id ∷ []) d
+-- the argument of a step
+abbrev pub argument : Ids → Data → NodeRead (Option Argument)
+argument ids d = do
+  table ← optional_node data_table (codes "dataTable") ids d
   checked ← rule (codes "docString") (not (has_both (codes "dataTable") (codes "docString") d))
   content ← optional_nested doc_string (codes "docString") d
+  Ok (argument_of table.0 content, table.1)
+
+-- the keyword, and the name or a step's text
+abbrev pub title : List ℕ → Data → Result Title (List ℕ)
+title name d = do
+  keyword ← required as_str (codes "keyword") d
+  text ← required as_str name d
+  Ok (record { keyword = keyword; text = text })
+
+-- what a step and a background begin with
+abbrev pub heading : List ℕ → Ids → Data → NodeRead Heading
+heading name ids d = do
+  own ← mark d
+  words ← title name d
+  node ← numbered own.id ids
+  Ok (record { node = node.0; location = own.location; title = words }, node.1)
+
+abbrev pub step : Ids → Data → NodeRead Step
+step ids d = do
+  head ← heading (codes "text") ids d
+  below ← argument head.1 d
   Ok (
     record {
-      node = length ids;
-      location = place;
-      keyword = keyword;
+      node = head.0.node;
+      location = head.0.location;
+      keyword = head.0.title.keyword;
       kind = keyword_type.Unknown;
-      text = text;
-      argument = argument_of table.0 content;
+      text = head.0.title.text;
+      argument = below.0;
     },
-    table.1,
+    below.1,
   )
 
 abbrev pub background : Ids → Data → NodeRead Background
 background ids d = do
-  id ← required as_str (codes "id") d
-  place ← nested location (codes "location") d
-  keyword ← required as_str (codes "keyword") d
-  name ← required as_str (codes "name") d
-  steps ← nodes_of step (codes "steps") (ids ++ id ∷ []) d
+  head ← heading (codes "name") ids d
+  steps ← nodes_of step (codes "steps") head.1 d
   Ok (
     record {
-      node = length ids;
-      location = place;
-      keyword = keyword;
-      name = name;
+      node = head.0.node;
+      location = head.0.location;
+      keyword = head.0.title.keyword;
+      name = head.0.title.text;
       description = [];
       steps = steps.0;
     },
@@ -211,30 +244,43 @@ abbrev pub is_object : Data → Bool
 is_object d = is_some (as_object d)
 
 -- Each element of the body is an object, and a body that isn't empty needs a header.
+abbrev pub body_rows : Bool → Data → Result Items (List ℕ)
+body_rows has_header d = do
+  rows ← items_in (codes "tableBody") (present (codes "tableBody") d)
+  objects ← rule (codes "tableBody") (all_items is_object rows)
+  checked ← rule (codes "tableBody") (has_header || is_empty rows)
+  Ok rows
+
 abbrev pub example_table : Ids → Data → NodeRead (Option ExampleTable)
 example_table ids d = do
   header ← optional_node row (codes "tableHeader") ids d
-  rows ← items_in (codes "tableBody") (present (codes "tableBody") d)
-  objects ← rule (codes "tableBody") (all_items is_object rows)
-  checked ← rule (codes "tableBody") (is_some header.0 || is_empty rows)
+  rows ← body_rows (is_some header.0) d
   body ← each_node (node_in (codes "tableBody") row) header.1 rows
   Ok (table_of header.0 body.0, body.1)
 
+-- what an examples block, a scenario and a rule begin with
+abbrev pub tagged_heading : Ids → Data → NodeRead TaggedHeading
+tagged_heading ids d = do
+  own ← mark d
+  tags ← nodes_of tag (codes "tags") ids d
+  words ← title (codes "name") d
+  node ← numbered own.id tags.1
+  Ok (
+    record { node = node.0; location = own.location; tags = tags.0; title = words },
+    node.1,
+  )
+
 abbrev pub examples : Ids → Data → NodeRead Examples
 examples ids d = do
-  id ← required as_str (codes "id") d
-  place ← nested location (codes "location") d
-  tags ← nodes_of tag (codes "tags") ids d
-  keyword ← required as_str (codes "keyword") d
-  name ← required as_str (codes "name") d
-  table ← example_table (tags.1 ++ id ∷ []) d
+  head ← tagged_heading ids d
+  table ← example_table head.1 d
   Ok (
     record {
-      node = length tags.1;
-      location = place;
-      tags = tags.0;
-      keyword = keyword;
-      name = name;
+      node = head.0.node;
+      location = head.0.location;
+      tags = head.0.tags;
+      keyword = head.0.title.keyword;
+      name = head.0.title.text;
       description = [];
       table = table.0;
     },
@@ -243,20 +289,16 @@ examples ids d = do
 
 abbrev pub scenario : Ids → Data → NodeRead Scenario
 scenario ids d = do
-  id ← required as_str (codes "id") d
-  place ← nested location (codes "location") d
-  tags ← nodes_of tag (codes "tags") ids d
-  keyword ← required as_str (codes "keyword") d
-  name ← required as_str (codes "name") d
-  steps ← nodes_of step (codes "steps") (tags.1 ++ id ∷ []) d
+  head ← tagged_heading ids d
+  steps ← nodes_of step (codes "steps") head.1 d
   blocks ← nodes_of examples (codes "examples") steps.1 d
   Ok (
     record {
-      node = length tags.1;
-      location = place;
-      tags = tags.0;
-      keyword = keyword;
-      name = name;
+      node = head.0.node;
+      location = head.0.location;
+      tags = head.0.tags;
+      keyword = head.0.title.keyword;
+      name = head.0.title.text;
       description = [];
       steps = steps.0;
       examples = blocks.0;
@@ -264,59 +306,71 @@ scenario ids d = do
     blocks.1,
   )
 
-abbrev pub rule_node : Ids → Data → NodeRead Rule
-rule_node ids d = do
-  id ← required as_str (codes "id") d
-  place ← nested location (codes "location") d
-  tags ← nodes_of tag (codes "tags") ids d
-  keyword ← required as_str (codes "keyword") d
-  name ← required as_str (codes "name") d
-  children ← children_in false d
-  first ← optional_node_in background (codes "background") (tags.1 ++ id ∷ [])
-      (background_in children)
+-- the background and the scenarios among the children of a feature or a rule
+abbrev pub body : Ids → Items → NodeRead Body
+body ids children = do
+  first ← optional_node_in background (codes "background") ids (background_in children)
   scenarios ← each_node (node_in (codes "scenario") scenario) first.1
       (children_of (codes "scenario") children)
+  Ok (record { background = first.0; scenarios = scenarios.0 }, scenarios.1)
+
+abbrev pub rule_node : Ids → Data → NodeRead Rule
+rule_node ids d = do
+  head ← tagged_heading ids d
+  children ← children_in false d
+  parts ← body head.1 children
   Ok (
     record {
-      node = length tags.1;
-      location = place;
-      tags = tags.0;
-      keyword = keyword;
-      name = name;
+      node = head.0.node;
+      location = head.0.location;
+      tags = head.0.tags;
+      keyword = head.0.title.keyword;
+      name = head.0.title.text;
       description = [];
-      background = first.0;
-      scenarios = scenarios.0;
+      background = parts.0.background;
+      scenarios = parts.0.scenarios;
     },
-    scenarios.1,
+    parts.1,
   )
 
--- A feature has no id.
-abbrev pub feature : Ids → Data → NodeRead Feature
-feature ids d = do
+-- what a feature begins with, which has no id
+abbrev pub feature_heading : Ids → Data → NodeRead FeatureHeading
+feature_heading ids d = do
   place ← nested location (codes "location") d
   tags ← nodes_of tag (codes "tags") ids d
   language ← required as_str (codes "language") d
-  keyword ← required as_str (codes "keyword") d
-  name ← required as_str (codes "name") d
+  words ← title (codes "name") d
+  Ok (
+    record { location = place; tags = tags.0; language = language; title = words },
+    tags.1,
+  )
+
+-- the children of a feature, by kind
+abbrev pub feature_body : Ids → Data → NodeRead FeatureBody
+feature_body ids d = do
   children ← children_in true d
-  first ← optional_node_in background (codes "background") tags.1 (background_in children)
-  scenarios ← each_node (node_in (codes "scenario") scenario) first.1
-      (children_of (codes "scenario") children)
-  rules ← each_node (node_in (codes "rule") rule_node) scenarios.1
+  parts ← body ids children
+  rules ← each_node (node_in (codes "rule") rule_node) parts.1
       (children_of (codes "rule") children)
+  Ok (record { body = parts.0; rules = rules.0 }, rules.1)
+
+abbrev pub feature : Ids → Data → NodeRead Feature
+feature ids d = do
+  head ← feature_heading ids d
+  below ← feature_body head.1 d
   Ok (
     record {
-      location = place;
-      tags = tags.0;
-      language = language;
-      keyword = keyword;
-      name = name;
+      location = head.0.location;
+      tags = head.0.tags;
+      language = head.0.language;
+      keyword = head.0.title.keyword;
+      name = head.0.title.text;
       description = [];
-      background = first.0;
-      scenarios = scenarios.0;
-      rules = rules.0;
+      background = below.0.body.background;
+      scenarios = below.0.body.scenarios;
+      rules = below.0.rules;
     },
-    rules.1,
+    below.1,
   )
 
 -- the tree and the ids of its nodes in their order

@@ -14,6 +14,8 @@ use Rattle.cm_envelope.specs.declared.pickle.PickleTable.{PickleTable}
 use Rattle.cm_envelope.specs.declared.pickle.PickleRow.{PickleRow}
 use Rattle.cm_envelope.specs.declared.pickle.PickleCell.{PickleCell}
 use Rattle.cm_envelope.specs.declared.pickle.PickleDocString.{PickleDocString}
+use Rattle.cm_envelope.specs.declared.read_pickles.PickleTexts.{PickleTexts}
+use Rattle.cm_envelope.specs.declared.read_pickles.PickleLists.{PickleLists}
 use Rattle.cm_envelope.specs.Member.{◌>>=◌, required, optional, optional_nested, list_of, list_of_values, rule, has_both, media_type}
 
 -- Messages: PickleStepType
@@ -87,21 +89,32 @@ pickle_step d = do
   below ← argument d
   Ok (record { id = id; text = text; kind = kind; ast_node_ids = nodes; argument = below })
 
-abbrev pub pickle : Data → Result Pickle (List ℕ)
-pickle d = do
+abbrev pub pickle_texts : Data → Result PickleTexts (List ℕ)
+pickle_texts d = do
   id ← required as_str (codes "id") d
   uri ← required as_str (codes "uri") d
   name ← required as_str (codes "name") d
   language ← required as_str (codes "language") d
+  Ok (record { id = id; uri = uri; name = name; language = language })
+
+abbrev pub pickle_lists : Data → Result PickleLists (List ℕ)
+pickle_lists d = do
   nodes ← list_of_values as_str (codes "astNodeIds") d
   tags ← list_of pickle_tag (codes "tags") d
   steps ← list_of pickle_step (codes "steps") d
+  Ok (record { ast_node_ids = nodes; tags = tags; steps = steps })
+
+-- its texts, then its lists
+abbrev pub pickle : Data → Result Pickle (List ℕ)
+pickle d = do
+  texts ← pickle_texts d
+  lists ← pickle_lists d
   Ok (record {
-    id = id;
-    uri = uri;
-    name = name;
-    language = language;
-    ast_node_ids = nodes;
-    tags = tags;
-    steps = steps;
+    id = texts.id;
+    uri = texts.uri;
+    name = texts.name;
+    language = texts.language;
+    ast_node_ids = lists.ast_node_ids;
+    tags = lists.tags;
+    steps = lists.steps;
   })

@@ -3,7 +3,7 @@ ghost use Rattle.std.specs.Prelude.{◌≡◌, [], codes};
 ghost use Rattle.serde_json.specs.Data.{Data};
 ghost use Rattle.serde_json.specs.View.{view, items_view};
 ghost use Rattle.cm_envelope.specs.Member.{Gives, GivesOf, all_items, required};
-ghost use Rattle.cm_envelope.specs.Documents.{GivesNode, NodeRead, Ids, node_in, optional_node_in, optional_node as optional_node_of, each_node, nodes_of as nodes_of_member, children_of, background_in, rank_of as rank_of_child, are_in_order as children_are_in_order, children_in as children_in_member, as_line, location, cell, doc_string, tag, row, data_table, argument_of, step, background, is_empty, is_object, table_of, example_table as example_table_of, examples, scenario, rule_node, feature, gherkin_document};
+ghost use Rattle.cm_envelope.specs.Documents.{GivesNode, NodeRead, Ids, node_in, optional_node_in, optional_node as optional_node_of, each_node, nodes_of as nodes_of_member, children_of, background_in, rank_of as rank_of_child, are_in_order as children_are_in_order, children_in as children_in_member, as_line, location, cell, doc_string, mark, title, numbered, tag, row, data_table, argument_of, argument, heading, step, background, is_empty, is_object, table_of, body_rows, example_table as example_table_of, tagged_heading, examples, scenario, body, rule_node, feature_heading, feature_body, feature, gherkin_document};
 
 use crate::envelope::GherkinDocument;
 use crate::fault::MemberFault;
@@ -206,18 +206,40 @@ impl ReadObject for DocString {
     }
 }
 
+/// What a node that has an id begins with.
+#[derive(Drop)]
+struct Mark {
+    id: Text,
+    location: Location,
+}
+
+fn read_mark(alloc: Global, object: &Value) -> Result<Mark, MemberFault>
+    ensures { Gives result (mark (view object.now)) }
+{
+    Ok(Mark {
+        id: text(alloc, object, "id")?,
+        location: nested(alloc, object, "location")?,
+    })
+}
+
+/// The number of the node that has this id; the id is kept.
+fn numbered(id: Text, ids: &mut Sequence<Text>) -> Result<u64, MemberFault>
+    ensures { GivesNode result ids.new (numbered id ids.old) }
+{
+    let node = ids.len() as u64;
+    ids.push(id)?;
+    Ok(node)
+}
+
 impl ReadNode for Tag {
     ghost reads = { tag };
 
     fn read(alloc: Global, object: &Value, ids: &mut Sequence<Text>) -> Result<Tag, MemberFault> {
-        let id = text(alloc, object, "id")?;
-        let location = nested(alloc, object, "location")?;
+        let mark = read_mark(alloc, object)?;
         let name = text(alloc, object, "name")?;
-        let node = ids.len() as u64;
-        ids.push(id)?;
         Ok(Tag {
-            node,
-            location,
+            node: numbered(mark.id, ids)?,
+            location: mark.location,
             name,
         })
     }
@@ -227,17 +249,83 @@ impl ReadNode for Row {
     ghost reads = { row };
 
     fn read(alloc: Global, object: &Value, ids: &mut Sequence<Text>) -> Result<Row, MemberFault> {
-        let id = text(alloc, object, "id")?;
-        let location = nested(alloc, object, "location")?;
+        let mark = read_mark(alloc, object)?;
         let cells = list_of(alloc, object, "cells")?;
-        let node = ids.len() as u64;
-        ids.push(id)?;
         Ok(Row {
-            node,
-            location,
+            node: numbered(mark.id, ids)?,
+            location: mark.location,
             cells,
         })
     }
+}
+
+/// The words that a node begins with.
+#[derive(Drop)]
+struct Title {
+    keyword: Text,
+    /// A node's name, or a step's text.
+    text: Text,
+}
+
+fn read_title(alloc: Global, object: &Value, name: &'static str) -> Result<Title, MemberFault>
+    ensures { Gives result (title name.now (view object.now)) }
+{
+    Ok(Title {
+        keyword: text(alloc, object, "keyword")?,
+        text: text(alloc, object, name)?,
+    })
+}
+
+/// What a step and a background begin with.
+#[derive(Drop)]
+struct Heading {
+    node: u64,
+    location: Location,
+    title: Title,
+}
+
+fn read_heading(
+    alloc: Global,
+    object: &Value,
+    name: &'static str,
+    ids: &mut Sequence<Text>,
+) -> Result<Heading, MemberFault>
+    ensures { GivesNode result ids.new (heading name.now ids.old (view object.now)) }
+{
+    let mark = read_mark(alloc, object)?;
+    let title = read_title(alloc, object, name)?;
+    Ok(Heading {
+        node: numbered(mark.id, ids)?,
+        location: mark.location,
+        title,
+    })
+}
+
+/// What an examples block, a scenario and a rule begin with.
+#[derive(Drop)]
+struct TaggedHeading {
+    node: u64,
+    location: Location,
+    tags: Sequence<Tag>,
+    title: Title,
+}
+
+fn read_tagged_heading(
+    alloc: Global,
+    object: &Value,
+    ids: &mut Sequence<Text>,
+) -> Result<TaggedHeading, MemberFault>
+    ensures { GivesNode result ids.new (tagged_heading ids.old (view object.now)) }
+{
+    let mark = read_mark(alloc, object)?;
+    let tags = nodes_of(alloc, object, "tags", ids)?;
+    let title = read_title(alloc, object, "name")?;
+    Ok(TaggedHeading {
+        node: numbered(mark.id, ids)?,
+        location: mark.location,
+        tags,
+        title,
+    })
 }
 
 /// The table of a step.
@@ -272,28 +360,34 @@ fn argument_of(table: Option<DataTable>, text: Option<DocString>) -> Option<Argu
     }
 }
 
+fn read_argument(
+    alloc: Global,
+    object: &Value,
+    ids: &mut Sequence<Text>,
+) -> Result<Option<Argument>, MemberFault>
+    ensures { GivesNode result ids.new (argument ids.old (view object.now)) }
+{
+    let table = optional_node(alloc, object, "dataTable", ids)?;
+    if has_both(object, "dataTable", "docString") {
+        return Err(MemberFault::Bad("docString"));
+    }
+    let content = optional_nested(alloc, object, "docString")?;
+    Ok(argument_of(table, content))
+}
+
 impl ReadNode for Step {
     ghost reads = { step };
 
     fn read(alloc: Global, object: &Value, ids: &mut Sequence<Text>) -> Result<Step, MemberFault> {
-        let id = text(alloc, object, "id")?;
-        let location = nested(alloc, object, "location")?;
-        let keyword = text(alloc, object, "keyword")?;
-        let text = text(alloc, object, "text")?;
-        let node = ids.len() as u64;
-        ids.push(id)?;
-        let table = optional_node(alloc, object, "dataTable", ids)?;
-        if has_both(object, "dataTable", "docString") {
-            return Err(MemberFault::Bad("docString"));
-        }
-        let content = optional_nested(alloc, object, "docString")?;
+        let heading = read_heading(alloc, object, "text", ids)?;
+        let argument = read_argument(alloc, object, ids)?;
         Ok(Step {
-            node,
-            location,
-            keyword,
+            node: heading.node,
+            location: heading.location,
+            keyword: heading.title.keyword,
             kind: KeywordType::Unknown,
-            text,
-            argument: argument_of(table, content),
+            text: heading.title.text,
+            argument,
         })
     }
 }
@@ -306,18 +400,13 @@ impl ReadNode for Background {
         object: &Value,
         ids: &mut Sequence<Text>,
     ) -> Result<Background, MemberFault> {
-        let id = text(alloc, object, "id")?;
-        let location = nested(alloc, object, "location")?;
-        let keyword = text(alloc, object, "keyword")?;
-        let name = text(alloc, object, "name")?;
-        let node = ids.len() as u64;
-        ids.push(id)?;
+        let heading = read_heading(alloc, object, "name", ids)?;
         let steps = nodes_of(alloc, object, "steps", ids)?;
         Ok(Background {
-            node,
-            location,
-            keyword,
-            name,
+            node: heading.node,
+            location: heading.location,
+            keyword: heading.title.keyword,
+            name: heading.title.text,
             description: no_text(alloc),
             steps,
         })
@@ -359,6 +448,21 @@ fn table_of(header: Option<Row>, body: Sequence<Row>) -> Option<ExampleTable>
     }
 }
 
+/// The rows of a table's body: each is an object, and a body that isn't empty needs a header.
+fn body_rows(object: &Value, has_header: bool) -> Result<&[Value], MemberFault>
+    ensures { GivesOf (λ values. items_view values.now) result
+        (body_rows has_header (view object.now)) }
+{
+    let rows = items(object, "tableBody")?;
+    if !are_objects(rows) {
+        return Err(MemberFault::Bad("tableBody"));
+    }
+    if !has_header && !is_empty(rows) {
+        return Err(MemberFault::Bad("tableBody"));
+    }
+    Ok(rows)
+}
+
 fn example_table(
     alloc: Global,
     object: &Value,
@@ -367,13 +471,7 @@ fn example_table(
     ensures { GivesNode result ids.new (example_table_of ids.old (view object.now)) }
 {
     let header = optional_node(alloc, object, "tableHeader", ids)?;
-    let rows = items(object, "tableBody")?;
-    if !are_objects(rows) {
-        return Err(MemberFault::Bad("tableBody"));
-    }
-    if header.is_none() && !is_empty(rows) {
-        return Err(MemberFault::Bad("tableBody"));
-    }
+    let rows = body_rows(object, header.is_some())?;
     let body = nodes(alloc, rows, "tableBody", ids)?;
     Ok(table_of(header, body))
 }
@@ -386,20 +484,14 @@ impl ReadNode for Examples {
         object: &Value,
         ids: &mut Sequence<Text>,
     ) -> Result<Examples, MemberFault> {
-        let id = text(alloc, object, "id")?;
-        let location = nested(alloc, object, "location")?;
-        let tags = nodes_of(alloc, object, "tags", ids)?;
-        let keyword = text(alloc, object, "keyword")?;
-        let name = text(alloc, object, "name")?;
-        let node = ids.len() as u64;
-        ids.push(id)?;
+        let heading = read_tagged_heading(alloc, object, ids)?;
         let table = example_table(alloc, object, ids)?;
         Ok(Examples {
-            node,
-            location,
-            tags,
-            keyword,
-            name,
+            node: heading.node,
+            location: heading.location,
+            tags: heading.tags,
+            keyword: heading.title.keyword,
+            name: heading.title.text,
             description: no_text(alloc),
             table,
         })
@@ -414,21 +506,15 @@ impl ReadNode for Scenario {
         object: &Value,
         ids: &mut Sequence<Text>,
     ) -> Result<Scenario, MemberFault> {
-        let id = text(alloc, object, "id")?;
-        let location = nested(alloc, object, "location")?;
-        let tags = nodes_of(alloc, object, "tags", ids)?;
-        let keyword = text(alloc, object, "keyword")?;
-        let name = text(alloc, object, "name")?;
-        let node = ids.len() as u64;
-        ids.push(id)?;
+        let heading = read_tagged_heading(alloc, object, ids)?;
         let steps = nodes_of(alloc, object, "steps", ids)?;
         let examples = nodes_of(alloc, object, "examples", ids)?;
         Ok(Scenario {
-            node,
-            location,
-            tags,
-            keyword,
-            name,
+            node: heading.node,
+            location: heading.location,
+            tags: heading.tags,
+            keyword: heading.title.keyword,
+            name: heading.title.text,
             description: no_text(alloc),
             steps,
             examples,
@@ -436,31 +522,89 @@ impl ReadNode for Scenario {
     }
 }
 
+/// The background and the scenarios of a feature or a rule.
+#[derive(Drop)]
+struct Body {
+    background: Option<Background>,
+    scenarios: Sequence<Scenario>,
+}
+
+fn read_body(
+    alloc: Global,
+    members: &[Value],
+    ids: &mut Sequence<Text>,
+) -> Result<Body, MemberFault>
+    ensures { GivesNode result ids.new (body ids.old (items_view members.now)) }
+{
+    Ok(Body {
+        background: first_background(alloc, members, ids)?,
+        scenarios: children(alloc, members, "scenario", ids)?,
+    })
+}
+
 impl ReadNode for Rule {
     ghost reads = { rule_node };
 
     fn read(alloc: Global, object: &Value, ids: &mut Sequence<Text>) -> Result<Rule, MemberFault> {
-        let id = text(alloc, object, "id")?;
-        let location = nested(alloc, object, "location")?;
-        let tags = nodes_of(alloc, object, "tags", ids)?;
-        let keyword = text(alloc, object, "keyword")?;
-        let name = text(alloc, object, "name")?;
-        let node = ids.len() as u64;
-        ids.push(id)?;
+        let heading = read_tagged_heading(alloc, object, ids)?;
         let members = children_in(object, false)?;
-        let background = first_background(alloc, members, ids)?;
-        let scenarios = children(alloc, members, "scenario", ids)?;
+        let body = read_body(alloc, members, ids)?;
         Ok(Rule {
-            node,
-            location,
-            tags,
-            keyword,
-            name,
+            node: heading.node,
+            location: heading.location,
+            tags: heading.tags,
+            keyword: heading.title.keyword,
+            name: heading.title.text,
             description: no_text(alloc),
-            background,
-            scenarios,
+            background: body.background,
+            scenarios: body.scenarios,
         })
     }
+}
+
+/// What a feature begins with, which has no id.
+#[derive(Drop)]
+struct FeatureHeading {
+    location: Location,
+    tags: Sequence<Tag>,
+    language: Text,
+    title: Title,
+}
+
+fn read_feature_heading(
+    alloc: Global,
+    object: &Value,
+    ids: &mut Sequence<Text>,
+) -> Result<FeatureHeading, MemberFault>
+    ensures { GivesNode result ids.new (feature_heading ids.old (view object.now)) }
+{
+    Ok(FeatureHeading {
+        location: nested(alloc, object, "location")?,
+        tags: nodes_of(alloc, object, "tags", ids)?,
+        language: text(alloc, object, "language")?,
+        title: read_title(alloc, object, "name")?,
+    })
+}
+
+/// The children of a feature, by kind.
+#[derive(Drop)]
+struct FeatureBody {
+    body: Body,
+    rules: Sequence<Rule>,
+}
+
+fn read_feature_body(
+    alloc: Global,
+    object: &Value,
+    ids: &mut Sequence<Text>,
+) -> Result<FeatureBody, MemberFault>
+    ensures { GivesNode result ids.new (feature_body ids.old (view object.now)) }
+{
+    let members = children_in(object, true)?;
+    Ok(FeatureBody {
+        body: read_body(alloc, members, ids)?,
+        rules: children(alloc, members, "rule", ids)?,
+    })
 }
 
 impl ReadNode for Feature {
@@ -471,25 +615,18 @@ impl ReadNode for Feature {
         object: &Value,
         ids: &mut Sequence<Text>,
     ) -> Result<Feature, MemberFault> {
-        let location = nested(alloc, object, "location")?;
-        let tags = nodes_of(alloc, object, "tags", ids)?;
-        let language = text(alloc, object, "language")?;
-        let keyword = text(alloc, object, "keyword")?;
-        let name = text(alloc, object, "name")?;
-        let members = children_in(object, true)?;
-        let background = first_background(alloc, members, ids)?;
-        let scenarios = children(alloc, members, "scenario", ids)?;
-        let rules = children(alloc, members, "rule", ids)?;
+        let heading = read_feature_heading(alloc, object, ids)?;
+        let children = read_feature_body(alloc, object, ids)?;
         Ok(Feature {
-            location,
-            tags,
-            language,
-            keyword,
-            name,
+            location: heading.location,
+            tags: heading.tags,
+            language: heading.language,
+            keyword: heading.title.keyword,
+            name: heading.title.text,
             description: no_text(alloc),
-            background,
-            scenarios,
-            rules,
+            background: children.body.background,
+            scenarios: children.body.scenarios,
+            rules: children.rules,
         })
     }
 }

@@ -2,7 +2,7 @@
 ghost use Rattle.std.specs.Prelude.{◌≡◌};
 ghost use Rattle.serde_json.specs.View.{view};
 ghost use Rattle.cm_envelope.specs.Member.{Gives, optional};
-ghost use Rattle.cm_envelope.specs.Pickles.{step_kind_of, as_step_kind, pickle, pickle_tag, pickle_step, pickle_argument, argument_of, pickle_table, pickle_row, pickle_cell, pickle_doc_string, argument as argument_member};
+ghost use Rattle.cm_envelope.specs.Pickles.{step_kind_of, as_step_kind, pickle_texts, pickle_lists, pickle, pickle_tag, pickle_step, pickle_argument, argument_of, pickle_table, pickle_row, pickle_cell, pickle_doc_string, argument as argument_member};
 
 use crate::fault::MemberFault;
 use crate::member::{has_both, media_type, present, text};
@@ -11,6 +11,7 @@ use crate::pickle::{
     Pickle, PickleArgument, PickleCell, PickleDocString, PickleRow, PickleStep, PickleTable,
     PickleTag, StepKind,
 };
+use gk_document::{Sequence, Text};
 use serde_json::Value;
 use std::alloc::Global;
 
@@ -138,19 +139,59 @@ impl ReadObject for PickleStep {
     }
 }
 
+/// The texts of a pickle.
+#[derive(Drop)]
+struct PickleTexts {
+    id: Text,
+    uri: Text,
+    name: Text,
+    language: Text,
+}
+
+fn read_pickle_texts(alloc: Global, object: &Value) -> Result<PickleTexts, MemberFault>
+    ensures { Gives result (pickle_texts (view object.now)) }
+{
+    Ok(PickleTexts {
+        id: text(alloc, object, "id")?,
+        uri: text(alloc, object, "uri")?,
+        name: text(alloc, object, "name")?,
+        language: text(alloc, object, "language")?,
+    })
+}
+
+/// The lists of a pickle.
+#[derive(Drop)]
+struct PickleLists {
+    ast_node_ids: Sequence<Text>,
+    tags: Sequence<PickleTag>,
+    steps: Sequence<PickleStep>,
+}
+
+fn read_pickle_lists(alloc: Global, object: &Value) -> Result<PickleLists, MemberFault>
+    ensures { Gives result (pickle_lists (view object.now)) }
+{
+    Ok(PickleLists {
+        ast_node_ids: texts(alloc, object, "astNodeIds")?,
+        tags: list_of(alloc, object, "tags")?,
+        steps: list_of(alloc, object, "steps")?,
+    })
+}
+
 impl ReadObject for Pickle {
     ghost reads = { pickle };
 
     #[inline(never)]
     fn read(alloc: Global, object: &Value) -> Result<Pickle, MemberFault> {
+        let texts = read_pickle_texts(alloc, object)?;
+        let lists = read_pickle_lists(alloc, object)?;
         Ok(Pickle {
-            id: text(alloc, object, "id")?,
-            uri: text(alloc, object, "uri")?,
-            name: text(alloc, object, "name")?,
-            language: text(alloc, object, "language")?,
-            ast_node_ids: texts(alloc, object, "astNodeIds")?,
-            tags: list_of(alloc, object, "tags")?,
-            steps: list_of(alloc, object, "steps")?,
+            id: texts.id,
+            uri: texts.uri,
+            name: texts.name,
+            language: texts.language,
+            ast_node_ids: lists.ast_node_ids,
+            tags: lists.tags,
+            steps: lists.steps,
         })
     }
 }
