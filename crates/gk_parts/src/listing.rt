@@ -28,7 +28,8 @@ pub enum Part<'a> {
 
 /// Adds one part.
 fn add<'a>(part: Part<'a>, made: &mut Vec<Part<'a>>) -> Result<(), AllocError>
-    ensures { OnOk result (made.new.items ≡ made.old.items ++ part.entry ∷ []) }
+    ensures { OnOk result
+        (map seen made.new.items ≡ map seen made.old.items ++ seen part.entry ∷ []) }
 {
     Ok(made.push(part)?)
 }
