@@ -7,7 +7,7 @@ use Rattle.std.proofs.lemmas.Option.{IfSome_then}
 use Rattle.gk_document.specs.declared.tree.Cell.{Cell}
 use Rattle.gk_pickle.specs.declared.fill_single_pass.Open.{Open}
 use Rattle.gk_pickle.specs.declared.fill_single_pass.Part.{Part}
-use Rattle.gk_pickle.specs.SinglePass.{is_bracket, HasNoBracket, columns_named, Reading, added, opened, closed, closed_in, brought, step, read_to, read, read_parts, AreWithin, weight, byte_weight, work}
+use Rattle.gk_pickle.specs.SinglePass.{is_bracket, HasNoBracket, columns_named, Reading, added, opened, closed, closed_in, brought, step, read_to, read, read_parts, AreWithin, replacement, closed_by, weight, byte_weight, work}
 use Rattle.gk_pickle.proofs.Reading.{Found, Reads, at_column, From, find_from, read_plain, deeper}
 
 pub ok_then : {T E : Type 0} (r : Result T E) {P Q : Type 0} → (P → Q) → OnOk r P → OnOk r Q
@@ -28,6 +28,15 @@ within_is row given f is h = let P : Option Given → Type 0 = λ o. IfSome o (�
 
 pub none_is : (given : Option Given) (found : Option Found) → given ≡ None → found_of given ≡ found → None ≡ found
 none_is given found is e = sym (ap found_of is) ∙ e
+
+-- the innermost `<` is closed
+pub closes : (header row : List Cell) (done : ℕ) (out : List ℕ) (items rest : List Open) (o : Open) (m : ℕ) (name : List ℕ) (found : Option Found)
+    → items ≡ rest ++ o ∷ [] → m ≡ max o.done done → name ≡ drop (o.start + 1) out → found ≡ replacement header row m name
+    → (found ≡ (closed header row done (record { out = out; opens = reverse items })).0)
+    × (closed_by found out o.start (reverse rest) ≡ (closed header row done (record { out = out; opens = reverse items })).1)
+closes header row done out items rest o m name found e em en ef =
+    let all : reverse items ≡ o ∷ reverse rest = ap reverse e ∙ reverse-append rest (o ∷ []) in
+    rw (all, ef, em, en) (refl, refl)
 
 module _ (header row : List Cell) where
   abbrev reads : Reads
