@@ -12,14 +12,17 @@ use gk_document::{
     Argument, Background, Cell, Comment, DocString, Document, ExampleTable, Examples, Feature,
     Fence, KeywordType, Location, Row, Rule, Scenario, Step, Tag,
 };
-use serde_json::{Map, Value, json, put};
+use serde_json::{Map, Value, put};
 use std::alloc::{AllocError, Global};
 
 impl WriteJson for Location {
     ghost json = { location_data };
 
     fn to_json(&self, alloc: Global) -> Result<Value, AllocError> {
-        json!(in alloc; {"column": self.column, "line": self.line})
+        let mut members = Map::new(alloc);
+        put(&mut members, alloc, "column", Value::from(self.column))?;
+        put(&mut members, alloc, "line", Value::from(self.line))?;
+        Ok(Value::Object(members))
     }
 }
 
