@@ -4,6 +4,7 @@ use Rattle.std.specs.Prelude.{IfSome, OnOk, Result, Ok, Err, option_map, option_
 use Rattle.std.proofs.lemmas.Bool.{cond-true, cond-false, eqb-true, or_cases, false_from_ne_true}
 use Rattle.std.proofs.lemmas.List.{reverse-append}
 use Rattle.std.proofs.lemmas.Option.{IfSome_then}
+use Rattle.std.specs.Str.{IsUtf8}
 use Rattle.gk_document.specs.declared.tree.Cell.{Cell}
 use Rattle.gk_pickle.specs.declared.fill_single_pass.Open.{Open}
 use Rattle.gk_pickle.specs.declared.fill_single_pass.Part.{Part}
@@ -188,6 +189,14 @@ module _ (row : List Cell) (part : Part) (before : List ℕ) (b : ℕ) (after : 
       ap (work row) a ∙ work_more row push (record { text = cell; done = column + 1 }) in
       let less = one_less in
       omega arith
+
+-- one part more
+one_within : (row : List Cell) (items : List Part) (p : Part) → IsUtf8 p.text.now → p.done ≤ length row → AreWithin row items → AreWithin row (items ++ p ∷ [])
+one_within row [] p u le h = ((u, le), tt)
+one_within row (q ∷ qs) p u le h = (h.0, one_within row qs p u le h.1)
+
+pub more_within : (row : List Cell) (items all : List Part) (p : Part) → all ≡ items ++ p ∷ [] → IsUtf8 p.text.now → p.done ≤ length row → AreWithin row items → AreWithin row all
+more_within row items all p a u le h = rw a (one_within row items p u le h)
 
 -- the last part, taken off
 last_within : (row : List Cell) (rest : List Part) (p : Part) → AreWithin row (rest ++ p ∷ []) → AreWithin row (p ∷ rest)
