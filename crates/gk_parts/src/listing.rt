@@ -26,13 +26,21 @@ pub enum Part<'a> {
     Row(&'a Row),
 }
 
+/// Adds one part.
+fn add<'a>(part: Part<'a>, made: &mut Vec<Part<'a>>) -> Result<(), AllocError>
+    ensures { OnOk result
+        (map seen made.new.items ≡ map seen made.old.items ++ seen part.entry ∷ []) }
+{
+    Ok(made.push(part)?)
+}
+
 /// Adds steps.
 fn add_steps<'a>(steps: &'a [Step], made: &mut Vec<Part<'a>>) -> Result<(), AllocError>
     ensures { OnOk result
         (map seen made.new.items ≡ map seen made.old.items ++ map StepPart steps.now) }
 {
     for step in steps {
-        made.push(Part::Step(step))?;
+        add(Part::Step(step), made)?;
     }
     Ok(())
 }
@@ -43,7 +51,7 @@ fn add_rows<'a>(rows: &'a [Row], made: &mut Vec<Part<'a>>) -> Result<(), AllocEr
         (map seen made.new.items ≡ map seen made.old.items ++ map RowPart rows.now) }
 {
     for row in rows {
-        made.push(Part::Row(row))?;
+        add(Part::Row(row), made)?;
     }
     Ok(())
 }
@@ -58,7 +66,7 @@ fn add_background<'a>(
         ≡ map seen made.old.items ++ flat_map background_parts (option_to_list background.now)) }
 {
     if let Some(background) = background {
-        made.push(Part::Background(background))?;
+        add(Part::Background(background), made)?;
         add_steps(background.steps.as_slice(), made)?;
     }
     Ok(())
@@ -74,7 +82,7 @@ fn add_table<'a>(
         ≡ map seen made.old.items ++ flat_map table_parts (option_to_list table.now)) }
 {
     if let Some(table) = table {
-        made.push(Part::Header(&table.header))?;
+        add(Part::Header(&table.header), made)?;
         add_rows(table.body.as_slice(), made)?;
     }
     Ok(())
@@ -85,7 +93,7 @@ fn add_examples<'a>(examples: &'a Examples, made: &mut Vec<Part<'a>>) -> Result<
     ensures { OnOk result
         (map seen made.new.items ≡ map seen made.old.items ++ examples_parts examples.now) }
 {
-    made.push(Part::Examples(examples))?;
+    add(Part::Examples(examples), made)?;
     add_table(&examples.table, made)
 }
 
@@ -106,7 +114,7 @@ fn add_scenario<'a>(scenario: &'a Scenario, made: &mut Vec<Part<'a>>) -> Result<
     ensures { OnOk result
         (map seen made.new.items ≡ map seen made.old.items ++ scenario_parts scenario.now) }
 {
-    made.push(Part::Scenario(scenario))?;
+    add(Part::Scenario(scenario), made)?;
     add_steps(scenario.steps.as_slice(), made)?;
     add_blocks(scenario.examples.as_slice(), made)
 }
@@ -128,7 +136,7 @@ fn add_rule<'a>(rule: &'a Rule, made: &mut Vec<Part<'a>>) -> Result<(), AllocErr
     ensures { OnOk result
         (map seen made.new.items ≡ map seen made.old.items ++ rule_parts rule.now) }
 {
-    made.push(Part::Rule(rule))?;
+    add(Part::Rule(rule), made)?;
     add_background(&rule.background, made)?;
     add_scenarios(rule.scenarios.as_slice(), made)
 }
@@ -149,7 +157,7 @@ fn add_feature<'a>(feature: &'a Feature, made: &mut Vec<Part<'a>>) -> Result<(),
     ensures { OnOk result
         (map seen made.new.items ≡ map seen made.old.items ++ feature_parts feature.now) }
 {
-    made.push(Part::Feature(feature))?;
+    add(Part::Feature(feature), made)?;
     add_background(&feature.background, made)?;
     add_scenarios(feature.scenarios.as_slice(), made)?;
     add_rules(feature.rules.as_slice(), made)

@@ -12,6 +12,15 @@ one_made f values new v xs i x all n is l e h =
     next_made values new (map f (drop i xs)) (map f (drop (i + 1) xs)) all v n
     (ap (map f) (drop_more xs i x l) ∙ ap (λ y. y ∷ map f (drop (i + 1) xs)) (ap f (sym e) ∙ sym is)) h
 
+-- a value of the list may make several
+pub more_made : {X Y : Type 0} (f : List X → List Y) (more values new all : List Y) (xs : List X) (i : ℕ) (x : X)
+    → ((rest : List X) → f (x ∷ rest) ≡ more ++ f rest) → new ≡ values ++ more → i < length xs → x ≡ get_or xs i x
+    → values ++ f (drop i xs) ≡ all → new ++ f (drop (i + 1) xs) ≡ all
+more_made f more values new all xs i x first n l e h =
+    let rest = drop (i + 1) xs in
+    let next : x ∷ rest ≡ drop i xs = sym (drop_more xs i x l ∙ ap (λ y. y ∷ rest) (sym e)) in
+    ap (λ ys. ys ++ f rest) n ∙ append_assoc values more (f rest) ∙ ap (λ ys. values ++ ys) (sym (first rest)) ∙ ap (λ ys. values ++ f ys) next ∙ h
+
 pub all_made : {X Y : Type 0} (f : List X → List Y) (values : List Y) (xs : List X) (i : ℕ) (all : List Y)
     → f [] ≡ [] → length xs ≤ i → values ++ f (drop i xs) ≡ all → values ≡ all
 all_made f values xs i all none l h = sym (ap (λ ys. values ++ ys) (at_drop_all f xs i l ∙ none) ∙ append-nil values) ∙ h

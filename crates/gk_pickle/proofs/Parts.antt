@@ -4,10 +4,11 @@ use Rattle.std.specs.Prelude.{IfSome, OnOk, Result, Ok, Err, option_map, option_
 use Rattle.std.proofs.lemmas.Bool.{cond-true, cond-false, eqb-true, or_cases, false_from_ne_true}
 use Rattle.std.proofs.lemmas.List.{reverse-append}
 use Rattle.std.proofs.lemmas.Option.{IfSome_then}
+use Rattle.std.specs.Str.{IsUtf8}
 use Rattle.gk_document.specs.declared.tree.Cell.{Cell}
 use Rattle.gk_pickle.specs.declared.fill_single_pass.Open.{Open}
 use Rattle.gk_pickle.specs.declared.fill_single_pass.Part.{Part}
-use Rattle.gk_pickle.specs.SinglePass.{is_bracket, HasNoBracket, columns_named, Reading, added, opened, closed, closed_in, brought, step, read_to, read, read_parts, AreWithin, weight, byte_weight, work}
+use Rattle.gk_pickle.specs.SinglePass.{is_bracket, HasNoBracket, columns_named, Reading, added, opened, closed, closed_in, brought, step, read_to, read, read_parts, AreWithin, replacement, closed_by, weight, byte_weight, work}
 use Rattle.gk_pickle.proofs.Reading.{Found, Reads, at_column, From, find_from, read_plain, deeper}
 
 pub ok_then : {T E : Type 0} (r : Result T E) {P Q : Type 0} → (P → Q) → OnOk r P → OnOk r Q
@@ -28,6 +29,15 @@ within_is row given f is h = let P : Option Given → Type 0 = λ o. IfSome o (�
 
 pub none_is : (given : Option Given) (found : Option Found) → given ≡ None → found_of given ≡ found → None ≡ found
 none_is given found is e = sym (ap found_of is) ∙ e
+
+-- the innermost `<` is closed
+pub closes : (header row : List Cell) (done : ℕ) (out : List ℕ) (items rest : List Open) (o : Open) (m : ℕ) (name : List ℕ) (found : Option Found)
+    → items ≡ rest ++ o ∷ [] → m ≡ max o.done done → name ≡ drop (o.start + 1) out → found ≡ replacement header row m name
+    → (found ≡ (closed header row done (record { out = out; opens = reverse items })).0)
+    × (closed_by found out o.start (reverse rest) ≡ (closed header row done (record { out = out; opens = reverse items })).1)
+closes header row done out items rest o m name found e em en ef =
+    let all : reverse items ≡ o ∷ reverse rest = ap reverse e ∙ reverse-append rest (o ∷ []) in
+    rw (all, ef, em, en) (refl, refl)
 
 module _ (header row : List Cell) where
   abbrev reads : Reads
@@ -179,6 +189,14 @@ module _ (row : List Cell) (part : Part) (before : List ℕ) (b : ℕ) (after : 
       ap (work row) a ∙ work_more row push (record { text = cell; done = column + 1 }) in
       let less = one_less in
       omega arith
+
+-- one part more
+one_within : (row : List Cell) (items : List Part) (p : Part) → IsUtf8 p.text.now → p.done ≤ length row → AreWithin row items → AreWithin row (items ++ p ∷ [])
+one_within row [] p u le h = ((u, le), tt)
+one_within row (q ∷ qs) p u le h = (h.0, one_within row qs p u le h.1)
+
+pub more_within : (row : List Cell) (items all : List Part) (p : Part) → all ≡ items ++ p ∷ [] → IsUtf8 p.text.now → p.done ≤ length row → AreWithin row items → AreWithin row all
+more_within row items all p a u le h = rw a (one_within row items p u le h)
 
 -- the last part, taken off
 last_within : (row : List Cell) (rest : List Part) (p : Part) → AreWithin row (rest ++ p ∷ []) → AreWithin row (p ∷ rest)

@@ -1,10 +1,10 @@
 -- Texts and cells without brackets.
-use Rattle.std.proofs.Common.{◌≡◌, ℕ, zero, suc, ◌+◌, ◌<◌, ◌≤◌, true, false, Option, None, Some, List, [], ◌∷◌, length, take, drop, get_or, sym, ap, ◌∙◌, ⊎_elim, ◌-◌, arith}
+use Rattle.std.proofs.Common.{◌≡◌, ℕ, zero, suc, ◌+◌, ◌<◌, ◌≤◌, true, false, Option, None, Some, List, [], ◌∷◌, ◌++◌, length, take, drop, get_or, sym, ap, ◌∙◌, ⊎_elim, ◌-◌, arith}
 use Rattle.std.specs.Prelude.{is_some, ◌==◌}
 use Rattle.std.specs.Str.{IsUtf8, IsCharBoundary}
 use Rattle.std.proofs.lemmas.Str.{IsCharBoundary-after_ascii}
 use Rattle.std.proofs.lemmas.Bool.{eqb-true, or_cases, false_from_ne_true, false≢true}
-use Rattle.std.proofs.lemmas.List.{drop_more}
+use Rattle.std.proofs.lemmas.List.{drop_more, take-append-drop}
 use Rattle.memchr.specs.Find.{Nowhere, NoneBefore, Passes, IsFirstByte, is_byte2}
 use Rattle.gk_document.specs.declared.tree.Cell.{Cell}
 use Rattle.gk_pickle.specs.SinglePass.{is_bracket, HasNoBracket, HaveNoBracket}
@@ -40,6 +40,13 @@ front_found hay text k front h none e =
     let all : k - 0 ≡ k = omega arith in
     let below = none.high in
     rw (e, all, ← h) (front_plain hay k (omega arith) (λ j l t. none.before j (omega arith) l t))
+
+-- and what is before and after it
+pub cut_around : (bytes text front after : List ℕ) (k : ℕ) → bytes ≡ text → k < length text → front ≡ take (k - 0) text → after ≡ drop (k + 1) text
+    → text ≡ front ++ get_or bytes k 0 ∷ after
+cut_around bytes text front after k e l f a =
+    let all : k - 0 ≡ k = omega arith in
+    rw (f, a, all, e) (sym (ap (λ rest. take k text ++ rest) (sym (drop_more text k 0 l)) ∙ take-append-drop k text))
 
 small : (b : ℕ) → is_bracket b ≡ true → b < 128
 small b t = ⊎_elim (λ e. omega (arith, eqb-true b 60 e)) (λ e. omega (arith, eqb-true b 62 e)) (or_cases (b == 60) (b == 62) t)

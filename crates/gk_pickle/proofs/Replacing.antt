@@ -1,5 +1,5 @@
 -- The text after a search: what is replaced at, before and after the first occurrence of a pattern.
-use Rattle.std.proofs.Common.{◌≡◌, ℕ, zero, suc, ◌+◌, ◌-◌, ◌<◌, ◌≤◌, Bool, true, false, not, Option, Some, None, is_some, List, [], ◌∷◌, ◌++◌, length, take, drop, get_or, refl, sym, ap, ◌∙◌, arith, length-append, length-take, subst, eq-eqb}
+use Rattle.std.proofs.Common.{◌≡◌, ℕ, zero, suc, ◌+◌, ◌-◌, ◌<◌, ◌≤◌, Bool, true, false, not, Option, Some, None, is_some, List, [], ◌∷◌, ◌++◌, length, take, drop, get_or, refl, sym, ap, ◌∙◌, append_assoc, arith, length-append, length-take, subst, eq-eqb}
 use Rattle.std.specs.Bool.{OnTrue}
 use Rattle.std.specs.List.{starts_with}
 use Rattle.std.proofs.lemmas.Bool.{cond-true, cond-false, false_from_ne_true, false≢true}
@@ -104,6 +104,12 @@ cut_after hay needle text name k h n found u =
     let place : k + (length name + 1) + 1 ≡ k + length name + 2 = omega arith in
     let P : ℕ → Type 0 = IsCharBoundary text in
     subst P place (IsCharBoundary-after_ascii text (k + (length name + 1)) u (omega arith) (omega arith))
+
+-- what is before it and the cell are written
+pub one_replaced : (out first second before cell left rest whole : List ℕ) → first ≡ out ++ before → second ≡ first ++ cell → rest ≡ before ++ (cell ++ left)
+    → out ++ rest ≡ whole → second ++ left ≡ whole
+one_replaced out first second before cell left rest whole f s r h =
+    ap (λ x. x ++ left) (s ∙ ap (λ x. x ++ cell) f) ∙ append_assoc (out ++ before) cell left ∙ append_assoc out before (cell ++ left) ∙ ap (λ x. out ++ x) (sym r) ∙ h
 
 -- with no column left
 pub no_names : (text : List ℕ) (names cells : List Cell) → length names ≡ 0 → filled text names cells ≡ text

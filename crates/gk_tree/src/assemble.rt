@@ -50,9 +50,10 @@ pub(crate) fn build_feature(
     if flat_blocks.is_empty() {
         return Ok(None);
     }
+    let language = Text::copy_of(alloc, "en")?;
     let first = flat_blocks.remove(0);
     let parts = parts_of(alloc, flat_blocks)?;
-    Ok(Some(feature(alloc, first, parts)?))
+    Ok(Some(feature(language, first, parts)))
 }
 
 /// The parts that these blocks make.
@@ -72,20 +73,23 @@ fn parts_of(alloc: Global, mut flat_blocks: Vec<FlatBlock>) -> Result<Parts, All
     Ok(parts)
 }
 
-fn feature(alloc: Global, flat_block: FlatBlock, parts: Parts) -> Result<Feature, AllocError>
-    ensures { IfOk result (λ f. f ≡ feature_at (flat_block_of flat_block) (parts_view parts)) }
+/// The feature in this language.
+fn feature(language: Text, flat_block: FlatBlock, parts: Parts) -> Feature
+    ensures { result ≡ record (feature_at (flat_block_of flat_block) (parts_view parts)) {
+      language = language;
+    } }
 {
-    Ok(Feature {
+    Feature {
         location: flat_block.location,
         tags: flat_block.tags,
-        language: Text::copy_of(alloc, "en")?,
+        language,
         keyword: flat_block.keyword,
         name: flat_block.name,
         description: flat_block.description,
         background: parts.background,
         scenarios: in_order(parts.scenarios),
         rules: in_order(parts.rules),
-    })
+    }
 }
 
 /// Adds one block before the parts.

@@ -217,13 +217,15 @@ fn new_block(
         ≡ machine.new_block node block tags at.entry.line.number at.entry.indent
         (text_of title.entry.keyword.now) (text_of title.entry.name.now)) }
 {
+    let keyword = copied(alloc, title.keyword)?;
+    let name = copied(alloc, title.name)?;
     Ok(FlatBlock {
         block,
         node,
         location: location(at),
         tags,
-        keyword: copied(alloc, title.keyword)?,
-        name: copied(alloc, title.name)?,
+        keyword,
+        name,
         description: Text::from(String::new(alloc)),
         body: empty_body(alloc, block),
     })

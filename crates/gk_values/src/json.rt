@@ -6,7 +6,7 @@ ghost use Rattle.gk_pickle.specs.Json.{object_of, put_some, with_some, media_dat
 
 use gk_document::{Sequence, Text, media_type};
 use gk_pickle::{Pickle, PickleArgument, PickleDocString, PickleStep, PickleTag, StepType};
-use serde_json::{Map, Value, json, put};
+use serde_json::{Map, Value, put};
 use std::alloc::{AllocError, Global};
 
 /// What is written for a value.
@@ -27,6 +27,15 @@ pub(crate) fn list_value<T: WriteJson>(alloc: Global, items: &[T]) -> Result<Val
         values.push(value)?;
     }
     Ok(Value::Array(values))
+}
+
+/// An object of one member.
+pub(crate) fn one_member(alloc: Global, name: &str, value: Value) -> Result<Value, AllocError>
+    ensures { IfOk result (λ v. view v ≡ object_of ((name.now, view value) ∷ [])) }
+{
+    let mut members = Map::new(alloc);
+    put(&mut members, alloc, name, value)?;
+    Ok(Value::Object(members))
 }
 
 /// Adds a member that holds a text.
@@ -152,7 +161,8 @@ impl WriteJson for Text {
     ghost json = { pickle_cell_data };
 
     fn to_json(&self, alloc: Global) -> Result<Value, AllocError> {
-        json!(in alloc; {"value": self.as_str()})
+        let value = Value::try_from_str(alloc, self.as_str())?;
+        one_member(alloc, "value", value)
     }
 }
 
@@ -162,7 +172,7 @@ impl WriteJson for Sequence<Text> {
 
     fn to_json(&self, alloc: Global) -> Result<Value, AllocError> {
         let cells = list_value(alloc, self.as_slice())?;
-        json!(in alloc; {"cells": cells})
+        one_member(alloc, "cells", cells)
     }
 }
 
@@ -183,7 +193,7 @@ fn table_value(alloc: Global, rows: &[Sequence<Text>]) -> Result<Value, AllocErr
         (λ v. view v ≡ object_of ((codes "rows", list_data pickle_row_data rows.now) ∷ [])) }
 {
     let rows = list_value(alloc, rows)?;
-    json!(in alloc; {"rows": rows})
+    one_member(alloc, "rows", rows)
 }
 
 impl WriteJson for PickleArgument {
@@ -193,11 +203,11 @@ impl WriteJson for PickleArgument {
         match self {
             PickleArgument::Table(rows) => {
                 let table = table_value(alloc, rows.as_slice())?;
-                json!(in alloc; {"dataTable": table})
+                one_member(alloc, "dataTable", table)
             }
             PickleArgument::Text(doc_string) => {
                 let doc_string = doc_string.to_json(alloc)?;
-                json!(in alloc; {"docString": doc_string})
+                one_member(alloc, "docString", doc_string)
             }
         }
     }
@@ -270,6 +280,5 @@ pub fn pickle_value(
     put(&mut members, alloc, "steps", steps)?;
     add_list(&mut members, alloc, "tags", pickle.tags.as_slice())?;
     add_text(&mut members, alloc, "uri", uri)?;
-    let members = Value::Object(members);
-    json!(in alloc; {"pickle": members})
+    one_member(alloc, "pickle", Value::Object(members))
 }

@@ -5,20 +5,24 @@ ghost use Rattle.gk_pickle.specs.Json.{object_of, list_data, put_some};
 ghost use Rattle.gk_pickle.specs.TreeJson.{location_data, cell_data, row_data, tag_data, comment_data, delimiter, doc_string_data, table_place, table_data, keyword_word, table_of, doc_string_of, step_data, background_data, body_of, block_members, examples_data, scenario_data, background_child as background_child_data, scenario_child as scenario_child_data, rule_child as rule_child_data, children_data, rule_data, feature_data, document_data, source_data};
 
 use crate::json::{
-    WriteJson, add, add_list, add_media, add_optional, add_text, list_value, with_optional,
+    WriteJson, add, add_list, add_media, add_optional, add_text, list_value, one_member,
+    with_optional,
 };
 use gk_document::{
     Argument, Background, Cell, Comment, DocString, Document, ExampleTable, Examples, Feature,
     Fence, KeywordType, Location, Row, Rule, Scenario, Step, Tag,
 };
-use serde_json::{Map, Value, json, put};
+use serde_json::{Map, Value, put};
 use std::alloc::{AllocError, Global};
 
 impl WriteJson for Location {
     ghost json = { location_data };
 
     fn to_json(&self, alloc: Global) -> Result<Value, AllocError> {
-        json!(in alloc; {"column": self.column, "line": self.line})
+        let mut members = Map::new(alloc);
+        put(&mut members, alloc, "column", Value::from(self.column))?;
+        put(&mut members, alloc, "line", Value::from(self.line))?;
+        Ok(Value::Object(members))
     }
 }
 
@@ -30,8 +34,10 @@ fn cell_value(alloc: Global, cell: &Cell, line: u32) -> Result<Value, AllocError
         line,
         column: cell.column,
     };
-    let location = place.to_json(alloc)?;
-    json!(in alloc; {"location": location, "value": cell.value.as_str()})
+    let mut members = Map::new(alloc);
+    add(&mut members, alloc, "location", &place)?;
+    add_text(&mut members, alloc, "value", cell.value.as_str())?;
+    Ok(Value::Object(members))
 }
 
 /// The cells of a row on this line.
@@ -75,8 +81,10 @@ impl WriteJson for Comment {
     ghost json = { comment_data };
 
     fn to_json(&self, alloc: Global) -> Result<Value, AllocError> {
-        let location = self.location.to_json(alloc)?;
-        json!(in alloc; {"location": location, "text": self.text.as_str()})
+        let mut members = Map::new(alloc);
+        add(&mut members, alloc, "location", &self.location)?;
+        add_text(&mut members, alloc, "text", self.text.as_str())?;
+        Ok(Value::Object(members))
     }
 }
 
@@ -117,9 +125,11 @@ fn place_of_table(place: Location, rows: &[Row]) -> Location
 fn table_value(alloc: Global, place: Location, rows: &[Row]) -> Result<Value, AllocError>
     ensures { IfOk result (λ v. view v ≡ table_data place rows.now) }
 {
-    let location = place_of_table(place, rows).to_json(alloc)?;
-    let rows = list_value(alloc, rows)?;
-    json!(in alloc; {"location": location, "rows": rows})
+    let location = place_of_table(place, rows);
+    let mut members = Map::new(alloc);
+    add(&mut members, alloc, "location", &location)?;
+    add_list(&mut members, alloc, "rows", rows)?;
+    Ok(Value::Object(members))
 }
 
 /// How a keyword's type is written.
@@ -279,7 +289,7 @@ fn background_child(alloc: Global, background: &Background) -> Result<Value, All
     ensures { IfOk result (λ v. view v ≡ background_child_data background.now) }
 {
     let value = background.to_json(alloc)?;
-    json!(in alloc; {"background": value})
+    one_member(alloc, "background", value)
 }
 
 /// A scenario among the children of a feature or a rule.
@@ -287,7 +297,7 @@ fn scenario_child(alloc: Global, scenario: &Scenario) -> Result<Value, AllocErro
     ensures { IfOk result (λ v. view v ≡ scenario_child_data scenario.now) }
 {
     let value = scenario.to_json(alloc)?;
-    json!(in alloc; {"scenario": value})
+    one_member(alloc, "scenario", value)
 }
 
 /// A rule among the children of a feature.
@@ -295,7 +305,7 @@ fn rule_child(alloc: Global, rule: &Rule) -> Result<Value, AllocError>
     ensures { IfOk result (λ v. view v ≡ rule_child_data rule.now) }
 {
     let value = rule.to_json(alloc)?;
-    json!(in alloc; {"rule": value})
+    one_member(alloc, "rule", value)
 }
 
 /// A background and the scenarios after it.
@@ -395,8 +405,7 @@ pub fn document_value(alloc: Global, uri: &str, document: &Document) -> Result<V
     )?;
     add_text(&mut members, alloc, "uri", uri)?;
     add_optional(&mut members, alloc, "feature", &document.feature)?;
-    let members = Value::Object(members);
-    json!(in alloc; {"gherkinDocument": members})
+    one_member(alloc, "gherkinDocument", Value::Object(members))
 }
 
 /// The envelope of a source, with the text as given. Its members are those of Cucumber Messages' `Source.json`, in the
@@ -408,7 +417,14 @@ pub fn document_value(alloc: Global, uri: &str, document: &Document) -> Result<V
 pub fn source_value(alloc: Global, uri: &str, text: &str) -> Result<Value, AllocError>
     ensures { IfOk result (λ v. view v ≡ source_data uri.now text.now) }
 {
-    json!(in alloc; {"source": {
-        "data": text, "mediaType": "text/x.cucumber.gherkin+plain", "uri": uri
-    }})
+    let mut members = Map::new(alloc);
+    add_text(&mut members, alloc, "data", text)?;
+    add_text(
+        &mut members,
+        alloc,
+        "mediaType",
+        "text/x.cucumber.gherkin+plain",
+    )?;
+    add_text(&mut members, alloc, "uri", uri)?;
+    one_member(alloc, "source", Value::Object(members))
 }

@@ -1,6 +1,8 @@
-use Rattle.std.proofs.Common.{◌∙◌, ◌++◌, take}
-use Rattle.gk_pickle.specs.Steps.{keywords}
+use Rattle.std.proofs.Common.{◌∙◌, ◌++◌, ap, refl, take}
+use Rattle.std.proofs.lemmas.List.{take_all}
+use Rattle.gk_pickle.specs.Steps.{type_of, keywords, steps_after}
 use Rattle.gk_pickle.proofs.After.{keywords_more, rest_more, one_made}
+use Rattle.gk_pickle.proofs.Made.{all_made}
 use Rattle.gk_pickle.proofs.steps.add_steps.Goals as goal
 
 pub loop-step-preserved : goal.loop-step-preserved
@@ -12,3 +14,12 @@ loop-step-preserved c = record {
       (rest_more _ _ _ c.loop-step-test.true c.step-item.is) (keywords_more earlier _ _ _ c.loop-step-test.true c.step-item.is)
       ∙ c.loop-step.invariant.made earlier before;
 }
+
+pub returns-clause-made : goal.returns-clause-made
+returns-clause-made c = λ earlier before.
+    all_made (steps_after (earlier ++ keywords (take c.loop-step.step-index c.args.steps.now)) c.args.filling.now) _ c.args.steps.now c.loop-step.step-index _ refl
+    c.loop-step-test.false (c.loop-step.invariant.made earlier before)
+
+pub returns-clause-last : goal.returns-clause-last
+returns-clause-last c = λ earlier before.
+    c.loop-step.invariant.last earlier before ∙ ap (λ steps. type_of (earlier ++ keywords steps)) (take_all c.loop-step.step-index c.args.steps.now c.loop-step-test.false)

@@ -1,5 +1,5 @@
-use Rattle.std.proofs.Common.{reverse}
-use Rattle.gk_pickle.proofs.Parts.{ok_then, found_is, none_is, within_is, part_read, open_read, close_read, bring_read, none_left, less_left, less_brought}
+use Rattle.std.proofs.Common.{◌+◌, ◌≤◌, arith, length, reverse, rules}
+use Rattle.gk_pickle.proofs.Parts.{ok_then, found_is, none_is, within_is, part_read, open_read, close_read, bring_read, none_left, less_left, less_brought, more_within}
 use Rattle.gk_pickle.proofs.fill_single_pass.Reading.read_part.Goals as goal
 
 pub returns-in_default-clause-read : goal.returns-in_default-clause-read
@@ -41,3 +41,21 @@ returns-in_default-2-clause-read c =
 pub returns-in_default-2-clause-less : goal.returns-in_default-2-clause-less
 returns-in_default-2-clause-less c =
     less_left c.args.row.now c.args.part c.in-Some.before.now c.in-Some.bracket c.in-Some.after _ _ c.in-Some.ensures.some c.in_ok-push.ensures.items
+
+pub returns-in_default-clause-within : goal.returns-in_default-clause-within
+returns-in_default-clause-within c = ok_then c.add.result (λ e. c.requires.1) c.add.ensures
+
+pub returns-then-bracket-eq60-clause-within : goal.returns-then-bracket-eq60-clause-within
+returns-then-bracket-eq60-clause-within c =
+    ok_then c.open.result (λ e. more_within c.args.row.now c.args.parts.now.items c.push.new.self.items _ c.in_ok-push.ensures.items (search rules) c.requires.0.1 c.requires.1) c.open.ensures
+
+pub returns-in_ok-push-2-clause-within : goal.returns-in_ok-push-2-clause-within
+returns-in_ok-push-2-clause-within c =
+    let below = within_is c.args.row.now _ (c.in-Some-2.column, c.in-Some-2.text) c.in-Some-2.is c.in_ok-column.ensures.within in
+    let next : c.in-Some-2.column + 1 ≤ length c.args.row.now = omega (arith, below) in
+    more_within c.args.row.now c.push.new.self.items c.push-in-Some-2.new.self.items _ c.in_ok-push-2.ensures.items (search rules) next
+    (more_within c.args.row.now c.args.parts.now.items c.push.new.self.items _ c.in_ok-push.ensures.items (search rules) c.requires.0.1 c.requires.1)
+
+pub returns-in_default-2-clause-within : goal.returns-in_default-2-clause-within
+returns-in_default-2-clause-within c =
+    more_within c.args.row.now c.args.parts.now.items c.push.new.self.items _ c.in_ok-push.ensures.items (search rules) c.requires.0.1 c.requires.1
