@@ -19,10 +19,10 @@ use crate::command_cases::print_cases;
 use crate::command_compile::write_lines;
 use crate::command_differs::print_differs;
 use crate::command_gate::print_gate;
-use ck_command_line::{Choice, Refusal, choose};
 use crate::command_parse::print_feature;
 use crate::command_results::print_results;
 use crate::output::{ExitStatus, write_no_memory, write_text};
+use ck_command_line::{Choice, Refusal, choose};
 use cm_envelope::{ByteSink, ByteSource, Trouble};
 use std::alloc::{AllocError, Global};
 
