@@ -3,7 +3,7 @@ use crate::compiled::{FULL_TEXT, PLAIN_TEXT};
 use cm_differs::{
     Difference, missing_document, missing_pickle, pickle_difference, tree_difference,
 };
-use cm_envelope::{Envelope, Pickle as FoundPickle, read_envelope};
+use cm_envelope::{Envelope, EnvelopeFault, Pickle as FoundPickle, read_envelope};
 use gk_document::{Document, Text};
 use gk_pickle::{Pickle, compile};
 use gk_tree::parse;
@@ -80,35 +80,61 @@ fn pickles_differ(
     )
 }
 
-fn line_differs(alloc: Global, due: &Pickle, ids: &[Text], line: &str) -> Result<bool, AllocError> {
-    match &read_envelope(alloc, line.as_bytes()) {
+fn read_differs(
+    alloc: Global,
+    due: &Pickle,
+    ids: &[Text],
+    read: &Result<Envelope, EnvelopeFault>,
+) -> Result<bool, AllocError> {
+    match read {
         Ok(Envelope::Pickle(found)) => pickles_differ(alloc, due, ids, found),
         _ => Ok(false),
     }
 }
 
+fn line_differs(alloc: Global, due: &Pickle, ids: &[Text], line: &str) -> Result<bool, AllocError> {
+    let read = read_envelope(alloc, line.as_bytes());
+    let differs = read_differs(alloc, due, ids, &read);
+    drop(read);
+    differs
+}
+
+fn is_due(alloc: Global, due: &Pickle, line: &str) -> Result<bool, AllocError> {
+    let ids = two_ids(alloc)?;
+    line_differs(alloc, due, ids.as_slice(), line)
+}
+
 fn differs_from_first(alloc: Global, document: &Document, line: &str) -> Result<bool, Fail> {
     let pickles = compile(alloc, document)?;
-    let ids = two_ids(alloc)?;
-    let due = pickles.first().ok_or("no pickle")?;
-    Ok(line_differs(alloc, due, &ids, line)?)
+    match pickles.first() {
+        Some(due) => Ok(is_due(alloc, due, line)?),
+        None => Err(Fail::from("no pickle")),
+    }
 }
 
 #[test]
 fn differences_of_pickles(rt: HostRuntime) -> Result<(), Fail> {
     let document = parse(rt.alloc(), PLAIN_TEXT)?;
-    assert!(rt; differs_from_first(rt.alloc(), &document, FOUND_LINE)?);
+    let differs = differs_from_first(rt.alloc(), &document, FOUND_LINE);
+    drop(document);
+    assert!(rt; differs?);
     Ok(())
 }
 
 const FULL_PARTS: &str =
     r#"[{"feature":{"keyword":"Feature","language":"en","location":{"line":3},"name":"F 😀","tags":[{"location":{"line":2},"name":"@f"},{"location":{"line":2},"name":"@g"}]}},{"background":{"keyword":"Background","location":{"line":8},"name":"b"}},{"step":{"dataTable":{"rows":[{"cells":[{"value":"a|b"},{"value":""}],"location":{"line":10}}]},"keyword":"When ","location":{"line":9},"text":"x"}},{"rule":{"keyword":"Rule","location":{"line":12},"name":"r","tags":[]}},{"scenario":{"keyword":"Scenario Outline","location":{"line":14},"name":"<n> o","tags":[{"location":{"line":13},"name":"@s"}]}},{"step":{"docString":{"content":"tab\tq\n \"\"\"","location":{"line":16},"mediaType":"json <n>"},"keyword":"And ","location":{"line":15},"text":"<n>"}},{"examples":{"keyword":"Examples","location":{"line":21},"name":"E","tags":[{"location":{"line":20},"name":"@e"}]}},{"tableHeader":{"cells":[{"value":"n"}],"location":{"line":23}}},{"tableRow":{"cells":[{"value":"𝄞"}],"location":{"line":24}}},{"tableRow":{"cells":[{"value":""}],"location":{"line":25}}}]"#;
 
-// Whether the parts that are missing of a text's document are these.
+// Whether the parts that are missing of the document are these.
+fn lacks_parts(alloc: Global, document: &Document, parts: &str) -> Result<bool, AllocError> {
+    let missing = missing_document(alloc, URI, document)?;
+    Ok(is_difference(&missing, Some(parts), None))
+}
+
 fn has_parts(alloc: Global, text: &str, parts: &str) -> Result<bool, Fail> {
     let document = parse(alloc, text)?;
-    let missing = missing_document(alloc, URI, &document)?;
-    Ok(is_difference(&missing, Some(parts), None))
+    let has_parts = lacks_parts(alloc, &document, parts);
+    drop(document);
+    Ok(has_parts?)
 }
 
 #[test]
@@ -131,7 +157,20 @@ const MORE_SCENARIO: &str =
 
 const SAME_TEXT: &str = "Feature: f\n\n Scenario: s\n     Given a\n  # c\n";
 
-// Whether a text's document differs from the one that is due in these two texts.
+// Whether a document differs from the one that is due in these two texts.
+fn differs_from(
+    alloc: Global,
+    due: &Document,
+    found: &Document,
+    expected: Option<&str>,
+    seen: Option<&str>,
+) -> Result<bool, AllocError> {
+    match tree_difference(alloc, URI, due, found)? {
+        Some(difference) => Ok(is_difference(&difference, expected, seen)),
+        None => Ok(false),
+    }
+}
+
 fn differs_in(
     alloc: Global,
     due: &Document,
@@ -140,16 +179,21 @@ fn differs_in(
     seen: Option<&str>,
 ) -> Result<bool, Fail> {
     let found = parse(alloc, text)?;
-    match tree_difference(alloc, URI, due, &found)? {
-        Some(difference) => Ok(is_difference(&difference, expected, seen)),
-        None => Ok(false),
-    }
+    let differs = differs_from(alloc, due, &found, expected, seen);
+    drop(found);
+    Ok(differs?)
 }
 
-// Whether a text's document has the skeleton of the one that is due.
+// Whether a document has the skeleton of the one that is due.
+fn is_same(alloc: Global, due: &Document, found: &Document) -> Result<bool, AllocError> {
+    Ok(tree_difference(alloc, URI, due, found)?.is_none())
+}
+
 fn is_alike(alloc: Global, due: &Document, text: &str) -> Result<bool, Fail> {
     let found = parse(alloc, text)?;
-    Ok(tree_difference(alloc, URI, due, &found)?.is_none())
+    let is_same = is_same(alloc, due, &found);
+    drop(found);
+    Ok(is_same?)
 }
 
 fn documents_differ(alloc: Global, due: &Document) -> Result<bool, Fail> {
@@ -163,6 +207,8 @@ fn documents_differ(alloc: Global, due: &Document) -> Result<bool, Fail> {
 #[test]
 fn differences_of_documents(rt: HostRuntime) -> Result<(), Fail> {
     let due = parse(rt.alloc(), PLAIN_TEXT)?;
-    assert!(rt; documents_differ(rt.alloc(), &due)?);
+    let differ = documents_differ(rt.alloc(), &due);
+    drop(due);
+    assert!(rt; differ?);
     Ok(())
 }

@@ -7,10 +7,6 @@ use std::alloc::Global;
 use std::process::Abort;
 use std::test::Fail;
 
-fn parsed(alloc: Global, text: &str) -> Result<Document, Fail> {
-    Ok(parse(alloc, text)?)
-}
-
 // Whether the two have the same skeleton, and lines of a document of the plain text.
 const DOCUMENTS: &str =
     r#"yes {"gherkinDocument":{"comments":[],"feature":{"children":[{"scenario":{"description":"","examples":[],"id":"0","keyword":"Scenario","location":{"column":3,"line":3},"name":"s","steps":[{"id":"1","keyword":"Given ","keywordType":"Context","location":{"column":5,"line":4},"text":"a"}],"tags":[]}}],"description":"","keyword":"Feature","language":"en","location":{"column":1,"line":1},"name":"f","tags":[]},"uri":"a.feature"}}
@@ -48,7 +44,7 @@ fn expect_skeletons(rt: &impl Abort, alloc: Global, document: &Document) -> Resu
 #[test]
 fn skeletons_of_documents(rt: HostRuntime) -> Result<(), Fail> {
     let alloc = rt.alloc();
-    let document = parsed(alloc, PLAIN_TEXT)?;
+    let document = parse(alloc, PLAIN_TEXT)?;
     let done = expect_skeletons(&rt, alloc, &document);
     drop(document);
     done

@@ -44,14 +44,21 @@ fn look_ups(track: &Track) -> LookUps {
     }
 }
 
-// Cases with these steps, each with an open attempt.
-fn track_of(alloc: Global, count: usize) -> Result<Track, Fail> {
-    let mut track = Track::new(alloc);
+// Adds a case with these steps and an open attempt of the same id.
+fn add_started(track: &mut Track, alloc: Global, name: &str) -> Result<(), Fail> {
+    let id = String::from_str(alloc, name)?;
+    let steps = texts(alloc, &STEPS)?;
+    track.add_case(id, steps)?;
+    track.start(name, name, 0)?;
+    Ok(())
+}
+
+// Adds so many cases with an open attempt each.
+fn add_cases(track: &mut Track, alloc: Global, count: usize) -> Result<(), Fail> {
     for name in NAMES.iter().take(count) {
-        track.add_case(String::from_str(alloc, name)?, texts(alloc, &STEPS)?)?;
-        track.start(name, name, 0)?;
+        add_started(track, alloc, name)?;
     }
-    Ok(track)
+    Ok(())
 }
 
 // What came of a call that was met: its answer, the look-ups before and after it, and the answer of the start of an attempt
@@ -279,18 +286,23 @@ fn meet_equal_steps(track: &mut Track, alloc: Global, shortage: &mut Shortage) -
     meet_case(track, alloc, shortage, &["t", "t"], fault)
 }
 
-// A case, its attempt, and with no room the rest.
-fn meet_calls(track: &mut Track, alloc: Global, shortage: &mut Shortage) -> Result<(), Fail> {
+// A case, its attempt, and with no room the rest, where so many cases and attempts are there.
+fn meet_calls(
+    track: &mut Track,
+    alloc: Global,
+    shortage: &mut Shortage,
+    count: usize,
+) -> Result<(), Fail> {
+    add_cases(track, alloc, count)?;
     meet_equal_steps(track, alloc, shortage)?;
     meet_case(track, alloc, shortage, &STEPS, Ok(()))?;
     meet_start(track, alloc, shortage)?;
     check_answers(answers_without_room(track, alloc, shortage)?)
 }
 
-// Where so many cases and attempts are there.
 fn meet_cases(alloc: Global, shortage: &mut Shortage, count: usize) -> Result<(), Fail> {
-    let mut track = track_of(alloc, count)?;
-    let met = meet_calls(&mut track, alloc, shortage);
+    let mut track = Track::new(alloc);
+    let met = meet_calls(&mut track, alloc, shortage, count);
     drop(track);
     met
 }

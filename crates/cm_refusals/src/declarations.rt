@@ -98,17 +98,29 @@ fn texts(alloc: Global, words: &[&str]) -> Result<Vec<String>, AllocError> {
     Ok(owned)
 }
 
-// The first names declared for each kind, and as pickles.
-fn declared_names(alloc: Global, count: usize) -> Result<Declared, Fail> {
-    let mut declared = Declared::new(alloc);
-    for name in NAMES.iter().take(count) {
-        for kind in KINDS {
-            declare(&mut declared, kind, name)?;
-        }
-        let steps = texts(alloc, &[*name])?;
-        declared.declare_pickle(String::from_str(alloc, name)?, steps)?;
+// Declares the name for each kind.
+fn declare_kinds(declared: &mut Declared, name: &str) -> Result<(), RefFault> {
+    for kind in KINDS {
+        declare(declared, kind, name)?;
     }
-    Ok(declared)
+    Ok(())
+}
+
+// Declares a pickle whose one step has the pickle's own id.
+fn declare_pickle(declared: &mut Declared, alloc: Global, name: &str) -> Result<(), Fail> {
+    let id = String::from_str(alloc, name)?;
+    let steps = texts(alloc, &[name])?;
+    declared.declare_pickle(id, steps)?;
+    Ok(())
+}
+
+// Declares the first names for each kind, and as pickles.
+fn declare_names(declared: &mut Declared, alloc: Global, count: usize) -> Result<(), Fail> {
+    for name in NAMES.iter().take(count) {
+        declare_kinds(declared, name)?;
+        declare_pickle(declared, alloc, name)?;
+    }
+    Ok(())
 }
 
 // What came of a call that was met: its answer, and the look-ups before and after it.
@@ -172,14 +184,25 @@ fn meet_name(
     check(false, "never answered")
 }
 
-// With as many names declared before.
-fn meet_names(alloc: Global, shortage: &mut Shortage, count: usize) -> Result<(), Fail> {
-    let mut declared = declared_names(alloc, count)?;
+// Declares a new name for each kind, with as many names declared before.
+fn meet_kinds(
+    declared: &mut Declared,
+    alloc: Global,
+    shortage: &mut Shortage,
+    count: usize,
+) -> Result<(), Fail> {
+    declare_names(declared, alloc, count)?;
     for kind in KINDS {
-        meet_name(&mut declared, alloc, shortage, kind)?;
+        meet_name(declared, alloc, shortage, kind)?;
     }
-    drop(declared);
     Ok(())
+}
+
+fn meet_names(alloc: Global, shortage: &mut Shortage, count: usize) -> Result<(), Fail> {
+    let mut declared = Declared::new(alloc);
+    let met = meet_kinds(&mut declared, alloc, shortage, count);
+    drop(declared);
+    met
 }
 
 #[test]
@@ -255,15 +278,21 @@ fn meet_new_pickle(
     check(again == Err(RefFault::DuplicateId), "declared twice")
 }
 
-fn meet_both(declared: &mut Declared, alloc: Global, shortage: &mut Shortage) -> Result<(), Fail> {
+// Declares pickles, with as many names declared before.
+fn meet_both(
+    declared: &mut Declared,
+    alloc: Global,
+    shortage: &mut Shortage,
+    count: usize,
+) -> Result<(), Fail> {
+    declare_names(declared, alloc, count)?;
     meet_equal_steps(declared, alloc, shortage)?;
     meet_new_pickle(declared, alloc, shortage)
 }
 
-// With as many names declared before.
 fn meet_pickles(alloc: Global, shortage: &mut Shortage, count: usize) -> Result<(), Fail> {
-    let mut declared = declared_names(alloc, count)?;
-    let met = meet_both(&mut declared, alloc, shortage);
+    let mut declared = Declared::new(alloc);
+    let met = meet_both(&mut declared, alloc, shortage, count);
     drop(declared);
     met
 }
@@ -344,6 +373,7 @@ fn check_answers(answers: Answers) -> Result<(), Fail> {
 }
 
 fn meet_without_room(declared: &mut Declared, alloc: Global) -> Result<Answers, Fail> {
+    declare_names(declared, alloc, 1)?;
     let mut shortage = Shortage::new(alloc)?;
     let answers = answers_without_room(declared, alloc, &mut shortage);
     drop(shortage);
@@ -353,7 +383,7 @@ fn meet_without_room(declared: &mut Declared, alloc: Global) -> Result<Answers, 
 #[test]
 fn refusals_without_room(rt: HostRuntime) -> Result<(), Fail> {
     let alloc = rt.alloc();
-    let mut declared = declared_names(alloc, 1)?;
+    let mut declared = Declared::new(alloc);
     let answers = meet_without_room(&mut declared, alloc);
     drop(declared);
     check_answers(answers?)

@@ -83,9 +83,7 @@ fn a_kind_has_each_name_once(rt: HostRuntime) {
     drop(declared);
 }
 
-#[test]
-fn a_run_hook_finishes_once(rt: HostRuntime) {
-    let mut declared = Declared::new(rt.alloc());
+fn expect_run_hook(rt: &impl Abort, declared: &mut Declared) {
     assert!(rt; declared.start_run_hook("r") == Ok(()));
     assert!(rt; declared.open_run_hooks() == 1);
     assert!(rt; declared.start_run_hook("r") == Err(RefFault::DuplicateId));
@@ -94,6 +92,12 @@ fn a_run_hook_finishes_once(rt: HostRuntime) {
     assert!(rt; declared.finish_run_hook("r") == Err(RefFault::RunHookTwice));
     assert!(rt; declared.open_run_hooks() == 0);
     assert!(rt; declared.has_run_hook("r"));
+}
+
+#[test]
+fn a_run_hook_finishes_once(rt: HostRuntime) {
+    let mut declared = Declared::new(rt.alloc());
+    expect_run_hook(&rt, &mut declared);
     drop(declared);
 }
 
@@ -155,16 +159,28 @@ fn expect_pickles(
     Ok(())
 }
 
-#[test]
-fn a_pickle_has_distinct_steps(rt: HostRuntime) -> Result<(), Fail> {
-    let alloc = rt.alloc();
-    let mut declared = Declared::new(alloc);
-    expect_pickles(&rt, &mut declared, alloc, PICKLES)?;
+fn expect_steps(rt: &impl Abort, declared: &Declared) {
     assert!(rt; declared.has_step("p", "s"));
     assert!(rt; !declared.has_step("p", "t"));
     assert!(rt; !declared.has_step("q", "s"));
-    drop(declared);
+}
+
+fn expect_distinct_steps(
+    rt: &impl Abort,
+    declared: &mut Declared,
+    alloc: Global,
+) -> Result<(), AllocError> {
+    expect_pickles(rt, declared, alloc, PICKLES)?;
+    expect_steps(rt, declared);
     Ok(())
+}
+
+#[test]
+fn a_pickle_has_distinct_steps(rt: HostRuntime) -> Result<(), Fail> {
+    let mut declared = Declared::new(rt.alloc());
+    let done = expect_distinct_steps(&rt, &mut declared, rt.alloc());
+    drop(declared);
+    Ok(done?)
 }
 
 // The set of the words, or `-` where two of them are equal.

@@ -33,6 +33,30 @@ fn push_member(line: &mut String, name: &str, value: &str) -> Result<(), AllocEr
     line.push_str(value)
 }
 
+// Adds the member. The changed one has another value, or is missing if the value is empty.
+fn push_or_change(
+    line: &mut String,
+    member: &Member<'_>,
+    changed: &str,
+    value: &str,
+) -> Result<(), AllocError> {
+    if member.name != changed {
+        push_member(line, member.name, member.good)
+    } else if !value.is_empty() {
+        push_member(line, changed, value)
+    } else {
+        Ok(())
+    }
+}
+
+fn push_members(line: &mut String, members: &str, changed: &str, value: &str) -> Result<(), Fail> {
+    for told in members.lines() {
+        let member = member_of(told).ok_or("no member")?;
+        push_or_change(line, &member, changed, value)?;
+    }
+    Ok(())
+}
+
 // The line of an object with all members, where this one has another value, or is missing if the value is empty.
 fn line_with(
     alloc: Global,
@@ -42,14 +66,7 @@ fn line_with(
     value: &str,
 ) -> Result<String, Fail> {
     let mut line = format!(in alloc; "{{\"{kind}\":{{\"unknown\":[1]")?;
-    for told in members.lines() {
-        let member = member_of(told).ok_or("no member")?;
-        if member.name != changed {
-            push_member(&mut line, member.name, member.good)?;
-        } else if !value.is_empty() {
-            push_member(&mut line, changed, value)?;
-        }
-    }
+    push_members(&mut line, members, changed, value)?;
     line.push_str("}}")?;
     Ok(line)
 }
@@ -62,6 +79,21 @@ fn expect_line(rt: &impl Abort, alloc: Global, line: &str, kind: &str, refused: 
     }
 }
 
+// The line where a member has this value, or is missing if the value is empty, is refused for a member, or has no fault.
+fn expect_value(
+    rt: &impl Abort,
+    alloc: Global,
+    kind: &str,
+    members: &str,
+    name: &str,
+    value: &str,
+    refused: Option<&str>,
+) -> Result<(), Fail> {
+    let line = line_with(alloc, kind, members, name, value)?;
+    expect_line(rt, alloc, line.as_str(), kind, refused);
+    Ok(())
+}
+
 fn expect_member(
     rt: &impl Abort,
     alloc: Global,
@@ -71,18 +103,13 @@ fn expect_member(
 ) -> Result<(), Fail> {
     let name = member.name;
     let needed = if member.is_required { Some(name) } else { None };
-    let line = line_with(alloc, kind, members, name, "")?;
-    expect_line(rt, alloc, line.as_str(), kind, needed);
-    let line = line_with(alloc, kind, members, name, "null")?;
-    expect_line(rt, alloc, line.as_str(), kind, needed);
-    let line = line_with(alloc, kind, members, name, member.wrong)?;
-    expect_line(rt, alloc, line.as_str(), kind, Some(name));
-    Ok(())
+    expect_value(rt, alloc, kind, members, name, "", needed)?;
+    expect_value(rt, alloc, kind, members, name, "null", needed)?;
+    expect_value(rt, alloc, kind, members, name, member.wrong, Some(name))
 }
 
 fn expect_members(rt: &impl Abort, alloc: Global, kind: &str, members: &str) -> Result<(), Fail> {
-    let whole = line_with(alloc, kind, members, "", "")?;
-    expect_line(rt, alloc, whole.as_str(), kind, None);
+    expect_value(rt, alloc, kind, members, "", "", None)?;
     for told in members.lines() {
         let member = member_of(told).ok_or("no member")?;
         expect_member(rt, alloc, kind, members, &member)?;

@@ -31,23 +31,36 @@ fn place(part: &Part<'_>) -> (&'static str, u32) {
     }
 }
 
+fn told_part(alloc: Global, part: &Part<'_>) -> Result<String, AllocError> {
+    let (kind, line) = place(part);
+    format!(in alloc; "{kind}:{line}, ")
+}
+
 fn told(alloc: Global, part: &Option<Part<'_>>) -> Result<String, AllocError> {
     match part {
-        Some(part) => {
-            let (kind, line) = place(part);
-            format!(in alloc; "{kind}:{line}, ")
-        }
+        Some(part) => told_part(alloc, part),
         None => String::from_str(alloc, "nothing, "),
     }
 }
 
-fn told_parts(alloc: Global, document: &Document) -> Result<String, AllocError> {
+fn push_part(text: &mut String, alloc: Global, part: &Part<'_>) -> Result<(), AllocError> {
+    let part = told_part(alloc, part)?;
+    text.push_str(part.as_str())
+}
+
+fn told_all(alloc: Global, parts: &[Part<'_>]) -> Result<String, AllocError> {
     let mut text = String::new(alloc);
-    for part in parts(alloc, document)? {
-        let part = told(alloc, &Some(part))?;
-        text.push_str(part.as_str())?;
+    for part in parts {
+        push_part(&mut text, alloc, part)?;
     }
     Ok(text)
+}
+
+fn told_parts(alloc: Global, document: &Document) -> Result<String, AllocError> {
+    let parts = parts(alloc, document)?;
+    let told = told_all(alloc, parts.as_slice());
+    drop(parts);
+    told
 }
 
 fn told_first(
@@ -65,13 +78,43 @@ fn told_first(
     }
 }
 
+fn told_text(alloc: Global, text: &str) -> Result<String, Fail> {
+    let document = parse(alloc, text)?;
+    let told = told_parts(alloc, &document);
+    drop(document);
+    Ok(told?)
+}
+
 #[test]
 fn parts_in_the_order_of_the_file(rt: HostRuntime) -> Result<(), Fail> {
-    let document = parse(rt.alloc(), TEXT)?;
-    let told = told_parts(rt.alloc(), &document)?;
+    let told = told_text(rt.alloc(), TEXT)?;
     assert_eq!(rt; told.as_str(), PARTS);
-    drop(document);
     Ok(())
+}
+
+fn told_difference(
+    alloc: Global,
+    expected: &Document,
+    found: &Document,
+) -> Result<String, AllocError> {
+    let difference = first_difference(alloc, expected, found)?;
+    told_first(alloc, &difference)
+}
+
+/// Where the text's document first differs from the expected one.
+fn told_found(alloc: Global, expected: &Document, text: &str) -> Result<String, Fail> {
+    let found = parse(alloc, text)?;
+    let told = told_difference(alloc, expected, &found);
+    drop(found);
+    Ok(told?)
+}
+
+/// Where the text first differs from the whole one.
+fn told_other(alloc: Global, other: &str) -> Result<String, Fail> {
+    let expected = parse(alloc, TEXT)?;
+    let told = told_found(alloc, &expected, other);
+    drop(expected);
+    told
 }
 
 /// Checks where the text first differs from itself with `new` in the place of `old`.
@@ -83,13 +126,8 @@ fn check_difference(
     wanted: &str,
 ) -> Result<(), Fail> {
     let other = TEXT.replace(alloc, old, new)?;
-    let expected = parse(alloc, TEXT)?;
-    let found = parse(alloc, other.as_str())?;
-    let difference = first_difference(alloc, &expected, &found)?;
-    let told = told_first(alloc, &difference)?;
+    let told = told_other(alloc, other.as_str())?;
     assert_eq!(rt; told.as_str(), wanted);
-    drop(found);
-    drop(expected);
     Ok(())
 }
 

@@ -153,6 +153,29 @@ fn told_place(alloc: Global, scenario: &ScenarioInFeature<'_>) -> Result<String,
     }
 }
 
+fn check_place(
+    rt: &impl Abort,
+    alloc: Global,
+    scenario: &ScenarioInFeature<'_>,
+    wanted: &str,
+) -> Result<(), Fail> {
+    let place = told_place(alloc, scenario)?;
+    assert_eq!(rt; place.as_str(), wanted);
+    Ok(())
+}
+
+/// The pickles of a scenario as lines, with the ids from the first one.
+fn told_scenario(
+    alloc: Global,
+    scenario: &ScenarioInFeature<'_>,
+    first_id: u64,
+) -> Result<String, Fail> {
+    let pickles = compile_scenario(alloc, scenario)?;
+    let told = told(alloc, "u", pickles.as_slice(), first_id);
+    drop(pickles);
+    told
+}
+
 fn check_scenario(
     rt: &impl Abort,
     alloc: Global,
@@ -160,12 +183,8 @@ fn check_scenario(
     first_id: u64,
     wanted: (&str, &str),
 ) -> Result<(), Fail> {
-    let place = told_place(alloc, scenario)?;
-    assert_eq!(rt; place.as_str(), wanted.0);
-    let pickles = compile_scenario(alloc, scenario)?;
-    let told = told(alloc, "u", pickles.as_slice(), first_id);
-    drop(pickles);
-    let told = told?;
+    check_place(rt, alloc, scenario, wanted.0)?;
+    let told = told_scenario(alloc, scenario, first_id)?;
     assert_eq!(rt; told.as_str(), wanted.1);
     Ok(())
 }
