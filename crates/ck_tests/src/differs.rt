@@ -136,6 +136,13 @@ const NODES: [(&str, &str, &str); 10] = [
     ),
 ];
 
+// The stream with the document so changed.
+fn with_document(alloc: Global, old: &str, new: &str) -> Result<String, Fail> {
+    let document = DOCUMENT.replace(alloc, old, new)?;
+    let (source, document) = (SOURCE, document.as_str());
+    Ok(format!(in alloc; "{source}\n{document}\n")?)
+}
+
 fn expect_node(
     rt: &impl Abort,
     alloc: Global,
@@ -143,10 +150,8 @@ fn expect_node(
     new: &str,
     expected: &str,
 ) -> Result<(), Fail> {
-    let document = DOCUMENT.replace(alloc, old, new)?;
+    let stream = with_document(alloc, old, new)?;
     let found = expected.replace(alloc, old, new)?;
-    let (source, document) = (SOURCE, document.as_str());
-    let stream = format!(in alloc; "{source}\n{document}\n")?;
     let verdict = "2: 8 TreeDiffers";
     expect_difference(
         rt,
@@ -173,21 +178,25 @@ const ROW: &str =
 const ROWS: &str =
     r#",{"cells":[{"location":{"column":11,"line":23},"value":"2"}],"id":"n23","location":{"column":9,"line":23}},{"cells":[{"location":{"column":11,"line":24},"value":"3"}],"id":"n24","location":{"column":9,"line":24}}"#;
 
+// The stream whose last row is so changed.
+fn expect_rows_changed(
+    rt: &impl Abort,
+    alloc: Global,
+    rows: &str,
+    expected: &str,
+    found: &str,
+) -> Result<(), Fail> {
+    let stream = with_document(alloc, ROW, rows)?;
+    let verdict = "2: 8 TreeDiffers";
+    expect_difference(rt, alloc, stream.as_str(), verdict, expected, found)
+}
+
 #[test]
 fn nodes_on_one_side(rt: HostRuntime) -> Result<(), Fail> {
-    let alloc = rt.alloc();
-    let source = SOURCE;
-    let verdict = "2: 8 TreeDiffers";
-    let document = DOCUMENT.replace(alloc, ROW, "")?;
-    let document = document.as_str();
-    let fewer = format!(in alloc; "{source}\n{document}\n")?;
     let last = r#"{"tableRow":{"cells":[{"value":"2"}],"location":{"line":23}}}"#;
-    expect_difference(&rt, alloc, fewer.as_str(), verdict, last, "nothing")?;
-    let document = DOCUMENT.replace(alloc, ROW, ROWS)?;
-    let document = document.as_str();
-    let more = format!(in alloc; "{source}\n{document}\n")?;
+    expect_rows_changed(&rt, rt.alloc(), "", last, "nothing")?;
     let next = r#"{"tableRow":{"cells":[{"value":"3"}],"location":{"line":24}}}"#;
-    expect_difference(&rt, alloc, more.as_str(), verdict, "nothing", next)
+    expect_rows_changed(&rt, rt.alloc(), ROWS, "nothing", next)
 }
 
 // The first pickle and the last one, as they are due.
@@ -266,23 +275,23 @@ fn pickles_that_differ(rt: HostRuntime) -> Result<(), Fail> {
     Ok(())
 }
 
+const TYPED: &str = r#""text":"2","type":"Outcome""#;
+
+const UNTYPED: &str = r#""text":"4""#;
+
+// The stream's last pickle has a step without a type.
+fn expect_untyped(rt: &impl Abort, alloc: Global, stream: &str) -> Result<(), Fail> {
+    let due = LAST.replace(alloc, TYPED, r#""text":"2""#)?;
+    let found = LAST.replace(alloc, TYPED, UNTYPED)?;
+    let verdict = "5: 9 PickleDiffers";
+    expect_difference(rt, alloc, stream, verdict, due.as_str(), found.as_str())
+}
+
 // Where the stream's step has no type, none is due.
 #[test]
 fn a_step_without_a_type(rt: HostRuntime) -> Result<(), Fail> {
-    let alloc = rt.alloc();
-    let typed = r#""text":"2","type":"Outcome""#;
-    let stream = changed(alloc, typed, r#""text":"4""#)?;
-    let due = LAST.replace(alloc, typed, r#""text":"2""#)?;
-    let found = LAST.replace(alloc, typed, r#""text":"4""#)?;
-    let verdict = "5: 9 PickleDiffers";
-    expect_difference(
-        &rt,
-        alloc,
-        stream.as_str(),
-        verdict,
-        due.as_str(),
-        found.as_str(),
-    )
+    let stream = changed(rt.alloc(), TYPED, UNTYPED)?;
+    expect_untyped(&rt, rt.alloc(), stream.as_str())
 }
 
 // The last pickle of `HIDDEN`, and what is said where it is missing.

@@ -26,32 +26,48 @@ fn told_of_front(
     Ok(format!(in alloc; "bad line {later}: 22 NoRunFinished\n")?)
 }
 
-#[test]
-fn fronts_of_a_good_stream(rt: HostRuntime) -> Result<(), Fail> {
-    let alloc = rt.alloc();
-    let stream = stream_of(alloc, RETRIED)?;
-    let bytes = stream.as_bytes();
-    let mut lines: u64 = 0;
-    let mut is_at_start = true;
+// How far a front has come: the number of its whole lines, and whether it ends with one of them.
+#[derive(Clone, Copy)]
+struct Front {
+    lines: u64,
+    is_at_start: bool,
+}
+
+// The front's bytes, and whether its last line is whole.
+fn expect_front(
+    rt: &impl Abort,
+    alloc: Global,
+    bytes: &[u8],
+    front: Front,
+    is_whole: bool,
+) -> Result<(), Fail> {
+    let told = told_of_front(alloc, front.lines, front.is_at_start, is_whole)?;
+    let is_good = !front.is_at_start && is_whole && front.lines == 13;
+    let status = if is_good { 0 } else { 1 };
+    expect_told(rt, alloc, "audit", whole(bytes), told.as_str(), status);
+    Ok(())
+}
+
+fn expect_fronts(rt: &impl Abort, alloc: Global, bytes: &[u8]) -> Result<(), Fail> {
+    let mut front = Front {
+        lines: 0,
+        is_at_start: true,
+    };
     for (size, byte) in bytes.iter().enumerate() {
         let is_whole = *byte == b'\n';
-        let told = told_of_front(alloc, lines, is_at_start, is_whole)?;
-        let is_good = !is_at_start && is_whole && lines == 13;
-        let status = if is_good { 0 } else { 1 };
-        expect_told(
-            &rt,
-            alloc,
-            "audit",
-            whole(&bytes[..size]),
-            told.as_str(),
-            status,
-        );
-        is_at_start = is_whole;
+        expect_front(rt, alloc, &bytes[..size], front, is_whole)?;
+        front.is_at_start = is_whole;
         if is_whole {
-            lines = lines.saturating_add(1);
+            front.lines = front.lines.saturating_add(1);
         }
     }
     Ok(())
+}
+
+#[test]
+fn fronts_of_a_good_stream(rt: HostRuntime) -> Result<(), Fail> {
+    let stream = stream_of(rt.alloc(), RETRIED)?;
+    expect_fronts(&rt, rt.alloc(), stream.as_bytes())
 }
 
 // The read after these bytes fails: in single bytes, and after all of them at once.
@@ -101,19 +117,32 @@ fn lines_that_end_in_two_characters(rt: HostRuntime) -> Result<(), Fail> {
     Ok(())
 }
 
+fn push_lines(stream: &mut String, alloc: Global, words: &str) -> Result<(), Fail> {
+    let lines = stream_of(alloc, words)?;
+    Ok(stream.push_str(lines.as_str())?)
+}
+
+fn push_case(stream: &mut String, alloc: Global, i: i32) -> Result<(), Fail> {
+    let words = format!(in alloc;
+        "case:c{i}:t1 start:a{i}:c{i}:0 step:a{i}:t1 end:a{i}:t1:PASSED done:a{i}:false"
+    )?;
+    push_lines(stream, alloc, words.as_str())
+}
+
+fn push_cases(stream: &mut String, alloc: Global) -> Result<(), Fail> {
+    push_lines(stream, alloc, "source document pickle run")?;
+    for i in 0..1000 {
+        push_case(stream, alloc, i)?;
+    }
+    push_lines(stream, alloc, "well")
+}
+
 #[test]
 fn a_thousand_cases(rt: HostRuntime) -> Result<(), Fail> {
-    let alloc = rt.alloc();
-    let mut stream = stream_of(alloc, "source document pickle run")?;
-    for i in 0..1000 {
-        let words = format!(in alloc;
-            "case:c{i}:t1 start:a{i}:c{i}:0 step:a{i}:t1 end:a{i}:t1:PASSED done:a{i}:false"
-        )?;
-        stream.push_str(stream_of(alloc, words.as_str())?.as_str())?;
-    }
-    stream.push_str(stream_of(alloc, "well")?.as_str())?;
+    let mut stream = String::new(rt.alloc());
+    push_cases(&mut stream, rt.alloc())?;
     let told = "good sources=1 pickles=1 cases=1000 attempts=1000\n";
-    expect_told(&rt, alloc, "audit", whole(stream.as_bytes()), told, 0);
+    expect_told(&rt, rt.alloc(), "audit", whole(stream.as_bytes()), told, 0);
     Ok(())
 }
 

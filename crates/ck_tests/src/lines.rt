@@ -156,18 +156,34 @@ pub(crate) fn stream_of(alloc: Global, words: &str) -> Result<String, Fail> {
     Ok(text)
 }
 
+// The lines of a text with a slash between two of them.
+fn printed(alloc: Global, told: &str) -> Result<String, Fail> {
+    let text = told.replace(alloc, "/", "\n")?;
+    let text = text.as_str();
+    Ok(format!(in alloc; "{text}\n")?)
+}
+
+// What a command prints, and its status, for a stream of these lines.
+fn expect_stream(
+    rt: &impl Abort,
+    alloc: Global,
+    words: &[&str],
+    lines: &str,
+    text: &str,
+    status: u8,
+) -> Result<(), Fail> {
+    let stream = stream_of(alloc, lines)?;
+    expect_words(rt, alloc, words, whole(stream.as_bytes()), text, status);
+    Ok(())
+}
+
 // A row has the lines that are printed, each with a slash after it, a space, the status, ` = ` and the stream.
 fn expect_row(rt: &impl Abort, alloc: Global, words: &[&str], row: &str) -> Result<(), Fail> {
     let (told, lines) = row.split_once(" = ").ok_or("no stream")?;
     let (text, status) = told.split_once("/ ").ok_or("no status")?;
-    let text = text.replace(alloc, "/", "\n")?;
-    let text = text.as_str();
-    let text = format!(in alloc; "{text}\n")?;
     let status: u8 = status.parse().map_err(|_| "no status")?;
-    let stream = stream_of(alloc, lines)?;
-    let source = whole(stream.as_bytes());
-    expect_words(rt, alloc, words, source, text.as_str(), status);
-    Ok(())
+    let text = printed(alloc, text)?;
+    expect_stream(rt, alloc, words, lines, text.as_str(), status)
 }
 
 // What a command prints, and its status, for each row of a table.

@@ -43,6 +43,14 @@ fn attempts_that_come_otherwise(rt: HostRuntime) -> Result<(), Fail> {
 
 const STATUSES: &str = "UNKNOWN PASSED SKIPPED PENDING UNDEFINED AMBIGUOUS FAILED";
 
+// The stream of an attempt whose two steps end with these statuses.
+fn stream_of_two(alloc: Global, first: &str, second: &str) -> Result<String, Fail> {
+    let words = format!(in alloc;
+        "case:c1:t+u start:a:c1:0 step:a:t end:a:t:{first} step:a:u end:a:u:{second} done:a:false"
+    )?;
+    stream_of(alloc, words.as_str())
+}
+
 // An attempt whose two steps end with these statuses is reported by the worse of them.
 fn expect_worse(
     rt: &impl Abort,
@@ -50,11 +58,7 @@ fn expect_worse(
     statuses: (&str, &str),
     worse: &str,
 ) -> Result<(), Fail> {
-    let (first, second) = statuses;
-    let words = format!(in alloc;
-        "case:c1:t+u start:a:c1:0 step:a:t end:a:t:{first} step:a:u end:a:u:{second} done:a:false"
-    )?;
-    let stream = stream_of(alloc, words.as_str())?;
+    let stream = stream_of_two(alloc, statuses.0, statuses.1)?;
     let table = format!(in alloc; "c1 {worse}\n")?;
     expect_results(rt, alloc, stream.as_bytes(), table.as_str(), 0);
     Ok(())

@@ -60,13 +60,24 @@ fn expect_lines(
     Ok(())
 }
 
+// A stream whose last line has no LF.
+fn expect_without_line_feed(
+    rt: &impl Abort,
+    alloc: Global,
+    lines: &[&str],
+    text: &str,
+) -> Result<(), Fail> {
+    let bytes = stream(alloc, lines)?;
+    let without_line_feed = bytes.as_str().trim_end().as_bytes();
+    expect_results(rt, alloc, without_line_feed, text, 0);
+    Ok(())
+}
+
 #[test]
 fn tables_at_the_end_of_a_stream(rt: HostRuntime) -> Result<(), Fail> {
     let passed = [CASE_1, START_1, STEP_1, PASSED_1, END_1];
     expect_lines(&rt, rt.alloc(), &passed, "c1 PASSED\n", 0)?;
-    let bytes = stream(rt.alloc(), &passed)?;
-    let without_line_feed = bytes.as_str().trim_end().as_bytes();
-    expect_results(&rt, rt.alloc(), without_line_feed, "c1 PASSED\n", 0);
+    expect_without_line_feed(&rt, rt.alloc(), &passed, "c1 PASSED\n")?;
     expect_lines(
         &rt,
         rt.alloc(),

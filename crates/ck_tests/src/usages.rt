@@ -57,6 +57,15 @@ const WRONG_ATTEMPTS: &str = "--attempts-from 2
 --attempts-from 1 --attempts-from 1
 --attempts-from=0 --attempts-from 1";
 
+// The text has each of the wanted words.
+fn expect_parts(rt: &impl Abort, bytes: &[u8], wanted: &str) -> Result<(), Fail> {
+    let text = std::str::from_utf8(bytes)?;
+    for word in wanted.split(' ') {
+        assert!(rt; text.contains(word), "{word} in {text}");
+    }
+    Ok(())
+}
+
 // Nothing is read, and the text that is printed has each of the wanted words.
 fn expect_text(
     rt: &impl Abort,
@@ -69,35 +78,44 @@ fn expect_text(
     let mut sink = taking(alloc, 7);
     assert_eq!(rt; run(alloc, words, &mut source, &mut sink), status);
     assert_eq!(rt; source.calls, 0);
-    let text = std::str::from_utf8(sink.taken.as_slice())?;
-    for word in wanted.split(' ') {
-        assert!(rt; text.contains(word), "{word} in {text}");
-    }
-    Ok(())
+    expect_parts(rt, sink.taken.as_slice(), wanted)
+}
+
+// A row has the status, the words that are given, ` = ` and the words that are wanted.
+fn expect_told_row(rt: &impl Abort, alloc: Global, row: &str) -> Result<(), Fail> {
+    let (given, wanted) = row.split_once(" = ").ok_or("no text")?;
+    let (status, words) = given.split_once(' ').unwrap_or((given, ""));
+    let status: u8 = status.parse().map_err(|_| "no status")?;
+    let words: Vec<&str> = words.split_whitespace().collect(alloc)?;
+    expect_text(rt, alloc, words.as_slice(), status, wanted)
 }
 
 #[test]
 fn texts_that_ask_for_other_words(rt: HostRuntime) -> Result<(), Fail> {
     for row in TEXTS.lines() {
-        let (given, wanted) = row.split_once(" = ").ok_or("no text")?;
-        let (status, words) = given.split_once(' ').unwrap_or((given, ""));
-        let status: u8 = status.parse().map_err(|_| "no status")?;
-        let words: Vec<&str> = words.split_whitespace().collect(rt.alloc())?;
-        expect_text(&rt, rt.alloc(), words.as_slice(), status, wanted)?;
+        expect_told_row(&rt, rt.alloc(), row)?;
     }
     Ok(())
+}
+
+fn expect_wrong(rt: &impl Abort, alloc: Global, command: &str, row: &str) -> Result<(), Fail> {
+    let mut words: Vec<&str> = row.split_whitespace().collect(alloc)?;
+    words.insert(0, command)?;
+    expect_text(rt, alloc, words.as_slice(), 2, "error:")
+}
+
+fn expect_all_wrong(rt: &impl Abort, alloc: Global, command: &str) -> Result<(), Fail> {
+    for row in WRONG_ATTEMPTS.lines() {
+        expect_wrong(rt, alloc, command, row)?;
+    }
+    let words = [command, "--attempts-from", ""];
+    expect_text(rt, alloc, &words, 2, "error:")
 }
 
 #[test]
 fn first_numbers_that_are_neither_0_nor_1(rt: HostRuntime) -> Result<(), Fail> {
     for command in ["audit", "gate", "results", "cases", "differs"] {
-        for row in WRONG_ATTEMPTS.lines() {
-            let mut words: Vec<&str> = row.split_whitespace().collect(rt.alloc())?;
-            words.insert(0, command)?;
-            expect_text(&rt, rt.alloc(), words.as_slice(), 2, "error:")?;
-        }
-        let words = [command, "--attempts-from", ""];
-        expect_text(&rt, rt.alloc(), &words, 2, "error:")?;
+        expect_all_wrong(&rt, rt.alloc(), command)?;
     }
     Ok(())
 }

@@ -4,7 +4,7 @@ use crate::streams::PLAIN_TEXT;
 use cm_differs::{
     Difference, missing_document, missing_pickle, pickle_difference, tree_difference,
 };
-use cm_envelope::{Envelope, Pickle, read_envelope};
+use cm_envelope::{Envelope, EnvelopeFault, Pickle, read_envelope};
 use gk_document::{Document, Text};
 use gk_pickle::{Pickle as DuePickle, compile};
 use gk_tree::parse;
@@ -79,47 +79,103 @@ fn write_missing(alloc: Global, due: &DuePickle) -> Came {
     came_of(&made, Some(MISSING_PICKLE), None)
 }
 
+fn meet_trees(
+    alloc: Global,
+    shortage: &mut Shortage,
+    due: &Document,
+    found: &Document,
+) -> Result<(), Fail> {
+    meet(
+        alloc,
+        shortage,
+        SMALL,
+        |alloc| compare_trees(alloc, due, found),
+    )?;
+    meet(alloc, shortage, SMALL, |alloc| list_missing(alloc, due))
+}
+
+fn meet_documents(alloc: Global, due: &Document, found: &Document) -> Result<(), Fail> {
+    let mut shortage = Shortage::new(alloc)?;
+    let met = meet_trees(alloc, &mut shortage, due, found);
+    drop(shortage);
+    met
+}
+
+fn meet_other_document(alloc: Global, due: &Document) -> Result<(), Fail> {
+    let found = parse(alloc, OTHER_TEXT)?;
+    let met = meet_documents(alloc, due, &found);
+    drop(found);
+    met
+}
+
 #[test]
 fn documents_that_differ(rt: HostRuntime) -> Result<(), Fail> {
     let alloc = rt.alloc();
     let due = parse(alloc, PLAIN_TEXT)?;
-    let found = parse(alloc, OTHER_TEXT)?;
-    let mut shortage = Shortage::new(alloc)?;
-    meet(alloc, &mut shortage, SMALL, |alloc| {
-        compare_trees(alloc, &due, &found)
-    })?;
+    let met = meet_other_document(alloc, &due);
+    drop(due);
+    met
+}
+
+fn meet_lines(
+    alloc: Global,
+    shortage: &mut Shortage,
+    due: &DuePickle,
+    found: &Pickle,
+) -> Result<(), Fail> {
     meet(
         alloc,
-        &mut shortage,
+        shortage,
         SMALL,
-        |alloc| list_missing(alloc, &due),
+        |alloc| compare_pickles(alloc, due, found),
     )?;
+    meet(alloc, shortage, SMALL, |alloc| write_missing(alloc, due))
+}
+
+fn meet_pickles(alloc: Global, due: &DuePickle, found: &Pickle) -> Result<(), Fail> {
+    let mut shortage = Shortage::new(alloc)?;
+    let met = meet_lines(alloc, &mut shortage, due, found);
     drop(shortage);
-    drop(found);
-    drop(due);
-    Ok(())
+    met
+}
+
+fn meet_read(
+    alloc: Global,
+    due: &DuePickle,
+    read: &Result<Envelope, EnvelopeFault>,
+) -> Result<(), Fail> {
+    match read {
+        Ok(Envelope::Pickle(found)) => meet_pickles(alloc, due, found),
+        _ => Err(Fail::from("no pickle")),
+    }
+}
+
+fn meet_found_pickle(alloc: Global, due: &DuePickle) -> Result<(), Fail> {
+    let read = read_envelope(alloc, FOUND_LINE.as_bytes());
+    let met = meet_read(alloc, due, &read);
+    drop(read);
+    met
+}
+
+fn meet_first_pickle(alloc: Global, pickles: &[DuePickle]) -> Result<(), Fail> {
+    match pickles.first() {
+        Some(due) => meet_found_pickle(alloc, due),
+        None => Err(Fail::from("no pickle")),
+    }
+}
+
+fn meet_compiled(alloc: Global, document: &Document) -> Result<(), Fail> {
+    let pickles = compile(alloc, document)?;
+    let met = meet_first_pickle(alloc, pickles.as_slice());
+    drop(pickles);
+    met
 }
 
 #[test]
 fn pickles_that_differ(rt: HostRuntime) -> Result<(), Fail> {
     let alloc = rt.alloc();
     let document = parse(alloc, PLAIN_TEXT)?;
-    let pickles = compile(alloc, &document)?;
-    let due = pickles.first().ok_or("no pickle")?;
-    let read = read_envelope(alloc, FOUND_LINE.as_bytes());
-    let Ok(Envelope::Pickle(found)) = &read else {
-        return Err(Fail::from("no pickle"));
-    };
-    let mut shortage = Shortage::new(alloc)?;
-    meet(alloc, &mut shortage, SMALL, |alloc| {
-        compare_pickles(alloc, due, found)
-    })?;
-    meet(
-        alloc,
-        &mut shortage,
-        SMALL,
-        |alloc| write_missing(alloc, due),
-    )?;
-    drop(shortage);
-    Ok(())
+    let met = meet_compiled(alloc, &document);
+    drop(document);
+    met
 }

@@ -1,11 +1,13 @@
 //! Lines, documents and pickles in want of memory.
 ghost use Rattle.std.specs.Prelude.{◌≤◌, length, IfSome};
 
-use crate::meeting::{Came, SMALL, check, meet, meet_alone, right_if};
+use crate::meeting::{Came, SMALL, check, meet_alone, right_if};
 use gk_line::{
     Cell, Fence, Line, TagFault, TagText, cells, doc_line, is_row, is_tags, push_doc_line, tags,
 };
-use gk_pickle::{Pickle, ScenarioInFeature, StepType, compile, compile_scenario, fill, scenarios};
+use gk_pickle::{
+    Pickle, PickleStep, ScenarioInFeature, StepType, compile, compile_scenario, fill, scenarios,
+};
 use gk_tree::{Document, FaultKind, ParseFault, parse};
 use scarce::Shortage;
 use std::alloc::{AllocError, Global};
@@ -125,18 +127,24 @@ fn is_push_refused(
     Ok(is_refused)
 }
 
+fn meet_push(text: &mut String, alloc: Global, shortage: &mut Shortage) -> Result<(), Fail> {
+    let is_refused = is_push_refused(text, alloc, shortage, 0)?;
+    check(is_refused, "never refused")?;
+    let is_refused = is_push_refused(text, alloc, shortage, 1024)?;
+    check(!is_refused, "never answered")
+}
+
+fn meet_text(text: &mut String, alloc: Global) -> Result<(), Fail> {
+    let mut shortage = Shortage::new(alloc)?;
+    let met = meet_push(text, alloc, &mut shortage);
+    drop(shortage);
+    met
+}
+
 #[test]
 fn a_line_after_a_text(rt: HostRuntime) -> Result<(), Fail> {
-    let alloc = rt.alloc();
-    let mut text = String::from_str(alloc, "x")?;
-    let mut shortage = Shortage::new(alloc)?;
-    check(
-        is_push_refused(&mut text, alloc, &mut shortage, 0)?,
-        "never refused",
-    )?;
-    let is_refused = is_push_refused(&mut text, alloc, &mut shortage, 1024)?;
-    drop(shortage);
-    check(!is_refused, "never answered")
+    let mut text = String::from_str(rt.alloc(), "x")?;
+    meet_text(&mut text, rt.alloc())
 }
 
 const RULED_TEXT: &str =
@@ -156,49 +164,63 @@ fn parse_ruled(alloc: Global) -> Came {
     }
 }
 
-fn is_ruled_pickle(pickle: &Pickle) -> bool {
-    match pickle.steps.as_slice() {
+fn is_step(step: &PickleStep, text: &str, nodes: &[u64]) -> bool {
+    step.text.as_str() == text && step.nodes.as_slice() == nodes
+}
+
+fn are_ruled_steps(steps: &[PickleStep]) -> bool {
+    match steps {
         [b, c] => {
-            pickle.name.as_str() == "1 o"
-                && pickle.nodes.as_slice() == [6, 11].as_slice()
-                && pickle.tags.len() == 4
-                && b.text.as_str() == "b"
-                && b.nodes.as_slice() == [3].as_slice()
-                && c.text.as_str() == "c"
-                && c.kind == StepType::Context
-                && c.nodes.as_slice() == [7, 11].as_slice()
+            is_step(b, "b", &[3]) && is_step(c, "c", &[7, 11]) && c.kind == StepType::Context
         }
+        _ => false,
+    }
+}
+
+fn is_ruled_pickle(pickle: &Pickle) -> bool {
+    pickle.name.as_str() == "1 o"
+        && pickle.nodes.as_slice() == [6, 11].as_slice()
+        && pickle.tags.len() == 4
+        && are_ruled_steps(pickle.steps.as_slice())
+}
+
+fn are_ruled_pickles(pickles: &[Pickle]) -> bool {
+    match pickles {
+        [pickle] => is_ruled_pickle(pickle),
         _ => false,
     }
 }
 
 fn right_if_ruled(pickles: Result<Vec<Pickle>, AllocError>) -> Came {
     match pickles {
-        Ok(pickles) => match pickles.as_slice() {
-            [pickle] => right_if(is_ruled_pickle(pickle)),
-            _ => Came::Wrong,
-        },
+        Ok(pickles) => right_if(are_ruled_pickles(pickles.as_slice())),
         Err(AllocError) => Came::Refused,
     }
 }
 
-fn is_ruled_scenario(scenario: &ScenarioInFeature<'_>) -> bool {
-    match scenario.rule {
-        Some(rule) => {
-            scenario.feature.name.as_str() == "f"
-                && rule.name.as_str() == "r"
-                && scenario.scenario.name.as_str() == "<n> o"
-        }
+fn are_ruled_names(feature: &str, rule: &str, scenario: &str) -> bool {
+    feature == "f" && rule == "r" && scenario == "<n> o"
+}
+
+fn is_ruled_scenario(found: &ScenarioInFeature<'_>) -> bool {
+    let feature = found.feature.name.as_str();
+    let scenario = found.scenario.name.as_str();
+    match found.rule {
+        Some(rule) => are_ruled_names(feature, rule.name.as_str(), scenario),
         None => false,
+    }
+}
+
+fn are_ruled_scenarios(found: &[ScenarioInFeature<'_>]) -> bool {
+    match found {
+        [scenario] => is_ruled_scenario(scenario),
+        _ => false,
     }
 }
 
 fn find_ruled(alloc: Global, document: &Document) -> Came {
     match scenarios(alloc, document) {
-        Ok(scenarios) => match scenarios.as_slice() {
-            [scenario] => right_if(is_ruled_scenario(scenario)),
-            _ => Came::Wrong,
-        },
+        Ok(scenarios) => right_if(are_ruled_scenarios(scenarios.as_slice())),
         Err(AllocError) => Came::Refused,
     }
 }
@@ -212,44 +234,45 @@ fn documents(rt: HostRuntime) -> Result<(), Fail> {
 fn pickles(rt: HostRuntime) -> Result<(), Fail> {
     let alloc = rt.alloc();
     let document = parse(alloc, RULED_TEXT)?;
-    let mut shortage = Shortage::new(alloc)?;
-    meet(alloc, &mut shortage, SMALL, |alloc| {
-        right_if_ruled(compile(alloc, &document))
-    })?;
-    drop(shortage);
+    let met = meet_alone(
+        alloc,
+        SMALL,
+        |alloc| right_if_ruled(compile(alloc, &document)),
+    );
     drop(document);
-    Ok(())
+    met
 }
 
 #[test]
 fn scenarios_of_a_document(rt: HostRuntime) -> Result<(), Fail> {
     let alloc = rt.alloc();
     let document = parse(alloc, RULED_TEXT)?;
-    let mut shortage = Shortage::new(alloc)?;
-    meet(alloc, &mut shortage, SMALL, |alloc| {
-        find_ruled(alloc, &document)
-    })?;
-    drop(shortage);
+    let met = meet_alone(alloc, SMALL, |alloc| find_ruled(alloc, &document));
     drop(document);
-    Ok(())
+    met
 }
 
 fn meet_scenario(alloc: Global, scenarios: &[ScenarioInFeature<'_>]) -> Result<(), Fail> {
     let scenario = scenarios.first().ok_or("no scenario")?;
-    let mut shortage = Shortage::new(alloc)?;
-    meet(alloc, &mut shortage, SMALL, |alloc| {
-        right_if_ruled(compile_scenario(alloc, scenario))
-    })?;
-    drop(shortage);
-    Ok(())
+    meet_alone(
+        alloc,
+        SMALL,
+        |alloc| right_if_ruled(compile_scenario(alloc, scenario)),
+    )
+}
+
+fn meet_scenarios(alloc: Global, document: &Document) -> Result<(), Fail> {
+    let scenarios = scenarios(alloc, document)?;
+    meet_scenario(alloc, scenarios.as_slice())
 }
 
 #[test]
 fn pickles_of_a_scenario(rt: HostRuntime) -> Result<(), Fail> {
     let alloc = rt.alloc();
     let document = parse(alloc, RULED_TEXT)?;
-    let scenarios = scenarios(alloc, &document)?;
-    meet_scenario(alloc, scenarios.as_slice())
+    let met = meet_scenarios(alloc, &document);
+    drop(document);
+    met
 }
 
 fn cells_of(alloc: Global, text: &str) -> Result<Vec<Cell>, Fail> {
@@ -302,15 +325,22 @@ fn meet_fill(
     check(false, "never answered")
 }
 
+fn meet_cells(alloc: Global, header: &[Cell], row: &[Cell]) -> Result<(), Fail> {
+    let mut shortage = Shortage::new(alloc)?;
+    let met = meet_fill(alloc, &mut shortage, header, row);
+    drop(shortage);
+    met
+}
+
+fn meet_row(alloc: Global, header: &[Cell]) -> Result<(), Fail> {
+    let row = cells_of(alloc, "|<b>|1|")?;
+    meet_cells(alloc, header, row.as_slice())
+}
+
 #[test]
 fn filled_texts(rt: HostRuntime) -> Result<(), Fail> {
-    let alloc = rt.alloc();
-    let header = cells_of(alloc, "|a|b|")?;
-    let row = cells_of(alloc, "|<b>|1|")?;
-    let mut shortage = Shortage::new(alloc)?;
-    meet_fill(alloc, &mut shortage, header.as_slice(), row.as_slice())?;
-    drop(shortage);
-    Ok(())
+    let header = cells_of(rt.alloc(), "|a|b|")?;
+    meet_row(rt.alloc(), header.as_slice())
 }
 
 // So many spaces.
@@ -330,16 +360,24 @@ fn is_too_long(alloc: Global, text: &str) -> bool {
     }
 }
 
-#[test]
-fn a_text_beyond_the_limit_without_room(rt: HostRuntime) -> Result<(), Fail> {
-    let alloc = rt.alloc();
-    let text = spaces(alloc, 16_777_217)?;
-    let mut shortage = Shortage::new(alloc)?;
+fn check_long(alloc: Global, shortage: &mut Shortage, text: &str) -> Result<(), Fail> {
     shortage.leave(alloc, 0)?;
-    let is_told = is_too_long(alloc, text.as_str());
+    let is_told = is_too_long(alloc, text);
     let is_short = parse_ruled(alloc) == Came::Refused;
     shortage.relax(alloc);
-    drop(shortage);
     check(is_told, "another answer")?;
     check(is_short, "memory was there")
+}
+
+fn meet_long(alloc: Global, text: &str) -> Result<(), Fail> {
+    let mut shortage = Shortage::new(alloc)?;
+    let met = check_long(alloc, &mut shortage, text);
+    drop(shortage);
+    met
+}
+
+#[test]
+fn a_text_beyond_the_limit_without_room(rt: HostRuntime) -> Result<(), Fail> {
+    let text = spaces(rt.alloc(), 16_777_217)?;
+    meet_long(rt.alloc(), text.as_str())
 }

@@ -15,8 +15,9 @@ enum Next {
     Another,
 }
 
-fn answer_of(feed: &mut Feed, source: &mut Bytes<'_>, wanted: &str) -> Next {
-    match feed.next_line(source) {
+// What an answer is, where a line is to be the wanted one.
+fn next_of(answer: Result<Option<&[u8]>, Trouble>, wanted: &str) -> Next {
+    match answer {
         Ok(Some(line)) => if line == wanted.as_bytes() {
             Next::Line
         } else {
@@ -25,6 +26,10 @@ fn answer_of(feed: &mut Feed, source: &mut Bytes<'_>, wanted: &str) -> Next {
         Ok(None) => Next::End,
         Err(trouble) => Next::Failed(trouble),
     }
+}
+
+fn answer_of(feed: &mut Feed, source: &mut Bytes<'_>, wanted: &str) -> Next {
+    next_of(feed.next_line(source), wanted)
 }
 
 const MEMORY: Next = Next::Failed(Trouble::Memory);
@@ -90,7 +95,37 @@ fn stays(feed: &mut Feed, source: &mut Bytes<'_>, last: Next) -> bool {
     }
 }
 
-// Reads a stream with this room. Answers whether a growth was refused.
+// The first answers with this room.
+fn answers_with_room(
+    alloc: Global,
+    shortage: &mut Shortage,
+    room: usize,
+    feed: &mut Feed,
+    source: &mut Bytes<'_>,
+    stream: Stream,
+) -> Result<[Next; 3], Fail> {
+    shortage.leave(alloc, room)?;
+    let answers = first_answers(feed, source, stream);
+    shortage.relax(alloc);
+    Ok(answers)
+}
+
+// Reads a stream by this feed with this room. Answers whether a growth was refused.
+fn is_feed_refused(
+    alloc: Global,
+    shortage: &mut Shortage,
+    room: usize,
+    feed: &mut Feed,
+    stream: Stream,
+    most: usize,
+) -> Result<bool, Fail> {
+    let mut source = in_pieces(stream.text, most);
+    let answers = answers_with_room(alloc, shortage, room, feed, &mut source, stream)?;
+    check(are_right(answers, stream), "another answer")?;
+    check(stays(feed, &mut source, answers[2]), "it answers again")?;
+    Ok(answers[2] == MEMORY)
+}
+
 fn is_refused(
     alloc: Global,
     shortage: &mut Shortage,
@@ -99,17 +134,9 @@ fn is_refused(
     most: usize,
 ) -> Result<bool, Fail> {
     let mut feed = Feed::with_limits(alloc, 4, 10);
-    let mut source = in_pieces(stream.text, most);
-    shortage.leave(alloc, room)?;
-    let answers = first_answers(&mut feed, &mut source, stream);
-    shortage.relax(alloc);
-    check(are_right(answers, stream), "another answer")?;
-    check(
-        stays(&mut feed, &mut source, answers[2]),
-        "it answers again",
-    )?;
+    let is_refused = is_feed_refused(alloc, shortage, room, &mut feed, stream, most);
     drop(feed);
-    Ok(answers[2] == MEMORY)
+    is_refused
 }
 
 fn meet_stream(
@@ -131,45 +158,89 @@ fn meet_stream(
     check(!is_refused, "never answered")
 }
 
+fn meet_streams(alloc: Global, shortage: &mut Shortage, most: usize) -> Result<(), Fail> {
+    meet_stream(alloc, shortage, LONG_LINE, most)?;
+    meet_stream(alloc, shortage, LONG_STREAM, most)?;
+    meet_stream(alloc, shortage, WITHIN, most)
+}
+
+fn meet_pieces(alloc: Global, shortage: &mut Shortage) -> Result<(), Fail> {
+    meet_streams(alloc, shortage, 1)?;
+    meet_streams(alloc, shortage, 3)?;
+    meet_streams(alloc, shortage, 100)
+}
+
 #[test]
 fn lines_of_streams(rt: HostRuntime) -> Result<(), Fail> {
     let alloc = rt.alloc();
     let mut shortage = Shortage::new(alloc)?;
-    for most in [1usize, 3, 100] {
-        meet_stream(alloc, &mut shortage, LONG_LINE, most)?;
-        meet_stream(alloc, &mut shortage, LONG_STREAM, most)?;
-        meet_stream(alloc, &mut shortage, WITHIN, most)?;
-    }
+    let met = meet_pieces(alloc, &mut shortage);
     drop(shortage);
-    Ok(())
+    met
 }
 
-// The end and a trouble are answered for good with no room at all.
+// Whether the feed gives this twice with no room at all.
+fn gives_twice(
+    alloc: Global,
+    shortage: &mut Shortage,
+    feed: &mut Feed,
+    source: &mut Bytes<'_>,
+    wanted: Next,
+) -> Result<bool, Fail> {
+    shortage.leave(alloc, 0)?;
+    let first = answer_of(feed, source, "");
+    let second = answer_of(feed, source, "");
+    shortage.relax(alloc);
+    Ok(first == wanted && second == wanted)
+}
+
+fn is_given_without_room(
+    alloc: Global,
+    feed: &mut Feed,
+    source: &mut Bytes<'_>,
+    wanted: Next,
+) -> Result<bool, Fail> {
+    let mut shortage = Shortage::new(alloc)?;
+    let is_given = gives_twice(alloc, &mut shortage, feed, source, wanted);
+    drop(shortage);
+    is_given
+}
+
+fn meet_end(alloc: Global, feed: &mut Feed) -> Result<(), Fail> {
+    let mut source = in_pieces("a", 100);
+    let first = answer_of(feed, &mut source, "a");
+    check(first == Next::Line, "no line")?;
+    check(
+        is_given_without_room(alloc, feed, &mut source, Next::End)?,
+        "no end",
+    )
+}
+
+// The end is answered for good with no room at all.
 #[test]
 fn ends_without_room(rt: HostRuntime) -> Result<(), Fail> {
-    let alloc = rt.alloc();
-    let mut feed = Feed::new(alloc);
-    let mut source = in_pieces("a", 100);
-    check(
-        answer_of(&mut feed, &mut source, "a") == Next::Line,
-        "no line",
-    )?;
-    let mut small = Feed::with_limits(alloc, 4, 10);
-    let mut long = in_pieces("abcde", 100);
-    let trouble = Next::Failed(Trouble::LineTooLong);
-    check(
-        answer_of(&mut small, &mut long, "") == trouble,
-        "no trouble",
-    )?;
-    let mut shortage = Shortage::new(alloc)?;
-    shortage.leave(alloc, 0)?;
-    let first_end = answer_of(&mut feed, &mut source, "");
-    let second_end = answer_of(&mut feed, &mut source, "");
-    let again = answer_of(&mut small, &mut long, "");
-    shortage.relax(alloc);
+    let mut feed = Feed::new(rt.alloc());
+    let met = meet_end(rt.alloc(), &mut feed);
     drop(feed);
-    drop(small);
-    drop(shortage);
-    check(first_end == Next::End && second_end == Next::End, "no end")?;
-    check(again == trouble, "another trouble")
+    met
+}
+
+fn meet_trouble(alloc: Global, feed: &mut Feed) -> Result<(), Fail> {
+    let mut source = in_pieces("abcde", 100);
+    let trouble = Next::Failed(Trouble::LineTooLong);
+    let first = answer_of(feed, &mut source, "");
+    check(first == trouble, "no trouble")?;
+    check(
+        is_given_without_room(alloc, feed, &mut source, trouble)?,
+        "another trouble",
+    )
+}
+
+// A trouble is answered for good with no room at all.
+#[test]
+fn troubles_without_room(rt: HostRuntime) -> Result<(), Fail> {
+    let mut feed = Feed::with_limits(rt.alloc(), 4, 10);
+    let met = meet_trouble(rt.alloc(), &mut feed);
+    drop(feed);
+    met
 }

@@ -1,8 +1,7 @@
 //! The parts of documents in want of memory.
-use crate::meeting::{Came, SMALL, meet, right_if};
+use crate::meeting::{Came, SMALL, meet_alone, right_if};
 use gk_parts::{FirstDifference, Part, first_difference, parts};
 use gk_tree::{Document, parse};
-use scarce::Shortage;
 use std::alloc::{AllocError, Global};
 use std::test::Fail;
 
@@ -38,26 +37,27 @@ fn find_difference(alloc: Global, expected: &Document, found: &Document) -> Came
 fn parts_of_a_document(rt: HostRuntime) -> Result<(), Fail> {
     let alloc = rt.alloc();
     let document = parse(alloc, TEXT)?;
-    let mut shortage = Shortage::new(alloc)?;
-    meet(alloc, &mut shortage, SMALL, |alloc| {
-        list_parts(alloc, &document)
-    })?;
-    drop(shortage);
+    let met = meet_alone(alloc, SMALL, |alloc| list_parts(alloc, &document));
     drop(document);
-    Ok(())
+    met
+}
+
+fn meet_difference(alloc: Global, expected: &Document) -> Result<(), Fail> {
+    let found = parse(alloc, OTHER_TEXT)?;
+    let met = meet_alone(
+        alloc,
+        SMALL,
+        |alloc| find_difference(alloc, expected, &found),
+    );
+    drop(found);
+    met
 }
 
 #[test]
 fn first_differences(rt: HostRuntime) -> Result<(), Fail> {
     let alloc = rt.alloc();
     let expected = parse(alloc, TEXT)?;
-    let found = parse(alloc, OTHER_TEXT)?;
-    let mut shortage = Shortage::new(alloc)?;
-    meet(alloc, &mut shortage, SMALL, |alloc| {
-        find_difference(alloc, &expected, &found)
-    })?;
-    drop(shortage);
-    drop(found);
+    let met = meet_difference(alloc, &expected);
     drop(expected);
-    Ok(())
+    met
 }

@@ -18,16 +18,21 @@ fn check_room(alloc: Global, shortage: &mut Shortage, room: usize) -> Result<(),
     check(!beyond, "a room is too large")
 }
 
+fn check_rooms(alloc: Global, shortage: &mut Shortage) -> Result<(), Fail> {
+    for step in 2..512usize {
+        check_room(alloc, shortage, 16 * step)?;
+    }
+    check_room(alloc, shortage, 65_536)?;
+    check_room(alloc, shortage, GREATEST_ROOM)?;
+    check(is_given(alloc, GREATEST_ROOM), "memory is still short")
+}
+
 #[test]
 fn blocks_are_as_large_as_their_rooms(rt: HostRuntime) -> Result<(), Fail> {
     let alloc = rt.alloc();
     let mut shortage = Shortage::new(alloc)?;
-    for step in 2..512usize {
-        check_room(alloc, &mut shortage, 16 * step)?;
-    }
-    check_room(alloc, &mut shortage, 65_536)?;
-    check_room(alloc, &mut shortage, GREATEST_ROOM)?;
-    check(is_given(alloc, GREATEST_ROOM), "memory is still short")?;
+    let checked = check_rooms(alloc, &mut shortage);
     drop(shortage);
+    checked?;
     check(is_given(alloc, 1_073_741_824), "memory is still held")
 }

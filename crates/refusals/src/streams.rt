@@ -4,6 +4,7 @@ use crate::meeting::{Came, PIECES, SMALL, meet_alone, right_if};
 use cm_audit::{Counts, Verdict, audit};
 use cm_compile::{CompileFault, write_compiled};
 use cm_envelope::{Envelope, EnvelopeFault, Trouble, read_envelope};
+use gk_document::Text;
 use std::alloc::Global;
 use std::test::Fail;
 
@@ -52,36 +53,55 @@ fn came_of(read: &Result<Envelope, EnvelopeFault>, is_wanted: bool) -> Came {
     }
 }
 
-fn read_source(alloc: Global) -> Came {
-    let read = read_envelope(alloc, SOURCE.as_bytes());
-    let is_wanted = match &read {
+fn is_source(read: &Result<Envelope, EnvelopeFault>) -> bool {
+    match read {
         Ok(Envelope::Source(source)) => {
             source.uri.as_str() == "a.feature" && source.content.as_str() == PLAIN_TEXT
         }
         _ => false,
-    };
-    came_of(&read, is_wanted)
+    }
+}
+
+fn are_ids(ids: &[Text]) -> bool {
+    match ids {
+        [scenario, step] => scenario.as_str() == "0" && step.as_str() == "1",
+        _ => false,
+    }
+}
+
+fn is_document(read: &Result<Envelope, EnvelopeFault>) -> bool {
+    match read {
+        Ok(Envelope::GherkinDocument(tree)) => are_ids(tree.ids.as_slice()),
+        _ => false,
+    }
+}
+
+fn is_pickle(read: &Result<Envelope, EnvelopeFault>) -> bool {
+    match read {
+        Ok(Envelope::Pickle(pickle)) => pickle.id.as_str() == "3" && pickle.steps.len() == 1,
+        _ => false,
+    }
+}
+
+fn read_source(alloc: Global) -> Came {
+    let read = read_envelope(alloc, SOURCE.as_bytes());
+    let came = came_of(&read, is_source(&read));
+    drop(read);
+    came
 }
 
 fn read_document(alloc: Global) -> Came {
     let read = read_envelope(alloc, DOCUMENT.as_bytes());
-    let is_wanted = match &read {
-        Ok(Envelope::GherkinDocument(tree)) => match tree.ids.as_slice() {
-            [scenario, step] => scenario.as_str() == "0" && step.as_str() == "1",
-            _ => false,
-        },
-        _ => false,
-    };
-    came_of(&read, is_wanted)
+    let came = came_of(&read, is_document(&read));
+    drop(read);
+    came
 }
 
 fn read_pickle(alloc: Global) -> Came {
     let read = read_envelope(alloc, PICKLE.as_bytes());
-    let is_wanted = match &read {
-        Ok(Envelope::Pickle(pickle)) => pickle.id.as_str() == "3" && pickle.steps.len() == 1,
-        _ => false,
-    };
-    came_of(&read, is_wanted)
+    let came = came_of(&read, is_pickle(&read));
+    drop(read);
+    came
 }
 
 #[test]
