@@ -1,5 +1,5 @@
 -- The audit with what its cases say, from what was judged line by line.
-use Rattle.std.proofs.Common.{◌≡◌, ℕ, List, Option, Ok, Err}
+use Rattle.std.proofs.Common.{◌≡◌, ℕ, List, Option, Result, Ok, Err}
 use Rattle.cm_attempt.specs.Table.{Table}
 use Rattle.cm_attempt.specs.declared.settings.Settings.{Settings}
 use Rattle.cm_cases.specs.Listed.{listing_of}
@@ -10,15 +10,20 @@ use Rattle.cm_envelope.specs.declared.feed.Trouble.{Trouble}
 use Rattle.cm_envelope.proofs.Sources.{reads_weaker}
 use Rattle.cm_stream.specs.declared.verdict.Audited.{Audited}
 use Rattle.cm_state.specs.Summary.{Summary}
-use Rattle.cm_audit.specs.Cases.{IsCasesAuditOf, JudgesWith}
+use Rattle.cm_audit.specs.Cases.{IsCasesAuditOf, JudgesWith, with_cases}
 use Rattle.cm_audit.proofs.Verdicts.{audit_of}
 
-pub cases_audit : (settings : Settings) (audited : Audited) (listing : Listing) (tells : Summary → Envelope → Type 0) (table : Table) (a b : Option (List ℕ)) → OfReads a b (JudgesWith settings (λ es. listing ≡ listing_of es) tells table (Ok audited))
+cases_audit : (settings : Settings) (audited : Audited) (listing : Listing) (tells : Summary → Envelope → Type 0) (table : Table) (a b : Option (List ℕ)) → OfReads a b (JudgesWith settings (λ es. listing ≡ listing_of es) tells table (Ok audited))
     → OfReads a b (IsCasesAuditOf settings (Ok (record { audited = audited; listing = listing; attempts = table })))
 cases_audit settings audited listing tells table a b p =
     reads_weaker {P = JudgesWith settings (λ es. listing ≡ listing_of es) tells table (Ok audited)} {Q = IsCasesAuditOf settings (Ok (record { audited = audited; listing = listing; attempts = table }))} a b p
     (λ xs ys h. record { audit = audit_of settings (Ok audited) xs ys h.judges; cases = h.follows_it })
 
-pub cases_trouble : (settings : Settings) (follows : List Envelope → Type 0) (tells : Summary → Envelope → Type 0) (table : Table) (t : Trouble) (a b : Option (List ℕ)) → OfReads a b (JudgesWith settings follows tells table (Err t)) → OfReads a b (IsCasesAuditOf settings (Err t))
+cases_trouble : (settings : Settings) (follows : List Envelope → Type 0) (tells : Summary → Envelope → Type 0) (table : Table) (t : Trouble) (a b : Option (List ℕ)) → OfReads a b (JudgesWith settings follows tells table (Err t)) → OfReads a b (IsCasesAuditOf settings (Err t))
 cases_trouble settings follows tells table t a b p =
     reads_weaker {P = JudgesWith settings follows tells table (Err t)} {Q = IsCasesAuditOf settings (Err t)} a b p (λ xs ys h. record { audit = audit_of settings (Err t) xs ys h.judges; cases = tt })
+
+pub cases_told : (settings : Settings) (answer : Result Audited Trouble) (listing : Listing) (tells : Summary → Envelope → Type 0) (table : Table) (a b : Option (List ℕ)) → OfReads a b (JudgesWith settings (λ es. listing ≡ listing_of es) tells table answer)
+    → OfReads a b (IsCasesAuditOf settings (with_cases listing table answer))
+cases_told settings (Ok audited) listing tells table a b p = cases_audit settings audited listing tells table a b p
+cases_told settings (Err t) listing tells table a b p = cases_trouble settings (λ es. listing ≡ listing_of es) tells table t a b p

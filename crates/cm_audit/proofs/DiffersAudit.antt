@@ -1,5 +1,5 @@
 -- The audit with its difference, from what was judged line by line.
-use Rattle.std.proofs.Common.{ℕ, refl, List, Option, Some, None, Ok, Err}
+use Rattle.std.proofs.Common.{ℕ, refl, List, Option, Some, None, Result, Ok, Err}
 use Rattle.std.specs.Prelude.{IsSomeAnd}
 use Rattle.cm_attempt.specs.Table.{Table}
 use Rattle.cm_attempt.specs.declared.settings.Settings.{Settings}
@@ -18,7 +18,7 @@ use Rattle.cm_state.specs.Summary.{Summary}
 use Rattle.cm_differs.specs.declared.difference.Difference.{Difference}
 use Rattle.cm_audit.specs.Cases.{JudgesWith}
 use Rattle.cm_audit.specs.Differing.{Differs}
-use Rattle.cm_audit.specs.Differs.{DiffersBy, IsDifferenceAt, IsDifferenceBy, IsDiffersAuditOf, reported}
+use Rattle.cm_audit.specs.Differs.{DiffersBy, IsDifferenceAt, IsDifferenceBy, IsDiffersAuditOf, reported, with_difference}
 use Rattle.cm_audit.specs.Judging.{envelopes_in}
 use Rattle.cm_audit.specs.Told.{IsToldAt, TellsVerdict}
 use Rattle.cm_audit.proofs.DiffersFaults.{pickle_differs, source_lacks, tree_differs}
@@ -62,12 +62,17 @@ differs_by settings bytes (verdict.Bad n b) o told = at_fault settings bytes n b
 differs_by settings bytes (verdict.Good counts) o told = refl
 differs_by settings bytes (verdict.Unsupported n r) o told = refl
 
-pub differs_audit : (settings : Settings) (audited : Audited) (follows : List Envelope → Type 0) (o : Option Difference) (table : Table) (a b : Option (List ℕ)) → OfReads a b (JudgesWith settings follows (Tells o) table (Ok audited))
+differs_audit : (settings : Settings) (audited : Audited) (follows : List Envelope → Type 0) (o : Option Difference) (table : Table) (a b : Option (List ℕ)) → OfReads a b (JudgesWith settings follows (Tells o) table (Ok audited))
     → OfReads a b (IsDiffersAuditOf settings (Ok (record { audited = audited; difference = reported audited.verdict o })))
 differs_audit settings audited follows o table a b p =
     reads_weaker {P = JudgesWith settings follows (Tells o) table (Ok audited)} {Q = IsDiffersAuditOf settings (Ok (record { audited = audited; difference = reported audited.verdict o }))} a b p
     (λ xs ys h. record { audit = audit_of settings (Ok audited) xs ys h.judges; differs = differs_by settings xs audited.verdict o h.told })
 
-pub differs_trouble : (settings : Settings) (follows : List Envelope → Type 0) (tells : Summary → Envelope → Type 0) (table : Table) (t : Trouble) (a b : Option (List ℕ)) → OfReads a b (JudgesWith settings follows tells table (Err t)) → OfReads a b (IsDiffersAuditOf settings (Err t))
+differs_trouble : (settings : Settings) (follows : List Envelope → Type 0) (tells : Summary → Envelope → Type 0) (table : Table) (t : Trouble) (a b : Option (List ℕ)) → OfReads a b (JudgesWith settings follows tells table (Err t)) → OfReads a b (IsDiffersAuditOf settings (Err t))
 differs_trouble settings follows tells table t a b p =
     reads_weaker {P = JudgesWith settings follows tells table (Err t)} {Q = IsDiffersAuditOf settings (Err t)} a b p (λ xs ys h. record { audit = audit_of settings (Err t) xs ys h.judges; differs = tt })
+
+pub difference_told : (settings : Settings) (answer : Result Audited Trouble) (follows : List Envelope → Type 0) (o : Option Difference) (table : Table) (a b : Option (List ℕ)) → OfReads a b (JudgesWith settings follows (Tells o) table answer)
+    → OfReads a b (IsDiffersAuditOf settings (with_difference o answer))
+difference_told settings (Ok audited) follows o table a b p = differs_audit settings audited follows o table a b p
+difference_told settings (Err t) follows o table a b p = differs_trouble settings follows (Tells o) table t a b p

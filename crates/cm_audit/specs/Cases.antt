@@ -6,6 +6,7 @@ use Rattle.cm_attempt.specs.Results.{case_results}
 use Rattle.cm_attempt.specs.Table.{Table}
 use Rattle.cm_attempt.specs.declared.settings.Settings.{Settings}
 use Rattle.cm_cases.specs.Listed.{listing_of}
+use Rattle.cm_cases.specs.declared.listing.Listing.{Listing}
 use Rattle.cm_stream.specs.Good.{Good}
 use Rattle.cm_stream.specs.Results.{results_of}
 use Rattle.cm_stream.specs.Stream.{IsRead, envelopes}
@@ -66,3 +67,8 @@ pub record IsCasesAuditOf (settings : Settings) (answer : Result AuditedCases Tr
     (bytes rest : List ℕ) : Type 0 where
   pub audit : IsAuditOf settings (audited_in answer) bytes rest
   pub cases : ListsCases settings bytes answer
+
+-- an audit of a stream that was read, with its listing and its attempts
+abbrev pub with_cases : Listing → Table → Result Audited Trouble → Result AuditedCases Trouble
+with_cases listing table (Ok a) = Ok (record { audited = a; listing = listing; attempts = table })
+with_cases listing table (Err t) = Err t

@@ -102,3 +102,9 @@ reported (verdict.Bad n bad.TreeDiffers) o = o
 reported (verdict.Bad n bad.PickleDiffers) o = o
 reported (verdict.Bad n bad.SourceIncomplete) o = o
 reported _ o = None
+
+-- an audit of a stream that was read, with the difference that its verdict has
+abbrev pub with_difference : Option Difference → Result Audited Trouble
+    → Result AuditedDifference Trouble
+with_difference o (Ok a) = Ok (record { audited = a; difference = reported a.verdict o })
+with_difference o (Err t) = Err t

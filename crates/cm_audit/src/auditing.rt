@@ -1,5 +1,5 @@
 //! The audit of a stream of Cucumber Messages.
-ghost use Rattle.std.specs.Prelude.{◌≡◌, ◌++◌, [], List, Err, OnOk};
+ghost use Rattle.std.specs.Prelude.{◌≡◌, ◌++◌, ◌∷◌, [], List, Some, Ok, Err, OnOk};
 ghost use Rattle.cm_envelope.specs.Device.{CountsFailure, OfReads, OfSource};
 ghost use Rattle.cm_envelope.specs.declared.envelope.Envelope.{Envelope as SomeEnvelope};
 ghost use Rattle.cm_envelope.specs.declared.feed.Trouble.TheVariants.{ReadFailed};
@@ -11,7 +11,7 @@ ghost use Rattle.cm_audit.specs.Audit.{audited_at, is_failed_read, unsuccessful}
 ghost use Rattle.cm_audit.specs.Cases.{JudgesWith};
 ghost use Rattle.cm_audit.specs.Told.{TellsLine};
 ghost use Rattle.cm_audit.specs.Judging.{envelope_in};
-ghost use Rattle.cm_audit.specs.State.{AreFewer, IsListed, summary_of};
+ghost use Rattle.cm_audit.specs.State.{AreFewer, IsListed, Takes, summary_of};
 ghost use Rattle.cm_state.specs.Summary.{nothing_seen};
 
 use crate::judge::judge;
@@ -20,9 +20,28 @@ use crate::state::State;
 use crate::stop::Stop;
 use crate::watch::{Unwatched, Watch};
 use cm_attempt::{Policy, Settings};
-use cm_envelope::{ByteSource, Feed, Trouble, is_blank_line, read_envelope};
+use cm_envelope::{ByteSource, Envelope, Feed, Trouble, is_blank_line, read_envelope};
 use cm_stream::{Audited, StreamFault, Verdict};
 use std::alloc::Global;
+
+/// Tells of an envelope and judges it, and takes it where it has no fault.
+fn take_envelope<W: Watch>(
+    alloc: Global,
+    state: &mut State,
+    watch: &mut W,
+    envelope: Envelope,
+    settings: Settings,
+) -> Result<(), Stop>
+    requires listed { IsListed state.old }
+    requires few { AreFewer MOST state.old.counts }
+    ensures taken { Takes settings state.old state.new envelope result }
+    ensures followed { OnOk result ((es : List SomeEnvelope) → W.follows watch.old es
+        → W.follows watch.new (es ++ envelope ∷ [])) }
+    ensures told { TellsLine (W.tells watch.new) (summary_of state.old) (Some (Ok envelope)) result }
+{
+    watch.note(alloc, state, &envelope)?;
+    judge(state, envelope, settings)
+}
 
 /// Judges a line, and takes it where it has no fault.
 fn take_line<W: Watch>(
@@ -43,10 +62,7 @@ fn take_line<W: Watch>(
         return Ok(());
     }
     match read_envelope(alloc, line) {
-        Ok(envelope) => {
-            watch.note(alloc, state, &envelope)?;
-            judge(state, envelope, settings)
-        }
+        Ok(envelope) => take_envelope(alloc, state, watch, envelope, settings),
         Err(fault) => Err(Stop::from(fault)),
     }
 }

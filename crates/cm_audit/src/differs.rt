@@ -2,7 +2,7 @@
 ghost use Rattle.std.specs.Prelude.{◌≡◌};
 ghost use Rattle.cm_envelope.specs.Device.{CountsFailure, OfReads};
 ghost use Rattle.cm_audit.specs.Audit.{is_failed_read};
-ghost use Rattle.cm_audit.specs.Differs.{IsDiffersAuditOf, reported};
+ghost use Rattle.cm_audit.specs.Differs.{IsDiffersAuditOf, reported, with_difference};
 
 use crate::auditing::judge_lines;
 use crate::differing::Differing;
@@ -41,6 +41,25 @@ fn reported(verdict: &Verdict, difference: Option<Difference>) -> Option<Differe
     }
 }
 
+/// The audit with the difference that its verdict has, where the stream was read.
+fn with_difference(
+    audited: Result<Audited, Trouble>,
+    difference: Option<Difference>,
+) -> Result<AuditedDifference, Trouble>
+    ensures { result ≡ with_difference difference audited }
+{
+    match audited {
+        Ok(audited) => {
+            let difference = reported(&audited.verdict, difference);
+            Ok(AuditedDifference {
+                audited,
+                difference,
+            })
+        }
+        Err(trouble) => Err(trouble),
+    }
+}
+
 /// Audits a stream by the settings, as `audit_run` does, and says how a stream that isn't what its sources compile to
 /// differs at the line of the verdict: the first part of the tree, the pickle, or at the end of the run the document or
 /// the first pickle that is missing of the first source that is incomplete.
@@ -60,14 +79,7 @@ pub fn audit_differs<R: ByteSource>(
 {
     let mut state = State::new(alloc, settings.first_attempt);
     let mut differing = Differing { difference: None };
-    match judge_lines(alloc, &mut state, &mut differing, source, settings) {
-        Ok(audited) => {
-            let difference = reported(&audited.verdict, differing.difference);
-            Ok(AuditedDifference {
-                audited,
-                difference,
-            })
-        }
-        Err(trouble) => Err(trouble),
-    }
+    let audited = judge_lines(alloc, &mut state, &mut differing, source, settings);
+    drop(state);
+    with_difference(audited, differing.difference)
 }

@@ -3,7 +3,7 @@ ghost use Rattle.std.specs.Prelude.{◌≡◌, Err};
 ghost use Rattle.cm_envelope.specs.Device.{CountsFailure, OfReads};
 ghost use Rattle.cm_envelope.specs.declared.feed.Trouble.TheVariants.{ReadFailed};
 ghost use Rattle.cm_audit.specs.Audit.{is_failed_read};
-ghost use Rattle.cm_audit.specs.Cases.{IsCasesAuditOf, audited_in};
+ghost use Rattle.cm_audit.specs.Cases.{IsCasesAuditOf, audited_in, with_cases};
 
 use crate::auditing::judge_lines;
 use crate::state::State;
@@ -20,6 +20,24 @@ pub struct AuditedCases {
     pub audited: Audited,
     pub listing: Listing,
     pub attempts: Track,
+}
+
+/// The audit with its listing and its attempts, where the stream was read.
+fn with_cases(
+    audited: Result<Audited, Trouble>,
+    listing: Listing,
+    attempts: Track,
+) -> Result<AuditedCases, Trouble>
+    ensures { result ≡ with_cases listing attempts audited }
+{
+    match audited {
+        Ok(audited) => Ok(AuditedCases {
+            audited,
+            listing,
+            attempts,
+        }),
+        Err(trouble) => Err(trouble),
+    }
 }
 
 /// Audits a stream by the settings, as `audit_run` does, and keeps what its cases say. Of a stream that isn't good the
@@ -40,15 +58,7 @@ pub fn audit_cases<R: ByteSource>(
 {
     let mut state = State::new(alloc, settings.first_attempt);
     let mut listing = Listing::new(alloc);
-    match judge_lines(alloc, &mut state, &mut listing, source, settings) {
-        Ok(audited) => {
-            let State { track, .. } = state;
-            Ok(AuditedCases {
-                audited,
-                listing,
-                attempts: track,
-            })
-        }
-        Err(trouble) => Err(trouble),
-    }
+    let audited = judge_lines(alloc, &mut state, &mut listing, source, settings);
+    let attempts = state.into_track();
+    with_cases(audited, listing, attempts)
 }

@@ -60,6 +60,14 @@ impl State {
             alloc,
         }
     }
+
+    /// The record of attempts alone.
+    pub(crate) fn into_track(self) -> Track
+        ensures { result ≡ self.track }
+    {
+        let State { track, .. } = self;
+        track
+    }
 }
 
 /// What is kept of a source.
