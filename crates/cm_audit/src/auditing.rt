@@ -39,8 +39,13 @@ fn take_envelope<W: Watch>(
         → W.follows watch.new (es ++ envelope ∷ [])) }
     ensures told { TellsLine (W.tells watch.new) (summary_of state.old) (Some (Ok envelope)) result }
 {
-    watch.note(alloc, state, &envelope)?;
-    judge(state, envelope, settings)
+    match watch.note(alloc, state, &envelope) {
+        Ok(()) => judge(state, envelope, settings),
+        Err(error) => {
+            drop(envelope);
+            Err(Stop::from(error))
+        }
+    }
 }
 
 /// Judges a line, and takes it where it has no fault.

@@ -65,7 +65,18 @@ impl State {
     pub(crate) fn into_track(self) -> Track
         ensures { result ≡ self.track }
     {
-        let State { track, .. } = self;
+        let State {
+            declared,
+            track,
+            sources,
+            named,
+            run,
+            ..
+        } = self;
+        drop(declared);
+        drop(sources);
+        drop(named);
+        drop(run);
         track
     }
 }
