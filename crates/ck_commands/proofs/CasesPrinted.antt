@@ -1,10 +1,8 @@
 -- What the command `cases` prints.
-use Rattle.std.proofs.Common.{◌≡◌, ◌∙◌, ℕ, ◌+◌, ◌<◌, List, [], ◌∷◌, ◌++◌, take, get_or, length, map, Option, Result, Ok, Err, Bool, true, false, inl, inr, refl, sym, ap, subst, append_assoc}
+use Rattle.std.proofs.Common.{◌≡◌, ◌∙◌, ℕ, List, Option, Result, Ok, Err, Bool, true, false, inl, inr, refl, ap, subst}
 use Rattle.std.specs.Prelude.{IfOk}
-use Rattle.std.specs.List.{flat_map}
 use Rattle.std.specs.Io.KnownBytes.{Appends}
 use Rattle.std.specs.declared.alloc.AllocError.{AllocError}
-use Rattle.std.proofs.lemmas.List.{flat_map_more, map-append, take_more}
 use Rattle.cm_attempt.specs.Table.{Table}
 use Rattle.cm_attempt.specs.declared.settings.Settings.{Settings}
 use Rattle.cm_cases.specs.Listed.{listing_of}
@@ -28,14 +26,6 @@ use Rattle.ck_commands.specs.Output.{Prints, PrintsOrNoMemory, PrintsOrTrouble, 
 use Rattle.ck_commands.specs.Verdicts.{PrintsBad, verdict_report}
 use Rattle.ck_commands.specs.declared.output.Report as made
 use Rattle.ck_commands.proofs.Gates.{not_both}
-
--- what comes of one element more, in two parts
-pub text_added : {X Y : Type 0} (f : Y → List ℕ) (v : X → Y) (old mid new a b : List ℕ) (xs : List X) (i : ℕ) (d : X) → i < length xs
-    → old ≡ flat_map f (map v (take i xs)) → mid ≡ old ++ a → new ≡ mid ++ b → f (v (get_or xs i d)) ≡ a ++ b → new ≡ flat_map f (map v (take (i + 1) xs))
-text_added {X} f v old mid new a b xs i d l o m n h =
-    n ∙ ap (λ (q : List ℕ). q ++ b) m ∙ append_assoc old a b ∙ ap (λ (q : List ℕ). old ++ q) (sym h) ∙ ap (λ (q : List ℕ). q ++ f (v (get_or xs i d))) o
-    ∙ flat_map_more f [] (map v (take i xs)) (v (get_or xs i d)) ∙ ap (flat_map f) (sym (map-append v (take i xs) (get_or xs i d ∷ [])))
-    ∙ ap (λ (ys : List X). flat_map f (map v ys)) (sym (take_more xs i d l))
 
 -- ---- the report
 

@@ -1,35 +1,55 @@
 //! The command `cases`: the status, the place and the name of each test case of a good stream, and the pickles that no
 //! test case names.
-ghost use Rattle.std.specs.Prelude.{◌≡◌, ◌≢◌, IfOk, string_bytes};
+ghost use Rattle.std.specs.Prelude.{◌≡◌, ◌≢◌, ◌++◌, List, IfOk, map, string_bytes};
+ghost use Rattle.std.specs.List.{flat_map};
+ghost use Rattle.cm_attempt.specs.Results.{result_view};
+ghost use Rattle.cm_cases.specs.Listed.{listing_of};
+ghost use Rattle.cm_cases.specs.Places.{unrun_text};
+ghost use Rattle.cm_envelope.specs.declared.envelope.Envelope.{Envelope};
 ghost use Rattle.cm_envelope.specs.Device.{OfReads, OfSource};
 ghost use Rattle.cm_audit.specs.Audit.{ShowNoFault};
-ghost use Rattle.ck_commands.specs.Cases.{IsCasesText, PrintsCases, PrintsListed, ReportsCases};
+ghost use Rattle.ck_commands.specs.Cases.{IsCasesText, PrintsCases, PrintsListed, ReportsCases, case_text};
 ghost use Rattle.ck_commands.specs.Output.{NoneFailed, PrintsOrNoMemory, Undisturbed, code_of, trouble_report};
 ghost use Rattle.ck_commands.specs.Verdicts.{PrintsBad};
 
 use crate::command_audit::verdict_report;
 use crate::output::{ExitStatus, Report, write_report};
 use crate::status_words::word_of;
-use cm_attempt::{Settings, Track};
+use cm_attempt::{CaseResult, Settings, Track};
 use cm_audit::{AuditedCases, audit_cases};
 use cm_cases::{Listing, Places};
 use cm_envelope::{ByteSink, ByteSource, Trouble};
 use cm_stream::Verdict;
 use std::alloc::{AllocError, Global};
 
-// One line for each case, in order of declaration, and then one for each pickle that no case names.
-fn cases_text(alloc: Global, listing: &Listing, attempts: &Track) -> Result<String, AllocError>
-    ensures { IfOk result (λ text. IsCasesText listing.now attempts.now (string_bytes text)) }
+// One line for each of these cases, and then one for each pickle that no case names.
+fn lines_of(
+    alloc: Global,
+    places: &Places<'_>,
+    results: &[CaseResult<'_>],
+) -> Result<String, AllocError>
+    ensures { IfOk result (λ text. (es : List Envelope) → places.now ≡ listing_of es
+        → string_bytes text
+        ≡ flat_map (case_text es) (map result_view results.now) ++ unrun_text es) }
 {
-    let places = Places::of(alloc, listing)?;
-    let results = attempts.results()?;
     let mut text = String::new(alloc);
-    for case in &results {
+    for case in results {
         text.push_str(word_of(case.status))?;
         places.add_case(&mut text, case.id)?;
     }
     places.add_unrun(&mut text)?;
     Ok(text)
+}
+
+// One line for each case, in order of declaration, and then one for each pickle that no case names.
+fn cases_text(alloc: Global, listing: &Listing, attempts: &Track) -> Result<String, AllocError>
+    ensures { IfOk result (λ text. IsCasesText listing.now attempts.now (string_bytes text)) }
+{
+    let results = attempts.results()?;
+    let places = Places::of(alloc, listing)?;
+    let text = lines_of(alloc, &places, results.as_slice());
+    drop(places);
+    text
 }
 
 // The report of a stream that was audited.

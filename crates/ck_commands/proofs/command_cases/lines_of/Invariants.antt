@@ -4,8 +4,8 @@ use Rattle.cm_attempt.specs.Results.{result_view}
 use Rattle.cm_cases.specs.Listed.{listing_of}
 use Rattle.cm_envelope.specs.declared.envelope.Envelope.{Envelope}
 use Rattle.ck_commands.specs.Cases.{case_text}
-use Rattle.ck_commands.proofs.command_cases.cases_text.Given as goal
+use Rattle.ck_commands.proofs.command_cases.lines_of.Given as goal
 
 abbrev pub invariant-loop-case : goal.invariant-loop-case
 invariant-loop-case l =
-    (es : List Envelope) → l.listing ≡ listing_of es → string_bytes l.text ≡ flat_map (case_text es) (map result_view (take l.case-index l.case-items))
+    (es : List Envelope) → l.places ≡ listing_of es → string_bytes l.text ≡ flat_map (case_text es) (map result_view (take l.case-index l.results))
