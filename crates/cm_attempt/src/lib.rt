@@ -28,8 +28,6 @@ mod policy;
 mod rows;
 mod settings;
 mod status;
-#[cfg(test)]
-mod tests;
 mod track;
 
 pub use fault::TrackFault;

@@ -37,7 +37,8 @@ fn take_envelope<W: Watch>(
     ensures taken { Takes settings state.old state.new envelope result }
     ensures followed { OnOk result ((es : List SomeEnvelope) → W.follows watch.old es
         → W.follows watch.new (es ++ envelope ∷ [])) }
-    ensures told { TellsLine (W.tells watch.new) (summary_of state.old) (Some (Ok envelope)) result }
+    ensures told { TellsLine (W.tells watch.new) (summary_of state.old) (Some (Ok envelope))
+        result }
 {
     match watch.note(alloc, state, &envelope) {
         Ok(()) => judge(state, envelope, settings),

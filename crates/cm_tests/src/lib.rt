@@ -1,7 +1,9 @@
-//! Tests of devices, feeds, envelopes and declarations by the public calls of their crates. They are a crate of their own since a
-//! crate with tests is proved twice.
+//! Tests of devices, feeds, envelopes, declarations and attempts by the public calls of their crates. They are a crate of their own
+//! since a crate with tests is proved twice.
 #![tactic(auto)]
 
+#[cfg(test)]
+mod attempts;
 #[cfg(test)]
 mod declarations;
 #[cfg(test)]

@@ -1,4 +1,5 @@
-use crate::{Policy, Settings, Status, Track, TrackFault, worst};
+//! Cases, attempts and policies: the answers to calls in and out of order.
+use cm_attempt::{Policy, Settings, Status, Track, TrackFault, worst};
 use std::alloc::{AllocError, Global};
 use std::process::Abort;
 use std::test::Fail;
