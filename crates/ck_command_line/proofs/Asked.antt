@@ -1,184 +1,211 @@
--- What words ask for, computed.
-use Rattle.std.proofs.Common.{◌≡◌, ℕ, List, [], ◌∷◌, ◌++◌, Option, Some, None, refl, sym, ap, ◌∙◌, subst, true, false, Bool}
-use Rattle.std.proofs.lemmas.Bool.{eqb-true}
+-- What words ask for.
+use Rattle.std.proofs.Common.{◌≡◌, List, [], ◌∷◌, ◌++◌, Option, Some, None, refl, ap, ◌∙◌, true, false, Bool, map}
+use Rattle.std.proofs.lemmas.Bool.{false_from_ne_true}
 use Rattle.std.proofs.lemmas.Slice.Eq.{bytes_eq-Decides}
-use Rattle.std.specs.Prelude.{◌==◌, ◌≢◌, codes}
+use Rattle.std.specs.Prelude.{◌≢◌, codes}
 use Rattle.std.specs.List.{AllByRecursion}
 use Rattle.std.specs.Str.{bytes_eq}
-use Rattle.clap.specs.Words.{Text}
-use Rattle.clap.specs.Lexer.{strip_byte}
-use Rattle.clap.specs.Walk.{bundle_met, walked}
+use Rattle.clap.proofs.OnLiterals.{clap_on_literals}
+use Rattle.clap.specs.Words.{App, Text}
+use Rattle.clap.specs.Walk.{arg_by_long, bundle_met, walked}
 use Rattle.clap.specs.Faults.{flags_fault, walk_fault, defaults_fault}
-use Rattle.cm_attempt.specs.declared.policy.Policy.TheVariants.{Strict, PendingPasses}
-use Rattle.ck_command_line.specs.CommandLine.{Command, ask_parse, ask_compile, ask_audit, ask_gate, ask_results, ask_cases, ask_differs, command_of}
-use Rattle.ck_command_line.specs.Asked.{Ask, AskNothing, by, attempts_from, AuditIsAsked, CasesAreAsked, DifferencesAreAsked, GateIsAsked, ResultsAreAsked, FeaturesAreAsked, NothingIsAsked, is_option, command_names}
+use Rattle.ck_command_line.specs.CommandLine.{Command, ask_parse, ask_compile, command_of, is_help_call}
+use Rattle.ck_command_line.specs.CommandLine.{gate_command, audit_command, cases_command, differs_command, results_command, parse_command, compile_command}
+use Rattle.ck_command_line.specs.Asked.{Ask, CallForHelp, TakesItsOptions, RefusesFiles, RefusesOtherOptions, FeaturesAreAsked, NothingIsAsked, ExamplesAreAsked}
+use Rattle.ck_command_line.specs.Asked.{all_words, usages, named_options, examples, mistakes, help_calls, is_option, parted}
+use Rattle.ck_command_line.proofs.Leaves.{LineAnswers, leaf, gate_words, audit_words, cases_words, differs_words, results_words, parse_words, compile_words}
+use Rattle.ck_command_line.proofs.Options.{answers, gate_takes, audit_takes, results_takes}
+use Rattle.ck_command_line.proofs.Plain.{plain}
+use Rattle.ck_command_line.proofs.Refused.{file_is_refused, option_is_refused, gate_leaf, audit_leaf, cases_leaf, differs_leaf, results_leaf, parse_leaf, compile_leaf}
 
--- what words that are these texts ask for
-abbrev asked_by : List Text → Option Command
-asked_by texts = command_of (codes "cukecheck" ∷ texts)
+ask : (texts : List Text) (command : Option Command) → LineAnswers texts command → Ask texts command
+ask texts command told words is = (
+  ap (λ (ts : List Text). command_of (codes "cukecheck" ∷ ts)) is ∙ told.0,
+  ap (λ (ts : List Text). is_help_call (codes "cukecheck" ∷ ts)) is ∙ told.1,
+)
 
-asks : (texts : List Text) (command : Command) → asked_by texts ≡ Some command → Ask texts command
-asks texts command e words is = ap asked_by is ∙ e
+call_for_help : (texts : List Text) → (command_of (codes "cukecheck" ∷ texts) ≡ None) × (is_help_call (codes "cukecheck" ∷ texts) ≡ true) → CallForHelp texts
+call_for_help texts told words is = (
+  ap (λ (ts : List Text). command_of (codes "cukecheck" ∷ ts)) is ∙ told.0,
+  ap (λ (ts : List Text). is_help_call (codes "cukecheck" ∷ ts)) is ∙ told.1,
+)
 
-asks_nothing : (texts : List Text) → asked_by texts ≡ None → AskNothing texts
-asks_nothing texts e words is = ap asked_by is ∙ e
+-- ---- the commands that read a stream
 
--- ---- the commands and their options
+pub options_are_taken : AllByRecursion TakesItsOptions usages
+options_are_taken = (
+  λ options h k. ask (codes "gate" ∷ all_words options) _ (gate_words (all_words options) _ (answers _ _ _ (gate_takes options h k))),
+  (
+    λ options h k. ask (codes "audit" ∷ all_words options) _ (audit_words (all_words options) _ (answers _ _ _ (audit_takes options h k).0)),
+    (
+      λ options h k. ask (codes "cases" ∷ all_words options) _ (cases_words (all_words options) _ (answers _ _ _ (audit_takes options h k).1)),
+      (
+        λ options h k. ask (codes "differs" ∷ all_words options) _ (differs_words (all_words options) _ (answers _ _ _ (audit_takes options h k).2)),
+        (
+          λ options h k. ask (codes "results" ∷ all_words options) _ (results_words (all_words options) _ (answers _ _ _ (results_takes options h k))),
+          tt,
+        ),
+      ),
+    ),
+  ),
+)
 
-pub audit_is_asked : AuditIsAsked
-unfolding command_of bundle_met walked flags_fault walk_fault defaults_fault
-audit_is_asked = record {
-  alone = asks (codes "audit" ∷ []) (ask_audit (by Strict 0)) refl;
-  pending_passes = asks (codes "audit" ∷ codes "--pending-passes" ∷ []) (ask_audit (by PendingPasses 0)) refl;
-  from_zero = asks (codes "audit" ∷ attempts_from (codes "0")) (ask_audit (by Strict 0)) refl;
-  from_one = asks (codes "audit" ∷ attempts_from (codes "1")) (ask_audit (by Strict 1)) refl;
-  both = asks (codes "audit" ∷ codes "--pending-passes" ∷ attempts_from (codes "1")) (ask_audit (by PendingPasses 1)) refl;
-}
+-- ---- words that a command refuses
 
-pub gate_is_asked : GateIsAsked
-unfolding command_of bundle_met walked flags_fault walk_fault defaults_fault
-gate_is_asked = record {
-  alone = asks (codes "gate" ∷ []) (ask_gate (by Strict 0) false) refl;
-  allow_unrun = asks (codes "gate" ∷ codes "--allow-unrun" ∷ []) (ask_gate (by Strict 0) true) refl;
-  pending_passes = asks (codes "gate" ∷ codes "--pending-passes" ∷ []) (ask_gate (by PendingPasses 0) false) refl;
-  from_one = asks (codes "gate" ∷ attempts_from (codes "1")) (ask_gate (by Strict 1) false) refl;
-}
+pub files_are_refused : AllByRecursion RefusesFiles named_options
+files_are_refused = (
+  λ word plain_word options k others. ask (codes "parse" ∷ all_words options ++ word ∷ others) None (parse_words (all_words options ++ word ∷ others) None (file_is_refused (leaf parse_command) parse_leaf options k word plain_word others)),
+  (
+    λ word plain_word options k others. ask (codes "compile" ∷ all_words options ++ word ∷ others) None (compile_words (all_words options ++ word ∷ others) None (file_is_refused (leaf compile_command) compile_leaf options k word plain_word others)),
+    (
+      λ word plain_word options k others. ask (codes "gate" ∷ all_words options ++ word ∷ others) None (gate_words (all_words options ++ word ∷ others) None (file_is_refused (leaf gate_command) gate_leaf options k word plain_word others)),
+      (
+        λ word plain_word options k others. ask (codes "audit" ∷ all_words options ++ word ∷ others) None (audit_words (all_words options ++ word ∷ others) None (file_is_refused (leaf audit_command) audit_leaf options k word plain_word others)),
+        (
+          λ word plain_word options k others. ask (codes "cases" ∷ all_words options ++ word ∷ others) None (cases_words (all_words options ++ word ∷ others) None (file_is_refused (leaf cases_command) cases_leaf options k word plain_word others)),
+          (
+            λ word plain_word options k others. ask (codes "differs" ∷ all_words options ++ word ∷ others) None (differs_words (all_words options ++ word ∷ others) None (file_is_refused (leaf differs_command) differs_leaf options k word plain_word others)),
+            (
+              λ word plain_word options k others. ask (codes "results" ∷ all_words options ++ word ∷ others) None (results_words (all_words options ++ word ∷ others) None (file_is_refused (leaf results_command) results_leaf options k word plain_word others)),
+              tt,
+            ),
+          ),
+        ),
+      ),
+    ),
+  ),
+)
 
-pub results_are_asked : ResultsAreAsked
-unfolding command_of bundle_met walked flags_fault walk_fault defaults_fault
-results_are_asked = record {
-  alone = asks (codes "results" ∷ []) (ask_results 0) refl;
-  from_one = asks (codes "results" ∷ attempts_from (codes "1")) (ask_results 1) refl;
-}
+differ : (xs ys : Text) → xs ≢ ys → bytes_eq xs ys ≡ false
+differ xs ys h = false_from_ne_true (bytes_eq xs ys) (λ same. h ((bytes_eq-Decides xs ys).0 same))
 
-pub cases_are_asked : CasesAreAsked
-unfolding command_of bundle_met walked flags_fault walk_fault defaults_fault
-cases_are_asked = record {
-  alone = asks (codes "cases" ∷ []) (ask_cases (by Strict 0)) refl;
-  pending_passes = asks (codes "cases" ∷ codes "--pending-passes" ∷ []) (ask_cases (by PendingPasses 0)) refl;
-  from_one = asks (codes "cases" ∷ attempts_from (codes "1")) (ask_cases (by Strict 1)) refl;
-  both = asks (codes "cases" ∷ codes "--pending-passes" ∷ attempts_from (codes "1")) (ask_cases (by PendingPasses 1)) refl;
-}
+-- the command has no option of the name
+abbrev HasNone : App → Text → Type 0
+HasNone command name = arg_by_long (leaf command).rules name ≡ None
 
-pub differences_are_asked : DifferencesAreAsked
-unfolding command_of bundle_met walked flags_fault walk_fault defaults_fault
-differences_are_asked = record {
-  alone = asks (codes "differs" ∷ []) (ask_differs (by Strict 0)) refl;
-  pending_passes = asks (codes "differs" ∷ codes "--pending-passes" ∷ []) (ask_differs (by PendingPasses 0)) refl;
-  from_one = asks (codes "differs" ∷ attempts_from (codes "1")) (ask_differs (by Strict 1)) refl;
-  both = asks (codes "differs" ∷ codes "--pending-passes" ∷ attempts_from (codes "1")) (ask_differs (by PendingPasses 1)) refl;
+module _ (name : Text) (help : codes "help" ≢ name) where
+  not_parse : HasNone parse_command name
+  not_parse = rw (differ (codes "help") name help) refl
+
+  not_compile : codes "uri" ≢ name → HasNone compile_command name
+  not_compile u = rw (differ (codes "uri") name u, differ (codes "help") name help) refl
+
+  not_results : codes "attempts-from" ≢ name → HasNone results_command name
+  not_results n = rw (differ (codes "attempts-from") name n, differ (codes "help") name help) refl
+
+  not_audit : codes "pending-passes" ≢ name → codes "attempts-from" ≢ name → HasNone audit_command name
+  not_audit p n = rw (differ (codes "pending-passes") name p, differ (codes "attempts-from") name n, differ (codes "help") name help) refl
+
+  not_gate : codes "allow-unrun" ≢ name → codes "pending-passes" ≢ name → codes "attempts-from" ≢ name → HasNone gate_command name
+  not_gate u p n = rw (differ (codes "allow-unrun") name u, differ (codes "pending-passes") name p, differ (codes "attempts-from") name n, differ (codes "help") name help) refl
+
+pub other_options_are_refused : AllByRecursion RefusesOtherOptions named_options
+other_options_are_refused = (
+  λ word name value long h options k others. ask (codes "parse" ∷ all_words options ++ word ∷ others) None (parse_words (all_words options ++ word ∷ others) None (option_is_refused (leaf parse_command) parse_leaf options k word name value long (not_parse name h.0) others)),
+  (
+    λ word name value long h options k others. ask (codes "compile" ∷ all_words options ++ word ∷ others) None (compile_words (all_words options ++ word ∷ others) None (option_is_refused (leaf compile_command) compile_leaf options k word name value long (not_compile name h.0 h.1.0) others)),
+    (
+      λ word name value long h options k others. ask (codes "gate" ∷ all_words options ++ word ∷ others) None (gate_words (all_words options ++ word ∷ others) None (option_is_refused (leaf gate_command) gate_leaf options k word name value long (not_gate name h.0 h.1.0 h.1.1.0 h.1.1.1.0) others)),
+      (
+        λ word name value long h options k others. ask (codes "audit" ∷ all_words options ++ word ∷ others) None (audit_words (all_words options ++ word ∷ others) None (option_is_refused (leaf audit_command) audit_leaf options k word name value long (not_audit name h.0 h.1.0 h.1.1.0) others)),
+        (
+          λ word name value long h options k others. ask (codes "cases" ∷ all_words options ++ word ∷ others) None (cases_words (all_words options ++ word ∷ others) None (option_is_refused (leaf cases_command) cases_leaf options k word name value long (not_audit name h.0 h.1.0 h.1.1.0) others)),
+          (
+            λ word name value long h options k others. ask (codes "differs" ∷ all_words options ++ word ∷ others) None (differs_words (all_words options ++ word ∷ others) None (option_is_refused (leaf differs_command) differs_leaf options k word name value long (not_audit name h.0 h.1.0 h.1.1.0) others)),
+            (
+              λ word name value long h options k others. ask (codes "results" ∷ all_words options ++ word ∷ others) None (results_words (all_words options ++ word ∷ others) None (option_is_refused (leaf results_command) results_leaf options k word name value long (not_results name h.0 h.1.0) others)),
+              tt,
+            ),
+          ),
+        ),
+      ),
+    ),
+  ),
+)
+
+no_word : LineAnswers [] None
+unfolding command_of is_help_call clap_on_literals
+no_word = (refl, refl)
+
+no_uri : LineAnswers (codes "compile" ∷ []) None
+unfolding command_of is_help_call clap_on_literals
+no_uri = (refl, refl)
+
+-- a word that is no option and none of the names
+stray_word : (word : Text) (others : List Text) → is_option word ≡ false → bytes_eq (codes "help") word ≡ false → bytes_eq (codes "parse") word ≡ false → bytes_eq (codes "compile") word ≡ false
+    → bytes_eq (codes "gate") word ≡ false → bytes_eq (codes "audit") word ≡ false → bytes_eq (codes "cases") word ≡ false → bytes_eq (codes "differs") word ≡ false → bytes_eq (codes "results") word ≡ false
+    → LineAnswers (word ∷ others) None
+unfolding command_of is_help_call bundle_met walked flags_fault walk_fault defaults_fault
+stray_word word others plain_word h p m g a k d r = let v = plain word plain_word in rw (p, m, g, a, k, d, r, h, v.0, v.1, v.2) (refl, refl)
+
+no_command : (word : Text) (others : List Text) → is_option word ≡ false → codes "help" ≢ word → AllByRecursion (λ command. command.0 ≢ word) named_options → LineAnswers (word ∷ others) None
+no_command word others plain_word help h =
+    stray_word word others plain_word (differ (codes "help") word help) (differ (codes "parse") word h.0) (differ (codes "compile") word h.1.0) (differ (codes "gate") word h.1.1.0)
+    (differ (codes "audit") word h.1.1.1.0) (differ (codes "cases") word h.1.1.1.1.0) (differ (codes "differs") word h.1.1.1.1.1.0) (differ (codes "results") word h.1.1.1.1.1.1.0)
+
+help_word : (others : List Text) → (command_of (codes "cukecheck" ∷ codes "help" ∷ others) ≡ None) × (is_help_call (codes "cukecheck" ∷ codes "help" ∷ others) ≡ true)
+unfolding command_of is_help_call bundle_met walked flags_fault walk_fault defaults_fault
+help_word others = (refl, refl)
+
+pub nothing_is_asked : NothingIsAsked
+nothing_is_asked = record {
+  no_word = ask [] None no_word;
+  no_command = λ word others plain_word help h. ask (word ∷ others) None (no_command word others plain_word help h);
+  no_uri = ask (codes "compile" ∷ []) None no_uri;
+  help = λ others. call_for_help (codes "help" ∷ others) (help_word others);
 }
 
 -- ---- feature files
 
-parse_asked : asked_by (codes "parse" ∷ []) ≡ Some ask_parse
-unfolding command_of bundle_met walked flags_fault walk_fault defaults_fault
-parse_asked = refl
+parse_asked : LineAnswers (codes "parse" ∷ []) (Some ask_parse)
+unfolding command_of is_help_call clap_on_literals
+parse_asked = (refl, refl)
 
-compile_asked_by : (uri : Text) → asked_by (codes "compile" ∷ (codes "--uri=" ++ uri) ∷ []) ≡ Some (ask_compile uri)
-unfolding command_of bundle_met walked flags_fault walk_fault defaults_fault
-compile_asked_by uri = refl
+compile_asked_by : (uri : Text) → LineAnswers (codes "compile" ∷ (codes "--uri=" ++ uri) ∷ []) (Some (ask_compile uri))
+unfolding command_of is_help_call bundle_met walked flags_fault walk_fault defaults_fault
+compile_asked_by uri = (refl, refl)
 
--- the word has no first hyphen
-without_hyphen : (c : ℕ) (cs : Text) → (c == 45) ≡ false → strip_byte 45 (c ∷ cs) ≡ None
-without_hyphen c cs e = rw e refl
-
-plain_uri : (c : ℕ) (cs : Text) → (c == 45) ≡ false → asked_by (codes "compile" ∷ codes "--uri" ∷ (c ∷ cs) ∷ []) ≡ Some (ask_compile (c ∷ cs))
-unfolding command_of bundle_met walked flags_fault walk_fault defaults_fault
-plain_uri c cs e = let strip : strip_byte 45 (c ∷ cs) ≡ None = without_hyphen c cs e in rw (e, strip) refl
-
-no_uri_text : asked_by (codes "compile" ∷ codes "--uri" ∷ [] ∷ []) ≡ Some (ask_compile [])
-unfolding command_of bundle_met walked flags_fault walk_fault defaults_fault
-no_uri_text = refl
-
-hyphen_uri : asked_by (codes "compile" ∷ codes "--uri" ∷ codes "-" ∷ []) ≡ Some (ask_compile (codes "-"))
-unfolding command_of bundle_met walked flags_fault walk_fault defaults_fault
-hyphen_uri = refl
-
-compile_asked : (uri : Text) → is_option uri ≡ false → asked_by (codes "compile" ∷ codes "--uri" ∷ uri ∷ []) ≡ Some (ask_compile uri)
-compile_asked [] h = no_uri_text
-compile_asked (c ∷ []) h = go (c == 45) refl
-  where
-    go : (b : Bool) → (c == 45) ≡ b → asked_by (codes "compile" ∷ codes "--uri" ∷ (c ∷ []) ∷ []) ≡ Some (ask_compile (c ∷ []))
-    go true e = subst (λ (n : ℕ). asked_by (codes "compile" ∷ codes "--uri" ∷ (n ∷ []) ∷ []) ≡ Some (ask_compile (n ∷ []))) (sym (eqb-true c 45 e)) hyphen_uri
-    go false e = plain_uri c [] e
-compile_asked (c ∷ d ∷ cs) h = plain_uri c (d ∷ cs) h
+compile_asked : (uri : Text) → is_option uri ≡ false → LineAnswers (codes "compile" ∷ codes "--uri" ∷ uri ∷ []) (Some (ask_compile uri))
+unfolding command_of is_help_call bundle_met walked flags_fault walk_fault defaults_fault
+compile_asked uri h = let v = plain uri h in rw (v.0, v.1, v.2) (refl, refl)
 
 pub features_are_asked : FeaturesAreAsked
 features_are_asked = record {
-  parse = asks (codes "parse" ∷ []) ask_parse parse_asked;
-  compile = λ uri h. asks (codes "compile" ∷ codes "--uri" ∷ uri ∷ []) (ask_compile uri) (compile_asked uri h);
-  compile_by = λ uri. asks (codes "compile" ∷ (codes "--uri=" ++ uri) ∷ []) (ask_compile uri) (compile_asked_by uri);
+  parse = ask (codes "parse" ∷ []) (Some ask_parse) parse_asked;
+  compile = λ uri h. ask (codes "compile" ∷ codes "--uri" ∷ uri ∷ []) (Some (ask_compile uri)) (compile_asked uri h);
+  compile_by = λ uri. ask (codes "compile" ∷ (codes "--uri=" ++ uri) ∷ []) (Some (ask_compile uri)) (compile_asked_by uri);
 }
 
--- ---- words that ask for nothing
+-- ---- examples
 
-differ : (xs ys : Text) → xs ≢ ys → bytes_eq xs ys ≡ false
-differ xs ys h = go (bytes_eq xs ys) refl
-  where
-    go : (b : Bool) → bytes_eq xs ys ≡ b → bytes_eq xs ys ≡ false
-    go true e = absurd (h ((bytes_eq-Decides xs ys).0 e))
-    go false e = e
+-- the command that words ask for, and whether they call for help
+told : Text → Option Command × Bool
+told text = (command_of (codes "cukecheck" ∷ parted text), is_help_call (codes "cukecheck" ∷ parted text))
 
-module _ (others : List Text) where
-  help_word : asked_by (codes "help" ∷ others) ≡ None
-  unfolding command_of bundle_met walked flags_fault walk_fault defaults_fault
-  help_word = refl
+abbrev first_or : {A : Type 0} → A → List A → A
+first_or other [] = other
+first_or other (x ∷ xs) = x
 
-  empty_word : asked_by ([] ∷ others) ≡ None
-  unfolding command_of bundle_met walked flags_fault walk_fault defaults_fault
-  empty_word = refl
+abbrev but_first : {A : Type 0} → List A → List A
+but_first [] = []
+but_first (x ∷ xs) = xs
 
-  hyphen_word : asked_by (codes "-" ∷ others) ≡ None
-  unfolding command_of bundle_met walked flags_fault walk_fault defaults_fault
-  hyphen_word = refl
+-- of rows with words, each of which is told what the row says
+each : {X : Type 0} (text : X → Text) (says : X → Option Command × Bool) (P : X → Type 0) → ((x : X) → told (text x) ≡ says x → P x)
+    → (rows : List X) → map (λ x. told (text x)) rows ≡ map says rows → AllByRecursion P rows
+each text says P f [] same = tt
+each text says P f (x ∷ xs) same = (f x (ap (first_or (says x)) same), each text says P f xs (ap but_first same))
 
-  -- a word without a first hyphen that is none of the names
-  stray_word : (c : ℕ) (cs : Text) → (c == 45) ≡ false → bytes_eq (codes "help") (c ∷ cs) ≡ false → bytes_eq (codes "parse") (c ∷ cs) ≡ false → bytes_eq (codes "compile") (c ∷ cs) ≡ false
-      → bytes_eq (codes "audit") (c ∷ cs) ≡ false → bytes_eq (codes "gate") (c ∷ cs) ≡ false → bytes_eq (codes "results") (c ∷ cs) ≡ false → bytes_eq (codes "cases") (c ∷ cs) ≡ false → bytes_eq (codes "differs") (c ∷ cs) ≡ false
-      → asked_by ((c ∷ cs) ∷ others) ≡ None
-  unfolding command_of bundle_met walked flags_fault walk_fault defaults_fault
-  stray_word c cs e h p m a g r k d = let strip : strip_byte 45 (c ∷ cs) ≡ None = without_hyphen c cs e in rw (p, m, a, g, r, k, d, h, e, strip) refl
-
-  unless_help : (c : ℕ) (cs : Text) → (c == 45) ≡ false → AllByRecursion (λ name. name ≢ (c ∷ cs)) command_names → asked_by ((c ∷ cs) ∷ others) ≡ None
-  unless_help c cs e h = go (bytes_eq (codes "help") (c ∷ cs)) refl
-    where
-      go : (b : Bool) → bytes_eq (codes "help") (c ∷ cs) ≡ b → asked_by ((c ∷ cs) ∷ others) ≡ None
-      go true f = subst (λ (w : Text). asked_by (w ∷ others) ≡ None) ((bytes_eq-Decides (codes "help") (c ∷ cs)).0 f) help_word
-      go false f =
-          stray_word c cs e f (differ (codes "parse") (c ∷ cs) h.0) (differ (codes "compile") (c ∷ cs) h.1.0) (differ (codes "audit") (c ∷ cs) h.1.1.0) (differ (codes "gate") (c ∷ cs) h.1.1.1.0)
-          (differ (codes "results") (c ∷ cs) h.1.1.1.1.0) (differ (codes "cases") (c ∷ cs) h.1.1.1.1.1.0) (differ (codes "differs") (c ∷ cs) h.1.1.1.1.1.1.0)
-
-  no_command : (word : Text) → is_option word ≡ false → AllByRecursion (λ name. name ≢ word) command_names → asked_by (word ∷ others) ≡ None
-  no_command [] h k = empty_word
-  no_command (c ∷ []) h k = go (c == 45) refl
-    where
-      go : (b : Bool) → (c == 45) ≡ b → asked_by ((c ∷ []) ∷ others) ≡ None
-      go true e = subst (λ (n : ℕ). asked_by ((n ∷ []) ∷ others) ≡ None) (sym (eqb-true c 45 e)) hyphen_word
-      go false e = unless_help c [] e k
-  no_command (c ∷ d ∷ cs) h k = unless_help c (d ∷ cs) h k
-
-no_word : asked_by [] ≡ None
-unfolding command_of bundle_met walked flags_fault walk_fault defaults_fault
-no_word = refl
-
-no_uri : asked_by (codes "compile" ∷ []) ≡ None
-unfolding command_of bundle_met walked flags_fault walk_fault defaults_fault
-no_uri = refl
-
-other_number : (n : Text) → bytes_eq n (codes "0") ≡ false → bytes_eq n (codes "1") ≡ false → asked_by (codes "audit" ∷ (codes "--attempts-from=" ++ n) ∷ []) ≡ None
-unfolding command_of bundle_met walked flags_fault walk_fault defaults_fault
-other_number n zero one = rw (zero, one) refl
-
-other_option : asked_by (codes "results" ∷ codes "--pending-passes" ∷ []) ≡ None
-unfolding command_of bundle_met walked flags_fault walk_fault defaults_fault
-other_option = refl
-
-pub nothing_is_asked : NothingIsAsked
-nothing_is_asked = record {
-  no_word = asks_nothing [] no_word;
-  no_command = λ word others h k. asks_nothing (word ∷ others) (no_command others word h k);
-  no_uri = asks_nothing (codes "compile" ∷ []) no_uri;
-  other_number = λ n zero one. asks_nothing (codes "audit" ∷ (codes "--attempts-from=" ++ n) ∷ []) (other_number n (differ n (codes "0") zero) (differ n (codes "1") one));
-  other_option = asks_nothing (codes "results" ∷ codes "--pending-passes" ∷ []) other_option;
+pub examples_are_asked : ExamplesAreAsked
+unfolding command_of is_help_call clap_on_literals told
+examples_are_asked = record {
+  commands =
+      each (λ row. row.0) (λ row. (Some row.1, false)) (λ row. Ask (parted row.0) (Some row.1)) (λ row same. ask (parted row.0) (Some row.1) (ap (λ (t : Option Command × Bool). t.0) same, ap (λ (t : Option Command × Bool). t.1) same))
+      examples refl;
+  mistakes =
+      each (λ text. text) (λ text. (None, false)) (λ text. Ask (parted text) None) (λ text same. ask (parted text) None (ap (λ (t : Option Command × Bool). t.0) same, ap (λ (t : Option Command × Bool). t.1) same))
+      mistakes refl;
+  help =
+      each (λ text. text) (λ text. (None, true)) (λ text. CallForHelp (parted text)) (λ text same. call_for_help (parted text) (ap (λ (t : Option Command × Bool). t.0) same, ap (λ (t : Option Command × Bool). t.1) same))
+      help_calls refl;
 }

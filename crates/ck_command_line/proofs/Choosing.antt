@@ -1,13 +1,18 @@
 -- What a parse of the command line says of the choice.
-use Rattle.std.proofs.Common.{◌≡◌, ◌∙◌, List, [], ◌∷◌, Option, Some, None, Ok, Err, true, option_map, refl, sym, ap, subst, inl, inr}
+use Rattle.std.proofs.Common.{◌≡◌, ◌∙◌, ◌⊎◌, List, [], ◌∷◌, Option, Some, None, Ok, Err, true, option_map, refl, sym, ap, subst, inl, inr}
+use Rattle.std.proofs.lemmas.Bool.{or_left, or_right}
+use Rattle.std.specs.List.{list_any}
+use Rattle.clap.specs.Kinds.{IsAmong}
 use Rattle.clap.specs.Words.{App, HasMatchesOf, Kinds, HasKind, Text, fault_of, is_simple, is_simple_and_free, kind_of, subcommand_of, subcommand_rows_of}
 use Rattle.clap.specs.declared.error.Error.{Error}
-use Rattle.clap.specs.declared.error.kind.ErrorKind.TheVariants.{OutOfMemory}
+use Rattle.clap.specs.declared.error.kind.ErrorKind.{ErrorKind}
+use Rattle.clap.specs.declared.error.kind.ErrorKind.TheVariants.{DisplayHelp, DisplayVersion, OutOfMemory}
 use Rattle.clap.specs.declared.parser.matches.ArgMatches.{ArgMatches}
 use Rattle.ck_command_line.specs.CommandLine.{Chooses, Command, asked, command_app, command_of, named, where_none}
+use Rattle.ck_command_line.specs.CommandLine.{HelpsByKind, HelpsOnCall, IsNoHelp, is_help, is_help_call}
 use Rattle.ck_command_line.specs.declared.command_line.Choice.{Choice}
 use Rattle.ck_command_line.specs.declared.command_line.Refusal.{Refusal}
-use Rattle.ck_command_line.specs.declared.command_line.Refusal.TheVariants.{Memory}
+use Rattle.ck_command_line.specs.declared.command_line.Refusal.TheVariants.{Memory, Help, Usage}
 
 is_simple_command : (a : App) → a ≡ command_app → is_simple a ≡ true
 is_simple_command a is = subst (λ b. is_simple b ≡ true) (sym is) refl
@@ -51,3 +56,31 @@ chosen_some words found c is same = subst (λ o. Chooses o (Ok c)) (sym (ap (opt
 pub chosen_none : (words : List Text) (found : Option Choice) (r : Refusal) → found ≡ None → option_map asked found ≡ command_of words
     → Chooses (command_of words) (Err r)
 chosen_none words found r is same = subst (λ o. Chooses o (Err r)) (sym (ap (option_map asked) is) ∙ same) refl
+
+pub no_help : (words : List Text) (r : Refusal) → IsNoHelp r → HelpsOnCall words (Err r)
+no_help words (Help t) h = absurd h
+no_help words (Usage t) h = tt
+no_help words Memory h = tt
+
+shows_help : (k : ErrorKind) → (k ≡ DisplayHelp) ⊎ (k ≡ DisplayVersion) → is_help k ≡ true
+shows_help k (inl e) = ap is_help e
+shows_help k (inr e) = ap is_help e
+
+among : (k : ErrorKind) (kinds : Kinds) → IsAmong k kinds → is_help k ≡ true → list_any is_help kinds ≡ true
+among k [] i h = absurd i
+among k (x ∷ xs) (inl e) h = or_left (is_help x) (list_any is_help xs) (sym (ap is_help e) ∙ h)
+among k (x ∷ xs) (inr i) h = or_right (is_help x) (list_any is_help xs) (among k xs i h)
+
+helps : (words : List Text) (kinds : Kinds) (e : Error) (r : Refusal) → kinds ≡ fault_of command_app words → HasKind kinds e → (kind_of e ≡ OutOfMemory → r ≡ Memory)
+    → HelpsByKind (kind_of e) r → HelpsOnCall words (Err r)
+unfolding is_help_call
+helps words kinds e (Help t) same (inl m) f h = absurd (subst IsNoHelp (sym (f m)) tt)
+helps words kinds e (Help t) same (inr i) f h = ap (list_any is_help) (sym same) ∙ among (kind_of e) kinds i (shows_help (kind_of e) h)
+helps words kinds e (Usage t) same k f h = tt
+helps words kinds e Memory same k f h = tt
+
+-- where the parse fails, help is given only where the words call for it
+pub helped : (a : App) (words : List Text) (e : Error) (r : Refusal) → a ≡ command_app
+    → (is_simple_and_free a ≡ true → HasKind (fault_of a words) e) → (kind_of e ≡ OutOfMemory → r ≡ Memory)
+    → HelpsByKind (kind_of e) r → HelpsOnCall words (Err r)
+helped a words e r is free memory help = helps words (fault_of a words) e r (ap (λ (b : App). fault_of b words) is) (free (is_free_command a is)) memory help

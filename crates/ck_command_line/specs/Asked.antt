@@ -1,72 +1,59 @@
--- What the words after the program's name ask for, computed on the definition of the command line.
-use Rattle.std.specs.Prelude.{◌≡◌, ◌≢◌, true, false, ℕ, Bool, ◌==◌, List, [], ◌∷◌, ◌++◌, map, codes}
-use Rattle.std.specs.List.{AllByRecursion}
+-- What the words after the program's name ask for: laws of the definition of the command line.
+use Rattle.std.specs.Prelude.{◌≡◌, ◌≢◌, ⊤, ℕ, Bool, true, false, ◌==◌, ◌&&◌, not, if◌then◌else◌, codes}
+use Rattle.std.specs.Prelude.{List, [], ◌∷◌, ◌++◌, map, filter, Option, Some, None, option_map}
+use Rattle.std.specs.List.{AllByRecursion, flat_map, list_any}
 use Rattle.std.specs.Borrow.{Bor}
+use Rattle.std.specs.Str.{bytes_eq}
 use Rattle.clap.specs.Words.{Text}
+use Rattle.clap.specs.Lexer.{long_of}
 use Rattle.cm_attempt.specs.declared.policy.Policy.{Policy}
 use Rattle.cm_attempt.specs.declared.policy.Policy.TheVariants.{Strict, PendingPasses}
 use Rattle.cm_attempt.specs.declared.settings.Settings.{Settings}
-use Rattle.ck_command_line.specs.CommandLine.{Command, ask_parse, ask_compile, ask_audit, ask_gate, ask_results, ask_cases, ask_differs, Asks, AsksNothing}
+use Rattle.ck_command_line.specs.CommandLine.{AsksNothing, CallsForHelp, Command, asked_by, first_attempt_named}
+use Rattle.ck_command_line.specs.CommandLine.{ask_audit, ask_cases, ask_compile, ask_differs, ask_gate, ask_parse}
+use Rattle.ck_command_line.specs.CommandLine.{ask_results, helped_by}
 
--- words that are these texts ask for the command
-abbrev pub Ask : List Text → Command → Type 0
-Ask texts command =
-    (words : List (Bor Text)) → map (λ w. w.now) words ≡ texts → Asks words command
+-- words that are these texts ask for this command, or for none, and don't call for help
+abbrev pub Ask : List Text → Option Command → Type 0
+Ask texts command = (words : List (Bor Text)) → map (λ w. w.now) words ≡ texts
+    → (asked_by words ≡ command) × (helped_by words ≡ false)
 
--- words that are these texts ask for no command
-abbrev pub AskNothing : List Text → Type 0
-AskNothing texts = (words : List (Bor Text)) → map (λ w. w.now) words ≡ texts → AsksNothing words
+-- words that are these texts call for help or for the version
+abbrev pub CallForHelp : List Text → Type 0
+CallForHelp texts = (words : List (Bor Text)) → map (λ w. w.now) words ≡ texts
+    → AsksNothing words × CallsForHelp words
 
--- the settings of this policy, with first attempts of this number
-abbrev pub by : Policy → (first : ℕ) → Settings
-by policy first = record { policy = policy; first_attempt = first }
+-- ---- the commands that read a stream, with their options
 
--- `--attempts-from N`
-abbrev pub attempts_from : Text → List Text
-attempts_from n = codes "--attempts-from" ∷ n ∷ []
+-- an option as it is written; the number follows `=` in the same word, or is a word of its own
+pub data Written : Type 0 where
+  allow_unrun : Written
+  pending_passes : Written
+  attempts_from : (is_one_word : Bool) → (number : Text) → Written
 
--- `audit`, alone and with its options
-pub record AuditIsAsked : Type 0 where
-  pub alone : Ask (codes "audit" ∷ []) (ask_audit (by Strict 0))
-  pub pending_passes :
-      Ask (codes "audit" ∷ codes "--pending-passes" ∷ []) (ask_audit (by PendingPasses 0))
-  pub from_zero : Ask (codes "audit" ∷ attempts_from (codes "0")) (ask_audit (by Strict 0))
-  pub from_one : Ask (codes "audit" ∷ attempts_from (codes "1")) (ask_audit (by Strict 1))
-  pub both : Ask (codes "audit" ∷ codes "--pending-passes" ∷ attempts_from (codes "1"))
-      (ask_audit (by PendingPasses 1))
+abbrev pub name_of : Written → Text
+name_of allow_unrun = codes "allow-unrun"
+name_of pending_passes = codes "pending-passes"
+name_of (attempts_from is_one_word number) = codes "attempts-from"
 
--- `gate`, alone and with its options; the `Bool` says whether a run may pass with pickles that
--- didn't run
-pub record GateIsAsked : Type 0 where
-  pub alone : Ask (codes "gate" ∷ []) (ask_gate (by Strict 0) false)
-  pub allow_unrun :
-      Ask (codes "gate" ∷ codes "--allow-unrun" ∷ []) (ask_gate (by Strict 0) true)
-  pub pending_passes :
-      Ask (codes "gate" ∷ codes "--pending-passes" ∷ []) (ask_gate (by PendingPasses 0) false)
-  pub from_one : Ask (codes "gate" ∷ attempts_from (codes "1")) (ask_gate (by Strict 1) false)
+-- its words
+abbrev pub words_of : Written → List Text
+words_of allow_unrun = codes "--allow-unrun" ∷ []
+words_of pending_passes = codes "--pending-passes" ∷ []
+words_of (attempts_from true number) = (codes "--attempts-from=" ++ number) ∷ []
+words_of (attempts_from false number) = codes "--attempts-from" ∷ number ∷ []
 
--- `results`, alone and with its option
-pub record ResultsAreAsked : Type 0 where
-  pub alone : Ask (codes "results" ∷ []) (ask_results 0)
-  pub from_one : Ask (codes "results" ∷ attempts_from (codes "1")) (ask_results 1)
+abbrev pub all_words : List Written → List Text
+all_words = flat_map words_of
 
--- `cases`, alone and with its options
-pub record CasesAreAsked : Type 0 where
-  pub alone : Ask (codes "cases" ∷ []) (ask_cases (by Strict 0))
-  pub pending_passes :
-      Ask (codes "cases" ∷ codes "--pending-passes" ∷ []) (ask_cases (by PendingPasses 0))
-  pub from_one : Ask (codes "cases" ∷ attempts_from (codes "1")) (ask_cases (by Strict 1))
-  pub both : Ask (codes "cases" ∷ codes "--pending-passes" ∷ attempts_from (codes "1"))
-      (ask_cases (by PendingPasses 1))
+abbrev pub has_name : Text → Written → Bool
+has_name name option = bytes_eq name (name_of option)
 
--- `differs`, alone and with its options
-pub record DifferencesAreAsked : Type 0 where
-  pub alone : Ask (codes "differs" ∷ []) (ask_differs (by Strict 0))
-  pub pending_passes :
-      Ask (codes "differs" ∷ codes "--pending-passes" ∷ []) (ask_differs (by PendingPasses 0))
-  pub from_one : Ask (codes "differs" ∷ attempts_from (codes "1")) (ask_differs (by Strict 1))
-  pub both : Ask (codes "differs" ∷ codes "--pending-passes" ∷ attempts_from (codes "1"))
-      (ask_differs (by PendingPasses 1))
+-- each option has one of these names, and no two have the same one
+abbrev pub are_distinct : List Text → List Written → Bool
+are_distinct names [] = true
+are_distinct names (option ∷ options) = list_any (λ name. has_name name option) names
+    && are_distinct (filter (λ name. not (has_name name option)) names) options
 
 -- a word of a hyphen and more
 abbrev pub is_option : Text → Bool
@@ -74,29 +61,176 @@ is_option [] = false
 is_option (c ∷ []) = false
 is_option (c ∷ d ∷ cs) = c == 45
 
+-- a number that is a word of its own isn't written like an option
+abbrev pub IsPlain : Written → Type 0
+IsPlain (attempts_from false number) = is_option number ≡ false
+IsPlain _ = ⊤
+
+-- the policy that the options ask for
+abbrev pub policy_of : List Written → Policy
+policy_of options =
+    if list_any (has_name (codes "pending-passes")) options then PendingPasses else Strict
+
+-- the number that they give
+abbrev pub number_of : List Written → Option Text
+number_of [] = None
+number_of (attempts_from is_one_word number ∷ options) = Some number
+number_of (option ∷ options) = number_of options
+
+-- the settings that they ask for: none where the number is neither 0 nor 1
+abbrev pub settings_of : List Written → Option Settings
+settings_of options =
+    option_map (λ first. record { policy = policy_of options; first_attempt = first })
+    (first_attempt_named (number_of options))
+
+-- how a command is used: its name, the names of its options, and what it asks for by the settings
+-- and by whether `--allow-unrun` is there
+pub record Usage : Type 0 where
+  pub name : Text
+  pub options : List Text
+  pub asks : Settings → Bool → Command
+
+abbrev pub gate_usage : Usage
+gate_usage = record {
+  name = codes "gate";
+  options = codes "allow-unrun" ∷ codes "pending-passes" ∷ codes "attempts-from" ∷ [];
+  asks = ask_gate;
+}
+
+-- a command with the options of `audit`
+abbrev pub usage_like_audit : Text → (Settings → Command) → Usage
+usage_like_audit name asks = record {
+  name = name;
+  options = codes "pending-passes" ∷ codes "attempts-from" ∷ [];
+  asks = λ settings allows_unrun. asks settings;
+}
+
+abbrev pub results_usage : Usage
+results_usage = record {
+  name = codes "results";
+  options = codes "attempts-from" ∷ [];
+  asks = λ settings allows_unrun. ask_results settings.first_attempt;
+}
+
+abbrev pub usages : List Usage
+usages =
+    gate_usage ∷ usage_like_audit (codes "audit") ask_audit
+    ∷ usage_like_audit (codes "cases") ask_cases
+    ∷ usage_like_audit (codes "differs") ask_differs ∷ results_usage ∷ []
+
+-- what a command with these options asks for
+abbrev pub asked_with : Usage → List Written → Option Command
+asked_with usage options =
+    option_map (λ settings. usage.asks settings (list_any (has_name (codes "allow-unrun")) options))
+    (settings_of options)
+
+-- A command's own options may come in any order, none twice. They ask for it with what they say, or
+-- for nothing where the number is neither 0 nor 1.
+abbrev pub TakesItsOptions : Usage → Type 0
+TakesItsOptions usage = (options : List Written) → are_distinct usage.options options ≡ true
+    → AllByRecursion IsPlain options
+    → Ask (usage.name ∷ all_words options) (asked_with usage options)
+
+-- ---- words that ask for nothing
+
+-- the commands, with the names of their options
+abbrev pub named_options : List (Text × List Text)
+named_options =
+    (codes "parse", []) ∷ (codes "compile", codes "uri" ∷ [])
+    ∷ map (λ usage. (usage.name, usage.options)) usages
+
+-- with this word after the command and any of the options, nothing is asked for, whatever follows
+abbrev pub Refuses : (command word : Text) → Type 0
+Refuses command word = (options : List Written) → AllByRecursion IsPlain options
+    → (others : List Text) → Ask (command ∷ all_words options ++ word ∷ others) None
+
+-- A command refuses a word that is no option, as the name of a file.
+abbrev pub RefusesFiles : Text × List Text → Type 0
+RefusesFiles command = (word : Text) → is_option word ≡ false → Refuses command.0 word
+
+-- It refuses `--NAME` and `--NAME=VALUE` where NAME is neither its own option's nor `help`.
+abbrev pub RefusesOtherOptions : Text × List Text → Type 0
+RefusesOtherOptions command = (word name : Text) (value : Option Text)
+    → long_of word ≡ Some (name, value)
+    → AllByRecursion (λ own. own ≢ name) (codes "help" ∷ command.1) → Refuses command.0 word
+
+-- Nothing is asked for without a word, by a first word that is neither an option nor the name of a
+-- command, and by `compile` without a uri. The word `help` calls for help.
+pub record NothingIsAsked : Type 0 where
+  pub no_word : Ask [] None
+  pub no_command : (word : Text) (others : List Text) → is_option word ≡ false → codes "help" ≢ word
+      → AllByRecursion (λ command. command.0 ≢ word) named_options → Ask (word ∷ others) None
+  pub no_uri : Ask (codes "compile" ∷ []) None
+  pub help : (others : List Text) → CallForHelp (codes "help" ∷ others)
+
+-- ---- feature files
+
 -- `parse`, and `compile` with a uri: one that is no option may be a word of its own, and any uri
 -- may follow `--uri=`
 pub record FeaturesAreAsked : Type 0 where
-  pub parse : Ask (codes "parse" ∷ []) ask_parse
+  pub parse : Ask (codes "parse" ∷ []) (Some ask_parse)
   pub compile : (uri : Text) → is_option uri ≡ false
-      → Ask (codes "compile" ∷ codes "--uri" ∷ uri ∷ []) (ask_compile uri)
+      → Ask (codes "compile" ∷ codes "--uri" ∷ uri ∷ []) (Some (ask_compile uri))
   pub compile_by : (uri : Text)
-      → Ask (codes "compile" ∷ (codes "--uri=" ++ uri) ∷ []) (ask_compile uri)
+      → Ask (codes "compile" ∷ (codes "--uri=" ++ uri) ∷ []) (Some (ask_compile uri))
 
--- the names of the commands
-abbrev pub command_names : List Text
-command_names =
-    codes "parse" ∷ codes "compile" ∷ codes "audit" ∷ codes "gate" ∷ codes "results"
-    ∷ codes "cases" ∷ codes "differs" ∷ []
+-- ---- examples
 
--- Nothing is asked for without a word, by a first word that is neither an option nor the name of a
--- command, by `compile` without a uri, by a number other than 0 and 1, or by an option of another
--- command.
-pub record NothingIsAsked : Type 0 where
-  pub no_word : AskNothing []
-  pub no_command : (word : Text) (others : List Text) → is_option word ≡ false
-      → AllByRecursion (λ name. name ≢ word) command_names → AskNothing (word ∷ others)
-  pub no_uri : AskNothing (codes "compile" ∷ [])
-  pub other_number : (n : Text) → n ≢ codes "0" → n ≢ codes "1"
-      → AskNothing (codes "audit" ∷ (codes "--attempts-from=" ++ n) ∷ [])
-  pub other_option : AskNothing (codes "results" ∷ codes "--pending-passes" ∷ [])
+-- the words of a line, which a space parts
+abbrev pub with_first : ℕ → List Text → List Text
+with_first c [] = (c ∷ []) ∷ []
+with_first c (word ∷ words) = (c ∷ word) ∷ words
+
+abbrev pub parted : Text → List Text
+parted [] = [] ∷ []
+parted (c ∷ cs) = if c == 32 then [] ∷ parted cs else with_first c (parted cs)
+
+-- the settings of this policy, with first attempts of this number
+abbrev pub by : Policy → (first : ℕ) → Settings
+by policy first = record { policy = policy; first_attempt = first }
+
+-- words, and the command that they ask for
+abbrev pub examples : List (Text × Command)
+examples =
+    (codes "gate", ask_gate (by Strict 0) false)
+    ∷ (codes "gate --allow-unrun", ask_gate (by Strict 0) true)
+    ∷ (codes "gate --attempts-from 1 --allow-unrun", ask_gate (by Strict 1) true)
+    ∷ (codes "gate --attempts-from=1 --pending-passes", ask_gate (by PendingPasses 1) false)
+    ∷ (codes "audit", ask_audit (by Strict 0))
+    ∷ (codes "audit --attempts-from 0", ask_audit (by Strict 0))
+    ∷ (codes "cases --pending-passes", ask_cases (by PendingPasses 0))
+    ∷ (codes "differs --attempts-from 1", ask_differs (by Strict 1))
+    ∷ (codes "results --attempts-from 1", ask_results 1)
+    ∷ (codes "parse", ask_parse)
+    ∷ (codes "compile --uri a.feature", ask_compile (codes "a.feature"))
+    ∷ []
+
+-- words with a mistake
+abbrev pub mistakes : List Text
+mistakes =
+    codes "gate run.ndjson"
+    ∷ codes "gate --alow-unrun"
+    ∷ codes "gate --allow-unrun=true"
+    ∷ codes "gate --allow-unrun --allow-unrun"
+    ∷ codes "gate --attempts-from"
+    ∷ codes "gate --attempts-from 2"
+    ∷ codes "gate --attempts-from=2"
+    ∷ codes "gate --attempts-from -1"
+    ∷ codes "gate --attempts-from --allow-unrun"
+    ∷ codes "gate --attempts-from 1 --attempts-from 1"
+    ∷ codes "audit --allow-unrun"
+    ∷ codes "results --pending-passes"
+    ∷ codes "--allow-unrun gate"
+    ∷ []
+
+-- calls for help and for the version
+abbrev pub help_calls : List Text
+help_calls =
+    codes "help" ∷ codes "help gate" ∷ codes "--help" ∷ codes "-h"
+    ∷ codes "gate --help" ∷ codes "gate -h" ∷ codes "gate --allow-unrun --help"
+    ∷ codes "--version" ∷ codes "-V" ∷ []
+
+pub record ExamplesAreAsked : Type 0 where
+  pub commands : AllByRecursion (λ row. Ask (parted row.0) (Some row.1)) examples
+  pub mistakes : AllByRecursion (λ text. Ask (parted text) None) mistakes
+  pub help : AllByRecursion (λ text. CallForHelp (parted text)) help_calls

@@ -1,9 +1,12 @@
 -- The command line `cukecheck COMMAND`, as the crate `clap` reads it.
-use Rattle.std.specs.Prelude.{◌≡◌, true, false, ℕ, Bool, List, [], ◌∷◌, Option, Some, None, Result, Ok, Err, IsErr, codes}
-use Rattle.std.specs.Prelude.{if◌then◌else◌, map, option_and_then, option_map}
+use Rattle.std.specs.Prelude.{◌≡◌, ◌⊎◌, ⊤, true, false, ℕ, Bool, List, [], ◌∷◌, Option, Some, None, Result, Ok, Err, IsErr, codes}
+use Rattle.std.specs.Prelude.{if◌then◌else◌, fold, map, option_and_then, option_map}
 use Rattle.std.specs.Borrow.{Bor}
 use Rattle.std.specs.Option.{option_map_or}
 use Rattle.std.specs.Str.{bytes_eq}
+use Rattle.std.specs.List.{list_any}
+use Rattle.clap.specs.declared.error.kind.ErrorKind.{ErrorKind}
+use Rattle.clap.specs.declared.error.kind.ErrorKind.TheVariants as kind
 use Rattle.clap.specs.Words.{App, Row, Rule, Text, fault_of, first_of, new_app, new_rule, subcommand_of, with_rule, with_subcommand}
 use Rattle.clap.specs.Simple.{on_top}
 use Rattle.clap.specs.declared.builder.action.ArgAction.TheVariants.{Set, SetTrue}
@@ -15,8 +18,8 @@ use Rattle.ck_command_line.specs.declared.command_line.Choice.TheVariants as cho
 use Rattle.ck_command_line.specs.declared.command_line.Refusal.{Refusal}
 use Rattle.ck_command_line.specs.declared.command_line.Refusal.TheVariants as refusal
 
--- what the words may ask for; `compile` has its uri, `results` the number of each case's first attempt, `gate` whether it
--- lets a run pass that has pickles without a case
+-- what the words may ask for; `compile` has its uri, `results` the number of each case's first
+-- attempt, `gate` whether it lets a run pass that has pickles without a case
 pub data Command : Type 0 where
   ask_parse : Command
   ask_compile : List ℕ → Command
@@ -63,22 +66,14 @@ pending_rule = flag_rule (codes "pending-passes")
 abbrev pub unrun_rule : Rule
 unrun_rule = flag_rule (codes "allow-unrun")
 
--- the command `compile --uri URI`
-abbrev pub compile_command : App
-compile_command = with_rule (new_app (codes "compile")) uri_rule
-
--- the command `audit [--pending-passes] [--attempts-from N]`
-abbrev pub audit_command : App
-audit_command = with_rule (with_rule (new_app (codes "audit")) pending_rule) attempts_rule
-
 -- the command `gate [--allow-unrun] [--pending-passes] [--attempts-from N]`
 abbrev pub gate_command : App
 gate_command =
     with_rule (with_rule (with_rule (new_app (codes "gate")) unrun_rule) pending_rule) attempts_rule
 
--- the command `results [--attempts-from N]`
-abbrev pub results_command : App
-results_command = with_rule (new_app (codes "results")) attempts_rule
+-- the command `audit [--pending-passes] [--attempts-from N]`
+abbrev pub audit_command : App
+audit_command = with_rule (with_rule (new_app (codes "audit")) pending_rule) attempts_rule
 
 -- the command `cases [--pending-passes] [--attempts-from N]`
 abbrev pub cases_command : App
@@ -88,40 +83,37 @@ cases_command = with_rule (with_rule (new_app (codes "cases")) pending_rule) att
 abbrev pub differs_command : App
 differs_command = with_rule (with_rule (new_app (codes "differs")) pending_rule) attempts_rule
 
+-- the command `results [--attempts-from N]`
+abbrev pub results_command : App
+results_command = with_rule (new_app (codes "results")) attempts_rule
+
+-- the command `parse`
+abbrev pub parse_command : App
+parse_command = new_app (codes "parse")
+
+-- the command `compile --uri URI`
+abbrev pub compile_command : App
+compile_command = with_rule (new_app (codes "compile")) uri_rule
+
 -- the program, which has a version and wants a command
 abbrev pub bare_app : App
 bare_app =
     on_top (λ s. record s { has_version = true; subcommand_required = true })
     (new_app (codes "cukecheck"))
 
--- the program with its command `parse`
-abbrev pub parse_app : App
-parse_app = with_subcommand bare_app (new_app (codes "parse")).top
+-- the commands, in the order in which `--help` lists them
+abbrev pub commands : List App
+commands =
+    gate_command ∷ audit_command ∷ cases_command ∷ differs_command ∷ results_command
+    ∷ parse_command ∷ compile_command ∷ []
 
--- the program with its commands up to `compile`
-abbrev pub compile_app : App
-compile_app = with_subcommand parse_app compile_command.top
+-- the program with these commands, one added after another
+abbrev pub with_commands : App → List App → App
+with_commands app commands = fold (λ a command. with_subcommand a command.top) app commands
 
--- the program with its commands up to `audit`
-abbrev pub audit_app : App
-audit_app = with_subcommand compile_app audit_command.top
-
--- the program with its commands up to `gate`
-abbrev pub gate_app : App
-gate_app = with_subcommand audit_app gate_command.top
-
--- the program with its commands up to `results`
-abbrev pub results_app : App
-results_app = with_subcommand gate_app results_command.top
-
--- the program with its commands up to `cases`
-abbrev pub cases_app : App
-cases_app = with_subcommand results_app cases_command.top
-
--- the program with all its commands: `parse`, `compile`, `audit`, `gate`, `results`, `cases` and
--- `differs`
+-- the program with all its commands
 abbrev pub command_app : App
-command_app = with_subcommand cases_app differs_command.top
+command_app = with_commands bare_app commands
 
 -- a flag is given where its text is `true`
 abbrev pub is_given : Option Text → Bool
@@ -131,7 +123,8 @@ is_given text = option_map_or (λ t. bytes_eq t (codes "true")) text false
 abbrev pub policy_named : Option Text → Policy
 policy_named text = if is_given text then PendingPasses else Strict
 
--- the number of each case's first attempt: the option's text is exactly `0` or `1`, and it is 0 where the option isn't given
+-- the number of each case's first attempt: the option's text is exactly `0` or `1`, and it is 0
+-- where the option isn't given
 abbrev pub first_attempt_named : Option Text → Option ℕ
 first_attempt_named None = Some 0
 first_attempt_named (Some text) =
@@ -175,20 +168,57 @@ abbrev pub where_none : {A B : Type 0} → List A → Option B → Option B
 where_none [] found = found
 where_none (x ∷ xs) found = None
 
--- What the words ask for, the program's name first: the command that they name, where the command line has no fault.
+-- What the words ask for, the program's name first: the command that they name, where the command
+-- line has no fault.
 unfoldable pub command_of : List Text → Option Command
 command_of words = where_none (fault_of command_app words) (named (subcommand_of command_app words))
 
--- the words after the program's name ask for this command
+-- what the words after the program's name ask for
+abbrev pub asked_by : List (Bor Text) → Option Command
+asked_by words = command_of (codes "cukecheck" ∷ map (λ w. w.now) words)
+
+-- they ask for this command
 abbrev pub Asks : List (Bor Text) → Command → Type 0
-Asks words command = command_of (codes "cukecheck" ∷ map (λ w. w.now) words) ≡ Some command
+Asks words command = asked_by words ≡ Some command
 
 -- they ask for no command
 abbrev pub AsksNothing : List (Bor Text) → Type 0
-AsksNothing words = command_of (codes "cukecheck" ∷ map (λ w. w.now) words) ≡ None
+AsksNothing words = asked_by words ≡ None
 
 -- the words gave this command, or memory ran out; words that ask for no command gave none
 abbrev pub Chooses : Option Command → Result Choice Refusal → Type 0
 Chooses (Some c) (Ok d) = asked d ≡ c
 Chooses (Some c) (Err r) = r ≡ refusal.Memory
 Chooses None result = IsErr result
+
+-- the error shows help or the version
+abbrev pub is_help : ErrorKind → Bool
+is_help kind.DisplayHelp = true
+is_help kind.DisplayVersion = true
+is_help _ = false
+
+-- The words, the program's name first, call for help or for the version.
+unfoldable pub is_help_call : List Text → Bool
+is_help_call words = list_any is_help (fault_of command_app words)
+
+-- whether the words after the program's name call for help or for the version
+abbrev pub helped_by : List (Bor Text) → Bool
+helped_by words = is_help_call (codes "cukecheck" ∷ map (λ w. w.now) words)
+
+abbrev pub CallsForHelp : List (Bor Text) → Type 0
+CallsForHelp words = helped_by words ≡ true
+
+-- help is given only where the words call for it
+abbrev pub HelpsOnCall : List Text → Result Choice Refusal → Type 0
+HelpsOnCall words (Err (refusal.Help text)) = is_help_call words ≡ true
+HelpsOnCall words result = ⊤
+
+-- an error of this kind gives help only where it shows help or the version
+abbrev pub HelpsByKind : ErrorKind → Refusal → Type 0
+HelpsByKind k (refusal.Help text) = (k ≡ kind.DisplayHelp) ⊎ (k ≡ kind.DisplayVersion)
+HelpsByKind k refusal = ⊤
+
+-- it isn't help
+abbrev pub IsNoHelp : Refusal → Type 0
+IsNoHelp (refusal.Help text) = ⊥
+IsNoHelp refusal = ⊤

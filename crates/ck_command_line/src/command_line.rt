@@ -2,10 +2,11 @@
 ghost use Rattle.std.specs.Prelude.{◌≡◌, IfOk, false, map, option_map};
 ghost use Rattle.clap.specs.Words.{app_of, first_of, found_of, kind_of, new_app, rows_of, rule_of, subcommand_rows_of};
 ghost use Rattle.clap.specs.declared.builder.command.Command.TheViews.{out-Command as fields_of};
+ghost use Rattle.ck_command_line.specs.CommandLine.{HelpsByKind, HelpsOnCall, IsNoHelp};
 ghost use Rattle.ck_command_line.specs.CommandLine.{Chooses, asked, attempts_rule, audit_command, bare_app, cases_command};
 ghost use Rattle.ck_command_line.specs.CommandLine.{command_app, command_named, command_of, compile_command, differs_command};
 ghost use Rattle.ck_command_line.specs.CommandLine.{first_attempt_in};
-ghost use Rattle.ck_command_line.specs.CommandLine.{flag_rule, gate_command, is_given, named, policy_in, results_command};
+ghost use Rattle.ck_command_line.specs.CommandLine.{flag_rule, gate_command, is_given, named, parse_command, policy_in, results_command};
 ghost use Rattle.ck_command_line.specs.CommandLine.{settings_in, uri_rule};
 
 use crate::help;
@@ -45,7 +46,7 @@ pub enum Refusal {
     Memory,
 }
 
-// The argument, of whose value the help says its name and what it is.
+/// The argument, of whose value the help says its name and what it is.
 fn explained<'a>(arg: Arg<'a>, value: &'a str, text: &'a str) -> Arg<'a>
     ensures rule { rule_of result ≡ record (rule_of arg.entry) { value_names = 1 } }
     ensures local { result.global ≡ arg.entry.global }
@@ -53,7 +54,7 @@ fn explained<'a>(arg: Arg<'a>, value: &'a str, text: &'a str) -> Arg<'a>
     arg.help(text).value_name(value)
 }
 
-// The argument `--uri URI`, which must be given.
+/// The argument `--uri URI`, which must be given.
 fn uri_argument<'a>(alloc: Global) -> Arg<'a>
     ensures rule { rule_of result ≡ uri_rule }
     ensures local { result.global ≡ false }
@@ -65,7 +66,7 @@ fn uri_argument<'a>(alloc: Global) -> Arg<'a>
     explained(uri, "URI", help::URI)
 }
 
-// The argument `--attempts-from N`.
+/// The argument `--attempts-from N`.
 fn attempts_argument<'a>(alloc: Global) -> Arg<'a>
     ensures rule { rule_of result ≡ attempts_rule }
     ensures local { result.global ≡ false }
@@ -76,7 +77,7 @@ fn attempts_argument<'a>(alloc: Global) -> Arg<'a>
     explained(attempts_from, "N", help::ATTEMPTS_FROM)
 }
 
-// A flag, with what its help says.
+/// A flag, with what its help says.
 fn flag<'a>(alloc: Global, name: &'a str, text: &'a str) -> Arg<'a>
     ensures rule { rule_of result ≡ flag_rule name.entry.now }
     ensures local { result.global ≡ false }
@@ -87,97 +88,165 @@ fn flag<'a>(alloc: Global, name: &'a str, text: &'a str) -> Arg<'a>
         .help(text)
 }
 
-// A command with no argument so far. Its help says what it is about, and more after its options.
-fn new_command<'a>(alloc: Global, name: &'a str, about: &'a str, more: &'a str) -> Command<'a>
+/// A command with no argument so far. Its help says what it is about, how it is used, and more after its options.
+fn new_command<'a>(
+    alloc: Global,
+    name: &'a str,
+    about: &'a str,
+    usage: &'a str,
+    more: &'a str,
+) -> Command<'a>
     ensures app { app_of result ≡ new_app name.entry.now }
     ensures local { (fields_of result).has_globals ≡ false }
 {
-    Command::new(alloc, name).about(about).after_help(more)
+    Command::new(alloc, name)
+        .about(about)
+        .override_usage(usage)
+        .after_help(more)
 }
 
-// `compile --uri URI`.
-fn compile_command<'a>(alloc: Global) -> Result<Command<'a>, AllocError>
-    ensures app { IfOk result (λ c. app_of c ≡ compile_command) }
-    ensures local { IfOk result (λ c. (fields_of c).has_globals ≡ false) }
-{
-    new_command(alloc, "compile", help::COMPILE, help::AFTER_COMPILE).arg(uri_argument(alloc))
-}
-
-// `audit [--pending-passes] [--attempts-from N]`.
-fn audit_command<'a>(alloc: Global) -> Result<Command<'a>, AllocError>
-    ensures app { IfOk result (λ c. app_of c ≡ audit_command) }
-    ensures local { IfOk result (λ c. (fields_of c).has_globals ≡ false) }
-{
-    new_command(alloc, "audit", help::AUDIT, help::AFTER_AUDIT)
-        .arg(flag(alloc, "pending-passes", help::PENDING_PASSES))?
-        .arg(attempts_argument(alloc))
-}
-
-// `gate [--allow-unrun] [--pending-passes] [--attempts-from N]`.
+/// `gate [--allow-unrun] [--pending-passes] [--attempts-from N]`.
 fn gate_command<'a>(alloc: Global) -> Result<Command<'a>, AllocError>
     ensures app { IfOk result (λ c. app_of c ≡ gate_command) }
     ensures local { IfOk result (λ c. (fields_of c).has_globals ≡ false) }
 {
-    new_command(alloc, "gate", help::GATE, help::AFTER_GATE)
-        .arg(flag(alloc, "allow-unrun", help::ALLOW_UNRUN))?
-        .arg(flag(alloc, "pending-passes", help::PENDING_PASSES))?
-        .arg(attempts_argument(alloc))
+    new_command(
+        alloc,
+        "gate",
+        help::GATE,
+        help::GATE_USAGE,
+        help::AFTER_GATE,
+    )
+    .arg(flag(alloc, "allow-unrun", help::ALLOW_UNRUN))?
+    .arg(flag(alloc, "pending-passes", help::PENDING_PASSES))?
+    .arg(attempts_argument(alloc))
 }
 
-// `results [--attempts-from N]`.
-fn results_command<'a>(alloc: Global) -> Result<Command<'a>, AllocError>
-    ensures app { IfOk result (λ c. app_of c ≡ results_command) }
+/// `audit [--pending-passes] [--attempts-from N]`.
+fn audit_command<'a>(alloc: Global) -> Result<Command<'a>, AllocError>
+    ensures app { IfOk result (λ c. app_of c ≡ audit_command) }
     ensures local { IfOk result (λ c. (fields_of c).has_globals ≡ false) }
 {
-    new_command(alloc, "results", help::RESULTS, help::AFTER_RESULTS).arg(attempts_argument(alloc))
+    new_command(
+        alloc,
+        "audit",
+        help::AUDIT,
+        help::AUDIT_USAGE,
+        help::AFTER_AUDIT,
+    )
+    .arg(flag(alloc, "pending-passes", help::PENDING_PASSES))?
+    .arg(attempts_argument(alloc))
 }
 
-// `cases [--pending-passes] [--attempts-from N]`.
+/// `cases [--pending-passes] [--attempts-from N]`.
 fn cases_command<'a>(alloc: Global) -> Result<Command<'a>, AllocError>
     ensures app { IfOk result (λ c. app_of c ≡ cases_command) }
     ensures local { IfOk result (λ c. (fields_of c).has_globals ≡ false) }
 {
-    new_command(alloc, "cases", help::CASES, help::AFTER_CASES)
-        .arg(flag(alloc, "pending-passes", help::PENDING_PASSES))?
-        .arg(attempts_argument(alloc))
+    new_command(
+        alloc,
+        "cases",
+        help::CASES,
+        help::CASES_USAGE,
+        help::AFTER_CASES,
+    )
+    .arg(flag(alloc, "pending-passes", help::PENDING_PASSES))?
+    .arg(attempts_argument(alloc))
 }
 
-// `differs [--pending-passes] [--attempts-from N]`.
+/// `differs [--pending-passes] [--attempts-from N]`.
 fn differs_command<'a>(alloc: Global) -> Result<Command<'a>, AllocError>
     ensures app { IfOk result (λ c. app_of c ≡ differs_command) }
     ensures local { IfOk result (λ c. (fields_of c).has_globals ≡ false) }
 {
-    new_command(alloc, "differs", help::DIFFERS, help::AFTER_DIFFERS)
-        .arg(flag(alloc, "pending-passes", help::PENDING_PASSES))?
-        .arg(attempts_argument(alloc))
+    new_command(
+        alloc,
+        "differs",
+        help::DIFFERS,
+        help::DIFFERS_USAGE,
+        help::AFTER_DIFFERS,
+    )
+    .arg(flag(alloc, "pending-passes", help::PENDING_PASSES))?
+    .arg(attempts_argument(alloc))
 }
 
-// The program with no command so far.
+/// `results [--attempts-from N]`.
+fn results_command<'a>(alloc: Global) -> Result<Command<'a>, AllocError>
+    ensures app { IfOk result (λ c. app_of c ≡ results_command) }
+    ensures local { IfOk result (λ c. (fields_of c).has_globals ≡ false) }
+{
+    new_command(
+        alloc,
+        "results",
+        help::RESULTS,
+        help::RESULTS_USAGE,
+        help::AFTER_RESULTS,
+    )
+    .arg(attempts_argument(alloc))
+}
+
+/// `parse`.
+fn parse_command<'a>(alloc: Global) -> Command<'a>
+    ensures app { app_of result ≡ parse_command }
+    ensures local { (fields_of result).has_globals ≡ false }
+{
+    new_command(
+        alloc,
+        "parse",
+        help::PARSE,
+        help::PARSE_USAGE,
+        help::AFTER_PARSE,
+    )
+}
+
+/// `compile --uri URI`.
+fn compile_command<'a>(alloc: Global) -> Result<Command<'a>, AllocError>
+    ensures app { IfOk result (λ c. app_of c ≡ compile_command) }
+    ensures local { IfOk result (λ c. (fields_of c).has_globals ≡ false) }
+{
+    new_command(
+        alloc,
+        "compile",
+        help::COMPILE,
+        help::COMPILE_USAGE,
+        help::AFTER_COMPILE,
+    )
+    .arg(uri_argument(alloc))
+}
+
+/// The program with no command so far.
 fn bare_command<'a>(alloc: Global) -> Command<'a>
     ensures { app_of result ≡ bare_app }
 {
-    new_command(alloc, "cukecheck", help::PROGRAM, help::AFTER_PROGRAM)
-        .version(help::VERSION)
-        .subcommand_required(true)
+    new_command(
+        alloc,
+        "cukecheck",
+        help::PROGRAM,
+        help::PROGRAM_USAGE,
+        help::AFTER_PROGRAM,
+    )
+    .version(help::VERSION)
+    .subcommand_required(true)
 }
 
-// The command line: one of the commands is required.
+/// The command line: one of the commands is required. `--help` lists them in this order.
 fn command<'a>(alloc: Global) -> Result<Command<'a>, AllocError>
     ensures { IfOk result (λ c. app_of c ≡ command_app) }
 {
     let bare = bare_command(alloc);
-    let parse = new_command(alloc, "parse", help::PARSE, help::AFTER_PARSE);
-    let with_parse = bare.subcommand(parse)?;
-    let with_compile = with_parse.subcommand(compile_command(alloc)?)?;
-    let with_audit = with_compile.subcommand(audit_command(alloc)?)?;
-    let with_gate = with_audit.subcommand(gate_command(alloc)?)?;
-    let with_results = with_gate.subcommand(results_command(alloc)?)?;
-    let with_cases = with_results.subcommand(cases_command(alloc)?)?;
-    with_cases.subcommand(differs_command(alloc)?)
+    let with_gate = bare.subcommand(gate_command(alloc)?)?;
+    let with_audit = with_gate.subcommand(audit_command(alloc)?)?;
+    let with_cases = with_audit.subcommand(cases_command(alloc)?)?;
+    let with_differs = with_cases.subcommand(differs_command(alloc)?)?;
+    let with_results = with_differs.subcommand(results_command(alloc)?)?;
+    let with_parse = with_results.subcommand(parse_command(alloc))?;
+    with_parse.subcommand(compile_command(alloc)?)
 }
 
+/// What the user is told of the error.
 fn refusal_of(alloc: Global, error: &Error) -> Refusal
-    ensures { kind_of error.now ≡ ErrorKind.OutOfMemory → result ≡ Refusal.Memory }
+    ensures memory { kind_of error.now ≡ ErrorKind.OutOfMemory → result ≡ Refusal.Memory }
+    ensures help { HelpsByKind (kind_of error.now) result }
 {
     if error.kind() == ErrorKind::OutOfMemory {
         return Refusal::Memory;
@@ -192,7 +261,7 @@ fn refusal_of(alloc: Global, error: &Error) -> Refusal
     }
 }
 
-// The text after an option or a flag.
+/// The text after an option or a flag.
 fn text_of<'a>(values: &ArgMatches<'a>, name: &str) -> Option<&'a str>
     ensures { option_map (λ s. s.now) result
         ≡ first_of name.now (rows_of (found_of values.now)) }
@@ -200,7 +269,7 @@ fn text_of<'a>(values: &ArgMatches<'a>, name: &str) -> Option<&'a str>
     values.get_str(name)
 }
 
-// Whether the flag of this name is given.
+/// Whether the flag of this name is given.
 fn has_flag<'a>(values: &ArgMatches<'a>, name: &str) -> bool
     ensures { result ≡ is_given (first_of name.now (rows_of (found_of values.now))) }
 {
@@ -210,7 +279,7 @@ fn has_flag<'a>(values: &ArgMatches<'a>, name: &str) -> bool
     }
 }
 
-// The policy that the values after a command ask for.
+/// The policy that the values after a command ask for.
 fn policy_in<'a>(values: &ArgMatches<'a>) -> Policy
     ensures { result ≡ policy_in (rows_of (found_of values.now)) }
 {
@@ -221,7 +290,7 @@ fn policy_in<'a>(values: &ArgMatches<'a>) -> Policy
     }
 }
 
-// The number of each test case's first attempt: 0 where the option isn't given, and None where its value is neither 0 nor 1.
+/// The number of each test case's first attempt: 0 where the option isn't given, and None where its value is neither 0 nor 1.
 fn first_attempt_in<'a>(values: &ArgMatches<'a>) -> Option<u64>
     ensures { result ≡ first_attempt_in (rows_of (found_of values.now)) }
 {
@@ -237,7 +306,7 @@ fn first_attempt_in<'a>(values: &ArgMatches<'a>) -> Option<u64>
     }
 }
 
-// The settings that the values after a command ask for.
+/// The settings that the values after a command ask for.
 fn settings_in<'a>(values: &ArgMatches<'a>) -> Option<Settings>
     ensures { result ≡ settings_in (rows_of (found_of values.now)) }
 {
@@ -248,7 +317,7 @@ fn settings_in<'a>(values: &ArgMatches<'a>) -> Option<Settings>
     })
 }
 
-// The command of this name, with the values that come after it.
+/// The command of this name, with the values that come after it.
 fn choice_named<'a>(name: &str, values: &ArgMatches<'a>) -> Option<Choice<'a>>
     ensures { option_map asked result ≡ command_named name.now (rows_of (found_of values.now)) }
 {
@@ -276,6 +345,7 @@ fn choice_named<'a>(name: &str, values: &ArgMatches<'a>) -> Option<Choice<'a>>
     None
 }
 
+/// What the command in the matches asks for.
 fn chosen<'a>(matches: &ArgMatches<'a>) -> Option<Choice<'a>>
     ensures { option_map asked result ≡ named (subcommand_rows_of matches.now) }
 {
@@ -283,8 +353,10 @@ fn chosen<'a>(matches: &ArgMatches<'a>) -> Option<Choice<'a>>
     choice_named(name, values)
 }
 
-// The words are a command's, but for the value of `--attempts-from`.
-fn wrong_attempts(alloc: Global) -> Refusal {
+/// The words are a command's, but for the value of `--attempts-from`.
+fn wrong_attempts(alloc: Global) -> Refusal
+    ensures { IsNoHelp result }
+{
     match String::from_str(alloc, help::WRONG_ATTEMPTS) {
         Ok(text) => Refusal::Usage(text),
         Err(AllocError) => Refusal::Memory,
@@ -294,9 +366,10 @@ fn wrong_attempts(alloc: Global) -> Refusal {
 /// Reads the words, of which the first is the program's name.
 ///
 /// # Errors
-/// The text for the user where the words name no command, or ask for help.
+/// The text for the user where the words ask for no command: of a mistake, or the help or the version that they call for.
 pub fn choose<'a>(alloc: Global, words: &'a [&'a str]) -> Result<Choice<'a>, Refusal>
-    ensures { Chooses (command_of (map (λ w. w.now) words.entry.now)) result }
+    ensures chosen { Chooses (command_of (map (λ w. w.now) words.entry.now)) result }
+    ensures help { HelpsOnCall (map (λ w. w.now) words.entry.now) result }
 {
     let Ok(command) = command(alloc) else {
         return Err(Refusal::Memory);

@@ -5,6 +5,8 @@ pub(crate) const VERSION: &str = "0.1.0";
 pub(crate) const PROGRAM: &str =
     "Says whether a stream of Cucumber Messages is a true report of its run, and compiles Gherkin.";
 
+pub(crate) const PROGRAM_USAGE: &str = "cukecheck <COMMAND> [OPTIONS] < FILE";
+
 pub(crate) const AFTER_PROGRAM: &str =
     "Every command reads standard input and prints on standard output. Give it a file by a redirect:
 
@@ -13,19 +15,21 @@ pub(crate) const AFTER_PROGRAM: &str =
   cukecheck compile --uri features/a.feature < features/a.feature
 
 Exit status:
-  0  done; by audit: the stream is a true report, whether its tests passed or failed;
-     by gate: and its run is to be released
-  1  audit, gate, results, cases, differs: the stream is bad;
+  0  done; by gate: the stream is a true report, and its run is to be released;
+     by audit: the stream is a true report, whether its tests passed or failed
+  1  gate, audit, cases, differs, results: the stream is bad;
      parse, compile: the feature file is refused
   2  a mistake in the words
   3  trouble: a read or a write failed, the input is too long or no UTF-8, or there is no memory
-  4  audit, gate, cases, differs: the stream isn't judged
+  4  gate, audit, cases, differs: the stream isn't judged
   5  gate: the report is true, and the run isn't to be released
 
 `cukecheck COMMAND --help` says what a command reads and prints.";
 
 pub(crate) const PARSE: &str =
     "Says what a feature file is: how many nodes it has, or where it is refused and why.";
+
+pub(crate) const PARSE_USAGE: &str = "cukecheck parse < FILE";
 
 pub(crate) const AFTER_PARSE: &str =
     "Reads a feature file (Gherkin, in English) from standard input:
@@ -47,6 +51,8 @@ Lines and columns count from 1, columns in characters.";
 pub(crate) const COMPILE: &str =
     "Writes the messages of a feature file: its source, its document and its pickles.";
 
+pub(crate) const COMPILE_USAGE: &str = "cukecheck compile --uri <URI> < FILE";
+
 pub(crate) const AFTER_COMPILE: &str =
     "Reads a feature file (Gherkin, in English) from standard input:
 
@@ -63,6 +69,8 @@ pub(crate) const URI: &str =
 pub(crate) const AUDIT: &str =
     "Says whether a stream of Cucumber Messages is a true report of its run, passed or failed.";
 
+pub(crate) const AUDIT_USAGE: &str = "cukecheck audit [OPTIONS] < FILE";
+
 pub(crate) const AFTER_AUDIT: &str =
     "Reads a stream of Cucumber Messages (one JSON object a line) from standard input:
 
@@ -71,7 +79,8 @@ pub(crate) const AFTER_AUDIT: &str =
 Prints one line, with the exit status after it:
   good sources=S pickles=P cases=C attempts=A   0  the stream is a true report, of a failed run too
   good .. unrun=U                               0  the same, and U pickles have no test case
-  bad line L: N Name                            1  no good stream begins with the lines up to L
+  bad line L: N Name                            1  no good stream begins with the lines up to L;
+                                                   or L is past the last, and the stream ends early
   unsupported line L: N Name                    4  line L shows why the stream isn't judged
   trouble Name                                  3  the stream can't be read to its end,
                                                    or there is no memory
@@ -122,6 +131,8 @@ trouble:
 pub(crate) const GATE: &str =
     "Says whether to release a run: its report is true and says success, and each scenario ran.";
 
+pub(crate) const GATE_USAGE: &str = "cukecheck gate [OPTIONS] < FILE";
+
 pub(crate) const AFTER_GATE: &str =
     "Reads a stream of Cucumber Messages (one JSON object a line) from standard input:
 
@@ -130,7 +141,8 @@ pub(crate) const AFTER_GATE: &str =
 Prints the line that `audit` prints, and a second one where the report is true and the run isn't to
 be released:
   good ..               0  the run is to be released
-  bad line L: N Name    1  no good stream begins with the lines up to L
+  bad line L: N Name    1  no good stream begins with the lines up to L; or L is past the last
+                           line, and the stream ends early
   trouble Name          3  the stream can't be read to its end, or there is no memory
   unsupported line ..   4  the stream isn't judged
   good ..               5  the report is true, and the run isn't to be released; the second line
@@ -152,13 +164,15 @@ pub(crate) const ATTEMPTS_FROM: &str =
 
 pub(crate) const WRONG_ATTEMPTS: &str = "error: the value of '--attempts-from <N>' is 0 or 1
 
-Usage: cukecheck <COMMAND> --attempts-from <N>
+Usage: cukecheck <COMMAND> --attempts-from <N> < FILE
 
 For more information, try '--help'.
 ";
 
 pub(crate) const RESULTS: &str =
     "Prints the id of each test case of a stream, with the worst status of its final attempt.";
+
+pub(crate) const RESULTS_USAGE: &str = "cukecheck results [OPTIONS] < FILE";
 
 pub(crate) const AFTER_RESULTS: &str =
     "Reads a stream of Cucumber Messages (one JSON object a line) from standard input:
@@ -175,6 +189,8 @@ The numbers and names are those of `audit`, which says whether the report is tru
 
 pub(crate) const CASES: &str =
     "Lists the test cases of a good stream by status, place and name, and pickles without one.";
+
+pub(crate) const CASES_USAGE: &str = "cukecheck cases [OPTIONS] < FILE";
 
 pub(crate) const AFTER_CASES: &str =
     "Reads a stream of Cucumber Messages (one JSON object a line) from standard input:
@@ -196,6 +212,8 @@ Of any other stream it prints the line of `audit`, with its exit status:
 
 pub(crate) const DIFFERS: &str =
     "Prints the verdict on a stream, and of a tree or a pickle that differs both sides.";
+
+pub(crate) const DIFFERS_USAGE: &str = "cukecheck differs [OPTIONS] < FILE";
 
 pub(crate) const AFTER_DIFFERS: &str =
     "Reads a stream of Cucumber Messages (one JSON object a line) from standard input:

@@ -1,0 +1,215 @@
+-- Words after which a command asks for nothing.
+use Rattle.std.proofs.Common.{◌≡◌, ◌∙◌, ℕ, Bool, true, false, List, [], ◌∷◌, ◌++◌, Option, Some, None, refl, ap, ap₂, sym, subst, fold, is_some}
+use Rattle.std.proofs.lemmas.Slice.Eq.{bytes_eq-Decides}
+use Rattle.std.specs.Prelude.{codes, if◌then◌else◌, not, ◌&&◌}
+use Rattle.std.specs.List.{AllByRecursion, list_any}
+use Rattle.std.specs.Str.{bytes_eq}
+use Rattle.clap.specs.Words.{Kinds, Text}
+use Rattle.clap.specs.Kinds.{or_else}
+use Rattle.clap.specs.Lexer.{long_of}
+use Rattle.clap.specs.Walk.{Held, Names, Waiting, idle, Walk, arg_by_index, arg_by_long, bundle_met, has_row, nothing_held, settled, walk_from, walked}
+use Rattle.clap.specs.Simple.{Shape}
+use Rattle.clap.specs.Faults.{flags_fault, settle_fault, turn_fault, walk_fault}
+use Rattle.clap.specs.declared.error.kind.ErrorKind.TheVariants.{ArgumentConflict, UnknownArgument}
+use Rattle.std.proofs.lemmas.List.Sums.{fold-append}
+use Rattle.std.proofs.lemmas.Bool.{false_from_ne_true, true≢false}
+use Rattle.ck_command_line.specs.CommandLine.{Command, is_help, where_none}
+use Rattle.ck_command_line.specs.CommandLine.{gate_command, audit_command, cases_command, differs_command, results_command, parse_command, compile_command}
+use Rattle.ck_command_line.specs.Asked.{Written, allow_unrun, pending_passes, attempts_from, IsPlain, words_of, all_words, is_option}
+use Rattle.ck_command_line.proofs.Leaves.{Answers, leaf}
+use Rattle.ck_command_line.proofs.Plain.{plain}
+
+-- between two options
+abbrev between : Held → ℕ → Walk
+between h p = record { held = h; waiting = idle; position = p; is_trailing = false; stopped = None }
+
+abbrev IsBetween : Walk → Type 0
+IsBetween w = (w.waiting ≡ idle) × (w.is_trailing ≡ false) × (w.stopped ≡ None)
+
+is_between : (w : Walk) → IsBetween w → w ≡ between w.held w.position
+is_between w b =
+    ap₂ (λ (waiting : Waiting) (is_trailing : Bool). record { held = w.held; waiting = waiting; position = w.position; is_trailing = is_trailing; stopped = w.stopped }) b.0 b.1
+    ∙ ap (λ (stopped : Option (Text × List Text)). record { held = w.held; waiting = idle; position = w.position; is_trailing = false; stopped = stopped }) b.2
+
+or_else-assoc : (a b c : Kinds) → or_else (or_else a b) c ≡ or_else a (or_else b c)
+or_else-assoc [] b c = refl
+or_else-assoc (k ∷ ks) b c = refl
+
+-- the faults of two lists of words, one after the other
+walk_fault-append : (s : Shape) (names : Names) (w : Walk) (xs ys : List Text)
+    → walk_fault s names w (xs ++ ys) ≡ or_else (walk_fault s names w xs) (walk_fault s names (fold (walked s.rules names) w xs) ys)
+unfolding walk_fault
+walk_fault-append s names w [] ys = refl
+walk_fault-append s names w (x ∷ xs) ys =
+    ap (or_else (turn_fault s names w x)) (walk_fault-append s names (walked s.rules names w x) xs ys)
+    ∙ sym (or_else-assoc (turn_fault s names w x) (walk_fault s names (walked s.rules names w x) xs) (walk_fault s names (fold (walked s.rules names) (walked s.rules names w x) xs) ys))
+
+-- the faults hold no call for help
+abbrev NoHelp : Kinds → Type 0
+NoHelp kinds = list_any is_help kinds ≡ false
+
+both : (a b : Kinds) → NoHelp a → NoHelp b → NoHelp (or_else a b)
+both [] b x y = y
+both (k ∷ ks) b x y = x
+
+-- an option that is there twice
+conflict : (b : Bool) → NoHelp (or_else (if b then ArgumentConflict ∷ [] else []) [])
+conflict true = refl
+conflict false = refl
+
+-- What one option does in a command, be it the command's or not: it leaves the walk between two.
+abbrev Step : Shape → Written → Held → ℕ → Type 0
+Step s option h p = IsBetween (fold (walked s.rules []) (between h p) (words_of option))
+    × NoHelp (walk_fault s [] (between h p) (words_of option))
+    × NoHelp (settle_fault s.rules s.args_override_self (fold (walked s.rules []) (between h p) (words_of option)).held)
+
+-- a command that has neither positionals nor commands of its own
+pub record IsPlainLeaf (s : Shape) : Type 0 where
+  step : (option : Written) → IsPlain option → (h : Held) (p : ℕ) → NoHelp (settle_fault s.rules s.args_override_self h) → Step s option h p
+  no_positional : (i : ℕ) → arg_by_index s.rules i ≡ None
+  is_leaf : s.is_leaf ≡ true
+
+module _ (s : Shape) (leaf : IsPlainLeaf s) where
+  -- where the walk stands after options, whichever they are
+  after : (options : List Written) → AllByRecursion IsPlain options → (h : Held) (p : ℕ) → NoHelp (settle_fault s.rules s.args_override_self h)
+      → IsBetween (fold (walked s.rules []) (between h p) (all_words options)) × NoHelp (walk_fault s [] (between h p) (all_words options))
+  unfolding walk_fault
+  after [] k h p n = ((refl, refl, refl), refl)
+  after (option ∷ options) k h p n =
+      let w = fold (walked s.rules []) (between h p) (words_of option) in
+      let one = leaf.step option k.0 h p n in
+      let here : w ≡ between w.held w.position = is_between w one.0 in
+      let more = after options k.1 w.held w.position one.2 in (
+        subst IsBetween (sym (fold-append (walked s.rules []) (between h p) (words_of option) (all_words options) ∙ ap (λ (v : Walk). fold (walked s.rules []) v (all_words options)) here)) more.0,
+        subst NoHelp (sym (walk_fault-append s [] (between h p) (words_of option) (all_words options)))
+            (both (walk_fault s [] (between h p) (words_of option)) (walk_fault s [] w (all_words options)) one.1 (subst (λ (v : Walk). NoHelp (walk_fault s [] v (all_words options))) (sym here) more.1)),
+      )
+
+  -- a fault at a word, after faults that hold no call for help
+  found : (before more : Kinds) (command : Option Command) → NoHelp before
+      → (where_none (or_else (or_else (or_else before (UnknownArgument ∷ [])) more) []) command ≡ None) × NoHelp (or_else (or_else (or_else before (UnknownArgument ∷ [])) more) [])
+  found [] more command n = (refl, refl)
+  found (k ∷ ks) more command n = (refl, n)
+
+  module _ (options : List Written) (k : AllByRecursion IsPlain options) (word : Text) (others : List Text) (unknown : (h : Held) (p : ℕ) → turn_fault s [] (between h p) word ≡ UnknownArgument ∷ []) where
+    at_word : (w : Walk) → IsBetween w → walk_fault s [] w (word ∷ others) ≡ UnknownArgument ∷ []
+    unfolding walk_fault
+    at_word w b =
+        ap (λ (v : Walk). walk_fault s [] v (word ∷ others)) (is_between w b)
+        ∙ ap (λ (kinds : Kinds). or_else kinds (walk_fault s [] (walked s.rules [] (between w.held w.position) word) others)) (unknown w.held w.position)
+
+    unknown_word : walk_fault s [] (walk_from nothing_held) (all_words options ++ word ∷ others) ≡ or_else (walk_fault s [] (walk_from nothing_held) (all_words options)) (UnknownArgument ∷ [])
+    unknown_word =
+        walk_fault-append s [] (walk_from nothing_held) (all_words options) (word ∷ others)
+        ∙ ap (or_else (walk_fault s [] (walk_from nothing_held) (all_words options))) (at_word (fold (walked s.rules []) (walk_from nothing_held) (all_words options)) (after options k nothing_held 1 refl).0)
+
+    nothing : Answers s (all_words options ++ word ∷ others) None
+    nothing = rw unknown_word (found _ _ _ (after options k nothing_held 1 refl).1)
+
+  file_turn : (word : Text) → is_option word ≡ false → (h : Held) (p : ℕ) → turn_fault s [] (between h p) word ≡ UnknownArgument ∷ []
+  file_turn word plain_word h p = let v = plain word plain_word in rw (v.0, v.1, v.2, leaf.no_positional p, leaf.is_leaf) refl
+
+  -- `--` has no name
+  no_dashes : (word name : Text) (value : Option Text) → long_of word ≡ Some (name, value) → bytes_eq word (codes "--") ≡ false
+  no_dashes word name value long =
+      false_from_ne_true (bytes_eq word (codes "--")) (λ same.
+      let is : word ≡ codes "--" = (bytes_eq-Decides word (codes "--")).0 same in
+      true≢false (sym (ap is_some (sym (ap long_of is) ∙ long))))
+
+  other_turn : (word name : Text) (value : Option Text) → long_of word ≡ Some (name, value) → arg_by_long s.rules name ≡ None → (h : Held) (p : ℕ) → turn_fault s [] (between h p) word ≡ UnknownArgument ∷ []
+  other_turn word name value long none h p = let dashes = no_dashes word name value long in rw (dashes, long, none) refl
+
+  pub file_is_refused : (options : List Written) → AllByRecursion IsPlain options → (word : Text) → is_option word ≡ false → (others : List Text) → Answers s (all_words options ++ word ∷ others) None
+  file_is_refused options k word plain_word others = nothing options k word others (file_turn word plain_word)
+
+  pub option_is_refused : (options : List Written) → AllByRecursion IsPlain options → (word name : Text) (value : Option Text) → long_of word ≡ Some (name, value) → arg_by_long s.rules name ≡ None
+      → (others : List Text) → Answers s (all_words options ++ word ∷ others) None
+  option_is_refused options k word name value long none others = nothing options k word others (other_turn word name value long none)
+
+module _ (s : Shape) (h : Held) where
+  -- the faults of what waits for its value, and whether the option is there already
+  abbrev settle : Kinds
+  settle = settle_fault s.rules s.args_override_self h
+
+  abbrev is_there : Text → Bool
+  is_there name = has_row name (settled s.rules h).rows && not s.args_override_self
+
+  -- the faults of an option
+  once : (name : Text) → NoHelp settle → NoHelp (or_else (or_else (or_else settle (or_else (if is_there name then ArgumentConflict ∷ [] else []) [])) []) [])
+  once name n =
+      both (or_else (or_else settle (or_else (if is_there name then ArgumentConflict ∷ [] else []) [])) []) []
+      (both (or_else settle (or_else (if is_there name then ArgumentConflict ∷ [] else []) [])) [] (both settle (or_else (if is_there name then ArgumentConflict ∷ [] else []) []) n (conflict (is_there name))) refl) refl
+
+  -- the faults of one whose value comes after it
+  waiting : NoHelp settle → NoHelp (or_else (or_else settle []) [])
+  waiting n = both (or_else settle []) [] (both settle [] n refl) refl
+
+pub gate_leaf : IsPlainLeaf (leaf gate_command)
+unfolding bundle_met walked flags_fault walk_fault
+gate_leaf = record { step = step; no_positional = λ i. refl; is_leaf = refl }
+  where
+    step : (option : Written) → IsPlain option → (h : Held) (p : ℕ) → NoHelp (settle_fault (leaf gate_command).rules (leaf gate_command).args_override_self h) → Step (leaf gate_command) option h p
+    step allow_unrun k h p n = ((refl, refl, refl), once (leaf gate_command) h (codes "allow-unrun") n, refl)
+    step pending_passes k h p n = ((refl, refl, refl), once (leaf gate_command) h (codes "pending-passes") n, refl)
+    step (attempts_from true m) k h p n = ((refl, refl, refl), once (leaf gate_command) h (codes "attempts-from") n, refl)
+    step (attempts_from false m) k h p n = let v = plain m k in rw (v.0, v.1, v.2) ((refl, refl, refl), waiting (leaf gate_command) h n, conflict (is_there (leaf gate_command) h (codes "attempts-from")))
+
+pub audit_leaf : IsPlainLeaf (leaf audit_command)
+unfolding bundle_met walked flags_fault walk_fault
+audit_leaf = record { step = step; no_positional = λ i. refl; is_leaf = refl }
+  where
+    step : (option : Written) → IsPlain option → (h : Held) (p : ℕ) → NoHelp (settle_fault (leaf audit_command).rules (leaf audit_command).args_override_self h) → Step (leaf audit_command) option h p
+    step allow_unrun k h p n = ((refl, refl, refl), refl, n)
+    step pending_passes k h p n = ((refl, refl, refl), once (leaf audit_command) h (codes "pending-passes") n, refl)
+    step (attempts_from true m) k h p n = ((refl, refl, refl), once (leaf audit_command) h (codes "attempts-from") n, refl)
+    step (attempts_from false m) k h p n = let v = plain m k in rw (v.0, v.1, v.2) ((refl, refl, refl), waiting (leaf audit_command) h n, conflict (is_there (leaf audit_command) h (codes "attempts-from")))
+
+pub cases_leaf : IsPlainLeaf (leaf cases_command)
+unfolding bundle_met walked flags_fault walk_fault
+cases_leaf = record { step = step; no_positional = λ i. refl; is_leaf = refl }
+  where
+    step : (option : Written) → IsPlain option → (h : Held) (p : ℕ) → NoHelp (settle_fault (leaf cases_command).rules (leaf cases_command).args_override_self h) → Step (leaf cases_command) option h p
+    step allow_unrun k h p n = ((refl, refl, refl), refl, n)
+    step pending_passes k h p n = ((refl, refl, refl), once (leaf cases_command) h (codes "pending-passes") n, refl)
+    step (attempts_from true m) k h p n = ((refl, refl, refl), once (leaf cases_command) h (codes "attempts-from") n, refl)
+    step (attempts_from false m) k h p n = let v = plain m k in rw (v.0, v.1, v.2) ((refl, refl, refl), waiting (leaf cases_command) h n, conflict (is_there (leaf cases_command) h (codes "attempts-from")))
+
+pub differs_leaf : IsPlainLeaf (leaf differs_command)
+unfolding bundle_met walked flags_fault walk_fault
+differs_leaf = record { step = step; no_positional = λ i. refl; is_leaf = refl }
+  where
+    step : (option : Written) → IsPlain option → (h : Held) (p : ℕ) → NoHelp (settle_fault (leaf differs_command).rules (leaf differs_command).args_override_self h) → Step (leaf differs_command) option h p
+    step allow_unrun k h p n = ((refl, refl, refl), refl, n)
+    step pending_passes k h p n = ((refl, refl, refl), once (leaf differs_command) h (codes "pending-passes") n, refl)
+    step (attempts_from true m) k h p n = ((refl, refl, refl), once (leaf differs_command) h (codes "attempts-from") n, refl)
+    step (attempts_from false m) k h p n = let v = plain m k in rw (v.0, v.1, v.2) ((refl, refl, refl), waiting (leaf differs_command) h n, conflict (is_there (leaf differs_command) h (codes "attempts-from")))
+
+pub results_leaf : IsPlainLeaf (leaf results_command)
+unfolding bundle_met walked flags_fault walk_fault
+results_leaf = record { step = step; no_positional = λ i. refl; is_leaf = refl }
+  where
+    step : (option : Written) → IsPlain option → (h : Held) (p : ℕ) → NoHelp (settle_fault (leaf results_command).rules (leaf results_command).args_override_self h) → Step (leaf results_command) option h p
+    step allow_unrun k h p n = ((refl, refl, refl), refl, n)
+    step pending_passes k h p n = ((refl, refl, refl), refl, n)
+    step (attempts_from true m) k h p n = ((refl, refl, refl), once (leaf results_command) h (codes "attempts-from") n, refl)
+    step (attempts_from false m) k h p n = let v = plain m k in rw (v.0, v.1, v.2) ((refl, refl, refl), waiting (leaf results_command) h n, conflict (is_there (leaf results_command) h (codes "attempts-from")))
+
+pub parse_leaf : IsPlainLeaf (leaf parse_command)
+unfolding bundle_met walked flags_fault walk_fault
+parse_leaf = record { step = step; no_positional = λ i. refl; is_leaf = refl }
+  where
+    step : (option : Written) → IsPlain option → (h : Held) (p : ℕ) → NoHelp (settle_fault (leaf parse_command).rules (leaf parse_command).args_override_self h) → Step (leaf parse_command) option h p
+    step allow_unrun k h p n = ((refl, refl, refl), refl, n)
+    step pending_passes k h p n = ((refl, refl, refl), refl, n)
+    step (attempts_from true m) k h p n = ((refl, refl, refl), refl, n)
+    step (attempts_from false m) k h p n = let v = plain m k in rw (v.0, v.1, v.2) ((refl, refl, refl), refl, n)
+
+pub compile_leaf : IsPlainLeaf (leaf compile_command)
+unfolding bundle_met walked flags_fault walk_fault
+compile_leaf = record { step = step; no_positional = λ i. refl; is_leaf = refl }
+  where
+    step : (option : Written) → IsPlain option → (h : Held) (p : ℕ) → NoHelp (settle_fault (leaf compile_command).rules (leaf compile_command).args_override_self h) → Step (leaf compile_command) option h p
+    step allow_unrun k h p n = ((refl, refl, refl), refl, n)
+    step pending_passes k h p n = ((refl, refl, refl), refl, n)
+    step (attempts_from true m) k h p n = ((refl, refl, refl), refl, n)
+    step (attempts_from false m) k h p n = let v = plain m k in rw (v.0, v.1, v.2) ((refl, refl, refl), refl, n)
