@@ -1,70 +1,64 @@
--- What the command `compile` prints.
-use Rattle.std.proofs.Common.{ℕ, List, ◌≡◌, true, refl, Option, Result, Ok, Err, inl, inr, subst, IsUtf8}
-use Rattle.cm_envelope.specs.Device.{OfSource}
-use Rattle.cm_envelope.proofs.Sources.{of_any}
+-- What the commands on feature files report.
+use Rattle.std.proofs.Common.{◌≡◌, ◌∙◌, ◌⊎◌, ℕ, List, Result, Ok, Err, true, false, inl, inr, refl, sym, ap, subst, IsUtf8}
+use Rattle.std.specs.Prelude.{OnOk}
+use Rattle.std.specs.Result.{IsErrAnd}
+use Rattle.cm_envelope.specs.Device.{CountsFailure, Hears, Input, OfInput, OfWhole, Output}
+use Rattle.cm_envelope.proofs.Sources.{input_weaker, reads_weaker}
 use Rattle.cm_envelope.specs.declared.feed.Trouble.TheVariants as trouble
 use Rattle.gk_grammar.specs.Tree.{Document}
 use Rattle.gk_tree.specs.declared.fault.ParseFault.{ParseFault}
 use Rattle.cm_compile.specs.Faults.{IsRefusedWith}
+use Rattle.ck_command_line.specs.CommandLine.{ask_compile, ask_parse}
 use Rattle.ck_commands.specs.Features.{IsFaultOf, IsFeatureOf, IsRefused, fault_report, is_failed_read, of_text, parse_report}
-use Rattle.ck_commands.specs.Output.{Prints, PrintsOrNoMemory, trouble_report}
-use Rattle.ck_commands.specs.Run.{Compiles, PrintsFeature}
-use Rattle.ck_commands.specs.TextInput.{HasTextFault, IsTextOf}
+use Rattle.ck_commands.specs.Output.{DeliversOne, Report, trouble_report}
+use Rattle.ck_commands.specs.Run.{Reports, ReportsCompiled}
+use Rattle.ck_commands.specs.TextInput.{HasTextFault, IsTextOf, is_failed_read as text_failed}
+use Rattle.ck_commands.specs.declared.output.ExitStatus.TheVariants as exit
 use Rattle.ck_commands.specs.declared.text_input.TextFault.{TextFault}
 use Rattle.ck_commands.specs.declared.text_input.TextFault.TheVariants as text
 use Rattle.ck_commands.specs.declared.feature_input.FeatureFault.{FeatureFault}
 use Rattle.ck_commands.specs.declared.feature_input.FeatureFault.TheVariants.{Memory, NotUtf8, ReadFailed, Refused}
+use Rattle.ck_commands.proofs.Printing.{IsOne, none_failed, some_failed}
+use Rattle.ck_commands.proofs.Ran.{Reported}
+use Rattle.ck_commands.proofs.TextLemmas.{failed_fault, input_of_whole, other_fault}
 
 -- the parser's refusal of a text is that of its bytes
 pub refused_of : (text : List ℕ) (f : ParseFault) → IsUtf8 text → IsRefusedWith text f → IsRefused text f
 refused_of text f utf8 (inl h) = inl (inr (utf8, h.0), h.1)
 refused_of text f utf8 (inr h) = inr (record { utf8 = utf8; short = h.0 }, h.1)
 
--- a fault was printed, or want of memory
-pub fault_printed : (uri bytes : List ℕ) (fault : FeatureFault) (code : ℕ) (b c : Option (List ℕ)) → IsFaultOf bytes fault
-    → PrintsOrNoMemory (fault_report fault) code b c → Compiles uri bytes code b c
-fault_printed uri bytes fault code b c is (inl printed) = inr (fault, is, printed)
-fault_printed uri bytes fault code b c is (inr printed) = inr (Memory, tt, printed)
+-- a fault that is printed is why there are no lines
+fault_reported : (uri bytes : List ℕ) (f : FeatureFault) (r : Report) → IsFaultOf bytes f → IsOne (fault_report f) r → ReportsCompiled uri bytes r ⊎ (r ≡ trouble_report trouble.Memory)
+fault_reported uri bytes f r is (inl e) = inl (inr (f, is, e))
+fault_reported uri bytes f r is (inr e) = inr e
 
--- of the text, and so of the source's bytes
-pub text_printed : (a b c : Option (List ℕ)) (uri text : List ℕ) (status : ℕ) → OfSource a (λ bytes. IsTextOf bytes text)
-    → Compiles uri text status b c → OfSource a (λ bytes. Compiles uri bytes status b c)
-text_printed a b c uri text status is printed = (is.0, is.1, subst (λ x. Compiles uri x status b c) is.2.same printed)
+pub fault_delivered : (uri bytes : List ℕ) (f : FeatureFault) (code : ℕ) (before after : Output) → IsFaultOf bytes f → DeliversOne (λ r. r ≡ fault_report f) code before after
+    → DeliversOne (ReportsCompiled uri bytes) code before after
+fault_delivered uri bytes f code before after is d = (d.0, fault_reported uri bytes f d.0 is d.1, d.2)
 
--- want of memory
-pub compile_no_memory : (a b c : Option (List ℕ)) (uri : List ℕ) (code : ℕ) → Prints (trouble_report trouble.Memory) code b c
-    → OfSource a (λ bytes. Compiles uri bytes code b c)
-compile_no_memory a b c uri code printed = of_any a (λ bytes. inr (Memory, tt, printed))
+-- ---- `compile`
 
-pub feature_no_memory : (a b c : Option (List ℕ)) (code : ℕ) → Prints (trouble_report trouble.Memory) code b c
-    → OfSource a (λ bytes. PrintsFeature bytes code b c)
-feature_no_memory a b c code printed = of_any a (λ bytes. (Err Memory, tt, printed))
+-- with another status than that of trouble there was memory
+made : (P : Type 0) (r : Report) → P ⊎ (r ≡ trouble_report trouble.Memory) → (r.status ≡ exit.Trouble → ⊥) → P
+made P r (inl h) other = h
+made P r (inr e) other = absurd (other (ap (λ (x : Report). x.status) e))
 
--- a feature was printed, or want of memory
-feature_one : (bytes : List ℕ) (feature : Result Document FeatureFault) (code : ℕ) (b c : Option (List ℕ)) → IsFeatureOf bytes feature
-    → PrintsOrNoMemory (parse_report feature) code b c → PrintsFeature bytes code b c
-feature_one bytes feature code b c is (inl printed) = (feature, is, printed)
-feature_one bytes feature code b c is (inr printed) = (Err Memory, tt, printed)
-
-pub feature_printed : (a b c : Option (List ℕ)) (feature : Result Document FeatureFault) (code : ℕ) → OfSource a (λ bytes. IsFeatureOf bytes feature)
-    → PrintsOrNoMemory (parse_report feature) code b c → OfSource a (λ bytes. PrintsFeature bytes code b c)
-feature_printed a b c feature code is printed = (is.0, is.1, feature_one is.0 feature code b c is.2 printed)
-
--- ---- a failed read
-
-failed_feature : (feature : Result Document FeatureFault) → is_failed_read feature ≡ true → parse_report feature ≡ trouble_report trouble.ReadFailed
-failed_feature (Ok d) e = cc
-failed_feature (Err (Refused f)) e = cc
-failed_feature (Err ReadFailed) e = refl
-failed_feature (Err NotUtf8) e = cc
-failed_feature (Err Memory) e = cc
-
-pub failed_feature_printed : (feature : Result Document FeatureFault) (code : ℕ) (b c : Option (List ℕ)) → is_failed_read feature ≡ true
-    → PrintsOrNoMemory (parse_report feature) code b c → PrintsOrNoMemory (trouble_report trouble.ReadFailed) code b c
-failed_feature_printed feature code b c failed p = subst (λ r. PrintsOrNoMemory r code b c) (failed_feature feature failed) p
-
-pub failed_text : (f : TextFault) → f ≡ text.ReadFailed → fault_report (of_text f) ≡ trouble_report trouble.ReadFailed
-failed_text f is = rw is refl
+pub text_is_reported : (uri t : List ℕ) (r : Report) (i j : Input) → OfWhole i j (λ bytes. IsTextOf bytes t) → j.failed_calls ≡ i.failed_calls
+    → ReportsCompiled uri t r ⊎ (r ≡ trouble_report trouble.Memory) → Reported (ask_compile uri) r i j
+text_is_reported uri t r i j is none one =
+    let heard = input_of_whole {P = λ bytes. IsTextOf bytes t} i j is in
+    record {
+      answer = λ all.
+          input_weaker {P = λ bytes. IsTextOf bytes t} {Q = λ bytes. ReportsCompiled uri bytes r ⊎ (r ≡ trouble_report trouble.Memory)} i j heard
+          (λ xs h. subst (λ bytes. ReportsCompiled uri bytes r ⊎ (r ≡ trouble_report trouble.Memory)) h.same one);
+      tells = λ other.
+          reads_weaker {P = λ bytes rest. IsTextOf bytes t} {Q = λ bytes rest. ReportsCompiled uri bytes r} i j heard
+          (λ xs ys h. subst (λ bytes. ReportsCompiled uri bytes r) h.same (made (ReportsCompiled uri t r) r one other));
+      over = λ done. is.2;
+      no_fault = λ more. absurd (more none);
+      read_failed = λ more. absurd (more none);
+      unread = λ done. none;
+    }
 
 -- why a source gives no text is why it gives no document
 text_fault : (bytes : List ℕ) (f : TextFault) → HasTextFault bytes f → (f ≡ text.ReadFailed → ⊥) → IsFaultOf bytes (of_text f)
@@ -73,9 +67,103 @@ text_fault bytes text.TooLong h other = inl (inl h, refl)
 text_fault bytes text.NotUtf8 h other = h
 text_fault bytes text.Memory h other = tt
 
-pub fault_of_text : (a : Option (List ℕ)) (f : TextFault) → OfSource a (λ bytes. HasTextFault bytes f) → (f ≡ text.ReadFailed → ⊥) → OfSource a (λ bytes. IsFaultOf bytes (of_text f))
-fault_of_text a f h other = (h.0, h.1, text_fault h.0 f h.2 other)
+-- a fault of the text that is passed on
+pub on_text_fault : (f : TextFault) (r : Result Document FeatureFault) (i j : Input) → IsErrAnd r (λ e. e ≡ of_text f) → OfInput i j (λ bytes. HasTextFault bytes f) → is_failed_read r ≡ false
+    → OfInput i j (λ bytes. IsFeatureOf bytes r)
+on_text_fault f (Ok d) i j h is none = absurd h
+on_text_fault f (Err e) i j h is none =
+    input_weaker {P = λ bytes. HasTextFault bytes f} {Q = λ bytes. IsFaultOf bytes e} i j is (λ xs t. subst (IsFaultOf xs) (sym h) (text_fault xs f t (λ read. other e (h ∙ ap of_text read) none)))
+  where
+    other : (e : FeatureFault) → e ≡ ReadFailed → is_failed_read {A = Document} (Err e) ≡ false → ⊥
+    other ReadFailed is none = cc
+    other (Refused g) is none = cc
+    other NotUtf8 is none = cc
+    other Memory is none = cc
 
-pub faults_printed : (a b c : Option (List ℕ)) (uri : List ℕ) (f : FeatureFault) (code : ℕ) → OfSource a (λ bytes. IsFaultOf bytes f)
-    → PrintsOrNoMemory (fault_report f) code b c → OfSource a (λ bytes. Compiles uri bytes code b c)
-faults_printed a b c uri f code is printed = (is.0, is.1, fault_printed uri is.0 f code b c is.2 printed)
+no_read : (f : TextFault) (r : Report) → IsOne (fault_report (of_text f)) r → (r.status ≡ exit.Trouble → ⊥) → f ≡ text.ReadFailed → ⊥
+no_read f r one other is = other (ap (λ (x : Report). x.status) (made (r ≡ fault_report (of_text f)) r one other) ∙ ap (λ (g : TextFault). (fault_report (of_text g)).status) is)
+
+fault_not_done : (f : FeatureFault) (r : Report) → IsOne (fault_report f) r → r.status ≡ exit.Done → ⊥
+fault_not_done f r (inr e) done = let no : exit.Trouble ≡ exit.Done = sym (ap (λ (x : Report). x.status) e) ∙ done in cc
+fault_not_done (Refused g) r (inl e) done = let no : exit.Refused ≡ exit.Done = sym (ap (λ (x : Report). x.status) e) ∙ done in cc
+fault_not_done ReadFailed r (inl e) done = let no : exit.Trouble ≡ exit.Done = sym (ap (λ (x : Report). x.status) e) ∙ done in cc
+fault_not_done NotUtf8 r (inl e) done = let no : exit.Trouble ≡ exit.Done = sym (ap (λ (x : Report). x.status) e) ∙ done in cc
+fault_not_done Memory r (inl e) done = let no : exit.Trouble ≡ exit.Done = sym (ap (λ (x : Report). x.status) e) ∙ done in cc
+
+pub fault_is_reported : (uri : List ℕ) (f : TextFault) (r : Report) (i j : Input) → OfInput i j (λ bytes. HasTextFault bytes f) → CountsFailure (text_failed {A = ℕ} (Err f)) i.failed_calls j.failed_calls
+    → IsOne (fault_report (of_text f)) r → Reported (ask_compile uri) r i j
+fault_is_reported uri f r i j is counts one = record {
+  answer = λ all.
+      input_weaker {P = λ bytes. HasTextFault bytes f} {Q = λ bytes. ReportsCompiled uri bytes r ⊎ (r ≡ trouble_report trouble.Memory)} i j is
+      (λ xs h. fault_reported uri xs (of_text f) r (text_fault xs f h (other_fault ℕ f (none_failed _ _ _ counts all))) one);
+  tells = λ other.
+      reads_weaker {P = λ bytes rest. HasTextFault bytes f} {Q = λ bytes rest. ReportsCompiled uri bytes r} i j is
+      (λ xs ys h. inr (of_text f, text_fault xs f h (no_read f r one other), made (r ≡ fault_report (of_text f)) r one other));
+  over = λ done. absurd (fault_not_done (of_text f) r one done);
+  no_fault = λ more. (is.0, is.1, λ rest may. tt);
+  read_failed = λ more. failed (failed_fault ℕ f (some_failed _ _ _ counts more)) one;
+  unread = λ done. absurd (fault_not_done (of_text f) r one done);
+}
+  where
+    failed : f ≡ text.ReadFailed → IsOne (fault_report (of_text f)) r → IsOne (trouble_report trouble.ReadFailed) r
+    failed is (inl e) = inl (e ∙ ap (λ (g : TextFault). fault_report (of_text g)) is)
+    failed is (inr e) = inr e
+
+-- ---- `parse`
+
+pub if_ok : {P : Type 0} (feature : Result Document FeatureFault) → OnOk feature P → (d : Document) → feature ≡ Ok d → P
+if_ok (Ok d) h e is = h
+if_ok (Err f) h e is = cc
+
+feature_reported : (bytes : List ℕ) (feature : Result Document FeatureFault) (r : Report) → IsFeatureOf bytes feature → IsOne (parse_report feature) r → Reports ask_parse bytes r ⊎ (r ≡ trouble_report trouble.Memory)
+feature_reported bytes feature r is (inl e) = inl (feature, is, e)
+feature_reported bytes feature r is (inr e) = inr e
+
+failed_feature : (feature : Result Document FeatureFault) → is_failed_read feature ≡ true → parse_report feature ≡ trouble_report trouble.ReadFailed
+failed_feature (Ok d) e = cc
+failed_feature (Err (Refused f)) e = cc
+failed_feature (Err ReadFailed) e = refl
+failed_feature (Err NotUtf8) e = cc
+failed_feature (Err Memory) e = cc
+
+failed_report : (feature : Result Document FeatureFault) (r : Report) → is_failed_read feature ≡ true → IsOne (parse_report feature) r → IsOne (trouble_report trouble.ReadFailed) r
+failed_report feature r failed (inl e) = inl (e ∙ failed_feature feature failed)
+failed_report feature r failed (inr e) = inr e
+
+-- with another status than that of trouble no read failed
+was_read : (feature : Result Document FeatureFault) (r : Report) → r ≡ parse_report feature → (r.status ≡ exit.Trouble → ⊥) → is_failed_read feature ≡ false
+was_read (Ok d) r e other = refl
+was_read (Err (Refused f)) r e other = refl
+was_read (Err ReadFailed) r e other = absurd (other (ap (λ (x : Report). x.status) e))
+was_read (Err NotUtf8) r e other = refl
+was_read (Err Memory) r e other = refl
+
+module _ (feature : Result Document FeatureFault) (r : Report) (i j : Input) where
+  ended : ((d : Document) → feature ≡ Ok d → j.is_over ≡ true) → IsOne (parse_report feature) r → r.status ≡ exit.Done → j.is_over ≡ true
+  ended over one done = go feature refl one
+    where
+      go : (f : Result Document FeatureFault) → feature ≡ f → IsOne (parse_report f) r → j.is_over ≡ true
+      go (Ok d) is one = over d is
+      go (Err f) is one = absurd (fault_not_done f r one done)
+
+  not_counted : CountsFailure (is_failed_read feature) i.failed_calls j.failed_calls → IsOne (parse_report feature) r → r.status ≡ exit.Done → j.failed_calls ≡ i.failed_calls
+  not_counted counts one done = go feature counts one
+    where
+      go : (f : Result Document FeatureFault) → CountsFailure (is_failed_read f) i.failed_calls j.failed_calls → IsOne (parse_report f) r → j.failed_calls ≡ i.failed_calls
+      go (Ok d) counts one = counts
+      go (Err f) counts one = absurd (fault_not_done f r one done)
+
+  pub feature_is_reported : (is_failed_read feature ≡ false → OfInput i j (λ bytes. IsFeatureOf bytes feature)) → ((d : Document) → feature ≡ Ok d → j.is_over ≡ true)
+      → ((read : List ℕ) × Hears i j read) → CountsFailure (is_failed_read feature) i.failed_calls j.failed_calls → IsOne (parse_report feature) r → Reported ask_parse r i j
+  feature_is_reported is over heard counts one = record {
+    answer = λ all.
+        input_weaker {P = λ bytes. IsFeatureOf bytes feature} {Q = λ bytes. Reports ask_parse bytes r ⊎ (r ≡ trouble_report trouble.Memory)} i j (is (none_failed _ _ _ counts all))
+        (λ xs h. feature_reported xs feature r h one);
+    tells = λ other.
+        let e = made (r ≡ parse_report feature) r one other in
+        reads_weaker {P = λ bytes rest. IsFeatureOf bytes feature} {Q = λ bytes rest. Reports ask_parse bytes r} i j (is (was_read feature r e other)) (λ xs ys h. (feature, h, e));
+    over = ended over one;
+    no_fault = λ more. (heard.0, heard.1, λ rest may. tt);
+    read_failed = λ more. failed_report feature r (some_failed _ _ _ counts more) one;
+    unread = not_counted counts one;
+  }

@@ -2,8 +2,13 @@ pub mod Answered
 pub mod CasesPrinted
 pub mod Compiles
 pub mod DiffersPrinted
-pub mod Gates
 pub mod Lines
 pub mod LinesTaken
 pub mod Printing
 pub mod TextLemmas
+pub mod Delivering
+pub mod Ran
+pub mod AuditsPrinted
+pub mod ResultsPrinted
+pub mod Choices
+pub mod Shown

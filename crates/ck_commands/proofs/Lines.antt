@@ -1,6 +1,6 @@
 -- What is left of an outcome, and what a line makes of it.
 use Rattle.std.proofs.Common.{◌≡◌, ◌∙◌, ℕ, ◌+◌, List, Option, Some, None, Result, Ok, Err, refl}
-use Rattle.cm_envelope.specs.Device.{OfSource}
+use Rattle.cm_envelope.specs.Device.{Input, OfInput}
 use Rattle.cm_envelope.specs.Feeds.{Stored, NextLine, EndsWithSource, Gives, Leaves, left, new_feed}
 use Rattle.cm_envelope.proofs.Sources.{HasReadSo, of_reads, read_so_far, reads_no_more, reads_then}
 use Rattle.cm_envelope.specs.Lines.{Fed}
@@ -32,23 +32,23 @@ stopped n after new stop.Memory ls end h = tt
 abbrev pub HasTaken : ℕ → Stored → ℕ → Table → (before after : List ℕ) → Type 0
 HasTaken first feed n t before after = outcome_of first before ≡ outcome_left n t (left feed after)
 
-pub begins : (first : ℕ) (feed : Stored) → feed ≡ new_feed 67108864 1073741824 → (t : Table) → t ≡ table_from first → (a : Option (List ℕ)) → HasReadSo feed a a (HasTaken first feed 0 t)
+pub begins : (first : ℕ) (feed : Stored) → feed ≡ new_feed 67108864 1073741824 → (t : Table) → t ≡ table_from first → (a : Input) → HasReadSo feed a a (HasTaken first feed 0 t)
 begins first feed is t new a = read_so_far (HasTaken first feed 0 t) feed a (λ xs. rw (is, new) refl)
 
 taken : (first : ℕ) (feed later : Stored) (n : ℕ) (t new : Table) (line xs ys zs : List ℕ) → HasTaken first feed n t xs ys → Gives feed later ys zs (Ok (Some line)) → LeavesTable (after_line t line) new (Ok tt)
     → HasTaken first later (n + 1) new xs zs
 taken first feed later n t new line xs ys zs h i k = h ∙ rw (i.first, k) refl
 
-pub goes_on : (first : ℕ) (feed later : Stored) (n : ℕ) (t new : Table) (line : List ℕ) (a b c : Option (List ℕ)) → HasReadSo feed a b (HasTaken first feed n t) → feed.over ≡ None
+pub goes_on : (first : ℕ) (feed later : Stored) (n : ℕ) (t new : Table) (line : List ℕ) (a b c : Input) → HasReadSo feed a b (HasTaken first feed n t) → feed.over ≡ None
     → Leaves feed later b c (Ok (Some line)) → LeavesTable (after_line t line) new (Ok tt) → HasReadSo later a c (HasTaken first later (n + 1) new)
 goes_on first feed later n t new line a b c p still leaves k =
     reads_then {P = HasTaken first feed n t} {R = HasTaken first later (n + 1) new} feed later a b c p still leaves
     (λ xs ys zs none h i. taken first feed later n t new line xs ys zs h i k)
 
 -- the outcome after one call more
-outcome : (first : ℕ) (feed later : Stored) (n : ℕ) (t : Table) (call : NextLine) (held : Result Table (Result Audited Trouble)) (a b c : Option (List ℕ)) → HasReadSo feed a b (HasTaken first feed n t) → feed.over ≡ None
+outcome : (first : ℕ) (feed later : Stored) (n : ℕ) (t : Table) (call : NextLine) (held : Result Table (Result Audited Trouble)) (a b c : Input) → HasReadSo feed a b (HasTaken first feed n t) → feed.over ≡ None
     → EndsWithSource feed b → Leaves feed later b c call
-    → ((xs ys zs : List ℕ) → HasTaken first feed n t xs ys → Gives feed later ys zs call → HasOutcome (outcome_of first xs) held) → OfSource a (λ bytes. HasOutcome (outcome_of first bytes) held)
+    → ((xs ys zs : List ℕ) → HasTaken first feed n t xs ys → Gives feed later ys zs call → HasOutcome (outcome_of first xs) held) → OfInput a c (λ bytes. HasOutcome (outcome_of first bytes) held)
 outcome first feed later n t call held a b c p still ends leaves f =
     let all = reads_then {P = HasTaken first feed n t} {R = λ xs zs. HasOutcome (outcome_of first xs) held} feed later a b c p still leaves (λ xs ys zs none h i. f xs ys zs h i) in
     of_reads {P = λ xs zs. HasOutcome (outcome_of first xs) held} {Q = λ xs. HasOutcome (outcome_of first xs) held} a c
@@ -59,13 +59,13 @@ stops_here : (first : ℕ) (xs ys zs : List ℕ) (feed later : Stored) (n : ℕ)
 stops_here first xs ys zs feed later n t new line h i why k =
     rw (h, i.first) (stopped n (after_line t line) new why (left later zs).lines (left later zs).trouble k)
 
-pub stops : (first : ℕ) (feed later : Stored) (n : ℕ) (t new : Table) (line : List ℕ) (a b c : Option (List ℕ)) → HasReadSo feed a b (HasTaken first feed n t) → feed.over ≡ None
-    → EndsWithSource feed b → Leaves feed later b c (Ok (Some line)) → (why : Stop) → LeavesTable (after_line t line) new (Err why) → OfSource a (λ bytes. HasOutcome (outcome_of first bytes) (Err (audited_at (n + 1) why)))
+pub stops : (first : ℕ) (feed later : Stored) (n : ℕ) (t new : Table) (line : List ℕ) (a b c : Input) → HasReadSo feed a b (HasTaken first feed n t) → feed.over ≡ None
+    → EndsWithSource feed b → Leaves feed later b c (Ok (Some line)) → (why : Stop) → LeavesTable (after_line t line) new (Err why) → OfInput a c (λ bytes. HasOutcome (outcome_of first bytes) (Err (audited_at (n + 1) why)))
 stops first feed later n t new line a b c p still ends leaves why k =
     outcome first feed later n t (Ok (Some line)) (Err (audited_at (n + 1) why)) a b c p still ends leaves (λ xs ys zs h i. stops_here first xs ys zs feed later n t new line h i why k)
 
-pub ends : (first : ℕ) (feed later : Stored) (n : ℕ) (t : Table) (a b c : Option (List ℕ)) → HasReadSo feed a b (HasTaken first feed n t) → feed.over ≡ None
-    → EndsWithSource feed b → Leaves feed later b c (Ok None) → OfSource a (λ bytes. HasOutcome (outcome_of first bytes) (Ok t))
+pub ends : (first : ℕ) (feed later : Stored) (n : ℕ) (t : Table) (a b c : Input) → HasReadSo feed a b (HasTaken first feed n t) → feed.over ≡ None
+    → EndsWithSource feed b → Leaves feed later b c (Ok None) → OfInput a c (λ bytes. HasOutcome (outcome_of first bytes) (Ok t))
 ends first feed later n t a b c p still at_end leaves =
     outcome first feed later n t (Ok None) (Ok t) a b c p still at_end leaves (λ xs ys zs h i. h ∙ rw i refl)
 
@@ -75,7 +75,7 @@ in_trouble first feed later n t xs ys zs LineTooLong h i = h ∙ rw i refl
 in_trouble first feed later n t xs ys zs StreamTooLong h i = h ∙ rw i refl
 in_trouble first feed later n t xs ys zs Memory h i = tt
 
-pub troubled : (first : ℕ) (feed later : Stored) (n : ℕ) (t : Table) (a b c : Option (List ℕ)) → HasReadSo feed a b (HasTaken first feed n t) → feed.over ≡ None
-    → EndsWithSource feed b → (why : Trouble) → Leaves feed later b c (Err why) → OfSource a (λ bytes. HasOutcome (outcome_of first bytes) (Err (Err why)))
+pub troubled : (first : ℕ) (feed later : Stored) (n : ℕ) (t : Table) (a b c : Input) → HasReadSo feed a b (HasTaken first feed n t) → feed.over ≡ None
+    → EndsWithSource feed b → (why : Trouble) → Leaves feed later b c (Err why) → OfInput a c (λ bytes. HasOutcome (outcome_of first bytes) (Err (Err why)))
 troubled first feed later n t a b c p still at_end why leaves =
     outcome first feed later n t (Err why) (Err (Err why)) a b c p still at_end leaves (λ xs ys zs h i. in_trouble first feed later n t xs ys zs why h i)

@@ -1,7 +1,7 @@
 -- The lines that were taken, one by one, and that none of them has a fault.
 use Rattle.std.proofs.Common.{◌≡◌, ◌∙◌, ℕ, ◌+◌, List, [], ◌∷◌, ◌++◌, Option, Some, None, Result, Ok, Err, Bool, true, false, refl, sym, ap, subst, append-nil}
 use Rattle.std.specs.Prelude.{option_and_then, if◌then◌else◌}
-use Rattle.cm_envelope.specs.Device.{OfReads}
+use Rattle.cm_envelope.specs.Device.{Input, OfReads}
 use Rattle.cm_envelope.specs.Feeds.{EndsWithSource, Gives, GivesLine, Leaves, Stored, given_line, new_feed}
 use Rattle.cm_envelope.proofs.Sources.{HasReadSo, read_so_far, reads_no_more, reads_then}
 use Rattle.cm_envelope.specs.Lines.{Line, is_blank}
@@ -43,7 +43,7 @@ none_taken : (first : ℕ) (t : Table) → t ≡ table_from first → (bytes : L
 unfolding nothing_read
 none_taken first t new bytes = record { read = nothing_read bytes; takes = λ more. rw new refl }
 
-pub begins_lines : (first : ℕ) (feed : Stored) → feed ≡ new_feed 67108864 1073741824 → (t : Table) → t ≡ table_from first → (a : Option (List ℕ))
+pub begins_lines : (first : ℕ) (feed : Stored) → feed ≡ new_feed 67108864 1073741824 → (t : Table) → t ≡ table_from first → (a : Input)
     → HasReadSo feed a a (λ xs ys. HasTakenLines first xs ys feed 0 t)
 begins_lines first feed is t new a = rw is (read_so_far (λ xs ys. HasTakenLines first xs ys (new_feed 67108864 1073741824) 0 t) (new_feed 67108864 1073741824) a (none_taken first t new))
 
@@ -59,7 +59,7 @@ next_taken first xs ys zs feed later n t new line h i g k =
       takes = subst TakesAll (sym (next_read_lines h.read i g)) (takes_next first (h.read).lines n t new (given_line later line) h.takes k);
     }
 
-pub goes_on_lines : (first : ℕ) (feed later : Stored) (n : ℕ) (t new : Table) (line : List ℕ) (a b c : Option (List ℕ)) → HasReadSo feed a b (λ xs ys. HasTakenLines first xs ys feed n t) → feed.over ≡ None
+pub goes_on_lines : (first : ℕ) (feed later : Stored) (n : ℕ) (t new : Table) (line : List ℕ) (a b c : Input) → HasReadSo feed a b (λ xs ys. HasTakenLines first xs ys feed n t) → feed.over ≡ None
     → Leaves feed later b c (Ok (Some line)) → GivesLine feed later line → LeavesTable (after_line t line) new (Ok tt) → HasReadSo later a c (λ xs ys. HasTakenLines first xs ys later (n + 1) new)
 goes_on_lines first feed later n t new line a b c p still leaves given k =
     reads_then {P = λ xs ys. HasTakenLines first xs ys feed n t} {R = λ xs ys. HasTakenLines first xs ys later (n + 1) new} feed later a b c p still leaves
@@ -102,7 +102,7 @@ shows first xs ys zs feed later n t line stream h i = record {
   nothing = rw ((h.read).long, ← line, ← stream) i.2;
 }
 
-pub shows_no_fault : (first : ℕ) (feed later : Stored) (n : ℕ) (t : Table) (a b c : Option (List ℕ)) → HasReadSo feed a b (λ xs ys. HasTakenLines first xs ys feed n t) → feed.over ≡ None
+pub shows_no_fault : (first : ℕ) (feed later : Stored) (n : ℕ) (t : Table) (a b c : Input) → HasReadSo feed a b (λ xs ys. HasTakenLines first xs ys feed n t) → feed.over ≡ None
     → EndsWithSource feed b → feed.line_limit ≡ 67108864 → feed.stream_limit ≡ 1073741824 → Leaves feed later b c (Err ReadFailed) → OfReads a c (ResultsShowNoFault first)
 shows_no_fault first feed later n t a b c p still ends line stream leaves =
     reads_no_more (ResultsShowNoFault first) later a c

@@ -1,33 +1,36 @@
--- What a run prints, by the report that was made, or not.
-use Rattle.std.proofs.Common.{◌≡◌, ◌∙◌, ℕ, ◌<◌, List, Option, Result, Ok, Err, Bool, true, false, inl, inr, refl, ap, subst, arith, string_bytes}
+-- Which report a run of `audit`, `gate` or `results` delivers.
+use Rattle.std.proofs.Common.{◌≡◌, ◌∙◌, ◌⊎◌, ℕ, ◌<◌, List, Result, Ok, Err, Bool, true, false, inl, inr, refl, sym, ap, arith, string_bytes}
 use Rattle.std.specs.Prelude.{IfOk}
-use Rattle.std.specs.Io.KnownBytes.{Appends}
 use Rattle.std.specs.declared.alloc.AllocError.{AllocError}
-use Rattle.cm_envelope.specs.Device.{CountsFailure, OfSource, count_up, greatest_count}
-use Rattle.cm_envelope.proofs.Sources.{of_any}
+use Rattle.cm_envelope.specs.Device.{CountsFailure, Input, OfInput, OfReads, count_up, greatest_count}
+use Rattle.cm_envelope.proofs.Sources.{input_weaker, reads_weaker}
 use Rattle.cm_envelope.specs.declared.feed.Trouble.{Trouble}
 use Rattle.cm_envelope.specs.declared.feed.Trouble.TheVariants.{ReadFailed, LineTooLong, StreamTooLong, Memory}
 use Rattle.cm_attempt.specs.Table.{Table}
-use Rattle.cm_audit.specs.Audit.{AnswersAs, is_failed_read, AnswersTold}
-use Rattle.cm_stream.specs.ByOnePass.{first_fault}
-use Rattle.cm_stream.specs.Results.{first_fault as results_first_fault}
-use Rattle.cm_stream.proofs.ByGrammar.{is_first}
-use Rattle.cm_stream.specs.Stream.{Answer, Failed, answered, answer_for}
+use Rattle.cm_attempt.specs.declared.settings.Settings.{Settings}
+use Rattle.cm_audit.specs.Audit.{AnswersAs, AnswersTold, IsAuditOf, is_failed_read}
+use Rattle.cm_stream.specs.Results.{first_fault}
+use Rattle.cm_stream.specs.Stream.{Answer, Failed, FirstFault, IsFirstFault, answer_for, answered}
 use Rattle.cm_stream.specs.declared.verdict.Audited.{Audited}
-use Rattle.ck_commands.specs.Output.{NoneFailed, Prints, PrintsOrNoMemory, Report, code_of, report_made, trouble_report}
 use Rattle.ck_commands.specs.Outcome.{outcome_of, outcome_report}
+use Rattle.ck_commands.specs.Output.{NoneFailed, Report, report_made, trouble_report}
 use Rattle.ck_commands.specs.Reading.{HasOutcome, held_outcome, is_failed_read as results_failed}
 use Rattle.ck_commands.specs.Results.{results_report}
+use Rattle.ck_commands.specs.Run.{ReportsAudit, ReportsFirst}
+use Rattle.ck_commands.specs.declared.output.ExitStatus.TheVariants as exit
 use Rattle.ck_commands.specs.declared.output.Report as made
 use Rattle.ck_commands.proofs.Answered.{outcome_is_reported}
-use Rattle.ck_commands.specs.Verdicts.{PrintsAnswer}
-use Rattle.cm_attempt.specs.declared.settings.Settings.{Settings}
 
--- a report that was made is the one that is asked for, and without memory none was made
-pub made_printed : (r : Result made.Report AllocError) (report : Report) (code : ℕ) (old new : Option (List ℕ)) → IfOk r (λ x. string_bytes x.text ≡ report.text) → IfOk r (λ x. x.status ≡ report.status)
-    → Prints (report_made r) code old new → PrintsOrNoMemory report code old new
-made_printed (Ok x) report code old new text status p = inl (p.0 ∙ ap code_of status, subst (Appends old new) text p.1)
-made_printed (Err e) report code old new text status p = inr p
+-- this report, or that of no memory
+abbrev pub IsOne : Report → Report → Type 0
+IsOne report r = (r ≡ report) ⊎ (r ≡ trouble_report Memory)
+
+-- a report that was made is the one that is asked for
+pub made_is : (m : Result made.Report AllocError) (report : Report) → IfOk m (λ x. string_bytes x.text ≡ report.text) → IfOk m (λ x. x.status ≡ report.status) → IsOne report (report_made m)
+made_is (Ok x) report text status = inl (λ j. record { text = text j; status = status j })
+made_is (Err e) report text status = inr refl
+
+-- ---- failed reads
 
 -- where no call failed, none is counted
 pub none_failed : (failed : Bool) (old new : ℕ) → CountsFailure failed old new → NoneFailed old new → failed ≡ false
@@ -36,31 +39,6 @@ none_failed true old new counts none = absurd (never old new counts none.0 none.
   where
     never : (old new : ℕ) → new ≡ count_up old → old < greatest_count → new ≡ old → ⊥
     never old new up few same = omega (arith, up, few, same)
-
-module _ (report : Answer → Report) (no_memory : report (Failed Memory) ≡ trouble_report Memory) (code : ℕ) (old new : Option (List ℕ)) where
-  -- an answer is printed as that which it is for, but where a read failed
-  answer_printed : (a : Answer) (answer : Result Audited Trouble) → AnswersAs a answer → is_failed_read answer ≡ false → PrintsOrNoMemory (report (answered answer)) code old new
-      → PrintsOrNoMemory (report a) code old new
-  answer_printed a (Ok x) is none p = subst (λ b. PrintsOrNoMemory (report b) code old new) is p
-  answer_printed a (Err ReadFailed) is none p = cc
-  answer_printed a (Err Memory) is none (inl p) = inr (subst (λ r. Prints r code old new) no_memory p)
-  answer_printed a (Err Memory) is none (inr p) = inr p
-  answer_printed a (Err LineTooLong) is none p = subst (λ b. PrintsOrNoMemory (report b) code old new) is p
-  answer_printed a (Err StreamTooLong) is none p = subst (λ b. PrintsOrNoMemory (report b) code old new) is p
-
-  pub answers_printed : (settings : Settings) (a : Option (List ℕ)) (answer : Result Audited Trouble) → OfSource a (λ bytes. AnswersTold settings bytes answer) → is_failed_read answer ≡ false
-      → PrintsOrNoMemory (report (answered answer)) code old new → OfSource a (PrintsAnswer report settings code old new)
-  answers_printed settings a answer is none p = (is.0, is.1, (is.2.first, is.2.is_first, answer_printed (answer_for is.2.first) answer is.2.answers none p))
-
--- `trouble Memory` is printed, whatever the answer would be
-pub answer_no_memory : (report : Answer → Report) (settings : Settings) (a b c : Option (List ℕ)) (code : ℕ) → Prints (trouble_report Memory) code b c → OfSource a (PrintsAnswer report settings code b c)
-answer_no_memory report settings a b c code p = of_any a (λ bytes. (first_fault settings bytes, is_first settings bytes (first_fault settings bytes) refl, inr p))
-
--- `trouble Memory` is printed, whatever the report would be
-pub no_memory_printed : (report : List ℕ → Report) (a b c : Option (List ℕ)) (code : ℕ) → Prints (trouble_report Memory) code b c → OfSource a (λ bytes. PrintsOrNoMemory (report bytes) code b c)
-no_memory_printed report a b c code p = of_any a (λ bytes. inr p)
-
--- ---- a failed read
 
 -- where the count of failed calls is another, a call failed
 pub some_failed : (failed : Bool) (old new : ℕ) → CountsFailure failed old new → (new ≡ old → ⊥) → failed ≡ true
@@ -74,12 +52,42 @@ failed_answer (Err LineTooLong) e = cc
 failed_answer (Err StreamTooLong) e = cc
 failed_answer (Err Memory) e = cc
 
--- it is what is printed, or want of memory
-pub failure_printed : (report : Answer → Report) (no_read : report (Failed ReadFailed) ≡ trouble_report ReadFailed) (answer : Result Audited Trouble) (code : ℕ) (b c : Option (List ℕ)) → is_failed_read answer ≡ true
-    → PrintsOrNoMemory (report (answered answer)) code b c → PrintsOrNoMemory (trouble_report ReadFailed) code b c
-failure_printed report no_read answer code b c failed p =
-    let is : report (answered answer) ≡ trouble_report ReadFailed = ap (λ (x : Result Audited Trouble). report (answered x)) (failed_answer answer failed) ∙ no_read in
-    subst (λ r. PrintsOrNoMemory r code b c) is p
+-- ---- audits
+
+module _ (report : Answer → Report) (no_memory : report (Failed Memory) ≡ trouble_report Memory) where
+  -- the report of an answer is that of what it is an answer for, but where a read failed
+  answer_is : (a : Answer) (answer : Result Audited Trouble) (r : Report) → AnswersAs a answer → is_failed_read answer ≡ false → IsOne (report (answered answer)) r → IsOne (report a) r
+  answer_is a answer r is none (inr e) = inr e
+  answer_is a (Ok x) r is none (inl e) = inl (e ∙ ap report is)
+  answer_is a (Err ReadFailed) r is none (inl e) = cc
+  answer_is a (Err Memory) r is none (inl e) = inr (e ∙ no_memory)
+  answer_is a (Err LineTooLong) r is none (inl e) = inl (e ∙ ap report is)
+  answer_is a (Err StreamTooLong) r is none (inl e) = inl (e ∙ ap report is)
+
+  by_first : (settings : Settings) (bytes : List ℕ) (first : FirstFault) (r : Report) → IsFirstFault settings bytes first → IsOne (report (answer_for first)) r
+      → ReportsFirst (λ f. report (answer_for f)) settings bytes r ⊎ (r ≡ trouble_report Memory)
+  by_first settings bytes first r is (inl e) = inl (first, is, e)
+  by_first settings bytes first r is (inr e) = inr e
+
+  pub first_reported : (settings : Settings) (i j : Input) (answer : Result Audited Trouble) (r : Report) → OfInput i j (λ bytes. AnswersTold settings bytes answer) → is_failed_read answer ≡ false
+      → IsOne (report (answered answer)) r → OfInput i j (λ bytes. ReportsFirst (λ f. report (answer_for f)) settings bytes r ⊎ (r ≡ trouble_report Memory))
+  first_reported settings i j answer r told none one =
+      input_weaker {P = λ bytes. AnswersTold settings bytes answer} {Q = λ bytes. ReportsFirst (λ f. report (answer_for f)) settings bytes r ⊎ (r ≡ trouble_report Memory)} i j told
+      (λ xs h. by_first settings xs h.first r h.is_first (answer_is (answer_for h.first) answer r h.answers none one))
+
+  pub read_failed_reported : (answer : Result Audited Trouble) (r : Report) → report (Failed ReadFailed) ≡ trouble_report ReadFailed → is_failed_read answer ≡ true → IsOne (report (answered answer)) r → IsOne (trouble_report ReadFailed) r
+  read_failed_reported answer r is failed (inr e) = inr e
+  read_failed_reported answer r is failed (inl e) = inl (e ∙ ap (λ (x : Result Audited Trouble). report (answered x)) (failed_answer answer failed) ∙ is)
+
+  -- a status other than that of trouble is that of a verdict
+  pub audit_reported : (settings : Settings) (i j : Input) (answer : Result Audited Trouble) (r : Report) → ((t : Trouble) → (report (Failed t)).status ≡ exit.Trouble) → IsOne (report (answered answer)) r
+      → (r.status ≡ exit.Trouble → ⊥) → OfReads i j (IsAuditOf settings answer) → OfReads i j (λ bytes rest. ReportsAudit (λ a x. x ≡ report (answered (Ok a))) settings bytes rest r)
+  audit_reported settings i j (Ok a) r trouble (inl e) other heard =
+      reads_weaker {P = IsAuditOf settings (Ok a)} {Q = λ bytes rest. ReportsAudit (λ b x. x ≡ report (answered (Ok b))) settings bytes rest r} i j heard (λ xs ys h. (a, h, e))
+  audit_reported settings i j (Err t) r trouble (inl e) other heard = absurd (other (ap (λ (x : Report). x.status) e ∙ trouble t))
+  audit_reported settings i j answer r trouble (inr e) other heard = absurd (other (ap (λ (x : Report). x.status) e))
+
+-- ---- results
 
 -- it is that of a failed read
 pub failed_read : (held : Result Table (Result Audited Trouble)) → results_failed held ≡ true → held ≡ Err (Err ReadFailed)
@@ -90,30 +98,22 @@ failed_read (Err (Err LineTooLong)) e = cc
 failed_read (Err (Err StreamTooLong)) e = cc
 failed_read (Err (Err Memory)) e = cc
 
-failed_outcome : (held : Result Table (Result Audited Trouble)) → results_failed held ≡ true → outcome_report (held_outcome held) ≡ trouble_report ReadFailed
-failed_outcome held e = ap (λ (h : Result Table (Result Audited Trouble)). outcome_report (held_outcome h)) (failed_read held e)
+pub failed_outcome : (held : Result Table (Result Audited Trouble)) (r : Report) → results_failed held ≡ true → IsOne (outcome_report (held_outcome held)) r → IsOne (trouble_report ReadFailed) r
+failed_outcome held r failed (inr e) = inr e
+failed_outcome held r failed (inl e) = inl (e ∙ ap (λ (h : Result Table (Result Audited Trouble)). outcome_report (held_outcome h)) (failed_read held failed))
 
-pub failed_results_printed : (held : Result Table (Result Audited Trouble)) (code : ℕ) (b c : Option (List ℕ)) → results_failed held ≡ true
-    → PrintsOrNoMemory (outcome_report (held_outcome held)) code b c → PrintsOrNoMemory (trouble_report ReadFailed) code b c
-failed_results_printed held code b c failed p = subst (λ r. PrintsOrNoMemory r code b c) (failed_outcome held failed) p
+-- an outcome is reported as the one that the code holds, but where a read failed
+outcome_is : (first : ℕ) (bytes : List ℕ) (held : Result Table (Result Audited Trouble)) (r : Report) → HasOutcome (outcome_of first bytes) held → results_failed held ≡ false
+    → IsOne (outcome_report (held_outcome held)) r → IsOne (results_report (first_fault first bytes)) r
+outcome_is first bytes held r is none (inr e) = inr e
+outcome_is first bytes (Ok t) r is none (inl e) = inl (e ∙ ap outcome_report (sym is) ∙ outcome_is_reported first bytes)
+outcome_is first bytes (Err (Ok a)) r is none (inl e) = inl (e ∙ ap outcome_report (sym is) ∙ outcome_is_reported first bytes)
+outcome_is first bytes (Err (Err ReadFailed)) r is none (inl e) = cc
+outcome_is first bytes (Err (Err LineTooLong)) r is none (inl e) = inl (e ∙ ap outcome_report (sym is) ∙ outcome_is_reported first bytes)
+outcome_is first bytes (Err (Err StreamTooLong)) r is none (inl e) = inl (e ∙ ap outcome_report (sym is) ∙ outcome_is_reported first bytes)
+outcome_is first bytes (Err (Err Memory)) r is none (inl e) = inr e
 
--- ---- results
-
--- an outcome is printed as the one that the code holds, but where a read failed
-outcome_printed : (first : ℕ) (bytes : List ℕ) (held : Result Table (Result Audited Trouble)) (code : ℕ) (b c : Option (List ℕ)) → HasOutcome (outcome_of first bytes) held → results_failed held ≡ false
-    → PrintsOrNoMemory (outcome_report (held_outcome held)) code b c → PrintsOrNoMemory (results_report (results_first_fault first bytes)) code b c
-outcome_printed first bytes held code b c is none p = subst (λ r. PrintsOrNoMemory r code b c) (outcome_is_reported first bytes) (by_outcome held is none p)
-  where
-    by_outcome : (held : Result Table (Result Audited Trouble)) → HasOutcome (outcome_of first bytes) held → results_failed held ≡ false
-        → PrintsOrNoMemory (outcome_report (held_outcome held)) code b c → PrintsOrNoMemory (outcome_report (outcome_of first bytes)) code b c
-    by_outcome (Ok t) is none p = rw is p
-    by_outcome (Err (Ok a)) is none p = rw is p
-    by_outcome (Err (Err ReadFailed)) is none p = cc
-    by_outcome (Err (Err LineTooLong)) is none p = rw is p
-    by_outcome (Err (Err StreamTooLong)) is none p = rw is p
-    by_outcome (Err (Err Memory)) is none (inl p) = inr p
-    by_outcome (Err (Err Memory)) is none (inr p) = inr p
-
-pub results_printed : (first : ℕ) (a b c : Option (List ℕ)) (held : Result Table (Result Audited Trouble)) (code : ℕ) → OfSource a (λ bytes. HasOutcome (outcome_of first bytes) held) → results_failed held ≡ false
-    → PrintsOrNoMemory (outcome_report (held_outcome held)) code b c → OfSource a (λ bytes. PrintsOrNoMemory (results_report (results_first_fault first bytes)) code b c)
-results_printed first a b c held code is none p = (is.0, is.1, outcome_printed first is.0 held code b c is.2 none p)
+pub outcome_reported : (first : ℕ) (i j : Input) (held : Result Table (Result Audited Trouble)) (r : Report) → OfInput i j (λ bytes. HasOutcome (outcome_of first bytes) held) → results_failed held ≡ false
+    → IsOne (outcome_report (held_outcome held)) r → OfInput i j (λ bytes. IsOne (results_report (first_fault first bytes)) r)
+outcome_reported first i j held r is none one =
+    input_weaker {P = λ bytes. HasOutcome (outcome_of first bytes) held} {Q = λ bytes. IsOne (results_report (first_fault first bytes)) r} i j is (λ xs h. outcome_is first xs held r h none one)

@@ -1,21 +1,19 @@
 -- What was read of a source.
-use Rattle.std.proofs.Common.{◌≡◌, ◌∙◌, ◌<◌, ◌≤◌, ◌++◌, ℕ, List, Option, Some, None, Result, Ok, Err, true, false, refl, length, length-append, append-nil, ap, sym, subst, arith, IsUtf8}
+use Rattle.std.proofs.Common.{◌≡◌, ◌∙◌, ◌<◌, ◌≤◌, ◌++◌, ℕ, List, Result, Ok, Err, true, false, refl, length, length-append, append-nil, ap, sym, subst, arith, IsUtf8}
 use Rattle.std.specs.Result.{IfErr, IsErrAnd}
-use Rattle.std.specs.Io.KnownBytes.{Consumes, IsAtEnd}
-use Rattle.cm_envelope.specs.Device.{AreToCome, OfSource}
-use Rattle.cm_envelope.proofs.Sources.{of_any, read_before, to_come_of}
+use Rattle.cm_envelope.specs.Device.{Hears, Input, OfInput, OfWhole}
+use Rattle.cm_envelope.proofs.Sources.{input_weaker}
 use Rattle.ck_commands.specs.TextInput.{HasBytesFault, HasTextFault, IsTextOf, is_failed_read}
 use Rattle.ck_commands.specs.declared.text_input.TextFault.{TextFault}
 use Rattle.ck_commands.specs.declared.text_input.TextFault.TheVariants.{ReadFailed, TooLong, NotUtf8, Memory}
 
--- all bytes, as a text
-pub text_of_all : (a : Option (List ℕ)) (text bytes : List ℕ) → IsUtf8 text → text ≡ bytes → length bytes ≤ 16777216 → AreToCome a bytes
-    → OfSource a (λ all. IsTextOf all text)
-text_of_all a text bytes utf8 same few all = (bytes, all, record { same = same; few = few; utf8 = subst IsUtf8 same utf8 })
+-- at the end nothing comes after what was heard
+pub input_of_whole : {P : List ℕ → Type 0} (i j : Input) → OfWhole i j P → OfInput i j P
+input_of_whole {P} i j h = (h.0, h.1, λ rest may. subst P (sym (ap (λ l. h.0 ++ l) (may h.2) ∙ append-nil h.0)) h.3)
 
--- bytes that are no text
-pub no_text : (a : Option (List ℕ)) (bytes : List ℕ) → (IsUtf8 bytes → ⊥) → length bytes ≤ 16777216 → AreToCome a bytes → OfSource a (λ all. HasTextFault all NotUtf8)
-no_text a bytes none few all = (bytes, all, (few, none))
+-- all bytes, as a text
+pub text_of_all : (i j : Input) (text bytes : List ℕ) → IsUtf8 text → text ≡ bytes → length bytes ≤ 16777216 → Hears i j bytes → j.is_over ≡ true → OfWhole i j (λ all. IsTextOf all text)
+text_of_all i j text bytes utf8 same few heard over = (bytes, heard, over, record { same = same; few = few; utf8 = subst IsUtf8 same utf8 })
 
 -- a fault of the bytes is one of the text
 fault_is : (all : List ℕ) (fault : TextFault) → HasBytesFault all fault → HasTextFault all fault
@@ -24,35 +22,26 @@ fault_is all NotUtf8 h = absurd h
 fault_is all ReadFailed h = tt
 fault_is all Memory h = tt
 
-pub bytes_fault : (a : Option (List ℕ)) (fault : TextFault) → OfSource a (λ all. HasBytesFault all fault) → OfSource a (λ all. HasTextFault all fault)
-bytes_fault a fault h = (h.0, h.1, fault_is h.0 fault h.2)
+pub bytes_fault : (i j : Input) (fault : TextFault) → OfInput i j (λ all. HasBytesFault all fault) → OfInput i j (λ all. HasTextFault all fault)
+bytes_fault i j fault h = input_weaker {P = λ all. HasBytesFault all fault} {Q = λ all. HasTextFault all fault} i j h (λ xs p. fault_is xs fault p)
 
 -- more were read than a text may have
-pub too_many : (a b : Option (List ℕ)) (read : List ℕ) → Consumes a b read → 16777216 < length read → OfSource a (λ all. HasBytesFault all TooLong)
-too_many a b read k many =
-    let left = to_come_of b in
-    (read ++ left.0, read_before a b read left.0 k left.1, omega (arith, many, length-append read left.0))
-
--- a reader that is at its end gave all that it had
-pub all_read : (a b : Option (List ℕ)) (bytes : List ℕ) → Consumes a b bytes → IsAtEnd b → AreToCome a bytes
-all_read None b bytes k end = tt
-all_read (Some xs) None bytes k end = absurd k
-all_read (Some xs) (Some ys) bytes k end = sym (k ∙ ap (λ l. bytes ++ l) end ∙ append-nil bytes)
+pub too_many : (i j : Input) (read : List ℕ) → Hears i j read → 16777216 < length read → OfInput i j (λ all. HasBytesFault all TooLong)
+too_many i j read heard many = (read, heard, λ rest may. omega (arith, many, length-append read rest))
 
 -- where a read failed, or memory was refused, nothing is said of the bytes
-read_failure : (a : Option (List ℕ)) → OfSource a (λ all. HasBytesFault all ReadFailed)
-read_failure a = of_any a (λ all. tt)
+pub on_failed_read : {T : Type 0} (i j : Input) (read : List ℕ) → Hears i j read → (r : Result T TextFault) → IsErrAnd r (λ f. f ≡ ReadFailed) → IfErr r (λ fault. OfInput i j (λ all. HasBytesFault all fault))
+on_failed_read i j read heard (Ok x) h = absurd h
+on_failed_read i j read heard (Err f) h = rw h (read, heard, λ rest may. tt)
 
-no_memory : (a : Option (List ℕ)) → OfSource a (λ all. HasBytesFault all Memory)
-no_memory a = of_any a (λ all. tt)
+pub on_no_memory : {T : Type 0} (i j : Input) (read : List ℕ) → Hears i j read → (r : Result T TextFault) → IsErrAnd r (λ f. f ≡ Memory) → IfErr r (λ fault. OfInput i j (λ all. HasBytesFault all fault))
+on_no_memory i j read heard (Ok x) h = absurd h
+on_no_memory i j read heard (Err f) h = rw h (read, heard, λ rest may. tt)
 
-pub on_failed_read : {T : Type 0} (a : Option (List ℕ)) (r : Result T TextFault) → IsErrAnd r (λ f. f ≡ ReadFailed) → IfErr r (λ fault. OfSource a (λ all. HasBytesFault all fault))
-on_failed_read a (Ok x) h = absurd h
-on_failed_read a (Err f) h = rw h (read_failure a)
-
-pub on_no_memory : {T : Type 0} (a : Option (List ℕ)) (r : Result T TextFault) → IsErrAnd r (λ f. f ≡ Memory) → IfErr r (λ fault. OfSource a (λ all. HasBytesFault all fault))
-on_no_memory a (Ok x) h = absurd h
-on_no_memory a (Err f) h = rw h (no_memory a)
+-- a fault of the bytes that is passed on
+pub on_fault : {T : Type 0} (i j : Input) (x : TextFault) (r : Result T TextFault) → IsErrAnd r (λ f. f ≡ x) → OfInput i j (λ all. HasBytesFault all x) → IfErr r (λ fault. OfInput i j (λ all. HasTextFault all fault))
+on_fault i j x (Ok y) h is = absurd h
+on_fault i j x (Err f) h is = rw h (bytes_fault i j x is)
 
 pub other_fault : (A : Type 0) (f : TextFault) → is_failed_read {A = A} (Err f) ≡ false → f ≡ ReadFailed → ⊥
 other_fault A ReadFailed other is = cc

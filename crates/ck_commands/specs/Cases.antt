@@ -1,6 +1,6 @@
 -- What the command `cases` prints, by the whole list of envelopes of a good stream.
 use Rattle.std.specs.Prelude.{◌≡◌, ℕ, List, ◌++◌, Option, Result, Ok, Err, string_bytes}
-use Rattle.std.specs.Io.KnownBytes.{Appends}
+use Rattle.cm_envelope.specs.Device.{Output, Writes}
 use Rattle.std.specs.List.{flat_map}
 use Rattle.cm_attempt.specs.Results.{case_results}
 use Rattle.cm_attempt.specs.Table.{Table}
@@ -13,13 +13,13 @@ use Rattle.cm_envelope.specs.declared.envelope.Envelope.{Envelope}
 use Rattle.cm_envelope.specs.declared.feed.Trouble.{Trouble}
 use Rattle.cm_stream.specs.Good.{Good}
 use Rattle.cm_stream.specs.Results.{results_of}
-use Rattle.cm_stream.specs.Stream.{FirstFault, At, Troubled, NoFault, IsFirstFault, IsRead, answered, envelopes}
+use Rattle.cm_stream.specs.Stream.{FirstFault, At, Troubled, NoFault, IsRead, answered, envelopes}
 use Rattle.cm_stream.specs.Texts.{Utf8}
 use Rattle.cm_stream.specs.declared.verdict.Audited.{Audited}
 use Rattle.cm_stream.specs.declared.verdict.Verdict.{Verdict}
 use Rattle.cm_stream.specs.declared.verdict.Verdict.TheVariants as verdict
 use Rattle.cm_audit.specs.declared.listed_cases.AuditedCases.{AuditedCases}
-use Rattle.ck_commands.specs.Output.{PrintsOrNoMemory, Report, trouble_report}
+use Rattle.ck_commands.specs.Output.{Report, trouble_report}
 use Rattle.ck_commands.specs.Statuses.{reported_word}
 use Rattle.ck_commands.specs.Verdicts.{finding_report, verdict_report}
 use Rattle.ck_commands.specs.declared.output.ExitStatus.TheVariants.{Done}
@@ -39,17 +39,18 @@ cases_report (NoFault es) = record { text = cases_text es; status = Done }
 cases_report (At n f) = finding_report n f
 cases_report (Troubled t) = trouble_report t
 
--- the report for the first fault of these bytes was printed, or `trouble Memory`
-abbrev pub PrintsCases : Settings → ℕ → (old new : Option (List ℕ)) → (bytes : List ℕ) → Type 0
-PrintsCases settings code old new bytes =
-    (first : FirstFault) × IsFirstFault settings bytes first
-    × PrintsOrNoMemory (cases_report first) code old new
-
 -- the stream is good, and the lines of its cases and unrun pickles were printed
-abbrev pub PrintsListed : Settings → (old new : Option (List ℕ)) → (bytes : List ℕ) → Type 0
-PrintsListed settings old new bytes =
+abbrev pub PrintsListed : Settings → (before after : Output) → (bytes : List ℕ) → Type 0
+PrintsListed settings before after bytes =
     (lines : List (ℕ × Envelope)) × IsRead bytes lines × Good settings (envelopes lines)
-    × Appends old new (cases_text (envelopes lines))
+    × Writes before after (cases_text (envelopes lines))
+
+-- the lines of the cases of a good stream, and of any other verdict its line
+abbrev pub ListsOrTells : Settings → List ℕ → Audited → Verdict → Report → Type 0
+ListsOrTells settings bytes a (verdict.Good counts) r =
+    (lines : List (ℕ × Envelope)) × IsRead bytes lines × Good settings (envelopes lines)
+    × (r ≡ record { text = cases_text (envelopes lines); status = Done })
+ListsOrTells settings bytes a _ r = r ≡ verdict_report (answered (Ok a))
 
 -- ---- the report that the code makes
 

@@ -1,7 +1,7 @@
 -- What the command `differs` prints: the line of the audit, and what differs at that line.
-use Rattle.std.specs.Prelude.{◌≡◌, ◌⊎◌, ℕ, List, [], ◌∷◌, ◌++◌, Option, None, Result, Ok, Err, codes}
+use Rattle.std.specs.Prelude.{◌≡◌, ℕ, List, [], ◌∷◌, ◌++◌, Option, None, Result, Ok, Err, codes}
 use Rattle.std.specs.Option.{option_map_or}
-use Rattle.std.specs.Io.KnownBytes.{Appends}
+use Rattle.cm_envelope.specs.Device.{Output, Writes}
 use Rattle.cm_attempt.specs.declared.settings.Settings.{Settings}
 use Rattle.cm_audit.specs.Differs.{DiffersAt, audited_of}
 use Rattle.cm_audit.specs.declared.differs.AuditedDifference.{AuditedDifference}
@@ -9,13 +9,12 @@ use Rattle.cm_cases.specs.Shown.{shown_json, shown_text}
 use Rattle.cm_differs.specs.declared.difference.Difference.{Difference}
 use Rattle.cm_envelope.specs.Lines.{line_feed}
 use Rattle.cm_envelope.specs.declared.feed.Trouble.{Trouble}
-use Rattle.cm_envelope.specs.declared.feed.Trouble.TheVariants.{Memory}
 use Rattle.cm_stream.specs.Findings.{IsBad, named}
-use Rattle.cm_stream.specs.Stream.{Answer, FirstFault, At, IsFirstFault, NoneIsGood, answer_for, answered}
+use Rattle.cm_stream.specs.Stream.{Answer, FirstFault, At, NoneIsGood, answered}
 use Rattle.cm_stream.specs.declared.verdict.StreamFault.{StreamFault}
 use Rattle.cm_stream.specs.declared.verdict.Verdict.TheVariants as verdict
 use Rattle.ck_commands.specs.Cases.{IsReport}
-use Rattle.ck_commands.specs.Output.{Prints, Report, trouble_report}
+use Rattle.ck_commands.specs.Output.{Report}
 use Rattle.ck_commands.specs.Verdicts.{finding_text, verdict_report}
 use Rattle.ck_commands.specs.declared.output.Report as made
 
@@ -51,27 +50,12 @@ IsDifferenceOf settings bytes (At n (IsBad f)) d =
     (b : StreamFault) × (f ≡ named b) × DiffersAt settings bytes n b d
 IsDifferenceOf settings bytes _ d = d ≡ None
 
--- the report of what is reported first was printed, with its difference
-abbrev pub PrintsFirst : Settings → FirstFault → ℕ → (old new : Option (List ℕ))
-    → (bytes : List ℕ) → Type 0
-PrintsFirst settings first code old new bytes =
-    (d : Option Difference) × IsDifferenceOf settings bytes first d
-    × Prints (differs_report d (answer_for first)) code old new
-
--- that for the first fault of these bytes, or `trouble Memory`
-abbrev pub PrintsDifference : Settings → ℕ → (old new : Option (List ℕ)) → (bytes : List ℕ)
-    → Type 0
-PrintsDifference settings code old new bytes =
-    (first : FirstFault) × IsFirstFault settings bytes first
-    × (PrintsFirst settings first code old new bytes
-    ⊎ Prints (trouble_report Memory) code old new)
-
 -- a fault that no good stream begins with was printed, with its difference
-abbrev pub PrintsBadDifference : Settings → (old new : Option (List ℕ)) → (bytes : List ℕ) → Type 0
-PrintsBadDifference settings old new bytes =
+abbrev pub PrintsBadDifference : Settings → (before after : Output) → (bytes : List ℕ) → Type 0
+PrintsBadDifference settings before after bytes =
     (n : ℕ) × (b : StreamFault) × NoneIsGood settings bytes (Ok (verdict.Bad n b))
     × (d : Option Difference) × DiffersAt settings bytes n b d
-    × Appends old new (finding_text n (IsBad (named b)) ++ difference_lines d)
+    × Writes before after (finding_text n (IsBad (named b)) ++ difference_lines d)
 
 -- ---- the report that the code makes
 

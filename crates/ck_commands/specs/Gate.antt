@@ -1,7 +1,7 @@
 -- What the command `gate` prints: the line of `audit`, and where a run that is truthfully reported isn't to be released, a second
 -- line with the reason.
 use Rattle.std.specs.Prelude.{ℕ, Bool, List, [], ◌∷◌, ◌++◌, Option, Some, None, codes}
-use Rattle.std.specs.Io.KnownBytes.{Appends}
+use Rattle.cm_envelope.specs.Device.{Output, Writes}
 use Rattle.cm_envelope.specs.Lines.{line_feed}
 use Rattle.cm_attempt.specs.declared.settings.Settings.{Settings}
 use Rattle.cm_stream.specs.Release.{IsReleasedStream, hold_of}
@@ -39,8 +39,8 @@ gate_report allows_unrun a = record {
 }
 
 -- the counts of a released stream were printed
-abbrev pub PrintsReleased : Settings → (allows_unrun : Bool) → (old new : Option (List ℕ))
+abbrev pub PrintsReleased : Settings → (allows_unrun : Bool) → (before after : Output)
     → (bytes : List ℕ) → Type 0
-PrintsReleased settings allows_unrun old new bytes =
+PrintsReleased settings allows_unrun before after bytes =
     (counts : Counts) × IsReleasedStream settings allows_unrun bytes counts
-    × Appends old new (counts_text counts)
+    × Writes before after (counts_text counts)

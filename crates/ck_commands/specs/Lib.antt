@@ -10,3 +10,4 @@ pub mod Run
 pub mod Statuses
 pub mod TextInput
 pub mod Verdicts
+pub mod Standard

@@ -1,9 +1,8 @@
 -- What a command prints, the status that it ends with, and how a run shows both.
-use Rattle.std.specs.Prelude.{◌≡◌, ◌<◌, ◌⊎◌, ℕ, List, [], ◌∷◌, ◌++◌, Option, Result, Ok, Err, codes}
+use Rattle.std.specs.Prelude.{◌≡◌, ◌≢◌, ◌<◌, ◌⊎◌, ℕ, List, [], ◌∷◌, ◌++◌, Result, Ok, Err, codes}
 use Rattle.std.specs.String.{string_bytes}
-use Rattle.std.specs.Io.KnownBytes.{Appends}
 use Rattle.std.specs.declared.alloc.AllocError.{AllocError}
-use Rattle.cm_envelope.specs.Device.{greatest_count}
+use Rattle.cm_envelope.specs.Device.{IsFlushed, Output, Writes, greatest_count}
 use Rattle.cm_envelope.specs.Lines.{line_feed}
 use Rattle.cm_envelope.specs.declared.feed.Trouble.{Trouble}
 use Rattle.cm_envelope.specs.declared.feed.Trouble.TheVariants.{ReadFailed, LineTooLong, StreamTooLong, Memory}
@@ -39,19 +38,6 @@ trouble_text name = codes "trouble " ++ name ++ line_feed ∷ []
 abbrev pub trouble_report : Trouble → Report
 trouble_report t = record { text = trouble_text (trouble_name t); status = exit.Trouble }
 
--- the code is that of the report's status, and its text was written after what was written before
-abbrev pub Prints : Report → ℕ → Option (List ℕ) → Option (List ℕ) → Type 0
-Prints report code old new = (code ≡ code_of report.status) × Appends old new report.text
-
--- that, or `trouble Memory`
-abbrev pub PrintsOrNoMemory : Report → ℕ → Option (List ℕ) → Option (List ℕ) → Type 0
-PrintsOrNoMemory report code old new =
-    Prints report code old new ⊎ Prints (trouble_report Memory) code old new
-
--- that, or the code is that of trouble, whatever was written
-abbrev pub PrintsOrTrouble : Report → ℕ → Option (List ℕ) → Option (List ℕ) → Type 0
-PrintsOrTrouble report code old new = Prints report code old new ⊎ (code ≡ code_of exit.Trouble)
-
 -- the report that the code made, and `trouble Memory` where it made none
 abbrev pub report_made : Result made.Report AllocError → Report
 report_made (Ok report) = record { text = string_bytes report.text; status = report.status }
@@ -61,7 +47,39 @@ report_made (Err refused) = trouble_report Memory
 abbrev pub NoneFailed : ℕ → ℕ → Type 0
 NoneFailed old new = (old < greatest_count) × (new ≡ old)
 
--- no call of the source failed, by its counts of failed calls, and none of the sink
-pub record Undisturbed (source_old source_new sink_old sink_new : ℕ) : Type 0 where
-  pub reads : NoneFailed source_old source_new
-  pub writes : NoneFailed sink_old sink_new
+-- ---- how a report reaches the sink
+
+-- the code is that of the report's status, and its text was written after what was written before, and flushed
+pub record Prints (report : Report) (code : ℕ) (before after : Output) : Type 0 where
+  pub status : code ≡ code_of report.status
+  pub written : Writes before after report.text
+  pub flushed : IsFlushed after
+
+-- what is written last where a write failed
+abbrev pub write_failed_text : List ℕ
+write_failed_text = trouble_text (codes "WriteFailed")
+
+-- Where a write or the flush failed, the code is that of trouble, and a front of the text was written, and then a front of
+-- `trouble WriteFailed`.
+pub record Breaks (text : List ℕ) (code : ℕ) (before after : Output) : Type 0 where
+  pub status : code ≡ code_of exit.Trouble
+  pub front : List ℕ
+  pub rest : List ℕ
+  pub of_text : text ≡ front ++ rest
+  pub told : List ℕ
+  pub untold : List ℕ
+  pub of_trouble : write_failed_text ≡ told ++ untold
+  pub written : Writes before after (front ++ told)
+
+-- a report is printed where no call of the sink fails, and breaks where one does
+pub record Delivers (report : Report) (code : ℕ) (before after : Output) : Type 0 where
+  pub one : Prints report code before after ⊎ Breaks report.text code before after
+  pub printed : NoneFailed before.failed_calls after.failed_calls
+      → Prints report code before after
+  pub broken : after.failed_calls ≢ before.failed_calls → Breaks report.text code before after
+
+-- a report of which P holds was delivered, or that of no memory
+abbrev pub DeliversOne : (Report → Type 0) → ℕ → (before after : Output) → Type 0
+DeliversOne P code before after =
+    (report : Report) × (P report ⊎ (report ≡ trouble_report Memory))
+    × Delivers report code before after

@@ -2,12 +2,12 @@
 use Rattle.std.specs.Prelude.{◌≡◌, ℕ, List, [], ◌∷◌, ◌++◌, Option, Some, codes, length}
 use Rattle.std.specs.List.{flat_map}
 use Rattle.cm_envelope.specs.Feeds.{ShowNothing}
-use Rattle.cm_envelope.specs.Lines.{Line, line_feed}
+use Rattle.cm_envelope.specs.Lines.{Line, line_feed, max_line_bytes, max_stream_bytes}
 use Rattle.cm_envelope.specs.declared.feed.Trouble.TheVariants.{ReadFailed}
 use Rattle.cm_attempt.specs.declared.status.Status.{Status}
 use Rattle.cm_audit.specs.Audit.{Begins, all_written, contents}
 use Rattle.cm_stream.specs.Results.{first_fault_of, results_of}
-use Rattle.cm_stream.specs.Stream.{FirstFault, At, Troubled, NoFault, max_line_bytes, max_stream_bytes}
+use Rattle.cm_stream.specs.Stream.{FirstFault, At, Troubled, NoFault}
 use Rattle.ck_commands.specs.Output.{Report, trouble_report}
 use Rattle.ck_commands.specs.Statuses.{reported_word}
 use Rattle.ck_commands.specs.Verdicts.{finding_report}

@@ -1,27 +1,187 @@
--- What a run of the program gives for a feature file: the code, and the bytes that it writes.
-use Rattle.std.specs.Prelude.{◌≡◌, ◌⊎◌, ℕ, List, Option, Result}
-use Rattle.std.specs.Io.KnownBytes.{Appends}
+-- What a run leaves, one line a command: the report that it prints of the bytes of its source, and what its status says of them.
+use Rattle.std.specs.Prelude.{◌≡◌, ◌≢◌, ◌⊎◌, ⊤, ℕ, List, Option, Result, Ok, string_bytes}
+use Rattle.std.specs.List.{flat_map}
+use Rattle.std.specs.Borrow.{Bor}
+use Rattle.gk_grammar.specs.Documents.{IsDocumentOf}
 use Rattle.gk_grammar.specs.Tree.{Document}
+use Rattle.gk_tree.specs.declared.fault.ParseFault.{ParseFault}
 use Rattle.cm_compile.specs.Compiled.{IsCompiledOf}
-use Rattle.ck_commands.specs.Features.{IsFeatureOf, IsFaultOf, IsReadable, fault_report, parse_report}
-use Rattle.ck_commands.specs.Output.{Prints, code_of}
+use Rattle.cm_envelope.specs.Device.{Input, OfInput, OfReads, OfWhole, Output, Writes}
+use Rattle.cm_envelope.specs.declared.envelope.Envelope.{Envelope}
+use Rattle.cm_envelope.specs.declared.feed.Trouble.TheVariants.{Memory, ReadFailed}
+use Rattle.cm_attempt.specs.declared.settings.Settings.{Settings}
+use Rattle.cm_stream.specs.Findings.{Fault, IsBad}
+use Rattle.cm_stream.specs.Results.{first_fault, results_of}
+use Rattle.cm_stream.specs.Stream.{At, FirstFault, IsFirstFault, NoFault, answer_for, answered}
+use Rattle.cm_stream.specs.declared.verdict.Audited.{Audited}
+use Rattle.cm_audit.specs.Audit.{IsAuditOf, ShowNoFault}
+use Rattle.cm_audit.specs.Differs.{DiffersBy}
+use Rattle.cm_differs.specs.declared.difference.Difference.{Difference}
+use Rattle.ck_command_line.specs.CommandLine.{Command, CallsForHelp, ask_audit, ask_cases, ask_compile, ask_differs, ask_gate, ask_parse, ask_results}
+use Rattle.ck_command_line.specs.declared.command_line.Refusal.{Refusal}
+use Rattle.ck_command_line.specs.declared.command_line.Refusal.TheVariants as refusal
+use Rattle.ck_commands.specs.Cases.{ListsOrTells, PrintsListed, cases_report}
+use Rattle.ck_commands.specs.Differs.{IsDifferenceOf, PrintsBadDifference, differs_report}
+use Rattle.ck_commands.specs.Features.{IsFaultOf, IsFeatureOf, IsReadable, IsRefused, document_text, fault_report, parse_report, refused_text}
+use Rattle.ck_commands.specs.Gate.{PrintsReleased, gate_report}
+use Rattle.ck_commands.specs.Output.{DeliversOne, NoneFailed, Prints, Report, code_of, trouble_report}
+use Rattle.ck_commands.specs.Results.{ResultsShowNoFault, result_text, results_report}
+use Rattle.ck_commands.specs.Verdicts.{PrintsBad, PrintsGood, finding_text, verdict_report}
 use Rattle.ck_commands.specs.declared.feature_input.FeatureFault.{FeatureFault}
-use Rattle.ck_commands.specs.declared.output.ExitStatus.TheVariants.{Done}
+use Rattle.ck_commands.specs.declared.output.ExitStatus.TheVariants as exit
 
--- what the bytes are as a feature file is printed
-abbrev pub PrintsFeature : List ℕ → ℕ → Option (List ℕ) → Option (List ℕ) → Type 0
-PrintsFeature bytes code old new =
-    (feature : Result Document FeatureFault) × IsFeatureOf bytes feature
-    × Prints (parse_report feature) code old new
+-- ---- the report
 
--- the lines that a feature file of this uri compiles to were written, and nothing else
-abbrev pub WritesCompiled : (uri bytes : List ℕ) → ℕ → Option (List ℕ) → Option (List ℕ) → Type 0
-WritesCompiled uri bytes code old new =
-    (lines : List ℕ) × IsReadable bytes × IsCompiledOf uri bytes lines × (code ≡ code_of Done)
-    × Appends old new lines
+-- the lines that a feature file of this uri compiles to
+abbrev pub IsCompiled : (uri bytes : List ℕ) → Report → Type 0
+IsCompiled uri bytes r =
+    (lines : List ℕ) × IsReadable bytes × IsCompiledOf uri bytes lines
+    × (r ≡ record { text = lines; status = exit.Done })
 
--- that, or it is printed why the bytes give no document
-abbrev pub Compiles : (uri bytes : List ℕ) → ℕ → Option (List ℕ) → Option (List ℕ) → Type 0
-Compiles uri bytes code old new =
-    WritesCompiled uri bytes code old new ⊎ ((fault : FeatureFault) × IsFaultOf bytes fault
-    × Prints (fault_report fault) code old new)
+-- these lines, or why there are none
+abbrev pub ReportsCompiled : (uri bytes : List ℕ) → Report → Type 0
+ReportsCompiled uri bytes r =
+    IsCompiled uri bytes r
+    ⊎ ((fault : FeatureFault) × IsFaultOf bytes fault × (r ≡ fault_report fault))
+
+-- a report by the first fault of a stream
+abbrev pub ReportsFirst : (FirstFault → Report) → Settings → List ℕ → Report → Type 0
+ReportsFirst report settings bytes r =
+    (first : FirstFault) × IsFirstFault settings bytes first × (r ≡ report first)
+
+-- that, with the difference at the fault
+abbrev pub ReportsDiffering : Settings → List ℕ → Report → Type 0
+ReportsDiffering settings bytes r =
+    (first : FirstFault) × IsFirstFault settings bytes first
+    × (d : Option Difference) × IsDifferenceOf settings bytes first d
+    × (r ≡ differs_report d (answer_for first))
+
+-- what a command prints of these bytes, and the status
+abbrev pub Reports : Command → List ℕ → Report → Type 0
+Reports ask_parse bytes r =
+    (feature : Result Document FeatureFault) × IsFeatureOf bytes feature × (r ≡ parse_report feature)
+Reports (ask_compile uri) bytes r = ReportsCompiled uri bytes r
+Reports (ask_audit s) bytes r = ReportsFirst (λ first. verdict_report (answer_for first)) s bytes r
+Reports (ask_gate s u) bytes r = ReportsFirst (λ first. gate_report u (answer_for first)) s bytes r
+Reports (ask_results n) bytes r = r ≡ results_report (first_fault n bytes)
+Reports (ask_cases s) bytes r = ReportsFirst cases_report s bytes r
+Reports (ask_differs s) bytes r = ReportsDiffering s bytes r
+
+-- ---- what a status says, whatever failed
+
+-- a report of an audit of these bytes, the last of which weren't read
+abbrev pub ReportsAudit : (Audited → Report → Type 0) → Settings → (bytes rest : List ℕ) → Report
+    → Type 0
+ReportsAudit P s bytes rest r = (a : Audited) × IsAuditOf s (Ok a) bytes rest × P a r
+
+-- a report of a verdict with its difference
+abbrev pub TellsDifference : Settings → List ℕ → Audited → Report → Type 0
+TellsDifference s bytes a r =
+    (d : Option Difference) × DiffersBy s bytes a.verdict d
+    × (r ≡ differs_report d (answered (Ok a)))
+
+-- with a status other than 3: the report, and for an audit all that is said of audits, also how far it was read
+abbrev pub Tells : Command → (bytes rest : List ℕ) → Report → Type 0
+Tells (ask_audit s) bytes rest r =
+    ReportsAudit (λ a r. r ≡ verdict_report (answered (Ok a))) s bytes rest r
+Tells (ask_gate s u) bytes rest r =
+    ReportsAudit (λ a r. r ≡ gate_report u (answered (Ok a))) s bytes rest r
+Tells (ask_cases s) bytes rest r =
+    ReportsAudit (λ a r. ListsOrTells s bytes a a.verdict r) s bytes rest r
+Tells (ask_differs s) bytes rest r = ReportsAudit (TellsDifference s bytes) s bytes rest r
+Tells c bytes rest r = Reports c bytes r
+
+abbrev pub PrintsDocument : (before after : Output) → List ℕ → Type 0
+PrintsDocument before after bytes =
+    (d : Document) × IsReadable bytes × IsDocumentOf bytes d × Writes before after (document_text d)
+
+abbrev pub PrintsCompiled : (uri : List ℕ) → (before after : Output) → List ℕ → Type 0
+PrintsCompiled uri before after bytes =
+    (lines : List ℕ) × IsReadable bytes × IsCompiledOf uri bytes lines × Writes before after lines
+
+abbrev pub PrintsResults : (first : ℕ) → (before after : Output) → List ℕ → Type 0
+PrintsResults first before after bytes =
+    (es : List Envelope) × (first_fault first bytes ≡ NoFault es)
+    × Writes before after (flat_map result_text (results_of es))
+
+-- with status 0: the bytes are a good stream, a released one, a feature file, or the command's own
+abbrev pub IsDone : Command → (before after : Output) → (bytes : List ℕ) → Type 0
+IsDone ask_parse before after bytes = PrintsDocument before after bytes
+IsDone (ask_compile uri) before after bytes = PrintsCompiled uri before after bytes
+IsDone (ask_audit s) before after bytes = PrintsGood s before after bytes
+IsDone (ask_gate s u) before after bytes = PrintsReleased s u before after bytes
+IsDone (ask_results n) before after bytes = PrintsResults n before after bytes
+IsDone (ask_cases s) before after bytes = PrintsListed s before after bytes
+IsDone (ask_differs s) before after bytes = PrintsGood s before after bytes
+
+abbrev pub PrintsRefused : (before after : Output) → List ℕ → Type 0
+PrintsRefused before after bytes =
+    (f : ParseFault) × IsRefused bytes f × Writes before after (refused_text f)
+
+abbrev pub PrintsFault : (first : ℕ) → (before after : Output) → List ℕ → Type 0
+PrintsFault first before after bytes =
+    (n : ℕ) × (f : Fault) × (first_fault first bytes ≡ At n (IsBad f))
+    × Writes before after (finding_text n (IsBad f))
+
+-- with status 1: the feature file is refused, or no good stream begins like these bytes
+abbrev pub IsBadFor : Command → (before after : Output) → (bytes : List ℕ) → Type 0
+IsBadFor ask_parse before after bytes = PrintsRefused before after bytes
+IsBadFor (ask_compile uri) before after bytes = PrintsRefused before after bytes
+IsBadFor (ask_audit s) before after bytes = PrintsBad s before after bytes
+IsBadFor (ask_gate s u) before after bytes = PrintsBad s before after bytes
+IsBadFor (ask_results n) before after bytes = PrintsFault n before after bytes
+IsBadFor (ask_cases s) before after bytes = PrintsBad s before after bytes
+IsBadFor (ask_differs s) before after bytes = PrintsBadDifference s before after bytes
+
+-- What the status of a command says of the bytes heard from one state of its source to a later one.
+pub record IsRight (c : Command) (code : ℕ) (i j : Input) (before after : Output) : Type 0 where
+  -- 0 is given only at the source's end
+  pub done : code ≡ code_of exit.Done → OfWhole i j (IsDone c before after)
+  pub refused : code ≡ code_of exit.Refused → OfInput i j (IsBadFor c before after)
+  -- any status but 3 is that of a report which was written whole and flushed
+  pub told : code ≢ code_of exit.Trouble
+      → OfReads i j (λ bytes rest. (r : Report) × Tells c bytes rest r × Prints r code before after)
+
+-- ---- a failed read
+
+-- the lines before it have no fault that the command reports
+abbrev pub ShowsNone : Command → (bytes rest : List ℕ) → Type 0
+ShowsNone (ask_audit s) bytes rest = ShowNoFault s bytes rest
+ShowsNone (ask_gate s u) bytes rest = ShowNoFault s bytes rest
+ShowsNone (ask_cases s) bytes rest = ShowNoFault s bytes rest
+ShowsNone (ask_differs s) bytes rest = ShowNoFault s bytes rest
+ShowsNone (ask_results n) bytes rest = ResultsShowNoFault n bytes rest
+ShowsNone c bytes rest = ⊤
+
+-- that is what is printed
+abbrev pub TellsFailedRead : ℕ → (before after : Output) → Type 0
+TellsFailedRead code before after =
+    DeliversOne (λ r. r ≡ trouble_report ReadFailed) code before after
+
+-- ---- a run
+
+-- All that a run of a command leaves: its status, and the states of its source and its sink before and after it.
+pub record Runs (c : Command) (code : ℕ) (i j : Input) (before after : Output) : Type 0 where
+  -- where no read fails, the report on the bytes heard, whatever comes after them
+  pub answer : NoneFailed i.failed_calls j.failed_calls
+      → OfInput i j (λ bytes. DeliversOne (Reports c bytes) code before after)
+  pub status : IsRight c code i j before after
+  -- where a read fails
+  pub no_fault : j.failed_calls ≢ i.failed_calls → OfReads i j (ShowsNone c)
+  pub read_failed : j.failed_calls ≢ i.failed_calls → TellsFailedRead code before after
+  pub unread : code ≡ code_of exit.Done → j.failed_calls ≡ i.failed_calls
+  -- where a write or a flush fails
+  pub unwritten : after.failed_calls ≢ before.failed_calls → code ≡ code_of exit.Trouble
+
+-- ---- words that ask for no command
+
+-- the report of what the words are told
+abbrev pub report_of_refusal : Refusal → Report
+report_of_refusal (refusal.Usage text) = record { text = string_bytes text; status = exit.Usage }
+report_of_refusal (refusal.Help text) = record { text = string_bytes text; status = exit.Done }
+report_of_refusal refusal.Memory = trouble_report Memory
+
+-- what is said of words that ask for no command: the usage, help where they call for it
+abbrev pub IsRefusal : List (Bor (List ℕ)) → Report → Type 0
+IsRefusal words r =
+    (r.status ≡ exit.Usage) ⊎ ((r.status ≡ exit.Done) × CallsForHelp words)

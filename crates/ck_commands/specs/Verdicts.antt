@@ -1,20 +1,18 @@
 -- What the command `audit` prints of a verdict.
-use Rattle.std.specs.Prelude.{ℕ, List, [], ◌∷◌, ◌++◌, Option, Ok, codes, decimal, ◌==◌, if◌then◌else◌}
-use Rattle.std.specs.Io.KnownBytes.{Appends}
+use Rattle.std.specs.Prelude.{ℕ, List, [], ◌∷◌, ◌++◌, Ok, codes, decimal, ◌==◌, if◌then◌else◌}
+use Rattle.cm_envelope.specs.Device.{Output, Writes}
 use Rattle.cm_envelope.specs.Lines.{line_feed}
 use Rattle.cm_envelope.specs.Reading.{LineFault, not_json, shape, field}
 use Rattle.cm_attempt.specs.declared.settings.Settings.{Settings}
 use Rattle.cm_stream.specs.Findings as bad
 use Rattle.cm_stream.specs.Findings.{Fault, Finding, IsBad, IsUnsupported, named}
-use Rattle.cm_stream.specs.Stream.{Answer, GoodWith, Found, Failed, IsGoodStream, NoneIsGood, answered, FirstFault, IsFirstFault, answer_for}
-use Rattle.cm_stream.specs.declared.verdict.Audited.{Audited}
+use Rattle.cm_stream.specs.Stream.{Answer, GoodWith, Found, Failed, IsGoodStream, NoneIsGood}
 use Rattle.cm_stream.specs.declared.verdict.StreamFault.{StreamFault}
 use Rattle.cm_stream.specs.declared.verdict.Verdict.TheVariants as verdict
-use Rattle.cm_audit.specs.Audit.{IsAuditOf, ReadsUpTo}
 use Rattle.cm_stream.specs.declared.verdict.Counts.{Counts}
 use Rattle.cm_stream.specs.declared.verdict.Reason.{Reason}
 use Rattle.cm_stream.specs.declared.verdict.Reason.TheVariants as reason
-use Rattle.ck_commands.specs.Output.{Prints, Report, trouble_report, PrintsOrNoMemory}
+use Rattle.ck_commands.specs.Output.{Report, trouble_report}
 use Rattle.ck_commands.specs.declared.output.ExitStatus.{ExitStatus}
 use Rattle.ck_commands.specs.declared.output.ExitStatus.TheVariants as exit
 
@@ -85,35 +83,15 @@ verdict_report (GoodWith c success) = record { text = counts_text c; status = ex
 verdict_report (Found n f) = finding_report n f
 verdict_report (Failed t) = trouble_report t
 
--- the report of the answer for the first fault of these bytes was printed, or `trouble Memory`
-abbrev pub PrintsAnswer : (Answer → Report) → Settings → ℕ → (old new : Option (List ℕ))
-    → (bytes : List ℕ) → Type 0
-PrintsAnswer report settings code old new bytes =
-    (first : FirstFault) × IsFirstFault settings bytes first
-    × PrintsOrNoMemory (report (answer_for first)) code old new
-
--- ---- what is printed is right of the bytes of the stream
-
--- the report of an answer was printed that is an audit of these bytes, the last of which were left to come
-abbrev pub PrintsAudit : (Answer → Report) → Settings → ℕ → (old new : Option (List ℕ))
-    → (bytes rest : List ℕ) → Type 0
-PrintsAudit report settings code old new bytes rest =
-    (audited : Audited) × IsAuditOf settings (Ok audited) bytes rest
-    × Prints (report (answered (Ok audited))) code old new
+-- ---- what a status says of the bytes of the stream
 
 -- the counts of a good stream were printed
-abbrev pub PrintsGood : Settings → (old new : Option (List ℕ)) → (bytes : List ℕ) → Type 0
-PrintsGood settings old new bytes =
-    (counts : Counts) × IsGoodStream settings bytes counts × Appends old new (counts_text counts)
+abbrev pub PrintsGood : Settings → (before after : Output) → (bytes : List ℕ) → Type 0
+PrintsGood settings before after bytes =
+    (counts : Counts) × IsGoodStream settings bytes counts × Writes before after (counts_text counts)
 
 -- a fault was printed that no good stream begins with
-abbrev pub PrintsBad : Settings → (old new : Option (List ℕ)) → (bytes : List ℕ) → Type 0
-PrintsBad settings old new bytes =
+abbrev pub PrintsBad : Settings → (before after : Output) → (bytes : List ℕ) → Type 0
+PrintsBad settings before after bytes =
     (n : ℕ) × (b : StreamFault) × NoneIsGood settings bytes (Ok (verdict.Bad n b))
-    × Appends old new (finding_text n (IsBad (named b)))
-
--- a verdict was printed, and no more was read than it needs
-abbrev pub PrintsUpTo : ℕ → (old new : Option (List ℕ)) → (bytes rest : List ℕ) → Type 0
-PrintsUpTo code old new bytes rest =
-    (audited : Audited) × ReadsUpTo (Ok audited.verdict) bytes rest
-    × Prints (verdict_report (answered (Ok audited))) code old new
+    × Writes before after (finding_text n (IsBad (named b)))

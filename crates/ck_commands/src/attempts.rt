@@ -1,10 +1,11 @@
 //! The record of the attempts of a message stream, read line by line.
-ghost use Rattle.std.specs.Prelude.{◌≡◌, Err};
-ghost use Rattle.cm_envelope.specs.Device.{CountsFailure, OfReads, OfSource};
+ghost use Rattle.std.specs.Prelude.{◌≡◌, true, Err};
+ghost use Rattle.cm_envelope.specs.Device.{CountsFailure, OfInput, OfReads};
 ghost use Rattle.cm_envelope.specs.declared.feed.Trouble.TheVariants.{ReadFailed};
-ghost use Rattle.ck_commands.specs.Outcome.{after_line, outcome_of};
-ghost use Rattle.ck_commands.specs.Reading.{HasOutcome, LeavesTable, is_failed_read};
+ghost use Rattle.ck_commands.specs.Outcome.{after_line, outcome_of, outcome_report};
+ghost use Rattle.ck_commands.specs.Reading.{HasOutcome, LeavesTable, held_outcome, is_failed_read};
 ghost use Rattle.ck_commands.specs.Results.{ResultsShowNoFault};
+ghost use Rattle.ck_commands.specs.declared.output.ExitStatus.TheVariants.{Done};
 
 use cm_attempt::Track;
 use cm_audit::{Audited, Stop, audited_at, track};
@@ -37,12 +38,14 @@ pub(crate) fn read_attempts<S: ByteSource>(
     first_attempt: u64,
     source: &mut S,
 ) -> Result<Track, Result<Audited, Trouble>>
-    ensures outcome { OfSource (S.to_come source.old)
+    ensures outcome { OfInput (S.input source.old) (S.input source.new)
         (λ bytes. HasOutcome (outcome_of first_attempt bytes) result) }
-    ensures failures { CountsFailure (is_failed_read result) (S.failed_calls source.old)
-        (S.failed_calls source.new) }
+    ensures whole { (outcome_report (held_outcome result)).status ≡ Done
+        → (S.input source.new).is_over ≡ true }
+    ensures failures { CountsFailure (is_failed_read result) (S.input source.old).failed_calls
+        (S.input source.new).failed_calls }
     ensures no_fault { result ≡ Err (Err ReadFailed)
-        → OfReads (S.to_come source.old) (S.to_come source.new)
+        → OfReads (S.input source.old) (S.input source.new)
         (ResultsShowNoFault first_attempt) }
 {
     let mut feed = Feed::new(alloc);

@@ -1,15 +1,12 @@
 //! The command `audit`: the verdict on a stream.
-ghost use Rattle.std.specs.Prelude.{◌≡◌, ◌≢◌, IfOk, string_bytes};
-ghost use Rattle.cm_envelope.specs.Device.{OfReads, OfSource};
+ghost use Rattle.std.specs.Prelude.{◌≡◌, IfOk, string_bytes};
 ghost use Rattle.cm_envelope.specs.Reading.{fault_named, field};
 ghost use Rattle.cm_stream.specs.Findings.{IsBad, IsUnsupported, named};
 ghost use Rattle.cm_stream.specs.Stream.{answered};
-ghost use Rattle.cm_audit.specs.Audit.{ShowNoFault};
-ghost use Rattle.ck_commands.specs.Output.{NoneFailed, PrintsOrNoMemory, Undisturbed, code_of, trouble_report};
-ghost use Rattle.ck_commands.specs.Verdicts.{PrintsAnswer, PrintsAudit, PrintsBad, PrintsGood, PrintsUpTo, counts_text};
-ghost use Rattle.ck_commands.specs.Verdicts.{fault_label, finding_text};
-ghost use Rattle.ck_commands.specs.Verdicts.{line_label, plain_counts_text, reason_label, unrun_text};
-ghost use Rattle.ck_commands.specs.Verdicts.{verdict_report};
+ghost use Rattle.ck_command_line.specs.CommandLine.{ask_audit};
+ghost use Rattle.ck_commands.specs.Run.{Runs};
+ghost use Rattle.ck_commands.specs.Verdicts.{counts_text, fault_label, finding_text, line_label};
+ghost use Rattle.ck_commands.specs.Verdicts.{plain_counts_text, reason_label, unrun_text, verdict_report};
 
 use crate::output::{ExitStatus, Report, trouble_text, write_report};
 use cm_attempt::Settings;
@@ -182,30 +179,8 @@ pub(crate) fn print_audit<R: ByteSource, W: ByteSink>(
     source: &mut R,
     sink: &mut W,
 ) -> u8
-    ensures printed { Undisturbed (R.failed_calls source.old) (R.failed_calls source.new)
-        (W.failed_calls sink.old) (W.failed_calls sink.new)
-        → OfSource (R.to_come source.old) (PrintsAnswer
-        verdict_report settings result (W.taken sink.old) (W.taken sink.new)) }
-    ensures good { result ≡ code_of ExitStatus.Done → OfSource (R.to_come source.old)
-        (PrintsGood settings (W.taken sink.old) (W.taken sink.new)) }
-    ensures bad { result ≡ code_of ExitStatus.Refused → OfSource (R.to_come source.old)
-        (PrintsBad settings (W.taken sink.old) (W.taken sink.new)) }
-    ensures ahead { result ≢ code_of ExitStatus.Trouble
-        → OfReads (R.to_come source.old) (R.to_come source.new)
-        (PrintsUpTo result (W.taken sink.old) (W.taken sink.new)) }
-    ensures verdict { result ≢ code_of ExitStatus.Trouble
-        → OfReads (R.to_come source.old) (R.to_come source.new)
-        (PrintsAudit verdict_report settings result (W.taken sink.old) (W.taken sink.new)) }
-    ensures no_fault { R.failed_calls source.new ≢ R.failed_calls source.old
-        → OfReads (R.to_come source.old) (R.to_come source.new) (ShowNoFault settings) }
-    ensures unwritten { W.failed_calls sink.new ≢ W.failed_calls sink.old
-        → result ≡ code_of ExitStatus.Trouble }
-    ensures unread { result ≡ code_of ExitStatus.Done
-        → R.failed_calls source.new ≡ R.failed_calls source.old }
-    ensures read_failed { R.failed_calls source.new ≢ R.failed_calls source.old
-        → NoneFailed (W.failed_calls sink.old) (W.failed_calls sink.new)
-        → PrintsOrNoMemory (trouble_report Trouble.ReadFailed) result (W.taken sink.old)
-        (W.taken sink.new) }
+    ensures { Runs (ask_audit settings) result (R.input source.old) (R.input source.new)
+        (W.output sink.old) (W.output sink.new) }
 {
     let answer = audit_run(alloc, source, settings);
     write_report(sink, verdict_report(alloc, &answer))

@@ -1,16 +1,14 @@
 //! The command `cases`: the status, the place and the name of each test case of a good stream, and the pickles that no
 //! test case names.
-ghost use Rattle.std.specs.Prelude.{◌≡◌, ◌≢◌, ◌++◌, List, IfOk, map, string_bytes};
+ghost use Rattle.std.specs.Prelude.{◌≡◌, ◌++◌, List, IfOk, map, string_bytes};
 ghost use Rattle.std.specs.List.{flat_map};
 ghost use Rattle.cm_attempt.specs.Results.{result_view};
 ghost use Rattle.cm_cases.specs.Listed.{listing_of};
 ghost use Rattle.cm_cases.specs.Places.{unrun_text};
 ghost use Rattle.cm_envelope.specs.declared.envelope.Envelope.{Envelope};
-ghost use Rattle.cm_envelope.specs.Device.{OfReads, OfSource};
-ghost use Rattle.cm_audit.specs.Audit.{ShowNoFault};
-ghost use Rattle.ck_commands.specs.Cases.{IsCasesText, PrintsCases, PrintsListed, ReportsCases, case_text};
-ghost use Rattle.ck_commands.specs.Output.{NoneFailed, PrintsOrNoMemory, Undisturbed, code_of, trouble_report};
-ghost use Rattle.ck_commands.specs.Verdicts.{PrintsBad};
+ghost use Rattle.ck_command_line.specs.CommandLine.{ask_cases};
+ghost use Rattle.ck_commands.specs.Cases.{IsCasesText, ReportsCases, case_text};
+ghost use Rattle.ck_commands.specs.Run.{Runs};
 
 use crate::command_audit::verdict_report;
 use crate::output::{ExitStatus, Report, write_report};
@@ -78,24 +76,8 @@ pub(crate) fn print_cases<R: ByteSource, W: ByteSink>(
     source: &mut R,
     sink: &mut W,
 ) -> u8
-    ensures printed { Undisturbed (R.failed_calls source.old) (R.failed_calls source.new)
-        (W.failed_calls sink.old) (W.failed_calls sink.new)
-        → OfSource (R.to_come source.old)
-        (PrintsCases settings result (W.taken sink.old) (W.taken sink.new)) }
-    ensures good { result ≡ code_of ExitStatus.Done → OfSource (R.to_come source.old)
-        (PrintsListed settings (W.taken sink.old) (W.taken sink.new)) }
-    ensures bad { result ≡ code_of ExitStatus.Refused → OfSource (R.to_come source.old)
-        (PrintsBad settings (W.taken sink.old) (W.taken sink.new)) }
-    ensures no_fault { R.failed_calls source.new ≢ R.failed_calls source.old
-        → OfReads (R.to_come source.old) (R.to_come source.new) (ShowNoFault settings) }
-    ensures unwritten { W.failed_calls sink.new ≢ W.failed_calls sink.old
-        → result ≡ code_of ExitStatus.Trouble }
-    ensures unread { result ≡ code_of ExitStatus.Done
-        → R.failed_calls source.new ≡ R.failed_calls source.old }
-    ensures read_failed { R.failed_calls source.new ≢ R.failed_calls source.old
-        → NoneFailed (W.failed_calls sink.old) (W.failed_calls sink.new)
-        → PrintsOrNoMemory (trouble_report Trouble.ReadFailed) result (W.taken sink.old)
-        (W.taken sink.new) }
+    ensures { Runs (ask_cases settings) result (R.input source.old) (R.input source.new)
+        (W.output sink.old) (W.output sink.new) }
 {
     let answer = audit_cases(alloc, source, settings);
     let report = cases_report(alloc, &answer);

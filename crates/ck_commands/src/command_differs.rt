@@ -1,11 +1,8 @@
 //! The command `differs`: the verdict on a stream, and what differs from its sources at the line of the fault.
-ghost use Rattle.std.specs.Prelude.{◌≡◌, ◌≢◌, ◌++◌, IfOk, OnOk, string_bytes};
-ghost use Rattle.cm_envelope.specs.Device.{OfReads, OfSource};
-ghost use Rattle.cm_audit.specs.Audit.{ShowNoFault};
-ghost use Rattle.ck_commands.specs.Differs.{PrintsBadDifference, PrintsDifference, ReportsDifference, difference_lines};
-ghost use Rattle.ck_commands.specs.Differs.{difference_text, side_text};
-ghost use Rattle.ck_commands.specs.Output.{NoneFailed, PrintsOrNoMemory, Undisturbed, code_of, trouble_report};
-ghost use Rattle.ck_commands.specs.Verdicts.{PrintsGood};
+ghost use Rattle.std.specs.Prelude.{◌≡◌, ◌++◌, IfOk, OnOk, string_bytes};
+ghost use Rattle.ck_command_line.specs.CommandLine.{ask_differs};
+ghost use Rattle.ck_commands.specs.Differs.{ReportsDifference, difference_lines, difference_text, side_text};
+ghost use Rattle.ck_commands.specs.Run.{Runs};
 
 use crate::command_audit::verdict_report;
 use crate::output::{ExitStatus, Report, write_report};
@@ -79,24 +76,8 @@ pub(crate) fn print_differs<R: ByteSource, W: ByteSink>(
     source: &mut R,
     sink: &mut W,
 ) -> u8
-    ensures printed { Undisturbed (R.failed_calls source.old) (R.failed_calls source.new)
-        (W.failed_calls sink.old) (W.failed_calls sink.new)
-        → OfSource (R.to_come source.old)
-        (PrintsDifference settings result (W.taken sink.old) (W.taken sink.new)) }
-    ensures good { result ≡ code_of ExitStatus.Done → OfSource (R.to_come source.old)
-        (PrintsGood settings (W.taken sink.old) (W.taken sink.new)) }
-    ensures bad { result ≡ code_of ExitStatus.Refused → OfSource (R.to_come source.old)
-        (PrintsBadDifference settings (W.taken sink.old) (W.taken sink.new)) }
-    ensures no_fault { R.failed_calls source.new ≢ R.failed_calls source.old
-        → OfReads (R.to_come source.old) (R.to_come source.new) (ShowNoFault settings) }
-    ensures unwritten { W.failed_calls sink.new ≢ W.failed_calls sink.old
-        → result ≡ code_of ExitStatus.Trouble }
-    ensures unread { result ≡ code_of ExitStatus.Done
-        → R.failed_calls source.new ≡ R.failed_calls source.old }
-    ensures read_failed { R.failed_calls source.new ≢ R.failed_calls source.old
-        → NoneFailed (W.failed_calls sink.old) (W.failed_calls sink.new)
-        → PrintsOrNoMemory (trouble_report Trouble.ReadFailed) result (W.taken sink.old)
-        (W.taken sink.new) }
+    ensures { Runs (ask_differs settings) result (R.input source.old) (R.input source.new)
+        (W.output sink.old) (W.output sink.new) }
 {
     let answer = audit_differs(alloc, source, settings);
     let report = differs_report(alloc, &answer);

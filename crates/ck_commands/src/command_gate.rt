@@ -1,12 +1,10 @@
 //! The command `gate`: whether a run is to be released.
-ghost use Rattle.std.specs.Prelude.{◌≡◌, ◌≢◌, ◌++◌, IfOk, Some, string_bytes};
-ghost use Rattle.cm_envelope.specs.Device.{OfReads, OfSource};
+ghost use Rattle.std.specs.Prelude.{◌≡◌, ◌++◌, IfOk, Some, string_bytes};
 ghost use Rattle.cm_stream.specs.Release.{hold_of};
 ghost use Rattle.cm_stream.specs.Stream.{answered};
-ghost use Rattle.cm_audit.specs.Audit.{ShowNoFault};
-ghost use Rattle.ck_commands.specs.Gate.{PrintsReleased, gate_report, hold_in, hold_name, hold_text};
-ghost use Rattle.ck_commands.specs.Output.{NoneFailed, PrintsOrNoMemory, Undisturbed, code_of, trouble_report};
-ghost use Rattle.ck_commands.specs.Verdicts.{PrintsAnswer, PrintsAudit};
+ghost use Rattle.ck_command_line.specs.CommandLine.{ask_gate};
+ghost use Rattle.ck_commands.specs.Gate.{gate_report, hold_in, hold_name, hold_text};
+ghost use Rattle.ck_commands.specs.Run.{Runs};
 
 use crate::command_audit::verdict_report;
 use crate::output::{ExitStatus, Report, write_report};
@@ -93,25 +91,8 @@ pub(crate) fn print_gate<R: ByteSource, W: ByteSink>(
     source: &mut R,
     sink: &mut W,
 ) -> u8
-    ensures printed { Undisturbed (R.failed_calls source.old) (R.failed_calls source.new)
-        (W.failed_calls sink.old) (W.failed_calls sink.new)
-        → OfSource (R.to_come source.old) (PrintsAnswer
-        (gate_report allows_unrun) settings result (W.taken sink.old) (W.taken sink.new)) }
-    ensures released { result ≡ code_of ExitStatus.Done → OfSource (R.to_come source.old)
-        (PrintsReleased settings allows_unrun (W.taken sink.old) (W.taken sink.new)) }
-    ensures verdict { result ≢ code_of ExitStatus.Trouble
-        → OfReads (R.to_come source.old) (R.to_come source.new) (PrintsAudit
-        (gate_report allows_unrun) settings result (W.taken sink.old) (W.taken sink.new)) }
-    ensures no_fault { R.failed_calls source.new ≢ R.failed_calls source.old
-        → OfReads (R.to_come source.old) (R.to_come source.new) (ShowNoFault settings) }
-    ensures unwritten { W.failed_calls sink.new ≢ W.failed_calls sink.old
-        → result ≡ code_of ExitStatus.Trouble }
-    ensures unread { result ≡ code_of ExitStatus.Done
-        → R.failed_calls source.new ≡ R.failed_calls source.old }
-    ensures read_failed { R.failed_calls source.new ≢ R.failed_calls source.old
-        → NoneFailed (W.failed_calls sink.old) (W.failed_calls sink.new)
-        → PrintsOrNoMemory (trouble_report Trouble.ReadFailed) result (W.taken sink.old)
-        (W.taken sink.new) }
+    ensures { Runs (ask_gate settings allows_unrun) result (R.input source.old) (R.input source.new)
+        (W.output sink.old) (W.output sink.new) }
 {
     let answer = audit_run(alloc, source, settings);
     write_report(sink, gate_report(alloc, allows_unrun, &answer))

@@ -1,10 +1,10 @@
 //! The command `parse`: what a feature file has, or why it gives no document.
-ghost use Rattle.std.specs.Prelude.{◌≡◌, ◌≢◌, IfOk, string_bytes};
-ghost use Rattle.cm_envelope.specs.Device.{OfSource};
+ghost use Rattle.std.specs.Prelude.{◌≡◌, IfOk, string_bytes};
+ghost use Rattle.ck_command_line.specs.CommandLine.{ask_parse};
 ghost use Rattle.ck_commands.specs.Features.{document_text, fault_report, kind_label, parse_report};
 ghost use Rattle.ck_commands.specs.Features.{refused_text};
-ghost use Rattle.ck_commands.specs.Output.{NoneFailed, PrintsOrNoMemory, Undisturbed, code_of, trouble_report};
-ghost use Rattle.ck_commands.specs.Run.{PrintsFeature};
+ghost use Rattle.ck_commands.specs.Output.{DeliversOne};
+ghost use Rattle.ck_commands.specs.Run.{Runs};
 
 use crate::feature_input::{FeatureFault, read_document};
 use crate::output::{ExitStatus, Report, trouble_text, write_report};
@@ -85,11 +85,8 @@ fn parse_report(alloc: Global, read: &Result<Document, FeatureFault>) -> Result<
 
 /// Prints why a feature file gives no document, and gives the exit code.
 pub(crate) fn print_fault<W: ByteSink>(alloc: Global, fault: FeatureFault, sink: &mut W) -> u8
-    ensures printed { NoneFailed (W.failed_calls sink.old) (W.failed_calls sink.new)
-        → PrintsOrNoMemory (fault_report fault) result (W.taken sink.old) (W.taken sink.new) }
-    ensures unwritten { W.failed_calls sink.new ≢ W.failed_calls sink.old
-        → result ≡ code_of ExitStatus.Trouble }
-    ensures some { result ≢ code_of ExitStatus.Done }
+    ensures { DeliversOne (λ report. report ≡ fault_report fault) result (W.output sink.old)
+        (W.output sink.new) }
 {
     write_report(sink, fault_report(alloc, fault))
 }
@@ -100,18 +97,8 @@ pub(crate) fn print_feature<R: ByteSource, W: ByteSink>(
     source: &mut R,
     sink: &mut W,
 ) -> u8
-    ensures printed { Undisturbed (R.failed_calls source.old) (R.failed_calls source.new)
-        (W.failed_calls sink.old) (W.failed_calls sink.new)
-        → OfSource (R.to_come source.old) (λ bytes.
-        PrintsFeature bytes result (W.taken sink.old) (W.taken sink.new)) }
-    ensures unwritten { W.failed_calls sink.new ≢ W.failed_calls sink.old
-        → result ≡ code_of ExitStatus.Trouble }
-    ensures unread { result ≡ code_of ExitStatus.Done
-        → R.failed_calls source.new ≡ R.failed_calls source.old }
-    ensures read_failed { R.failed_calls source.new ≢ R.failed_calls source.old
-        → NoneFailed (W.failed_calls sink.old) (W.failed_calls sink.new)
-        → PrintsOrNoMemory (trouble_report Trouble.ReadFailed) result (W.taken sink.old)
-        (W.taken sink.new) }
+    ensures { Runs (ask_parse) result (R.input source.old) (R.input source.new)
+        (W.output sink.old) (W.output sink.new) }
 {
     let read = read_document(alloc, source);
     let report = parse_report(alloc, &read);

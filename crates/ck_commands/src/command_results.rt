@@ -1,11 +1,9 @@
 //! The command `results`: the status of each test case of a stream.
-ghost use Rattle.std.specs.Prelude.{◌≡◌, ◌≢◌, IfOk, string_bytes};
-ghost use Rattle.cm_envelope.specs.Device.{OfReads, OfSource};
-ghost use Rattle.cm_stream.specs.Results.{first_fault};
+ghost use Rattle.std.specs.Prelude.{◌≡◌, IfOk, string_bytes};
+ghost use Rattle.ck_command_line.specs.CommandLine.{ask_results};
 ghost use Rattle.ck_commands.specs.Outcome.{outcome_report, table_text};
-ghost use Rattle.ck_commands.specs.Output.{NoneFailed, PrintsOrNoMemory, Undisturbed, code_of, trouble_report};
 ghost use Rattle.ck_commands.specs.Reading.{held_outcome};
-ghost use Rattle.ck_commands.specs.Results.{ResultsShowNoFault, results_report};
+ghost use Rattle.ck_commands.specs.Run.{Runs};
 
 use crate::attempts::read_attempts;
 use crate::command_audit::verdict_report;
@@ -58,22 +56,8 @@ pub(crate) fn print_results<R: ByteSource, W: ByteSink>(
     source: &mut R,
     sink: &mut W,
 ) -> u8
-    ensures printed { Undisturbed (R.failed_calls source.old) (R.failed_calls source.new)
-        (W.failed_calls sink.old) (W.failed_calls sink.new)
-        → OfSource (R.to_come source.old) (λ bytes. PrintsOrNoMemory
-        (results_report (first_fault first_attempt bytes)) result (W.taken sink.old)
-        (W.taken sink.new)) }
-    ensures unwritten { W.failed_calls sink.new ≢ W.failed_calls sink.old
-        → result ≡ code_of ExitStatus.Trouble }
-    ensures unread { result ≡ code_of ExitStatus.Done
-        → R.failed_calls source.new ≡ R.failed_calls source.old }
-    ensures read_failed { R.failed_calls source.new ≢ R.failed_calls source.old
-        → NoneFailed (W.failed_calls sink.old) (W.failed_calls sink.new)
-        → PrintsOrNoMemory (trouble_report Trouble.ReadFailed) result (W.taken sink.old)
-        (W.taken sink.new) }
-    ensures no_fault { R.failed_calls source.new ≢ R.failed_calls source.old
-        → OfReads (R.to_come source.old) (R.to_come source.new)
-        (ResultsShowNoFault first_attempt) }
+    ensures { Runs (ask_results first_attempt) result (R.input source.old) (R.input source.new)
+        (W.output sink.old) (W.output sink.new) }
 {
     let read = read_attempts(alloc, first_attempt, source);
     let report = report_of(alloc, &read);

@@ -1,6 +1,6 @@
 //! The document of a feature file, read whole from a source.
-ghost use Rattle.std.specs.Prelude.{◌≡◌, false};
-ghost use Rattle.cm_envelope.specs.Device.{CountsFailure, OfSource};
+ghost use Rattle.std.specs.Prelude.{◌≡◌, ℕ, List, true, false, OnOk};
+ghost use Rattle.cm_envelope.specs.Device.{CountsFailure, Hears, OfInput};
 ghost use Rattle.ck_commands.specs.Features.{IsFeatureOf, is_failed_read};
 
 use crate::text_input::{TextFault, read_text};
@@ -64,9 +64,11 @@ pub(crate) fn read_document<R: ByteSource>(
     source: &mut R,
 ) -> Result<Document, FeatureFault>
     ensures feature { is_failed_read result ≡ false
-        → OfSource (R.to_come source.old) (λ bytes. IsFeatureOf bytes result) }
-    ensures failures { CountsFailure (is_failed_read result) (R.failed_calls source.old)
-        (R.failed_calls source.new) }
+        → OfInput (R.input source.old) (R.input source.new) (λ bytes. IsFeatureOf bytes result) }
+    ensures whole { OnOk result ((R.input source.new).is_over ≡ true) }
+    ensures heard { (read : List ℕ) × Hears (R.input source.old) (R.input source.new) read }
+    ensures failures { CountsFailure (is_failed_read result) (R.input source.old).failed_calls
+        (R.input source.new).failed_calls }
 {
     let text = read_text(alloc, source)?;
     let document = parse(alloc, text.as_str())?;

@@ -9,7 +9,7 @@
 //! ```
 //!
 //! `run` is the program with its words, a source in place of standard input, and a sink in place of standard output;
-//! `ExitStatus` has the codes that it gives. `read_text` reads a source as a text.
+//! `run_over` is the same over a reader and a writer of std, as the program calls it. `ExitStatus` has the codes that they give. `read_text` reads a source as a text.
 #![tactic(auto)]
 
 mod attempts;
@@ -23,9 +23,11 @@ mod command_results;
 mod commands;
 mod feature_input;
 mod output;
+mod standard;
 mod status_words;
 mod text_input;
 
 pub use commands::run;
 pub use output::ExitStatus;
+pub use standard::{Ended, run_over, shown_bytes_are_heard};
 pub use text_input::{TextFault, read_text};

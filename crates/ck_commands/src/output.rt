@@ -1,9 +1,7 @@
 //! What a command prints, and the status that it ends with.
-ghost use Rattle.std.specs.Prelude.{◌≡◌, ◌≢◌, ◌≤◌, ◌⊎◌, IfOk, string_bytes};
-ghost use Rattle.std.specs.Io.KnownBytes.{Appends};
-ghost use Rattle.cm_envelope.specs.Device.{greatest_count};
-ghost use Rattle.ck_commands.specs.Output.{NoneFailed, Prints, PrintsOrTrouble, code_of, report_made};
-ghost use Rattle.ck_commands.specs.Output.{trouble_name, trouble_report};
+ghost use Rattle.std.specs.Prelude.{◌≡◌, ◌≤◌, ◌++◌, ℕ, List, IfOk, string_bytes};
+ghost use Rattle.cm_envelope.specs.Device.{Writes, greatest_count};
+ghost use Rattle.ck_commands.specs.Output.{Delivers, code_of, report_made, trouble_name, trouble_report, write_failed_text};
 
 use cm_envelope::{ByteSink, DeviceFailed, Trouble, write_all};
 use std::alloc::{AllocError, Global};
@@ -71,8 +69,10 @@ pub(crate) fn trouble_text(alloc: Global, reason: Trouble) -> Result<String, All
 /// Tries to write `trouble WriteFailed`, as far as the sink takes it.
 pub(crate) fn write_trouble<W: ByteSink>(sink: &mut W) -> u8
     ensures status { result ≡ code_of ExitStatus.Trouble }
-    ensures counted { W.failed_calls sink.old ≤ greatest_count
-        → W.failed_calls sink.old ≤ W.failed_calls sink.new }
+    ensures front { (told : List ℕ) × (untold : List ℕ) × (write_failed_text ≡ told ++ untold)
+        × Writes (W.output sink.old) (W.output sink.new) told }
+    ensures counted { (W.output sink.old).failed_calls ≤ greatest_count
+        → (W.output sink.old).failed_calls ≤ (W.output sink.new).failed_calls }
 {
     if write_all(sink, b"trouble WriteFailed\n").is_ok() {
         let _ = sink.flush().is_ok();
@@ -83,13 +83,8 @@ pub(crate) fn write_trouble<W: ByteSink>(sink: &mut W) -> u8
 /// Writes the text and flushes it, and gives the status's code, or that of trouble where a write or the flush failed. After a
 /// failed write it tries to write `trouble WriteFailed`, as far as the sink takes it.
 pub(crate) fn write_text<W: ByteSink>(sink: &mut W, text: &str, status: ExitStatus) -> u8
-    ensures written { NoneFailed (W.failed_calls sink.old) (W.failed_calls sink.new)
-        → (result ≡ code_of status) × Appends (W.taken sink.old) (W.taken sink.new) text.now }
-    ensures failed { W.failed_calls sink.new ≢ W.failed_calls sink.old
-        → result ≡ code_of ExitStatus.Trouble }
-    ensures status { ((result ≡ code_of status)
-        × Appends (W.taken sink.old) (W.taken sink.new) text.now)
-        ⊎ (result ≡ code_of ExitStatus.Trouble) }
+    ensures { Delivers (record { text = text.now; status = status }) result (W.output sink.old)
+        (W.output sink.new) }
 {
     match write_all(sink, text.as_bytes()) {
         Ok(()) => match sink.flush() {
@@ -102,21 +97,15 @@ pub(crate) fn write_text<W: ByteSink>(sink: &mut W, text: &str, status: ExitStat
 
 /// Writes that there was no memory.
 pub(crate) fn write_no_memory<W: ByteSink>(sink: &mut W) -> u8
-    ensures written { NoneFailed (W.failed_calls sink.old) (W.failed_calls sink.new)
-        → Prints (trouble_report Trouble.Memory) result (W.taken sink.old) (W.taken sink.new) }
-    ensures status { result ≡ code_of ExitStatus.Trouble }
+    ensures { Delivers (trouble_report Trouble.Memory) result (W.output sink.old)
+        (W.output sink.new) }
 {
     write_text(sink, "trouble Memory\n", ExitStatus::Trouble)
 }
 
 /// Writes the report, or that there was no memory for one.
 pub(crate) fn write_report<W: ByteSink>(sink: &mut W, report: Result<Report, AllocError>) -> u8
-    ensures written { NoneFailed (W.failed_calls sink.old) (W.failed_calls sink.new)
-        → Prints (report_made report) result (W.taken sink.old) (W.taken sink.new) }
-    ensures failed { W.failed_calls sink.new ≢ W.failed_calls sink.old
-        → result ≡ code_of ExitStatus.Trouble }
-    ensures status { PrintsOrTrouble (report_made report) result (W.taken sink.old)
-        (W.taken sink.new) }
+    ensures { Delivers (report_made report) result (W.output sink.old) (W.output sink.new) }
 {
     match report {
         Ok(report) => write_text(sink, report.text.as_str(), report.status),

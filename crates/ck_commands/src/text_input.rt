@@ -1,7 +1,6 @@
 //! A text, read whole from a source.
-ghost use Rattle.std.specs.Prelude.{◌≡◌, ◌+◌, ◌≤◌, ℕ, List, [], length, string_bytes, IfOk, IfErr, OnOk};
-ghost use Rattle.std.specs.Io.KnownBytes.{Consumes};
-ghost use Rattle.cm_envelope.specs.Device.{AreToCome, CountsFailure, OfSource};
+ghost use Rattle.std.specs.Prelude.{◌≡◌, ◌+◌, ◌≤◌, ℕ, List, [], true, length, string_bytes, IfOk, IfErr, OnOk};
+ghost use Rattle.cm_envelope.specs.Device.{CountsFailure, Hears, OfInput, OfWhole};
 ghost use Rattle.ck_commands.specs.TextInput.{HasBytesFault, HasTextFault, IsTextOf, is_failed_read};
 
 use cm_envelope::{ByteSource, DeviceFailed};
@@ -60,14 +59,15 @@ fn gather<R: ByteSource>(
 ) -> Result<(), TextFault>
     requires room { length piece.old ≡ PIECE }
     requires none { bytes.old.items ≡ [] }
-    ensures few { (read : List ℕ) × Consumes (R.to_come source.old) (R.to_come source.new) read
+    ensures few { (read : List ℕ) × Hears (R.input source.old) (R.input source.new) read
         × (length read ≤ TEXT_LIMIT + PIECE) }
     ensures ok { OnOk result ((length bytes.new.items ≤ TEXT_LIMIT)
-        × AreToCome (R.to_come source.old) bytes.new.items) }
-    ensures err { IfErr result (λ fault. OfSource (R.to_come source.old)
+        × Hears (R.input source.old) (R.input source.new) bytes.new.items
+        × ((R.input source.new).is_over ≡ true)) }
+    ensures err { IfErr result (λ fault. OfInput (R.input source.old) (R.input source.new)
         (λ all. HasBytesFault all fault)) }
-    ensures failures { CountsFailure (is_failed_read result) (R.failed_calls source.old)
-        (R.failed_calls source.new) }
+    ensures failures { CountsFailure (is_failed_read result) (R.input source.old).failed_calls
+        (R.input source.new).failed_calls }
 {
     'pieces: while bytes.len() <= TEXT_LIMIT {
         bytes.reserve(PIECE)?;
@@ -82,14 +82,15 @@ fn gather<R: ByteSource>(
 
 // All bytes of the source, at most the limit.
 fn read_bytes<R: ByteSource>(alloc: Global, source: &mut R) -> Result<Vec<u8>, TextFault>
-    ensures few { (read : List ℕ) × Consumes (R.to_come source.old) (R.to_come source.new) read
+    ensures few { (read : List ℕ) × Hears (R.input source.old) (R.input source.new) read
         × (length read ≤ TEXT_LIMIT + PIECE) }
     ensures ok { IfOk result (λ bytes. (length bytes.items ≤ TEXT_LIMIT)
-        × AreToCome (R.to_come source.old) bytes.items) }
-    ensures err { IfErr result (λ fault. OfSource (R.to_come source.old)
+        × Hears (R.input source.old) (R.input source.new) bytes.items
+        × ((R.input source.new).is_over ≡ true)) }
+    ensures err { IfErr result (λ fault. OfInput (R.input source.old) (R.input source.new)
         (λ all. HasBytesFault all fault)) }
-    ensures failures { CountsFailure (is_failed_read result) (R.failed_calls source.old)
-        (R.failed_calls source.new) }
+    ensures failures { CountsFailure (is_failed_read result) (R.input source.old).failed_calls
+        (R.input source.new).failed_calls }
 {
     let mut piece = Vec::new(alloc);
     piece.resize(PIECE, 0)?;
@@ -104,14 +105,14 @@ fn read_bytes<R: ByteSource>(alloc: Global, source: &mut R) -> Result<Vec<u8>, T
 /// # Errors
 /// A read failed; or there are more than 16,777,216 bytes, else they aren't UTF-8; or memory was refused.
 pub fn read_text<R: ByteSource>(alloc: Global, source: &mut R) -> Result<String, TextFault>
-    ensures ok { IfOk result (λ text. OfSource (R.to_come source.old)
+    ensures ok { IfOk result (λ text. OfWhole (R.input source.old) (R.input source.new)
         (λ bytes. IsTextOf bytes (string_bytes text))) }
-    ensures fault { IfErr result (λ fault. OfSource (R.to_come source.old)
+    ensures fault { IfErr result (λ fault. OfInput (R.input source.old) (R.input source.new)
         (λ bytes. HasTextFault bytes fault)) }
-    ensures few { (read : List ℕ) × Consumes (R.to_come source.old) (R.to_come source.new) read
+    ensures few { (read : List ℕ) × Hears (R.input source.old) (R.input source.new) read
         × (length read ≤ TEXT_LIMIT + PIECE) }
-    ensures failures { CountsFailure (is_failed_read result) (R.failed_calls source.old)
-        (R.failed_calls source.new) }
+    ensures failures { CountsFailure (is_failed_read result) (R.input source.old).failed_calls
+        (R.input source.new).failed_calls }
 {
     let bytes = read_bytes(alloc, source)?;
     match String::from_utf8(bytes) {

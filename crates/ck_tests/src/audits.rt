@@ -1,6 +1,7 @@
 //! Verdicts on streams.
-use crate::devices::{expect_told, whole};
 use crate::lines::expect_rows;
+use crate::running::expect_told;
+use devices::Pieces;
 use std::test::Fail;
 
 const SOURCES: &str =
@@ -107,6 +108,6 @@ fn lines_that_are_no_envelopes(rt: HostRuntime) -> Result<(), Fail> {
     expect_rows(&rt, rt.alloc(), &["audit"], LINES)?;
     expect_rows(&rt, rt.alloc(), &["results"], LINES)?;
     let told = "bad line 1: 1 NotJson\n";
-    expect_told(&rt, rt.alloc(), "audit", whole(b"\xff\n"), told, 1);
+    expect_told(&rt, rt.alloc(), "audit", Pieces::whole(b"\xff\n"), told, 1);
     Ok(())
 }

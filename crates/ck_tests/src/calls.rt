@@ -1,9 +1,9 @@
 //! What the commands use, called by itself: the audit of a stream, and the text of a source.
-use crate::devices::{Endless, Source, whole};
 use crate::lines::{RETRIED, stream_of};
 use ck_commands::{TextFault, read_text};
 use cm_audit::{Counts, Reason, StreamFault, Verdict, audit};
 use cm_envelope::{ByteSource, LineFault, Trouble};
+use devices::{Endless, Pieces};
 use std::alloc::Global;
 use std::process::Abort;
 use std::test::Fail;
@@ -15,7 +15,7 @@ fn expect_verdict(
     wanted: Verdict,
 ) -> Result<(), Fail> {
     let stream = stream_of(alloc, words)?;
-    let found = audit(alloc, &mut whole(stream.as_bytes()));
+    let found = audit(alloc, &mut Pieces::whole(stream.as_bytes()));
     assert!(rt; found == Ok(wanted), "{words}");
     Ok(())
 }
@@ -62,10 +62,7 @@ fn other_streams_have_a_line_and_why(rt: HostRuntime) -> Result<(), Fail> {
 
 #[test]
 fn a_failed_read_of_a_stream(rt: HostRuntime) {
-    let mut source = Source {
-        fails: true,
-        ..whole(b"")
-    };
+    let mut source = Pieces::whole(b"").failing_at_end();
     assert!(rt; audit(rt.alloc(), &mut source) == Err(Trouble::ReadFailed));
 }
 
@@ -86,27 +83,17 @@ fn expect_text<S: ByteSource>(
 #[test]
 fn the_text_of_a_source(rt: HostRuntime) {
     let text = "Feature: é\n";
-    let mut source = Source {
-        most: 3,
-        ..whole(text.as_bytes())
-    };
+    let mut source = Pieces::new(text.as_bytes(), 3);
     expect_text(&rt, rt.alloc(), &mut source, Ok(text));
-    expect_text(&rt, rt.alloc(), &mut whole(b""), Ok(""));
+    expect_text(&rt, rt.alloc(), &mut Pieces::whole(b""), Ok(""));
 }
 
 #[test]
 fn sources_without_a_text(rt: HostRuntime) {
-    let mut endless = Endless {
-        byte: b' ',
-        ends_lines: false,
-        calls: 0,
-    };
+    let mut endless = Endless::new(b' ');
     expect_text(&rt, rt.alloc(), &mut endless, Err(TextFault::TooLong));
-    let mut other = whole(b"\xff");
+    let mut other = Pieces::whole(b"\xff");
     expect_text(&rt, rt.alloc(), &mut other, Err(TextFault::NotUtf8));
-    let mut failing = Source {
-        fails: true,
-        ..whole(b"Feature: f")
-    };
+    let mut failing = Pieces::whole(b"Feature: f").failing_at_end();
     expect_text(&rt, rt.alloc(), &mut failing, Err(TextFault::ReadFailed));
 }

@@ -1,6 +1,7 @@
 //! The lines of the cases of good streams, and of the pickles that no case names.
-use crate::devices::{expect_told, expect_words, whole};
 use crate::lines::expect_rows;
+use crate::running::{expect_told, expect_words};
+use devices::Pieces;
 use std::test::Fail;
 
 const CASES: &str =
@@ -23,7 +24,14 @@ const EMPTY: &str = "{\"testRunStarted\":{}}\n{\"testRunFinished\":{\"success\":
 #[test]
 fn cases_and_pickles_without_one(rt: HostRuntime) -> Result<(), Fail> {
     expect_rows(&rt, rt.alloc(), &["cases"], CASES)?;
-    expect_told(&rt, rt.alloc(), "cases", whole(EMPTY.as_bytes()), "", 0);
+    expect_told(
+        &rt,
+        rt.alloc(),
+        "cases",
+        Pieces::whole(EMPTY.as_bytes()),
+        "",
+        0,
+    );
     Ok(())
 }
 
@@ -79,7 +87,14 @@ UNRUN a\\nb\\\\c\\u2028.feature:16 in a rule
 
 #[test]
 fn texts_that_could_hide_a_line(rt: HostRuntime) -> Result<(), Fail> {
-    expect_told(&rt, rt.alloc(), "cases", whole(HIDDEN.as_bytes()), SHOWN, 0);
+    expect_told(
+        &rt,
+        rt.alloc(),
+        "cases",
+        Pieces::whole(HIDDEN.as_bytes()),
+        SHOWN,
+        0,
+    );
     Ok(())
 }
 
@@ -127,7 +142,7 @@ PASSED features/first.feature:3 one
 UNRUN features/first.feature:6 left out by a tag
 ";
     let words = ["cases", "--attempts-from", "1"];
-    let source = whole(TWO_FEATURES.as_bytes());
+    let source = Pieces::whole(TWO_FEATURES.as_bytes());
     expect_words(&rt, rt.alloc(), &words, source, text, 0);
     Ok(())
 }

@@ -1,6 +1,7 @@
 //! Feature files by the command `compile`.
-use crate::devices::{Sink, Source, expect_run, taking, whole};
+use crate::running::expect_run;
 use ck_commands::run;
+use devices::{FailedWrite, Failing, Pieces, Store};
 use std::alloc::Global;
 use std::process::Abort;
 use std::test::Fail;
@@ -10,9 +11,9 @@ const NO_LINES: &str =
 {"gherkinDocument":{"comments":[],"uri":"e.feature"}}
 "#;
 
-const TEXT: &str = "Feature: f\n\n  Scenario: s\n    Given a\n";
+pub(crate) const TEXT: &str = "Feature: f\n\n  Scenario: s\n    Given a\n";
 
-const LINES: &str =
+pub(crate) const LINES: &str =
     r#"{"source":{"data":"Feature: f\n\n  Scenario: s\n    Given a\n","mediaType":"text/x.cucumber.gherkin+plain","uri":"a.feature"}}
 {"gherkinDocument":{"comments":[],"feature":{"children":[{"scenario":{"description":"","examples":[],"id":"0","keyword":"Scenario","location":{"column":3,"line":3},"name":"s","steps":[{"id":"1","keyword":"Given ","keywordType":"Context","location":{"column":5,"line":4},"text":"a"}],"tags":[]}}],"description":"","keyword":"Feature","language":"en","location":{"column":1,"line":1},"name":"f","tags":[]},"uri":"a.feature"}}
 {"pickle":{"astNodeIds":["0"],"id":"3","language":"en","name":"s","steps":[{"astNodeIds":["1"],"id":"2","text":"a","type":"Context"}],"tags":[],"uri":"a.feature"}}
@@ -26,8 +27,8 @@ fn expect_lines(
     told: &str,
     status: u8,
 ) {
-    let mut source = whole(text.as_bytes());
-    let mut sink = taking(alloc, 7);
+    let mut source = Pieces::whole(text.as_bytes());
+    let mut sink = Store::new(alloc, 7);
     expect_run(rt, alloc, words, &mut source, &mut sink, told, status);
 }
 
@@ -68,11 +69,8 @@ fn nothing_else_of_a_refused_text(rt: HostRuntime) {
 
 #[test]
 fn a_read_that_fails_before_any_line(rt: HostRuntime) {
-    let mut source = Source {
-        fails: true,
-        ..whole(b"Feature: f\n  Scenari")
-    };
-    let mut sink = taking(rt.alloc(), 7);
+    let mut source = Pieces::whole(b"Feature: f\n  Scenari").failing_at_end();
+    let mut sink = Store::new(rt.alloc(), 7);
     let words = ["compile", "--uri", "u"];
     let told = "trouble ReadFailed\n";
     expect_run(&rt, rt.alloc(), &words, &mut source, &mut sink, told, 3);
@@ -80,17 +78,15 @@ fn a_read_that_fails_before_any_line(rt: HostRuntime) {
 
 #[test]
 fn a_write_that_fails_after_100_bytes(rt: HostRuntime) {
-    for takes_none in [false, true] {
-        let mut source = whole(TEXT.as_bytes());
-        let mut sink = Sink {
-            fails_at: 2,
-            takes_none,
-            ..taking(rt.alloc(), 100)
-        };
+    for failed in [FailedWrite::Refuses, FailedWrite::TakesNone] {
+        let mut source = Pieces::whole(TEXT.as_bytes());
+        let mut sink = Store::new(rt.alloc(), 100)
+            .failing_writes(Failing::Once(2))
+            .failing_by(failed);
         let words = ["compile", "--uri", "a.feature"];
         assert_eq!(rt; run(rt.alloc(), &words, &mut source, &mut sink), 3);
-        assert_eq!(rt; sink.failed_calls, 1);
-        let taken = sink.taken.as_slice();
+        assert_eq!(rt; sink.failed_calls(), 1);
+        let taken = sink.bytes();
         assert!(rt; taken.starts_with(&LINES.as_bytes()[..100]));
         assert!(rt; taken.ends_with(b"trouble WriteFailed\n"));
         assert_eq!(rt; taken.len(), 120);
@@ -99,11 +95,8 @@ fn a_write_that_fails_after_100_bytes(rt: HostRuntime) {
 
 #[test]
 fn lines_whose_flush_fails(rt: HostRuntime) {
-    let mut source = whole(TEXT.as_bytes());
-    let mut sink = Sink {
-        flush_fails: true,
-        ..taking(rt.alloc(), 7)
-    };
+    let mut source = Pieces::whole(TEXT.as_bytes());
+    let mut sink = Store::new(rt.alloc(), 7).failing_flushes(Failing::EverSince(1));
     let words = ["compile", "--uri", "a.feature"];
     expect_run(&rt, rt.alloc(), &words, &mut source, &mut sink, LINES, 3);
 }

@@ -1,7 +1,8 @@
 //! What differs from what the sources compile to, on both sides.
 use crate::cases::{HIDDEN, TWO_FEATURES};
-use crate::devices::{expect_told, expect_words, whole};
 use crate::lines::expect_rows;
+use crate::running::{expect_told, expect_words};
+use devices::Pieces;
 use std::alloc::Global;
 use std::process::Abort;
 use std::test::Fail;
@@ -75,7 +76,7 @@ fn expect_difference(
         rt,
         alloc,
         "differs",
-        whole(stream.as_bytes()),
+        Pieces::whole(stream.as_bytes()),
         text.as_str(),
         1,
     );
@@ -312,7 +313,7 @@ fn a_uri_that_could_hide_a_line(rt: HostRuntime) -> Result<(), Fail> {
         &rt,
         rt.alloc(),
         "differs",
-        whole(stream.as_bytes()),
+        Pieces::whole(stream.as_bytes()),
         HIDDEN_TOLD,
         1,
     );
@@ -334,7 +335,7 @@ found nothing
 fn a_real_stream_without_a_pickle(rt: HostRuntime) -> Result<(), Fail> {
     let stream = TWO_FEATURES.replace(rt.alloc(), LEFT_OUT, "")?;
     let words = ["differs", "--attempts-from", "1"];
-    let source = whole(stream.as_bytes());
+    let source = Pieces::whole(stream.as_bytes());
     expect_words(&rt, rt.alloc(), &words, source, LEFT_OUT_TOLD, 1);
     Ok(())
 }

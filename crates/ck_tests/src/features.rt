@@ -1,7 +1,8 @@
 //! Feature files by the command `parse`.
-use crate::devices::{Endless, Sink, expect_told, taking, whole};
 use crate::lines::repeated;
+use crate::running::expect_told;
 use ck_commands::run;
+use devices::{Endless, Failing, Pieces, Store};
 use std::alloc::Global;
 use std::process::Abort;
 use std::test::Fail;
@@ -15,7 +16,14 @@ fn expect_parse(
     status: u8,
 ) -> Result<(), Fail> {
     let line = format!(in alloc; "{told}\n")?;
-    expect_told(rt, alloc, "parse", whole(bytes), line.as_str(), status);
+    expect_told(
+        rt,
+        alloc,
+        "parse",
+        Pieces::whole(bytes),
+        line.as_str(),
+        status,
+    );
     Ok(())
 }
 
@@ -55,13 +63,10 @@ fn bytes_that_are_no_text(rt: HostRuntime) -> Result<(), Fail> {
 
 #[test]
 fn a_told_text_whose_flush_fails(rt: HostRuntime) {
-    let mut source = whole(b"Feature: f");
-    let mut sink = Sink {
-        flush_fails: true,
-        ..taking(rt.alloc(), 3)
-    };
+    let mut source = Pieces::whole(b"Feature: f");
+    let mut sink = Store::new(rt.alloc(), 3).failing_flushes(Failing::EverSince(1));
     assert_eq!(rt; run(rt.alloc(), &["parse"], &mut source, &mut sink), 3);
-    assert_eq!(rt; sink.failed_calls, 1);
+    assert_eq!(rt; sink.failed_calls(), 1);
 }
 
 // A text at a limit, and the same with one byte more.
@@ -88,13 +93,9 @@ fn texts_at_the_limit_of_lines(rt: HostRuntime) -> Result<(), Fail> {
 // The text is refused once 65,536 bytes beyond the limit were read.
 #[test]
 fn a_text_without_end(rt: HostRuntime) {
-    let mut source = Endless {
-        byte: b'\xff',
-        ends_lines: false,
-        calls: 0,
-    };
-    let mut sink = taking(rt.alloc(), 7);
+    let mut source = Endless::new(b'\xff');
+    let mut sink = Store::new(rt.alloc(), 7);
     assert_eq!(rt; run(rt.alloc(), &["parse"], &mut source, &mut sink), 1);
-    assert_eq!(rt; sink.taken.as_slice(), "refused 0:0 6 TooLong\n".as_bytes());
-    assert_eq!(rt; source.calls, 257);
+    assert_eq!(rt; sink.bytes(), "refused 0:0 6 TooLong\n".as_bytes());
+    assert_eq!(rt; source.reads(), 257);
 }

@@ -1,6 +1,7 @@
 //! Verdicts on streams that are cut, that come in other ways, or that are long.
-use crate::devices::{Source, expect_told, whole};
 use crate::lines::{RETRIED, repeated, stream_of};
+use crate::running::expect_told;
+use devices::Pieces;
 use std::alloc::Global;
 use std::process::Abort;
 use std::test::Fail;
@@ -44,7 +45,14 @@ fn expect_front(
     let told = told_of_front(alloc, front.lines, front.is_at_start, is_whole)?;
     let is_good = !front.is_at_start && is_whole && front.lines == 13;
     let status = if is_good { 0 } else { 1 };
-    expect_told(rt, alloc, "audit", whole(bytes), told.as_str(), status);
+    expect_told(
+        rt,
+        alloc,
+        "audit",
+        Pieces::whole(bytes),
+        told.as_str(),
+        status,
+    );
     Ok(())
 }
 
@@ -73,11 +81,7 @@ fn fronts_of_a_good_stream(rt: HostRuntime) -> Result<(), Fail> {
 // The read after these bytes fails: in single bytes, and after all of them at once.
 fn expect_failed(rt: &impl Abort, alloc: Global, bytes: &[u8]) {
     for most in [1, usize::MAX] {
-        let source = Source {
-            most,
-            fails: true,
-            ..whole(bytes)
-        };
+        let source = Pieces::new(bytes, most).failing_at_end();
         expect_told(rt, alloc, "audit", source, "trouble ReadFailed\n", 3);
     }
 }
@@ -97,10 +101,7 @@ fn a_read_that_fails_after_each_byte(rt: HostRuntime) -> Result<(), Fail> {
 fn a_good_stream_in_pieces(rt: HostRuntime) -> Result<(), Fail> {
     let stream = stream_of(rt.alloc(), RETRIED)?;
     for most in [1, 3] {
-        let source = Source {
-            most,
-            ..whole(stream.as_bytes())
-        };
+        let source = Pieces::new(stream.as_bytes(), most);
         let told = "good sources=1 pickles=1 cases=1 attempts=2\n";
         expect_told(&rt, rt.alloc(), "audit", source, told, 0);
     }
@@ -113,7 +114,14 @@ fn lines_that_end_in_two_characters(rt: HostRuntime) -> Result<(), Fail> {
     let stream = stream_of(alloc, RETRIED)?;
     let other = stream.as_str().replace(alloc, "\n", "\r\n")?;
     let told = "good sources=1 pickles=1 cases=1 attempts=2\n";
-    expect_told(&rt, alloc, "audit", whole(other.as_bytes()), told, 0);
+    expect_told(
+        &rt,
+        alloc,
+        "audit",
+        Pieces::whole(other.as_bytes()),
+        told,
+        0,
+    );
     Ok(())
 }
 
@@ -142,7 +150,14 @@ fn a_thousand_cases(rt: HostRuntime) -> Result<(), Fail> {
     let mut stream = String::new(rt.alloc());
     push_cases(&mut stream, rt.alloc())?;
     let told = "good sources=1 pickles=1 cases=1000 attempts=1000\n";
-    expect_told(&rt, rt.alloc(), "audit", whole(stream.as_bytes()), told, 0);
+    expect_told(
+        &rt,
+        rt.alloc(),
+        "audit",
+        Pieces::whole(stream.as_bytes()),
+        told,
+        0,
+    );
     Ok(())
 }
 
@@ -154,7 +169,7 @@ fn expect_too_long(rt: &impl Abort, alloc: Global, unit: &str, times: u32) -> Re
         "\",\"mediaType\":\"text/x.cucumber.gherkin+plain\",\"uri\":\"l.feature\"}}\n[]\n",
     )?;
     let told = "unsupported line 1: 5 SourceTooLong\n";
-    expect_told(rt, alloc, "audit", whole(line.as_bytes()), told, 4);
+    expect_told(rt, alloc, "audit", Pieces::whole(line.as_bytes()), told, 4);
     Ok(())
 }
 

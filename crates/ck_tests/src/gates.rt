@@ -1,6 +1,7 @@
 //! Which runs the gate releases, and streams whose attempts are numbered from 1.
-use crate::devices::{Sink, Source, expect_run, expect_words, taking, whole};
 use crate::lines::{expect_rows, stream_of};
+use crate::running::{expect_run, expect_words};
+use devices::{FailedWrite, Failing, Pieces, Store};
 use std::alloc::Global;
 use std::process::Abort;
 use std::test::Fail;
@@ -123,10 +124,7 @@ const EMPTY: &str = "good sources=0 pickles=0 cases=0 attempts=0\n";
 #[test]
 fn a_gate_whose_read_fails(rt: HostRuntime) -> Result<(), Fail> {
     let stream = stream_of(rt.alloc(), "run well")?;
-    let source = Source {
-        fails: true,
-        ..whole(stream.as_bytes())
-    };
+    let source = Pieces::whole(stream.as_bytes()).failing_at_end();
     expect_words(
         &rt,
         rt.alloc(),
@@ -139,37 +137,30 @@ fn a_gate_whose_read_fails(rt: HostRuntime) -> Result<(), Fail> {
 }
 
 // A run of the gate over an empty run, whose answer has status 5 where the sink takes it.
-fn expect_failure(rt: &impl Abort, alloc: Global, sink: Sink, text: &str) -> Result<(), Fail> {
+fn expect_failure(rt: &impl Abort, alloc: Global, sink: Store, text: &str) -> Result<(), Fail> {
     let stream = stream_of(alloc, "run well")?;
-    let mut source = whole(stream.as_bytes());
+    let mut source = Pieces::whole(stream.as_bytes());
     let mut sink = sink;
     expect_run(rt, alloc, &["gate"], &mut source, &mut sink, text, 3);
-    assert_eq!(rt; sink.failed_calls, 1);
+    assert_eq!(rt; sink.failed_calls(), 1);
     Ok(())
 }
 
 #[test]
 fn a_gate_whose_write_or_flush_fails(rt: HostRuntime) -> Result<(), Fail> {
     let alloc = rt.alloc();
-    for takes_none in [false, true] {
-        let sink = Sink {
-            fails_at: 1,
-            takes_none,
-            ..taking(alloc, EMPTY.len())
-        };
+    for failed in [FailedWrite::Refuses, FailedWrite::TakesNone] {
+        let sink = Store::new(alloc, EMPTY.len())
+            .failing_writes(Failing::Once(1))
+            .failing_by(failed);
         expect_failure(&rt, alloc, sink, "trouble WriteFailed\n")?;
-        let sink = Sink {
-            fails_at: 2,
-            takes_none,
-            ..taking(alloc, EMPTY.len())
-        };
+        let sink = Store::new(alloc, EMPTY.len())
+            .failing_writes(Failing::Once(2))
+            .failing_by(failed);
         let text = format!(in alloc; "{EMPTY}trouble WriteFailed\n")?;
         expect_failure(&rt, alloc, sink, text.as_str())?;
     }
-    let sink = Sink {
-        flush_fails: true,
-        ..taking(alloc, 7)
-    };
+    let sink = Store::new(alloc, 7).failing_flushes(Failing::EverSince(1));
     let text = format!(in alloc; "{EMPTY}stop Empty\n")?;
     expect_failure(&rt, alloc, sink, text.as_str())
 }

@@ -10,9 +10,9 @@ mod cases;
 #[cfg(test)]
 mod compiled;
 #[cfg(test)]
-mod devices;
-#[cfg(test)]
 mod differs;
+#[cfg(test)]
+mod failures;
 #[cfg(test)]
 mod features;
 #[cfg(test)]
@@ -27,6 +27,8 @@ mod lines;
 mod producers;
 #[cfg(test)]
 mod retries;
+#[cfg(test)]
+mod running;
 #[cfg(test)]
 mod runs;
 #[cfg(test)]

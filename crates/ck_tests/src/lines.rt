@@ -1,7 +1,8 @@
 //! Streams as words. A word means a line: `case:C:T` for a test case with the step T (or two, as `T+U`), `start:A:C:N` for
 //! attempt A of case C with the number N, `step:A:T` and `end:A:T:STATUS` for its steps, `done:A:false` for its end, `brackets:N` for N
 //! of `[` and as many of `]`, a name for its line of `NAMED_LINES`, and `-` for a line that isn't judged.
-use crate::devices::{expect_words, whole};
+use crate::running::expect_words;
+use devices::Pieces;
 use std::alloc::Global;
 use std::process::Abort;
 use std::test::Fail;
@@ -173,7 +174,14 @@ fn expect_stream(
     status: u8,
 ) -> Result<(), Fail> {
     let stream = stream_of(alloc, lines)?;
-    expect_words(rt, alloc, words, whole(stream.as_bytes()), text, status);
+    expect_words(
+        rt,
+        alloc,
+        words,
+        Pieces::whole(stream.as_bytes()),
+        text,
+        status,
+    );
     Ok(())
 }
 

@@ -1,6 +1,7 @@
 //! A whole stream as the producers of messages write it: with their order of members and of ids, and with members and envelopes that
 //! aren't judged. It is laid out as the sample on retries of Cucumber's compatibility kit, and was written down for this test.
-use crate::devices::{expect_told, whole};
+use crate::running::expect_told;
+use devices::Pieces;
 use std::test::Fail;
 
 const STREAM: &str =
@@ -41,14 +42,35 @@ const STREAM: &str =
 fn a_stream_of_a_producer(rt: HostRuntime) -> Result<(), Fail> {
     let alloc = rt.alloc();
     let told = "good sources=1 pickles=2 cases=2 attempts=3\n";
-    expect_told(&rt, alloc, "audit", whole(STREAM.as_bytes()), told, 0);
+    expect_told(
+        &rt,
+        alloc,
+        "audit",
+        Pieces::whole(STREAM.as_bytes()),
+        told,
+        0,
+    );
     let table = "14 PASSED\n17 PASSED\n";
-    expect_told(&rt, alloc, "results", whole(STREAM.as_bytes()), table, 0);
+    expect_told(
+        &rt,
+        alloc,
+        "results",
+        Pieces::whole(STREAM.as_bytes()),
+        table,
+        0,
+    );
     let from_one = STREAM
         .replace(alloc, "\"attempt\":1", "\"attempt\":2")?
         .as_str()
         .replace(alloc, "\"attempt\":0", "\"attempt\":1")?;
     let told = "bad line 12: 12 AttemptNumber\n";
-    expect_told(&rt, alloc, "audit", whole(from_one.as_bytes()), told, 1);
+    expect_told(
+        &rt,
+        alloc,
+        "audit",
+        Pieces::whole(from_one.as_bytes()),
+        told,
+        1,
+    );
     Ok(())
 }

@@ -1,6 +1,6 @@
 //! Results of streams of attempts, and their faults, which `audit` reports too.
-use crate::devices::expect_results;
 use crate::lines::{expect_rows, stream_of};
+use crate::running::expect_results;
 use std::alloc::Global;
 use std::process::Abort;
 use std::test::Fail;

@@ -1,6 +1,7 @@
 //! Runs of `results`, and of other commands over devices that fail.
-use crate::devices::{Sink, Source, expect_results, expect_run, taking, whole};
 use crate::lines::{RETRIED, stream_of};
+use crate::running::{expect_results, expect_run};
+use devices::{FailedWrite, Failing, Pieces, Store};
 use std::alloc::{AllocError, Global};
 use std::process::Abort;
 use std::test::Fail;
@@ -192,27 +193,22 @@ fn a_read_that_fails_after_20_bytes(rt: HostRuntime) -> Result<(), Fail> {
     let bytes = stream.as_bytes();
     assert!(rt; bytes.len() >= 20);
     for word in ["audit", "parse", "results"] {
-        let mut source = Source {
-            fails: true,
-            ..whole(&bytes[..20])
-        };
-        let mut sink = taking(rt.alloc(), 7);
+        let mut source = Pieces::whole(&bytes[..20]).failing_at_end();
+        let mut sink = Store::new(rt.alloc(), 7);
         let told = "trouble ReadFailed\n";
         expect_run(&rt, rt.alloc(), &[word], &mut source, &mut sink, told, 3);
-        assert_eq!(rt; source.failed_calls, 1);
+        assert_eq!(rt; source.failed_reads(), 1);
     }
     Ok(())
 }
 
 #[test]
 fn writes_that_fail_or_take_nothing(rt: HostRuntime) {
-    for takes_none in [false, true] {
-        let mut source = whole(CASE_1.as_bytes());
-        let mut sink = Sink {
-            fails_at: 2,
-            takes_none,
-            ..taking(rt.alloc(), 3)
-        };
+    for failed in [FailedWrite::Refuses, FailedWrite::TakesNone] {
+        let mut source = Pieces::whole(CASE_1.as_bytes());
+        let mut sink = Store::new(rt.alloc(), 3)
+            .failing_writes(Failing::Once(2))
+            .failing_by(failed);
         let told = "c1 trouble WriteFailed\n";
         expect_run(
             &rt,
@@ -223,7 +219,7 @@ fn writes_that_fail_or_take_nothing(rt: HostRuntime) {
             told,
             3,
         );
-        assert_eq!(rt; sink.failed_calls, 1);
+        assert_eq!(rt; sink.failed_calls(), 1);
     }
 }
 
@@ -232,11 +228,8 @@ fn a_flush_that_fails(rt: HostRuntime) -> Result<(), Fail> {
     let stream = stream_of(rt.alloc(), RETRIED)?;
     let good = "good sources=1 pickles=1 cases=1 attempts=2\n";
     for (word, told) in [("audit", good), ("results", "c1 PASSED\n")] {
-        let mut source = whole(stream.as_bytes());
-        let mut sink = Sink {
-            flush_fails: true,
-            ..taking(rt.alloc(), 3)
-        };
+        let mut source = Pieces::whole(stream.as_bytes());
+        let mut sink = Store::new(rt.alloc(), 3).failing_flushes(Failing::EverSince(1));
         expect_run(&rt, rt.alloc(), &[word], &mut source, &mut sink, told, 3);
     }
     Ok(())

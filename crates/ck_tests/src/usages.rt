@@ -1,6 +1,7 @@
 //! Help, and mistakes in the words.
-use crate::devices::{expect_run, taking, whole};
+use crate::running::expect_run;
 use ck_commands::run;
+use devices::{Pieces, Store};
 use std::alloc::Global;
 use std::process::Abort;
 use std::test::Fail;
@@ -74,11 +75,11 @@ fn expect_text(
     status: u8,
     wanted: &str,
 ) -> Result<(), Fail> {
-    let mut source = whole(b"[]");
-    let mut sink = taking(alloc, 7);
+    let mut source = Pieces::whole(b"[]");
+    let mut sink = Store::new(alloc, 7);
     assert_eq!(rt; run(alloc, words, &mut source, &mut sink), status);
-    assert_eq!(rt; source.calls, 0);
-    expect_parts(rt, sink.taken.as_slice(), wanted)
+    assert_eq!(rt; source.reads(), 0);
+    expect_parts(rt, sink.bytes(), wanted)
 }
 
 // A row has the status, the words that are given, ` = ` and the words that are wanted.
@@ -123,10 +124,10 @@ fn first_numbers_that_are_neither_0_nor_1(rt: HostRuntime) -> Result<(), Fail> {
 #[test]
 fn the_version(rt: HostRuntime) {
     for word in ["--version", "-V"] {
-        let mut source = whole(b"[]");
-        let mut sink = taking(rt.alloc(), 7);
+        let mut source = Pieces::whole(b"[]");
+        let mut sink = Store::new(rt.alloc(), 7);
         let told = "cukecheck 0.1.0\n";
         expect_run(&rt, rt.alloc(), &[word], &mut source, &mut sink, told, 0);
-        assert_eq!(rt; source.calls, 0);
+        assert_eq!(rt; source.reads(), 0);
     }
 }

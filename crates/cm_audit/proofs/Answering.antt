@@ -5,7 +5,7 @@ use Rattle.cm_envelope.specs.Reading.{LineFault, Fails, envelope_of_line}
 use Rattle.cm_envelope.specs.declared.fault.EnvelopeFault.{EnvelopeFault}
 use Rattle.cm_envelope.specs.declared.fault.EnvelopeFault.TheVariants as shape
 use Rattle.cm_envelope.specs.Feeds.{Stored, NextLine, new_feed, GivesLine, Gives, Leaves, EndsWithSource, IsNextLine}
-use Rattle.cm_envelope.specs.Device.{OfReads}
+use Rattle.cm_envelope.specs.Device.{Input, OfReads}
 use Rattle.cm_envelope.proofs.Sources.{HasReadSo, read_so_far, reads_then, reads_no_more}
 use Rattle.cm_envelope.specs.declared.envelope.Envelope.{Envelope}
 use Rattle.cm_envelope.specs.declared.feed.Trouble.{Trouble}
@@ -28,7 +28,7 @@ use Rattle.cm_audit.specs.declared.stop.Stop.{Stop}
 use Rattle.cm_audit.specs.declared.stop.Stop.TheVariants as stop
 use Rattle.cm_audit.proofs.Reading.{nothing_judged, next_judged, found_at, at_the_end, at_trouble, up_to_here, fewer_lines, held_no_fault}
 
-pub begins : (settings : Settings) (feed : Stored) → feed ≡ new_feed 67108864 1073741824 → (s : Summary) → s ≡ nothing_seen settings.first_attempt → (a : Option (List ℕ)) → HasReadSo feed a a (λ xs ys. HasJudged settings xs ys feed 0 s)
+pub begins : (settings : Settings) (feed : Stored) → feed ≡ new_feed 67108864 1073741824 → (s : Summary) → s ≡ nothing_seen settings.first_attempt → (a : Input) → HasReadSo feed a a (λ xs ys. HasJudged settings xs ys feed 0 s)
 begins settings feed f s e a = read_so_far (λ xs ys. HasJudged settings xs ys feed 0 s) feed a (λ xs. rw (f, e) (nothing_judged settings xs))
 
 pub few_at_first : (first : ℕ) (s : State) → summary_of s ≡ nothing_seen first → AreFewer 1 s.counts
@@ -41,14 +41,14 @@ still_listed settings old new None k = k.1
 still_listed settings old new (Some (Err b)) k = absurd k
 still_listed settings old new (Some (Ok e)) k = k.2
 
-pub goes_on : (settings : Settings) (feed later : Stored) (old new : State) (n : ℕ) (line : List ℕ) (a b c : Option (List ℕ)) → HasReadSo feed a b (λ xs ys. HasJudged settings xs ys feed n (summary_of old)) → feed.over ≡ None
+pub goes_on : (settings : Settings) (feed later : Stored) (old new : State) (n : ℕ) (line : List ℕ) (a b c : Input) → HasReadSo feed a b (λ xs ys. HasJudged settings xs ys feed n (summary_of old)) → feed.over ≡ None
     → Leaves feed later b c (Ok (Some line)) → GivesLine feed later line → TakesLine settings old new (shown line) (Ok tt) → HasReadSo later a c (λ xs zs. HasJudged settings xs zs later (n + 1) (summary_of new))
 goes_on settings feed later old new n line a b c p still leaves g k =
     reads_then {P = λ xs ys. HasJudged settings xs ys feed n (summary_of old)} {R = λ xs zs. HasJudged settings xs zs later (n + 1) (summary_of new)} feed later a b c p still leaves
     (λ xs ys zs none h i. next_judged settings xs ys zs feed later n old new line h i g k)
 
 -- what is answered after one call more
-answered : (settings : Settings) (answer : Result Audited Trouble) (call : NextLine) (feed later : Stored) (n : ℕ) (s : Summary) (a b c : Option (List ℕ)) → HasReadSo feed a b (λ xs ys. HasJudged settings xs ys feed n s)
+answered : (settings : Settings) (answer : Result Audited Trouble) (call : NextLine) (feed later : Stored) (n : ℕ) (s : Summary) (a b c : Input) → HasReadSo feed a b (λ xs ys. HasJudged settings xs ys feed n s)
     → feed.over ≡ None → EndsWithSource feed b → Leaves feed later b c call
     → ((xs ys zs : List ℕ) → (later.is_ended ≡ true → zs ≡ []) → HasJudged settings xs ys feed n s → Gives feed later ys zs call → JudgesAs settings answer xs zs) → OfReads a c (JudgesAs settings answer)
 answered settings answer call feed later n s a b c p still ends leaves f =
@@ -102,7 +102,7 @@ stops_at settings feed later old new n line xs ys zs h i g none why k = record {
 
 -- ---- the end
 
-pub ends_well : (settings : Settings) (feed later : Stored) (s : Summary) (n : ℕ) (a b c : Option (List ℕ)) → HasReadSo feed a b (λ xs ys. HasJudged settings xs ys feed n s) → feed.over ≡ None
+pub ends_well : (settings : Settings) (feed later : Stored) (s : Summary) (n : ℕ) (a b c : Input) → HasReadSo feed a b (λ xs ys. HasJudged settings xs ys feed n s) → feed.over ≡ None
     → EndsWithSource feed b → Leaves feed later b c (Ok None) → s.is_finished ≡ true → OfReads a c (JudgesAs settings (Ok (record { verdict = verdict.Good s.counts; success = s.success })))
 ends_well settings feed later s n a b c p still ends leaves e =
     answered settings _ (Ok None) feed later n s a b c p still ends leaves
@@ -112,7 +112,7 @@ ends_well settings feed later s n a b c p still ends leaves e =
       ahead = tt;
     })
 
-pub ends_early : (settings : Settings) (feed later : Stored) (s : Summary) (n : ℕ) (a b c : Option (List ℕ)) → HasReadSo feed a b (λ xs ys. HasJudged settings xs ys feed n s) → feed.over ≡ None
+pub ends_early : (settings : Settings) (feed later : Stored) (s : Summary) (n : ℕ) (a b c : Input) → HasReadSo feed a b (λ xs ys. HasJudged settings xs ys feed n s) → feed.over ≡ None
     → EndsWithSource feed b → Leaves feed later b c (Ok None) → s.is_finished ≡ false → OfReads a c (JudgesAs settings (Ok (unsuccessful (verdict.Bad (n + 1) bad.NoRunFinished))))
 ends_early settings feed later s n a b c p still ends leaves e =
     answered settings _ (Ok None) feed later n s a b c p still ends leaves
@@ -140,7 +140,7 @@ trouble_held settings xs ys zs feed later n s Memory line stream h i e = cc
 same_trouble : (t u : Trouble) → (let answer : Result Audited Trouble = Err t in answer) ≡ Err u → t ≡ u
 same_trouble t u e = cc
 
-pub troubled : (settings : Settings) (feed later : Stored) (s : Summary) (n : ℕ) (a b c : Option (List ℕ)) → HasReadSo feed a b (λ xs ys. HasJudged settings xs ys feed n s) → feed.over ≡ None
+pub troubled : (settings : Settings) (feed later : Stored) (s : Summary) (n : ℕ) (a b c : Input) → HasReadSo feed a b (λ xs ys. HasJudged settings xs ys feed n s) → feed.over ≡ None
     → EndsWithSource feed b → feed.line_limit ≡ 67108864 → feed.stream_limit ≡ 1073741824 → (t : Trouble) → Leaves feed later b c (Err t) → OfReads a c (JudgesAs settings (Err t))
 troubled settings feed later s n a b c p still ends line stream t leaves =
     answered settings (Err t) (Err t) feed later n s a b c p still ends leaves

@@ -1,39 +1,21 @@
 -- What is answered of a good stream, and of one that isn't judged.
-use Rattle.std.proofs.Common.{◌≡◌, refl, sym, ap, ◌∙◌, subst, ℕ, List, Result, Ok, Err, Bool}
+use Rattle.std.proofs.Common.{◌≡◌, sym, ap, ◌∙◌, subst, ℕ, List, Result, Ok, Err, Bool}
 use Rattle.cm_envelope.specs.declared.feed.Trouble.{Trouble}
-use Rattle.cm_envelope.specs.declared.feed.Trouble.TheVariants.{ReadFailed, LineTooLong, StreamTooLong, Memory}
 use Rattle.cm_attempt.specs.declared.settings.Settings.{Settings}
 use Rattle.cm_stream.specs.Findings.{IsUnsupported}
-use Rattle.cm_stream.specs.References.{run_succeeded}
-use Rattle.cm_stream.specs.Stream.{FirstFault, At, Troubled, NoFault, IsFirstFault, IsGoodRun, GoodWith, Found, answer_for, answer_in, envelopes, verdict_in}
+use Rattle.cm_stream.specs.Stream.{FirstFault, At, Troubled, NoFault, IsFirstFault, Found, answer_for, answer_in, verdict_in}
 use Rattle.cm_stream.specs.declared.verdict.Audited.{Audited}
-use Rattle.cm_stream.specs.declared.verdict.Counts.{Counts}
 use Rattle.cm_stream.specs.declared.verdict.Reason.{Reason}
 use Rattle.cm_stream.specs.declared.verdict.Verdict.{Verdict}
 use Rattle.cm_stream.specs.declared.verdict.Verdict.TheVariants as verdict
 use Rattle.cm_stream.proofs.ByGrammar.{reported}
 use Rattle.cm_stream.proofs.Reasons.{reasons_are_shown}
 use Rattle.cm_stream.proofs.Streams.{run_is_told}
-use Rattle.cm_audit.specs.Audit.{AnswersAs, AnswersTold, VerdictTold, saying, DecidesGood, IsGoodVerdict, VerdictDecidesGood, ShowsUnsupported}
+use Rattle.cm_audit.specs.Audit.{AnswersAs, AnswersTold, DecidesGood, ShowsUnsupported}
 
 module _ (settings : Settings) (bytes : List ℕ) where
   pub decides_good : (answer : Result Audited Trouble) → AnswersTold settings bytes answer → DecidesGood settings bytes answer
   decides_good answer h counts success run = subst (λ a. AnswersAs a answer) (ap answer_for (sym (reported settings bytes h.first h.is_first)) ∙ run_is_told settings bytes counts success run) h.answers
-
-  good_verdict : (counts : Counts) (success said : Bool) (v : Result Verdict Trouble) → AnswersAs (GoodWith counts success) (saying said v) → IsGoodVerdict counts v
-  good_verdict counts success said (Ok (verdict.Good c)) h = let same : c ≡ counts = cc in ap (λ n. Ok (verdict.Good n)) same
-  good_verdict counts success said (Ok (verdict.Bad n b)) h = absurd cc
-  good_verdict counts success said (Ok (verdict.Unsupported n r)) h = absurd cc
-  good_verdict counts success said (Err ReadFailed) h = tt
-  good_verdict counts success said (Err LineTooLong) h = absurd cc
-  good_verdict counts success said (Err StreamTooLong) h = absurd cc
-  good_verdict counts success said (Err Memory) h = tt
-
-  pub verdict_decides_good : (v : Result Verdict Trouble) → VerdictTold settings bytes v → VerdictDecidesGood settings bytes v
-  verdict_decides_good v h counts good =
-      let success = run_succeeded (envelopes good.lines) in
-      let run : IsGoodRun settings bytes counts success = record { lines = good.lines; read = good.read; good = good.good; exact = good.exact; said = refl } in
-      good_verdict counts success h.0 v (decides_good (saying h.0 v) h.1 counts success run)
 
   found_at : (f : FirstFault) (n : ℕ) (r : Reason) → Found n (IsUnsupported r) ≡ answer_for f → f ≡ At n (IsUnsupported r)
   found_at (At m g) n r e =
@@ -51,7 +33,3 @@ module _ (settings : Settings) (bytes : List ℕ) where
   pub shows_unsupported : (answer : Result Audited Trouble) → AnswersTold settings bytes answer → ShowsUnsupported bytes (verdict_in answer)
   shows_unsupported (Ok a) h = shown_by a.verdict a.success h.first h.is_first h.answers
   shows_unsupported (Err t) h = tt
-
-  pub verdict_shows_unsupported : (v : Result Verdict Trouble) → VerdictTold settings bytes v → ShowsUnsupported bytes v
-  verdict_shows_unsupported (Ok v) h = shows_unsupported (saying h.0 (Ok v)) h.1
-  verdict_shows_unsupported (Err t) h = tt

@@ -3,7 +3,7 @@ use Rattle.std.proofs.Common.{ℕ, refl, List, Option, Some, None, Result, Ok, E
 use Rattle.std.specs.Prelude.{IsSomeAnd}
 use Rattle.cm_attempt.specs.Table.{Table}
 use Rattle.cm_attempt.specs.declared.settings.Settings.{Settings}
-use Rattle.cm_envelope.specs.Device.{OfReads}
+use Rattle.cm_envelope.specs.Device.{Input, OfReads}
 use Rattle.cm_envelope.specs.declared.envelope.Envelope.{Envelope}
 use Rattle.cm_envelope.specs.declared.feed.Trouble.{Trouble}
 use Rattle.cm_envelope.proofs.Sources.{reads_weaker}
@@ -18,7 +18,8 @@ use Rattle.cm_state.specs.Summary.{Summary}
 use Rattle.cm_differs.specs.declared.difference.Difference.{Difference}
 use Rattle.cm_audit.specs.Cases.{JudgesWith}
 use Rattle.cm_audit.specs.Differing.{Differs}
-use Rattle.cm_audit.specs.Differs.{DiffersBy, IsDifferenceAt, IsDifferenceBy, IsDiffersAuditOf, reported, with_difference}
+use Rattle.cm_audit.specs.Audit.{GoodAtEnd}
+use Rattle.cm_audit.specs.Differs.{audited_of, DiffersBy, IsDifferenceAt, IsDifferenceBy, IsDiffersAuditOf, reported, with_difference}
 use Rattle.cm_audit.specs.Judging.{envelopes_in}
 use Rattle.cm_audit.specs.Told.{IsToldAt, TellsVerdict}
 use Rattle.cm_audit.proofs.DiffersFaults.{pickle_differs, source_lacks, tree_differs}
@@ -62,17 +63,21 @@ differs_by settings bytes (verdict.Bad n b) o told = at_fault settings bytes n b
 differs_by settings bytes (verdict.Good counts) o told = refl
 differs_by settings bytes (verdict.Unsupported n r) o told = refl
 
-differs_audit : (settings : Settings) (audited : Audited) (follows : List Envelope → Type 0) (o : Option Difference) (table : Table) (a b : Option (List ℕ)) → OfReads a b (JudgesWith settings follows (Tells o) table (Ok audited))
+differs_audit : (settings : Settings) (audited : Audited) (follows : List Envelope → Type 0) (o : Option Difference) (table : Table) (a b : Input) → OfReads a b (JudgesWith settings follows (Tells o) table (Ok audited))
     → OfReads a b (IsDiffersAuditOf settings (Ok (record { audited = audited; difference = reported audited.verdict o })))
 differs_audit settings audited follows o table a b p =
     reads_weaker {P = JudgesWith settings follows (Tells o) table (Ok audited)} {Q = IsDiffersAuditOf settings (Ok (record { audited = audited; difference = reported audited.verdict o }))} a b p
     (λ xs ys h. record { audit = audit_of settings (Ok audited) xs ys h.judges; differs = differs_by settings xs audited.verdict o h.told })
 
-differs_trouble : (settings : Settings) (follows : List Envelope → Type 0) (tells : Summary → Envelope → Type 0) (table : Table) (t : Trouble) (a b : Option (List ℕ)) → OfReads a b (JudgesWith settings follows tells table (Err t)) → OfReads a b (IsDiffersAuditOf settings (Err t))
+differs_trouble : (settings : Settings) (follows : List Envelope → Type 0) (tells : Summary → Envelope → Type 0) (table : Table) (t : Trouble) (a b : Input) → OfReads a b (JudgesWith settings follows tells table (Err t)) → OfReads a b (IsDiffersAuditOf settings (Err t))
 differs_trouble settings follows tells table t a b p =
     reads_weaker {P = JudgesWith settings follows tells table (Err t)} {Q = IsDiffersAuditOf settings (Err t)} a b p (λ xs ys h. record { audit = audit_of settings (Err t) xs ys h.judges; differs = tt })
 
-pub difference_told : (settings : Settings) (answer : Result Audited Trouble) (follows : List Envelope → Type 0) (o : Option Difference) (table : Table) (a b : Option (List ℕ)) → OfReads a b (JudgesWith settings follows (Tells o) table answer)
+pub difference_told : (settings : Settings) (answer : Result Audited Trouble) (follows : List Envelope → Type 0) (o : Option Difference) (table : Table) (a b : Input) → OfReads a b (JudgesWith settings follows (Tells o) table answer)
     → OfReads a b (IsDiffersAuditOf settings (with_difference o answer))
 difference_told settings (Ok audited) follows o table a b p = differs_audit settings audited follows o table a b p
 difference_told settings (Err t) follows o table a b p = differs_trouble settings follows (Tells o) table t a b p
+
+pub at_end_with : (after : Input) (answer : Result Audited Trouble) (o : Option Difference) → GoodAtEnd after answer → GoodAtEnd after (audited_of (with_difference o answer))
+at_end_with after (Ok audited) o over = over
+at_end_with after (Err t) o over = tt

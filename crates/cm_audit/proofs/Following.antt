@@ -2,7 +2,7 @@
 use Rattle.std.proofs.Common.{◌≡◌, ℕ, ◌+◌, refl, sym, ap, ◌∙◌, subst, List, [], ◌∷◌, ◌++◌, Option, Some, None, Result, Ok, Err, Bool, true, false, append-nil, map}
 use Rattle.std.proofs.lemmas.List.{length-map, map-append}
 use Rattle.std.proofs.lemmas.List.Concat.{flat_map-append}
-use Rattle.cm_envelope.specs.Device.{OfReads}
+use Rattle.cm_envelope.specs.Device.{Input, OfReads}
 use Rattle.cm_envelope.specs.Feeds.{Stored, EndsWithSource, GivesLine, IsNextLine, Leaves, given_line, left, new_feed}
 use Rattle.cm_envelope.specs.Lines.{Fed, Line, is_blank}
 use Rattle.cm_envelope.specs.Reading.{LineFault, envelope_of_line}
@@ -84,7 +84,7 @@ kept_next settings old new (Some (Ok e)) es k none h =
 
 -- ---- line by line
 
-pub follows_first : (settings : Settings) (follows : List Envelope → Type 0) → follows [] → (feed : Stored) → feed ≡ new_feed 67108864 1073741824 → (s : Summary) → s ≡ nothing_seen settings.first_attempt → (a : Option (List ℕ))
+pub follows_first : (settings : Settings) (follows : List Envelope → Type 0) → follows [] → (feed : Stored) → feed ≡ new_feed 67108864 1073741824 → (s : Summary) → s ≡ nothing_seen settings.first_attempt → (a : Input)
     → HasReadSo feed a a (λ xs ys. HasFollowed settings follows xs ys feed 0 s)
 follows_first settings follows start feed f s e a =
     read_so_far (λ xs ys. HasFollowed settings follows xs ys feed 0 s) feed a
@@ -104,10 +104,10 @@ not_of_envelope (bad.NoEnvelope x) f e some = cc
 not_of_envelope _ f e some = cc
 
 module _ (settings : Settings) (follows : List Envelope → Type 0) where
-  only_judged : (feed : Stored) (n : ℕ) (s : Summary) (a b : Option (List ℕ)) → HasReadSo feed a b (λ xs ys. HasFollowed settings follows xs ys feed n s) → HasReadSo feed a b (λ xs ys. HasJudged settings xs ys feed n s)
-  only_judged feed n s a b p = (p.0, p.1, λ rest is none. (p.2 rest is none).judged)
+  only_judged : (feed : Stored) (n : ℕ) (s : Summary) (a b : Input) → HasReadSo feed a b (λ xs ys. HasFollowed settings follows xs ys feed n s) → HasReadSo feed a b (λ xs ys. HasJudged settings xs ys feed n s)
+  only_judged feed n s a b p = (p.0, p.1, λ rest none. (p.2 rest none).judged)
 
-  pub follows_next : (follows_new : List Envelope → Type 0) (feed later : Stored) (old new : State) (n : ℕ) (line : List ℕ) (a b c : Option (List ℕ)) → HasReadSo feed a b (λ xs ys. HasFollowed settings follows xs ys feed n (summary_of old))
+  pub follows_next : (follows_new : List Envelope → Type 0) (feed later : Stored) (old new : State) (n : ℕ) (line : List ℕ) (a b c : Input) → HasReadSo feed a b (λ xs ys. HasFollowed settings follows xs ys feed n (summary_of old))
       → feed.over ≡ None → Leaves feed later b c (Ok (Some line)) → GivesLine feed later line → TakesLine settings old new (shown line) (Ok tt) → ((es : List Envelope) → follows es → follows_new (es ++ envelope_in (shown line)))
       → HasReadSo later a c (λ xs zs. HasFollowed settings follows_new xs zs later (n + 1) (summary_of new))
   follows_next follows_new feed later old new n line a b c p still leaves g k f =
@@ -128,7 +128,7 @@ module _ (settings : Settings) (follows : List Envelope → Type 0) where
   -- ---- the answer
 
   -- an answer that isn't Good, and isn't a fault of an envelope
-  alone : (tells : Summary → Envelope → Type 0) (table : Table) (answer : Result Audited Trouble) (a c : Option (List ℕ)) → ((xs : List ℕ) → FollowsAnswer settings follows table xs answer) → ((xs : List ℕ) → TellsAnswer settings tells xs answer)
+  alone : (tells : Summary → Envelope → Type 0) (table : Table) (answer : Result Audited Trouble) (a c : Input) → ((xs : List ℕ) → FollowsAnswer settings follows table xs answer) → ((xs : List ℕ) → TellsAnswer settings tells xs answer)
       → OfReads a c (JudgesAs settings answer) → OfReads a c (JudgesWith settings follows tells table answer)
   alone tells table answer a c f t p = reads_weaker {P = JudgesAs settings answer} {Q = JudgesWith settings follows tells table answer} a c p (λ xs ys h. record { judges = h; follows_it = f xs; told = t xs })
 
@@ -162,7 +162,7 @@ module _ (settings : Settings) (follows : List Envelope → Type 0) where
         told = subst (λ (s : Summary). tells s e) h.kept told;
       }
 
-  pub stops_with : (tells : Summary → Envelope → Type 0) (table : Table) (feed later : Stored) (old new : State) (n : ℕ) (line : List ℕ) (a b c : Option (List ℕ)) → HasReadSo feed a b (λ xs ys. HasFollowed settings follows xs ys feed n (summary_of old))
+  pub stops_with : (tells : Summary → Envelope → Type 0) (table : Table) (feed later : Stored) (old new : State) (n : ℕ) (line : List ℕ) (a b c : Input) → HasReadSo feed a b (λ xs ys. HasFollowed settings follows xs ys feed n (summary_of old))
       → feed.over ≡ None → EndsWithSource feed b → Leaves feed later b c (Ok (Some line)) → (why : Stop) → TakesLine settings old new (shown line) (Err why) → TellsLine tells (summary_of old) (shown line) (Err why) → (after_it : List Envelope → Type 0)
       → OfReads a c (JudgesWith settings after_it tells table (audited_at (n + 1) why))
   stops_with tells table feed later old new n line a b c p still ends leaves why k told after_it =
@@ -176,11 +176,11 @@ module _ (settings : Settings) (follows : List Envelope → Type 0) where
       }))
       (leaves.source ends)
 
-  pub ends_early_with : (tells : Summary → Envelope → Type 0) (table : Table) (feed later : Stored) (s : Summary) (n : ℕ) (a b c : Option (List ℕ)) → HasReadSo feed a b (λ xs ys. HasFollowed settings follows xs ys feed n s) → feed.over ≡ None
+  pub ends_early_with : (tells : Summary → Envelope → Type 0) (table : Table) (feed later : Stored) (s : Summary) (n : ℕ) (a b c : Input) → HasReadSo feed a b (λ xs ys. HasFollowed settings follows xs ys feed n s) → feed.over ≡ None
       → EndsWithSource feed b → Leaves feed later b c (Ok None) → s.is_finished ≡ false → OfReads a c (JudgesWith settings follows tells table (Ok (unsuccessful (verdict.Bad (n + 1) bad.NoRunFinished))))
   ends_early_with tells table feed later s n a b c p still ends leaves e = alone tells table _ a c (λ xs. tt) (λ xs some. absurd cc) (ends_early settings feed later s n a b c (only_judged feed n s a b p) still ends leaves e)
 
-  pub troubled_with : (tells : Summary → Envelope → Type 0) (table : Table) (feed later : Stored) (s : Summary) (n : ℕ) (a b c : Option (List ℕ)) → HasReadSo feed a b (λ xs ys. HasFollowed settings follows xs ys feed n s) → feed.over ≡ None
+  pub troubled_with : (tells : Summary → Envelope → Type 0) (table : Table) (feed later : Stored) (s : Summary) (n : ℕ) (a b c : Input) → HasReadSo feed a b (λ xs ys. HasFollowed settings follows xs ys feed n s) → feed.over ≡ None
       → EndsWithSource feed b → feed.line_limit ≡ 67108864 → feed.stream_limit ≡ 1073741824 → (t : Trouble) → Leaves feed later b c (Err t) → OfReads a c (JudgesWith settings follows tells table (Err t))
   troubled_with tells table feed later s n a b c p still ends line stream t leaves = alone tells table _ a c (λ xs. tt) (λ xs. tt) (troubled settings feed later s n a b c (only_judged feed n s a b p) still ends line stream t leaves)
 
@@ -202,7 +202,7 @@ module _ (settings : Settings) (follows : List Envelope → Type 0) where
         results = ap case_results here ∙ (tables_have_results settings.first_attempt es (table_of settings.first_attempt es) accepted).1;
       }
 
-  pub ends_well_with : (tells : Summary → Envelope → Type 0) (feed later : Stored) (s : Summary) (n : ℕ) (a b c : Option (List ℕ)) → HasReadSo feed a b (λ xs ys. HasFollowed settings follows xs ys feed n s) → feed.over ≡ None
+  pub ends_well_with : (tells : Summary → Envelope → Type 0) (feed later : Stored) (s : Summary) (n : ℕ) (a b c : Input) → HasReadSo feed a b (λ xs ys. HasFollowed settings follows xs ys feed n s) → feed.over ≡ None
       → EndsWithSource feed b → Leaves feed later b c (Ok None) → s.is_finished ≡ true → OfReads a c (JudgesWith settings follows tells s.table (Ok (record { verdict = verdict.Good s.counts; success = s.success })))
   ends_well_with tells feed later s n a b c p still ends leaves e =
       let answer : Result Audited Trouble = Ok (record { verdict = verdict.Good s.counts; success = s.success }) in
@@ -222,6 +222,6 @@ module _ (settings : Settings) (follows : List Envelope → Type 0) where
       (leaves.source ends)
 
 -- the judgement alone
-pub without_watch : (settings : Settings) (follows : List Envelope → Type 0) (tells : Summary → Envelope → Type 0) (table : Table) (answer : Result Audited Trouble) (a b : Option (List ℕ)) → OfReads a b (JudgesWith settings follows tells table answer)
+pub without_watch : (settings : Settings) (follows : List Envelope → Type 0) (tells : Summary → Envelope → Type 0) (table : Table) (answer : Result Audited Trouble) (a b : Input) → OfReads a b (JudgesWith settings follows tells table answer)
     → OfReads a b (JudgesAs settings answer)
 without_watch settings follows tells table answer a b p = reads_weaker {P = JudgesWith settings follows tells table answer} {Q = JudgesAs settings answer} a b p (λ xs ys h. h.judges)

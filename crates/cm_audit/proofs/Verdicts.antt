@@ -1,10 +1,12 @@
 -- What is judged line by line is what is reported of the stream, so the verdict is right.
-use Rattle.std.proofs.Common.{◌≡◌, refl, sym, ap, ◌∙◌, ℕ, List, Some, Result, Ok, Err, Bool, false, map}
+use Rattle.std.proofs.Common.{◌≡◌, refl, sym, ap, ◌∙◌, ℕ, List, Some, Result, Ok, Err, Bool, map}
+use Rattle.cm_envelope.specs.Device.{Input, OfReads}
 use Rattle.cm_envelope.specs.Lines.{Line}
+use Rattle.cm_envelope.proofs.Sources.{whole_of}
 use Rattle.cm_envelope.specs.declared.feed.Trouble.{Trouble}
 use Rattle.cm_envelope.specs.declared.feed.Trouble.TheVariants.{ReadFailed, LineTooLong, StreamTooLong, Memory}
 use Rattle.cm_attempt.specs.declared.settings.Settings.{Settings}
-use Rattle.cm_stream.specs.Stream.{FirstFault, At, Troubled, NoFault, Failed, answer_for, fed, verdict_in, GoodOnlyForGood, GoodRunIn, GoodRunsOnly, NoneIsGood}
+use Rattle.cm_stream.specs.Stream.{IsGoodRun, FirstFault, At, Troubled, NoFault, Failed, answer_for, fed, verdict_in, GoodRunsOnly, NoneIsGood}
 use Rattle.cm_stream.specs.ByOnePass.{first_fault}
 use Rattle.cm_stream.specs.declared.verdict.Audited.{Audited}
 use Rattle.cm_stream.specs.declared.verdict.Verdict.{Verdict}
@@ -12,9 +14,11 @@ use Rattle.cm_stream.specs.declared.verdict.Verdict.TheVariants as verdict
 use Rattle.cm_stream.proofs.ByGrammar.{is_first, is_first_of}
 use Rattle.cm_stream.proofs.Streams.{answers_are_right}
 use Rattle.cm_state.proofs.Judged.{judged_is_told}
-use Rattle.cm_audit.specs.Audit.{AnswersAs, AnswersTold, IsAuditOf, IsVerdictOf, ShowNoFault, VerdictTold, is_failed_read}
+use Rattle.cm_audit.specs.Audit.{AnswersAs, AnswersTold, GoodAtEnd, GoodAtEndIn, GoodHeard, GoodHeardIn, IsAuditOf, ShowNoFault, audited_at}
 use Rattle.cm_audit.specs.Judging.{judged, HoldNoFault, JudgesAs}
-use Rattle.cm_audit.proofs.Deciding.{decides_good, shows_unsupported, verdict_decides_good}
+use Rattle.cm_audit.specs.declared.stop.Stop.{Stop}
+use Rattle.cm_audit.specs.declared.stop.Stop.TheVariants as stop
+use Rattle.cm_audit.proofs.Deciding.{decides_good, shows_unsupported}
 
 -- ---- a failed read
 
@@ -68,40 +72,20 @@ audit_of settings answer bytes rest h = record {
   ahead = h.ahead;
 }
 
--- ---- the verdict alone
+-- ---- the end of the source
 
-module _ (settings : Settings) where
-  good_stream : (bytes : List ℕ) (v : Verdict) (success : Bool) → GoodRunIn settings bytes v success → GoodOnlyForGood settings bytes (Ok v)
-  good_stream bytes (verdict.Good counts) success h = record { lines = h.lines; read = h.read; good = h.good; exact = h.exact }
-  good_stream bytes (verdict.Bad n b) success h = tt
-  good_stream bytes (verdict.Unsupported n r) success h = tt
+pub none_at_end : (after : Input) (n : ℕ) (why : Stop) → GoodAtEnd after (audited_at n why)
+none_at_end after n (stop.Bad b) = tt
+none_at_end after n (stop.Unsupported r) = tt
+none_at_end after n stop.Memory = tt
 
-  good_only : (bytes : List ℕ) (answer : Result Audited Trouble) → GoodRunsOnly settings bytes answer → GoodOnlyForGood settings bytes (verdict_in answer)
-  good_only bytes (Ok v) h = good_stream bytes v.verdict v.success h
-  good_only bytes (Err t) h = tt
+good_in : (settings : Settings) (before after : Input) (v : Verdict) (success : Bool) → OfReads before after (IsAuditOf settings (Ok (record { verdict = v; success = success })))
+    → GoodAtEndIn after v → GoodHeardIn settings before after v success
+good_in settings before after (verdict.Good counts) success heard over =
+    whole_of (IsAuditOf settings (Ok (record { verdict = verdict.Good counts; success = success }))) (λ bytes. IsGoodRun settings bytes counts success) before after heard over (λ xs h. h.good)
+good_in settings before after (verdict.Bad n b) success heard over = tt
+good_in settings before after (verdict.Unsupported n r) success heard over = tt
 
-  verdict_told : (bytes : List ℕ) (answer : Result Audited Trouble) → AnswersTold settings bytes answer → VerdictTold settings bytes (verdict_in answer)
-  verdict_told bytes (Ok v) h = (v.success, h)
-  verdict_told bytes (Err t) h = (false, h)
-
-read_failed_in : (answer : Result Audited Trouble) → verdict_in answer ≡ Err ReadFailed → answer ≡ Err ReadFailed
-read_failed_in (Ok v) e = cc
-read_failed_in (Err t) e = let same_trouble : t ≡ ReadFailed = cc in ap Err same_trouble
-
-pub failed_read_in : (answer : Result Audited Trouble) → is_failed_read (verdict_in answer) ≡ is_failed_read answer
-failed_read_in (Ok v) = refl
-failed_read_in (Err ReadFailed) = refl
-failed_read_in (Err LineTooLong) = refl
-failed_read_in (Err StreamTooLong) = refl
-failed_read_in (Err Memory) = refl
-
-pub verdict_of : (settings : Settings) (answer : Result Audited Trouble) (bytes rest : List ℕ) → IsAuditOf settings answer bytes rest → IsVerdictOf settings (verdict_in answer) bytes rest
-verdict_of settings answer bytes rest h = record {
-  good = good_only settings bytes answer h.good;
-  bad = h.bad;
-  told = verdict_told settings bytes answer h.told;
-  decided = verdict_decides_good settings bytes (verdict_in answer) (verdict_told settings bytes answer h.told);
-  unsupported = h.unsupported;
-  read_failed = λ e. h.read_failed (read_failed_in answer e);
-  ahead = h.ahead;
-}
+pub good_heard : (settings : Settings) (answer : Result Audited Trouble) (before after : Input) → OfReads before after (IsAuditOf settings answer) → GoodAtEnd after answer → GoodHeard settings before after answer
+good_heard settings (Ok a) before after heard over = good_in settings before after a.verdict a.success heard over
+good_heard settings (Err t) before after heard over = tt

@@ -1,7 +1,8 @@
 -- What an audit answers of the bytes of a stream, and how far it reads.
 use Rattle.std.specs.Prelude.{◌≡◌, ◌⊎◌, ◌≤◌, ◌<◌, ⊤, Bool, true, false, ℕ, List, ◌++◌, Option, Some, None, Result, Ok, Err, length, map}
 use Rattle.std.specs.List.{flat_map}
-use Rattle.cm_envelope.specs.Lines.{Line}
+use Rattle.cm_envelope.specs.Device.{CountsFailure, Input, OfReads, OfWhole}
+use Rattle.cm_envelope.specs.Lines.{Line, max_line_bytes, max_stream_bytes}
 use Rattle.cm_envelope.specs.Reading.{LineFault}
 use Rattle.cm_envelope.specs.Feeds.{ShowNothing, written}
 use Rattle.cm_envelope.specs.declared.envelope.Envelope.{Envelope}
@@ -9,7 +10,7 @@ use Rattle.cm_envelope.specs.declared.feed.Trouble.{Trouble}
 use Rattle.cm_envelope.specs.declared.feed.Trouble.TheVariants.{ReadFailed, Memory}
 use Rattle.cm_attempt.specs.declared.settings.Settings.{Settings}
 use Rattle.cm_stream.specs.Findings.{IsBad, NoEnvelope}
-use Rattle.cm_stream.specs.Stream.{FirstFault, IsFirstFault, IsFirstFaultOf, IsGoodRun, IsGoodStream, GoodWith, Answer, GoodOnlyForGood, GoodRunsOnly, NoneIsGood, Troubled, fed, answered, answer_for, max_line_bytes, max_stream_bytes, verdict_in}
+use Rattle.cm_stream.specs.Stream.{FirstFault, IsFirstFault, IsFirstFaultOf, IsGoodRun, GoodWith, Answer, GoodRunsOnly, NoneIsGood, Troubled, fed, answered, answer_for, verdict_in}
 use Rattle.cm_stream.specs.Unsupported.{ShowsReason}
 use Rattle.cm_stream.specs.declared.verdict.Counts.{Counts}
 use Rattle.cm_stream.specs.declared.verdict.Audited.{Audited}
@@ -34,16 +35,6 @@ pub record AnswersTold (settings : Settings) (bytes : List ℕ)
   pub first : FirstFault
   pub is_first : IsFirstFault settings bytes first
   pub answers : AnswersAs (answer_for first) answer
-
--- a verdict, with this word of success
-abbrev pub saying : Bool → Result Verdict Trouble → Result Audited Trouble
-saying success (Ok v) = Ok (record { verdict = v; success = success })
-saying success (Err t) = Err t
-
--- the verdict is that of the answer for the first fault of the bytes, whatever the run says of its success
-abbrev pub VerdictTold : Settings → List ℕ → Result Verdict Trouble → Type 0
-VerdictTold settings bytes verdict =
-    (success : Bool) × AnswersTold settings bytes (saying success verdict)
 
 abbrev pub is_failed_read : {A : Type 0} → Result A Trouble → Bool
 is_failed_read (Err ReadFailed) = true
@@ -105,17 +96,6 @@ DecidesGood settings bytes answer =
     (counts : Counts) (success : Bool) → IsGoodRun settings bytes counts success
     → AnswersAs (GoodWith counts success) answer
 
--- Good with these counts, unless a read failed or memory was refused
-abbrev pub IsGoodVerdict : Counts → Result Verdict Trouble → Type 0
-IsGoodVerdict counts (Err ReadFailed) = ⊤
-IsGoodVerdict counts (Err Memory) = ⊤
-IsGoodVerdict counts v = v ≡ Ok (verdict.Good counts)
-
--- the verdict on a good stream is that
-abbrev pub VerdictDecidesGood : Settings → List ℕ → Result Verdict Trouble → Type 0
-VerdictDecidesGood settings bytes v =
-    (counts : Counts) → IsGoodStream settings bytes counts → IsGoodVerdict counts v
-
 -- Unsupported only at a line that shows the reason
 abbrev pub ShowsUnsupported : List ℕ → Result Verdict Trouble → Type 0
 ShowsUnsupported bytes (Ok (verdict.Unsupported n r)) = ShowsReason bytes n r
@@ -123,7 +103,7 @@ ShowsUnsupported bytes _ = ⊤
 
 -- ---- both, of the same bytes
 
--- What the answer of an audit says of the bytes of its stream, and of those that were left to come.
+-- What the answer of an audit says of all bytes of its stream, and of those that weren't read.
 pub record IsAuditOf (settings : Settings) (answer : Result Audited Trouble)
     (bytes rest : List ℕ) : Type 0 where
   -- Good is for good streams, Bad where no good one begins so, and the first fault decides
@@ -137,16 +117,44 @@ pub record IsAuditOf (settings : Settings) (answer : Result Audited Trouble)
   pub read_failed : answer ≡ Err ReadFailed → ShowNoFault settings bytes rest
   pub ahead : ReadsUpTo (verdict_in answer) bytes rest
 
--- the same of the verdict alone
-pub record IsVerdictOf (settings : Settings) (verdict : Result Verdict Trouble)
-    (bytes rest : List ℕ) : Type 0 where
-  pub good : GoodOnlyForGood settings bytes verdict
-  pub bad : NoneIsGood settings bytes verdict
-  pub told : VerdictTold settings bytes verdict
-  pub decided : VerdictDecidesGood settings bytes verdict
-  pub unsupported : ShowsUnsupported bytes verdict
-  pub read_failed : verdict ≡ Err ReadFailed → ShowNoFault settings bytes rest
-  pub ahead : ReadsUpTo verdict bytes rest
+-- ---- all that an audit says
+
+-- where the verdict is Good, the source was at its end, and the bytes heard are a good stream with these counts, whose run
+-- says so of its success
+abbrev pub GoodHeardIn : Settings → (before after : Input) → Verdict → (success : Bool) → Type 0
+GoodHeardIn settings before after (verdict.Good counts) success =
+    OfWhole before after (λ bytes. IsGoodRun settings bytes counts success)
+GoodHeardIn settings before after _ success = ⊤
+
+-- that, where the answer is a verdict
+abbrev pub GoodHeard : Settings → (before after : Input) → Result Audited Trouble → Type 0
+GoodHeard settings before after (Ok a) = GoodHeardIn settings before after a.verdict a.success
+GoodHeard settings before after (Err t) = ⊤
+
+-- where the verdict is Good, the source was at its end
+abbrev pub GoodAtEndIn : Input → Verdict → Type 0
+GoodAtEndIn after (verdict.Good counts) = after.is_over ≡ true
+GoodAtEndIn after _ = ⊤
+
+abbrev pub GoodAtEnd : Input → Result Audited Trouble → Type 0
+GoodAtEnd after (Ok a) = GoodAtEndIn after a.verdict
+GoodAtEnd after (Err t) = ⊤
+
+-- What an audit by the settings answers, from one state of its source to a later one.
+pub record Audits (settings : Settings) (answer : Result Audited Trouble) (before after : Input)
+    : Type 0 where
+  -- it is right of the bytes heard, whatever comes after them
+  pub heard : OfReads before after (IsAuditOf settings answer)
+  -- Good is answered only at the source's end
+  pub at_end : GoodAtEnd after answer
+  -- a read failed exactly where that is the answer
+  pub failures : CountsFailure (is_failed_read answer) before.failed_calls after.failed_calls
+
+-- the verdict is that of an audit by the settings
+abbrev pub IsVerdictOf : Settings → Result Verdict Trouble → (before after : Input) → Type 0
+IsVerdictOf settings v before after =
+    (answer : Result Audited Trouble) × (v ≡ verdict_in answer)
+    × Audits settings answer before after
 
 -- ---- a line
 

@@ -1,14 +1,14 @@
 -- The answer line by line, and what was read of a stream.
 use Rattle.std.specs.Prelude.{◌≡◌, ◌+◌, ℕ, List, [], ◌∷◌, ◌++◌, Option, Some, Result, Ok, Err, length}
 use Rattle.std.specs.List.{flat_map}
-use Rattle.cm_envelope.specs.Lines.{Line, Fed}
+use Rattle.cm_envelope.specs.Lines.{Line, Fed, max_line_bytes, max_stream_bytes}
 use Rattle.cm_envelope.specs.Feeds.{Stored, ShowNothing, not_given, left}
 use Rattle.cm_envelope.specs.Reading.{LineFault}
 use Rattle.cm_envelope.specs.declared.envelope.Envelope.{Envelope}
 use Rattle.cm_envelope.specs.declared.feed.Trouble.{Trouble}
 use Rattle.cm_envelope.specs.declared.feed.Trouble.TheVariants.{ReadFailed}
 use Rattle.cm_attempt.specs.declared.settings.Settings.{Settings}
-use Rattle.cm_stream.specs.Stream.{Answer, Failed, fed, max_line_bytes, max_stream_bytes, shown, verdict_in}
+use Rattle.cm_stream.specs.Stream.{Answer, Failed, fed, shown, verdict_in}
 use Rattle.cm_stream.specs.ByOnePass.{IsFaultless}
 use Rattle.cm_stream.specs.declared.verdict.Audited.{Audited}
 use Rattle.cm_state.specs.Summary.{Summary, nothing_seen, seen}

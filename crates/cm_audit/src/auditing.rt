@@ -1,12 +1,12 @@
 //! The audit of a stream of Cucumber Messages.
 ghost use Rattle.std.specs.Prelude.{◌≡◌, ◌++◌, ◌∷◌, [], List, Some, Ok, Err, OnOk};
-ghost use Rattle.cm_envelope.specs.Device.{CountsFailure, OfReads, OfSource};
+ghost use Rattle.cm_envelope.specs.Device.{CountsFailure, OfInput, OfReads};
 ghost use Rattle.cm_envelope.specs.declared.envelope.Envelope.{Envelope as SomeEnvelope};
 ghost use Rattle.cm_envelope.specs.declared.feed.Trouble.TheVariants.{ReadFailed};
 ghost use Rattle.cm_attempt.specs.Settings.{settings_of};
-ghost use Rattle.cm_stream.specs.Stream.{GoodOnlyForGood, GoodRunsOnly, NoneIsGood, shown, verdict_in};
-ghost use Rattle.cm_audit.specs.Audit.{AnswersTold, DecidesGood, IsAuditOf, IsVerdictOf, ReadsUpTo, ShowNoFault, ShowsUnsupported};
-ghost use Rattle.cm_audit.specs.Audit.{TakesLine, VerdictDecidesGood, VerdictTold};
+ghost use Rattle.cm_stream.specs.Stream.{NoneIsGood, shown, verdict_in};
+ghost use Rattle.cm_audit.specs.Audit.{AnswersTold, Audits, DecidesGood, GoodAtEnd, GoodHeard, IsVerdictOf, ReadsUpTo};
+ghost use Rattle.cm_audit.specs.Audit.{ShowNoFault, ShowsUnsupported, TakesLine};
 ghost use Rattle.cm_audit.specs.Audit.{audited_at, is_failed_read, unsuccessful};
 ghost use Rattle.cm_audit.specs.Cases.{JudgesWith};
 ghost use Rattle.cm_audit.specs.Told.{TellsLine};
@@ -105,11 +105,12 @@ pub(crate) fn judge_lines<R: ByteSource, W: Watch>(
     requires nothing { summary_of state.old ≡ nothing_seen settings.first_attempt }
     requires listed { IsListed state.old }
     requires starts { W.follows watch.old [] }
-    ensures judged { OfReads (R.to_come source.old) (R.to_come source.new)
+    ensures judged { OfReads (R.input source.old) (R.input source.new)
         (JudgesWith settings (W.follows watch.new) (W.tells watch.new) (summary_of state.new).table
         result) }
-    ensures failures { CountsFailure (is_failed_read result) (R.failed_calls source.old)
-        (R.failed_calls source.new) }
+    ensures at_end { GoodAtEnd (R.input source.new) result }
+    ensures failures { CountsFailure (is_failed_read result) (R.input source.old).failed_calls
+        (R.input source.new).failed_calls }
 {
     let mut feed = Feed::new(alloc);
     let mut number: u64 = 0;
@@ -157,33 +158,32 @@ pub fn audit_run<R: ByteSource>(
     source: &mut R,
     settings: Settings,
 ) -> Result<Audited, Trouble>
-    // The clauses hold of the bytes that the source has to come, where it shows them; where it doesn't, of bytes that it may
-    // have had. All of these are of the same bytes:
-    ensures same_bytes { OfReads (R.to_come source.old) (R.to_come source.new)
-        (IsAuditOf settings result) }
+    // Of the bytes heard in this call, whatever comes after them; all of these at once:
+    ensures all { Audits settings result (R.input source.old) (R.input source.new) }
 
-    // Good only for a good stream, and with its counts and what it says of success: references, sources, cases, attempts,
-    // their numbers, retries, success and the rest.
-    ensures good { OfSource (R.to_come source.old) (λ bytes. GoodRunsOnly settings bytes result) }
+    // Good only at the source's end, where the bytes heard are a good stream, and with its counts and what it says of success:
+    // references, sources, cases, attempts, their numbers, retries, success and the rest.
+    ensures good { GoodHeard settings (R.input source.old) (R.input source.new) result }
     // Bad only where no good stream has these first lines.
-    ensures bad { OfSource (R.to_come source.old)
+    ensures bad { OfInput (R.input source.old) (R.input source.new)
         (λ bytes. NoneIsGood settings bytes (verdict_in result)) }
     // The verdict is that of the first line that has a fault.
-    ensures told { OfSource (R.to_come source.old) (λ bytes. AnswersTold settings bytes result) }
+    ensures told { OfInput (R.input source.old) (R.input source.new)
+        (λ bytes. AnswersTold settings bytes result) }
     // A good stream is answered Good, unless a read failed or memory was refused.
-    ensures decided { OfSource (R.to_come source.old)
+    ensures decided { OfInput (R.input source.old) (R.input source.new)
         (λ bytes. DecidesGood settings bytes result) }
     // Unsupported only at a line that shows the reason.
-    ensures unsupported { OfSource (R.to_come source.old)
+    ensures unsupported { OfInput (R.input source.old) (R.input source.new)
         (λ bytes. ShowsUnsupported bytes (verdict_in result)) }
 
     // A failed read is reported, and only where the lines before it show no fault.
-    ensures failures { CountsFailure (is_failed_read result) (R.failed_calls source.old)
-        (R.failed_calls source.new) }
+    ensures failures { CountsFailure (is_failed_read result) (R.input source.old).failed_calls
+        (R.input source.new).failed_calls }
     ensures read_failed { result ≡ Err ReadFailed
-        → OfReads (R.to_come source.old) (R.to_come source.new) (ShowNoFault settings) }
+        → OfReads (R.input source.old) (R.input source.new) (ShowNoFault settings) }
 
-    ensures ahead { OfReads (R.to_come source.old) (R.to_come source.new)
+    ensures ahead { OfReads (R.input source.old) (R.input source.new)
         (ReadsUpTo (verdict_in result)) }
 {
     let mut state = State::new(alloc, settings.first_attempt);
@@ -202,39 +202,8 @@ fn verdict_of(audited: Result<Audited, Trouble>) -> Result<Verdict, Trouble>
     }
 }
 
-/// Audits a stream by the settings, as `audit_run` does, and gives the verdict alone.
-///
-/// # Errors
-/// As those of `audit_run`.
-pub fn audit_by<R: ByteSource>(
-    alloc: Global,
-    source: &mut R,
-    settings: Settings,
-) -> Result<Verdict, Trouble>
-    ensures same_bytes { OfReads (R.to_come source.old) (R.to_come source.new)
-        (IsVerdictOf settings result) }
-    ensures good { OfSource (R.to_come source.old)
-        (λ bytes. GoodOnlyForGood settings bytes result) }
-    ensures bad { OfSource (R.to_come source.old)
-        (λ bytes. NoneIsGood settings bytes result) }
-    ensures told { OfSource (R.to_come source.old)
-        (λ bytes. VerdictTold settings bytes result) }
-    ensures decided { OfSource (R.to_come source.old)
-        (λ bytes. VerdictDecidesGood settings bytes result) }
-    ensures unsupported { OfSource (R.to_come source.old)
-        (λ bytes. ShowsUnsupported bytes result) }
-
-    ensures failures { CountsFailure (is_failed_read result) (R.failed_calls source.old)
-        (R.failed_calls source.new) }
-    ensures read_failed { result ≡ Err ReadFailed
-        → OfReads (R.to_come source.old) (R.to_come source.new) (ShowNoFault settings) }
-
-    ensures ahead { OfReads (R.to_come source.old) (R.to_come source.new) (ReadsUpTo result) }
-{
-    verdict_of(audit_run(alloc, source, settings))
-}
-
-/// Audits a stream by a policy of good statuses, with attempts counted from 0: `audit_by` under `Settings::from(policy)`.
+/// Audits a stream by a policy of good statuses, with attempts counted from 0, as `audit_run` does under
+/// `Settings::from(policy)`, and gives the verdict alone.
 ///
 /// # Errors
 /// As those of `audit_run`.
@@ -243,27 +212,9 @@ pub fn audit_with<R: ByteSource>(
     source: &mut R,
     policy: Policy,
 ) -> Result<Verdict, Trouble>
-    ensures same_bytes { OfReads (R.to_come source.old) (R.to_come source.new)
-        (IsVerdictOf (settings_of policy) result) }
-    ensures good { OfSource (R.to_come source.old)
-        (λ bytes. GoodOnlyForGood (settings_of policy) bytes result) }
-    ensures bad { OfSource (R.to_come source.old)
-        (λ bytes. NoneIsGood (settings_of policy) bytes result) }
-    ensures told { OfSource (R.to_come source.old)
-        (λ bytes. VerdictTold (settings_of policy) bytes result) }
-    ensures decided { OfSource (R.to_come source.old)
-        (λ bytes. VerdictDecidesGood (settings_of policy) bytes result) }
-    ensures unsupported { OfSource (R.to_come source.old)
-        (λ bytes. ShowsUnsupported bytes result) }
-
-    ensures failures { CountsFailure (is_failed_read result) (R.failed_calls source.old)
-        (R.failed_calls source.new) }
-    ensures read_failed { result ≡ Err ReadFailed
-        → OfReads (R.to_come source.old) (R.to_come source.new) (ShowNoFault (settings_of policy)) }
-
-    ensures ahead { OfReads (R.to_come source.old) (R.to_come source.new) (ReadsUpTo result) }
+    ensures { IsVerdictOf (settings_of policy) result (R.input source.old) (R.input source.new) }
 {
-    audit_by(alloc, source, Settings::from(policy))
+    verdict_of(audit_run(alloc, source, Settings::from(policy)))
 }
 
 /// Audits a stream by the strict policy, `audit_with` under `Policy::Strict`: the good statuses are `Passed` and `Skipped`.
@@ -271,26 +222,8 @@ pub fn audit_with<R: ByteSource>(
 /// # Errors
 /// As those of `audit_run`.
 pub fn audit<R: ByteSource>(alloc: Global, source: &mut R) -> Result<Verdict, Trouble>
-    ensures same_bytes { OfReads (R.to_come source.old) (R.to_come source.new)
-        (IsVerdictOf (settings_of Policy.Strict) result) }
-    ensures good { OfSource (R.to_come source.old)
-        (λ bytes. GoodOnlyForGood (settings_of Policy.Strict) bytes result) }
-    ensures bad { OfSource (R.to_come source.old)
-        (λ bytes. NoneIsGood (settings_of Policy.Strict) bytes result) }
-    ensures told { OfSource (R.to_come source.old)
-        (λ bytes. VerdictTold (settings_of Policy.Strict) bytes result) }
-    ensures decided { OfSource (R.to_come source.old)
-        (λ bytes. VerdictDecidesGood (settings_of Policy.Strict) bytes result) }
-    ensures unsupported { OfSource (R.to_come source.old)
-        (λ bytes. ShowsUnsupported bytes result) }
-
-    ensures failures { CountsFailure (is_failed_read result) (R.failed_calls source.old)
-        (R.failed_calls source.new) }
-    ensures read_failed { result ≡ Err ReadFailed
-        → OfReads (R.to_come source.old) (R.to_come source.new)
-        (ShowNoFault (settings_of Policy.Strict)) }
-
-    ensures ahead { OfReads (R.to_come source.old) (R.to_come source.new) (ReadsUpTo result) }
+    ensures { IsVerdictOf (settings_of Policy.Strict) result (R.input source.old)
+        (R.input source.new) }
 {
     audit_with(alloc, source, Policy::Strict)
 }

@@ -1,8 +1,8 @@
 //! The audit of a stream, with what it differs in from its sources.
 ghost use Rattle.std.specs.Prelude.{◌≡◌};
 ghost use Rattle.cm_envelope.specs.Device.{CountsFailure, OfReads};
-ghost use Rattle.cm_audit.specs.Audit.{is_failed_read};
-ghost use Rattle.cm_audit.specs.Differs.{IsDiffersAuditOf, reported, with_difference};
+ghost use Rattle.cm_audit.specs.Audit.{GoodAtEnd, is_failed_read};
+ghost use Rattle.cm_audit.specs.Differs.{IsDiffersAuditOf, audited_of, reported, with_difference};
 
 use crate::auditing::judge_lines;
 use crate::differing::Differing;
@@ -72,10 +72,11 @@ pub fn audit_differs<R: ByteSource>(
     settings: Settings,
 ) -> Result<AuditedDifference, Trouble>
     // The audit, and for a fault against a source the difference, all of the same bytes.
-    ensures same_bytes { OfReads (R.to_come source.old) (R.to_come source.new)
+    ensures same_bytes { OfReads (R.input source.old) (R.input source.new)
         (IsDiffersAuditOf settings result) }
-    ensures failures { CountsFailure (is_failed_read result) (R.failed_calls source.old)
-        (R.failed_calls source.new) }
+    ensures at_end { GoodAtEnd (R.input source.new) (audited_of result) }
+    ensures failures { CountsFailure (is_failed_read result) (R.input source.old).failed_calls
+        (R.input source.new).failed_calls }
 {
     let mut state = State::new(alloc, settings.first_attempt);
     let mut differing = Differing { difference: None };

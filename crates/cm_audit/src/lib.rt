@@ -13,8 +13,7 @@
 //! }
 //! ```
 //!
-//! `audit_run` is the audit, by settings; `audit_by`, `audit_with` and `audit` give its verdict alone, by settings, by a
-//! policy and by the strict one. `audit_cases` keeps what the cases of a good stream say, and `audit_differs` how a stream
+//! `audit_run` is the audit, by settings; `audit_with` and `audit` give its verdict alone, by a policy and by the strict one. `audit_cases` keeps what the cases of a good stream say, and `audit_differs` how a stream
 //! differs from what its sources compile to. `audited_at` is the answer where the reading ends at a line, for a `Stop`. `track`
 //! takes an envelope into a record of attempts, and `kept_status` gives the status that such a record keeps.
 #![tactic(auto)]
@@ -36,7 +35,7 @@ mod state;
 mod stop;
 mod watch;
 
-pub use auditing::{audit, audit_by, audit_run, audit_with, audited_at};
+pub use auditing::{audit, audit_run, audit_with, audited_at};
 pub use cm_attempt::{Policy, Settings};
 pub use cm_differs::Difference;
 pub use cm_stream::{Audited, Counts, Reason, StreamFault, Verdict};

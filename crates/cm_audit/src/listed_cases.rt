@@ -2,7 +2,7 @@
 ghost use Rattle.std.specs.Prelude.{◌≡◌, Err};
 ghost use Rattle.cm_envelope.specs.Device.{CountsFailure, OfReads};
 ghost use Rattle.cm_envelope.specs.declared.feed.Trouble.TheVariants.{ReadFailed};
-ghost use Rattle.cm_audit.specs.Audit.{is_failed_read};
+ghost use Rattle.cm_audit.specs.Audit.{GoodAtEnd, is_failed_read};
 ghost use Rattle.cm_audit.specs.Cases.{IsCasesAuditOf, audited_in, with_cases};
 
 use crate::auditing::judge_lines;
@@ -51,10 +51,11 @@ pub fn audit_cases<R: ByteSource>(
     settings: Settings,
 ) -> Result<AuditedCases, Trouble>
     // The audit, and for Good the listing of the stream's envelopes and the results of its cases, all of the same bytes.
-    ensures same_bytes { OfReads (R.to_come source.old) (R.to_come source.new)
+    ensures same_bytes { OfReads (R.input source.old) (R.input source.new)
         (IsCasesAuditOf settings result) }
-    ensures failures { CountsFailure (is_failed_read result) (R.failed_calls source.old)
-        (R.failed_calls source.new) }
+    ensures at_end { GoodAtEnd (R.input source.new) (audited_in result) }
+    ensures failures { CountsFailure (is_failed_read result) (R.input source.old).failed_calls
+        (R.input source.new).failed_calls }
 {
     let mut state = State::new(alloc, settings.first_attempt);
     let mut listing = Listing::new(alloc);

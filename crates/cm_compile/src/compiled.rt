@@ -1,18 +1,17 @@
 //! The lines of a feature file.
 ghost use Rattle.std.specs.Prelude.{◌≡◌, ◌≢◌, ◌+◌, ◌<◌, ◌^◌, ◌++◌, ◌↔◌, ℕ, List, Err, IfOk, OnOk, IfErr, sum_by, codes};
 ghost use Rattle.std.specs.List.{concat};
-ghost use Rattle.std.specs.Io.KnownBytes.{Appends};
 ghost use Rattle.gk_grammar.specs.Documents.{IsTooLong};
 ghost use Rattle.gk_tree.specs.declared.fault.ParseFault.{ParseFault};
 ghost use Rattle.gk_tree.specs.Views.{too_long};
 ghost use Rattle.gk_pickle.specs.Pickles.{pickles};
 ghost use Rattle.gk_pickle.specs.Scenarios.{pickles_of_one};
 ghost use Rattle.gk_pickle.specs.TreeJson.{source_data, document_data};
-ghost use Rattle.cm_envelope.specs.Device.{count_up};
+ghost use Rattle.cm_envelope.specs.Device.{Writes, count_up};
 ghost use Rattle.cm_compile.specs.declared.fault.CompileFault.TheVariants.{Parse, WriteFailed};
 ghost use Rattle.cm_compile.specs.Compiled.{json_line, id_count, pickle_lines, compiled_lines, IsCompiledOf};
 ghost use Rattle.cm_compile.specs.Faults.{IsRefusedWith};
-ghost use Rattle.cm_envelope.specs.Writing.{AppendsFront};
+ghost use Rattle.cm_envelope.specs.Writing.{WritesFront};
 
 use crate::fault::CompileFault;
 use cm_envelope::{ByteSink, write_all};
@@ -137,15 +136,16 @@ pub fn write_compiled<W: ByteSink>(
     sink: &mut W,
 ) -> Result<(), CompileFault>
     ensures written { OnOk result ((bytes : List ℕ) × IsCompiledOf uri.now text.now bytes
-        × Appends (W.taken sink.old) (W.taken sink.new) bytes) }
-    ensures none_failed { OnOk result (W.failed_calls sink.new ≡ W.failed_calls sink.old) }
+        × Writes (W.output sink.old) (W.output sink.new) bytes) }
+    ensures none_failed { OnOk result
+        ((W.output sink.new).failed_calls ≡ (W.output sink.old).failed_calls) }
 
     // Where a write failed, only the first of the bytes were taken.
     ensures front { result ≡ Err WriteFailed →
         (bytes : List ℕ) × IsCompiledOf uri.now text.now bytes
-        × AppendsFront (W.taken sink.old) (W.taken sink.new) bytes }
+        × WritesFront (W.output sink.old) (W.output sink.new) bytes }
     ensures failed { result ≡ Err WriteFailed →
-        W.failed_calls sink.new ≡ count_up (W.failed_calls sink.old) }
+        (W.output sink.new).failed_calls ≡ count_up (W.output sink.old).failed_calls }
 
     // With any other fault the sink is as it was.
     ensures refused { (f : ParseFault) → result ≡ Err (Parse f) → IsRefusedWith text.now f }

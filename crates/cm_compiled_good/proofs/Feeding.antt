@@ -5,10 +5,10 @@ use Rattle.std.specs.List.{concat}
 use Rattle.cm_envelope.specs.declared.envelope.Envelope.{Envelope}
 use Rattle.cm_envelope.specs.declared.feed.Trouble.{Trouble}
 use Rattle.cm_envelope.specs.Feeds.{has_line_feed}
-use Rattle.cm_envelope.specs.Lines.{Line, is_blank, lines_of, trouble_of, size, feed_lines, unless_trouble}
+use Rattle.cm_envelope.specs.Lines.{Line, is_blank, lines_of, trouble_of, size, feed_lines, unless_trouble, max_line_bytes, max_stream_bytes}
 use Rattle.cm_envelope.specs.Reading.{envelope_of_line}
 use Rattle.cm_envelope.proofs.Lines.{lines_of-whole}
-use Rattle.cm_stream.specs.Stream.{max_line_bytes, max_stream_bytes, fed, numbered, read_line, as_read, IsRead, envelopes}
+use Rattle.cm_stream.specs.Stream.{fed, numbered, read_line, as_read, IsRead, envelopes}
 
 -- a text is a line that is read as the envelope, and a LF
 pub record IsLineWith (text : List ℕ) (e : Envelope) : Type 0 where

@@ -9,7 +9,7 @@ use Rattle.gk_pickle.specs.Pickles.{pickles as compiled}
 use Rattle.cm_attempt.specs.declared.settings.Settings.{Settings}
 use Rattle.cm_stream.specs.Good.{Good}
 use Rattle.cm_stream.specs.Stream.{fed, IsRead, IsGoodStream, envelopes, counts_of, unrun}
-use Rattle.cm_stream.specs.References.{sources, pickles, cases, starts, as_source, as_case, as_start}
+use Rattle.cm_stream.specs.References.{sources, pickles, cases, starts, as_source, as_case, as_start, run_succeeded}
 use Rattle.cm_stream.proofs.FaultlessGood.{faultless_are_good}
 use Rattle.cm_read_back.specs.Documents.{IsReadable}
 use Rattle.cm_compile.specs.Compiled.{id_count}
@@ -57,10 +57,13 @@ good_if_plain settings uri text d readable k plain fits =
     let read : IsRead (concat (all_texts uri text d)) (with_numbers 1 es) =
     they_are_read (all_texts uri text d) es (all_lines uri text d readable plain) (ap (λ (bytes : List ℕ). (fed bytes).trouble) joined ∙ fits) in
     let good : Good settings es = faultless_are_good settings es (none_faulty settings uri text d k) in
-    let same : envelopes (with_numbers 1 es) ≡ es = numbers_off 1 es in
-    record {
-      lines = with_numbers 1 es;
-      read = subst (λ bytes. IsRead bytes (with_numbers 1 es)) joined read;
-      good = subst (Good settings) (sym same) good;
-      exact = counts_are uri text d ∙ ap counts_of (sym same);
-    }
+    let same : envelopes (with_numbers 1 es) ≡ es = numbers_off 1 es in (
+      run_succeeded (envelopes (with_numbers 1 es)),
+      record {
+        lines = with_numbers 1 es;
+        read = subst (λ bytes. IsRead bytes (with_numbers 1 es)) joined read;
+        good = subst (Good settings) (sym same) good;
+        exact = counts_are uri text d ∙ ap counts_of (sym same);
+        said = refl;
+      },
+    )

@@ -1,7 +1,6 @@
 -- What a feed stores between two calls, and what one call does to it.
 use Rattle.std.specs.Prelude.{ℕ, ◌≡◌, ◌+◌, ◌<◌, ◌≤◌, ◌⊎◌, ⊤, Bool, true, false, not, IsTrue, ◌||◌, ◌==◌, List, [], ◌∷◌, ◌++◌, length, Option, Some, None, Result, Ok, Err, IsSome, if◌then◌else◌}
-use Rattle.std.specs.Io.KnownBytes.{Consumes, IsAtEnd}
-use Rattle.cm_envelope.specs.Device.{AreToCome}
+use Rattle.cm_envelope.specs.Device.{Hears, Input}
 use Rattle.cm_envelope.specs.Lines.{Line, Fed, size, line_feed, lines_of, feed_lines, trouble_of, nothing, trouble_alone, line_then}
 use Rattle.cm_envelope.specs.declared.feed.Trouble.{Trouble}
 use Rattle.cm_envelope.specs.declared.feed.Trouble.TheVariants.{ReadFailed, LineTooLong, StreamTooLong, Memory}
@@ -97,9 +96,9 @@ AnswersFirst fed answer = answer ≡ first_of fed.lines fed.trouble
 abbrev pub IsLineWithin : ℕ → List ℕ → Type 0
 IsLineWithin limit line = (has_line_feed line ≡ false) × (length line ≤ limit)
 
--- where the end was read, the source is at its end: nothing is left to come
-abbrev pub EndsWithSource : Stored → Option (List ℕ) → Type 0
-EndsWithSource s to_come = s.is_ended ≡ true → IsAtEnd to_come
+-- where the feed has read the end, the source's last answer was the end
+abbrev pub EndsWithSource : Stored → Input → Type 0
+EndsWithSource s input = s.is_ended ≡ true → input.is_over ≡ true
 
 -- these bytes are no whole line, and no limit is passed in them
 pub record ShowNothing (line_limit stream_limit before : ℕ) (bytes : List ℕ) : Type 0 where
@@ -139,10 +138,9 @@ Gives old new before after (Err LineTooLong) = left old before ≡ trouble_alone
 Gives old new before after (Err StreamTooLong) = left old before ≡ trouble_alone StreamTooLong
 Gives old new before after (Err Memory) = ⊤
 
--- bytes that may be left after a call: the source's own where it shows them, and none where the call read the end
-abbrev pub MayBeLeft : (old new : Stored) → Option (List ℕ) → List ℕ → Type 0
-MayBeLeft old new after rest =
-    AreToCome after rest × (old.is_ended ≡ false → new.is_ended ≡ true → rest ≡ [])
+-- any bytes may come after a call, but none where the call read the end
+abbrev pub MayBeLeft : (old new : Stored) → List ℕ → Type 0
+MayBeLeft old new rest = old.is_ended ≡ false → new.is_ended ≡ true → rest ≡ []
 
 -- P of the line, where one is answered
 abbrev pub OnLine : NextLine → (List ℕ → Type 0) → Type 0
@@ -151,21 +149,20 @@ OnLine (Ok None) P = ⊤
 OnLine (Err t) P = ⊤
 
 -- what one call leaves
-pub record Leaves (old new : Stored) (before after : Option (List ℕ))
-    (answer : NextLine) : Type 0 where
+pub record Leaves (old new : Stored) (before after : Input) (answer : NextLine) : Type 0 where
   -- the limits stay
   pub line_limit : new.line_limit ≡ old.line_limit
   pub stream_limit : new.stream_limit ≡ old.stream_limit
   -- the end and a trouble are answered for good, and the end only once it was read
   pub over : new.over ≡ over_after answer
   pub ended : answer ≡ Ok None → new.is_ended ≡ true
-  -- once the end was read, nothing is left to come of the source
+  -- once the feed has read the end, it is the source's last answer
   pub source : EndsWithSource old before → EndsWithSource new after
-  -- what was read of the source, which is nothing once the end was read
+  -- the bytes heard of the source, which are none once the end was read
   pub read : List ℕ
-  pub consumed : Consumes before after read
+  pub heard : Hears before after read
   pub past : old.is_ended ≡ true → (read ≡ []) × (new.is_ended ≡ true)
   -- what is counted and held after a line, and what is left to answer after any call
   pub line : old.over ≡ None → OnLine answer (λ line. GivesLine old new line)
-  pub gives : old.over ≡ None → (rest : List ℕ) → MayBeLeft old new after rest
+  pub gives : old.over ≡ None → (rest : List ℕ) → MayBeLeft old new rest
       → Gives old new (read ++ rest) rest answer

@@ -16,6 +16,13 @@ carriage_return = 13
 abbrev pub space : ℕ
 space = 32
 
+-- the most bytes that a line may have without its LF, and that a stream may have with all LFs
+abbrev pub max_line_bytes : ℕ
+max_line_bytes = 67_108_864
+
+abbrev pub max_stream_bytes : ℕ
+max_stream_bytes = 1_073_741_824
+
 -- blank: no byte, or spaces, tabs and CRs alone
 abbrev pub is_blank : List ℕ → Bool
 is_blank line =

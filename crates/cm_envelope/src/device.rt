@@ -1,8 +1,9 @@
-//! Devices that show their bytes and count their failed calls, over std's readers and writers.
-ghost use Rattle.std.specs.Prelude.{◌≡◌, ℕ, Option, List, IfOk, ◌≤◌, is_err, length};
+//! Devices that remember their bytes and count their failed calls, over std's readers and writers.
+ghost use Rattle.std.specs.Prelude.{◌≡◌, ◌≤◌, ℕ, [], false, IfOk, is_err, length};
 ghost use Rattle.std.specs.Io.KnownBytes.{Keeps, ReadConsumes, WriteAppends};
-ghost use Rattle.cm_envelope.specs.Device.{CountsFailure, is_failed_write};
+ghost use Rattle.cm_envelope.specs.Device.{AddsRead, AddsWrite, CountsFailure, Input, Output, PassesOn, is_failed_write};
 
+use crate::record::{Heard, Taken};
 use std::io::{Read, Write};
 use thiserror::Error;
 
@@ -11,14 +12,11 @@ use thiserror::Error;
 #[error("the device failed")]
 pub struct DeviceFailed;
 
-/// What bytes are read from. Contracts see the bytes that are still to come, where the source shows them, and how many of
-/// its calls have failed: the count rises by one with each, up to 18446744073709551615, and with nothing else.
+/// What bytes are read from. Contracts see what its calls gave so far, and how many of them failed: the count rises by one
+/// with each failed call, up to 18446744073709551615, and with nothing else.
 pub trait ByteSource {
-    /// The bytes that are still to come, where the source shows them.
-    ghost to_come: { Self → Option (List ℕ) };
-
-    /// How many calls have failed.
-    ghost failed_calls: { Self → ℕ };
+    /// What its calls left so far.
+    ghost input: { Self → Input };
 
     /// Reads some bytes into the front of `piece`, and gives how many. 0 for a piece that isn't empty is the end.
     ///
@@ -26,19 +24,18 @@ pub trait ByteSource {
     /// The read failed. Then no byte was taken from the source.
     fn read_some(&mut self, piece: &mut [u8]) -> Result<usize, DeviceFailed>
         ensures count { IfOk result (λ n. n ≤ length piece.new) }
-        ensures bytes { ReadConsumes (to_come self.old) (to_come self.new) result piece.new }
-        ensures failures { CountsFailure (is_err result) (failed_calls self.old)
-            (failed_calls self.new) };
+        ensures heard { AddsRead (input self.old) (input self.new) result piece.new }
+        ensures shown { ReadConsumes (input self.old).to_come (input self.new).to_come result
+            piece.new }
+        ensures failures { CountsFailure (is_err result) (input self.old).failed_calls
+            (input self.new).failed_calls };
 }
 
-/// What bytes are written to. Contracts see the bytes that it has taken, where it shows them, and how many of its calls
-/// have failed: the count rises by one with each, up to 18446744073709551615, and with nothing else.
+/// What bytes are written to. Contracts see what its calls took so far, and how many of them failed: the count rises by one
+/// with each failed call, up to 18446744073709551615, and with nothing else.
 pub trait ByteSink {
-    /// The bytes that were taken, where the sink shows them.
-    ghost taken: { Self → Option (List ℕ) };
-
-    /// How many calls have failed.
-    ghost failed_calls: { Self → ℕ };
+    /// What its calls left so far.
+    ghost output: { Self → Output };
 
     /// Takes some of the bytes, from the first on, and gives how many. To take none of a slice that isn't empty counts
     /// as a failed call.
@@ -47,18 +44,21 @@ pub trait ByteSink {
     /// The write failed. Then no byte was taken.
     fn write_some(&mut self, bytes: &[u8]) -> Result<usize, DeviceFailed>
         ensures count { IfOk result (λ n. n ≤ length bytes.now) }
-        ensures bytes { WriteAppends (taken self.old) (taken self.new) result bytes.now }
-        ensures failures { CountsFailure (is_failed_write result bytes.now) (failed_calls self.old)
-            (failed_calls self.new) };
+        ensures taken { AddsWrite (output self.old) (output self.new) result bytes.now }
+        ensures shown { WriteAppends (output self.old).shown (output self.new).shown result
+            bytes.now }
+        ensures failures { CountsFailure (is_failed_write result bytes.now)
+            (output self.old).failed_calls (output self.new).failed_calls };
 
     /// Passes on what was taken.
     ///
     /// # Errors
     /// The flush failed.
     fn flush(&mut self) -> Result<(), DeviceFailed>
-        ensures bytes { Keeps (taken self.old) (taken self.new) }
-        ensures failures { CountsFailure (is_err result) (failed_calls self.old)
-            (failed_calls self.new) };
+        ensures taken { PassesOn (output self.old) (output self.new) result }
+        ensures shown { Keeps (output self.old).shown (output self.new).shown }
+        ensures failures { CountsFailure (is_err result) (output self.old).failed_calls
+            (output self.new).failed_calls };
 }
 
 /// A source over a reader of std. Each error of a read is a failed call; no read is repeated.
@@ -66,30 +66,45 @@ pub trait ByteSink {
 pub struct Reader<R> {
     inner: R,
     failed_reads: u64,
+    heard: Heard,
 }
 
 impl<R: Read> Reader<R> {
-    /// A source with the bytes of the reader, of which no call has failed.
+    /// A source with the bytes of the reader, of which nothing was heard and no call has failed.
     pub fn new(inner: R) -> Self
-        ensures bytes { ⟦<Reader<R> as ByteSource>⟧.to_come result ≡ R.remaining inner }
-        ensures failures { ⟦<Reader<R> as ByteSource>⟧.failed_calls result ≡ 0 }
+        ensures heard { (⟦<Reader<R> as ByteSource>⟧.input result).heard ≡ [] }
+        ensures over { (⟦<Reader<R> as ByteSource>⟧.input result).is_over ≡ false }
+        ensures shown { (⟦<Reader<R> as ByteSource>⟧.input result).to_come ≡ R.remaining inner }
+        ensures failures { (⟦<Reader<R> as ByteSource>⟧.input result).failed_calls ≡ 0 }
     {
         Reader {
             inner,
             failed_reads: 0,
+            heard: Heard::new(),
         }
     }
 }
 
 impl<R: Read> ByteSource for Reader<R> {
-    ghost to_come = { λ r. R.remaining r.inner };
-
-    ghost failed_calls = { λ r. r.failed_reads };
+    ghost input = { λ r. record {
+      heard = r.heard.bytes;
+      is_over = r.heard.is_over;
+      to_come = R.remaining r.inner;
+      failed_calls = r.failed_reads;
+    } };
 
     fn read_some(&mut self, piece: &mut [u8]) -> Result<usize, DeviceFailed> {
         match self.inner.read(piece) {
-            Ok(n) => Ok(n),
+            Ok(n) => {
+                if n == 0 && !piece.is_empty() {
+                    self.heard.end();
+                } else {
+                    self.heard.note(&piece[..n]);
+                }
+                Ok(n)
+            }
             Err(_) => {
+                self.heard.note(&piece[..0]);
                 self.failed_reads = self.failed_reads.saturating_add(1);
                 Err(DeviceFailed)
             }
@@ -102,25 +117,32 @@ impl<R: Read> ByteSource for Reader<R> {
 pub struct Writer<W> {
     inner: W,
     failed_calls: u64,
+    taken: Taken,
 }
 
 impl<W: Write> Writer<W> {
-    /// A sink that has taken what the writer has, of which no call has failed.
+    /// A sink with what the writer has, which has taken nothing and of which no call has failed.
     pub fn new(inner: W) -> Self
-        ensures bytes { ⟦<Writer<W> as ByteSink>⟧.taken result ≡ W.contents inner }
-        ensures failures { ⟦<Writer<W> as ByteSink>⟧.failed_calls result ≡ 0 }
+        ensures taken { (⟦<Writer<W> as ByteSink>⟧.output result).taken ≡ [] }
+        ensures flushed { (⟦<Writer<W> as ByteSink>⟧.output result).flushed ≡ 0 }
+        ensures shown { (⟦<Writer<W> as ByteSink>⟧.output result).shown ≡ W.contents inner }
+        ensures failures { (⟦<Writer<W> as ByteSink>⟧.output result).failed_calls ≡ 0 }
     {
         Writer {
             inner,
             failed_calls: 0,
+            taken: Taken::new(),
         }
     }
 }
 
 impl<W: Write> ByteSink for Writer<W> {
-    ghost taken = { λ w. W.contents w.inner };
-
-    ghost failed_calls = { λ w. w.failed_calls };
+    ghost output = { λ w. record {
+      taken = w.taken.bytes;
+      flushed = w.taken.flushed;
+      shown = W.contents w.inner;
+      failed_calls = w.failed_calls;
+    } };
 
     fn write_some(&mut self, bytes: &[u8]) -> Result<usize, DeviceFailed> {
         match self.inner.write(bytes) {
@@ -128,6 +150,7 @@ impl<W: Write> ByteSink for Writer<W> {
                 if n == 0 && !bytes.is_empty() {
                     self.failed_calls = self.failed_calls.saturating_add(1);
                 }
+                self.taken.note(&bytes[..n]);
                 Ok(n)
             }
             Err(_) => {
@@ -139,7 +162,10 @@ impl<W: Write> ByteSink for Writer<W> {
 
     fn flush(&mut self) -> Result<(), DeviceFailed> {
         match self.inner.flush() {
-            Ok(()) => Ok(()),
+            Ok(()) => {
+                self.taken.flush();
+                Ok(())
+            }
             Err(_) => {
                 self.failed_calls = self.failed_calls.saturating_add(1);
                 Err(DeviceFailed)

@@ -2,10 +2,10 @@
 ghost use Rattle.std.specs.Prelude.{◌≡◌, ◌≤◌, ◌<◌, ◌-◌, ◌+◌, ◌++◌, ◌&&◌, ℕ, List, length, true, false, [], None, Some, Ok, IfNone, IfSome, is_none};
 ghost use Rattle.std.specs.Borrow.{sem};
 ghost use Rattle.std.specs.Io.BufRead.{Rests};
-ghost use Rattle.cm_envelope.specs.Device.{CountsFailure, OfSource};
+ghost use Rattle.cm_envelope.specs.Device.{CountsFailure, Hears, OfInput};
 ghost use Rattle.cm_envelope.specs.Feeds.{has_line_feed, new_feed, answer_of, last_answer, left, is_failed_read, NeedsNoRead, AnswersFirst, OnLine, IsLineWithin, EndsWithSource, Leaves};
 ghost use Rattle.cm_envelope.specs.Held.{items, FindsEnd, Judges, Finds};
-ghost use Rattle.std.specs.Io.KnownBytes.{Consumes, IsAtEnd};
+ghost use Rattle.cm_envelope.specs.Lines.{max_line_bytes, max_stream_bytes};
 ghost use Rattle.cm_envelope.specs.contracts.feed.Feed.{the_row};
 
 use crate::device::{ByteSource, DeviceFailed};
@@ -93,7 +93,7 @@ impl Model for Feed {
 impl Feed {
     /// A feed of a stream's lines of up to `LINE_LIMIT` bytes, within its first `STREAM_LIMIT` bytes.
     pub fn new(alloc: Global) -> Self
-        ensures { result ≡ new_feed LINE_LIMIT STREAM_LIMIT }
+        ensures { result ≡ new_feed max_line_bytes max_stream_bytes }
     {
         Feed::with_limits(alloc, LINE_LIMIT, STREAM_LIMIT)
     }
@@ -125,7 +125,7 @@ impl Feed {
     pub fn next_line<S: ByteSource>(&mut self, source: &mut S) -> Result<Option<&[u8]>, Trouble>
         // A feed that is over answers the same again, and any other the first of what is left.
         ensures repeats { IfSome self.old.over (λ over. answer_of result ≡ last_answer over) }
-        ensures first { IfNone self.old.over (OfSource (S.to_come source.old)
+        ensures first { IfNone self.old.over (OfInput (S.input source.old) (S.input source.new)
             (λ bytes. AnswersFirst (left self.old bytes) (answer_of result))) }
         ensures line { OnLine (answer_of result) (IsLineWithin self.old.line_limit) }
 
@@ -133,16 +133,16 @@ impl Feed {
         ensures unread { NeedsNoRead self.old → source.new ≡ source.old }
         ensures failures { CountsFailure
             (is_none self.old.over && is_failed_read (answer_of result))
-            (S.failed_calls source.old) (S.failed_calls source.new) }
+            (S.input source.old).failed_calls (S.input source.new).failed_calls }
 
-        // At the end nothing is left to come.
-        ensures end { EndsWithSource self.old (S.to_come source.old)
+        // The end is answered once the source's last answer was the end.
+        ensures end { EndsWithSource self.old (S.input source.old)
             → answer_of result ≡ Ok None
-            → IsAtEnd (S.to_come source.new) }
+            → (S.input source.new).is_over ≡ true }
 
         // What the feed is like once the line is let go.
         ensures* leaves { sem 𝓛 (Rests the_row self.entry (λ new.
-            Leaves self.old new (S.to_come source.old) (S.to_come source.new) (answer_of result))) }
+            Leaves self.old new (S.input source.old) (S.input source.new) (answer_of result))) }
     {
         match self.over {
             Some(Over::Ended) => return Ok(None),
@@ -191,11 +191,11 @@ fn find_line<S: ByteSource>(
     requires few { length (items window.old) ≤ 65536 }
     requires limit { line_limit ≤ LINE_LIMIT }
     ensures reads { (read : List ℕ) × (items window.new ≡ items window.old ++ read)
-        × Consumes (S.to_come source.old) (S.to_come source.new) read
-        × Finds line_limit room (items window.new) (S.to_come source.new) result }
+        × Hears (S.input source.old) (S.input source.new) read
+        × Finds line_limit room (items window.new) (S.input source.new).is_over result }
     ensures unread { has_line_feed (items window.old) ≡ true → source.new ≡ source.old }
-    ensures failures { CountsFailure (is_failed_read result) (S.failed_calls source.old)
-        (S.failed_calls source.new) }
+    ensures failures { CountsFailure (is_failed_read result) (S.input source.old).failed_calls
+        (S.input source.new).failed_calls }
 {
     let mut searched = 0;
     'pieces: loop {

@@ -15,7 +15,8 @@
 //! ```
 //!
 //! `Reader` and `Writer` make a device of a reader and a writer of std, `Feed` cuts the bytes into lines within limits,
-//! `is_blank_line` finds the lines that have no envelope, and `write_all` and `write_lines` write.
+//! `is_blank_line` finds the lines that have no envelope, and `write_all` writes. `Heard` and
+//! `Taken` are what a device of your own remembers for the clauses.
 #![tactic(auto)]
 
 mod blank;
@@ -31,6 +32,7 @@ mod read_documents;
 mod read_envelopes;
 mod read_line;
 mod read_pickles;
+mod record;
 mod window;
 mod write;
 
@@ -49,4 +51,5 @@ pub use pickle::{
     PickleTag, StepKind,
 };
 pub use read_line::read_envelope;
-pub use write::{write_all, write_lines};
+pub use record::{Heard, Taken};
+pub use write::write_all;

@@ -1,7 +1,6 @@
 //! The bytes of a source that were read and not yet given, and room for more after them.
-ghost use Rattle.std.specs.Prelude.{◌≡◌, ℕ, ◌+◌, ◌-◌, ◌<◌, ◌≤◌, List, [], ◌++◌, length, vec_len, slice_range, is_err, IfOk, OnOk, OnErr};
-ghost use Rattle.std.specs.Io.KnownBytes.{Keeps, Consumes, IsAtEnd};
-ghost use Rattle.cm_envelope.specs.Device.{CountsFailure};
+ghost use Rattle.std.specs.Prelude.{◌≡◌, ℕ, true, ◌+◌, ◌-◌, ◌<◌, ◌≤◌, List, [], ◌++◌, length, vec_len, slice_range, is_err, IfOk, OnOk, OnErr};
+ghost use Rattle.cm_envelope.specs.Device.{CountsFailure, Hears};
 
 use crate::device::{ByteSource, DeviceFailed};
 use std::alloc::{AllocError, Global};
@@ -83,12 +82,12 @@ impl Window {
         requires { self.old.end + PIECE ≤ vec_len self.old.bytes }
         ensures ok { IfOk result (λ n. (more : List ℕ) × (length more ≡ n)
             × (items self.new ≡ items self.old ++ more)
-            × Consumes (S.to_come source.old) (S.to_come source.new) more × (n ≤ PIECE)) }
-        ensures end { IfOk result (λ n. n ≡ 0 → IsAtEnd (S.to_come source.new)) }
+            × Hears (S.input source.old) (S.input source.new) more × (n ≤ PIECE)) }
+        ensures end { IfOk result (λ n. n ≡ 0 → (S.input source.new).is_over ≡ true) }
         ensures err { OnErr result ((items self.new ≡ items self.old)
-            × Keeps (S.to_come source.old) (S.to_come source.new)) }
-        ensures failures { CountsFailure (is_err result) (S.failed_calls source.old)
-            (S.failed_calls source.new) }
+            × Hears (S.input source.old) (S.input source.new) []) }
+        ensures failures { CountsFailure (is_err result) (S.input source.old).failed_calls
+            (S.input source.new).failed_calls }
     {
         let end = self.end;
         let count = source.read_some(&mut self.bytes[end..end + PIECE])?;

@@ -1,8 +1,7 @@
 //! Feature files written to sinks in memory, some of which fail.
-ghost use Rattle.std.specs.Prelude.{Some};
-
 use cm_compile::{CompileFault, write_compiled};
-use cm_envelope::{ByteSink, DeviceFailed, write_all};
+use cm_envelope::{DeviceFailed, write_all};
+use devices::{FailedWrite, Failing, Store};
 use gk_tree::{FaultKind, ParseFault};
 use std::alloc::Global;
 use std::process::Abort;
@@ -44,67 +43,12 @@ const FULL_LINES: &str =
 {"pickle":{"astNodeIds":["7","13"],"id":"19","language":"en","name":" o","steps":[{"argument":{"dataTable":{"rows":[{"cells":[{"value":"a|b"},{"value":""}]}]}},"astNodeIds":["3"],"id":"17","text":"x","type":"Action"},{"argument":{"docString":{"content":"tab\tq\n \"\"\"","mediaType":"json "}},"astNodeIds":["8","13"],"id":"18","text":"","type":"Action"}],"tags":[{"astNodeId":"0","name":"@f"},{"astNodeId":"1","name":"@g"},{"astNodeId":"6","name":"@s"},{"astNodeId":"9","name":"@e"}],"uri":"ü/\"u\".feature"}}
 "##;
 
-// Takes at most `most` bytes a call until it has taken `room`, and then fails, or takes nothing.
-#[derive(Drop)]
-struct Sink {
-    taken: Vec<u8>,
-    room: usize,
-    most: usize,
-    takes_none: bool,
-    calls: usize,
-    failed_calls: u64,
-}
-
-impl ByteSink for Sink {
-    ghost taken = { λ s. Some s.taken.items };
-
-    ghost failed_calls = { λ s. s.failed_calls };
-
-    fn write_some(&mut self, bytes: &[u8]) -> Result<usize, DeviceFailed> {
-        self.calls = self.calls.saturating_add(1);
-        if bytes.is_empty() {
-            return Ok(0);
-        }
-        let count = bytes.len().min(self.room).min(self.most);
-        if count == 0 {
-            self.failed_calls = self.failed_calls.saturating_add(1);
-            return if self.takes_none {
-                Ok(0)
-            } else {
-                Err(DeviceFailed)
-            };
-        }
-        if self.taken.extend_from_slice(&bytes[..count]).is_err() {
-            self.failed_calls = self.failed_calls.saturating_add(1);
-            return Err(DeviceFailed);
-        }
-        self.room -= count;
-        Ok(count)
-    }
-
-    fn flush(&mut self) -> Result<(), DeviceFailed> {
-        self.failed_calls = self.failed_calls.saturating_add(1);
-        Err(DeviceFailed)
-    }
-}
-
-fn sink_with(alloc: Global, room: usize, most: usize, takes_none: bool) -> Sink {
-    Sink {
-        taken: Vec::new(alloc),
-        room,
-        most,
-        takes_none,
-        calls: 0,
-        failed_calls: 0,
-    }
-}
-
 /// A sink that takes all: the lines are the wanted ones.
 fn check_lines(rt: &impl Abort, alloc: Global, uri: &str, text: &str, wanted: &str) {
-    let mut sink = sink_with(alloc, 1_000_000, 1_000_000, false);
+    let mut sink = Store::new(alloc, usize::MAX);
     assert_eq!(rt; write_compiled(alloc, uri, text, &mut sink), Ok(()));
-    assert!(rt; sink.taken.as_slice() == wanted.as_bytes());
-    assert_eq!(rt; sink.failed_calls, 0);
+    assert!(rt; sink.bytes() == wanted.as_bytes());
+    assert_eq!(rt; sink.failed_calls(), 0);
 }
 
 #[test]
@@ -132,10 +76,10 @@ fn ids_go_on_from_pickle_to_pickle(rt: HostRuntime) -> Result<(), Fail> {
 }
 
 fn check_refused(rt: &impl Abort, alloc: Global, text: &str, fault: ParseFault) {
-    let mut sink = sink_with(alloc, 1_000_000, 1_000_000, false);
+    let mut sink = Store::new(alloc, usize::MAX);
     let done = write_compiled(alloc, "u", text, &mut sink);
     assert_eq!(rt; done, Err(CompileFault::Parse(fault)));
-    assert_eq!(rt; sink.calls, 0);
+    assert_eq!(rt; sink.writes(), 0);
 }
 
 #[test]
@@ -159,34 +103,39 @@ fn nothing_is_written_of_a_refused_text(rt: HostRuntime) -> Result<(), Fail> {
 #[test]
 fn the_bytes_before_a_failed_write_are_written(rt: HostRuntime) -> Result<(), Fail> {
     let alloc = rt.alloc();
-    let mut sink = sink_with(alloc, 100, 1_000_000, false);
+    let mut sink = Store::new(alloc, usize::MAX).with_room(100);
     let done = write_compiled(alloc, "a.feature", PLAIN_TEXT, &mut sink);
     assert_eq!(rt; done, Err(CompileFault::WriteFailed));
-    assert_eq!(rt; sink.taken.len(), 100);
-    assert!(rt; PLAIN_LINES.as_bytes().starts_with(sink.taken.as_slice()));
-    assert_eq!(rt; sink.failed_calls, 1);
+    assert_eq!(rt; sink.bytes().len(), 100);
+    assert!(rt; PLAIN_LINES.as_bytes().starts_with(sink.bytes()));
+    assert_eq!(rt; sink.failed_calls(), 1);
     Ok(())
 }
 
 /// One byte a write, and the write after `room` bytes fails or takes nothing: it isn't repeated.
-fn check_failed(rt: &impl Abort, alloc: Global, room: usize, takes_none: bool) {
-    let mut sink = sink_with(alloc, room, 1, takes_none);
+fn check_failed(rt: &impl Abort, alloc: Global, room: usize, sink: Store) {
+    let mut sink = sink;
     let done = write_compiled(alloc, "a.feature", PLAIN_TEXT, &mut sink);
     assert_eq!(rt; done, Err(CompileFault::WriteFailed));
-    assert!(rt; sink.taken.len() == room);
-    assert!(rt; PLAIN_LINES.as_bytes().starts_with(sink.taken.as_slice()));
-    assert!(rt; room.checked_add(1) == Some(sink.calls));
-    assert_eq!(rt; sink.failed_calls, 1);
+    assert!(rt; sink.bytes().len() == room);
+    assert!(rt; PLAIN_LINES.as_bytes().starts_with(sink.bytes()));
+    assert!(rt; (room as u64).checked_add(1) == Some(sink.writes()));
+    assert_eq!(rt; sink.failed_calls(), 1);
 }
 
 #[test]
 fn each_write_may_fail(rt: HostRuntime) -> Result<(), Fail> {
     let alloc = rt.alloc();
     for room in 0..PLAIN_LINES.len() {
-        check_failed(&rt, alloc, room, false);
-        check_failed(&rt, alloc, room, true);
+        for failed in [FailedWrite::Refuses, FailedWrite::TakesNone] {
+            let full = Store::new(alloc, 1).with_room(room).failing_by(failed);
+            check_failed(&rt, alloc, room, full);
+            let once = Failing::Once(room as u64 + 1);
+            let broken = Store::new(alloc, 1).failing_writes(once).failing_by(failed);
+            check_failed(&rt, alloc, room, broken);
+        }
     }
-    let mut whole = sink_with(alloc, PLAIN_LINES.len(), 1, false);
+    let mut whole = Store::new(alloc, 1).with_room(PLAIN_LINES.len());
     let done = write_compiled(alloc, "a.feature", PLAIN_TEXT, &mut whole);
     assert_eq!(rt; done, Ok(()));
     Ok(())
@@ -194,11 +143,11 @@ fn each_write_may_fail(rt: HostRuntime) -> Result<(), Fail> {
 
 #[test]
 fn all_bytes_are_written_in_turn(rt: HostRuntime) {
-    let mut sink = sink_with(rt.alloc(), 3, 2, false);
+    let mut sink = Store::new(rt.alloc(), 2).with_room(3);
     assert_eq!(rt; write_all(&mut sink, b"abc"), Ok(()));
-    assert!(rt; sink.taken.as_slice() == b"abc".as_slice());
-    assert_eq!(rt; sink.calls, 2);
+    assert!(rt; sink.bytes() == b"abc".as_slice());
+    assert_eq!(rt; sink.writes(), 2);
     assert_eq!(rt; write_all(&mut sink, b"d"), Err(DeviceFailed));
-    assert!(rt; sink.taken.as_slice() == b"abc".as_slice());
-    assert_eq!(rt; sink.failed_calls, 1);
+    assert!(rt; sink.bytes() == b"abc".as_slice());
+    assert_eq!(rt; sink.failed_calls(), 1);
 }

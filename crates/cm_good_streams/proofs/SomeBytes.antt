@@ -1,6 +1,6 @@
--- The lines of JSON are read as the streams.
+-- The lines of JSON are read as the streams, and two of these are released.
 use lib.Utf8.{encode}
-use Rattle.std.proofs.Common.{◌≡◌, refl, List, map}
+use Rattle.std.proofs.Common.{◌≡◌, refl, subst, List, None, map, true, false}
 use Rattle.std.specs.List.{enumerate_from}
 use Rattle.std.specs.Str.{chars, is_utf8}
 use Rattle.std.specs.Float.Numeral.{scan_numeral}
@@ -11,10 +11,13 @@ use Rattle.json.specs.Word.{word, after_number}
 use Rattle.serde_json.specs.Read.{number_of}
 use Rattle.cm_envelope.specs.declared.envelope.Envelope.{Envelope}
 use Rattle.cm_stream.specs.Texts.{Utf8}
-use Rattle.cm_stream.specs.Stream.{fed, numbered, read_line, as_read}
+use Rattle.cm_stream.specs.Stream.{IsGoodRun, fed, numbered, read_line, as_read}
+use Rattle.cm_stream.specs.Release.{hold_of}
+use Rattle.cm_stream.proofs.Released.{released_is_not_held, released_exactly}
+use Rattle.cm_stream.proofs.Streams.{run_is_told}
 use Rattle.cm_good_streams.specs.Streams.{retried, interleaved, refused_beside_accepted}
 use Rattle.cm_good_streams.specs.Lines.{bytes_of, retried_lines, interleaved_lines, refused_lines}
-use Rattle.cm_good_streams.specs.Laws.{RetriedBytesAreGood, InterleavedBytesAreGood, RefusedBytesAreGood}
+use Rattle.cm_good_streams.specs.Laws.{strict, counts, RetriedBytesAreGood, InterleavedBytesAreGood, RefusedBytesAreGood, RetriedBytesAreReleased, InterleavedBytesAreReleased, RefusedBytesAreHeld}
 use Rattle.cm_good_streams.proofs.SomeGood.{retried_are_good, interleaved_are_good, refused_are_good}
 
 -- the lines are read as these envelopes, with their numbers
@@ -33,26 +36,53 @@ refused_read : AreReadAs refused_lines refused_beside_accepted
 unfolding lex punctuate items members value content code_unit short_escape word after_number number_of scan_numeral chars is_utf8 encode
 refused_read = refl
 
-pub retried_bytes_are_good : RetriedBytesAreGood
-retried_bytes_are_good = record {
+retried_run : IsGoodRun strict (bytes_of retried_lines) (counts 1 1 1 2) true
+retried_run = record {
   lines = enumerate_from 1 retried;
   read = record { no_trouble = refl; read = retried_read };
   good = retried_are_good;
   exact = refl;
+  said = refl;
 }
 
-pub interleaved_bytes_are_good : InterleavedBytesAreGood
-interleaved_bytes_are_good = record {
+interleaved_run : IsGoodRun strict (bytes_of interleaved_lines) (counts 2 2 2 2) true
+interleaved_run = record {
   lines = enumerate_from 1 interleaved;
   read = record { no_trouble = refl; read = interleaved_read };
   good = interleaved_are_good;
   exact = refl;
+  said = refl;
 }
 
-pub refused_bytes_are_good : RefusedBytesAreGood
-refused_bytes_are_good = record {
+refused_run : IsGoodRun strict (bytes_of refused_lines) (counts 2 1 1 1) false
+refused_run = record {
   lines = enumerate_from 1 refused_beside_accepted;
   read = record { no_trouble = refl; read = refused_read };
   good = refused_are_good;
   exact = refl;
+  said = refl;
 }
+
+pub retried_bytes_are_good : RetriedBytesAreGood
+retried_bytes_are_good = (true, retried_run)
+
+pub interleaved_bytes_are_good : InterleavedBytesAreGood
+interleaved_bytes_are_good = (true, interleaved_run)
+
+pub refused_bytes_are_good : RefusedBytesAreGood
+refused_bytes_are_good = (false, refused_run)
+
+pub retried_bytes_are_released : RetriedBytesAreReleased
+retried_bytes_are_released = (released_is_not_held strict false _ _ true retried_run).0 refl
+
+pub interleaved_bytes_are_released : InterleavedBytesAreReleased
+interleaved_bytes_are_released = (released_is_not_held strict false _ _ true interleaved_run).0 refl
+
+pub refused_bytes_are_held : RefusedBytesAreHeld
+refused_bytes_are_held allows_unrun any released =
+    let run = (released_exactly strict allows_unrun (bytes_of refused_lines) any).0 released in
+    let its = run_is_told strict (bytes_of refused_lines) any run.0 run.1 in
+    let this = run_is_told strict (bytes_of refused_lines) (counts 2 1 1 1) false refused_run in
+    let said : run.0 ≡ false = cc in
+    let held : hold_of allows_unrun false any ≡ None = subst (λ success. hold_of allows_unrun success any ≡ None) said run.2 in
+    cc

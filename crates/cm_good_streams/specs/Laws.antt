@@ -1,8 +1,9 @@
--- Good streams exist.
-use Rattle.std.specs.Prelude.{ℕ}
+-- Good streams exist, and released ones.
+use Rattle.std.specs.Prelude.{ℕ, Bool, false}
 use Rattle.cm_attempt.specs.declared.policy.Policy.TheVariants.{Strict}
 use Rattle.cm_attempt.specs.declared.settings.Settings.{Settings}
 use Rattle.cm_stream.specs.Good.{Good}
+use Rattle.cm_stream.specs.Release.{IsReleasedStream}
 use Rattle.cm_stream.specs.Stream.{IsGoodStream}
 use Rattle.cm_stream.specs.declared.verdict.Counts.{Counts}
 use Rattle.cm_good_streams.specs.Streams.{retried, interleaved, refused_beside_accepted}
@@ -43,3 +44,18 @@ InterleavedBytesAreGood = IsGoodStream strict (bytes_of interleaved_lines) (coun
 
 abbrev pub RefusedBytesAreGood : Type 0
 RefusedBytesAreGood = IsGoodStream strict (bytes_of refused_lines) (counts 2 1 1 1)
+
+-- ---- which of them are released
+
+abbrev pub RetriedBytesAreReleased : Type 0
+RetriedBytesAreReleased = IsReleasedStream strict false (bytes_of retried_lines) (counts 1 1 1 2)
+
+abbrev pub InterleavedBytesAreReleased : Type 0
+InterleavedBytesAreReleased =
+    IsReleasedStream strict false (bytes_of interleaved_lines) (counts 2 2 2 2)
+
+-- the one that doesn't say success isn't, whatever is allowed
+abbrev pub RefusedBytesAreHeld : Type 0
+RefusedBytesAreHeld =
+    (allows_unrun : Bool) (any : Counts)
+    → IsReleasedStream strict allows_unrun (bytes_of refused_lines) any → ⊥

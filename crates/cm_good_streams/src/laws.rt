@@ -1,5 +1,6 @@
-//! Some streams are good.
+//! Some streams are good, and some are released.
 ghost use Rattle.cm_good_streams.specs.Laws.{RetriedAreGood, InterleavedAreGood, RefusedAreGood, RetriedBytesAreGood, InterleavedBytesAreGood, RefusedBytesAreGood};
+ghost use Rattle.cm_good_streams.specs.Laws.{RetriedBytesAreReleased, InterleavedBytesAreReleased, RefusedBytesAreHeld};
 
 /// Good are: a stream whose first attempt failed and whose retry passed; one whose two sources,
 /// test cases and attempts are interleaved; and one with a refused source beside an accepted one,
@@ -15,4 +16,12 @@ pub fn some_bytes_are_good()
     ensures retried { RetriedBytesAreGood }
     ensures interleaved { InterleavedBytesAreGood }
     ensures refused { RefusedBytesAreGood }
+{}
+
+/// Of these lines, the first two are released streams of bytes, without unrun pickles: also the one
+/// whose first attempt failed. The third isn't, be unrun pickles allowed or not.
+pub fn some_streams_are_released()
+    ensures retried { RetriedBytesAreReleased }
+    ensures interleaved { InterleavedBytesAreReleased }
+    ensures held { RefusedBytesAreHeld }
 {}

@@ -1,4 +1,5 @@
-//! Good streams exist: three of them, as lists of envelopes and as lines of JSON.
+//! Good streams exist: three of them, as lists of envelopes and as lines of JSON. Two of these are
+//! released, and one is held.
 //!
 //! Each public function is a law: its contract says the law, and it does nothing.
 //!
@@ -18,4 +19,4 @@
 
 mod laws;
 
-pub use laws::{some_bytes_are_good, some_streams_are_good};
+pub use laws::{some_bytes_are_good, some_streams_are_good, some_streams_are_released};

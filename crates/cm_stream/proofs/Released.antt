@@ -1,6 +1,6 @@
--- Which good runs are released, and what a released run says of its scenarios.
+-- Which good runs are released, and what a released run says of its scenarios and of the run.
 use Rattle.std.proofs.Common.{◌≡◌, ℕ, suc, refl, sym, ap, subst, ◌∙◌, List, [], ◌∷◌, ◌++◌, Option, Some, None, true, false, Bool, not, ◌&&◌, ◌==◌, map, length, arith}
-use Rattle.std.specs.Prelude.{◌≢◌, find, if◌then◌else◌}
+use Rattle.std.specs.Prelude.{◌≢◌, find, count_by, if◌then◌else◌}
 use Rattle.std.specs.List.{AllByRecursion, filter}
 use Rattle.std.specs.Option.{option_map, option_map_or}
 use Rattle.std.specs.Str.{bytes_eq}
@@ -10,11 +10,13 @@ use Rattle.cm_attempt.specs.Worst.{worst_of}
 use Rattle.cm_attempt.specs.declared.policy.Policy.{Policy}
 use Rattle.cm_attempt.specs.declared.settings.Settings.{Settings}
 use Rattle.cm_stream.specs.Readings.{Accepted}
-use Rattle.cm_stream.specs.References.{as_source, as_pickle, as_case, as_start, sources, pickles, cases, starts, starts_of, documents_of, find_pickle, find_case, pickle_step_ids, steps_of, moves, is_final, statuses, ends_well, is_good_case, says_success, run_succeeded}
+use Rattle.cm_stream.specs.References.{as_source, as_pickle, as_case, as_start, as_run_hook, as_run_end, sources, pickles, cases, starts, run_hook_ends, run_ends, starts_of, documents_of, find_pickle, find_case, pickle_step_ids, steps_of, moves, is_final, statuses, ends_well, is_good_case, is_run_finished, says_success, run_succeeded}
+use Rattle.cm_stream.specs.Statuses.{kept_status}
+use Rattle.cm_stream.specs.ByOnePass.{first_fault}
 use Rattle.cm_attempt.specs.Calls.{whole, last_of}
 use Rattle.cm_stream.specs.Good.{Good, SuccessGood, AllWell, IsAccepted, MeetsSource}
-use Rattle.cm_stream.specs.Stream.{envelopes, unrun}
-use Rattle.cm_stream.specs.Release.{hold_of, is_named, EachNamed, IsReleasedStream, IsCompiled, Ran, EachSourceIsCompiled, EachPickleRan, ReleasedIsNotHeld, ReleasedRan}
+use Rattle.cm_stream.specs.Stream.{IsGoodRun, answered, answer_for, envelopes, unrun}
+use Rattle.cm_stream.specs.Release.{hold_of, is_named, EachNamed, IsReleasedStream, IsCompiled, CaseRan, Ran, HookRan, RunEnded, EachSourceIsCompiled, EachPickleRan, EachCaseRan, EachHookRan, ReleasedIsNotHeld, ReleasedExactly, Releases, AnswersRelease, ReleasedRan, ReleasedCasesRan}
 use Rattle.cm_stream.specs.declared.verdict.Hold.{Hold}
 use Rattle.cm_stream.specs.declared.verdict.Hold.TheVariants.{NotSuccessful, Empty, Unrun}
 use Rattle.cm_envelope.specs.declared.envelope.Envelope.{Envelope}
@@ -23,11 +25,13 @@ use Rattle.cm_envelope.specs.declared.envelope.Source.{Source}
 use Rattle.cm_envelope.specs.declared.envelope.TestCase.{TestCase}
 use Rattle.cm_envelope.specs.declared.envelope.TestCaseStarted.{TestCaseStarted}
 use Rattle.cm_envelope.specs.declared.envelope.TestRunFinished.{TestRunFinished}
+use Rattle.cm_envelope.specs.declared.envelope.TestRunHookStarted.{TestRunHookStarted}
+use Rattle.cm_envelope.specs.declared.envelope.TestRunHookFinished.{TestRunHookFinished}
 use Rattle.cm_envelope.specs.declared.pickle.Pickle.{Pickle}
 use Rattle.cm_stream.specs.declared.verdict.Counts.{Counts}
-use Rattle.cm_stream.proofs.Lists.{and_true, all_here, none_any, each_false, count_none, none_counted, found_cut, any_found}
+use Rattle.cm_stream.proofs.Lists.{and_true, all_here, none_any, each_false, count_none, none_counted, one_kept, found_cut, found_alone, any_found}
 use Rattle.cm_stream.proofs.Found.{bytes_are, bytes_same, found_at, each_found}
-use Rattle.cm_stream.proofs.Declared.{source_is, case_is, start_is}
+use Rattle.cm_stream.proofs.Declared.{source_is, case_is, start_is, run_hook_is}
 use Rattle.cm_stream.proofs.OnePass.{reads_it}
 use Rattle.cm_stream.proofs.Readings.{source_meets}
 use Rattle.cm_stream.proofs.Refuted.{cut_at}
@@ -35,7 +39,16 @@ use Rattle.cm_stream.proofs.Documents.{documents_both}
 use Rattle.cm_stream.proofs.Passing.{AllPass, plain_passes, was_not}
 use Rattle.cm_stream.proofs.OneRow.{OnlyOne, one_pickle, only_here, one_case}
 use Rattle.cm_stream.proofs.NoFault.{good_have_no_fault}
-use Rattle.cm_stream.proofs.Streams.{read_is_told}
+use Rattle.cm_stream.proofs.Streams.{read_is_told, run_if_told, run_is_told}
+use Rattle.cm_stream.proofs.ByGrammar.{reported}
+
+each_mapped : {X Y : Type 0} (P : Y → Type 0) (f : X → Y) (xs : List X) → AllByRecursion P (map f xs) → AllByRecursion (λ x. P (f x)) xs
+each_mapped P f [] h = tt
+each_mapped P f (x ∷ xs) h = (h.0, each_mapped P f xs h.1)
+
+was_some : {X Y : Type 0} (f : X → Y) (o : Option X) (y : Y) → option_map f o ≡ Some y → (x : X) × (o ≡ Some x)
+was_some f None y h = cc
+was_some f (Some x) y h = (x, refl)
 
 each_so : {X : Type 0} (P Q : X → Type 0) → ((x : X) → P x → Q x) → (xs : List X) → AllByRecursion P xs → AllByRecursion Q xs
 each_so P Q f [] h = tt
@@ -125,6 +138,28 @@ released_is_not_held settings allows_unrun bytes counts success run = (released,
           each = λ k. zero_is counts.unrun (ap (λ (n : Counts). n.unrun) r.exact ∙ none_unrun es (r.each_named k));
         })
 
+pub released_exactly : ReleasedExactly
+released_exactly settings allows_unrun bytes counts = (unheld, λ h. (released_is_not_held settings allows_unrun bytes counts h.0 h.1).0 h.2)
+  where
+    unheld : IsReleasedStream settings allows_unrun bytes counts → (success : Bool) × IsGoodRun settings bytes counts success × (hold_of allows_unrun success counts ≡ None)
+    unheld r =
+        let run : IsGoodRun settings bytes counts true = record { lines = r.lines; read = r.read; good = r.good; exact = r.exact; said = sym r.succeeded } in
+        (true, run, (released_is_not_held settings allows_unrun bytes counts true run).1 r)
+
+pub answers_release : AnswersRelease
+answers_release settings allows_unrun bytes counts f answer first e = (released, releases)
+  where
+    told : answered answer ≡ answer_for (first_fault settings bytes)
+    told = e ∙ ap answer_for (sym (reported settings bytes f first))
+
+    released : Releases allows_unrun counts (answered answer) → IsReleasedStream settings allows_unrun bytes counts
+    released h = (released_exactly settings allows_unrun bytes counts).1 (h.0, run_if_told settings bytes counts h.0 (sym told ∙ h.1), h.2)
+
+    releases : IsReleasedStream settings allows_unrun bytes counts → Releases allows_unrun counts (answered answer)
+    releases r =
+        let h = (released_exactly settings allows_unrun bytes counts).0 r in
+        (h.0, told ∙ run_is_told settings bytes counts h.0 h.1, h.2)
+
 -- ---- success
 
 end_of : (e : Envelope) → says_success e ≡ true → (f : TestRunFinished) × (e ≡ envelope.TestRunFinished f) × (f.success ≡ true)
@@ -132,7 +167,11 @@ end_of (envelope.TestRunFinished f) h = (f, refl, h)
 end_of _ h = cc
 
 record Well (policy : Policy) (es : List Envelope) : Type 0 where
+  front : List Envelope
   end : TestRunFinished
+  back : List Envelope
+  cut : es ≡ front ++ envelope.TestRunFinished end ∷ back
+  success : end.success ≡ true
   all : AllWell policy es end
 
 all_well : (policy : Policy) (es : List Envelope) → SuccessGood policy es → run_succeeded es ≡ true → Well policy es
@@ -140,7 +179,11 @@ all_well policy es good h =
     let at = cut_at says_success es h in
     let is = end_of at.here at.passes in
     let cut : es ≡ at.front ++ envelope.TestRunFinished is.0 ∷ at.back = at.cut ∙ ap (λ x. at.front ++ x ∷ at.back) is.1 in
-    record { end = is.0; all = (good at.front (envelope.TestRunFinished is.0) at.back cut).0 is.2 }
+    record { front = at.front; end = is.0; back = at.back; cut = cut; success = is.2; all = (good at.front (envelope.TestRunFinished is.0) at.back cut).0 is.2 }
+
+not_end : (e : Envelope) → is_run_finished e ≡ false → as_run_end e ≡ None
+not_end (envelope.TestRunFinished f) h = cc
+not_end _ h = refl
 
 -- ---- the last attempt of a case
 
@@ -211,27 +254,21 @@ module _ (settings : Settings) (es : List Envelope) (good : Good settings es) (w
   each_whole = each_found as_start (λ (s : TestCaseStarted). moves s.id es ≡ whole (steps_of s.test_case_id es)) es
       (λ front here back s cut is. good.sound.attempts front (envelope.TestCaseStarted s) back (cut ∙ ap (λ x. front ++ x ∷ back) (start_is here s is)))
 
-  ran : (p : Pickle) → find_pickle p.id es ≡ Some p → is_named es p ≡ true → Ran settings.policy es p
-  ran p there named =
-      let at = found_at as_case (λ c. bytes_eq p.id c.pickle_id) es (sym (any_found as_case (λ c. bytes_eq p.id c.pickle_id) es) ∙ named) in
-      let c = at.value in
-      let id : p.id ≡ c.pickle_id = bytes_are p.id c.pickle_id at.passes in
-      let cut : es ≡ at.front ++ envelope.TestCase c ∷ at.back = at.cut ∙ ap (λ x. at.front ++ x ∷ at.back) (case_is at.here c at.is) in
-      let all : cases es ≡ cases at.front ++ c ∷ cases at.back = ap cases cut ∙ found_cut as_case at.front (envelope.TestCase c) at.back c refl in
-      let here : find_case c.id es ≡ Some c = case_there at.front at.back c all in
-      let its : find_pickle c.pickle_id es ≡ Some p = ap (λ u. find_pickle u es) (sym id) ∙ there in
-      let steps : Some (map (λ s. s.id) p.steps) ≡ Some (pickle_step_ids c) = ap (option_map (λ x. map (λ s. s.id) x.steps)) (sym its) ∙ good.sound.cases at.front (envelope.TestCase c) at.back cut in
+  case_ran : (front back : List Envelope) (c : TestCase) (p : Pickle) → es ≡ front ++ envelope.TestCase c ∷ back → find_pickle c.pickle_id es ≡ Some p → CaseRan settings.policy es c p
+  case_ran front back c p cut its =
+      let all : cases es ≡ cases front ++ c ∷ cases back = ap cases cut ∙ found_cut as_case front (envelope.TestCase c) back c refl in
+      let here : find_case c.id es ≡ Some c = case_there front back c all in
+      let steps : Some (map (λ s. s.id) p.steps) ≡ Some (pickle_step_ids c) = ap (option_map (λ x. map (λ s. s.id) x.steps)) (sym its) ∙ good.sound.cases front (envelope.TestCase c) back cut in
       let same_steps : map (λ s. s.id) p.steps ≡ pickle_step_ids c = cc in
-      let is_good = all_here (λ x. is_good_case settings.policy es x ≡ true) (cases at.front) c (cases at.back) (subst (AllByRecursion (λ x. is_good_case settings.policy es x ≡ true)) all well.all.each_case) in
+      let is_good = all_here (λ x. is_good_case settings.policy es x ≡ true) (cases front) c (cases back) (subst (AllByRecursion (λ x. is_good_case settings.policy es x ≡ true)) all well.all.each_case) in
       let e = well_ended settings.policy es (last_of (starts_of c.id es)) is_good in
       let one = last_so (λ (s : TestCaseStarted). (moves s.id es ≡ whole (steps_of s.test_case_id es)) × (bytes_eq c.id s.test_case_id ≡ true)) (starts_of c.id es) e.attempt
       (kept_so (λ (s : TestCaseStarted). moves s.id es ≡ whole (steps_of s.test_case_id es)) (λ s. bytes_eq c.id s.test_case_id) (starts es) each_whole) e.is in
       let case : c.id ≡ e.attempt.test_case_id = bytes_are c.id e.attempt.test_case_id one.1 in
       let own : steps_of c.id es ≡ map (λ s. s.id) c.test_steps = ap (λ o. option_map_or (λ (x : TestCase). map (λ s. s.id) x.test_steps) o []) here in
       record {
-        test_case = c;
         is_there = here;
-        of_pickle = sym id;
+        of_pickle = its;
         same_steps = sym same_steps;
         attempt = e.attempt;
         is_last = e.is;
@@ -239,6 +276,22 @@ module _ (settings : Settings) (es : List Envelope) (good : Good settings es) (w
         not_retried = e.final;
         good_status = e.good;
       }
+
+  each_case_ran : EachCaseRan settings.policy es
+  each_case_ran = each_found as_case (λ c. (p : Pickle) × CaseRan settings.policy es c p) es each
+    where
+      each : (front : List Envelope) (here : Envelope) (back : List Envelope) (c : TestCase) → es ≡ front ++ here ∷ back → as_case here ≡ Some c → (p : Pickle) × CaseRan settings.policy es c p
+      each front here back c cut is =
+          let its_cut : es ≡ front ++ envelope.TestCase c ∷ back = cut ∙ ap (λ x. front ++ x ∷ back) (case_is here c is) in
+          let its = was_some (λ (p : Pickle). map (λ s. s.id) p.steps) (find_pickle c.pickle_id es) (pickle_step_ids c) (good.sound.cases front (envelope.TestCase c) back its_cut) in
+          (its.0, case_ran front back c its.0 its_cut its.1)
+
+  ran : (p : Pickle) → find_pickle p.id es ≡ Some p → is_named es p ≡ true → Ran settings.policy es p
+  ran p there named =
+      let at = found_at as_case (λ c. bytes_eq p.id c.pickle_id) es (sym (any_found as_case (λ c. bytes_eq p.id c.pickle_id) es) ∙ named) in
+      let c = at.value in
+      let cut : es ≡ at.front ++ envelope.TestCase c ∷ at.back = at.cut ∙ ap (λ x. at.front ++ x ∷ at.back) (case_is at.here c at.is) in
+      (c, case_ran at.front at.back c p cut (ap (λ u. find_pickle u es) (sym (bytes_are p.id c.pickle_id at.passes)) ∙ there))
 
   each_ran : EachNamed es → EachPickleRan settings.policy es
   each_ran named = each_found as_pickle (Ran settings.policy es) es each
@@ -248,8 +301,43 @@ module _ (settings : Settings) (es : List Envelope) (good : Good settings es) (w
           let all : pickles es ≡ pickles front ++ p ∷ pickles back = ap pickles cut ∙ found_cut as_pickle front here back p is in
           ran p (pickle_there front here back p all) (all_here (λ x. is_named es x ≡ true) (pickles front) p (pickles back) (subst (AllByRecursion (λ x. is_named es x ≡ true)) all named))
 
+  hook_ran : (front back : List Envelope) (h : TestRunHookStarted) → es ≡ front ++ envelope.TestRunHookStarted h ∷ back → HookRan settings.policy es h
+  hook_ran front back h cut =
+      let q = λ (f : TestRunHookFinished). bytes_eq h.id f.test_run_hook_started_id in
+      let is_good = λ (f : TestRunHookFinished). is_good_status settings.policy (kept_status f.result.status) in
+      let one = one_kept q (run_hook_ends es) (good.sound.hooks front (envelope.TestRunHookStarted h) back cut) in
+      let each : AllByRecursion (λ f. is_good f ≡ true) (run_hook_ends es) = each_mapped (λ s. is_good_status settings.policy s ≡ true) (λ (f : TestRunHookFinished). kept_status f.result.status) (run_hook_ends es) well.all.each_hook in
+      let its = subst (AllByRecursion (λ f. (is_good f ≡ true) × (q f ≡ true))) one.1 (kept_so (λ f. is_good f ≡ true) q (run_hook_ends es) each) in
+      record { end = one.0; one_end = one.1; good_status = (its.0).0 }
+
+  each_hook_ran : EachHookRan settings.policy es
+  each_hook_ran = each_found as_run_hook (HookRan settings.policy es) es
+      (λ front here back h cut is. hook_ran front back h (cut ∙ ap (λ x. front ++ x ∷ back) (run_hook_is here h is)))
+
+  run_ended : RunEnded es
+  run_ended =
+      let end = envelope.TestRunFinished well.end in
+      let once : count_by is_run_finished (well.front ++ end ∷ well.back) ≡ 1 = ap (count_by is_run_finished) (sym well.cut) ∙ good.sound.order.one_finish in
+      record {
+        end = well.end;
+        one_end = ap run_ends well.cut ∙ found_alone as_run_end is_run_finished not_end well.front end well.back well.end refl refl once;
+        success = well.success;
+        no_exception = well.all.no_exception;
+      }
+
 pub released_ran : ReleasedRan
 released_ran settings bytes counts r =
     let es = envelopes r.lines in
     let well = all_well settings.policy es r.good.success r.succeeded in
     (each_compiled settings es r.good well, each_ran settings es r.good well (r.each_named refl))
+
+pub released_cases_ran : ReleasedCasesRan
+released_cases_ran settings allows_unrun bytes counts r =
+    let es = envelopes r.lines in
+    let well = all_well settings.policy es r.good.success r.succeeded in
+    record {
+      each_source = each_compiled settings es r.good well;
+      each_case = each_case_ran settings es r.good well;
+      each_hook = each_hook_ran settings es r.good well;
+      run_end = run_ended settings es r.good well;
+    }

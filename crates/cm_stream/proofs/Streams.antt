@@ -93,10 +93,22 @@ module _ (settings : Settings) where
 
   -- the stream of a run
   pub stream_of : (bytes : List ℕ) (counts : Counts) (success : Bool) → IsGoodRun settings bytes counts success → IsGoodStream settings bytes counts
-  stream_of bytes counts success r = record { lines = r.lines; read = r.read; good = r.good; exact = r.exact }
+  stream_of bytes counts success r = (success, r)
 
   pub good_only : (bytes : List ℕ) (es : List Envelope) → first_fault settings bytes ≡ NoFault es → IsGoodStream settings bytes (counts_of es)
   good_only bytes es h = stream_of bytes (counts_of es) (run_succeeded es) (good_run bytes es h)
+
+  -- where that is answered, it is so
+  pub run_if_told : (bytes : List ℕ) (counts : Counts) (success : Bool) → answer_for (first_fault settings bytes) ≡ GoodWith counts success → IsGoodRun settings bytes counts success
+  run_if_told bytes counts success told = go (first_fault settings bytes) refl told
+    where
+      go : (t : FirstFault) → first_fault settings bytes ≡ t → answer_for t ≡ GoodWith counts success → IsGoodRun settings bytes counts success
+      go (NoFault es) h e =
+          let same : counts ≡ counts_of es = cc in
+          let said : success ≡ run_succeeded es = cc in
+          subst (λ b. IsGoodRun settings bytes counts b) (sym said) (subst (λ n. IsGoodRun settings bytes n (run_succeeded es)) (sym same) (good_run bytes es h))
+      go (At n f) h e = absurd cc
+      go (Troubled t) h e = absurd cc
 
   -- ---- the other direction
 
@@ -143,7 +155,7 @@ module _ (settings : Settings) where
       ap (first_fault_of settings [] 1 (fed bytes).lines) read.no_trouble ∙ here
 
   pub good_is_told : (bytes : List ℕ) (counts : Counts) → IsGoodStream settings bytes counts → (es : List Envelope) × (first_fault settings bytes ≡ NoFault es) × (counts ≡ counts_of es)
-  good_is_told bytes counts g = (envelopes g.lines, read_is_told bytes g.lines g.read g.good, g.exact)
+  good_is_told bytes counts g = let r = g.1 in (envelopes r.lines, read_is_told bytes r.lines r.read r.good, r.exact)
 
   -- the answer for a good run
   pub run_is_told : (bytes : List ℕ) (counts : Counts) (success : Bool) → IsGoodRun settings bytes counts success → answer_for (first_fault settings bytes) ≡ GoodWith counts success
@@ -212,12 +224,7 @@ module _ (settings : Settings) where
   -- ---- answers
 
   right_so : (bytes : List ℕ) (v : Verdict) (success : Bool) (t : FirstFault) → first_fault settings bytes ≡ t → answer_in v success ≡ answer_for t → GoodRunIn settings bytes v success × NoneIsGood settings bytes (Ok v)
-  right_so bytes (verdict.Good counts) success (NoFault es) h e =
-      let same : counts ≡ counts_of es = cc in
-      let said : success ≡ run_succeeded es = cc in
-      (subst (λ b. IsGoodRun settings bytes counts b) (sym said) (subst (λ n. IsGoodRun settings bytes n (run_succeeded es)) (sym same) (good_run bytes es h)), tt)
-  right_so bytes (verdict.Good counts) success (At n f) h e = absurd cc
-  right_so bytes (verdict.Good counts) success (Troubled t) h e = absurd cc
+  right_so bytes (verdict.Good counts) success t h e = (run_if_told bytes counts success (ap answer_for h ∙ sym e), tt)
   right_so bytes (verdict.Bad n b) success (At m f) h e =
       let same : n ≡ m = cc in
       let here : first_fault settings bytes ≡ At n f = h ∙ ap (λ z. At z f) (sym same) in

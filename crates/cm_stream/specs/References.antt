@@ -14,6 +14,7 @@ use Rattle.cm_envelope.specs.declared.pickle.Pickle.{Pickle}
 use Rattle.cm_envelope.specs.declared.envelope.TestCase.{TestCase}
 use Rattle.cm_envelope.specs.declared.envelope.TestStep.{TestStep}
 use Rattle.cm_envelope.specs.declared.envelope.TestCaseStarted.{TestCaseStarted}
+use Rattle.cm_envelope.specs.declared.envelope.TestRunFinished.{TestRunFinished}
 use Rattle.cm_envelope.specs.declared.envelope.TestRunHookStarted.{TestRunHookStarted}
 use Rattle.cm_envelope.specs.declared.envelope.TestRunHookFinished.{TestRunHookFinished}
 use Rattle.cm_attempt.specs.declared.status.Status.{Status}
@@ -55,6 +56,10 @@ abbrev pub as_run_hook_end : Envelope → Option TestRunHookFinished
 as_run_hook_end (envelope.TestRunHookFinished f) = Some f
 as_run_hook_end _ = None
 
+abbrev pub as_run_end : Envelope → Option TestRunFinished
+as_run_end (envelope.TestRunFinished f) = Some f
+as_run_end _ = None
+
 abbrev pub sources : List Envelope → List Source
 sources es = filter_map as_source es
 
@@ -74,6 +79,10 @@ run_hooks es = filter_map as_run_hook es
 -- the ends of run hooks
 abbrev pub run_hook_ends : List Envelope → List TestRunHookFinished
 run_hook_ends es = filter_map as_run_hook_end es
+
+-- the ends of the run: one in a good list
+abbrev pub run_ends : List Envelope → List TestRunFinished
+run_ends es = filter_map as_run_end es
 
 abbrev pub sources_of : Utf8 → List Envelope → List Source
 sources_of uri es = filter (λ s. bytes_eq uri s.uri) (sources es)
@@ -276,6 +285,11 @@ abbrev pub statuses : Utf8 → List Envelope → List Status
 statuses a es = filter_map (status_in a) es
 
 -- ---- run hooks
+
+-- the ends of the run hook
+abbrev pub hook_ends_of : Utf8 → List Envelope → List TestRunHookFinished
+hook_ends_of hook es =
+    filter (λ f. bytes_eq hook f.test_run_hook_started_id) (run_hook_ends es)
 
 -- how many of the envelopes finish the run hook
 abbrev pub times_finished : Utf8 → List Envelope → ℕ

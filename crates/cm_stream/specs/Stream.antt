@@ -3,8 +3,7 @@
 use Rattle.std.specs.Prelude.{◌≡◌, ℕ, ◌+◌, Bool, not, List, [], ◌∷◌, ◌++◌, Option, Some, None, Result, Ok, Err, if◌then◌else◌, map, length, count_by}
 use Rattle.std.specs.List.{list_any}
 use Rattle.std.specs.Str.{bytes_eq}
-use Rattle.cm_envelope.specs.Lines.{Fed, feed, is_blank}
-use Rattle.cm_envelope.specs.declared.feed.TheConstants.{LINE_LIMIT, STREAM_LIMIT}
+use Rattle.cm_envelope.specs.Lines.{Fed, feed, is_blank, max_line_bytes, max_stream_bytes}
 use Rattle.cm_envelope.specs.declared.feed.Trouble.{Trouble}
 use Rattle.cm_envelope.specs.Reading.{LineFault, envelope_of_line}
 use Rattle.cm_attempt.specs.declared.settings.Settings.{Settings}
@@ -19,13 +18,6 @@ use Rattle.cm_stream.specs.declared.verdict.Audited.{Audited}
 use Rattle.cm_stream.specs.declared.verdict.Counts.{Counts}
 use Rattle.cm_stream.specs.declared.verdict.Verdict.{Verdict}
 use Rattle.cm_stream.specs.declared.verdict.Verdict.TheVariants as verdict
-
--- the most bytes that a line may have without its LF, and that a stream may have
-abbrev pub max_line_bytes : ℕ
-max_line_bytes = LINE_LIMIT
-
-abbrev pub max_stream_bytes : ℕ
-max_stream_bytes = STREAM_LIMIT
 
 -- a stream's lines within the limits
 abbrev pub fed : List ℕ → Fed
@@ -64,14 +56,7 @@ counts_of es =
       unrun = unrun es;
     }
 
--- a good stream by the settings, which has these counts
-pub record IsGoodStream (settings : Settings) (bytes : List ℕ) (counts : Counts) : Type 0 where
-  pub lines : List (ℕ × Envelope)
-  pub read : IsRead bytes lines
-  pub good : Good settings (envelopes lines)
-  pub exact : counts ≡ counts_of (envelopes lines)
-
--- it says this of the run's success
+-- a good stream by the settings, which has these counts, and says this of the run's success
 pub record IsGoodRun (settings : Settings) (bytes : List ℕ) (counts : Counts)
     (success : Bool) : Type 0 where
   pub lines : List (ℕ × Envelope)
@@ -79,6 +64,10 @@ pub record IsGoodRun (settings : Settings) (bytes : List ℕ) (counts : Counts)
   pub good : Good settings (envelopes lines)
   pub exact : counts ≡ counts_of (envelopes lines)
   pub said : success ≡ run_succeeded (envelopes lines)
+
+-- whatever it says of success
+abbrev pub IsGoodStream : Settings → List ℕ → Counts → Type 0
+IsGoodStream settings bytes counts = (success : Bool) × IsGoodRun settings bytes counts success
 
 -- ---- the first fault
 
@@ -156,11 +145,7 @@ answer_for (At n f) = Found n f
 answer_for (Troubled t) = Failed t
 answer_for (NoFault es) = GoodWith (counts_of es) (run_succeeded es)
 
--- Good only for good streams, with exact counts.
-abbrev pub GoodOnlyForGood : Settings → List ℕ → Result Verdict Trouble → Type 0
-GoodOnlyForGood settings bytes (Ok (verdict.Good counts)) = IsGoodStream settings bytes counts
-GoodOnlyForGood settings bytes _ = Unit {0}
-
+-- where the verdict is Good, the bytes are a good stream with these counts, whose run says so of its success
 abbrev pub GoodRunIn : Settings → List ℕ → Verdict → Bool → Type 0
 GoodRunIn settings bytes (verdict.Good counts) success = IsGoodRun settings bytes counts success
 GoodRunIn settings bytes _ success = Unit {0}
@@ -179,7 +164,8 @@ pub record HaveFirstLines (n : ℕ) (bytes other : List ℕ) : Type 0 where
   pub here : (fed bytes).lines ≡ first ++ rest
   pub there : (fed other).lines ≡ first ++ other_rest
 
--- A finding at line n: no good stream has these first n lines. Past the last line: this stream is not good.
+-- A fault at line n: no good stream has the first n lines of this one, if it has n, and this one isn't good. Of a fault past the
+-- last line, as of a run that doesn't end, only the second is said: a good stream may begin with all of these lines.
 abbrev pub NoneIsGood : Settings → List ℕ → Result Verdict Trouble → Type 0
 NoneIsGood settings bytes (Ok (verdict.Bad n b)) =
     ((other : List ℕ) (counts : Counts) → HaveFirstLines n bytes other

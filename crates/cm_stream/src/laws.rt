@@ -3,7 +3,7 @@ ghost use Rattle.cm_stream.specs.Laws.{FaultlessAreGood, GoodHaveNoFault};
 ghost use Rattle.cm_stream.specs.OnePass.{EachTextIsRead};
 ghost use Rattle.cm_stream.specs.Readings.{OneReading};
 ghost use Rattle.cm_stream.specs.Refusals.{OwnAreChecks, RefusalsAreTold};
-ghost use Rattle.cm_stream.specs.Release.{ReleasedIsNotHeld, ReleasedRan};
+ghost use Rattle.cm_stream.specs.Release.{AnswersRelease, ReleasedCasesRan, ReleasedExactly, ReleasedIsNotHeld, ReleasedRan};
 ghost use Rattle.cm_stream.specs.Results.{FaultsAreChecks, FaultsAreExact, FaultsAreFirst, FrontsAreWellOrdered, NoFaultIsExact};
 ghost use Rattle.cm_stream.specs.Results.{RefusedForFaults, TablesChange, TablesHaveResults, TroublesAreLast, WellOrderedAreAccepted};
 ghost use Rattle.cm_stream.specs.FaultlessLines.{NoneIsRefused, TableSteps, TablesAgree};
@@ -84,6 +84,19 @@ pub fn refusals_are_told()
 /// A good run isn't held exactly where its stream is a released one.
 pub fn released_is_not_held()
     ensures { ReleasedIsNotHeld }
+{}
+
+/// A stream is released exactly where it is good and its run isn't held; and so exactly where an audit that answers what is
+/// reported of its bytes answers Good, of a run that isn't held.
+pub fn released_exactly()
+    ensures streams { ReleasedExactly }
+    ensures answers { AnswersRelease }
+{}
+
+/// In a released stream, with unrun pickles or without, the pickles of each source are those that its text compiles to; each
+/// test case ran; each run hook finished once, with a good status; and the run finished once, says success and has no exception.
+pub fn released_cases_ran()
+    ensures { ReleasedCasesRan }
 {}
 
 /// In a released stream without unrun pickles, the pickles of each source are those that its text compiles to, and each of

@@ -1,61 +1,8 @@
 //! The lines that a feed answers, over sources in memory.
-ghost use Rattle.std.specs.Prelude.{Some, None};
-
-use cm_envelope::{ByteSource, DeviceFailed, Feed, Reader, Trouble, is_blank_line};
+use cm_envelope::{ByteSource, Feed, Reader, Trouble, is_blank_line};
+use devices::{Endless, Failing, Pieces};
 use std::alloc::Global;
 use std::process::Abort;
-
-// Bytes, in pieces of at most `most`, up to a read that fails.
-#[derive(Drop)]
-struct Pieces<'a> {
-    bytes: &'a [u8],
-    most: usize,
-    good_reads: u64,
-    failed_calls: u64,
-}
-
-impl ByteSource for Pieces<'_> {
-    ghost to_come = { λ p. Some p.bytes.now };
-
-    ghost failed_calls = { λ p. p.failed_calls };
-
-    fn read_some(&mut self, piece: &mut [u8]) -> Result<usize, DeviceFailed> {
-        if self.good_reads == 0 {
-            self.failed_calls = self.failed_calls.saturating_add(1);
-            return Err(DeviceFailed);
-        }
-        self.good_reads -= 1;
-        let bytes = self.bytes;
-        let n = self.most.max(1).min(piece.len()).min(bytes.len());
-        piece[..n].copy_from_slice(&bytes[..n]);
-        self.bytes = &bytes[n..];
-        Ok(n)
-    }
-}
-
-fn whole(bytes: &[u8], most: usize) -> Pieces<'_> {
-    Pieces {
-        bytes,
-        most,
-        good_reads: u64::MAX,
-        failed_calls: 0,
-    }
-}
-
-// The same byte for ever.
-#[derive(Drop)]
-struct Endless(u8);
-
-impl ByteSource for Endless {
-    ghost to_come = { λ _. None };
-
-    ghost failed_calls = { λ _. 0 };
-
-    fn read_some(&mut self, piece: &mut [u8]) -> Result<usize, DeviceFailed> {
-        piece.fill(self.0);
-        Ok(piece.len())
-    }
-}
 
 fn name_of(trouble: Trouble) -> &'static str {
     match trouble {
@@ -87,7 +34,7 @@ fn expect_answers<S: ByteSource>(rt: &impl Abort, feed: &mut Feed, source: &mut 
 // A feed of these bytes, with a line of four bytes at most in a stream of ten.
 fn expect_small(rt: &impl Abort, alloc: Global, bytes: &[u8], most: usize, answers: &str) {
     let mut feed = Feed::with_limits(alloc, 4, 10);
-    expect_answers(rt, &mut feed, &mut whole(bytes, most), answers);
+    expect_answers(rt, &mut feed, &mut Pieces::new(bytes, most), answers);
 }
 
 const LONG_LINE: &str = "=ab\n=\nLineTooLong\nLineTooLong";
@@ -112,7 +59,7 @@ fn lines_within_small_limits(rt: HostRuntime) {
 
 fn expect_endless(rt: &impl Abort, alloc: Global, byte: u8, answers: &str) {
     let mut feed = Feed::with_limits(alloc, 4, 10);
-    expect_answers(rt, &mut feed, &mut Endless(byte), answers);
+    expect_answers(rt, &mut feed, &mut Endless::new(byte), answers);
 }
 
 #[test]
@@ -123,21 +70,21 @@ fn endless_bytes(rt: HostRuntime) {
     expect_endless(&rt, alloc, b'\n', ten_lines);
 }
 
-fn expect_failed(rt: &impl Abort, alloc: Global, most: usize, good_reads: u64) {
-    let mut source = Pieces {
-        bytes: b"ab\ncd",
-        most,
-        good_reads,
-        failed_calls: 0,
-    };
-    let mut feed = Feed::new(alloc);
-    expect_answers(rt, &mut feed, &mut source, "=ab\nReadFailed\nReadFailed");
+// The read of this number fails: the line before it is given, and then the trouble, for which no other read is made.
+fn expect_failed(rt: &impl Abort, alloc: Global, most: usize, number: u64) {
+    for reads in [Failing::Once(number), Failing::EverSince(number)] {
+        let mut source = Pieces::new(b"ab\ncd", most).failing_reads(reads);
+        let mut feed = Feed::new(alloc);
+        expect_answers(rt, &mut feed, &mut source, "=ab\nReadFailed\nReadFailed");
+        assert_eq!(rt; source.reads(), number);
+        assert_eq!(rt; source.failed_reads(), 1);
+    }
 }
 
 #[test]
 fn a_failed_read(rt: HostRuntime) {
-    expect_failed(&rt, rt.alloc(), 100, 1);
-    expect_failed(&rt, rt.alloc(), 1, 5);
+    expect_failed(&rt, rt.alloc(), 100, 2);
+    expect_failed(&rt, rt.alloc(), 1, 6);
 }
 
 #[test]

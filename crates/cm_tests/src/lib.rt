@@ -7,8 +7,6 @@ mod attempts;
 #[cfg(test)]
 mod declarations;
 #[cfg(test)]
-mod devices;
-#[cfg(test)]
 mod documents;
 #[cfg(test)]
 mod envelopes;
@@ -20,3 +18,5 @@ mod members;
 mod pickles;
 #[cfg(test)]
 mod producers;
+#[cfg(test)]
+mod std_devices;

@@ -1,8 +1,7 @@
 //! `cukecheck`: reads Cucumber Messages or a feature file from standard input, and prints what it finds to standard output.
 #![tactic(auto)]
 
-use ck_commands::{ExitStatus, run};
-use cm_envelope::{Reader, Writer};
+use ck_commands::{ExitStatus, run_over};
 use std::alloc::{AllocError, Global};
 use std::process::ExitCode;
 use std::{env, io};
@@ -37,9 +36,8 @@ fn arguments(rt: &HostRuntime) -> Result<Vec<String>, &'static str> {
 fn status_of(rt: &HostRuntime) -> Result<u8, &'static str> {
     let given = arguments(rt)?;
     let words = words_after_first(rt.alloc(), &given).map_err(|_| NO_MEMORY)?;
-    let mut reader = Reader::new(rt.stdin());
-    let mut writer = Writer::new(rt.stdout());
-    Ok(run(rt.alloc(), words.as_slice(), &mut reader, &mut writer))
+    let ended = run_over(rt.alloc(), words.as_slice(), rt.stdin(), rt.stdout());
+    Ok(ended.code)
 }
 
 fn main(rt: HostRuntime) -> ExitCode {

@@ -1,8 +1,8 @@
 //! Texts that are read, and commands, in want of memory.
-use crate::devices::{Compared, expecting, in_pieces, whole};
 use crate::meeting::{Came, RUNS, meet_alone, right_if};
 use crate::streams::{INTERLEAVED, PLAIN_LINES, PLAIN_TEXT};
 use ck_commands::{ExitStatus, TextFault, read_text, run};
+use devices::{Compared, Pieces};
 use std::alloc::Global;
 use std::test::Fail;
 
@@ -32,7 +32,7 @@ const OUTLINE_TEXT: &str =
     "Feature: f\n  Scenario: s\n    Given <a>\n    Examples:\n      | a |\n      | x |\n      | x |\n      | y |\n";
 
 fn read_outline(alloc: Global) -> Came {
-    match read_text(alloc, &mut in_pieces(OUTLINE_TEXT, 7)) {
+    match read_text(alloc, &mut Pieces::new(OUTLINE_TEXT.as_bytes(), 7)) {
         Ok(text) => right_if(text.as_str() == OUTLINE_TEXT),
         Err(TextFault::Memory) => Came::Refused,
         Err(_) => Came::Wrong,
@@ -44,11 +44,14 @@ fn texts(rt: HostRuntime) -> Result<(), Fail> {
     meet_alone(rt.alloc(), RUNS, read_outline)
 }
 
+// What a run prints that is refused memory.
+const NO_MEMORY: &str = "trouble Memory\n";
+
 // A run that is refused memory says so, or nothing, and its status is that of a trouble.
 fn came_of_run(status: u8, wanted: ExitStatus, sink: &Compared<'_>) -> Came {
     if status == wanted.code() {
         right_if(sink.has_wanted())
-    } else if status == ExitStatus::Trouble.code() && (sink.has_none() || sink.has_trouble()) {
+    } else if status == ExitStatus::Trouble.code() && (sink.has_none() || sink.has_other()) {
         Came::Refused
     } else {
         Came::Wrong
@@ -62,8 +65,13 @@ fn came_of_words(
     output: &str,
     wanted: ExitStatus,
 ) -> Came {
-    let mut sink = expecting(output);
-    let status = run(alloc, words, &mut whole(input), &mut sink);
+    let mut sink = Compared::new(output, NO_MEMORY);
+    let status = run(
+        alloc,
+        words,
+        &mut Pieces::whole(input.as_bytes()),
+        &mut sink,
+    );
     came_of_run(status, wanted, &sink)
 }
 

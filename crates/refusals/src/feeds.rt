@@ -1,7 +1,7 @@
 //! The lines of a feed in want of memory.
-use crate::devices::{Bytes, in_pieces};
 use crate::meeting::check;
 use cm_envelope::{Feed, Trouble};
+use devices::Pieces;
 use scarce::{GREATEST_ROOM, Shortage};
 use std::alloc::Global;
 use std::test::Fail;
@@ -28,7 +28,7 @@ fn next_of(answer: Result<Option<&[u8]>, Trouble>, wanted: &str) -> Next {
     }
 }
 
-fn answer_of(feed: &mut Feed, source: &mut Bytes<'_>, wanted: &str) -> Next {
+fn answer_of(feed: &mut Feed, source: &mut Pieces<'_>, wanted: &str) -> Next {
     next_of(feed.next_line(source), wanted)
 }
 
@@ -65,7 +65,7 @@ const WITHIN: Stream = Stream {
 };
 
 // The first answers, up to the one that is no line.
-fn first_answers(feed: &mut Feed, source: &mut Bytes<'_>, stream: Stream) -> [Next; 3] {
+fn first_answers(feed: &mut Feed, source: &mut Pieces<'_>, stream: Stream) -> [Next; 3] {
     let mut answers = [Next::Another; 3];
     answers[0] = answer_of(feed, source, stream.lines[0]);
     answers[1] = answer_of(feed, source, stream.lines[1]);
@@ -87,10 +87,10 @@ fn are_right(answers: [Next; 3], stream: Stream) -> bool {
 }
 
 // With ample memory the last answer stays, and the source isn't read again.
-fn stays(feed: &mut Feed, source: &mut Bytes<'_>, last: Next) -> bool {
-    let reads = source.reads;
+fn stays(feed: &mut Feed, source: &mut Pieces<'_>, last: Next) -> bool {
+    let reads = source.reads();
     match last {
-        Next::Failed(_) => answer_of(feed, source, "") == last && source.reads == reads,
+        Next::Failed(_) => answer_of(feed, source, "") == last && source.reads() == reads,
         _ => answer_of(feed, source, "") == Next::End,
     }
 }
@@ -101,7 +101,7 @@ fn answers_with_room(
     shortage: &mut Shortage,
     room: usize,
     feed: &mut Feed,
-    source: &mut Bytes<'_>,
+    source: &mut Pieces<'_>,
     stream: Stream,
 ) -> Result<[Next; 3], Fail> {
     shortage.leave(alloc, room)?;
@@ -119,7 +119,7 @@ fn is_feed_refused(
     stream: Stream,
     most: usize,
 ) -> Result<bool, Fail> {
-    let mut source = in_pieces(stream.text, most);
+    let mut source = Pieces::new(stream.text.as_bytes(), most);
     let answers = answers_with_room(alloc, shortage, room, feed, &mut source, stream)?;
     check(are_right(answers, stream), "another answer")?;
     check(stays(feed, &mut source, answers[2]), "it answers again")?;
@@ -184,7 +184,7 @@ fn gives_twice(
     alloc: Global,
     shortage: &mut Shortage,
     feed: &mut Feed,
-    source: &mut Bytes<'_>,
+    source: &mut Pieces<'_>,
     wanted: Next,
 ) -> Result<bool, Fail> {
     shortage.leave(alloc, 0)?;
@@ -197,7 +197,7 @@ fn gives_twice(
 fn is_given_without_room(
     alloc: Global,
     feed: &mut Feed,
-    source: &mut Bytes<'_>,
+    source: &mut Pieces<'_>,
     wanted: Next,
 ) -> Result<bool, Fail> {
     let mut shortage = Shortage::new(alloc)?;
@@ -207,7 +207,7 @@ fn is_given_without_room(
 }
 
 fn meet_end(alloc: Global, feed: &mut Feed) -> Result<(), Fail> {
-    let mut source = in_pieces("a", 100);
+    let mut source = Pieces::new(b"a", 100);
     let first = answer_of(feed, &mut source, "a");
     check(first == Next::Line, "no line")?;
     check(
@@ -226,7 +226,7 @@ fn ends_without_room(rt: HostRuntime) -> Result<(), Fail> {
 }
 
 fn meet_trouble(alloc: Global, feed: &mut Feed) -> Result<(), Fail> {
-    let mut source = in_pieces("abcde", 100);
+    let mut source = Pieces::new(b"abcde", 100);
     let trouble = Next::Failed(Trouble::LineTooLong);
     let first = answer_of(feed, &mut source, "");
     check(first == trouble, "no trouble")?;

@@ -7,8 +7,6 @@
 #[cfg(test)]
 mod commands;
 #[cfg(test)]
-mod devices;
-#[cfg(test)]
 mod differences;
 #[cfg(test)]
 mod features;

@@ -1,9 +1,9 @@
 //! Envelopes, audits and written features in want of memory.
-use crate::devices::{expecting, whole};
 use crate::meeting::{Came, PIECES, SMALL, meet_alone, right_if};
 use cm_audit::{Counts, Verdict, audit};
 use cm_compile::{CompileFault, write_compiled};
 use cm_envelope::{Envelope, EnvelopeFault, Trouble, read_envelope};
+use devices::{Compared, Pieces};
 use gk_document::Text;
 use std::alloc::Global;
 use std::test::Fail;
@@ -120,7 +120,7 @@ fn a_pickle(rt: HostRuntime) -> Result<(), Fail> {
 }
 
 fn audit_interleaved(alloc: Global) -> Came {
-    match audit(alloc, &mut whole(INTERLEAVED)) {
+    match audit(alloc, &mut Pieces::whole(INTERLEAVED.as_bytes())) {
         Ok(verdict) => right_if(
             verdict
                 == Verdict::Good(Counts {
@@ -143,7 +143,7 @@ fn audits(rt: HostRuntime) -> Result<(), Fail> {
 
 // A refused call has written nothing.
 fn write_plain(alloc: Global) -> Came {
-    let mut sink = expecting(PLAIN_LINES);
+    let mut sink = Compared::new(PLAIN_LINES, "");
     match write_compiled(alloc, "a.feature", PLAIN_TEXT, &mut sink) {
         Ok(()) => right_if(sink.has_wanted()),
         Err(CompileFault::Memory) => if sink.has_none() {

@@ -12,10 +12,10 @@ invariant-lines g l = record {
   stream_limit : l.feed.stream_limit ≡ 1073741824;
   counted : l.number ≤ l.feed.given;
   few : l.feed.given ≤ 1073741824;
-  ends : EndsWithSource l.feed (g.S.ByteSource.to_come l.source);
-  told : HasReadSo l.feed (g.S.ByteSource.to_come l.fn.source) (g.S.ByteSource.to_come l.source) (HasTaken l.fn.first_attempt l.feed l.number l.attempts);
-  lines : HasReadSo l.feed (g.S.ByteSource.to_come l.fn.source) (g.S.ByteSource.to_come l.source) (λ xs ys. HasTakenLines l.fn.first_attempt xs ys l.feed l.number l.attempts);
-  no_failure : g.S.ByteSource.failed_calls l.source ≡ g.S.ByteSource.failed_calls l.fn.source;
+  ends : EndsWithSource l.feed (g.S.ByteSource.input l.source);
+  told : HasReadSo l.feed (g.S.ByteSource.input l.fn.source) (g.S.ByteSource.input l.source) (HasTaken l.fn.first_attempt l.feed l.number l.attempts);
+  lines : HasReadSo l.feed (g.S.ByteSource.input l.fn.source) (g.S.ByteSource.input l.source) (λ xs ys. HasTakenLines l.fn.first_attempt xs ys l.feed l.number l.attempts);
+  no_failure : (g.S.ByteSource.input l.source).failed_calls ≡ (g.S.ByteSource.input l.fn.source).failed_calls;
 }
 
 abbrev pub decreases-lines : goal.decreases-lines

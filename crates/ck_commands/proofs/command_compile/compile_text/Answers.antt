@@ -1,13 +1,48 @@
-use Rattle.std.proofs.Common.{◌≡◌, ◌∙◌, Err, ap, sym}
-use Rattle.ck_commands.proofs.Compiles.{fault_printed, refused_of}
+use Rattle.std.proofs.Common.{◌≡◌, ◌∙◌, List, ℕ, Err, ap, inl, refl, sym}
+use Rattle.ck_commands.specs.Features.{IsReadable}
+use Rattle.ck_commands.specs.Output.{Report}
 use Rattle.ck_commands.specs.declared.feature_input.FeatureFault.TheVariants.{Refused}
+use Rattle.ck_commands.specs.declared.output.ExitStatus.TheVariants.{Done}
+use Rattle.ck_commands.proofs.Compiles.{fault_delivered, refused_of}
+use Rattle.ck_commands.proofs.Delivering.{delivered, not_flushed, not_written}
 use Rattle.ck_commands.proofs.command_compile.compile_text.Goals as goal
 
-pub returns-in-Err-Parse-clause-printed : goal.returns-in-Err-Parse-clause-printed
-returns-in-Err-Parse-clause-printed g c = λ none.
+lines_report : List ℕ → Report
+lines_report lines = record { text = lines; status = Done }
+
+pub returns-in-Ok-flush : goal.returns-in-Ok-flush
+unfolding lines_report
+returns-in-Ok-flush g c =
+    let wrote = c.in-Ok.ensures.written in
+    let readable : IsReadable c.args.text.now = record { utf8 = c.utf8.text; short = λ long. let no = c.in-Ok.ensures.too_long.1 long in cc } in
+    let passed = c.in-Ok-flush.ensures in
+    (lines_report wrote.0, inl (inl (wrote.0, readable, wrote.1, refl)), delivered (lines_report wrote.0) _ _ _ _ c.code.ensures wrote.2 c.in-Ok.ensures.none_failed passed.taken passed.shown passed.failures)
+
+pub returns-in-Err : goal.returns-in-Err
+unfolding lines_report
+returns-in-Err g c =
+    let wrote = c.in-Ok.ensures.written in
+    let readable : IsReadable c.args.text.now = record { utf8 = c.utf8.text; short = λ long. let no = c.in-Ok.ensures.too_long.1 long in cc } in
+    let passed = c.in-Err.ensures in
+    (lines_report wrote.0, inl (inl (wrote.0, readable, wrote.1, refl)), not_flushed (lines_report wrote.0) _ _ _ _ c.code-in-Err.ensures wrote.2 c.in-Ok.ensures.none_failed passed.taken passed.shown passed.failures)
+
+pub returns-in-Err-Parse : goal.returns-in-Err-Parse
+returns-in-Err-Parse g c =
     let fault = c.in-Err-Parse.fault in
     let parsed = c.in-Err-Parse.field-0-is in
     let same : c.write_compiled.new.sink ≡ c.args.sink.now = c.in-Err-Parse.ensures.untouched (λ e. let other = sym parsed ∙ e in cc) in
-    let printed = rw same at c.print_fault.ensures.printed in
     let refused = c.in-Err-Parse.ensures.refused fault (ap Err parsed) in
-    fault_printed c.args.uri.now c.args.text.now (Refused fault) _ _ _ (refused_of c.args.text.now fault c.utf8.text refused) (printed none)
+    fault_delivered c.args.uri.now c.args.text.now (Refused fault) _ _ _ (refused_of c.args.text.now fault c.utf8.text refused) (rw same at c.print_fault.ensures)
+
+pub returns-in-Err-WriteFailed : goal.returns-in-Err-WriteFailed
+unfolding lines_report
+returns-in-Err-WriteFailed g c =
+    let is = c.in-Err-WriteFailed.field-0-is in
+    let compile = c.in-Err-WriteFailed.ensures in
+    let wrote = compile.front (ap Err is) in
+    let readable : IsReadable c.args.text.now = record { utf8 = c.utf8.text; short = λ long. let no = compile.too_long.1 long in cc } in
+    let told = c.write_trouble.ensures.front in (
+      lines_report wrote.0,
+      inl (inl (wrote.0, readable, wrote.1, refl)),
+      not_written (lines_report wrote.0) _ _ _ _ told.0 told.1 c.write_trouble.ensures.status wrote.2 (compile.failed (ap Err is)) told.2 told.3 c.write_trouble.ensures.counted,
+    )

@@ -1,13 +1,13 @@
-use Rattle.ck_commands.proofs.Compiles.{failed_feature_printed, feature_printed}
-use Rattle.ck_commands.proofs.Printing.{made_printed, none_failed, some_failed}
+use Rattle.ck_command_line.specs.CommandLine.{ask_parse}
+use Rattle.ck_commands.specs.Output.{report_made}
+use Rattle.ck_commands.proofs.Compiles.{feature_is_reported, if_ok}
+use Rattle.ck_commands.proofs.Printing.{made_is}
+use Rattle.ck_commands.proofs.Ran.{runs_of}
 use Rattle.ck_commands.proofs.command_parse.print_feature.Goals as goal
 
-pub returns-clause-printed : goal.returns-clause-printed
-returns-clause-printed g c = λ h.
-    feature_printed (g.R.ByteSource.to_come c.args.source.now) _ _ c.read_document-read.result _ (c.read_document-read.ensures.feature (none_failed _ _ _ c.read_document-read.ensures.failures h.reads))
-    (made_printed _ _ _ _ _ c.parse_report-report.ensures.text c.parse_report-report.ensures.status (c.write_report.ensures.written h.writes))
-
-pub returns-clause-read_failed : goal.returns-clause-read_failed
-returns-clause-read_failed g c = λ more none.
-    failed_feature_printed c.read_document-read.result _ _ _ (some_failed _ _ _ c.read_document-read.ensures.failures more)
-    (made_printed _ _ _ _ _ c.parse_report-report.ensures.text c.parse_report-report.ensures.status (c.write_report.ensures.written none))
+pub returns : goal.returns
+returns g c =
+    let read = c.read_document-read.ensures in
+    runs_of ask_parse (report_made c.parse_report-report.result) _ _ _ _ _ c.write_report.ensures
+    (feature_is_reported c.read_document-read.result _ _ _ read.feature (if_ok c.read_document-read.result read.whole) read.heard read.failures
+    (made_is c.parse_report-report.result _ c.parse_report-report.ensures.text c.parse_report-report.ensures.status))

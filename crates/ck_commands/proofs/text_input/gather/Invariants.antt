@@ -1,13 +1,13 @@
 use Rattle.std.proofs.Common.{◌≡◌, ◌≤◌, ◌-◌, length}
-use Rattle.std.specs.Io.KnownBytes.{Consumes}
+use Rattle.cm_envelope.specs.Device.{Hears}
 use Rattle.ck_commands.proofs.text_input.gather.Given as goal
 
 abbrev pub invariant-pieces : goal.invariant-pieces
 invariant-pieces g l = record {
-  read : Consumes (g.R.ByteSource.to_come l.fn.source) (g.R.ByteSource.to_come l.source) l.bytes.items;
+  read : Hears (g.R.ByteSource.input l.fn.source) (g.R.ByteSource.input l.source) l.bytes.items;
   room : length l.piece ≡ 65536;
   few : length l.bytes.items ≤ 16842752;
-  failures : g.R.ByteSource.failed_calls l.source ≡ g.R.ByteSource.failed_calls l.fn.source;
+  failures : (g.R.ByteSource.input l.source).failed_calls ≡ (g.R.ByteSource.input l.fn.source).failed_calls;
 }
 
 abbrev pub decreases-pieces : goal.decreases-pieces

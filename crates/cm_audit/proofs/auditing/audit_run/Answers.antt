@@ -3,14 +3,21 @@ use Rattle.cm_stream.specs.Stream.{verdict_in}
 use Rattle.cm_audit.specs.Audit.{ReadsUpTo}
 use Rattle.cm_audit.specs.Judging.{JudgesAs}
 use Rattle.cm_audit.proofs.Following.{without_watch}
-use Rattle.cm_audit.proofs.Verdicts.{audit_of}
+use Rattle.cm_audit.proofs.Verdicts.{audit_of, good_heard}
 use Rattle.cm_audit.proofs.auditing.audit_run.Goals as goal
 
-pub returns-clause-same_bytes : goal.returns-clause-same_bytes
-returns-clause-same_bytes g c = reads_weaker _ _ (without_watch c.args.settings _ _ _ c.judge_lines-audited.result _ _ c.judge_lines-audited.ensures.judged) (audit_of c.args.settings c.judge_lines-audited.result)
+pub returns-clause-all : goal.returns-clause-all
+returns-clause-all g c = record {
+  heard = reads_weaker _ _ (without_watch c.args.settings _ _ _ c.judge_lines-audited.result _ _ c.judge_lines-audited.ensures.judged) (audit_of c.args.settings c.judge_lines-audited.result);
+  at_end = c.judge_lines-audited.ensures.at_end;
+  failures = c.judge_lines-audited.ensures.failures;
+}
 
 pub returns-clause-good : goal.returns-clause-good
-returns-clause-good g c = of_reads _ _ (without_watch c.args.settings _ _ _ c.judge_lines-audited.result _ _ c.judge_lines-audited.ensures.judged) (λ xs ys h. (audit_of c.args.settings c.judge_lines-audited.result xs ys h).good)
+returns-clause-good g c =
+    good_heard c.args.settings c.judge_lines-audited.result _ _
+    (reads_weaker _ _ (without_watch c.args.settings _ _ _ c.judge_lines-audited.result _ _ c.judge_lines-audited.ensures.judged) (audit_of c.args.settings c.judge_lines-audited.result))
+    c.judge_lines-audited.ensures.at_end
 
 pub returns-clause-bad : goal.returns-clause-bad
 returns-clause-bad g c = of_reads _ _ (without_watch c.args.settings _ _ _ c.judge_lines-audited.result _ _ c.judge_lines-audited.ensures.judged) (λ xs ys h. (audit_of c.args.settings c.judge_lines-audited.result xs ys h).bad)

@@ -14,9 +14,9 @@ invariant-lines g l = record {
   few : l.feed.given ≤ 1073741824;
   listed : IsListed l.state;
   fewer : AreFewer (l.number + 1) l.state.counts;
-  ends : EndsWithSource l.feed (g.R.ByteSource.to_come l.source);
-  judged : HasReadSo l.feed (g.R.ByteSource.to_come l.fn.source) (g.R.ByteSource.to_come l.source) (λ xs ys. HasFollowed l.fn.settings (g.W.Watch.follows l.watch) xs ys l.feed l.number (summary_of l.state));
-  no_failure : g.R.ByteSource.failed_calls l.source ≡ g.R.ByteSource.failed_calls l.fn.source;
+  ends : EndsWithSource l.feed (g.R.ByteSource.input l.source);
+  judged : HasReadSo l.feed (g.R.ByteSource.input l.fn.source) (g.R.ByteSource.input l.source) (λ xs ys. HasFollowed l.fn.settings (g.W.Watch.follows l.watch) xs ys l.feed l.number (summary_of l.state));
+  no_failure : (g.R.ByteSource.input l.source).failed_calls ≡ (g.R.ByteSource.input l.fn.source).failed_calls;
 }
 
 abbrev pub decreases-lines : goal.decreases-lines

@@ -1,0 +1,26 @@
+-- The bytes that a source shows to come.
+use Rattle.std.proofs.Common.{◌≡◌, ◌∙◌, ◌++◌, [], ℕ, Bool, List, Option, Some, None, refl, sym, ap, subst}
+use Rattle.std.specs.Io.KnownBytes.{Consumes, IsAtEnd}
+use Rattle.cm_envelope.specs.Device.{Input, OfWhole, Output}
+use Rattle.cm_attempt.specs.declared.settings.Settings.{Settings}
+use Rattle.cm_stream.specs.Release.{IsReleasedStream}
+use Rattle.ck_commands.specs.Gate.{PrintsReleased}
+use Rattle.ck_commands.specs.Standard.{GaveReleased, ShownAreHeard}
+
+split : (old new : Option (List ℕ)) (read bytes : List ℕ) → Consumes old new read → old ≡ Some bytes → (rest : List ℕ) × (new ≡ Some rest) × (bytes ≡ read ++ rest)
+split None new read bytes k is = cc
+split (Some xs) None read bytes k is = absurd k
+split (Some xs) (Some ys) read bytes k is =
+    let same : bytes ≡ xs = cc in
+    (ys, refl, same ∙ k)
+
+pub shown_are_heard : ShownAreHeard
+shown_are_heard before after read bytes heard ends is =
+    let parts = split before.to_come after.to_come read bytes heard.shown is in
+    (parts.0, parts.1, parts.2, λ over. subst IsAtEnd parts.1 (heard.ends ends over))
+
+-- the bytes heard of a source from its first call on
+pub gave_released : (settings : Settings) (allows_unrun : Bool) (i j : Input) (before after : Output) → i.heard ≡ [] → OfWhole i j (PrintsReleased settings allows_unrun before after) → GaveReleased settings allows_unrun j
+gave_released settings allows_unrun i j before after new h =
+    let all : j.heard ≡ h.0 = h.1.heard ∙ ap (λ l. l ++ h.0) new in
+    (h.2, (h.3.0, subst (λ l. IsReleasedStream settings allows_unrun l h.3.0) (sym all) h.3.1))

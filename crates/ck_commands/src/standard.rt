@@ -1,0 +1,52 @@
+//! A run over a reader and a writer of std, of which nothing has to be known.
+ghost use Rattle.std.specs.Prelude.{◌≡◌, Bool};
+ghost use Rattle.cm_attempt.specs.declared.settings.Settings.{Settings};
+ghost use Rattle.ck_command_line.specs.CommandLine.{Asks, AsksNothing, CallsForHelp, ask_gate};
+ghost use Rattle.ck_commands.specs.Output.{code_of};
+ghost use Rattle.ck_commands.specs.Standard.{GaveReleased, ShownAreHeard};
+
+use crate::commands::run;
+use crate::output::ExitStatus;
+use cm_envelope::{ByteSource, Reader, Writer};
+use std::alloc::Global;
+use std::io::{Read, Write};
+
+/// A run that ended: its exit code, and its devices, whose histories clauses can name.
+#[derive(Drop)]
+pub struct Ended<R, W> {
+    /// The code of the run's `ExitStatus`.
+    pub code: u8,
+    /// What was read from.
+    pub source: Reader<R>,
+    /// What was written to.
+    pub sink: Writer<W>,
+}
+
+/// Runs the command that the words after the program's name ask for, as `run` does, over a reader and a writer. The clauses
+/// ask nothing of the reader: they hold of standard input, which shows no byte that is to come.
+pub fn run_over<R: Read, W: Write>(
+    alloc: Global,
+    words: &[&str],
+    reader: R,
+    writer: W,
+) -> Ended<R, W>
+    // With status 0 of a gate the bytes that the reader gave, up to its end, are a released stream.
+    ensures released { (settings : Settings) (allows_unrun : Bool)
+        → Asks words.now (ask_gate settings allows_unrun)
+        → result.code ≡ code_of ExitStatus.Done
+        → GaveReleased settings allows_unrun (⟦<Reader<R> as ByteSource>⟧.input result.source) }
+    // Words that ask for no command end with status 0 only where they call for help or for the version.
+    ensures usage { result.code ≡ code_of ExitStatus.Done → AsksNothing words.now
+        → CallsForHelp words.now }
+{
+    let mut source = Reader::new(reader);
+    let mut sink = Writer::new(writer);
+    let code = run(alloc, words, &mut source, &mut sink);
+    Ended { code, source, sink }
+}
+
+/// What a source shows to come is what was heard of it and what it shows afterwards. So each clause on the bytes heard and any
+/// that may come after them holds of the bytes that a source shows.
+pub fn shown_bytes_are_heard()
+    ensures { ShownAreHeard }
+{}

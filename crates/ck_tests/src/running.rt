@@ -1,0 +1,47 @@
+//! Runs over devices in memory.
+use ck_commands::run;
+use devices::{Pieces, Store};
+use std::alloc::Global;
+use std::process::Abort;
+
+// A run ends with this status, and the sink has taken this text.
+pub(crate) fn expect_run(
+    rt: &impl Abort,
+    alloc: Global,
+    words: &[&str],
+    source: &mut Pieces<'_>,
+    sink: &mut Store,
+    text: &str,
+    status: u8,
+) {
+    assert_eq!(rt; run(alloc, words, source, sink), status);
+    assert_eq!(rt; sink.bytes(), text.as_bytes());
+}
+
+pub(crate) fn expect_words(
+    rt: &impl Abort,
+    alloc: Global,
+    words: &[&str],
+    source: Pieces<'_>,
+    text: &str,
+    status: u8,
+) {
+    let mut source = source;
+    let mut sink = Store::new(alloc, 7);
+    expect_run(rt, alloc, words, &mut source, &mut sink, text, status);
+}
+
+pub(crate) fn expect_told(
+    rt: &impl Abort,
+    alloc: Global,
+    word: &str,
+    source: Pieces<'_>,
+    text: &str,
+    status: u8,
+) {
+    expect_words(rt, alloc, &[word], source, text, status);
+}
+
+pub(crate) fn expect_results(rt: &impl Abort, alloc: Global, bytes: &[u8], text: &str, status: u8) {
+    expect_told(rt, alloc, "results", Pieces::whole(bytes), text, status);
+}
