@@ -50,7 +50,7 @@ pub fn tree_difference(
     }))
 }
 
-/// A document that is due, and that the stream doesn't have: an array of its parts, in the order of the file.
+/// A document that is due, and that the stream doesn't have: an array of its parts, in the order of its tree.
 ///
 /// # Errors
 /// Only where there is no memory for the parts or their texts.

@@ -14,7 +14,8 @@ use serde::Serialize;
 use serde_json::to_vec;
 use std::alloc::{AllocError, Global};
 
-/// The compact text of a message, none of whose parts can be refused but for want of memory.
+/// The compact text of a message. Each error of the serializer is given as want of memory: no part of a message is one that
+/// it refuses otherwise.
 fn text_of<T: Serialize>(alloc: Global, message: &T) -> Result<Vec<u8>, AllocError>
     ensures { IfOk result (λ bytes. IsWrittenFor (T.writes message.now) bytes.items) }
 {
@@ -28,7 +29,7 @@ fn text_of<T: Serialize>(alloc: Global, message: &T) -> Result<Vec<u8>, AllocErr
 /// `Source.json`, in the byte order of their names.
 ///
 /// # Errors
-/// Only where there is no memory for it.
+/// Where there is no memory for it, as `serde_json` says.
 #[tactic(auto, using(crate::proofs::Texts::source_written))]
 pub fn source_text(alloc: Global, uri: &str, text: &str) -> Result<Vec<u8>, AllocError>
     ensures { IfOk result (λ bytes. bytes.items ≡ compact_text (source_data uri.now text.now)) }
@@ -42,7 +43,7 @@ pub fn source_text(alloc: Global, uri: &str, text: &str) -> Result<Vec<u8>, Allo
 /// `docString` and `mediaType` are absent where there is none.
 ///
 /// # Errors
-/// Only where there is no memory for it.
+/// Where there is no memory for it, as `serde_json` says.
 #[tactic(auto, using(crate::proofs::Texts::document_written))]
 pub fn document_text(alloc: Global, uri: &str, document: &Document) -> Result<Vec<u8>, AllocError>
     ensures { IfOk result
@@ -57,7 +58,7 @@ pub fn document_text(alloc: Global, uri: &str, document: &Document) -> Result<Ve
 /// `argument` and a doc string's `mediaType` are absent where there is none.
 ///
 /// # Errors
-/// Only where there is no memory for it.
+/// Where there is no memory for it, as `serde_json` says.
 #[tactic(auto, using(crate::proofs::Texts::pickle_written))]
 pub fn pickle_text(
     alloc: Global,

@@ -10,7 +10,7 @@ use thiserror::Error;
 pub struct Line<'a> {
     /// The line's number, counted from 1.
     pub number: u32,
-    /// The characters of the line, a slice of the feature's text.
+    /// The characters of the line.
     pub text: &'a str,
 }
 

@@ -1,4 +1,4 @@
--- The parts of a document in the order of the file, and what is compared of each.
+-- The parts of a document in the order of its tree, and what is compared of each.
 -- Source: Cucumber Messages, `GherkinDocument`. Tags, cells and a step's argument are no parts of
 -- their own.
 use Rattle.std.specs.Prelude.{List, [], ◌∷◌, ◌++◌, map, Option, None}
@@ -39,7 +39,7 @@ seen (declared.Examples e) = ExamplesPart e.now
 seen (declared.Header r) = HeaderPart r.now
 seen (declared.Row r) = RowPart r.now
 
--- ---- the parts in the order of the file, each before what is inside it
+-- ---- the parts in the order of the tree, each before what is inside it
 
 abbrev pub background_parts : Background → List Part
 background_parts b = BackgroundPart b ∷ map StepPart b.steps

@@ -1,4 +1,4 @@
-//! The parts of a document in the order of the file, and the first part in which two documents
+//! The parts of a document in the order of its tree, and the first part in which two documents
 //! differ.
 //!
 //! ```

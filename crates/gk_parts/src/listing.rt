@@ -163,7 +163,7 @@ fn add_feature<'a>(feature: &'a Feature, made: &mut Vec<Part<'a>>) -> Result<(),
     add_rules(feature.rules.as_slice(), made)
 }
 
-/// The parts of a document in the order of the file, each before what is inside it: the feature,
+/// The parts of a document in the order of its tree, each before what is inside it: the feature,
 /// its background, its scenarios, then its rules. None where there is no feature.
 ///
 /// # Errors
