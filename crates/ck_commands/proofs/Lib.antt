@@ -12,3 +12,4 @@ pub mod AuditsPrinted
 pub mod ResultsPrinted
 pub mod Choices
 pub mod Shown
+pub mod Exactly

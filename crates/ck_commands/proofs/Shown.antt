@@ -5,7 +5,8 @@ use Rattle.cm_envelope.specs.Device.{Input, OfWhole, Output}
 use Rattle.cm_attempt.specs.declared.settings.Settings.{Settings}
 use Rattle.cm_stream.specs.Release.{IsReleasedStream}
 use Rattle.ck_commands.specs.Gate.{PrintsReleased}
-use Rattle.ck_commands.specs.Standard.{GaveReleased, ShownAreHeard}
+use Rattle.ck_commands.specs.Laws.{ShownAreHeard}
+use Rattle.ck_commands.specs.Standard.{GaveReleased}
 
 split : (old new : Option (List ℕ)) (read bytes : List ℕ) → Consumes old new read → old ≡ Some bytes → (rest : List ℕ) × (new ≡ Some rest) × (bytes ≡ read ++ rest)
 split None new read bytes k is = cc

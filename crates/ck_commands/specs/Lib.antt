@@ -11,3 +11,4 @@ pub mod Statuses
 pub mod TextInput
 pub mod Verdicts
 pub mod Standard
+pub mod Laws

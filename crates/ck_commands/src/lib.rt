@@ -22,12 +22,14 @@ mod command_parse;
 mod command_results;
 mod commands;
 mod feature_input;
+mod laws;
 mod output;
 mod standard;
 mod status_words;
 mod text_input;
 
 pub use commands::run;
+pub use laws::{gate_releases_exactly, shown_bytes_are_heard};
 pub use output::ExitStatus;
-pub use standard::{Ended, run_over, shown_bytes_are_heard};
+pub use standard::{Ended, run_over};
 pub use text_input::{TextFault, read_text};

@@ -3,7 +3,7 @@ ghost use Rattle.std.specs.Prelude.{◌≡◌, Bool};
 ghost use Rattle.cm_attempt.specs.declared.settings.Settings.{Settings};
 ghost use Rattle.ck_command_line.specs.CommandLine.{Asks, AsksNothing, CallsForHelp, ask_gate};
 ghost use Rattle.ck_commands.specs.Output.{code_of};
-ghost use Rattle.ck_commands.specs.Standard.{GaveReleased, ShownAreHeard};
+ghost use Rattle.ck_commands.specs.Standard.{GaveReleased};
 
 use crate::commands::run;
 use crate::output::ExitStatus;
@@ -44,9 +44,3 @@ pub fn run_over<R: Read, W: Write>(
     let code = run(alloc, words, &mut source, &mut sink);
     Ended { code, source, sink }
 }
-
-/// What a source shows to come is what was heard of it and what it shows afterwards. So each clause on the bytes heard and any
-/// that may come after them holds of the bytes that a source shows.
-pub fn shown_bytes_are_heard()
-    ensures { ShownAreHeard }
-{}
