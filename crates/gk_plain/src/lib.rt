@@ -1,5 +1,5 @@
 //! A plain program of the grammar of feature files, for small texts: by all cuts of the lines. It witnesses the grammar, and the
-//! parser is compared with it, with which it shares no reader.
+//! parser is compared with it: beside the lines and their tokens (`gk_line`) the two share nothing.
 //!
 //! ```
 //! use gk_plain::has_document;
