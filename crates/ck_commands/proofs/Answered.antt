@@ -15,7 +15,7 @@ use Rattle.cm_stream.specs.Refusals.{refused, refusal_finding}
 use Rattle.cm_stream.specs.Record.{changed}
 use Rattle.cm_stream.specs.Stream.{at_line as at_told, fed}
 use Rattle.cm_stream.specs.Calls.{calls_of}
-use Rattle.cm_stream.specs.Results.{fault, first_fault_line, first_fault_of, first_fault, results_of}
+use Rattle.cm_stream.specs.Results.{results_fault, first_results_fault_line, first_results_fault_of, first_results_fault, results_of}
 use Rattle.cm_stream.proofs.Tables.{tables_have_results, refused_for_faults, tables_change}
 use Rattle.ck_commands.specs.Outcome.{unless_found, after_envelope, at_line, after_lines, outcome_at, outcome_of, outcome_report, case_text, table_text}
 use Rattle.ck_commands.specs.Output.{Report}
@@ -35,33 +35,33 @@ at_end first before t taken =
     rows_text t ∙ ap (flat_map result_text) (tables_have_results first before t taken).1
 
 shown : (first : ℕ) (before : List Envelope) (n : ℕ) (t : Table) (ls : List (List ℕ)) (end : Option Trouble) → table_after first (calls_of before) ≡ Some t
-    → outcome_report (outcome_at (after_lines n t ls) end) ≡ results_report (first_fault_of first before (n + 1) ls end)
+    → outcome_report (outcome_at (after_lines n t ls) end) ≡ results_report (first_results_fault_of first before (n + 1) ls end)
 shown first before n t [] (Some reason) taken = refl
 shown first before n t [] None taken = ap (λ (text : List ℕ). let r : Report = record { text = text; status = Done } in r) (at_end first before t taken)
 shown first before n t (l ∷ ls) end taken = go (is_blank l) refl (shown first before (n + 1) t ls end taken) (λ e u. shown first (before ++ e ∷ []) (n + 1) u ls end)
   where
-    on_fault : (e : Envelope) → (o : Option Finding) → fault first before e ≡ o
+    on_fault : (e : Envelope) → (o : Option Finding) → results_fault first before e ≡ o
         → ((u : Table) → table_after first (calls_of (before ++ e ∷ [])) ≡ Some u
-        → outcome_report (outcome_at (after_lines (n + 1) u ls) end) ≡ results_report (first_fault_of first (before ++ e ∷ []) (n + 1 + 1) ls end))
+        → outcome_report (outcome_at (after_lines (n + 1) u ls) end) ≡ results_report (first_results_fault_of first (before ++ e ∷ []) (n + 1 + 1) ls end))
         → outcome_report (outcome_at (at_line (n + 1) (unless_found o (changed t e)) >>= λ next. after_lines (n + 1) next ls) end)
-        ≡ results_report (at_told (n + 1) (fault first before e) (first_fault_of first (before ++ e ∷ []) (n + 1 + 1) ls end))
+        ≡ results_report (at_told (n + 1) (results_fault first before e) (first_results_fault_of first (before ++ e ∷ []) (n + 1 + 1) ls end))
     on_fault e (Some f) k rec = rw k refl
     on_fault e None k rec = rw k (rec (changed t e) (tables_change first before t taken e k))
 
     on_read : (r : Result Envelope LineFault)
         → ((e : Envelope) (u : Table) → table_after first (calls_of (before ++ e ∷ [])) ≡ Some u
-        → outcome_report (outcome_at (after_lines (n + 1) u ls) end) ≡ results_report (first_fault_of first (before ++ e ∷ []) (n + 1 + 1) ls end))
+        → outcome_report (outcome_at (after_lines (n + 1) u ls) end) ≡ results_report (first_results_fault_of first (before ++ e ∷ []) (n + 1 + 1) ls end))
         → outcome_report (outcome_at (at_line (n + 1) (after_envelope t r) >>= λ next. after_lines (n + 1) next ls) end)
-        ≡ results_report (first_fault_line first before (n + 1) (Some r) (λ (now : List Envelope). first_fault_of first now (n + 1 + 1) ls end))
+        ≡ results_report (first_results_fault_line first before (n + 1) (Some r) (λ (now : List Envelope). first_results_fault_of first now (n + 1 + 1) ls end))
     on_read (Err b) rec = refl
     on_read (Ok e) rec = on_fault e (option_and_then refusal_finding (refused t e)) (sym (refused_for_faults first before t taken e)) (rec e)
 
-    go : (b : Bool) → is_blank l ≡ b → outcome_report (outcome_at (after_lines (n + 1) t ls) end) ≡ results_report (first_fault_of first before (n + 1 + 1) ls end)
+    go : (b : Bool) → is_blank l ≡ b → outcome_report (outcome_at (after_lines (n + 1) t ls) end) ≡ results_report (first_results_fault_of first before (n + 1 + 1) ls end)
         → ((e : Envelope) (u : Table) → table_after first (calls_of (before ++ e ∷ [])) ≡ Some u
-        → outcome_report (outcome_at (after_lines (n + 1) u ls) end) ≡ results_report (first_fault_of first (before ++ e ∷ []) (n + 1 + 1) ls end))
-        → outcome_report (outcome_at (after_lines n t (l ∷ ls)) end) ≡ results_report (first_fault_of first before (n + 1) (l ∷ ls) end)
+        → outcome_report (outcome_at (after_lines (n + 1) u ls) end) ≡ results_report (first_results_fault_of first (before ++ e ∷ []) (n + 1 + 1) ls end))
+        → outcome_report (outcome_at (after_lines n t (l ∷ ls)) end) ≡ results_report (first_results_fault_of first before (n + 1) (l ∷ ls) end)
     go true k skip rec = rw k skip
     go false k skip rec = rw k (on_read (envelope_of_line l) rec)
 
-pub outcome_is_reported : (first : ℕ) (bytes : List ℕ) → outcome_report (outcome_of first bytes) ≡ results_report (first_fault first bytes)
+pub outcome_is_reported : (first : ℕ) (bytes : List ℕ) → outcome_report (outcome_of first bytes) ≡ results_report (first_results_fault first bytes)
 outcome_is_reported first bytes = shown first [] 0 (table_from first) (fed bytes).lines (fed bytes).trouble refl

@@ -21,7 +21,7 @@ use Rattle.cm_stream.specs.Calls.{calls_of}
 use Rattle.cm_stream.specs.Findings.{Finding}
 use Rattle.cm_stream.specs.Record.{changed}
 use Rattle.cm_stream.specs.Refusals.{refused, refusal_finding}
-use Rattle.cm_stream.specs.Results.{fault, first_fault_line, first_fault_of}
+use Rattle.cm_stream.specs.Results.{results_fault, first_results_fault_line, first_results_fault_of}
 use Rattle.cm_stream.specs.Stream.{Troubled, at_line as at_told}
 use Rattle.cm_stream.specs.declared.verdict.Audited.{Audited}
 use Rattle.cm_stream.proofs.Tables.{refused_for_faults, tables_change}
@@ -69,26 +69,26 @@ goes_on_lines first feed later n t new line a b c p still leaves given k =
 
 -- where the lines are taken, none has a fault
 faultless : (first : ℕ) (before : List Envelope) (n : ℕ) (t u : Table) (ls : List (List ℕ)) (why : Trouble) → table_after first (calls_of before) ≡ Some t → after_lines n t ls ≡ Ok u
-    → first_fault_of first before (n + 1) ls (Some why) ≡ Troubled why
+    → first_results_fault_of first before (n + 1) ls (Some why) ≡ Troubled why
 faultless first before n t u [] why taken done = refl
 faultless first before n t u (l ∷ ls) why taken done = go (is_blank l) refl done (faultless first before (n + 1) t u ls why taken) (λ e v. faultless first (before ++ e ∷ []) (n + 1) v u ls why)
   where
-    on_fault : (e : Envelope) → (o : Option Finding) → fault first before e ≡ o → (at_line (n + 1) (unless_found o (changed t e)) >>= λ next. after_lines (n + 1) next ls) ≡ Ok u
-        → ((v : Table) → table_after first (calls_of (before ++ e ∷ [])) ≡ Some v → after_lines (n + 1) v ls ≡ Ok u → first_fault_of first (before ++ e ∷ []) (n + 1 + 1) ls (Some why) ≡ Troubled why)
-        → at_told (n + 1) (fault first before e) (first_fault_of first (before ++ e ∷ []) (n + 1 + 1) ls (Some why)) ≡ Troubled why
+    on_fault : (e : Envelope) → (o : Option Finding) → results_fault first before e ≡ o → (at_line (n + 1) (unless_found o (changed t e)) >>= λ next. after_lines (n + 1) next ls) ≡ Ok u
+        → ((v : Table) → table_after first (calls_of (before ++ e ∷ [])) ≡ Some v → after_lines (n + 1) v ls ≡ Ok u → first_results_fault_of first (before ++ e ∷ []) (n + 1 + 1) ls (Some why) ≡ Troubled why)
+        → at_told (n + 1) (results_fault first before e) (first_results_fault_of first (before ++ e ∷ []) (n + 1 + 1) ls (Some why)) ≡ Troubled why
     on_fault e (Some f) k done rec = cc
     on_fault e None k done rec = rw k (rec (changed t e) (tables_change first before t taken e k) done)
 
     on_read : (r : Result Envelope LineFault) → (at_line (n + 1) (after_envelope t r) >>= λ next. after_lines (n + 1) next ls) ≡ Ok u
-        → ((e : Envelope) (v : Table) → table_after first (calls_of (before ++ e ∷ [])) ≡ Some v → after_lines (n + 1) v ls ≡ Ok u → first_fault_of first (before ++ e ∷ []) (n + 1 + 1) ls (Some why) ≡ Troubled why)
-        → first_fault_line first before (n + 1) (Some r) (λ (now : List Envelope). first_fault_of first now (n + 1 + 1) ls (Some why)) ≡ Troubled why
+        → ((e : Envelope) (v : Table) → table_after first (calls_of (before ++ e ∷ [])) ≡ Some v → after_lines (n + 1) v ls ≡ Ok u → first_results_fault_of first (before ++ e ∷ []) (n + 1 + 1) ls (Some why) ≡ Troubled why)
+        → first_results_fault_line first before (n + 1) (Some r) (λ (now : List Envelope). first_results_fault_of first now (n + 1 + 1) ls (Some why)) ≡ Troubled why
     on_read (Err b) done rec = cc
     on_read (Ok e) done rec = on_fault e (option_and_then refusal_finding (refused t e)) (sym (refused_for_faults first before t taken e)) done (rec e)
 
     go : (b : Bool) → is_blank l ≡ b → (at_line (n + 1) (if b then Ok t else after_envelope t (envelope_of_line l)) >>= λ next. after_lines (n + 1) next ls) ≡ Ok u
-        → (after_lines (n + 1) t ls ≡ Ok u → first_fault_of first before (n + 1 + 1) ls (Some why) ≡ Troubled why)
-        → ((e : Envelope) (v : Table) → table_after first (calls_of (before ++ e ∷ [])) ≡ Some v → after_lines (n + 1) v ls ≡ Ok u → first_fault_of first (before ++ e ∷ []) (n + 1 + 1) ls (Some why) ≡ Troubled why)
-        → first_fault_of first before (n + 1) (l ∷ ls) (Some why) ≡ Troubled why
+        → (after_lines (n + 1) t ls ≡ Ok u → first_results_fault_of first before (n + 1 + 1) ls (Some why) ≡ Troubled why)
+        → ((e : Envelope) (v : Table) → table_after first (calls_of (before ++ e ∷ [])) ≡ Some v → after_lines (n + 1) v ls ≡ Ok u → first_results_fault_of first (before ++ e ∷ []) (n + 1 + 1) ls (Some why) ≡ Troubled why)
+        → first_results_fault_of first before (n + 1) (l ∷ ls) (Some why) ≡ Troubled why
     go true k done skip rec = rw k (skip done)
     go false k done skip rec = rw k (on_read (envelope_of_line l) done rec)
 

@@ -9,7 +9,7 @@ use Rattle.cm_envelope.specs.declared.feed.Trouble.TheVariants.{ReadFailed, Line
 use Rattle.cm_attempt.specs.Table.{Table}
 use Rattle.cm_attempt.specs.declared.settings.Settings.{Settings}
 use Rattle.cm_audit.specs.Audit.{AnswersAs, AnswersTold, IsAuditOf, is_failed_read}
-use Rattle.cm_stream.specs.Results.{first_fault}
+use Rattle.cm_stream.specs.Results.{first_results_fault}
 use Rattle.cm_stream.specs.Stream.{Answer, Failed, FirstFault, IsFirstFault, answer_for, answered}
 use Rattle.cm_stream.specs.declared.verdict.Audited.{Audited}
 use Rattle.ck_commands.specs.Outcome.{outcome_of, outcome_report}
@@ -104,7 +104,7 @@ failed_outcome held r failed (inl e) = inl (e ∙ ap (λ (h : Result Table (Resu
 
 -- an outcome is reported as the one that the code holds, but where a read failed
 outcome_is : (first : ℕ) (bytes : List ℕ) (held : Result Table (Result Audited Trouble)) (r : Report) → HasOutcome (outcome_of first bytes) held → results_failed held ≡ false
-    → IsOne (outcome_report (held_outcome held)) r → IsOne (results_report (first_fault first bytes)) r
+    → IsOne (outcome_report (held_outcome held)) r → IsOne (results_report (first_results_fault first bytes)) r
 outcome_is first bytes held r is none (inr e) = inr e
 outcome_is first bytes (Ok t) r is none (inl e) = inl (e ∙ ap outcome_report (sym is) ∙ outcome_is_reported first bytes)
 outcome_is first bytes (Err (Ok a)) r is none (inl e) = inl (e ∙ ap outcome_report (sym is) ∙ outcome_is_reported first bytes)
@@ -114,6 +114,6 @@ outcome_is first bytes (Err (Err StreamTooLong)) r is none (inl e) = inl (e ∙ 
 outcome_is first bytes (Err (Err Memory)) r is none (inl e) = inr e
 
 pub outcome_reported : (first : ℕ) (i j : Input) (held : Result Table (Result Audited Trouble)) (r : Report) → OfInput i j (λ bytes. HasOutcome (outcome_of first bytes) held) → results_failed held ≡ false
-    → IsOne (outcome_report (held_outcome held)) r → OfInput i j (λ bytes. IsOne (results_report (first_fault first bytes)) r)
+    → IsOne (outcome_report (held_outcome held)) r → OfInput i j (λ bytes. IsOne (results_report (first_results_fault first bytes)) r)
 outcome_reported first i j held r is none one =
-    input_weaker {P = λ bytes. HasOutcome (outcome_of first bytes) held} {Q = λ bytes. IsOne (results_report (first_fault first bytes)) r} i j is (λ xs h. outcome_is first xs held r h none one)
+    input_weaker {P = λ bytes. HasOutcome (outcome_of first bytes) held} {Q = λ bytes. IsOne (results_report (first_results_fault first bytes)) r} i j is (λ xs h. outcome_is first xs held r h none one)

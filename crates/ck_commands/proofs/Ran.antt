@@ -7,7 +7,7 @@ use Rattle.cm_attempt.specs.declared.settings.Settings.{Settings}
 use Rattle.gk_grammar.specs.Tree.{Document}
 use Rattle.cm_stream.specs.Findings.{IsBad, IsUnsupported}
 use Rattle.cm_stream.specs.Release.{hold_of}
-use Rattle.cm_stream.specs.Results.{first_fault}
+use Rattle.cm_stream.specs.Results.{first_results_fault}
 use Rattle.cm_stream.specs.Stream.{At, FirstFault, GoodRunIn, NoFault, NoneIsGood, Troubled, answered}
 use Rattle.cm_stream.specs.declared.verdict.Audited.{Audited}
 use Rattle.cm_stream.specs.declared.verdict.Hold.{Hold}
@@ -162,13 +162,13 @@ module _ (code : ℕ) (before after : Output) where
   not_compiled uri bytes r (inl h) p one = absurd (not_both 0 1 code (p.status ∙ ap (λ (x : Report). code_of x.status) h.3) one (λ e. cc))
   not_compiled uri bytes r (inr h) p one = no_document bytes (Err h.0) h.1 (subst (λ (x : Report). Prints x code before after) h.2 p) one
 
-  results : (first : ℕ) (bytes : List ℕ) (f : FirstFault) → first_fault first bytes ≡ f → Prints (results_report f) code before after → code ≡ 0 → PrintsResults first before after bytes
+  results : (first : ℕ) (bytes : List ℕ) (f : FirstFault) → first_results_fault first bytes ≡ f → Prints (results_report f) code before after → code ≡ 0 → PrintsResults first before after bytes
   results first bytes (NoFault es) is p zero = (es, is, p.written)
   results first bytes (At n (IsBad b)) is p zero = absurd (not_both 1 0 code p.status zero (λ e. cc))
   results first bytes (At n (IsUnsupported r)) is p zero = absurd (not_both 4 0 code p.status zero (λ e. cc))
   results first bytes (Troubled t) is p zero = absurd (not_both 3 0 code p.status zero (λ e. cc))
 
-  no_results : (first : ℕ) (bytes : List ℕ) (f : FirstFault) → first_fault first bytes ≡ f → Prints (results_report f) code before after → code ≡ 1 → PrintsFault first before after bytes
+  no_results : (first : ℕ) (bytes : List ℕ) (f : FirstFault) → first_results_fault first bytes ≡ f → Prints (results_report f) code before after → code ≡ 1 → PrintsFault first before after bytes
   no_results first bytes (NoFault es) is p one = absurd (not_both 0 1 code p.status one (λ e. cc))
   no_results first bytes (At n (IsBad b)) is p one = (n, b, is, p.written)
   no_results first bytes (At n (IsUnsupported r)) is p one = absurd (not_both 4 1 code p.status one (λ e. cc))
@@ -184,7 +184,7 @@ done_of ask_parse bytes rest r code before after t p zero = document code before
 done_of (ask_compile uri) bytes rest r code before after t p zero = compiled code before after uri bytes r t p zero
 done_of (ask_audit s) bytes rest r code before after t p zero = good s code before after bytes t.0.verdict t.0.success t.1.good (subst (Printed code before after) t.2 p) zero
 done_of (ask_gate s u) bytes rest r code before after t p zero = released s u code before after bytes t.0.verdict t.0.success t.1.good (subst (Printed code before after) t.2 p) zero
-done_of (ask_results n) bytes rest r code before after t p zero = results code before after n bytes (first_fault n bytes) refl (subst (Printed code before after) t p) zero
+done_of (ask_results n) bytes rest r code before after t p zero = results code before after n bytes (first_results_fault n bytes) refl (subst (Printed code before after) t p) zero
 done_of (ask_cases s) bytes rest r code before after t p zero = listed s code before after bytes t.0 t.0.verdict r refl t.2 p zero
 done_of (ask_differs s) bytes rest r code before after t p zero = good_differs s code before after bytes t.0.verdict t.0.success t.2.0 t.1.good t.2.1 (subst (Printed code before after) t.2.2 p) zero
 
@@ -193,7 +193,7 @@ bad_of ask_parse bytes rest r code before after t p one = no_document code befor
 bad_of (ask_compile uri) bytes rest r code before after t p one = not_compiled code before after uri bytes r t p one
 bad_of (ask_audit s) bytes rest r code before after t p one = bad s code before after bytes t.0.verdict t.0.success t.1.bad (subst (Printed code before after) t.2 p) one
 bad_of (ask_gate s u) bytes rest r code before after t p one = not_released s u code before after bytes t.0.verdict t.0.success t.1.bad (subst (Printed code before after) t.2 p) one
-bad_of (ask_results n) bytes rest r code before after t p one = no_results code before after n bytes (first_fault n bytes) refl (subst (Printed code before after) t p) one
+bad_of (ask_results n) bytes rest r code before after t p one = no_results code before after n bytes (first_results_fault n bytes) refl (subst (Printed code before after) t p) one
 bad_of (ask_cases s) bytes rest r code before after t p one = not_listed s code before after bytes t.0 t.0.verdict r refl t.2 t.1.bad p one
 bad_of (ask_differs s) bytes rest r code before after t p one = bad_differs s code before after bytes t.0.verdict t.0.success t.2.0 t.1.bad t.2.1 (subst (Printed code before after) t.2.2 p) one
 

@@ -5,7 +5,7 @@ use Rattle.cm_envelope.proofs.Sources.{reads_weaker}
 use Rattle.cm_envelope.specs.declared.feed.Trouble.{Trouble}
 use Rattle.cm_envelope.specs.declared.feed.Trouble.TheVariants.{ReadFailed, LineTooLong, StreamTooLong, Memory}
 use Rattle.cm_attempt.specs.Table.{Table}
-use Rattle.cm_stream.specs.Results.{first_fault}
+use Rattle.cm_stream.specs.Results.{first_results_fault}
 use Rattle.cm_stream.specs.declared.verdict.Audited.{Audited}
 use Rattle.cm_audit.specs.Audit.{audited_at}
 use Rattle.cm_audit.specs.declared.stop.Stop.{Stop}
@@ -29,7 +29,7 @@ was_read (Err (Err LineTooLong)) r (inl e) other = refl
 was_read (Err (Err StreamTooLong)) r (inl e) other = refl
 was_read (Err (Err Memory)) r (inl e) other = refl
 
-made : (first : ℕ) (bytes : List ℕ) (r : Report) → IsOne (results_report (first_fault first bytes)) r → (r.status ≡ exit.Trouble → ⊥) → r ≡ results_report (first_fault first bytes)
+made : (first : ℕ) (bytes : List ℕ) (r : Report) → IsOne (results_report (first_results_fault first bytes)) r → (r.status ≡ exit.Trouble → ⊥) → r ≡ results_report (first_results_fault first bytes)
 made first bytes r (inl e) other = e
 made first bytes r (inr e) other = absurd (other (ap (λ (x : Report). x.status) e))
 
@@ -51,7 +51,7 @@ pub results_are_reported : (first : ℕ) (held : Result Table (Result Audited Tr
 results_are_reported first held r i j is over counts none one = record {
   answer = λ all. outcome_reported first i j held r is (none_failed _ _ _ counts all) one;
   tells = λ other.
-      reads_weaker {P = λ bytes rest. IsOne (results_report (first_fault first bytes)) r} {Q = λ bytes rest. r ≡ results_report (first_fault first bytes)} i j
+      reads_weaker {P = λ bytes rest. IsOne (results_report (first_results_fault first bytes)) r} {Q = λ bytes rest. r ≡ results_report (first_results_fault first bytes)} i j
       (outcome_reported first i j held r is (was_read held r one other) one) (λ xs ys h. made first xs r h other);
   over = λ done. over (done_of held r one done);
   no_fault = λ more. none (failed_read held (some_failed _ _ _ counts more));

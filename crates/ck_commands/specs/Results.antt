@@ -6,7 +6,7 @@ use Rattle.cm_envelope.specs.Lines.{Line, line_feed, max_line_bytes, max_stream_
 use Rattle.cm_envelope.specs.declared.feed.Trouble.TheVariants.{ReadFailed}
 use Rattle.cm_attempt.specs.declared.status.Status.{Status}
 use Rattle.cm_audit.specs.Audit.{Begins, all_written, contents}
-use Rattle.cm_stream.specs.Results.{first_fault_of, results_of}
+use Rattle.cm_stream.specs.Results.{first_results_fault_of, results_of}
 use Rattle.cm_stream.specs.Stream.{FirstFault, At, Troubled, NoFault}
 use Rattle.ck_commands.specs.Output.{Report, trouble_report}
 use Rattle.ck_commands.specs.Statuses.{reported_word}
@@ -29,5 +29,5 @@ pub record ResultsShowNoFault (first : ℕ) (before after : List ℕ) : Type 0 w
   pub lines : List Line
   pub ahead : List ℕ
   pub begins : Begins before lines ahead after
-  pub faultless : first_fault_of first [] 1 (contents lines) (Some ReadFailed) ≡ Troubled ReadFailed
+  pub faultless : first_results_fault_of first [] 1 (contents lines) (Some ReadFailed) ≡ Troubled ReadFailed
   pub nothing : ShowNothing max_line_bytes max_stream_bytes (length (all_written lines)) ahead

@@ -11,7 +11,7 @@ use Rattle.cm_envelope.specs.declared.envelope.Envelope.{Envelope}
 use Rattle.cm_envelope.specs.declared.feed.Trouble.TheVariants.{Memory, ReadFailed}
 use Rattle.cm_attempt.specs.declared.settings.Settings.{Settings}
 use Rattle.cm_stream.specs.Findings.{Fault, IsBad}
-use Rattle.cm_stream.specs.Results.{first_fault, results_of}
+use Rattle.cm_stream.specs.Results.{first_results_fault, results_of}
 use Rattle.cm_stream.specs.Stream.{At, FirstFault, IsFirstFault, NoFault, answer_for, answered}
 use Rattle.cm_stream.specs.declared.verdict.Audited.{Audited}
 use Rattle.cm_audit.specs.Audit.{IsAuditOf, ShowNoFault}
@@ -63,7 +63,7 @@ Reports ask_parse bytes r =
 Reports (ask_compile uri) bytes r = ReportsCompiled uri bytes r
 Reports (ask_audit s) bytes r = ReportsFirst (λ first. verdict_report (answer_for first)) s bytes r
 Reports (ask_gate s u) bytes r = ReportsFirst (λ first. gate_report u (answer_for first)) s bytes r
-Reports (ask_results n) bytes r = r ≡ results_report (first_fault n bytes)
+Reports (ask_results n) bytes r = r ≡ results_report (first_results_fault n bytes)
 Reports (ask_cases s) bytes r = ReportsFirst cases_report s bytes r
 Reports (ask_differs s) bytes r = ReportsDiffering s bytes r
 
@@ -101,7 +101,7 @@ PrintsCompiled uri before after bytes =
 
 abbrev pub PrintsResults : (first : ℕ) → (before after : Output) → List ℕ → Type 0
 PrintsResults first before after bytes =
-    (es : List Envelope) × (first_fault first bytes ≡ NoFault es)
+    (es : List Envelope) × (first_results_fault first bytes ≡ NoFault es)
     × Writes before after (flat_map result_text (results_of es))
 
 -- with status 0: the bytes are a good stream, a released one, a feature file, or the command's own
@@ -120,7 +120,7 @@ PrintsRefused before after bytes =
 
 abbrev pub PrintsFault : (first : ℕ) → (before after : Output) → List ℕ → Type 0
 PrintsFault first before after bytes =
-    (n : ℕ) × (f : Fault) × (first_fault first bytes ≡ At n (IsBad f))
+    (n : ℕ) × (f : Fault) × (first_results_fault first bytes ≡ At n (IsBad f))
     × Writes before after (finding_text n (IsBad f))
 
 -- with status 1: the feature file is refused, or no good stream begins like these bytes

@@ -34,7 +34,7 @@ use Rattle.cm_envelope.specs.declared.envelope.TestCase.{TestCase}
 use Rattle.cm_envelope.specs.declared.envelope.TestStep.{TestStep}
 use Rattle.cm_envelope.specs.declared.envelope.TestCaseStarted.{TestCaseStarted}
 use Rattle.cm_envelope.specs.declared.envelope.TestCaseFinished.{TestCaseFinished}
-use Rattle.cm_stream.specs.Results.{FaultsAreChecks, fault}
+use Rattle.cm_stream.specs.Results.{FaultsAreChecks, results_fault}
 use Rattle.cm_stream.specs.Calls.{calls_of}
 use Rattle.cm_stream.proofs.CallWords.{start_told as start_in_calls, start_of_told, attempt_steps_told, moves_told, ended_told, case_ids, some_told, some_mapped, long_told, retried_told}
 use Rattle.cm_attempt.proofs.Accepted.{ids_distinct}
@@ -231,7 +231,7 @@ faults_are_checks first es t taken e = go e
     distinct : has_repeat (map (λ (c : TestCase). c.id) (cases es)) ≡ false
     distinct = distinct_cases first es t taken
 
-    go : (e : Envelope) → fault first es e ≡ first_failed (own_checks first es e)
+    go : (e : Envelope) → results_fault first es e ≡ first_failed (own_checks first es e)
     go (envelope.TestCase c) = case_checked first es c
     go (envelope.TestCaseStarted s) = start_checked first es s
     go (envelope.TestStepStarted s) = step_checked es distinct s.test_case_started_id s.test_step_id (StepStarted s.test_step_id)

@@ -18,7 +18,7 @@ use Rattle.cm_stream.specs.Findings.{Finding}
 use Rattle.cm_stream.specs.Refusals.{refusal_finding, refused}
 use Rattle.cm_stream.specs.Record.{changed}
 use Rattle.cm_envelope.specs.declared.envelope.Envelope.{Envelope}
-use Rattle.cm_stream.specs.Results.{AreWellOrdered, results_of, fault, TablesHaveResults, RefusedForFaults, TablesChange, WellOrderedAreAccepted, FrontsAreWellOrdered, FaultsAreExact}
+use Rattle.cm_stream.specs.Results.{AreWellOrdered, results_of, results_fault, TablesHaveResults, RefusedForFaults, TablesChange, WellOrderedAreAccepted, FrontsAreWellOrdered, FaultsAreExact}
 use Rattle.cm_stream.specs.Calls.{call_of, calls_of}
 use Rattle.cm_stream.proofs.Lists.{map_twice, map_same}
 use Rattle.cm_stream.proofs.CallChecks.{case_fault, start_fault, move_fault, end_fault}
@@ -133,7 +133,7 @@ accepted_one (Some f) l h = cc
 pub faults_are_exact : FaultsAreExact
 faults_are_exact first es well e = go (table_after first (calls_of es)) refl (well_ordered_are_accepted first es well)
   where
-    go : (o : Option Table) → table_after first (calls_of es) ≡ o → is_some o ≡ true → (fault first es e ≡ None) ↔ AreWellOrdered first (es ++ e ∷ [])
+    go : (o : Option Table) → table_after first (calls_of es) ≡ o → is_some o ≡ true → (results_fault first es e ≡ None) ↔ AreWellOrdered first (es ++ e ∷ [])
     go None taken k = cc
     go (Some t) taken k = (
       λ none. (tables_have_results first (es ++ e ∷ []) (changed t e) (tables_change first es t taken e none)).0,

@@ -31,29 +31,29 @@ results_of es = map (λ c. (c.id, result_of c.id (calls_of es))) (cases (calls_o
 -- ---- the first fault
 
 -- the fault of a line after these envelopes, whose attempts are well ordered: the first fault of its call
-abbrev pub fault : (first : ℕ) → List Envelope → Envelope → Option Finding
-fault first before e =
+abbrev pub results_fault : (first : ℕ) → List Envelope → Envelope → Option Finding
+results_fault first before e =
     option_and_then refusal_finding (option_and_then (fault_of first (calls_of before)) (call_of e))
 
-abbrev pub first_fault_line : (first : ℕ) → (before : List Envelope) → (n : ℕ)
+abbrev pub first_results_fault_line : (first : ℕ) → (before : List Envelope) → (n : ℕ)
     → Option (Result Envelope LineFault) → (List Envelope → FirstFault) → FirstFault
-first_fault_line first before n None more = more before
-first_fault_line first before n (Some (Err b)) more = At n (IsBad (NoEnvelope b))
-first_fault_line first before n (Some (Ok e)) more =
-    at_line n (fault first before e) (more (before ++ e ∷ []))
+first_results_fault_line first before n None more = more before
+first_results_fault_line first before n (Some (Err b)) more = At n (IsBad (NoEnvelope b))
+first_results_fault_line first before n (Some (Ok e)) more =
+    at_line n (results_fault first before e) (more (before ++ e ∷ []))
 
 -- of these lines, the first of which has the number n, and then the trouble or the end, after envelopes without a fault
-abbrev pub first_fault_of : (first : ℕ) → (before : List Envelope) → (n : ℕ) → List (List ℕ)
+abbrev pub first_results_fault_of : (first : ℕ) → (before : List Envelope) → (n : ℕ) → List (List ℕ)
     → Option Trouble → FirstFault
-first_fault_of first before n [] (Some t) = Troubled t
-first_fault_of first before n [] None = NoFault before
-first_fault_of first before n (l ∷ ls) t =
-    first_fault_line first before n (shown l)
-    (λ (now : List Envelope). first_fault_of first now (n + 1) ls t)
+first_results_fault_of first before n [] (Some t) = Troubled t
+first_results_fault_of first before n [] None = NoFault before
+first_results_fault_of first before n (l ∷ ls) t =
+    first_results_fault_line first before n (shown l)
+    (λ (now : List Envelope). first_results_fault_of first now (n + 1) ls t)
 
 -- the first line with a fault, why no further line could be read, or the envelopes
-abbrev pub first_fault : (first : ℕ) → List ℕ → FirstFault
-first_fault first bytes = first_fault_of first [] 1 (fed bytes).lines (fed bytes).trouble
+abbrev pub first_results_fault : (first : ℕ) → List ℕ → FirstFault
+first_results_fault first bytes = first_results_fault_of first [] 1 (fed bytes).lines (fed bytes).trouble
 
 -- ---- that it is right
 
@@ -68,10 +68,10 @@ pub record IsWell (first : ℕ) (bytes : List ℕ) (es : List Envelope) : Type 0
 abbrev pub FaultOf : (first : ℕ) → List Envelope → Result Envelope LineFault → Finding → Type 0
 FaultOf first before (Err b) f = f ≡ IsBad (NoEnvelope b)
 FaultOf first before (Ok e) f =
-    (fault first before e ≡ Some f) × (AreWellOrdered first (before ++ e ∷ []) → ⊥)
+    (results_fault first before e ≡ Some f) × (AreWellOrdered first (before ++ e ∷ []) → ⊥)
 
 -- the lines before the one with the number n are read as envelopes whose attempts are well ordered, and it has the fault
-pub record IsFirstFault (first : ℕ) (bytes : List ℕ) (n : ℕ) (f : Finding) : Type 0 where
+pub record IsFirstResultsFault (first : ℕ) (bytes : List ℕ) (n : ℕ) (f : Finding) : Type 0 where
   pub front : List (ℕ × List ℕ)
   pub line : List ℕ
   pub rest : List (ℕ × List ℕ)
@@ -91,20 +91,20 @@ pub record IsTroubled (first : ℕ) (bytes : List ℕ) (t : Trouble) : Type 0 wh
 -- No fault is reported exactly of streams that are read as envelopes whose attempts are well ordered.
 pub record NoFaultIsExact : Type 0 where
   pub well : (first : ℕ) (bytes : List ℕ) (es : List Envelope)
-      → first_fault first bytes ≡ NoFault es → IsWell first bytes es
+      → first_results_fault first bytes ≡ NoFault es → IsWell first bytes es
   pub exact : (first : ℕ) (bytes : List ℕ) (es : List Envelope) → IsWell first bytes es
-      → first_fault first bytes ≡ NoFault es
+      → first_results_fault first bytes ≡ NoFault es
 
 -- a fault that is reported is that of the first line with one
 abbrev pub FaultsAreFirst : Type 0
 FaultsAreFirst =
-    (first : ℕ) (bytes : List ℕ) (n : ℕ) (f : Finding) → first_fault first bytes ≡ At n f
-    → IsFirstFault first bytes n f
+    (first : ℕ) (bytes : List ℕ) (n : ℕ) (f : Finding) → first_results_fault first bytes ≡ At n f
+    → IsFirstResultsFault first bytes n f
 
 -- a trouble is reported where no line has a fault
 abbrev pub TroublesAreLast : Type 0
 TroublesAreLast =
-    (first : ℕ) (bytes : List ℕ) (t : Trouble) → first_fault first bytes ≡ Troubled t
+    (first : ℕ) (bytes : List ℕ) (t : Trouble) → first_results_fault first bytes ≡ Troubled t
     → IsTroubled first bytes t
 
 -- ---- the table of the record
@@ -123,16 +123,16 @@ TablesHaveResults = AfterAccepted (λ first es t.
 -- an envelope is refused for its fault
 abbrev pub RefusedForFaults : Type 0
 RefusedForFaults = AfterAccepted (λ first es t.
-    (e : Envelope) → option_and_then refusal_finding (refused t e) ≡ fault first es e)
+    (e : Envelope) → option_and_then refusal_finding (refused t e) ≡ results_fault first es e)
 
 -- that is the first failed of the checks that the audit leaves to the record
 abbrev pub FaultsAreChecks : Type 0
 FaultsAreChecks = AfterAccepted (λ first es t.
-    (e : Envelope) → fault first es e ≡ first_failed (own_checks first es e))
+    (e : Envelope) → results_fault first es e ≡ first_failed (own_checks first es e))
 
 -- where an envelope has no fault, the table changes by its call
 abbrev pub TablesChange : Type 0
-TablesChange = AfterAccepted (λ first es t. (e : Envelope) → fault first es e ≡ None
+TablesChange = AfterAccepted (λ first es t. (e : Envelope) → results_fault first es e ≡ None
     → table_after first (calls_of (es ++ e ∷ [])) ≡ Some (changed t e))
 
 -- where the attempts are well ordered, no call is refused
@@ -151,4 +151,4 @@ FrontsAreWellOrdered =
 abbrev pub FaultsAreExact : Type 0
 FaultsAreExact =
     (first : ℕ) (es : List Envelope) → AreWellOrdered first es → (e : Envelope)
-    → (fault first es e ≡ None) ↔ AreWellOrdered first (es ++ e ∷ [])
+    → (results_fault first es e ≡ None) ↔ AreWellOrdered first (es ++ e ∷ [])
