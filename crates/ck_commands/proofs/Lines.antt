@@ -1,7 +1,7 @@
 -- What is left of an outcome, and what a line makes of it.
 use Rattle.std.proofs.Common.{◌≡◌, ◌∙◌, ℕ, ◌+◌, List, Option, Some, None, Result, Ok, Err, refl}
 use Rattle.cm_envelope.specs.Device.{Input, OfInput}
-use Rattle.cm_envelope.specs.Feeds.{Stored, NextLine, EndsWithSource, Gives, Leaves, left, new_feed}
+use Rattle.cm_envelope.specs.Feeds.{Stored, NextLine, EndsWithSource, GivesNext, Leaves, left, new_feed}
 use Rattle.cm_envelope.proofs.Sources.{HasReadSo, of_reads, read_so_far, reads_no_more, reads_then}
 use Rattle.cm_envelope.specs.Lines.{Fed}
 use Rattle.cm_envelope.specs.Member.{◌>>=◌}
@@ -35,7 +35,7 @@ HasTaken first feed n t before after = outcome_of first before ≡ outcome_left 
 pub begins : (first : ℕ) (feed : Stored) → feed ≡ new_feed 67108864 1073741824 → (t : Table) → t ≡ table_from first → (a : Input) → HasReadSo feed a a (HasTaken first feed 0 t)
 begins first feed is t new a = read_so_far (HasTaken first feed 0 t) feed a (λ xs. rw (is, new) refl)
 
-taken : (first : ℕ) (feed later : Stored) (n : ℕ) (t new : Table) (line xs ys zs : List ℕ) → HasTaken first feed n t xs ys → Gives feed later ys zs (Ok (Some line)) → LeavesTable (after_line t line) new (Ok tt)
+taken : (first : ℕ) (feed later : Stored) (n : ℕ) (t new : Table) (line xs ys zs : List ℕ) → HasTaken first feed n t xs ys → GivesNext feed later ys zs (Ok (Some line)) → LeavesTable (after_line t line) new (Ok tt)
     → HasTaken first later (n + 1) new xs zs
 taken first feed later n t new line xs ys zs h i k = h ∙ rw (i.first, k) refl
 
@@ -48,14 +48,14 @@ goes_on first feed later n t new line a b c p still leaves k =
 -- the outcome after one call more
 outcome : (first : ℕ) (feed later : Stored) (n : ℕ) (t : Table) (call : NextLine) (held : Result Table (Result Audited Trouble)) (a b c : Input) → HasReadSo feed a b (HasTaken first feed n t) → feed.over ≡ None
     → EndsWithSource feed b → Leaves feed later b c call
-    → ((xs ys zs : List ℕ) → HasTaken first feed n t xs ys → Gives feed later ys zs call → HasOutcome (outcome_of first xs) held) → OfInput a c (λ bytes. HasOutcome (outcome_of first bytes) held)
+    → ((xs ys zs : List ℕ) → HasTaken first feed n t xs ys → GivesNext feed later ys zs call → HasOutcome (outcome_of first xs) held) → OfInput a c (λ bytes. HasOutcome (outcome_of first bytes) held)
 outcome first feed later n t call held a b c p still ends leaves f =
     let all = reads_then {P = HasTaken first feed n t} {R = λ xs zs. HasOutcome (outcome_of first xs) held} feed later a b c p still leaves (λ xs ys zs none h i. f xs ys zs h i) in
     of_reads {P = λ xs zs. HasOutcome (outcome_of first xs) held} {Q = λ xs. HasOutcome (outcome_of first xs) held} a c
     (reads_no_more (λ xs zs. HasOutcome (outcome_of first xs) held) later a c all (leaves.source ends)) (λ xs zs h. h)
 
 stops_here : (first : ℕ) (xs ys zs : List ℕ) (feed later : Stored) (n : ℕ) (t new : Table) (line : List ℕ) → HasTaken first feed n t xs ys
-    → Gives feed later ys zs (Ok (Some line)) → (why : Stop) → LeavesTable (after_line t line) new (Err why) → HasOutcome (outcome_of first xs) (Err (audited_at (n + 1) why))
+    → GivesNext feed later ys zs (Ok (Some line)) → (why : Stop) → LeavesTable (after_line t line) new (Err why) → HasOutcome (outcome_of first xs) (Err (audited_at (n + 1) why))
 stops_here first xs ys zs feed later n t new line h i why k =
     rw (h, i.first) (stopped n (after_line t line) new why (left later zs).lines (left later zs).trouble k)
 
@@ -69,7 +69,7 @@ pub ends : (first : ℕ) (feed later : Stored) (n : ℕ) (t : Table) (a b c : In
 ends first feed later n t a b c p still at_end leaves =
     outcome first feed later n t (Ok None) (Ok t) a b c p still at_end leaves (λ xs ys zs h i. h ∙ rw i refl)
 
-in_trouble : (first : ℕ) (feed later : Stored) (n : ℕ) (t : Table) (xs ys zs : List ℕ) (why : Trouble) → HasTaken first feed n t xs ys → Gives feed later ys zs (Err why) → HasOutcome (outcome_of first xs) (Err (Err why))
+in_trouble : (first : ℕ) (feed later : Stored) (n : ℕ) (t : Table) (xs ys zs : List ℕ) (why : Trouble) → HasTaken first feed n t xs ys → GivesNext feed later ys zs (Err why) → HasOutcome (outcome_of first xs) (Err (Err why))
 in_trouble first feed later n t xs ys zs ReadFailed h i = tt
 in_trouble first feed later n t xs ys zs LineTooLong h i = h ∙ rw i refl
 in_trouble first feed later n t xs ys zs StreamTooLong h i = h ∙ rw i refl

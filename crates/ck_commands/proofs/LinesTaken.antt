@@ -2,7 +2,7 @@
 use Rattle.std.proofs.Common.{◌≡◌, ◌∙◌, ℕ, ◌+◌, List, [], ◌∷◌, ◌++◌, Option, Some, None, Result, Ok, Err, Bool, true, false, refl, sym, ap, subst, append-nil}
 use Rattle.std.specs.Prelude.{option_and_then, if◌then◌else◌}
 use Rattle.cm_envelope.specs.Device.{Input, OfReads}
-use Rattle.cm_envelope.specs.Feeds.{EndsWithSource, Gives, GivesLine, Leaves, Stored, given_line, new_feed}
+use Rattle.cm_envelope.specs.Feeds.{EndsWithSource, GivesNext, GivesLine, Leaves, Stored, given_line, new_feed}
 use Rattle.cm_envelope.proofs.Sources.{HasReadSo, read_so_far, reads_no_more, reads_then}
 use Rattle.cm_envelope.specs.Lines.{Line, is_blank}
 use Rattle.cm_envelope.specs.Member.{◌>>=◌}
@@ -50,7 +50,7 @@ begins_lines first feed is t new a = rw is (read_so_far (λ xs ys. HasTakenLines
 takes_next : (first : ℕ) (lines : List Line) (n : ℕ) (t new : Table) (l : Line) → TakesTo first lines n t → LeavesTable (after_line t l.bytes) new (Ok tt) → TakesTo first (lines ++ l ∷ []) (n + 1) new
 takes_next first lines n t new l h k more = ap (after_lines 0 (table_from first)) (one_more lines l more) ∙ h (l.bytes ∷ more) ∙ rw k refl
 
-next_taken : (first : ℕ) (xs ys zs : List ℕ) (feed later : Stored) (n : ℕ) (t new : Table) (line : List ℕ) → HasTakenLines first xs ys feed n t → Gives feed later ys zs (Ok (Some line)) → GivesLine feed later line
+next_taken : (first : ℕ) (xs ys zs : List ℕ) (feed later : Stored) (n : ℕ) (t new : Table) (line : List ℕ) → HasTakenLines first xs ys feed n t → GivesNext feed later ys zs (Ok (Some line)) → GivesLine feed later line
     → LeavesTable (after_line t line) new (Ok tt) → HasTakenLines first xs zs later (n + 1) new
 next_taken first xs ys zs feed later n t new line h i g k =
     let TakesAll : List Line → Type 0 = λ ls. TakesTo first ls (n + 1) new in
@@ -93,7 +93,7 @@ faultless first before n t u (l ∷ ls) why taken done = go (is_blank l) refl do
     go false k done skip rec = rw k (on_read (envelope_of_line l) done rec)
 
 shows : (first : ℕ) (xs ys zs : List ℕ) (feed later : Stored) (n : ℕ) (t : Table) → feed.line_limit ≡ 67108864 → feed.stream_limit ≡ 1073741824
-    → HasTakenLines first xs ys feed n t → Gives feed later ys zs (Err ReadFailed) → ResultsShowNoFault first xs zs
+    → HasTakenLines first xs ys feed n t → GivesNext feed later ys zs (Err ReadFailed) → ResultsShowNoFault first xs zs
 shows first xs ys zs feed later n t line stream h i = record {
   lines = (h.read).lines;
   ahead = later.held;

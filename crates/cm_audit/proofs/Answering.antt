@@ -1,10 +1,10 @@
 -- What the steps of an audit leave, and what it answers.
 use Rattle.std.proofs.Common.{◌≡◌, ℕ, ◌+◌, refl, sym, ap, ◌∙◌, subst, List, [], Option, Some, None, Result, Ok, Err, true, false, inl, inr, arith}
 use Rattle.cm_envelope.specs.Lines.{is_blank}
-use Rattle.cm_envelope.specs.Reading.{LineFault, Fails, envelope_of_line}
+use Rattle.cm_envelope.specs.Reading.{LineFault, FailsAtLine, envelope_of_line}
 use Rattle.cm_envelope.specs.declared.fault.EnvelopeFault.{EnvelopeFault}
 use Rattle.cm_envelope.specs.declared.fault.EnvelopeFault.TheVariants as shape
-use Rattle.cm_envelope.specs.Feeds.{Stored, NextLine, new_feed, GivesLine, Gives, Leaves, EndsWithSource, IsNextLine}
+use Rattle.cm_envelope.specs.Feeds.{Stored, NextLine, new_feed, GivesLine, GivesNext, Leaves, EndsWithSource, IsNextLine}
 use Rattle.cm_envelope.specs.Device.{Input, OfReads}
 use Rattle.cm_envelope.proofs.Sources.{HasReadSo, read_so_far, reads_then, reads_no_more}
 use Rattle.cm_envelope.specs.declared.envelope.Envelope.{Envelope}
@@ -50,7 +50,7 @@ goes_on settings feed later old new n line a b c p still leaves g k =
 -- what is answered after one call more
 answered : (settings : Settings) (answer : Result Audited Trouble) (call : NextLine) (feed later : Stored) (n : ℕ) (s : Summary) (a b c : Input) → HasReadSo feed a b (λ xs ys. HasJudged settings xs ys feed n s)
     → feed.over ≡ None → EndsWithSource feed b → Leaves feed later b c call
-    → ((xs ys zs : List ℕ) → (later.is_ended ≡ true → zs ≡ []) → HasJudged settings xs ys feed n s → Gives feed later ys zs call → JudgesAs settings answer xs zs) → OfReads a c (JudgesAs settings answer)
+    → ((xs ys zs : List ℕ) → (later.is_ended ≡ true → zs ≡ []) → HasJudged settings xs ys feed n s → GivesNext feed later ys zs call → JudgesAs settings answer xs zs) → OfReads a c (JudgesAs settings answer)
 answered settings answer call feed later n s a b c p still ends leaves f =
     reads_no_more (JudgesAs settings answer) later a c
     (reads_then {P = λ xs ys. HasJudged settings xs ys feed n s} {R = JudgesAs settings answer} feed later a b c p still leaves f)
@@ -59,21 +59,21 @@ answered settings answer call feed later n s a b c p still ends leaves f =
 -- ---- a line that isn't taken
 
 -- a line that isn't read
-unread : (settings : Settings) (old : State) (fault : EnvelopeFault) (r : Result Envelope LineFault) → Fails fault r → TakesLine settings old old (Some r) (Err (unread_line fault))
+unread : (settings : Settings) (old : State) (fault : EnvelopeFault) (r : Result Envelope LineFault) → FailsAtLine fault r → TakesLine settings old old (Some r) (Err (unread_line fault))
 unread settings old (shape.Line line) r h = rw h refl
 unread settings old shape.Memory (Ok e) h = refl
 unread settings old shape.Memory (Err b) h = refl
 
-pub not_read : (settings : Settings) (old : State) (line : List ℕ) → is_blank line ≡ false → (fault : EnvelopeFault) → Fails fault (envelope_of_line line) → (why : Stop) → why ≡ unread_line fault → TakesLine settings old old (shown line) (Err why)
+pub not_read : (settings : Settings) (old : State) (line : List ℕ) → is_blank line ≡ false → (fault : EnvelopeFault) → FailsAtLine fault (envelope_of_line line) → (why : Stop) → why ≡ unread_line fault → TakesLine settings old old (shown line) (Err why)
 not_read settings old line filled fault h why e = rw (filled, e) (unread settings old fault (envelope_of_line line) h)
 
 -- nothing is told of it
-told_unread : (tells : Summary → Envelope → Type 0) (s : Summary) (fault : EnvelopeFault) (r : Result Envelope LineFault) → Fails fault r → TellsLine tells s (Some r) (Err (unread_line fault))
+told_unread : (tells : Summary → Envelope → Type 0) (s : Summary) (fault : EnvelopeFault) (r : Result Envelope LineFault) → FailsAtLine fault r → TellsLine tells s (Some r) (Err (unread_line fault))
 told_unread tells s (shape.Line line) r h = rw h tt
 told_unread tells s shape.Memory (Ok e) h = tt
 told_unread tells s shape.Memory (Err b) h = tt
 
-pub not_told : (tells : Summary → Envelope → Type 0) (s : Summary) (line : List ℕ) → is_blank line ≡ false → (fault : EnvelopeFault) → Fails fault (envelope_of_line line) → (why : Stop) → why ≡ unread_line fault → TellsLine tells s (shown line) (Err why)
+pub not_told : (tells : Summary → Envelope → Type 0) (s : Summary) (line : List ℕ) → is_blank line ≡ false → (fault : EnvelopeFault) → FailsAtLine fault (envelope_of_line line) → (why : Stop) → why ≡ unread_line fault → TellsLine tells s (shown line) (Err why)
 not_told tells s line filled fault h why e = rw (filled, e) (told_unread tells s fault (envelope_of_line line) h)
 
 pub not_failed : (n : ℕ) (why : Stop) → is_failed_read (audited_at n why) ≡ false
@@ -124,14 +124,14 @@ ends_early settings feed later s n a b c p still ends leaves e =
 
 -- ---- a trouble
 
-trouble_told : (settings : Settings) (xs ys zs : List ℕ) (feed later : Stored) (n : ℕ) (s : Summary) (t : Trouble) → HasJudged settings xs ys feed n s → Gives feed later ys zs (Err t) → AnswersAs (judged settings xs) (Err t)
+trouble_told : (settings : Settings) (xs ys zs : List ℕ) (feed later : Stored) (n : ℕ) (s : Summary) (t : Trouble) → HasJudged settings xs ys feed n s → GivesNext feed later ys zs (Err t) → AnswersAs (judged settings xs) (Err t)
 trouble_told settings xs ys zs feed later n s ReadFailed h i = tt
 trouble_told settings xs ys zs feed later n s LineTooLong h i = sym (at_trouble settings h.read h.judges LineTooLong i)
 trouble_told settings xs ys zs feed later n s StreamTooLong h i = sym (at_trouble settings h.read h.judges StreamTooLong i)
 trouble_told settings xs ys zs feed later n s Memory h i = tt
 
 trouble_held : (settings : Settings) (xs ys zs : List ℕ) (feed later : Stored) (n : ℕ) (s : Summary) (t : Trouble) → feed.line_limit ≡ 67108864 → feed.stream_limit ≡ 1073741824 → HasJudged settings xs ys feed n s
-    → Gives feed later ys zs (Err t) → t ≡ ReadFailed → HoldNoFault settings xs zs
+    → GivesNext feed later ys zs (Err t) → t ≡ ReadFailed → HoldNoFault settings xs zs
 trouble_held settings xs ys zs feed later n s ReadFailed line stream h i e = held_no_fault settings xs ys zs feed later n s h.read h.judges line stream i.0 i.2
 trouble_held settings xs ys zs feed later n s LineTooLong line stream h i e = cc
 trouble_held settings xs ys zs feed later n s StreamTooLong line stream h i e = cc

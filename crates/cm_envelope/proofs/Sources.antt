@@ -4,7 +4,7 @@ use Rattle.std.proofs.lemmas.Bool.Decides.{nat_tests}
 use Rattle.std.specs.Io.KnownBytes.{Consumes, IsAtEnd, Keeps}
 use Rattle.std.proofs.KnownBytes.{Consumes-kept, Consumes-nil, Consumes-trans}
 use Rattle.cm_envelope.specs.Device.{Input, Hears, OfReads, OfInput, OfWhole, is_end}
-use Rattle.cm_envelope.specs.Feeds.{Stored, NextLine, EndsWithSource, Gives, Leaves}
+use Rattle.cm_envelope.specs.Feeds.{Stored, NextLine, EndsWithSource, GivesNext, Leaves}
 
 pub end_of : (n : ℕ) (piece : List ℕ) → is_end n piece ≡ true → (n ≡ 0) × (0 < length piece)
 end_of n piece h = grind (arith, nat_tests)
@@ -79,7 +79,7 @@ nothing_more more rest m r = rw (m, r) refl
 
 -- one call more
 pub reads_then : {P R : List ℕ → List ℕ → Type 0} {answer : NextLine} (feed later : Stored) (a b c : Input) → HasReadSo feed a b P → feed.over ≡ None → Leaves feed later b c answer
-    → ((xs ys zs : List ℕ) → (later.is_ended ≡ true → zs ≡ []) → P xs ys → Gives feed later ys zs answer → R xs zs) → HasReadSo later a c R
+    → ((xs ys zs : List ℕ) → (later.is_ended ≡ true → zs ≡ []) → P xs ys → GivesNext feed later ys zs answer → R xs zs) → HasReadSo later a c R
 reads_then {P} {R} feed later a b c p still l f = (
   p.0 ++ l.read,
   hears_then a b c p.0 l.read p.1 l.heard,

@@ -30,7 +30,7 @@ use Rattle.cm_envelope.specs.declared.read_documents.TaggedHeading.{TaggedHeadin
 use Rattle.cm_envelope.specs.declared.read_documents.Body.{Body}
 use Rattle.cm_envelope.specs.declared.read_documents.FeatureHeading.{FeatureHeading}
 use Rattle.cm_envelope.specs.declared.read_documents.FeatureBody.{FeatureBody}
-use Rattle.cm_envelope.specs.Member.{◌>>=◌, Fails, all_items, good, required, nested, optional_nested, list_of, items_in, present, rule, has_both, media_type, as_whole_number}
+use Rattle.cm_envelope.specs.Member.{◌>>=◌, FailsAtMember, all_items, good, required, nested, optional_nested, list_of, items_in, present, rule, has_both, media_type, as_whole_number}
 
 abbrev pub Ids : Type 0
 Ids = List (List ℕ)
@@ -42,7 +42,7 @@ NodeRead A = Result (A × Ids) (List ℕ)
 -- What a function returned, and the ids that it left, are what reading gives, unless memory ran out.
 abbrev pub GivesNode : {A : Type 0} → Result A MemberFault → Ids → NodeRead A → Type 0
 GivesNode (Ok x) ids reading = reading ≡ Ok (x, ids)
-GivesNode (Err e) ids reading = Fails e reading
+GivesNode (Err e) ids reading = FailsAtMember e reading
 
 -- ---- nodes and lists of them
 

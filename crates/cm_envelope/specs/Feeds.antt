@@ -128,15 +128,15 @@ pub record IsNextLine (old new : Stored) (before after line : List ℕ) : Type 0
   pub bytes : not_given old before ≡ written (given_line new line) ++ not_given new after
 
 -- what a feed that wasn't over answers, with these bytes to come before and after
-abbrev pub Gives : (old new : Stored) (before after : List ℕ) → NextLine → Type 0
-Gives old new before after (Ok (Some line)) = IsNextLine old new before after line
-Gives old new before after (Ok None) = left old before ≡ nothing
-Gives old new before after (Err ReadFailed) =
+abbrev pub GivesNext : (old new : Stored) (before after : List ℕ) → NextLine → Type 0
+GivesNext old new before after (Ok (Some line)) = IsNextLine old new before after line
+GivesNext old new before after (Ok None) = left old before ≡ nothing
+GivesNext old new before after (Err ReadFailed) =
     (not_given old before ≡ new.held ++ after) × (new.given ≡ old.given)
     × ShowNothing old.line_limit old.stream_limit old.given new.held
-Gives old new before after (Err LineTooLong) = left old before ≡ trouble_alone LineTooLong
-Gives old new before after (Err StreamTooLong) = left old before ≡ trouble_alone StreamTooLong
-Gives old new before after (Err Memory) = ⊤
+GivesNext old new before after (Err LineTooLong) = left old before ≡ trouble_alone LineTooLong
+GivesNext old new before after (Err StreamTooLong) = left old before ≡ trouble_alone StreamTooLong
+GivesNext old new before after (Err Memory) = ⊤
 
 -- any bytes may come after a call, but none where the call read the end
 abbrev pub MayBeLeft : (old new : Stored) → List ℕ → Type 0
@@ -165,4 +165,4 @@ pub record Leaves (old new : Stored) (before after : Input) (answer : NextLine) 
   -- what is counted and held after a line, and what is left to answer after any call
   pub line : old.over ≡ None → OnLine answer (λ line. GivesLine old new line)
   pub gives : old.over ≡ None → (rest : List ℕ) → MayBeLeft old new rest
-      → Gives old new (read ++ rest) rest answer
+      → GivesNext old new (read ++ rest) rest answer

@@ -12,18 +12,18 @@ abbrev pub ◌>>=◌ : {A B E : Type 0} → Result A E → (A → Result B E) �
 (Err e) >>= f = Err e
 
 -- What a function returned is what reading gives, unless memory ran out.
-abbrev pub Fails : {A : Type 0} → MemberFault → Result A (List ℕ) → Type 0
-Fails (Bad name) reading = reading ≡ Err name.now
-Fails Memory reading = Unit {0}
+abbrev pub FailsAtMember : {A : Type 0} → MemberFault → Result A (List ℕ) → Type 0
+FailsAtMember (Bad name) reading = reading ≡ Err name.now
+FailsAtMember Memory reading = Unit {0}
 
-abbrev pub Gives : {A : Type 0} → Result A MemberFault → Result A (List ℕ) → Type 0
-Gives (Ok x) reading = reading ≡ Ok x
-Gives (Err e) reading = Fails e reading
+abbrev pub GivesMember : {A : Type 0} → Result A MemberFault → Result A (List ℕ) → Type 0
+GivesMember (Ok x) reading = reading ≡ Ok x
+GivesMember (Err e) reading = FailsAtMember e reading
 
 -- the same of a value that is seen by view
-abbrev pub GivesOf : {A B : Type 0} → (A → B) → Result A MemberFault → Result B (List ℕ) → Type 0
-GivesOf view (Ok x) reading = reading ≡ Ok (view x)
-GivesOf view (Err e) reading = Fails e reading
+abbrev pub GivesMemberOf : {A B : Type 0} → (A → B) → Result A MemberFault → Result B (List ℕ) → Type 0
+GivesMemberOf view (Ok x) reading = reading ≡ Ok (view x)
+GivesMemberOf view (Err e) reading = FailsAtMember e reading
 
 -- Null is absence.
 abbrev pub unless_null : Data → Option Data

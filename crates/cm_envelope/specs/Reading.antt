@@ -128,17 +128,17 @@ fault_named line_faults.Shape = shape
 fault_named (line_faults.Field kind name) = field kind.now name.now
 
 -- The reading has this fault, unless memory ran out.
-abbrev pub Fails : {A : Type 0} → EnvelopeFault → Result A LineFault → Type 0
-Fails (faults.Line fault) reading = reading ≡ Err (fault_named fault)
-Fails faults.Memory reading = Unit {0}
+abbrev pub FailsAtLine : {A : Type 0} → EnvelopeFault → Result A LineFault → Type 0
+FailsAtLine (faults.Line fault) reading = reading ≡ Err (fault_named fault)
+FailsAtLine faults.Memory reading = Unit {0}
 
 -- What a function returned, seen by view, is what the reading gives, unless memory ran out.
-abbrev pub GivesOf : {A B : Type 0} → (A → B) → Result A EnvelopeFault → Result B LineFault → Type 0
-GivesOf view (Ok x) reading = reading ≡ Ok (view x)
-GivesOf view (Err e) reading = Fails e reading
+abbrev pub GivesLineValue : {A B : Type 0} → (A → B) → Result A EnvelopeFault → Result B LineFault → Type 0
+GivesLineValue view (Ok x) reading = reading ≡ Ok (view x)
+GivesLineValue view (Err e) reading = FailsAtLine e reading
 
-abbrev pub Gives : {A : Type 0} → Result A EnvelopeFault → Result A LineFault → Type 0
-Gives result reading = GivesOf (λ x. x) result reading
+abbrev pub GivesEnvelope : {A : Type 0} → Result A EnvelopeFault → Result A LineFault → Type 0
+GivesEnvelope result reading = GivesLineValue (λ x. x) result reading
 
 -- a judged kind and its value, as the code holds them
 abbrev pub seen : Kind × Bor Value → Kind × Data

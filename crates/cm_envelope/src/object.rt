@@ -3,7 +3,7 @@ ghost use Rattle.std.specs.Prelude.{List, Result, ℕ};
 ghost use Rattle.serde_json.specs.Data.{Data};
 ghost use Rattle.serde_json.specs.Find.{as_str};
 ghost use Rattle.serde_json.specs.View.{view, items_view};
-ghost use Rattle.cm_envelope.specs.Member.{Gives, nested as nested_member, optional_nested as optional_nested_member, items_in, present as present_member, GivesOf, list_of as list_of_objects, list_of_values, each, object_in, good};
+ghost use Rattle.cm_envelope.specs.Member.{GivesMember, nested as nested_member, optional_nested as optional_nested_member, items_in, present as present_member, GivesMemberOf, list_of as list_of_objects, list_of_values, each, object_in, good};
 
 use crate::fault::MemberFault;
 use crate::member::present;
@@ -16,7 +16,7 @@ pub(crate) trait ReadObject: Sized {
     ghost reads: { Data → Result Self (List ℕ) };
 
     fn read(alloc: Global, object: &Value) -> Result<Self, MemberFault>
-        ensures { Gives result (reads (view object.now)) };
+        ensures { GivesMember result (reads (view object.now)) };
 }
 
 fn object_in_member<T: ReadObject>(
@@ -24,7 +24,7 @@ fn object_in_member<T: ReadObject>(
     value: &Value,
     name: &'static str,
 ) -> Result<T, MemberFault>
-    ensures { Gives result (object_in name.now T.reads (view value.now)) }
+    ensures { GivesMember result (object_in name.now T.reads (view value.now)) }
 {
     if !value.is_object() {
         return Err(MemberFault::Bad(name));
@@ -37,7 +37,7 @@ pub(crate) fn nested<T: ReadObject>(
     object: &Value,
     name: &'static str,
 ) -> Result<T, MemberFault>
-    ensures { Gives result (nested_member T.reads name.now (view object.now)) }
+    ensures { GivesMember result (nested_member T.reads name.now (view object.now)) }
 {
     match present(object, name) {
         Some(value) => object_in_member(alloc, value, name),
@@ -50,7 +50,7 @@ pub(crate) fn optional_nested<T: ReadObject>(
     object: &Value,
     name: &'static str,
 ) -> Result<Option<T>, MemberFault>
-    ensures { Gives result (optional_nested_member T.reads name.now (view object.now)) }
+    ensures { GivesMember result (optional_nested_member T.reads name.now (view object.now)) }
 {
     match present(object, name) {
         Some(value) => Ok(Some(object_in_member(alloc, value, name)?)),
@@ -60,7 +60,7 @@ pub(crate) fn optional_nested<T: ReadObject>(
 
 /// The items of a list. An absent list is empty.
 pub(crate) fn items<'v>(object: &'v Value, name: &'static str) -> Result<&'v [Value], MemberFault>
-    ensures { GivesOf (λ values. items_view values.now) result
+    ensures { GivesMemberOf (λ values. items_view values.now) result
         (items_in name.now (present_member name.now (view object.now))) }
 {
     let Some(member) = present(object, name) else {
@@ -77,7 +77,7 @@ pub(crate) fn list_of<T: ReadObject + Drop>(
     object: &Value,
     name: &'static str,
 ) -> Result<Sequence<T>, MemberFault>
-    ensures { Gives result (list_of_objects T.reads name.now (view object.now)) }
+    ensures { GivesMember result (list_of_objects T.reads name.now (view object.now)) }
 {
     let Some(member) = present(object, name) else {
         return Ok(Sequence::from(Vec::new(alloc)));
@@ -93,7 +93,7 @@ fn objects<T: ReadObject + Drop>(
     values: &[Value],
     name: &'static str,
 ) -> Result<Sequence<T>, MemberFault>
-    ensures { Gives result (each (object_in name.now T.reads) (items_view values.now)) }
+    ensures { GivesMember result (each (object_in name.now T.reads) (items_view values.now)) }
 {
     let mut objects = Vec::new(alloc);
     for value in values {
@@ -108,7 +108,7 @@ pub(crate) fn texts(
     object: &Value,
     name: &'static str,
 ) -> Result<Sequence<Text>, MemberFault>
-    ensures { Gives result (list_of_values as_str name.now (view object.now)) }
+    ensures { GivesMember result (list_of_values as_str name.now (view object.now)) }
 {
     let Some(member) = present(object, name) else {
         return Ok(Sequence::from(Vec::new(alloc)));
@@ -120,7 +120,7 @@ pub(crate) fn texts(
 }
 
 fn text_item(alloc: Global, value: &Value, name: &'static str) -> Result<Text, MemberFault>
-    ensures { Gives result (good name.now (as_str (view value.now))) }
+    ensures { GivesMember result (good name.now (as_str (view value.now))) }
 {
     match value.as_str() {
         Some(text) => Ok(Text::copy_of(alloc, text)?),
@@ -133,7 +133,7 @@ fn each_text(
     values: &[Value],
     name: &'static str,
 ) -> Result<Sequence<Text>, MemberFault>
-    ensures { Gives result (each (λ e. good name.now (as_str e)) (items_view values.now)) }
+    ensures { GivesMember result (each (λ e. good name.now (as_str e)) (items_view values.now)) }
 {
     let mut texts = Vec::new(alloc);
     for value in values {

@@ -2,7 +2,7 @@
 ghost use Rattle.std.specs.Prelude.{◌≡◌, [], codes};
 ghost use Rattle.serde_json.specs.Data.{Data};
 ghost use Rattle.serde_json.specs.View.{view, items_view};
-ghost use Rattle.cm_envelope.specs.Member.{Gives, GivesOf, all_items, required};
+ghost use Rattle.cm_envelope.specs.Member.{GivesMember, GivesMemberOf, all_items, required};
 ghost use Rattle.cm_envelope.specs.Documents.{GivesNode, NodeRead, Ids, node_in, optional_node_in, optional_node as optional_node_of, each_node, nodes_of as nodes_of_member, children_of, background_in, rank_of as rank_of_child, are_in_order as children_are_in_order, children_in as children_in_member, as_line, location, cell, doc_string, mark, title, numbered, tag, row, data_table, argument_of, argument, heading, step, background, is_empty, is_object, table_of, body_rows, example_table as example_table_of, tagged_heading, examples, scenario, body, rule_node, feature_heading, feature_body, feature, gherkin_document};
 
 use crate::envelope::GherkinDocument;
@@ -149,7 +149,7 @@ fn are_in_order(children: &[Value], in_feature: bool) -> bool
 
 /// The children, once each has its kind and they are in order.
 fn children_in(object: &Value, in_feature: bool) -> Result<&[Value], MemberFault>
-    ensures { GivesOf (λ values. items_view values.now) result
+    ensures { GivesMemberOf (λ values. items_view values.now) result
         (children_in_member in_feature (view object.now)) }
 {
     let children = items(object, "children")?;
@@ -160,7 +160,7 @@ fn children_in(object: &Value, in_feature: bool) -> Result<&[Value], MemberFault
 }
 
 fn line(object: &Value, name: &'static str) -> Result<u32, MemberFault>
-    ensures { Gives result (required as_line name.now (view object.now)) }
+    ensures { GivesMember result (required as_line name.now (view object.now)) }
 {
     match present(object, name).and_then(Value::as_u64) {
         Some(line) if 0 < line && line < 1 << 32 => Ok(line as u32),
@@ -214,7 +214,7 @@ struct Mark {
 }
 
 fn read_mark(alloc: Global, object: &Value) -> Result<Mark, MemberFault>
-    ensures { Gives result (mark (view object.now)) }
+    ensures { GivesMember result (mark (view object.now)) }
 {
     Ok(Mark {
         id: text(alloc, object, "id")?,
@@ -268,7 +268,7 @@ struct Title {
 }
 
 fn read_title(alloc: Global, object: &Value, name: &'static str) -> Result<Title, MemberFault>
-    ensures { Gives result (title name.now (view object.now)) }
+    ensures { GivesMember result (title name.now (view object.now)) }
 {
     Ok(Title {
         keyword: text(alloc, object, "keyword")?,
@@ -450,7 +450,7 @@ fn table_of(header: Option<Row>, body: Sequence<Row>) -> Option<ExampleTable>
 
 /// The rows of a table's body: each is an object, and a body that isn't empty needs a header.
 fn body_rows(object: &Value, has_header: bool) -> Result<&[Value], MemberFault>
-    ensures { GivesOf (λ values. items_view values.now) result
+    ensures { GivesMemberOf (λ values. items_view values.now) result
         (body_rows has_header (view object.now)) }
 {
     let rows = items(object, "tableBody")?;

@@ -2,8 +2,8 @@
 ghost use Rattle.std.specs.Prelude.{◌≡◌, option_map, option_and_then};
 ghost use Rattle.serde_json.specs.Data.{object as json_object};
 ghost use Rattle.serde_json.specs.View.{view, members_view};
-ghost use Rattle.cm_envelope.specs.Member.{Gives as GivesMembers, unless_null};
-ghost use Rattle.cm_envelope.specs.Reading.{members as members_of_kind, kind_named, judged, the_one, seen, envelope_in, envelope_of as envelope_of_value, json_of_line as json_of, envelope_of_line, Gives, GivesOf};
+ghost use Rattle.cm_envelope.specs.Member.{GivesMember as GivesMembers, unless_null};
+ghost use Rattle.cm_envelope.specs.Reading.{members as members_of_kind, kind_named, judged, the_one, seen, envelope_in, envelope_of as envelope_of_value, json_of_line as json_of, envelope_of_line, GivesEnvelope, GivesLineValue};
 
 use crate::envelope::Envelope;
 use crate::fault::{EnvelopeFault, LineFault, MemberFault};
@@ -52,7 +52,7 @@ fn judged_kind(name: &str, value: &Value) -> Option<Kind>
 
 /// The one judged kind that the object has, with its value.
 fn judged_of(members: &Map<String, Value>) -> Result<Option<(Kind, &Value)>, EnvelopeFault>
-    ensures { GivesOf (option_map seen) result
+    ensures { GivesLineValue (option_map seen) result
         (the_one (judged (json_object (members_view members.now.entries)))) }
 {
     let mut found = None;
@@ -68,7 +68,7 @@ fn judged_of(members: &Map<String, Value>) -> Result<Option<(Kind, &Value)>, Env
 }
 
 fn judged_envelope(alloc: Global, kind: Kind, value: &Value) -> Result<Envelope, EnvelopeFault>
-    ensures { Gives result (envelope_in kind (view value.now)) }
+    ensures { GivesEnvelope result (envelope_in kind (view value.now)) }
 {
     if !value.is_object() {
         return Err(EnvelopeFault::Line(LineFault::Shape));
@@ -84,7 +84,7 @@ fn judged_envelope(alloc: Global, kind: Kind, value: &Value) -> Result<Envelope,
 }
 
 fn envelope_of(alloc: Global, value: &Value) -> Result<Envelope, EnvelopeFault>
-    ensures { Gives result (envelope_of_value (view value.now)) }
+    ensures { GivesEnvelope result (envelope_of_value (view value.now)) }
 {
     let Some(members) = value.as_object() else {
         return Err(EnvelopeFault::Line(LineFault::Shape));
@@ -97,7 +97,7 @@ fn envelope_of(alloc: Global, value: &Value) -> Result<Envelope, EnvelopeFault>
 
 #[tactic(auto, using(crate::proofs::Json::json_read, crate::proofs::Json::json_refused))]
 fn json_of_line(alloc: Global, line: &[u8]) -> Result<Value, EnvelopeFault>
-    ensures { GivesOf view result (json_of line.now) }
+    ensures { GivesLineValue view result (json_of line.now) }
 {
     match Value::from_slice(alloc, line) {
         Ok(value) => Ok(value),
@@ -117,7 +117,7 @@ fn json_of_line(alloc: Global, line: &[u8]) -> Result<Value, EnvelopeFault>
 /// The line is no JSON value, or no object with at most one judged kind, or has a bad member: one that is required and
 /// absent, or of another type. The first in the order of the kind's members is reported. Or there is no memory.
 pub fn read_envelope(alloc: Global, line: &[u8]) -> Result<Envelope, EnvelopeFault>
-    ensures { Gives result (envelope_of_line line.now) }
+    ensures { GivesEnvelope result (envelope_of_line line.now) }
 {
     let value = json_of_line(alloc, line)?;
     envelope_of(alloc, &value)

@@ -1,7 +1,7 @@
 //! How a pickle is read, member by member.
 ghost use Rattle.std.specs.Prelude.{◌≡◌};
 ghost use Rattle.serde_json.specs.View.{view};
-ghost use Rattle.cm_envelope.specs.Member.{Gives, optional};
+ghost use Rattle.cm_envelope.specs.Member.{GivesMember, optional};
 ghost use Rattle.cm_envelope.specs.Pickles.{step_kind_of, as_step_kind, pickle_texts, pickle_lists, pickle, pickle_tag, pickle_step, pickle_argument, argument_of, pickle_table, pickle_row, pickle_cell, pickle_doc_string, argument as argument_member};
 
 use crate::fault::MemberFault;
@@ -28,7 +28,7 @@ fn step_kind_of(word: &str) -> Option<StepKind>
 }
 
 fn optional_step_kind(object: &Value, name: &'static str) -> Result<Option<StepKind>, MemberFault>
-    ensures { Gives result (optional as_step_kind name.now (view object.now)) }
+    ensures { GivesMember result (optional as_step_kind name.now (view object.now)) }
 {
     let Some(member) = present(object, name) else {
         return Ok(None);
@@ -117,7 +117,7 @@ impl ReadObject for Option<PickleArgument> {
 }
 
 fn argument(alloc: Global, object: &Value) -> Result<Option<PickleArgument>, MemberFault>
-    ensures { Gives result (argument_member (view object.now)) }
+    ensures { GivesMember result (argument_member (view object.now)) }
 {
     match optional_nested(alloc, object, "argument")? {
         Some(argument) => Ok(argument),
@@ -149,7 +149,7 @@ struct PickleTexts {
 }
 
 fn read_pickle_texts(alloc: Global, object: &Value) -> Result<PickleTexts, MemberFault>
-    ensures { Gives result (pickle_texts (view object.now)) }
+    ensures { GivesMember result (pickle_texts (view object.now)) }
 {
     Ok(PickleTexts {
         id: text(alloc, object, "id")?,
@@ -168,7 +168,7 @@ struct PickleLists {
 }
 
 fn read_pickle_lists(alloc: Global, object: &Value) -> Result<PickleLists, MemberFault>
-    ensures { Gives result (pickle_lists (view object.now)) }
+    ensures { GivesMember result (pickle_lists (view object.now)) }
 {
     Ok(PickleLists {
         ast_node_ids: texts(alloc, object, "astNodeIds")?,
