@@ -4,7 +4,8 @@ use Rattle.cm_envelope.specs.Device.{CountsFailure, Input, OfInput, OfReads}
 use Rattle.cm_envelope.proofs.Sources.{of_reads, reads_weaker}
 use Rattle.cm_envelope.specs.declared.feed.Trouble.{Trouble}
 use Rattle.cm_attempt.specs.declared.settings.Settings.{Settings}
-use Rattle.cm_audit.specs.Audit.{AnswersTold, Audits, GoodAtEnd, GoodAtEndIn, IsAuditOf, ShowNoFault, is_failed_read}
+use Rattle.cm_audit.specs.Audit.{AnswersTold, Audits, GoodAtEnd, GoodAtEndIn, IsAuditOf, ShowNoFault}
+use Rattle.cm_envelope.specs.Feeds.{is_failed_read}
 use Rattle.cm_stream.specs.Findings.{Finding, IsBad, IsUnsupported}
 use Rattle.cm_stream.specs.Stream.{Answer, Failed, Found, answered}
 use Rattle.cm_stream.specs.declared.verdict.Audited.{Audited}

@@ -16,7 +16,8 @@ use Rattle.cm_stream.specs.declared.verdict.Verdict.{Verdict}
 use Rattle.cm_stream.specs.declared.verdict.Verdict.TheVariants as verdict
 use Rattle.cm_stream.proofs.ByGrammar.{is_first}
 use Rattle.cm_stream.proofs.Streams.{read_is_told}
-use Rattle.cm_audit.specs.Audit.{AnswersTold, GoodAtEnd, GoodAtEndIn, ShowNoFault, is_failed_read}
+use Rattle.cm_audit.specs.Audit.{AnswersTold, GoodAtEnd, GoodAtEndIn, ShowNoFault}
+use Rattle.cm_envelope.specs.Feeds.{is_failed_read}
 use Rattle.cm_audit.specs.Cases.{FollowsGood, IsCasesAuditOf, audited_in}
 use Rattle.cm_audit.specs.declared.listed_cases.AuditedCases.{AuditedCases}
 use Rattle.ck_command_line.specs.CommandLine.{ask_cases}

@@ -9,10 +9,10 @@ use Rattle.gk_grammar.specs.Tree.{Document}
 use Rattle.gk_tree.specs.declared.fault.ParseFault.{ParseFault}
 use Rattle.cm_compile.specs.Faults.{IsRefusedWith}
 use Rattle.ck_command_line.specs.CommandLine.{ask_compile, ask_parse}
-use Rattle.ck_commands.specs.Features.{IsFaultOf, IsFeatureOf, IsRefused, fault_report, is_failed_read, of_text, parse_report}
+use Rattle.ck_commands.specs.Features.{IsFaultOf, IsFeatureOf, IsRefused, fault_report, is_failed_feature_read, of_text, parse_report}
 use Rattle.ck_commands.specs.Output.{DeliversOne, Report, trouble_report}
 use Rattle.ck_commands.specs.Run.{Reports, ReportsCompiled}
-use Rattle.ck_commands.specs.TextInput.{HasTextFault, IsTextOf, is_failed_read as text_failed}
+use Rattle.ck_commands.specs.TextInput.{HasTextFault, IsTextOf, is_failed_text_read as text_failed}
 use Rattle.ck_commands.specs.declared.output.ExitStatus.TheVariants as exit
 use Rattle.ck_commands.specs.declared.text_input.TextFault.{TextFault}
 use Rattle.ck_commands.specs.declared.text_input.TextFault.TheVariants as text
@@ -68,13 +68,13 @@ text_fault bytes text.NotUtf8 h other = h
 text_fault bytes text.Memory h other = tt
 
 -- a fault of the text that is passed on
-pub on_text_fault : (f : TextFault) (r : Result Document FeatureFault) (i j : Input) → IsErrAnd r (λ e. e ≡ of_text f) → OfInput i j (λ bytes. HasTextFault bytes f) → is_failed_read r ≡ false
+pub on_text_fault : (f : TextFault) (r : Result Document FeatureFault) (i j : Input) → IsErrAnd r (λ e. e ≡ of_text f) → OfInput i j (λ bytes. HasTextFault bytes f) → is_failed_feature_read r ≡ false
     → OfInput i j (λ bytes. IsFeatureOf bytes r)
 on_text_fault f (Ok d) i j h is none = absurd h
 on_text_fault f (Err e) i j h is none =
     input_weaker {P = λ bytes. HasTextFault bytes f} {Q = λ bytes. IsFaultOf bytes e} i j is (λ xs t. subst (IsFaultOf xs) (sym h) (text_fault xs f t (λ read. other e (h ∙ ap of_text read) none)))
   where
-    other : (e : FeatureFault) → e ≡ ReadFailed → is_failed_read {A = Document} (Err e) ≡ false → ⊥
+    other : (e : FeatureFault) → e ≡ ReadFailed → is_failed_feature_read {A = Document} (Err e) ≡ false → ⊥
     other ReadFailed is none = cc
     other (Refused g) is none = cc
     other NotUtf8 is none = cc
@@ -119,19 +119,19 @@ feature_reported : (bytes : List ℕ) (feature : Result Document FeatureFault) (
 feature_reported bytes feature r is (inl e) = inl (feature, is, e)
 feature_reported bytes feature r is (inr e) = inr e
 
-failed_feature : (feature : Result Document FeatureFault) → is_failed_read feature ≡ true → parse_report feature ≡ trouble_report trouble.ReadFailed
+failed_feature : (feature : Result Document FeatureFault) → is_failed_feature_read feature ≡ true → parse_report feature ≡ trouble_report trouble.ReadFailed
 failed_feature (Ok d) e = cc
 failed_feature (Err (Refused f)) e = cc
 failed_feature (Err ReadFailed) e = refl
 failed_feature (Err NotUtf8) e = cc
 failed_feature (Err Memory) e = cc
 
-failed_report : (feature : Result Document FeatureFault) (r : Report) → is_failed_read feature ≡ true → IsOne (parse_report feature) r → IsOne (trouble_report trouble.ReadFailed) r
+failed_report : (feature : Result Document FeatureFault) (r : Report) → is_failed_feature_read feature ≡ true → IsOne (parse_report feature) r → IsOne (trouble_report trouble.ReadFailed) r
 failed_report feature r failed (inl e) = inl (e ∙ failed_feature feature failed)
 failed_report feature r failed (inr e) = inr e
 
 -- with another status than that of trouble no read failed
-was_read : (feature : Result Document FeatureFault) (r : Report) → r ≡ parse_report feature → (r.status ≡ exit.Trouble → ⊥) → is_failed_read feature ≡ false
+was_read : (feature : Result Document FeatureFault) (r : Report) → r ≡ parse_report feature → (r.status ≡ exit.Trouble → ⊥) → is_failed_feature_read feature ≡ false
 was_read (Ok d) r e other = refl
 was_read (Err (Refused f)) r e other = refl
 was_read (Err ReadFailed) r e other = absurd (other (ap (λ (x : Report). x.status) e))
@@ -146,15 +146,15 @@ module _ (feature : Result Document FeatureFault) (r : Report) (i j : Input) whe
       go (Ok d) is one = over d is
       go (Err f) is one = absurd (fault_not_done f r one done)
 
-  not_counted : CountsFailure (is_failed_read feature) i.failed_calls j.failed_calls → IsOne (parse_report feature) r → r.status ≡ exit.Done → j.failed_calls ≡ i.failed_calls
+  not_counted : CountsFailure (is_failed_feature_read feature) i.failed_calls j.failed_calls → IsOne (parse_report feature) r → r.status ≡ exit.Done → j.failed_calls ≡ i.failed_calls
   not_counted counts one done = go feature counts one
     where
-      go : (f : Result Document FeatureFault) → CountsFailure (is_failed_read f) i.failed_calls j.failed_calls → IsOne (parse_report f) r → j.failed_calls ≡ i.failed_calls
+      go : (f : Result Document FeatureFault) → CountsFailure (is_failed_feature_read f) i.failed_calls j.failed_calls → IsOne (parse_report f) r → j.failed_calls ≡ i.failed_calls
       go (Ok d) counts one = counts
       go (Err f) counts one = absurd (fault_not_done f r one done)
 
-  pub feature_is_reported : (is_failed_read feature ≡ false → OfInput i j (λ bytes. IsFeatureOf bytes feature)) → ((d : Document) → feature ≡ Ok d → j.is_over ≡ true)
-      → ((read : List ℕ) × Hears i j read) → CountsFailure (is_failed_read feature) i.failed_calls j.failed_calls → IsOne (parse_report feature) r → Reported ask_parse r i j
+  pub feature_is_reported : (is_failed_feature_read feature ≡ false → OfInput i j (λ bytes. IsFeatureOf bytes feature)) → ((d : Document) → feature ≡ Ok d → j.is_over ≡ true)
+      → ((read : List ℕ) × Hears i j read) → CountsFailure (is_failed_feature_read feature) i.failed_calls j.failed_calls → IsOne (parse_report feature) r → Reported ask_parse r i j
   feature_is_reported is over heard counts one = record {
     answer = λ all.
         input_weaker {P = λ bytes. IsFeatureOf bytes feature} {Q = λ bytes. Reports ask_parse bytes r ⊎ (r ≡ trouble_report trouble.Memory)} i j (is (none_failed _ _ _ counts all))

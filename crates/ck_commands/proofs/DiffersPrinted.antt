@@ -11,7 +11,8 @@ use Rattle.cm_stream.specs.Findings.{IsBad, IsUnsupported, named}
 use Rattle.cm_stream.specs.Stream.{At, Failed, FirstFault, NoFault, Troubled, answer_for, answered}
 use Rattle.cm_stream.specs.declared.verdict.Verdict.{Verdict}
 use Rattle.cm_stream.specs.declared.verdict.Verdict.TheVariants as verdict
-use Rattle.cm_audit.specs.Audit.{GoodAtEnd, GoodAtEndIn, ShowNoFault, is_failed_read}
+use Rattle.cm_audit.specs.Audit.{GoodAtEnd, GoodAtEndIn, ShowNoFault}
+use Rattle.cm_envelope.specs.Feeds.{is_failed_read}
 use Rattle.cm_audit.specs.Differs.{DiffersAt, DiffersBy, IsDiffersAuditOf, audited_of}
 use Rattle.cm_audit.specs.declared.differs.AuditedDifference.{AuditedDifference}
 use Rattle.cm_differs.specs.declared.difference.Difference.{Difference}

@@ -8,13 +8,14 @@ use Rattle.cm_envelope.specs.declared.feed.Trouble.{Trouble}
 use Rattle.cm_envelope.specs.declared.feed.Trouble.TheVariants.{ReadFailed, LineTooLong, StreamTooLong, Memory}
 use Rattle.cm_attempt.specs.Table.{Table}
 use Rattle.cm_attempt.specs.declared.settings.Settings.{Settings}
-use Rattle.cm_audit.specs.Audit.{AnswersAs, AnswersTold, IsAuditOf, is_failed_read}
+use Rattle.cm_audit.specs.Audit.{AnswersAs, AnswersTold, IsAuditOf}
+use Rattle.cm_envelope.specs.Feeds.{is_failed_read}
 use Rattle.cm_stream.specs.Results.{first_results_fault}
 use Rattle.cm_stream.specs.Stream.{Answer, Failed, FirstFault, IsFirstFault, answer_for, answered}
 use Rattle.cm_stream.specs.declared.verdict.Audited.{Audited}
 use Rattle.ck_commands.specs.Outcome.{outcome_of, outcome_report}
 use Rattle.ck_commands.specs.Output.{NoneFailed, Report, report_made, trouble_report}
-use Rattle.ck_commands.specs.Reading.{HasOutcome, held_outcome, is_failed_read as results_failed}
+use Rattle.ck_commands.specs.Reading.{HasOutcome, held_outcome, is_failed_attempts_read as results_failed}
 use Rattle.ck_commands.specs.Results.{results_report}
 use Rattle.ck_commands.specs.Run.{ReportsAudit, ReportsFirst}
 use Rattle.ck_commands.specs.declared.output.ExitStatus.TheVariants as exit

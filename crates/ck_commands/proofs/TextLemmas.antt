@@ -3,7 +3,7 @@ use Rattle.std.proofs.Common.{◌≡◌, ◌∙◌, ◌<◌, ◌≤◌, ◌++◌
 use Rattle.std.specs.Result.{IfErr, IsErrAnd}
 use Rattle.cm_envelope.specs.Device.{Hears, Input, OfInput, OfWhole}
 use Rattle.cm_envelope.proofs.Sources.{input_weaker}
-use Rattle.ck_commands.specs.TextInput.{HasBytesFault, HasTextFault, IsTextOf, is_failed_read}
+use Rattle.ck_commands.specs.TextInput.{HasBytesFault, HasTextFault, IsTextOf, is_failed_text_read}
 use Rattle.ck_commands.specs.declared.text_input.TextFault.{TextFault}
 use Rattle.ck_commands.specs.declared.text_input.TextFault.TheVariants.{ReadFailed, TooLong, NotUtf8, Memory}
 
@@ -43,13 +43,13 @@ pub on_fault : {T : Type 0} (i j : Input) (x : TextFault) (r : Result T TextFaul
 on_fault i j x (Ok y) h is = absurd h
 on_fault i j x (Err f) h is = rw h (bytes_fault i j x is)
 
-pub other_fault : (A : Type 0) (f : TextFault) → is_failed_read {A = A} (Err f) ≡ false → f ≡ ReadFailed → ⊥
+pub other_fault : (A : Type 0) (f : TextFault) → is_failed_text_read {A = A} (Err f) ≡ false → f ≡ ReadFailed → ⊥
 other_fault A ReadFailed other is = cc
 other_fault A TooLong other is = cc
 other_fault A NotUtf8 other is = cc
 other_fault A Memory other is = cc
 
-pub failed_fault : (A : Type 0) (f : TextFault) → is_failed_read {A = A} (Err f) ≡ true → f ≡ ReadFailed
+pub failed_fault : (A : Type 0) (f : TextFault) → is_failed_text_read {A = A} (Err f) ≡ true → f ≡ ReadFailed
 failed_fault A ReadFailed failed = refl
 failed_fault A TooLong failed = cc
 failed_fault A NotUtf8 failed = cc

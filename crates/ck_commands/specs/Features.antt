@@ -98,7 +98,7 @@ of_kind _ f = Refused f
 abbrev pub of_parse : ParseFault → FeatureFault
 of_parse f = of_kind f.kind f
 
--- a read failed
-abbrev pub is_failed_read : {A : Type 0} → Result A FeatureFault → Bool
-is_failed_read (Err ReadFailed) = true
-is_failed_read _ = false
+-- it is that a read failed
+abbrev pub is_failed_feature_read : {A : Type 0} → Result A FeatureFault → Bool
+is_failed_feature_read (Err ReadFailed) = true
+is_failed_feature_read _ = false

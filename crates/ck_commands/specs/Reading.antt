@@ -23,9 +23,10 @@ HasOutcome outcome (Err (Err ReadFailed)) = ⊤
 HasOutcome outcome (Err (Err Memory)) = ⊤
 HasOutcome outcome (Err answer) = outcome ≡ Err (answered answer)
 
-abbrev pub is_failed_read : {A : Type 0} → Result A (Result Audited Trouble) → Bool
-is_failed_read (Err (Err ReadFailed)) = true
-is_failed_read _ = false
+-- it is that a read failed
+abbrev pub is_failed_attempts_read : {A : Type 0} → Result A (Result Audited Trouble) → Bool
+is_failed_attempts_read (Err (Err ReadFailed)) = true
+is_failed_attempts_read _ = false
 
 -- the outcome that the code holds
 abbrev pub held_outcome : Result Table (Result Audited Trouble) → Result Table Answer

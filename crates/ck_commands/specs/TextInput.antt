@@ -25,6 +25,7 @@ HasBytesFault bytes NotUtf8 = ⊥
 HasBytesFault bytes ReadFailed = ⊤
 HasBytesFault bytes Memory = ⊤
 
-abbrev pub is_failed_read : {A : Type 0} → Result A TextFault → Bool
-is_failed_read (Err ReadFailed) = true
-is_failed_read _ = false
+-- it is that a read failed
+abbrev pub is_failed_text_read : {A : Type 0} → Result A TextFault → Bool
+is_failed_text_read (Err ReadFailed) = true
+is_failed_text_read _ = false

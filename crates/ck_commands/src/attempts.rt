@@ -3,7 +3,8 @@ ghost use Rattle.std.specs.Prelude.{◌≡◌, true, Err};
 ghost use Rattle.cm_envelope.specs.Device.{CountsFailure, OfInput, OfReads};
 ghost use Rattle.cm_envelope.specs.declared.feed.Trouble.TheVariants.{ReadFailed};
 ghost use Rattle.ck_commands.specs.Outcome.{after_line, outcome_of, outcome_report};
-ghost use Rattle.ck_commands.specs.Reading.{HasOutcome, LeavesTable, held_outcome, is_failed_read};
+ghost use Rattle.ck_commands.specs.Reading.{HasOutcome, LeavesTable, held_outcome};
+ghost use Rattle.ck_commands.specs.Reading.{is_failed_attempts_read};
 ghost use Rattle.ck_commands.specs.Results.{ResultsShowNoFault};
 ghost use Rattle.ck_commands.specs.declared.output.ExitStatus.TheVariants.{Done};
 
@@ -42,8 +43,8 @@ pub(crate) fn read_attempts<S: ByteSource>(
         (λ bytes. HasOutcome (outcome_of first_attempt bytes) result) }
     ensures whole { (outcome_report (held_outcome result)).status ≡ Done
         → (S.input source.new).is_over ≡ true }
-    ensures failures { CountsFailure (is_failed_read result) (S.input source.old).failed_calls
-        (S.input source.new).failed_calls }
+    ensures failures { CountsFailure (is_failed_attempts_read result)
+        (S.input source.old).failed_calls (S.input source.new).failed_calls }
     ensures no_fault { result ≡ Err (Err ReadFailed)
         → OfReads (S.input source.old) (S.input source.new)
         (ResultsShowNoFault first_attempt) }

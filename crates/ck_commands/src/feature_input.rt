@@ -1,7 +1,7 @@
 //! The document of a feature file, read whole from a source.
 ghost use Rattle.std.specs.Prelude.{◌≡◌, ℕ, List, true, false, OnOk};
 ghost use Rattle.cm_envelope.specs.Device.{CountsFailure, Hears, OfInput};
-ghost use Rattle.ck_commands.specs.Features.{IsFeatureOf, is_failed_read};
+ghost use Rattle.ck_commands.specs.Features.{IsFeatureOf, is_failed_feature_read};
 
 use crate::text_input::{TextFault, read_text};
 use cm_envelope::ByteSource;
@@ -63,12 +63,12 @@ pub(crate) fn read_document<R: ByteSource>(
     alloc: Global,
     source: &mut R,
 ) -> Result<Document, FeatureFault>
-    ensures feature { is_failed_read result ≡ false
+    ensures feature { is_failed_feature_read result ≡ false
         → OfInput (R.input source.old) (R.input source.new) (λ bytes. IsFeatureOf bytes result) }
     ensures whole { OnOk result ((R.input source.new).is_over ≡ true) }
     ensures heard { (read : List ℕ) × Hears (R.input source.old) (R.input source.new) read }
-    ensures failures { CountsFailure (is_failed_read result) (R.input source.old).failed_calls
-        (R.input source.new).failed_calls }
+    ensures failures { CountsFailure (is_failed_feature_read result)
+        (R.input source.old).failed_calls (R.input source.new).failed_calls }
 {
     let text = read_text(alloc, source)?;
     let document = parse(alloc, text.as_str())?;

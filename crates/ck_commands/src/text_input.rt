@@ -1,7 +1,7 @@
 //! A text, read whole from a source.
 ghost use Rattle.std.specs.Prelude.{◌≡◌, ◌+◌, ◌≤◌, ℕ, List, [], true, length, string_bytes, IfOk, IfErr, OnOk};
 ghost use Rattle.cm_envelope.specs.Device.{CountsFailure, Hears, OfInput, OfWhole};
-ghost use Rattle.ck_commands.specs.TextInput.{HasBytesFault, HasTextFault, IsTextOf, is_failed_read};
+ghost use Rattle.ck_commands.specs.TextInput.{HasBytesFault, HasTextFault, IsTextOf, is_failed_text_read};
 
 use cm_envelope::{ByteSource, DeviceFailed};
 use std::alloc::{AllocError, Global};
@@ -66,8 +66,8 @@ fn gather<R: ByteSource>(
         × ((R.input source.new).is_over ≡ true)) }
     ensures err { IfErr result (λ fault. OfInput (R.input source.old) (R.input source.new)
         (λ all. HasBytesFault all fault)) }
-    ensures failures { CountsFailure (is_failed_read result) (R.input source.old).failed_calls
-        (R.input source.new).failed_calls }
+    ensures failures { CountsFailure (is_failed_text_read result)
+        (R.input source.old).failed_calls (R.input source.new).failed_calls }
 {
     'pieces: while bytes.len() <= TEXT_LIMIT {
         bytes.reserve(PIECE)?;
@@ -89,8 +89,8 @@ fn read_bytes<R: ByteSource>(alloc: Global, source: &mut R) -> Result<Vec<u8>, T
         × ((R.input source.new).is_over ≡ true)) }
     ensures err { IfErr result (λ fault. OfInput (R.input source.old) (R.input source.new)
         (λ all. HasBytesFault all fault)) }
-    ensures failures { CountsFailure (is_failed_read result) (R.input source.old).failed_calls
-        (R.input source.new).failed_calls }
+    ensures failures { CountsFailure (is_failed_text_read result)
+        (R.input source.old).failed_calls (R.input source.new).failed_calls }
 {
     let mut piece = Vec::new(alloc);
     piece.resize(PIECE, 0)?;
@@ -111,8 +111,8 @@ pub fn read_text<R: ByteSource>(alloc: Global, source: &mut R) -> Result<String,
         (λ bytes. HasTextFault bytes fault)) }
     ensures few { (read : List ℕ) × Hears (R.input source.old) (R.input source.new) read
         × (length read ≤ TEXT_LIMIT + PIECE) }
-    ensures failures { CountsFailure (is_failed_read result) (R.input source.old).failed_calls
-        (R.input source.new).failed_calls }
+    ensures failures { CountsFailure (is_failed_text_read result)
+        (R.input source.old).failed_calls (R.input source.new).failed_calls }
 {
     let bytes = read_bytes(alloc, source)?;
     match String::from_utf8(bytes) {

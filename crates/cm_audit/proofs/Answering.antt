@@ -4,7 +4,7 @@ use Rattle.cm_envelope.specs.Lines.{is_blank}
 use Rattle.cm_envelope.specs.Reading.{LineFault, FailsAtLine, envelope_of_line}
 use Rattle.cm_envelope.specs.declared.fault.EnvelopeFault.{EnvelopeFault}
 use Rattle.cm_envelope.specs.declared.fault.EnvelopeFault.TheVariants as shape
-use Rattle.cm_envelope.specs.Feeds.{Stored, NextLine, new_feed, GivesLine, GivesNext, Leaves, EndsWithSource, IsNextLine}
+use Rattle.cm_envelope.specs.Feeds.{Stored, NextLine, new_feed, GivesLine, GivesNext, Leaves, EndsWithSource, IsNextLine, is_failed_read}
 use Rattle.cm_envelope.specs.Device.{Input, OfReads}
 use Rattle.cm_envelope.proofs.Sources.{HasReadSo, read_so_far, reads_then, reads_no_more}
 use Rattle.cm_envelope.specs.declared.envelope.Envelope.{Envelope}
@@ -18,7 +18,7 @@ use Rattle.cm_stream.specs.declared.verdict.StreamFault.TheVariants as bad
 use Rattle.cm_state.specs.Summary.{Summary, nothing_seen}
 use Rattle.cm_state.specs.StateChecks.{finding_at_end}
 use Rattle.cm_state.specs.Laws.{at_end}
-use Rattle.cm_audit.specs.Audit.{AnswersAs, ReadsNoFurther, ReadsUpTo, TakesLine, audited_at, is_failed_read, unsuccessful}
+use Rattle.cm_audit.specs.Audit.{AnswersAs, ReadsNoFurther, ReadsUpTo, TakesLine, audited_at, unsuccessful}
 use Rattle.cm_audit.specs.Judging.{judged, HasJudged, HoldNoFault, JudgesAs}
 use Rattle.cm_audit.specs.Stops.{unread_line}
 use Rattle.cm_audit.specs.Told.{TellsLine}

@@ -4,7 +4,7 @@ use Rattle.std.specs.List.{flat_map}
 use Rattle.cm_envelope.specs.Device.{CountsFailure, Input, OfReads, OfWhole}
 use Rattle.cm_envelope.specs.Lines.{Line, max_line_bytes, max_stream_bytes}
 use Rattle.cm_envelope.specs.Reading.{LineFault}
-use Rattle.cm_envelope.specs.Feeds.{ShowNothing, written}
+use Rattle.cm_envelope.specs.Feeds.{ShowNothing, is_failed_read, written}
 use Rattle.cm_envelope.specs.declared.envelope.Envelope.{Envelope}
 use Rattle.cm_envelope.specs.declared.feed.Trouble.{Trouble}
 use Rattle.cm_envelope.specs.declared.feed.Trouble.TheVariants.{ReadFailed, Memory}
@@ -35,10 +35,6 @@ pub record AnswersTold (settings : Settings) (bytes : List ℕ)
   pub first : FirstFault
   pub is_first : IsFirstFault settings bytes first
   pub answers : AnswersAs (answer_for first) answer
-
-abbrev pub is_failed_read : {A : Type 0} → Result A Trouble → Bool
-is_failed_read (Err ReadFailed) = true
-is_failed_read _ = false
 
 -- ---- how far it reads
 

@@ -1,7 +1,8 @@
 //! The audit of a stream, with what it differs in from its sources.
 ghost use Rattle.std.specs.Prelude.{◌≡◌};
 ghost use Rattle.cm_envelope.specs.Device.{CountsFailure, OfReads};
-ghost use Rattle.cm_audit.specs.Audit.{GoodAtEnd, is_failed_read};
+ghost use Rattle.cm_audit.specs.Audit.{GoodAtEnd};
+ghost use Rattle.cm_envelope.specs.Feeds.{is_failed_read};
 ghost use Rattle.cm_audit.specs.Differs.{IsDiffersAuditOf, audited_of, reported, with_difference};
 
 use crate::auditing::judge_lines;

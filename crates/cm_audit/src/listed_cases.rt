@@ -2,7 +2,8 @@
 ghost use Rattle.std.specs.Prelude.{◌≡◌, Err};
 ghost use Rattle.cm_envelope.specs.Device.{CountsFailure, OfReads};
 ghost use Rattle.cm_envelope.specs.declared.feed.Trouble.TheVariants.{ReadFailed};
-ghost use Rattle.cm_audit.specs.Audit.{GoodAtEnd, is_failed_read};
+ghost use Rattle.cm_audit.specs.Audit.{GoodAtEnd};
+ghost use Rattle.cm_envelope.specs.Feeds.{is_failed_read};
 ghost use Rattle.cm_audit.specs.Cases.{IsCasesAuditOf, audited_in, with_cases};
 
 use crate::auditing::judge_lines;

@@ -2,7 +2,7 @@
 ghost use Rattle.std.specs.Prelude.{◌≡◌, option_map, option_and_then};
 ghost use Rattle.serde_json.specs.Data.{object as json_object};
 ghost use Rattle.serde_json.specs.View.{view, members_view};
-ghost use Rattle.cm_envelope.specs.Member.{GivesMember as GivesMembers, unless_null};
+ghost use Rattle.cm_envelope.specs.Member.{GivesMember, unless_null};
 ghost use Rattle.cm_envelope.specs.Reading.{members as members_of_kind, kind_named, judged, the_one, seen, envelope_in, envelope_of as envelope_of_value, json_of_line as json_of, envelope_of_line, GivesEnvelope, GivesLineValue};
 
 use crate::envelope::Envelope;
@@ -13,7 +13,7 @@ use serde_json::{Map, Value};
 use std::alloc::Global;
 
 fn members_of(alloc: Global, kind: Kind, object: &Value) -> Result<Envelope, MemberFault>
-    ensures { GivesMembers result (members_of_kind kind (view object.now)) }
+    ensures { GivesMember result (members_of_kind kind (view object.now)) }
 {
     match kind {
         Kind::Source => Ok(Envelope::Source(ReadObject::read(alloc, object)?)),
