@@ -17,7 +17,7 @@ use Rattle.cm_stream.specs.Stream.{at_line as at_told, fed}
 use Rattle.cm_stream.specs.Calls.{calls_of}
 use Rattle.cm_stream.specs.Results.{results_fault, first_results_fault_line, first_results_fault_of, first_results_fault, results_of}
 use Rattle.cm_stream.proofs.Tables.{tables_have_results, refused_for_faults, tables_change}
-use Rattle.ck_commands.specs.Outcome.{unless_found, after_envelope, at_line, after_lines, outcome_at, outcome_of, outcome_report, case_text, table_text}
+use Rattle.ck_commands.specs.Outcome.{unless_found, after_envelope, at_line, after_lines, outcome_at, outcome_of, outcome_report, case_result_text, table_text}
 use Rattle.ck_commands.specs.Output.{Report}
 use Rattle.ck_commands.specs.Results.{result_text, results_report}
 use Rattle.ck_commands.specs.declared.output.ExitStatus.TheVariants.{Done}
@@ -28,7 +28,7 @@ flat_twice f g (x ∷ xs) = ap (λ ys. f (g x) ++ ys) (flat_twice f g xs)
 
 -- the lines of a table are those of its results
 pub rows_text : (t : Table) → table_text t ≡ flat_map result_text (case_results t)
-rows_text t = flat_twice (case_text t) (λ c. c.id) t.cases ∙ sym (flat_twice result_text (λ c. (c.id, reported_of t c.id)) t.cases)
+rows_text t = flat_twice (case_result_text t) (λ c. c.id) t.cases ∙ sym (flat_twice result_text (λ c. (c.id, reported_of t c.id)) t.cases)
 
 at_end : (first : ℕ) (before : List Envelope) (t : Table) → table_after first (calls_of before) ≡ Some t → table_text t ≡ flat_map result_text (results_of before)
 at_end first before t taken =

@@ -7,7 +7,7 @@ use Rattle.cm_attempt.specs.Table.{Table}
 use Rattle.cm_attempt.specs.declared.settings.Settings.{Settings}
 use Rattle.cm_attempt.specs.declared.status.Status.{Status}
 use Rattle.cm_cases.specs.Listed.{listing_of}
-use Rattle.cm_cases.specs.Places.{case_place, unrun_text}
+use Rattle.cm_cases.specs.Places.{case_place, unrun_lines}
 use Rattle.cm_cases.specs.declared.listing.Listing.{Listing}
 use Rattle.cm_envelope.specs.declared.envelope.Envelope.{Envelope}
 use Rattle.cm_envelope.specs.declared.feed.Trouble.{Trouble}
@@ -31,7 +31,7 @@ case_text es r = reported_word r.1 ++ case_place es r.0
 
 -- one line for each case, in order of declaration, and then one for each pickle that no case names, in order
 abbrev pub cases_text : List Envelope → List ℕ
-cases_text es = flat_map (case_text es) (results_of es) ++ unrun_text es
+cases_text es = flat_map (case_text es) (results_of es) ++ unrun_lines es
 
 -- these lines; or the first fault, or why no further line could be read
 abbrev pub cases_report : FirstFault → Report

@@ -56,12 +56,12 @@ outcome_of first bytes =
 -- ---- its report
 
 -- a case's id, and the status of its final attempt
-abbrev pub case_text : Table → List ℕ → List ℕ
-case_text t id = id ++ codes " " ++ reported_word (reported_of t id) ++ line_feed ∷ []
+abbrev pub case_result_text : Table → List ℕ → List ℕ
+case_result_text t id = id ++ codes " " ++ reported_word (reported_of t id) ++ line_feed ∷ []
 
 -- one line for each case, in order of declaration
 abbrev pub table_text : Table → List ℕ
-table_text t = flat_map (case_text t) (map (λ c. c.id) t.cases)
+table_text t = flat_map (case_result_text t) (map (λ c. c.id) t.cases)
 
 abbrev pub outcome_report : Result Table Answer → Report
 outcome_report (Ok t) = record { text = table_text t; status = Done }

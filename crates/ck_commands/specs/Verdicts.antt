@@ -60,8 +60,8 @@ finding_text n (IsUnsupported r) =
     codes "unsupported line " ++ decimal n ++ codes ": " ++ reason_label r ++ line_feed ∷ []
 
 -- the pickles that no case names, where there are any
-abbrev pub unrun_text : ℕ → List ℕ
-unrun_text n = if n == 0 then [] else (codes " unrun=" ++ decimal n)
+abbrev pub unrun_count_text : ℕ → List ℕ
+unrun_count_text n = if n == 0 then [] else (codes " unrun=" ++ decimal n)
 
 abbrev pub plain_counts_text : Counts → List ℕ
 plain_counts_text c =
@@ -69,7 +69,7 @@ plain_counts_text c =
     ++ codes " cases=" ++ decimal c.cases ++ codes " attempts=" ++ decimal c.attempts
 
 abbrev pub counts_text : Counts → List ℕ
-counts_text c = plain_counts_text c ++ unrun_text c.unrun ++ line_feed ∷ []
+counts_text c = plain_counts_text c ++ unrun_count_text c.unrun ++ line_feed ∷ []
 
 abbrev pub finding_status : Finding → ExitStatus
 finding_status (IsBad f) = exit.Refused

@@ -6,7 +6,7 @@ ghost use Rattle.cm_stream.specs.Stream.{answered};
 ghost use Rattle.ck_command_line.specs.CommandLine.{ask_audit};
 ghost use Rattle.ck_commands.specs.Run.{Runs};
 ghost use Rattle.ck_commands.specs.Verdicts.{counts_text, fault_label, finding_text, line_label};
-ghost use Rattle.ck_commands.specs.Verdicts.{plain_counts_text, reason_label, unrun_text, verdict_report};
+ghost use Rattle.ck_commands.specs.Verdicts.{plain_counts_text, reason_label, unrun_count_text, verdict_report};
 
 use crate::output::{ExitStatus, Report, trouble_text, write_report};
 use cm_attempt::Settings;
@@ -93,7 +93,7 @@ fn plain_text(alloc: Global, counts: Counts) -> Result<String, AllocError>
 
 // The pickles that no case names, where there are any.
 fn unrun_part(alloc: Global, unrun: u64) -> Result<String, AllocError>
-    ensures { IfOk result (λ text. string_bytes text ≡ unrun_text unrun) }
+    ensures { IfOk result (λ text. string_bytes text ≡ unrun_count_text unrun) }
 {
     if unrun == 0 {
         return Ok(String::new(alloc));

@@ -4,7 +4,7 @@ ghost use Rattle.std.specs.Prelude.{◌≡◌, ◌++◌, List, IfOk, map, string
 ghost use Rattle.std.specs.List.{flat_map};
 ghost use Rattle.cm_attempt.specs.Results.{result_view};
 ghost use Rattle.cm_cases.specs.Listed.{listing_of};
-ghost use Rattle.cm_cases.specs.Places.{unrun_text};
+ghost use Rattle.cm_cases.specs.Places.{unrun_lines};
 ghost use Rattle.cm_envelope.specs.declared.envelope.Envelope.{Envelope};
 ghost use Rattle.ck_command_line.specs.CommandLine.{ask_cases};
 ghost use Rattle.ck_commands.specs.Cases.{IsCasesText, ReportsCases, case_text};
@@ -28,7 +28,7 @@ fn lines_of(
 ) -> Result<String, AllocError>
     ensures { IfOk result (λ text. (es : List Envelope) → places.now ≡ listing_of es
         → string_bytes text
-        ≡ flat_map (case_text es) (map result_view results.now) ++ unrun_text es) }
+        ≡ flat_map (case_text es) (map result_view results.now) ++ unrun_lines es) }
 {
     let mut text = String::new(alloc);
     for case in results {

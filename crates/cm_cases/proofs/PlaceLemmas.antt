@@ -15,7 +15,7 @@ use Rattle.cm_stream.specs.Texts.{Utf8}
 use Rattle.cm_cases.specs.Firsts as listed
 use Rattle.cm_cases.specs.Firsts.{entry_of, entry_text, line_in, unrun_entries_text}
 use Rattle.cm_cases.specs.Listed.{case_entry, document_entry, listing_of, pickle_entry}
-use Rattle.cm_cases.specs.Places.{case_place, line_of, pickle_of, place_text, places_at, places_of, unrun_text}
+use Rattle.cm_cases.specs.Places.{case_place, line_of, pickle_of, place_text, places_at, places_of, unrun_lines}
 use Rattle.cm_cases.specs.declared.listing.CaseEntry.{CaseEntry}
 use Rattle.cm_cases.specs.declared.listing.DocumentEntry.{DocumentEntry}
 use Rattle.cm_cases.specs.declared.listing.Listing.{Listing}
@@ -86,5 +86,5 @@ each_unrun es (p ∷ ps) =
     ∙ (λ j. (if not (is_named es p) then codes "UNRUN" ++ same_text es p j else []) ++ each_unrun es ps j)
     ∙ sym (filter_step (λ x. codes "UNRUN" ++ place_text es x) (λ x. not (is_named es x)) p ps (not (is_named es p)) refl)
 
-pub unrun_shown : (l : Listing) (es : List Envelope) → l ≡ listing_of es → unrun_entries_text l ≡ unrun_text es
+pub unrun_shown : (l : Listing) (es : List Envelope) → l ≡ listing_of es → unrun_entries_text l ≡ unrun_lines es
 unrun_shown l es is = ap unrun_entries_text is ∙ each_unrun es (pickles es)

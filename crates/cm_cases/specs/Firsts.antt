@@ -50,8 +50,8 @@ entry_of l id =
     option_and_then (λ c. find (λ p. bytes_eq c.pickle_id p.id) l.pickles)
     (find (λ c. bytes_eq id c.id) l.cases)
 
-abbrev pub case_text : Listing → Utf8 → List ℕ
-case_text l id = flat_map (entry_text l) (if_any (entry_of l id))
+abbrev pub case_place_text : Listing → Utf8 → List ℕ
+case_place_text l id = flat_map (entry_text l) (if_any (entry_of l id))
 
 abbrev pub is_named : Listing → PickleEntry → Bool
 is_named l p = list_any (λ c. bytes_eq p.id c.pickle_id) l.cases

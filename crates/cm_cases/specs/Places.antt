@@ -74,6 +74,6 @@ abbrev pub case_place : List Envelope → (test_case : Utf8) → List ℕ
 case_place es id = flat_map (place_text es) (if_any (pickle_of es id))
 
 -- one line for each pickle that no case names, in order
-abbrev pub unrun_text : List Envelope → List ℕ
-unrun_text es =
+abbrev pub unrun_lines : List Envelope → List ℕ
+unrun_lines es =
     flat_map (λ p. codes "UNRUN" ++ place_text es p) (filter (λ p. not (is_named es p)) (pickles es))

@@ -3,9 +3,9 @@ ghost use Rattle.std.specs.Prelude.{◌≡◌, ◌++◌, List, [], IfOk, OnOk, f
 ghost use Rattle.std.specs.Option.{option_map_or};
 ghost use Rattle.std.specs.Str.{bytes_eq};
 ghost use Rattle.cm_envelope.specs.declared.envelope.Envelope.{Envelope};
-ghost use Rattle.cm_cases.specs.Firsts.{HasFirsts, case_text, entry_of, entry_text, is_named, line_in, unrun_entries_text};
+ghost use Rattle.cm_cases.specs.Firsts.{HasFirsts, case_place_text, entry_of, entry_text, is_named, line_in, unrun_entries_text};
 ghost use Rattle.cm_cases.specs.Listed.{listing_of};
-ghost use Rattle.cm_cases.specs.Places.{case_place, unrun_text};
+ghost use Rattle.cm_cases.specs.Places.{case_place, unrun_lines};
 
 use crate::firsts::{ByText, CaseId, CasePickle, PickleId, PlaceId, add_first, firsts_of};
 use crate::listing::{CaseEntry, DocumentEntry, Listing, PickleEntry, Place};
@@ -167,7 +167,7 @@ impl<'a> Places<'a> {
     /// Only where there is no memory.
     pub fn add_unrun(&self, text: &mut String) -> Result<(), AllocError>
         ensures { OnOk result ((es : List Envelope) → self.now ≡ listing_of es
-            → string_bytes text.new ≡ string_bytes text.old ++ unrun_text es) }
+            → string_bytes text.new ≡ string_bytes text.old ++ unrun_lines es) }
     {
         for pickle in self.listing.pickles.as_slice() {
             if !self.is_named(pickle) {
