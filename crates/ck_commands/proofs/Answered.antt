@@ -11,7 +11,7 @@ use Rattle.cm_attempt.specs.Results.{case_results}
 use Rattle.cm_attempt.specs.Table.{Table, reported_of, table_from}
 use Rattle.cm_attempt.specs.Calls.{table_after}
 use Rattle.cm_stream.specs.Findings.{Finding}
-use Rattle.cm_stream.specs.Refusals.{refused, refusal_finding}
+use Rattle.cm_stream.specs.CallFaults.{call_fault_of_envelope, call_fault_finding}
 use Rattle.cm_stream.specs.Record.{changed}
 use Rattle.cm_stream.specs.Stream.{at_line as at_told, fed}
 use Rattle.cm_stream.specs.Calls.{calls_of}
@@ -54,7 +54,7 @@ shown first before n t (l ∷ ls) end taken = go (is_blank l) refl (shown first 
         → outcome_report (outcome_at (at_line (n + 1) (after_envelope t r) >>= λ next. after_lines (n + 1) next ls) end)
         ≡ results_report (first_results_fault_line first before (n + 1) (Some r) (λ (now : List Envelope). first_results_fault_of first now (n + 1 + 1) ls end))
     on_read (Err b) rec = refl
-    on_read (Ok e) rec = on_fault e (option_and_then refusal_finding (refused t e)) (sym (refused_for_faults first before t taken e)) (rec e)
+    on_read (Ok e) rec = on_fault e (option_and_then call_fault_finding (call_fault_of_envelope t e)) (sym (refused_for_faults first before t taken e)) (rec e)
 
     go : (b : Bool) → is_blank l ≡ b → outcome_report (outcome_at (after_lines (n + 1) t ls) end) ≡ results_report (first_results_fault_of first before (n + 1 + 1) ls end)
         → ((e : Envelope) (u : Table) → table_after first (calls_of (before ++ e ∷ [])) ≡ Some u

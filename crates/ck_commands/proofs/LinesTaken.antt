@@ -20,7 +20,7 @@ use Rattle.cm_audit.specs.declared.stop.Stop.TheVariants as stop
 use Rattle.cm_stream.specs.Calls.{calls_of}
 use Rattle.cm_stream.specs.Findings.{Finding}
 use Rattle.cm_stream.specs.Record.{changed}
-use Rattle.cm_stream.specs.Refusals.{refused, refusal_finding}
+use Rattle.cm_stream.specs.CallFaults.{call_fault_of_envelope, call_fault_finding}
 use Rattle.cm_stream.specs.Results.{results_fault, first_results_fault_line, first_results_fault_of}
 use Rattle.cm_stream.specs.Stream.{Troubled, at_line as at_told}
 use Rattle.cm_stream.specs.declared.verdict.Audited.{Audited}
@@ -83,7 +83,7 @@ faultless first before n t u (l ∷ ls) why taken done = go (is_blank l) refl do
         → ((e : Envelope) (v : Table) → table_after first (calls_of (before ++ e ∷ [])) ≡ Some v → after_lines (n + 1) v ls ≡ Ok u → first_results_fault_of first (before ++ e ∷ []) (n + 1 + 1) ls (Some why) ≡ Troubled why)
         → first_results_fault_line first before (n + 1) (Some r) (λ (now : List Envelope). first_results_fault_of first now (n + 1 + 1) ls (Some why)) ≡ Troubled why
     on_read (Err b) done rec = cc
-    on_read (Ok e) done rec = on_fault e (option_and_then refusal_finding (refused t e)) (sym (refused_for_faults first before t taken e)) done (rec e)
+    on_read (Ok e) done rec = on_fault e (option_and_then call_fault_finding (call_fault_of_envelope t e)) (sym (refused_for_faults first before t taken e)) done (rec e)
 
     go : (b : Bool) → is_blank l ≡ b → (at_line (n + 1) (if b then Ok t else after_envelope t (envelope_of_line l)) >>= λ next. after_lines (n + 1) next ls) ≡ Ok u
         → (after_lines (n + 1) t ls ≡ Ok u → first_results_fault_of first before (n + 1 + 1) ls (Some why) ≡ Troubled why)

@@ -8,7 +8,7 @@ use Rattle.cm_envelope.specs.declared.envelope.Envelope.{Envelope}
 use Rattle.cm_envelope.specs.declared.feed.Trouble.{Trouble}
 use Rattle.cm_attempt.specs.Table.{Table, reported_of, table_from}
 use Rattle.cm_stream.specs.Findings.{Finding, IsBad, NoEnvelope}
-use Rattle.cm_stream.specs.Refusals.{refused, refusal_finding}
+use Rattle.cm_stream.specs.CallFaults.{call_fault_of_envelope, call_fault_finding}
 use Rattle.cm_stream.specs.Record.{changed}
 use Rattle.cm_stream.specs.Stream.{Answer, Found, Failed, fed}
 use Rattle.ck_commands.specs.Output.{Report}
@@ -24,7 +24,7 @@ unless_found None t = Ok t
 
 -- the table after an envelope, or what is found in its line
 abbrev pub after_envelope : Table → Result Envelope LineFault → Result Table Finding
-after_envelope t (Ok e) = unless_found (option_and_then refusal_finding (refused t e)) (changed t e)
+after_envelope t (Ok e) = unless_found (option_and_then call_fault_finding (call_fault_of_envelope t e)) (changed t e)
 after_envelope t (Err fault) = Err (IsBad (NoEnvelope fault))
 
 -- the table after a line, or what is found in it; a blank line changes nothing

@@ -7,7 +7,7 @@ use Rattle.std.proofs.lemmas.List.Sums.{length-filter}
 use Rattle.cm_attempt.specs.Table.{Utf8, AttemptRow, Table, table_from, finished_at, has_text, has_repeat, find_attempt, is_closed_to_new, status_of_last, reported_of}
 use Rattle.cm_attempt.specs.declared.rows.Last.{Last}
 use Rattle.cm_attempt.specs.declared.fault.TrackFault.{TrackFault}
-use Rattle.cm_attempt.specs.Calls.{Call, AddCase, Start, StartStep, FinishStep, Finish, refusal_of, after_call, unless_refused, left_by, table_after, StartedAttempt, starts, starts_of, steps_of_attempt, moves, whole, ends_of, is_ended, is_retried, last_of, final_status, result_of}
+use Rattle.cm_attempt.specs.Calls.{Call, AddCase, Start, StartStep, FinishStep, Finish, call_fault, after_call, unless_refused, left_by, table_after, StartedAttempt, starts, starts_of, steps_of_attempt, moves, whole, ends_of, is_ended, is_retried, last_of, final_status, result_of}
 use Rattle.cm_attempt.specs.CallLaws.{IsFront, CasesKnown, AreNumbered, NoneOverlaps, StepsInOrder, FinishedAreWhole, IdsDistinct, ComeInOrder, HasCases, Reports, CountsOpen}
 use Rattle.cm_attempt.proofs.Growing.{bytes_same, by_id, or_false, all_weaker}
 use Rattle.cm_attempt.proofs.Standing.{left_of, open_is, whole_if_ended}
@@ -26,7 +26,7 @@ none_tracked first = record {
   steps_distinct = tt;
 }
 
-pub one_more : (xs : List Call) (t : Table) (c : Call) → Tracked xs t → refusal_of t c ≡ None → Tracked (xs ++ c ∷ []) (after_call t c)
+pub one_more : (xs : List Call) (t : Table) (c : Call) → Tracked xs t → call_fault t c ≡ None → Tracked (xs ++ c ∷ []) (after_call t c)
 one_more xs t (AddCase id steps) h e = case_added xs t id steps h e
 one_more xs t (Start id case number) h e = attempt_started xs t id case number h e
 one_more xs t (StartStep a step) h e = step_started xs t a step h e
@@ -35,9 +35,9 @@ one_more xs t (Finish a r) h e = attempt_finished xs t a r h e
 
 tracked_from : (xs cs : List Call) (t u : Table) → Tracked xs t → left_by t cs ≡ Some u → Tracked (xs ++ cs) u
 tracked_from xs [] t u h e = subst (λ ys. Tracked ys u) (sym (append-nil xs)) (subst (Tracked xs) (ap (λ o. unwrap_or o t) e) h)
-tracked_from xs (c ∷ cs) t u h e = go (refusal_of t c) refl e (tracked_from (xs ++ c ∷ []) cs (after_call t c) u)
+tracked_from xs (c ∷ cs) t u h e = go (call_fault t c) refl e (tracked_from (xs ++ c ∷ []) cs (after_call t c) u)
   where
-    go : (o : Option TrackFault) → refusal_of t c ≡ o → unless_refused o (left_by (after_call t c) cs) ≡ Some u → (Tracked (xs ++ c ∷ []) (after_call t c) → left_by (after_call t c) cs ≡ Some u → Tracked ((xs ++ c ∷ []) ++ cs) u) → Tracked (xs ++ c ∷ cs) u
+    go : (o : Option TrackFault) → call_fault t c ≡ o → unless_refused o (left_by (after_call t c) cs) ≡ Some u → (Tracked (xs ++ c ∷ []) (after_call t c) → left_by (after_call t c) cs ≡ Some u → Tracked ((xs ++ c ∷ []) ++ cs) u) → Tracked (xs ++ c ∷ cs) u
     go None k l rec = subst (λ ys. Tracked ys u) (append_assoc xs (c ∷ []) cs) (rec (one_more xs t c h k) l)
     go (Some f) k l rec = cc
 
@@ -47,9 +47,9 @@ tracked first calls t e = tracked_from [] calls (table_from first) t (none_track
 -- the first of the calls were accepted, and so were the others after them
 pub cut_at : (xs ys : List Call) (t u : Table) → left_by t (xs ++ ys) ≡ Some u → (v : Table) × (left_by t xs ≡ Some v) × (left_by v ys ≡ Some u)
 cut_at [] ys t u e = (t, refl, e)
-cut_at (c ∷ xs) ys t u e = go (refusal_of t c) refl e (cut_at xs ys (after_call t c) u)
+cut_at (c ∷ xs) ys t u e = go (call_fault t c) refl e (cut_at xs ys (after_call t c) u)
   where
-    go : (o : Option TrackFault) → refusal_of t c ≡ o → unless_refused o (left_by (after_call t c) (xs ++ ys)) ≡ Some u
+    go : (o : Option TrackFault) → call_fault t c ≡ o → unless_refused o (left_by (after_call t c) (xs ++ ys)) ≡ Some u
         → (left_by (after_call t c) (xs ++ ys) ≡ Some u → (v : Table) × (left_by (after_call t c) xs ≡ Some v) × (left_by v ys ≡ Some u)) → (v : Table) × (left_by t (c ∷ xs) ≡ Some v) × (left_by v ys ≡ Some u)
     go None k l rec = let w = rec l in (w.0, rw k w.1, w.2)
     go (Some f) k l rec = cc
@@ -70,7 +70,7 @@ first_stays t (Finish a r) = go (find_attempt t a)
 
 first_left : (cs : List Call) (t u : Table) → left_by t cs ≡ Some u → u.first ≡ t.first
 first_left [] t u e = ap (λ o. (unwrap_or o t).first) (sym e)
-first_left (c ∷ cs) t u e = go (refusal_of t c) e (first_left cs (after_call t c) u)
+first_left (c ∷ cs) t u e = go (call_fault t c) e (first_left cs (after_call t c) u)
   where
     go : (o : Option TrackFault) → unless_refused o (left_by (after_call t c) cs) ≡ Some u
         → (left_by (after_call t c) cs ≡ Some u → u.first ≡ (after_call t c).first) → u.first ≡ t.first
@@ -91,7 +91,7 @@ record AtStart (first : ℕ) (before : List Call) (id case : Utf8) (number : ℕ
 at_start : (first : ℕ) (calls : List Call) (t : Table) → table_after first calls ≡ Some t → (before : List Call) (id case : Utf8) (number : ℕ) (after : List Call) → calls ≡ before ++ Start id case number ∷ after → AtStart first before id case number
 at_start first calls t e before id case number after cut =
     let parts = cut_at before (Start id case number ∷ after) (table_from first) t (ap (table_after first) (sym cut) ∙ e) in
-    record { table = parts.0; counts = first_is first before parts.0 parts.1; so_far = tracked first before parts.0 parts.1; fits = start_fits parts.0 id case number (none (refusal_of parts.0 (Start id case number)) (left_by (after_call parts.0 (Start id case number)) after) parts.2) }
+    record { table = parts.0; counts = first_is first before parts.0 parts.1; so_far = tracked first before parts.0 parts.1; fits = start_fits parts.0 id case number (none (call_fault parts.0 (Start id case number)) (left_by (after_call parts.0 (Start id case number)) after) parts.2) }
   where
     none : (o : Option TrackFault) (l : Option Table) → unless_refused o l ≡ Some t → o ≡ None
     none None l k = refl

@@ -11,7 +11,7 @@ use Rattle.cm_attempt.specs.Table.{Utf8, AttemptRow, Table, table_from, has_text
 use Rattle.cm_attempt.specs.declared.rows.Cursor.{Cursor}
 use Rattle.cm_attempt.specs.declared.status.Status.{Status}
 use Rattle.cm_attempt.specs.declared.rows.Last.{Last}
-use Rattle.cm_attempt.specs.Calls.{Call, AddCase, Start, StartStep, FinishStep, Finish, refusal_of, after_call, left_by, table_after, DeclaredCase, StartedAttempt, as_case, as_start, cases, starts, declared, start_of, starts_of, steps_of_attempt, Move, Started, StepStarted, StepFinished, Ended, move_of, moves, through, whole, ends_of, is_retried}
+use Rattle.cm_attempt.specs.Calls.{Call, AddCase, Start, StartStep, FinishStep, Finish, call_fault, after_call, left_by, table_after, DeclaredCase, StartedAttempt, as_case, as_start, cases, starts, declared, start_of, starts_of, steps_of_attempt, Move, Started, StepStarted, StepFinished, Ended, move_of, moves, through, whole, ends_of, is_retried}
 use Rattle.cm_attempt.specs.CallLaws.{IsFront, ComeInOrder}
 use Rattle.cm_attempt.proofs.Growing.{bytes_same, by_id, or_false, at_end, kept_cut}
 use Rattle.cm_attempt.proofs.Standing.{cursor_at, Stands, between, inside, over, rest_of, left_is}
@@ -236,7 +236,7 @@ end_accepted first xs a r cs t h order =
     let fine = may_end_next b.its_case.steps (moves a xs) (ends_of a xs) g.row.cursor g.zs b.stands g.next in
     ap (finish_fault_at t) g.found ∙ ap (end_fault_of g.row.cursor) (steps_are xs t a g.row b) ∙ fine
 
-next_accepted : (first : ℕ) (xs : List Call) (c : Call) (cs : List Call) (t : Table) → t.first ≡ first → Tracked xs t → ComeInOrder first (xs ++ c ∷ cs) → refusal_of t c ≡ None
+next_accepted : (first : ℕ) (xs : List Call) (c : Call) (cs : List Call) (t : Table) → t.first ≡ first → Tracked xs t → ComeInOrder first (xs ++ c ∷ cs) → call_fault t c ≡ None
 next_accepted first xs (AddCase id steps) cs t counts h order = case_accepted first xs id steps cs t h order
 next_accepted first xs (Start id case number) cs t counts h order = start_accepted first xs id case number cs t counts h order
 next_accepted first xs (StartStep a step) cs t counts h order = start_step_accepted first xs a step cs t h order

@@ -10,7 +10,7 @@ use Rattle.cm_attempt.specs.declared.rows.Cursor.{Cursor}
 use Rattle.cm_attempt.specs.declared.rows.Last.{Last}
 use Rattle.cm_attempt.specs.declared.fault.TrackFault.{TrackFault}
 use Rattle.cm_attempt.specs.declared.fault.TrackFault.TheVariants as fault
-use Rattle.cm_attempt.specs.Calls.{Call, AddCase, Start, StartStep, FinishStep, Finish, refusal_of, StartedAttempt, declared, start_of, starts_of, steps_of_attempt, Move, StepStarted, StepFinished, Ended, moves, whole, ends_of, is_ended, is_retried}
+use Rattle.cm_attempt.specs.Calls.{Call, AddCase, Start, StartStep, FinishStep, Finish, call_fault, StartedAttempt, declared, start_of, starts_of, steps_of_attempt, Move, StepStarted, StepFinished, Ended, moves, whole, ends_of, is_ended, is_retried}
 use Rattle.cm_attempt.specs.CallFaults.{same_move, is_next_move, step_fault, fault_of, RefusedForFault}
 use Rattle.cm_attempt.proofs.Growing.{at_end}
 use Rattle.cm_attempt.proofs.Standing.{Stands, between, inside, over, rest_of, left_is, some_left, open_is}
@@ -46,7 +46,7 @@ has_attempt : (calls : List Call) (t : Table) (a : Utf8) → AttemptIs calls t a
 has_attempt calls t a (unstarted n u) = rw (n, u.start) refl
 has_attempt calls t a (begun row f b) = rw (f, b.is_start) refl
 
-start_refused : (first : ℕ) (calls : List Call) (t : Table) → t.first ≡ first → Tracked calls t → (id case : Utf8) (number : ℕ) → CaseIs calls t case → refusal_of t (Start id case number) ≡ fault_of first calls (Start id case number)
+start_refused : (first : ℕ) (calls : List Call) (t : Table) → t.first ≡ first → Tracked calls t → (id case : Utf8) (number : ℕ) → CaseIs calls t case → call_fault t (Start id case number) ≡ fault_of first calls (Start id case number)
 start_refused first calls t counts h id case number (undeclared n u) = rw (n, u.no_case) refl
 start_refused first calls t counts h id case number (known row f k) =
     ap (start_fault_at t id number) f
@@ -103,7 +103,7 @@ not_twice : (b : Bool) → not (not b) ≡ b
 not_twice true = refl
 not_twice false = refl
 
-end_refused : (first : ℕ) (calls : List Call) (t : Table) → Tracked calls t → (a : Utf8) (r : Bool) → AttemptIs calls t a → refusal_of t (Finish a r) ≡ fault_of first calls (Finish a r)
+end_refused : (first : ℕ) (calls : List Call) (t : Table) → Tracked calls t → (a : Utf8) (r : Bool) → AttemptIs calls t a → call_fault t (Finish a r) ≡ fault_of first calls (Finish a r)
 end_refused first calls t h a r (unstarted n u) = rw (n, u.start) refl
 end_refused first calls t h a r (begun row f b) =
     let steps = its_steps calls t h a row b in
@@ -117,7 +117,7 @@ end_refused first calls t h a r (begun row f b) =
 pub refused_for_fault : RefusedForFault
 refused_for_fault first calls t e c = go c (tracked first calls t e)
   where
-    go : (c : Call) → Tracked calls t → refusal_of t c ≡ fault_of first calls c
+    go : (c : Call) → Tracked calls t → call_fault t c ≡ fault_of first calls c
     go (AddCase id steps) h = ap (λ b. if b || has_repeat steps then Some fault.DuplicateId else None) (has_case calls t id (h.of_cases id))
     go (Start id case number) h = start_refused first calls t (first_is first calls t e) h id case number (h.of_cases case)
     go (StartStep a step) h = step_refused calls t h a step (StepStarted step) (may_start step) (λ steps ms rs o st. start_is steps ms rs o step st) (h.of_attempts a)

@@ -4,7 +4,7 @@ use Rattle.std.specs.List.{list_all}
 use Rattle.std.specs.Option.{option_map_or}
 use Rattle.std.specs.Str.{bytes_eq}
 use Rattle.cm_attempt.specs.Table.{Utf8, Table, has_text, has_repeat}
-use Rattle.cm_attempt.specs.Calls.{Call, AddCase, Start, StartStep, FinishStep, Finish, refusal_of, table_after, declared, start_of, starts_of, steps_of_attempt, Move, Started, StepStarted, StepFinished, Ended, moves, whole, is_ended, is_retried}
+use Rattle.cm_attempt.specs.Calls.{Call, AddCase, Start, StartStep, FinishStep, Finish, call_fault, table_after, declared, start_of, starts_of, steps_of_attempt, Move, Started, StepStarted, StepFinished, Ended, moves, whole, is_ended, is_retried}
 use Rattle.cm_attempt.specs.declared.fault.TrackFault.{TrackFault}
 use Rattle.cm_attempt.specs.declared.fault.TrackFault.TheVariants.{UnknownCase, UnknownAttempt, UnknownStep, DuplicateId, AttemptNumber, AttemptOverlap, StepOrder, FinishedEarly}
 
@@ -48,4 +48,4 @@ fault_of first calls (Finish a will_be_retried) =
 -- after accepted calls a call is refused for its first fault
 abbrev pub RefusedForFault : Type 0
 RefusedForFault = (first : ℕ) (calls : List Call) (t : Table) → table_after first calls ≡ Some t
-    → (c : Call) → refusal_of t c ≡ fault_of first calls c
+    → (c : Call) → call_fault t c ≡ fault_of first calls c

@@ -19,12 +19,12 @@ pub data Call : Type 0 where
   Finish : (attempt : Utf8) → (will_be_retried : Bool) → Call
 
 -- why a table refuses a call, the first reason in order
-abbrev pub refusal_of : Table → Call → Option TrackFault
-refusal_of t (AddCase id steps) = add_case_fault t id steps
-refusal_of t (Start id case number) = start_fault t id case number
-refusal_of t (StartStep attempt step) = step_start_fault t attempt step
-refusal_of t (FinishStep attempt step status) = step_finish_fault t attempt step
-refusal_of t (Finish attempt will_be_retried) = finish_fault t attempt
+abbrev pub call_fault : Table → Call → Option TrackFault
+call_fault t (AddCase id steps) = add_case_fault t id steps
+call_fault t (Start id case number) = start_fault t id case number
+call_fault t (StartStep attempt step) = step_start_fault t attempt step
+call_fault t (FinishStep attempt step status) = step_finish_fault t attempt step
+call_fault t (Finish attempt will_be_retried) = finish_fault t attempt
 
 -- the table after a call that isn't refused
 abbrev pub after_call : Table → Call → Table
@@ -41,7 +41,7 @@ unless_refused (Some fault) left = None
 -- the table that the calls make of a table, and none where one of them is refused
 abbrev pub left_by : Table → List Call → Option Table
 left_by t [] = Some t
-left_by t (c ∷ calls) = unless_refused (refusal_of t c) (left_by (after_call t c) calls)
+left_by t (c ∷ calls) = unless_refused (call_fault t c) (left_by (after_call t c) calls)
 
 -- the table after the calls of a run whose attempts are counted from a number, and none where one of them is refused
 abbrev pub table_after : ℕ → List Call → Option Table

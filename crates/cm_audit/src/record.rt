@@ -1,7 +1,7 @@
 //! The record of attempts, and what each envelope changes in it.
 ghost use Rattle.std.specs.Prelude.{◌≡◌, ◌⊎◌, IsErrAnd, IsOkUnless, MatchOption, OnErr, OnOk, map};
 ghost use Rattle.cm_attempt.specs.Table.{add_case_fault, with_case};
-ghost use Rattle.cm_stream.specs.Refusals.{refused};
+ghost use Rattle.cm_stream.specs.CallFaults.{call_fault_of_envelope};
 ghost use Rattle.cm_stream.specs.Record.{changed};
 ghost use Rattle.cm_stream.specs.Statuses.{kept_status as kept};
 ghost use Rattle.cm_audit.specs.Record.{AnswersRefusal};
@@ -61,7 +61,7 @@ pub(crate) fn start_attempt(
     started: &TestCaseStarted,
 ) -> Result<(), TrackFault>
     ensures answer { AnswersRefusal (Envelope.TestCaseStarted started.now)
-        (refused attempts.old (Envelope.TestCaseStarted started.now)) result }
+        (call_fault_of_envelope attempts.old (Envelope.TestCaseStarted started.now)) result }
     ensures ok { OnOk result (attempts.new
         ≡ changed attempts.old (Envelope.TestCaseStarted started.now)) }
     ensures err { OnErr result (attempts.new ≡ attempts.old) }
@@ -76,7 +76,7 @@ pub(crate) fn start_attempt(
 /// Those of `Track::step_started`.
 pub(crate) fn start_step(attempts: &mut Track, started: &TestStepStarted) -> Result<(), TrackFault>
     ensures answer { AnswersRefusal (Envelope.TestStepStarted started.now)
-        (refused attempts.old (Envelope.TestStepStarted started.now)) result }
+        (call_fault_of_envelope attempts.old (Envelope.TestStepStarted started.now)) result }
     ensures ok { OnOk result (attempts.new
         ≡ changed attempts.old (Envelope.TestStepStarted started.now)) }
     ensures err { OnErr result (attempts.new ≡ attempts.old) }
@@ -94,7 +94,7 @@ pub(crate) fn finish_step(
     finished: &TestStepFinished,
 ) -> Result<(), TrackFault>
     ensures answer { AnswersRefusal (Envelope.TestStepFinished finished.now)
-        (refused attempts.old (Envelope.TestStepFinished finished.now)) result }
+        (call_fault_of_envelope attempts.old (Envelope.TestStepFinished finished.now)) result }
     ensures ok { OnOk result (attempts.new
         ≡ changed attempts.old (Envelope.TestStepFinished finished.now)) }
     ensures err { OnErr result (attempts.new ≡ attempts.old) }
@@ -114,7 +114,7 @@ pub(crate) fn finish_attempt(
     finished: &TestCaseFinished,
 ) -> Result<(), TrackFault>
     ensures answer { AnswersRefusal (Envelope.TestCaseFinished finished.now)
-        (refused attempts.old (Envelope.TestCaseFinished finished.now)) result }
+        (call_fault_of_envelope attempts.old (Envelope.TestCaseFinished finished.now)) result }
     ensures ok { OnOk result (attempts.new
         ≡ changed attempts.old (Envelope.TestCaseFinished finished.now)) }
     ensures err { OnErr result (attempts.new ≡ attempts.old) }
@@ -129,7 +129,7 @@ pub(crate) fn finish_attempt(
 /// # Errors
 /// Why the record refuses it, or `Memory`. The record is then as it was.
 pub fn track(alloc: Global, attempts: &mut Track, envelope: Envelope) -> Result<(), TrackFault>
-    ensures answer { AnswersRefusal envelope (refused attempts.old envelope) result }
+    ensures answer { AnswersRefusal envelope (call_fault_of_envelope attempts.old envelope) result }
     ensures ok { OnOk result (attempts.new ≡ changed attempts.old envelope) }
     ensures err { OnErr result (attempts.new ≡ attempts.old) }
 {

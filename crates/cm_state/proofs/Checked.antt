@@ -5,7 +5,7 @@ use Rattle.cm_attempt.specs.declared.policy.Policy.{Policy}
 use Rattle.cm_stream.specs.References.{Name, SourceOf, DocumentOf, Definition, HookNamed, RunHook, times_declared, is_judged, has_run_started, has_run_finished}
 use Rattle.cm_stream.specs.Checks.{Check, ◌if◌, first_failed, refers_to_unknown, has_steps_of_pickle, same_flag}
 use Rattle.cm_stream.specs.ByOnePass.{checks_of, success_check}
-use Rattle.cm_stream.specs.Refusals.{own_checks}
+use Rattle.cm_stream.specs.CallFaults.{own_checks}
 use Rattle.cm_stream.specs.Findings as bad
 use Rattle.cm_stream.specs.Findings.{IsBad}
 use Rattle.cm_refs.specs.Declarations.{find_run_hook}

@@ -16,7 +16,7 @@ use Rattle.cm_stream.specs.Sources.{plain, is_due}
 use Rattle.cm_stream.specs.References.{is_judged, pickle_step_ids}
 use Rattle.cm_stream.specs.Good.{is_unknown}
 use Rattle.cm_stream.specs.Checks.{Check, ◌if◌, ◌unsupported_if◌, first_failed, is_too_long, is_other_language, same_flag}
-use Rattle.cm_stream.specs.Refusals.{refusal_finding, refused}
+use Rattle.cm_stream.specs.CallFaults.{call_fault_finding, call_fault_of_envelope}
 use Rattle.cm_envelope.specs.declared.envelope.Envelope.{Envelope}
 use Rattle.cm_envelope.specs.declared.envelope.Envelope.TheVariants as envelope
 use Rattle.cm_envelope.specs.declared.envelope.TestCase.{TestCase}
@@ -178,7 +178,7 @@ or_else (Some f) later = Some f
 abbrev pub plain_finding : Summary → Envelope → Option Finding
 plain_finding s e =
     or_else (first_failed (checks_before s e))
-    (or_else (option_and_then refusal_finding (refused s.table e)) (first_failed (checks_after e)))
+    (or_else (option_and_then call_fault_finding (call_fault_of_envelope s.table e)) (first_failed (checks_after e)))
 
 -- the finding of a line of which no check comes after the end of the run
 abbrev pub finding_inside : Policy → Summary → Envelope → Option Finding

@@ -9,14 +9,14 @@ use Rattle.cm_stream.specs.Readings.{Reading, ReadsByTheGrammar, ByTheGrammar}
 use Rattle.cm_stream.specs.OnePass.{reads}
 use Rattle.cm_stream.specs.FaultlessLines.{NoneIsRefused, NoneIsRefusedBy, TablesAgree, TablesAgreeBy}
 use Rattle.cm_stream.specs.Laws.{GoodHaveNoFault, GoodHaveNoFaultBy, FaultlessAreGood, FaultlessAreGoodBy}
-use Rattle.cm_stream.specs.Refusals.{RefusalsAreBy, RefusalsAreTold}
+use Rattle.cm_stream.specs.CallFaults.{CallFaultsAreBy, CallFaultsAreTold}
 use Rattle.cm_stream.specs.Stream.{FirstFault, NoFault, Troubled, IsFirstFault, IsFirstFaultOf, first_fault_of_by, answer_for}
 use Rattle.cm_stream.specs.StreamLaws.{OneFirstFault, NoFaultIsGood, GoodIsNoFault, NoneBeginsSo, FoundIsNotGood, AnswersAreRight}
 use Rattle.cm_stream.specs.ByOnePass.{first_fault, first_fault_of}
 use Rattle.cm_stream.proofs.OnePass.{is_read, reads_it}
 use Rattle.cm_stream.proofs.NoFault.{good_have_no_fault}
 use Rattle.cm_stream.proofs.FaultlessGood.{faultless_are_good}
-use Rattle.cm_stream.proofs.TableSteps.{none_is_refused, refusals_are_told}
+use Rattle.cm_stream.proofs.TableSteps.{none_is_refused, call_faults_are_told}
 use Rattle.cm_stream.proofs.TableWords.{lines_agree}
 use Rattle.cm_stream.proofs.Streams.{good_only, good_is_told, none_is_good, not_good, answers_are_right}
 
@@ -60,8 +60,8 @@ none_is_refused_law = by_the_grammar NoneIsRefusedBy none_is_refused
 pub tables_agree_law : TablesAgree
 tables_agree_law = by_the_grammar TablesAgreeBy lines_agree
 
-pub refusals_are_told_law : RefusalsAreTold
-refusals_are_told_law = by_the_grammar (λ read. (e : Envelope) → RefusalsAreBy read e) refusals_are_told
+pub call_faults_are_told_law : CallFaultsAreTold
+call_faults_are_told_law = by_the_grammar (λ read. (e : Envelope) → CallFaultsAreBy read e) call_faults_are_told
 
 pub no_fault_is_good : NoFaultIsGood
 no_fault_is_good settings bytes es h = good_only settings bytes es (reported settings bytes (NoFault es) h)

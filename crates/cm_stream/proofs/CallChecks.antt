@@ -11,7 +11,7 @@ use Rattle.cm_attempt.specs.Calls.{table_after}
 use Rattle.cm_attempt.specs.CallFaults as calls
 use Rattle.cm_attempt.specs.CallFaults.{fault_of, step_fault}
 use Rattle.cm_attempt.specs.declared.fault.TrackFault.{TrackFault}
-use Rattle.cm_attempt.specs.declared.fault.TrackFault.TheVariants as refusal
+use Rattle.cm_attempt.specs.declared.fault.TrackFault.TheVariants as track
 use Rattle.cm_stream.specs.Texts.{Utf8}
 use Rattle.cm_stream.specs.Findings as bad
 use Rattle.cm_stream.specs.Findings.{Finding}
@@ -20,7 +20,7 @@ use Rattle.cm_attempt.specs.Calls.{Move, StepStarted, StepFinished, Ended, whole
 use Rattle.cm_stream.specs.Good.{has_same_names, is_unknown}
 use Rattle.cm_stream.specs.Checks.{◌if◌, ◌unsupported_if◌, has_steps_of_pickle, first_failed, refers_to_unknown, declares_again, is_next_move, steps_of_attempt, checks_of_by}
 use Rattle.cm_attempt.specs.CallFaults.{same_move}
-use Rattle.cm_stream.specs.Refusals.{refusal_finding, own_checks, OwnAreChecks}
+use Rattle.cm_stream.specs.CallFaults.{call_fault_finding, own_checks, OwnAreChecks}
 use Rattle.cm_stream.specs.declared.verdict.Reason.TheVariants as reason
 use Rattle.cm_stream.proofs.Lists.{or_no}
 use Rattle.cm_stream.proofs.Found.{bytes_same, eq_back}
@@ -40,28 +40,28 @@ use Rattle.cm_stream.proofs.CallWords.{start_told as start_in_calls, start_of_to
 use Rattle.cm_attempt.proofs.Accepted.{ids_distinct}
 
 abbrev told : TrackFault → Option Finding
-told f = refusal_finding f
+told f = call_fault_finding f
 
 -- ---- the faults of a call in turn, by what is wrong with it
 
 abbrev pub case_fault : (again : Bool) → Option TrackFault
-case_fault again = if again then Some refusal.DuplicateId else None
+case_fault again = if again then Some track.DuplicateId else None
 
 abbrev pub start_fault : (unknown again misnumbered overlaps : Bool) → Option TrackFault
 start_fault unknown again misnumbered overlaps =
-    if unknown then Some refusal.UnknownCase
-    else (if again then Some refusal.DuplicateId
-    else (if misnumbered then Some refusal.AttemptNumber else (if overlaps then Some refusal.AttemptOverlap else None)))
+    if unknown then Some track.UnknownCase
+    else (if again then Some track.DuplicateId
+    else (if misnumbered then Some track.AttemptNumber else (if overlaps then Some track.AttemptOverlap else None)))
 
 abbrev pub move_fault : (unknown no_step is_next : Bool) → Option TrackFault
 move_fault unknown no_step is_next =
-    if unknown then Some refusal.UnknownAttempt
-    else (if no_step then Some refusal.UnknownStep else (if is_next then None else Some refusal.StepOrder))
+    if unknown then Some track.UnknownAttempt
+    else (if no_step then Some track.UnknownStep else (if is_next then None else Some track.StepOrder))
 
 abbrev pub end_fault : (unknown ended is_next : Bool) → Option TrackFault
 end_fault unknown ended is_next =
-    if unknown then Some refusal.UnknownAttempt
-    else (if ended then Some refusal.StepOrder else (if is_next then None else Some refusal.FinishedEarly))
+    if unknown then Some track.UnknownAttempt
+    else (if ended then Some track.StepOrder else (if is_next then None else Some track.FinishedEarly))
 
 -- ---- the words of both sides
 

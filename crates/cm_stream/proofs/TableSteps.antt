@@ -8,10 +8,10 @@ use Rattle.cm_attempt.specs.Calls.{table_after}
 use Rattle.cm_attempt.specs.declared.settings.Settings.{Settings}
 use Rattle.cm_stream.specs.Calls.{calls_of}
 use Rattle.cm_stream.specs.Checks.{first_failed}
-use Rattle.cm_stream.specs.Refusals.{refusal_finding, refused, own_checks}
+use Rattle.cm_stream.specs.CallFaults.{call_fault_finding, call_fault_of_envelope, own_checks}
 use Rattle.cm_stream.specs.Record.{table_of, changed}
 use Rattle.cm_stream.specs.FaultlessLines.{TableSteps, NoneIsRefusedBy}
-use Rattle.cm_stream.specs.ByOnePass.{checks_of, IsFaultless, RefusalsAre}
+use Rattle.cm_stream.specs.ByOnePass.{checks_of, IsFaultless, CallFaultsAre}
 use Rattle.cm_stream.specs.OnePass.{reads}
 use Rattle.cm_envelope.specs.declared.envelope.Envelope.{Envelope}
 use Rattle.cm_stream.proofs.Passing.{Passes, plain_pass, front_of, back_of, none_failed}
@@ -56,8 +56,8 @@ none_is_refused settings es none = go [] es none refl
 
 -- ---- what is refused
 
-pub own_refused : (first : ℕ) (es : List Envelope) (e : Envelope) → AreAccepted first es → option_and_then refusal_finding (refused (table_of first es) e) ≡ first_failed (own_checks first es e)
+pub own_refused : (first : ℕ) (es : List Envelope) (e : Envelope) → AreAccepted first es → option_and_then call_fault_finding (call_fault_of_envelope (table_of first es) e) ≡ first_failed (own_checks first es e)
 own_refused first es e accepted = refused_for_faults first es (table_of first es) accepted e ∙ faults_are_checks first es (table_of first es) accepted e
 
-pub refusals_are_told : (e : Envelope) → RefusalsAre e
-refusals_are_told e settings es none = own_refused settings.first_attempt es e (none_is_refused settings es none)
+pub call_faults_are_told : (e : Envelope) → CallFaultsAre e
+call_faults_are_told e settings es none = own_refused settings.first_attempt es e (none_is_refused settings es none)

@@ -7,7 +7,7 @@ use Rattle.std.proofs.lemmas.List.Elements.{filter_map-append}
 use Rattle.cm_attempt.specs.Table.{Utf8, Table, table_from, has_text, has_repeat, reported_of}
 use Rattle.cm_attempt.specs.Calls as call
 use Rattle.cm_attempt.specs.Calls.{DeclaredCase, cases, result_of}
-use Rattle.cm_attempt.specs.Calls.{Call, AddCase, Start, StartStep, FinishStep, Finish, Move, refusal_of, after_call, unless_refused, left_by, table_after}
+use Rattle.cm_attempt.specs.Calls.{Call, AddCase, Start, StartStep, FinishStep, Finish, Move, call_fault, after_call, unless_refused, left_by, table_after}
 use Rattle.cm_attempt.specs.CallFaults as calls
 use Rattle.cm_attempt.specs.CallFaults.{fault_of, step_fault}
 use Rattle.cm_attempt.specs.declared.fault.TrackFault.{TrackFault}
@@ -15,7 +15,7 @@ use Rattle.cm_attempt.proofs.Refused.{refused_for_fault}
 use Rattle.cm_attempt.proofs.Accepted.{come_in_order, has_cases, reports, cut_at}
 use Rattle.cm_attempt.proofs.Converse.{are_accepted}
 use Rattle.cm_stream.specs.Findings.{Finding}
-use Rattle.cm_stream.specs.Refusals.{refusal_finding, refused}
+use Rattle.cm_stream.specs.CallFaults.{call_fault_finding, call_fault_of_envelope}
 use Rattle.cm_stream.specs.Record.{changed}
 use Rattle.cm_envelope.specs.declared.envelope.Envelope.{Envelope}
 use Rattle.cm_stream.specs.Results.{AreWellOrdered, results_of, results_fault, TablesHaveResults, RefusedForFaults, TablesChange, WellOrderedAreAccepted, FrontsAreWellOrdered, FaultsAreExact}
@@ -24,7 +24,7 @@ use Rattle.cm_stream.proofs.Lists.{map_twice, map_same}
 use Rattle.cm_stream.proofs.CallChecks.{case_fault, start_fault, move_fault, end_fault}
 
 abbrev told : TrackFault → Option Finding
-told f = refusal_finding f
+told f = call_fault_finding f
 
 -- ---- want of memory is none of the refusals
 
@@ -61,20 +61,20 @@ fault_told first cs (StartStep a step) h = step_told cs a step (call.StepStarted
 fault_told first cs (FinishStep a step status) h = step_told cs a step (call.StepFinished step) h
 fault_told first cs (Finish a r) h = end_told_none (not (is_some (call.start_of a cs))) (call.is_ended a cs) (calls.is_next_move call.Ended a cs) h
 
-refusal_told : (first : ℕ) (cs : List Call) (t : Table) → table_after first cs ≡ Some t → (c : Call) → option_and_then told (refusal_of t c) ≡ None → refusal_of t c ≡ None
+refusal_told : (first : ℕ) (cs : List Call) (t : Table) → table_after first cs ≡ Some t → (c : Call) → option_and_then told (call_fault t c) ≡ None → call_fault t c ≡ None
 refusal_told first cs t taken c h = let same = refused_for_fault first cs t taken c in same ∙ fault_told first cs c (ap (option_and_then told) (sym same) ∙ h)
 
-not_refused : (first : ℕ) (es : List Envelope) (t : Table) → table_after first (calls_of es) ≡ Some t → (e : Envelope) → option_and_then told (refused t e) ≡ None → refused t e ≡ None
+not_refused : (first : ℕ) (es : List Envelope) (t : Table) → table_after first (calls_of es) ≡ Some t → (e : Envelope) → option_and_then told (call_fault_of_envelope t e) ≡ None → call_fault_of_envelope t e ≡ None
 not_refused first es t taken e h = go (call_of e) h
   where
-    go : (o : Option Call) → option_and_then told (option_and_then (refusal_of t) o) ≡ None → option_and_then (refusal_of t) o ≡ None
+    go : (o : Option Call) → option_and_then told (option_and_then (call_fault t) o) ≡ None → option_and_then (call_fault t) o ≡ None
     go None k = refl
     go (Some c) k = refusal_told first (calls_of es) t taken c k
 
 pub refused_for_faults : RefusedForFaults
 refused_for_faults first es t taken e = go (call_of e)
   where
-    go : (o : Option Call) → option_and_then told (option_and_then (refusal_of t) o) ≡ option_and_then told (option_and_then (fault_of first (calls_of es)) o)
+    go : (o : Option Call) → option_and_then told (option_and_then (call_fault t) o) ≡ option_and_then told (option_and_then (fault_of first (calls_of es)) o)
     go None = refl
     go (Some c) = ap (option_and_then told) (refused_for_fault first (calls_of es) t taken c)
 
@@ -82,22 +82,22 @@ refused_for_faults first es t taken e = go (call_of e)
 
 left_both : (xs ys : List Call) (t u : Table) → left_by t xs ≡ Some u → left_by t (xs ++ ys) ≡ left_by u ys
 left_both [] ys t u e = ap (λ o. left_by (unwrap_or o t) ys) e
-left_both (c ∷ xs) ys t u e = go (refusal_of t c) refl e (left_both xs ys (after_call t c) u)
+left_both (c ∷ xs) ys t u e = go (call_fault t c) refl e (left_both xs ys (after_call t c) u)
   where
-    go : (o : Option TrackFault) → refusal_of t c ≡ o → unless_refused o (left_by (after_call t c) xs) ≡ Some u → (left_by (after_call t c) xs ≡ Some u → left_by (after_call t c) (xs ++ ys) ≡ left_by u ys) → left_by t (c ∷ xs ++ ys) ≡ left_by u ys
+    go : (o : Option TrackFault) → call_fault t c ≡ o → unless_refused o (left_by (after_call t c) xs) ≡ Some u → (left_by (after_call t c) xs ≡ Some u → left_by (after_call t c) (xs ++ ys) ≡ left_by u ys) → left_by t (c ∷ xs ++ ys) ≡ left_by u ys
     go None k l rec = rw k (rec l)
     go (Some f) k l rec = cc
 
-left_one : (first : ℕ) (es : List Envelope) (t : Table) → table_after first (calls_of es) ≡ Some t → (e : Envelope) → table_after first (calls_of (es ++ e ∷ [])) ≡ unless_refused (refused t e) (Some (changed t e))
+left_one : (first : ℕ) (es : List Envelope) (t : Table) → table_after first (calls_of es) ≡ Some t → (e : Envelope) → table_after first (calls_of (es ++ e ∷ [])) ≡ unless_refused (call_fault_of_envelope t e) (Some (changed t e))
 left_one first es t taken e = ap (table_after first) (filter_map-append call_of es (e ∷ [])) ∙ left_both (calls_of es) (calls_of (e ∷ [])) (table_from first) t taken ∙ go (call_of e)
   where
-    go : (o : Option Call) → left_by t (cons_option o []) ≡ unless_refused (option_and_then (refusal_of t) o) (Some (option_map_or (after_call t) o t))
+    go : (o : Option Call) → left_by t (cons_option o []) ≡ unless_refused (option_and_then (call_fault t) o) (Some (option_map_or (after_call t) o t))
     go None = refl
     go (Some c) = refl
 
 pub tables_change : TablesChange
 tables_change first es t taken e none =
-    let fine : refused t e ≡ None = not_refused first es t taken e (refused_for_faults first es t taken e ∙ none) in
+    let fine : call_fault_of_envelope t e ≡ None = not_refused first es t taken e (refused_for_faults first es t taken e ∙ none) in
     left_one first es t taken e ∙ ap (λ o. unless_refused o (Some (changed t e))) fine
 
 -- ---- the results
@@ -138,6 +138,6 @@ faults_are_exact first es well e = go (table_after first (calls_of es)) refl (we
     go (Some t) taken k = (
       λ none. (tables_have_results first (es ++ e ∷ []) (changed t e) (tables_change first es t taken e none)).0,
       λ more.
-          let all : is_some (unless_refused (refused t e) (Some (changed t e))) ≡ true = ap is_some (sym (left_one first es t taken e)) ∙ well_ordered_are_accepted first (es ++ e ∷ []) more in
-          sym (refused_for_faults first es t taken e) ∙ ap (option_and_then told) (accepted_one (refused t e) (Some (changed t e)) all),
+          let all : is_some (unless_refused (call_fault_of_envelope t e) (Some (changed t e))) ≡ true = ap is_some (sym (left_one first es t taken e)) ∙ well_ordered_are_accepted first (es ++ e ∷ []) more in
+          sym (refused_for_faults first es t taken e) ∙ ap (option_and_then told) (accepted_one (call_fault_of_envelope t e) (Some (changed t e)) all),
     )

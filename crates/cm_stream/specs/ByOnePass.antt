@@ -17,7 +17,7 @@ use Rattle.cm_stream.specs.Findings.{Finding}
 use Rattle.cm_stream.specs.Checks.{Check, is_uri_accepted_by, next_pickle_by, is_next_pickle_by, is_incomplete_by, checks_of_by, success_check_by, plain_checks_by, checks_by, fault_by}
 use Rattle.cm_stream.specs.FaultlessLines.{IsFaultlessBy}
 use Rattle.cm_stream.specs.Laws.{HasNoFaultBy}
-use Rattle.cm_stream.specs.Refusals.{RefusalsAreBy}
+use Rattle.cm_stream.specs.CallFaults.{CallFaultsAreBy}
 use Rattle.cm_stream.specs.Stream.{FirstFault, fed, first_fault_line_by, first_fault_of_by}
 
 abbrev pub reading_of : Utf8 → List Envelope → Option Reading
@@ -59,8 +59,8 @@ IsFaultless = IsFaultlessBy reads
 abbrev pub HasNoFault : Settings → List Envelope → Type 0
 HasNoFault = HasNoFaultBy reads
 
-abbrev pub RefusalsAre : Envelope → Type 0
-RefusalsAre = RefusalsAreBy reads
+abbrev pub CallFaultsAre : Envelope → Type 0
+CallFaultsAre = CallFaultsAreBy reads
 
 abbrev pub first_fault_line : Settings → (before : List Envelope) → (n : ℕ)
     → Option (Result Envelope LineFault) → (List Envelope → FirstFault) → FirstFault

@@ -14,7 +14,7 @@ pub mod Record
 pub mod FaultlessLines
 pub mod Laws
 pub mod StreamLaws
-pub mod Refusals
+pub mod CallFaults
 pub mod ByOnePass
 pub mod Unsupported
 pub mod Release

@@ -14,7 +14,7 @@ use Rattle.cm_stream.specs.Texts.{Utf8}
 use Rattle.cm_stream.specs.Calls.{call_of, calls_of}
 use Rattle.cm_stream.specs.Checks.{first_failed}
 use Rattle.cm_stream.specs.Findings.{Finding, IsBad, NoEnvelope}
-use Rattle.cm_stream.specs.Refusals.{refusal_finding, refused, own_checks}
+use Rattle.cm_stream.specs.CallFaults.{call_fault_finding, call_fault_of_envelope, own_checks}
 use Rattle.cm_stream.specs.Record.{changed}
 use Rattle.cm_stream.specs.Stream.{FirstFault, At, Troubled, NoFault, at_line, shown, fed, numbered, read_line, as_read, envelopes, IsRead}
 
@@ -33,7 +33,7 @@ results_of es = map (λ c. (c.id, result_of c.id (calls_of es))) (cases (calls_o
 -- the fault of a line after these envelopes, whose attempts are well ordered: the first fault of its call
 abbrev pub results_fault : (first : ℕ) → List Envelope → Envelope → Option Finding
 results_fault first before e =
-    option_and_then refusal_finding (option_and_then (fault_of first (calls_of before)) (call_of e))
+    option_and_then call_fault_finding (option_and_then (fault_of first (calls_of before)) (call_of e))
 
 abbrev pub first_results_fault_line : (first : ℕ) → (before : List Envelope) → (n : ℕ)
     → Option (Result Envelope LineFault) → (List Envelope → FirstFault) → FirstFault
@@ -123,7 +123,7 @@ TablesHaveResults = AfterAccepted (λ first es t.
 -- an envelope is refused for its fault
 abbrev pub RefusedForFaults : Type 0
 RefusedForFaults = AfterAccepted (λ first es t.
-    (e : Envelope) → option_and_then refusal_finding (refused t e) ≡ results_fault first es e)
+    (e : Envelope) → option_and_then call_fault_finding (call_fault_of_envelope t e) ≡ results_fault first es e)
 
 -- that is the first failed of the checks that the audit leaves to the record
 abbrev pub FaultsAreChecks : Type 0

@@ -2,7 +2,7 @@
 ghost use Rattle.cm_stream.specs.Laws.{FaultlessAreGood, GoodHaveNoFault};
 ghost use Rattle.cm_stream.specs.OnePass.{EachTextIsRead};
 ghost use Rattle.cm_stream.specs.Readings.{OneReading};
-ghost use Rattle.cm_stream.specs.Refusals.{OwnAreChecks, RefusalsAreTold};
+ghost use Rattle.cm_stream.specs.CallFaults.{OwnAreChecks, CallFaultsAreTold};
 ghost use Rattle.cm_stream.specs.Release.{AnswersRelease, ReleasedCasesRan, ReleasedExactly, ReleasedIsNotHeld, ReleasedRan};
 ghost use Rattle.cm_stream.specs.Results.{FaultsAreChecks, FaultsAreExact, FaultsAreFirst, FrontsAreWellOrdered, NoFaultIsExact};
 ghost use Rattle.cm_stream.specs.Results.{RefusedForFaults, TablesChange, TablesHaveResults, TroublesAreLast, WellOrderedAreAccepted};
@@ -76,8 +76,8 @@ pub fn tables_agree()
 
 /// After lines without a fault, a call of the record of attempts refuses exactly where the line fails one of the checks
 /// that the call makes, and by that fault.
-pub fn refusals_are_told()
-    ensures refused { RefusalsAreTold }
+pub fn call_faults_are_told()
+    ensures refused { CallFaultsAreTold }
     ensures own { OwnAreChecks }
 {}
 
@@ -123,7 +123,7 @@ pub fn fronts_are_well_ordered()
 
 /// After accepted envelopes an envelope is refused exactly for the fault that it has by what those before it say, and that is
 /// the first failed of the checks which the audit leaves to the record of attempts.
-pub fn refusals_are_faults()
+pub fn calls_are_refused_for_faults()
     ensures refused { RefusedForFaults }
     ensures checks { FaultsAreChecks }
 {}

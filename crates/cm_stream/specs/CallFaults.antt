@@ -8,7 +8,7 @@ use Rattle.cm_stream.specs.References.{starts_of, is_ended, is_retried}
 use Rattle.cm_attempt.specs.Calls.{StepStarted, StepFinished, Ended}
 use Rattle.cm_stream.specs.Checks.{Check, checks_of_by, ◌if◌, first_failed, refers_to_unknown, declares_again, is_next_move}
 use Rattle.cm_attempt.specs.Table.{Table}
-use Rattle.cm_attempt.specs.Calls.{refusal_of}
+use Rattle.cm_attempt.specs.Calls.{call_fault}
 use Rattle.cm_stream.specs.Calls.{call_of}
 use Rattle.cm_stream.specs.Record.{table_of}
 use Rattle.cm_attempt.specs.declared.settings.Settings.{Settings}
@@ -18,23 +18,23 @@ use Rattle.cm_envelope.specs.declared.envelope.Envelope.TheVariants as envelope
 use Rattle.cm_stream.specs.Findings as bad
 use Rattle.cm_stream.specs.Findings.{Finding, IsBad}
 use Rattle.cm_attempt.specs.declared.fault.TrackFault.{TrackFault}
-use Rattle.cm_attempt.specs.declared.fault.TrackFault.TheVariants as refusal
+use Rattle.cm_attempt.specs.declared.fault.TrackFault.TheVariants as track
 
--- How a refusal is reported. Want of memory is no fault of the stream.
-abbrev pub refusal_finding : TrackFault → Option Finding
-refusal_finding refusal.UnknownCase = Some (IsBad bad.UnknownReference)
-refusal_finding refusal.UnknownAttempt = Some (IsBad bad.UnknownReference)
-refusal_finding refusal.UnknownStep = Some (IsBad bad.UnknownReference)
-refusal_finding refusal.DuplicateId = Some (IsBad bad.DuplicateId)
-refusal_finding refusal.AttemptNumber = Some (IsBad bad.AttemptNumber)
-refusal_finding refusal.AttemptOverlap = Some (IsBad bad.AttemptOverlap)
-refusal_finding refusal.StepOrder = Some (IsBad bad.StepOrder)
-refusal_finding refusal.FinishedEarly = Some (IsBad bad.FinishedEarly)
-refusal_finding refusal.Memory = None
+-- How a fault of a call is reported. Want of memory is no fault of the stream.
+abbrev pub call_fault_finding : TrackFault → Option Finding
+call_fault_finding track.UnknownCase = Some (IsBad bad.UnknownReference)
+call_fault_finding track.UnknownAttempt = Some (IsBad bad.UnknownReference)
+call_fault_finding track.UnknownStep = Some (IsBad bad.UnknownReference)
+call_fault_finding track.DuplicateId = Some (IsBad bad.DuplicateId)
+call_fault_finding track.AttemptNumber = Some (IsBad bad.AttemptNumber)
+call_fault_finding track.AttemptOverlap = Some (IsBad bad.AttemptOverlap)
+call_fault_finding track.StepOrder = Some (IsBad bad.StepOrder)
+call_fault_finding track.FinishedEarly = Some (IsBad bad.FinishedEarly)
+call_fault_finding track.Memory = None
 
 -- why a table refuses the call for a line
-abbrev pub refused : Table → Envelope → Option TrackFault
-refused t e = option_and_then (refusal_of t) (call_of e)
+abbrev pub call_fault_of_envelope : Table → Envelope → Option TrackFault
+call_fault_of_envelope t e = option_and_then (call_fault t) (call_of e)
 
 -- the checks of a line that its call makes, where the attempts of a case are numbered from the first number
 abbrev pub own_checks : (first : ℕ) → List Envelope → Envelope → List Check
@@ -61,14 +61,14 @@ own_checks first es (envelope.TestCaseFinished f) =
 own_checks first es _ = []
 
 -- after lines without a fault the call is refused for what the first failed of these checks reports
-abbrev pub RefusalsAreBy : (Utf8 → Reading) → Envelope → Type 0
-RefusalsAreBy read e = (settings : Settings) (es : List Envelope) → IsFaultlessBy read settings es
-    → option_and_then refusal_finding (refused (table_of settings.first_attempt es) e)
+abbrev pub CallFaultsAreBy : (Utf8 → Reading) → Envelope → Type 0
+CallFaultsAreBy read e = (settings : Settings) (es : List Envelope) → IsFaultlessBy read settings es
+    → option_and_then call_fault_finding (call_fault_of_envelope (table_of settings.first_attempt es) e)
     ≡ first_failed (own_checks settings.first_attempt es e)
 
 -- that of each line
-abbrev pub RefusalsAreTold : Type 0
-RefusalsAreTold = ByTheGrammar (λ read. (e : Envelope) → RefusalsAreBy read e)
+abbrev pub CallFaultsAreTold : Type 0
+CallFaultsAreTold = ByTheGrammar (λ read. (e : Envelope) → CallFaultsAreBy read e)
 
 -- they are checks of the line, one after another
 pub record AreAmongChecks (read : Utf8 → Reading) (first : ℕ) (es : List Envelope)
