@@ -78,8 +78,8 @@ number_of (attempts_from is_one_word number ∷ options) = Some number
 number_of (option ∷ options) = number_of options
 
 -- the settings that they ask for: none where the number is neither 0 nor 1
-abbrev pub settings_of : List Written → Option Settings
-settings_of options =
+abbrev pub settings_written : List Written → Option Settings
+settings_written options =
     option_map (λ first. record { policy = policy_of options; first_attempt = first })
     (first_attempt_named (number_of options))
 
@@ -122,7 +122,7 @@ usages =
 abbrev pub asked_with : Usage → List Written → Option Command
 asked_with usage options =
     option_map (λ settings. usage.asks settings (list_any (has_name (codes "allow-unrun")) options))
-    (settings_of options)
+    (settings_written options)
 
 -- A command's own options may come in any order, none twice. They ask for it with what they say, or
 -- for nothing where the number is neither 0 nor 1.

@@ -9,7 +9,7 @@ use Rattle.gk_grammar.specs.Tree.{Document}
 use Rattle.gk_tree.specs.declared.fault.ParseFault.{ParseFault}
 use Rattle.cm_compile.specs.Faults.{IsRefusedWith}
 use Rattle.ck_command_line.specs.CommandLine.{ask_compile, ask_parse}
-use Rattle.ck_commands.specs.Features.{IsFaultOf, IsFeatureOf, IsRefused, fault_report, is_failed_feature_read, of_text, parse_report}
+use Rattle.ck_commands.specs.Features.{IsFaultOf, IsFeatureOf, IsRefusedFeature, fault_report, is_failed_feature_read, of_text, parse_report}
 use Rattle.ck_commands.specs.Output.{DeliversOne, Report, trouble_report}
 use Rattle.ck_commands.specs.Run.{Reports, ReportsCompiled}
 use Rattle.ck_commands.specs.TextInput.{HasTextFault, IsTextOf, is_failed_text_read as text_failed}
@@ -23,7 +23,7 @@ use Rattle.ck_commands.proofs.Ran.{Reported}
 use Rattle.ck_commands.proofs.TextLemmas.{failed_fault, input_of_whole, other_fault}
 
 -- the parser's refusal of a text is that of its bytes
-pub refused_of : (text : List ℕ) (f : ParseFault) → IsUtf8 text → IsRefusedWith text f → IsRefused text f
+pub refused_of : (text : List ℕ) (f : ParseFault) → IsUtf8 text → IsRefusedWith text f → IsRefusedFeature text f
 refused_of text f utf8 (inl h) = inl (inr (utf8, h.0), h.1)
 refused_of text f utf8 (inr h) = inr (record { utf8 = utf8; short = h.0 }, h.1)
 

@@ -18,7 +18,7 @@ use Rattle.ck_commands.specs.declared.feature_input.FeatureFault.TheVariants.{Re
 -- ---- what the bytes are
 
 -- a text that isn't too long
-pub record IsReadable (bytes : List ℕ) : Type 0 where
+pub record IsReadableText (bytes : List ℕ) : Type 0 where
   pub utf8 : IsUtf8 bytes
   pub short : IsTooLong bytes → ⊥
 
@@ -31,20 +31,20 @@ abbrev pub IsNoText : List ℕ → Type 0
 IsNoText bytes = (length bytes ≤ max_bytes) × (IsUtf8 bytes → ⊥)
 
 -- why a feature file is refused: it is too long, or its text has the fault
-abbrev pub IsRefused : List ℕ → ParseFault → Type 0
-IsRefused bytes f =
-    (HasTooMany bytes × (f ≡ too_long)) ⊎ (IsReadable bytes × HasFault bytes f.kind f.line f.column)
+abbrev pub IsRefusedFeature : List ℕ → ParseFault → Type 0
+IsRefusedFeature bytes f =
+    (HasTooMany bytes × (f ≡ too_long)) ⊎ (IsReadableText bytes × HasFault bytes f.kind f.line f.column)
 
 -- Why the bytes give no document, where they could all be read. Memory may be refused of any.
 abbrev pub IsFaultOf : List ℕ → FeatureFault → Type 0
-IsFaultOf bytes (Refused f) = IsRefused bytes f
+IsFaultOf bytes (Refused f) = IsRefusedFeature bytes f
 IsFaultOf bytes NotUtf8 = IsNoText bytes
 IsFaultOf bytes ReadFailed = ⊥
 IsFaultOf bytes Memory = ⊤
 
 -- what the bytes are, where they could all be read
 abbrev pub IsFeatureOf : List ℕ → Result Document FeatureFault → Type 0
-IsFeatureOf bytes (Ok d) = IsReadable bytes × IsDocumentOf bytes d
+IsFeatureOf bytes (Ok d) = IsReadableText bytes × IsDocumentOf bytes d
 IsFeatureOf bytes (Err fault) = IsFaultOf bytes fault
 
 -- ---- what is printed of it

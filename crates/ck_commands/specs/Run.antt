@@ -22,7 +22,7 @@ use Rattle.ck_command_line.specs.declared.command_line.Refusal.{Refusal}
 use Rattle.ck_command_line.specs.declared.command_line.Refusal.TheVariants as refusal
 use Rattle.ck_commands.specs.Cases.{ListsOrTells, PrintsListed, cases_report}
 use Rattle.ck_commands.specs.Differs.{IsDifferenceOf, PrintsBadDifference, differs_report}
-use Rattle.ck_commands.specs.Features.{IsFaultOf, IsFeatureOf, IsReadable, IsRefused, document_text, fault_report, parse_report, refused_text}
+use Rattle.ck_commands.specs.Features.{IsFaultOf, IsFeatureOf, IsReadableText, IsRefusedFeature, document_text, fault_report, parse_report, refused_text}
 use Rattle.ck_commands.specs.Gate.{PrintsReleased, gate_report}
 use Rattle.ck_commands.specs.Output.{DeliversOne, NoneFailed, Prints, Report, code_of, trouble_report}
 use Rattle.ck_commands.specs.Results.{ResultsShowNoFault, result_text, results_report}
@@ -33,15 +33,15 @@ use Rattle.ck_commands.specs.declared.output.ExitStatus.TheVariants as exit
 -- ---- the report
 
 -- the lines that a feature file of this uri compiles to
-abbrev pub IsCompiled : (uri bytes : List ℕ) → Report → Type 0
-IsCompiled uri bytes r =
-    (lines : List ℕ) × IsReadable bytes × IsCompiledOf uri bytes lines
+abbrev pub ReportsLines : (uri bytes : List ℕ) → Report → Type 0
+ReportsLines uri bytes r =
+    (lines : List ℕ) × IsReadableText bytes × IsCompiledOf uri bytes lines
     × (r ≡ record { text = lines; status = exit.Done })
 
 -- these lines, or why there are none
 abbrev pub ReportsCompiled : (uri bytes : List ℕ) → Report → Type 0
 ReportsCompiled uri bytes r =
-    IsCompiled uri bytes r
+    ReportsLines uri bytes r
     ⊎ ((fault : FeatureFault) × IsFaultOf bytes fault × (r ≡ fault_report fault))
 
 -- a report by the first fault of a stream
@@ -93,11 +93,11 @@ Tells c bytes rest r = Reports c bytes r
 
 abbrev pub PrintsDocument : (before after : Output) → List ℕ → Type 0
 PrintsDocument before after bytes =
-    (d : Document) × IsReadable bytes × IsDocumentOf bytes d × Writes before after (document_text d)
+    (d : Document) × IsReadableText bytes × IsDocumentOf bytes d × Writes before after (document_text d)
 
 abbrev pub PrintsCompiled : (uri : List ℕ) → (before after : Output) → List ℕ → Type 0
 PrintsCompiled uri before after bytes =
-    (lines : List ℕ) × IsReadable bytes × IsCompiledOf uri bytes lines × Writes before after lines
+    (lines : List ℕ) × IsReadableText bytes × IsCompiledOf uri bytes lines × Writes before after lines
 
 abbrev pub PrintsResults : (first : ℕ) → (before after : Output) → List ℕ → Type 0
 PrintsResults first before after bytes =
@@ -116,7 +116,7 @@ IsDone (ask_differs s) before after bytes = PrintsGood s before after bytes
 
 abbrev pub PrintsRefused : (before after : Output) → List ℕ → Type 0
 PrintsRefused before after bytes =
-    (f : ParseFault) × IsRefused bytes f × Writes before after (refused_text f)
+    (f : ParseFault) × IsRefusedFeature bytes f × Writes before after (refused_text f)
 
 abbrev pub PrintsFault : (first : ℕ) → (before after : Output) → List ℕ → Type 0
 PrintsFault first before after bytes =

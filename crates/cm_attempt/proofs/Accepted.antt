@@ -8,7 +8,7 @@ use Rattle.cm_attempt.specs.Table.{Utf8, AttemptRow, Table, table_from, finished
 use Rattle.cm_attempt.specs.declared.rows.Last.{Last}
 use Rattle.cm_attempt.specs.declared.fault.TrackFault.{TrackFault}
 use Rattle.cm_attempt.specs.Calls.{Call, AddCase, Start, StartStep, FinishStep, Finish, call_fault, after_call, unless_refused, left_by, table_after, StartedAttempt, starts, starts_of, steps_of_attempt, moves, whole, ends_of, is_ended, is_retried, last_of, final_status, result_of}
-use Rattle.cm_attempt.specs.CallLaws.{IsFront, CasesKnown, AreNumbered, NoneOverlaps, StepsInOrder, FinishedAreWhole, IdsDistinct, ComeInOrder, HasCases, Reports, CountsOpen}
+use Rattle.cm_attempt.specs.CallLaws.{IsFront, CasesKnown, AreNumbered, NoneOverlaps, StepsInOrder, FinishedAreWhole, IdsDistinct, ComeInOrder, HasCases, ReportsResults, CountsOpen}
 use Rattle.cm_attempt.proofs.Growing.{bytes_same, by_id, or_false, all_weaker}
 use Rattle.cm_attempt.proofs.Standing.{left_of, open_is, whole_if_ended}
 use Rattle.cm_attempt.proofs.Fits.{StartFits, start_fits}
@@ -205,7 +205,7 @@ reports_case : (calls : List Call) (t : Table) (case : Utf8) → CaseIs calls t 
 reports_case calls t case (undeclared n u) = rw (n, u.no_start) refl
 reports_case calls t case (known row f k) = rw f (final_in calls case (starts_of case calls) row.last k.latest)
 
-pub reports : (first : ℕ) (calls : List Call) (t : Table) → table_after first calls ≡ Some t → Reports calls t
+pub reports : (first : ℕ) (calls : List Call) (t : Table) → table_after first calls ≡ Some t → ReportsResults calls t
 reports first calls t e case = reports_case calls t case ((tracked first calls t e).of_cases case)
 
 -- ---- open attempts

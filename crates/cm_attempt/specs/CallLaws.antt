@@ -74,8 +74,8 @@ abbrev pub HasCases : List Call → Table → Type 0
 HasCases calls t = map (λ c. c.id) t.cases ≡ map (λ c. c.id) (cases calls)
 
 -- what it reports of a case is the worst status of the final attempt, and none where there is none
-abbrev pub Reports : List Call → Table → Type 0
-Reports calls t = (case : Utf8) → reported_of t case ≡ result_of case calls
+abbrev pub ReportsResults : List Call → Table → Type 0
+ReportsResults calls t = (case : Utf8) → reported_of t case ≡ result_of case calls
 
 -- its open attempts are those that were started and aren't finished
 abbrev pub CountsOpen : List Call → Table → Type 0

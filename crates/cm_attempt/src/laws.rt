@@ -1,7 +1,7 @@
 //! Laws of the calls of a run, for every interleaving of attempts.
 ghost use Rattle.cm_attempt.specs.CallFaults.{RefusedForFault};
 ghost use Rattle.cm_attempt.specs.CallLaws.{AcceptedComeInOrder, AreNumbered, CountsOpen, FinishedAreWhole, HasCases, IdsDistinct};
-ghost use Rattle.cm_attempt.specs.CallLaws.{InOrderAreAccepted, NoneOverlaps, OfTheirTable, Reports, StepsInOrder, WhereAccepted, WhereAcceptedFrom};
+ghost use Rattle.cm_attempt.specs.CallLaws.{InOrderAreAccepted, NoneOverlaps, OfTheirTable, ReportsResults, StepsInOrder, WhereAccepted, WhereAcceptedFrom};
 
 /// The attempts of a case are numbered from the first number on, in order of start.
 pub fn attempts_are_numbered()
@@ -28,7 +28,7 @@ pub fn finished_attempts_are_whole()
 /// of declaration.
 pub fn final_attempts_are_reported()
     ensures cases { OfTheirTable HasCases }
-    ensures reported { OfTheirTable Reports }
+    ensures reported { OfTheirTable ReportsResults }
 {}
 
 /// The number of open attempts is the number of those that were started and aren't finished.

@@ -17,7 +17,7 @@ use Rattle.cm_stream.specs.declared.verdict.Verdict.TheVariants as verdict
 use Rattle.cm_stream.specs.declared.verdict.StreamFault.TheVariants as bad
 use Rattle.cm_state.specs.Summary.{Summary, nothing_seen}
 use Rattle.cm_state.specs.StateChecks.{finding_at_end}
-use Rattle.cm_state.specs.Laws.{at_end}
+use Rattle.cm_state.specs.Laws.{answer_at_end}
 use Rattle.cm_audit.specs.Audit.{AnswersAs, ReadsNoFurther, ReadsUpTo, TakesLine, audited_at, unsuccessful}
 use Rattle.cm_audit.specs.Judging.{judged, HasJudged, HoldNoFault, JudgesAs}
 use Rattle.cm_audit.specs.Stops.{unread_line}
@@ -107,7 +107,7 @@ pub ends_well : (settings : Settings) (feed later : Stored) (s : Summary) (n : �
 ends_well settings feed later s n a b c p still ends leaves e =
     answered settings _ (Ok None) feed later n s a b c p still ends leaves
     (λ xs ys zs none h i. record {
-      told = let end : at_end (n + 1) s (finding_at_end s) ≡ at_end (n + 1) s None = rw e refl in sym (at_the_end settings h.read h.judges i ∙ end);
+      told = let end : answer_at_end (n + 1) s (finding_at_end s) ≡ answer_at_end (n + 1) s None = rw e refl in sym (at_the_end settings h.read h.judges i ∙ end);
       read_failed = λ failed. cc;
       ahead = tt;
     })

@@ -14,7 +14,7 @@ use Rattle.cm_attempt.specs.Table.{Table}
 use Rattle.cm_attempt.specs.declared.settings.Settings.{Settings}
 use Rattle.cm_stream.specs.ByOnePass.{fault, IsFaultless}
 use Rattle.cm_stream.specs.Findings.{IsBad, NoEnvelope, named}
-use Rattle.cm_stream.specs.Record.{table_of}
+use Rattle.cm_stream.specs.Record.{table_of_envelopes}
 use Rattle.cm_stream.specs.Stream.{IsGoodRun, as_read, envelopes, fed, numbered, read_line, shown}
 use Rattle.cm_stream.specs.declared.verdict.Audited.{Audited}
 use Rattle.cm_stream.specs.declared.verdict.Counts.{Counts}
@@ -25,7 +25,7 @@ use Rattle.cm_stream.proofs.NoFault.{good_have_no_fault}
 use Rattle.cm_stream.proofs.Streams.{answers_are_right}
 use Rattle.cm_stream.proofs.TableSteps.{none_is_refused}
 use Rattle.cm_stream.proofs.Tables.{tables_have_results}
-use Rattle.cm_state.specs.Laws.{at_end}
+use Rattle.cm_state.specs.Laws.{answer_at_end}
 use Rattle.cm_state.specs.StateChecks.{finding, finding_at_end}
 use Rattle.cm_state.specs.Summary.{Summary, after, nothing_seen, seen}
 use Rattle.cm_state.proofs.Checked.{findings_are_faults}
@@ -186,20 +186,20 @@ module _ (settings : Settings) (follows : List Envelope → Type 0) where
 
   -- a good stream's lines were all read
   followed_good : (bytes : List ℕ) (s : Summary) (counts : Counts) (success : Bool) (ls : List (List ℕ)) → AnswersAs (judged settings bytes) (Ok (record { verdict = verdict.Good counts; success = success }))
-      → (fed bytes).lines ≡ ls → follows (envelopes_in ls) → s.table ≡ table_of settings.first_attempt (envelopes_in ls) → IsFollowed settings follows s.table bytes
+      → (fed bytes).lines ≡ ls → follows (envelopes_in ls) → s.table ≡ table_of_envelopes settings.first_attempt (envelopes_in ls) → IsFollowed settings follows s.table bytes
   followed_good bytes s counts success ls told all follow table =
       let answer : Result Audited Trouble = Ok (record { verdict = verdict.Good counts; success = success }) in
       let run : IsGoodRun settings bytes counts success = (answers_are_right settings bytes answer (told ∙ judged_is_told settings (fed bytes).lines (fed bytes).trouble)).good in
       let es = envelopes run.lines in
       let same : es ≡ envelopes_in ls = read_all 1 (fed bytes).lines run.lines run.read.read ∙ ap envelopes_in all in
-      let here : s.table ≡ table_of settings.first_attempt es = table ∙ ap (table_of settings.first_attempt) (sym same) in
+      let here : s.table ≡ table_of_envelopes settings.first_attempt es = table ∙ ap (table_of_envelopes settings.first_attempt) (sym same) in
       let accepted = none_is_refused settings es (good_have_no_fault settings es run.good).lines in
       record {
         lines = run.lines;
         read = run.read;
         good = run.good;
         followed = subst follows (sym same) follow;
-        results = ap case_results here ∙ (tables_have_results settings.first_attempt es (table_of settings.first_attempt es) accepted).1;
+        results = ap case_results here ∙ (tables_have_results settings.first_attempt es (table_of_envelopes settings.first_attempt es) accepted).1;
       }
 
   pub ends_well_with : (tells : Summary → Envelope → Type 0) (feed later : Stored) (s : Summary) (n : ℕ) (a b c : Input) → HasReadSo feed a b (λ xs ys. HasFollowed settings follows xs ys feed n s) → feed.over ≡ None
@@ -210,7 +210,7 @@ module _ (settings : Settings) (follows : List Envelope → Type 0) where
       (reads_then {P = λ xs ys. HasFollowed settings follows xs ys feed n s} {R = JudgesWith settings follows tells s.table answer} feed later a b c p still leaves
       (λ xs ys zs none h i.
       let read = h.judged.read in
-      let end : at_end (n + 1) s (finding_at_end s) ≡ at_end (n + 1) s None = rw e refl in
+      let end : answer_at_end (n + 1) s (finding_at_end s) ≡ answer_at_end (n + 1) s None = rw e refl in
       let told : AnswersAs (judged settings xs) answer = sym (at_the_end settings h.judged.read h.judged.judges i ∙ end) in
       let all : (fed xs).lines ≡ contents h.judged.read.lines =
       ap (λ (f : Fed). f.lines) h.judged.read.fed ∙ ap (λ (f : Fed). contents h.judged.read.lines ++ f.lines) i ∙ append-nil (contents h.judged.read.lines) in

@@ -15,7 +15,7 @@ use Rattle.cm_stream.proofs.Lists.{length-both}
 use Rattle.std.proofs.lemmas.List.{map-append}
 use Rattle.cm_state.specs.Summary.{Summary, nothing_seen}
 use Rattle.cm_state.specs.StateChecks.{finding_at_end}
-use Rattle.cm_state.specs.Laws.{at_end, judged_line, judged_of}
+use Rattle.cm_state.specs.Laws.{answer_at_end, judged_line, judged_of}
 use Rattle.cm_audit.specs.Audit.{AnswersAs, Begins, ReadsNoFurther, TakesLine, audited_at}
 use Rattle.cm_audit.specs.Judging.{judged, lines_then, HasRead, HasJudged, JudgesTo, HoldNoFault}
 use Rattle.cm_audit.specs.State.{summary_of}
@@ -123,7 +123,7 @@ found_at settings before ys zs feed later n old new line r h i why k =
     rw (judged_left settings r h, i.first) (found settings old new (n + 1) (shown line) (λ (now : Summary). judged_of settings now (n + 1 + 1) (left later zs).lines (left later zs).trouble) why k)
 
 pub at_the_end : {before ys : List ℕ} {feed : Stored} {n : ℕ} {s : Summary} (settings : Settings) (r : HasRead before ys feed n) → JudgesTo settings r.lines n s → left feed ys ≡ nothing
-    → judged settings before ≡ at_end (n + 1) s (finding_at_end s)
+    → judged settings before ≡ answer_at_end (n + 1) s (finding_at_end s)
 at_the_end {n = n} {s = s} settings r h e = judged_left settings r h ∙ ap (λ (f : Fed). judged_of settings s (n + 1) f.lines f.trouble) e
 
 pub at_trouble : {before ys : List ℕ} {feed : Stored} {n : ℕ} {s : Summary} (settings : Settings) (r : HasRead before ys feed n) → JudgesTo settings r.lines n s → (t : Trouble)

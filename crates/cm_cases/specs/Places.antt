@@ -25,12 +25,12 @@ scenarios_of d =
     option_map_or (λ f. f.scenarios ++ flat_map (λ r. r.scenarios) f.rules) d.feature []
 
 -- the rows below the header of a table of examples, where there is one
-abbrev pub body_of : Option ExampleTable → List Row
-body_of table = option_map_or (λ t. t.body) table []
+abbrev pub example_rows : Option ExampleTable → List Row
+example_rows table = option_map_or (λ t. t.body) table []
 
 -- the rows of examples of a scenario
 abbrev pub rows_of : Scenario → List Row
-rows_of s = flat_map (λ x. body_of x.table) s.examples
+rows_of s = flat_map (λ x. example_rows x.table) s.examples
 
 -- the id that a document gives a node, and the node's line
 abbrev pub place : List Utf8 → (node : ℕ) → Location → Place

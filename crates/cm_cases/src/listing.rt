@@ -3,7 +3,7 @@ ghost use Rattle.std.specs.Prelude.{◌≡◌, ◌++◌, ◌∷◌, [], List, If
 ghost use Rattle.std.specs.List.{flat_map};
 ghost use Rattle.cm_envelope.specs.declared.envelope.Envelope.{Envelope as SomeEnvelope};
 ghost use Rattle.cm_cases.specs.Listed.{case_entry, document_entry, listing_of, pickle_entry};
-ghost use Rattle.cm_cases.specs.Places.{body_of, last_node, place, places_of, rows_of, scenario_places};
+ghost use Rattle.cm_cases.specs.Places.{example_rows, last_node, place, places_of, rows_of, scenario_places};
 
 use cm_envelope::{Envelope, GherkinDocument, Pickle, TestCase};
 use gk_document::{Examples, Location, Row, Rule, Scenario, Sequence, Text};
@@ -92,7 +92,8 @@ fn add_examples(
     examples: &[Examples],
 ) -> Result<(), AllocError>
     ensures { OnOk result (places.new ≡ places.old
-        ++ map (λ r. place ids.now r.node r.location) (flat_map (λ x. body_of x.table) examples.now)) }
+        ++ map (λ r. place ids.now r.node r.location)
+        (flat_map (λ x. example_rows x.table) examples.now)) }
 {
     for block in examples {
         if let Some(table) = &block.table {

@@ -81,16 +81,16 @@ abbrev pub left : Stored → List ℕ → Fed
 left s to_come = feed_lines s.line_limit s.stream_limit s.given (lines_of (not_given s to_come))
 
 -- the first of some lines, or where there is none their trouble or the end
-abbrev pub first_of : List (List ℕ) → Option Trouble → NextLine
-first_of (line ∷ more) trouble = Ok (Some line)
-first_of [] (Some t) = Err t
-first_of [] None = Ok None
+abbrev pub first_answer : List (List ℕ) → Option Trouble → NextLine
+first_answer (line ∷ more) trouble = Ok (Some line)
+first_answer [] (Some t) = Err t
+first_answer [] None = Ok None
 
 -- the answer is the first of what is left, unless a read failed or memory was refused
 abbrev pub AnswersFirst : Fed → NextLine → Type 0
 AnswersFirst fed (Err ReadFailed) = ⊤
 AnswersFirst fed (Err Memory) = ⊤
-AnswersFirst fed answer = answer ≡ first_of fed.lines fed.trouble
+AnswersFirst fed answer = answer ≡ first_answer fed.lines fed.trouble
 
 -- a line has no LF, and no more bytes than the limit
 abbrev pub IsLineWithin : ℕ → List ℕ → Type 0

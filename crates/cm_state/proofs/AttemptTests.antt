@@ -8,7 +8,7 @@ use Rattle.cm_attempt.proofs.WorstLemmas.{is_known, good_worst}
 use Rattle.cm_stream.specs.Texts.{Utf8}
 use Rattle.cm_stream.specs.References.{Attempt, step_names, attachment_names, hook_statuses}
 use Rattle.cm_stream.specs.ByOnePass.{all_well}
-use Rattle.cm_stream.specs.Record.{table_of}
+use Rattle.cm_stream.specs.Record.{table_of_envelopes}
 use Rattle.cm_stream.specs.Good.{is_unknown, has_unknown_result}
 use Rattle.cm_stream.specs.Statuses.{kept_status}
 use Rattle.cm_envelope.specs.declared.envelope.Status as its_status
@@ -59,5 +59,5 @@ place_known first es accepted None step = refl
 place_known first es accepted (Some a) None = or_no (unknown es (Attempt a)) ∙ (attempt_declared a first es accepted).unknown
 place_known first es accepted (Some a) (Some step) =
     ap (λ names. list_any (unknown es) (Attempt a ∷ names)) (append-nil (step_names es a step))
-    ∙ step_asked es (distinct_cases first es (table_of first es) accepted) a step
+    ∙ step_asked es (distinct_cases first es (table_of_envelopes first es) accepted) a step
     ∙ ap not (sym (step_told first es accepted a step))

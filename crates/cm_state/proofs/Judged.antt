@@ -15,7 +15,7 @@ use Rattle.cm_state.specs.Summary.{Summary, seen, nothing_seen, after}
 use Rattle.cm_state.specs.StateChecks.{finding, finding_at_end}
 use Rattle.cm_state.proofs.Checked.{findings_are_faults as findings}
 use Rattle.cm_state.proofs.Steps.{summaries_step as steps}
-use Rattle.cm_state.specs.Laws.{JudgedIsTold, at_end, at_line, judged_line, judged_of}
+use Rattle.cm_state.specs.Laws.{JudgedIsTold, answer_at_end, answer_at_line, judged_line, judged_of}
 
 -- ---- one more line without a fault
 
@@ -46,23 +46,23 @@ one_more_line settings before e h none b x a cut = go (cut_before before e b x a
 
 -- ---- all lines
 
-finished : (first n : ℕ) (before : List Envelope) → at_end n (seen first before) (finding_at_end (seen first before)) ≡ answer_for (stream.at_end n before (fault_at_end before))
+finished : (first n : ℕ) (before : List Envelope) → answer_at_end n (seen first before) (finding_at_end (seen first before)) ≡ answer_for (stream.at_end n before (fault_at_end before))
 finished first n before = go (has_run_finished before) refl
   where
-    go : (b : Bool) → has_run_finished before ≡ b → at_end n (seen first before) (finding_at_end (seen first before)) ≡ answer_for (stream.at_end n before (fault_at_end before))
+    go : (b : Bool) → has_run_finished before ≡ b → answer_at_end n (seen first before) (finding_at_end (seen first before)) ≡ answer_for (stream.at_end n before (fault_at_end before))
     go true e = rw e refl
     go false e = rw e refl
 
 module _ (settings : Settings) where
   same : (before : List Envelope) (s : Summary) → s ≡ seen settings.first_attempt before → IsFaultless settings before → (n : ℕ) (ls : List (List ℕ)) (t : Option Trouble) → judged_of settings s n ls t ≡ answer_for (first_fault_of settings before n ls t)
   same before s is h n [] (Some t) = refl
-  same before s is h n [] None = ap (λ u. at_end n u (finding_at_end u)) is ∙ finished settings.first_attempt n before
+  same before s is h n [] None = ap (λ u. answer_at_end n u (finding_at_end u)) is ∙ finished settings.first_attempt n before
   same before s is h n (l ∷ ls) t = go (is_blank l) refl (same before s is h (n + 1) ls t) (λ e u k more. same (before ++ e ∷ []) u k more (n + 1) ls t)
     where
       Later : Envelope → Type 0
       Later e = (u : Summary) → u ≡ seen settings.first_attempt (before ++ e ∷ []) → IsFaultless settings (before ++ e ∷ []) → judged_of settings u (n + 1) ls t ≡ answer_for (first_fault_of settings (before ++ e ∷ []) (n + 1) ls t)
 
-      on_fault : (e : Envelope) (o : Option Finding) → fault settings before e ≡ o → Later e → at_line n o (judged_of settings (after s e) (n + 1) ls t) ≡ answer_for (stream.at_line n o (first_fault_of settings (before ++ e ∷ []) (n + 1) ls t))
+      on_fault : (e : Envelope) (o : Option Finding) → fault settings before e ≡ o → Later e → answer_at_line n o (judged_of settings (after s e) (n + 1) ls t) ≡ answer_for (stream.at_line n o (first_fault_of settings (before ++ e ∷ []) (n + 1) ls t))
       on_fault e (Some f) k rec = refl
       on_fault e None k rec =
           let more = one_more_line settings before e h k in

@@ -9,7 +9,7 @@ use Rattle.cm_refs.proofs.EntryLemmas.{list_any-map}
 use Rattle.cm_attempt.specs.Table.{find_attempt, has_text}
 use Rattle.cm_stream.specs.Texts.{Utf8}
 use Rattle.cm_stream.specs.References.{Name, SourceOf, DocumentOf, PickleNamed, PickleStep, Definition, HookNamed, Step, Run, Attempt, RunHook, same_name, declares_it, times_declared, if_any, as_source, as_document, as_pickle, as_start, as_run_hook, pickles, starts, run_hooks, has_run_started}
-use Rattle.cm_stream.specs.Record.{table_of}
+use Rattle.cm_stream.specs.Record.{table_of_envelopes}
 use Rattle.cm_envelope.specs.declared.envelope.Envelope.{Envelope}
 use Rattle.cm_envelope.specs.declared.envelope.Envelope.TheVariants as envelope
 use Rattle.cm_envelope.specs.declared.envelope.Source.{Source}
@@ -56,9 +56,9 @@ pickle_declared id es =
     (sym (list_any-map (λ (r : PickleRow). bytes_eq id r.id) pickle_row (pickles es)) ∙ sym (found_any (λ (r : PickleRow). bytes_eq id r.id) (map pickle_row (pickles es))))
     (by_test (PickleNamed id) as_pickle (λ p. bytes_eq id p.id) (declares_pickle id) es)
 
-pub attempt_declared : (id : Utf8) (first : ℕ) (es : List Envelope) → AreAccepted first es → IsDeclaredIf (Attempt id) es (is_some (find_attempt (table_of first es) id))
+pub attempt_declared : (id : Utf8) (first : ℕ) (es : List Envelope) → AreAccepted first es → IsDeclaredIf (Attempt id) es (is_some (find_attempt (table_of_envelopes first es) id))
 attempt_declared id first es accepted =
-    by_same (Attempt id) es (list_any (λ s. bytes_eq id s.id) (starts es)) (is_some (find_attempt (table_of first es) id))
+    by_same (Attempt id) es (list_any (λ s. bytes_eq id s.id) (starts es)) (is_some (find_attempt (table_of_envelopes first es) id))
     (sym (found_any (λ s. bytes_eq id s.id) (starts es)) ∙ sym (attempt_told first es accepted id))
     (by_test (Attempt id) as_start (λ s. bytes_eq id s.id) (declares_attempt id) es)
 

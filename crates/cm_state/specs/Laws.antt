@@ -26,25 +26,25 @@ SummariesStep =
 
 -- ---- a stream
 
-abbrev pub at_end : ℕ → Summary → Option Finding → Answer
-at_end n s None = GoodWith s.counts s.success
-at_end n s (Some f) = Found n f
+abbrev pub answer_at_end : ℕ → Summary → Option Finding → Answer
+answer_at_end n s None = GoodWith s.counts s.success
+answer_at_end n s (Some f) = Found n f
 
 -- a finding at this line, or the answer after it
-abbrev pub at_line : ℕ → Option Finding → Answer → Answer
-at_line n None more = more
-at_line n (Some f) more = Found n f
+abbrev pub answer_at_line : ℕ → Option Finding → Answer → Answer
+answer_at_line n None more = more
+answer_at_line n (Some f) more = Found n f
 
 abbrev pub judged_line : Settings → Summary → ℕ → Option (Result Envelope LineFault)
     → (Summary → Answer) → Answer
 judged_line settings s n None more = more s
 judged_line settings s n (Some (Err b)) more = Found n (IsBad (NoEnvelope b))
-judged_line settings s n (Some (Ok e)) more = at_line n (finding settings s e) (more (after s e))
+judged_line settings s n (Some (Ok e)) more = answer_at_line n (finding settings s e) (more (after s e))
 
 -- the answer for these lines, the first of which has the number n, and then the trouble or the end
 abbrev pub judged_of : Settings → Summary → ℕ → List (List ℕ) → Option Trouble → Answer
 judged_of settings s n [] (Some t) = Failed t
-judged_of settings s n [] None = at_end n s (finding_at_end s)
+judged_of settings s n [] None = answer_at_end n s (finding_at_end s)
 judged_of settings s n (l ∷ ls) t =
     judged_line settings s n (shown l) (λ (now : Summary). judged_of settings now (n + 1) ls t)
 

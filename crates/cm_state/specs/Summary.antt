@@ -15,7 +15,7 @@ use Rattle.cm_stream.specs.Sources.{DuePickle}
 use Rattle.cm_stream.specs.Checks.{due_pickles, first_ids}
 use Rattle.cm_stream.specs.References.{as_document, sources, pickles, cases, run_hooks, hook_statuses, documents_of, pickles_of, has_run_finished, is_accepted, run_succeeded, is_hook_finished}
 use Rattle.cm_stream.specs.Stream.{counts_of}
-use Rattle.cm_stream.specs.Record.{table_of, changed}
+use Rattle.cm_stream.specs.Record.{table_of_envelopes, changed}
 use Rattle.cm_envelope.specs.declared.envelope.Envelope.{Envelope}
 use Rattle.cm_envelope.specs.declared.envelope.Envelope.TheVariants as envelope
 use Rattle.cm_envelope.specs.declared.envelope.Source.{Source}
@@ -125,7 +125,7 @@ once_each texts = names_from [] texts
 abbrev pub seen : (first : ℕ) → List Envelope → Summary
 seen first es = record {
   declared = declared_in es;
-  table = table_of first es;
+  table = table_of_envelopes first es;
   sources = map (source_row es) (sources es);
   named = once_each (map (λ c. c.pickle_id) (cases es));
   run = first_of (filter_map as_run es);

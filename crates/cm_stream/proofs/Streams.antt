@@ -6,7 +6,7 @@ use Rattle.cm_stream.specs.declared.verdict.Audited.{Audited}
 use Rattle.cm_stream.specs.declared.verdict.Verdict.{Verdict}
 use Rattle.cm_stream.specs.declared.verdict.Verdict.TheVariants as verdict
 use Rattle.cm_stream.specs.Findings.{Finding}
-use Rattle.cm_stream.specs.StreamLaws.{IsRight}
+use Rattle.cm_stream.specs.StreamLaws.{IsRightAnswer}
 use Rattle.cm_stream.specs.Good.{Good}
 use Rattle.cm_stream.specs.References.{run_succeeded}
 use Rattle.cm_stream.specs.Stream.{FirstFault, Troubled, GoodWith, answer_in, answered, answer_for, GoodRunIn, NoneIsGood, fed, numbered, read_line, as_read, envelopes, counts_of, IsRead, IsGoodStream, IsGoodRun, At, NoFault, at_end, at_line, shown, HaveFirstLines}
@@ -234,7 +234,7 @@ module _ (settings : Settings) where
   right_so bytes (verdict.Unsupported n r) success t h e = (tt, tt)
 
 -- an audit that answers what is reported is right
-pub answers_are_right : (settings : Settings) (bytes : List ℕ) (answer : Result Audited Trouble) → answered answer ≡ answer_for (first_fault settings bytes) → IsRight settings bytes answer
+pub answers_are_right : (settings : Settings) (bytes : List ℕ) (answer : Result Audited Trouble) → answered answer ≡ answer_for (first_fault settings bytes) → IsRightAnswer settings bytes answer
 answers_are_right settings bytes (Ok a) e =
     let both = right_so settings bytes a.verdict a.success (first_fault settings bytes) refl e in
     record { good = both.0; bad = both.1; decided = λ counts success run. e ∙ run_is_told settings bytes counts success run }

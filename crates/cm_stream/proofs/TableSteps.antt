@@ -9,7 +9,7 @@ use Rattle.cm_attempt.specs.declared.settings.Settings.{Settings}
 use Rattle.cm_stream.specs.Calls.{calls_of}
 use Rattle.cm_stream.specs.Checks.{first_failed}
 use Rattle.cm_stream.specs.CallFaults.{call_fault_finding, call_fault_of_envelope, own_checks}
-use Rattle.cm_stream.specs.Record.{table_of, changed}
+use Rattle.cm_stream.specs.Record.{table_of_envelopes, changed}
 use Rattle.cm_stream.specs.FaultlessLines.{TableSteps, NoneIsRefusedBy}
 use Rattle.cm_stream.specs.ByOnePass.{checks_of, IsFaultless, CallFaultsAre}
 use Rattle.cm_stream.specs.OnePass.{reads}
@@ -25,7 +25,7 @@ table_steps first es e = fold_push changed (table_from first) es e
 
 -- the calls of the lines are accepted, and leave their table
 abbrev pub AreAccepted : (first : ℕ) → List Envelope → Type 0
-AreAccepted first es = table_after first (calls_of es) ≡ Some (table_of first es)
+AreAccepted first es = table_after first (calls_of es) ≡ Some (table_of_envelopes first es)
 
 -- a line that passes its checks passes those that its call makes
 own_pass : (first : ℕ) (es : List Envelope) (e : Envelope) → Passes (checks_of first es e) → first_failed (own_checks first es e) ≡ None
@@ -38,7 +38,7 @@ one_more : (settings : Settings) (es : List Envelope) (e : Envelope) → IsFault
 one_more settings es e h accepted =
     let first = settings.first_attempt in
     let own = own_pass first es e (plain_pass settings (es ++ e ∷ []) h es e [] refl).1 in
-    tables_change first es (table_of first es) accepted e (faults_are_checks first es (table_of first es) accepted e ∙ own)
+    tables_change first es (table_of_envelopes first es) accepted e (faults_are_checks first es (table_of_envelopes first es) accepted e ∙ own)
     ∙ ap (λ t. Some t) (sym (table_steps first es e))
 
 pub none_is_refused : NoneIsRefusedBy reads
@@ -56,8 +56,8 @@ none_is_refused settings es none = go [] es none refl
 
 -- ---- what is refused
 
-pub own_refused : (first : ℕ) (es : List Envelope) (e : Envelope) → AreAccepted first es → option_and_then call_fault_finding (call_fault_of_envelope (table_of first es) e) ≡ first_failed (own_checks first es e)
-own_refused first es e accepted = refused_for_faults first es (table_of first es) accepted e ∙ faults_are_checks first es (table_of first es) accepted e
+pub own_refused : (first : ℕ) (es : List Envelope) (e : Envelope) → AreAccepted first es → option_and_then call_fault_finding (call_fault_of_envelope (table_of_envelopes first es) e) ≡ first_failed (own_checks first es e)
+own_refused first es e accepted = refused_for_faults first es (table_of_envelopes first es) accepted e ∙ faults_are_checks first es (table_of_envelopes first es) accepted e
 
 pub call_faults_are_told : (e : Envelope) → CallFaultsAre e
 call_faults_are_told e settings es none = own_refused settings.first_attempt es e (none_is_refused settings es none)

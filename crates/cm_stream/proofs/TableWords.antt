@@ -17,7 +17,7 @@ use Rattle.cm_attempt.proofs.Accepted.{tracked, its_steps, counts_open, has_case
 use Rattle.cm_stream.specs.Texts.{Utf8}
 use Rattle.cm_stream.specs.Calls.{calls_of}
 use Rattle.cm_stream.specs.Checks.{steps_of_attempt}
-use Rattle.cm_stream.specs.Record.{table_of}
+use Rattle.cm_stream.specs.Record.{table_of_envelopes}
 use Rattle.cm_stream.specs.References.{cases, starts, starts_of, is_ended, is_final, statuses, is_good_case}
 use Rattle.cm_envelope.specs.declared.envelope.Envelope.{Envelope}
 use Rattle.cm_envelope.specs.declared.envelope.TestCase.{TestCase}
@@ -38,9 +38,9 @@ attempt_by_row calls t a (unstarted n u) = rw (n, u.start) refl
 attempt_by_row calls t a (begun row f b) = rw (f, b.is_start) refl
 
 -- an attempt of the table is one that was started
-pub attempt_told : (first : ℕ) (es : List Envelope) → AreAccepted first es → (a : Utf8) → is_some (find_attempt (table_of first es) a) ≡ is_some (find (is_of a) (starts es))
+pub attempt_told : (first : ℕ) (es : List Envelope) → AreAccepted first es → (a : Utf8) → is_some (find_attempt (table_of_envelopes first es) a) ≡ is_some (find (is_of a) (starts es))
 attempt_told first es accepted a =
-    attempt_by_row (calls_of es) (table_of first es) a ((tracked first (calls_of es) (table_of first es) accepted).of_attempts a) ∙ start_seen a es
+    attempt_by_row (calls_of es) (table_of_envelopes first es) a ((tracked first (calls_of es) (table_of_envelopes first es) accepted).of_attempts a) ∙ start_seen a es
 
 step_by_row : (calls : List Call) (t : Table) → Tracked calls t → (a step : Utf8) → AttemptIs calls t a → has_step t a step ≡ has_text step (call.steps_of_attempt a calls)
 step_by_row calls t h a step (unstarted n u) = rw (n, u.start) refl
@@ -49,10 +49,10 @@ step_by_row calls t h a step (begun row f b) =
     ∙ ap (has_text step) (steps_are calls t a row b ∙ sym (its_steps calls t h a row b))
 
 -- the table has the steps of the attempt's case
-pub step_told : (first : ℕ) (es : List Envelope) → AreAccepted first es → (a step : Utf8) → has_step (table_of first es) a step ≡ has_text step (steps_of_attempt a es)
+pub step_told : (first : ℕ) (es : List Envelope) → AreAccepted first es → (a step : Utf8) → has_step (table_of_envelopes first es) a step ≡ has_text step (steps_of_attempt a es)
 step_told first es accepted a step =
-    let h = tracked first (calls_of es) (table_of first es) accepted in
-    step_by_row (calls_of es) (table_of first es) h a step (h.of_attempts a) ∙ ap (has_text step) (attempt_steps_told a es)
+    let h = tracked first (calls_of es) (table_of_envelopes first es) accepted in
+    step_by_row (calls_of es) (table_of_envelopes first es) h a step (h.of_attempts a) ∙ ap (has_text step) (attempt_steps_told a es)
 
 -- ---- attempts that are open
 
@@ -64,9 +64,9 @@ all_ended es = ap (list_all (λ (s : StartedAttempt). call.is_ended s.id (calls_
     go (s ∷ ss) = λ i. ended_told s.id es i && go ss i
 
 -- no attempt of the table is open exactly if each is finished
-pub none_open : (first : ℕ) (es : List Envelope) → AreAccepted first es → (open_count (table_of first es) == 0) ≡ list_all (λ (s : TestCaseStarted). is_ended s.id es) (starts es)
+pub none_open : (first : ℕ) (es : List Envelope) → AreAccepted first es → (open_count (table_of_envelopes first es) == 0) ≡ list_all (λ (s : TestCaseStarted). is_ended s.id es) (starts es)
 none_open first es accepted =
-    ap (λ n. n == 0) (counts_open first (calls_of es) (table_of first es) accepted)
+    ap (λ n. n == 0) (counts_open first (calls_of es) (table_of_envelopes first es) accepted)
     ∙ none_counts (λ (s : StartedAttempt). not (call.is_ended s.id (calls_of es))) (call.starts (calls_of es))
     ∙ none_or_all (λ (s : StartedAttempt). not (call.is_ended s.id (calls_of es))) (λ (s : StartedAttempt). call.is_ended s.id (calls_of es)) (λ s. refl) (call.starts (calls_of es))
     ∙ all_ended es
@@ -123,9 +123,9 @@ same_all p q h [] = refl
 same_all p q h (x ∷ xs) = λ i. h x i && same_all p q h xs i
 
 -- the cases of the table are good exactly if those of the lines are
-pub good_cases : (policy : Policy) (first : ℕ) (es : List Envelope) → AreAccepted first es → list_all (is_good_row policy) (table_of first es).cases ≡ list_all (is_good_case policy es) (cases es)
+pub good_cases : (policy : Policy) (first : ℕ) (es : List Envelope) → AreAccepted first es → list_all (is_good_row policy) (table_of_envelopes first es).cases ≡ list_all (is_good_case policy es) (cases es)
 good_cases policy first es accepted =
-    let t = table_of first es in
+    let t = table_of_envelopes first es in
     let good : Utf8 → Bool = λ id. is_good policy (reported_of t id) in
     let itself = found_itself t.cases (tracked first (calls_of es) t accepted).cases_distinct in
     good_by_report policy t t.cases itself

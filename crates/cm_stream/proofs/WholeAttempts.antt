@@ -11,7 +11,7 @@ use Rattle.cm_attempt.proofs.Accepted.{finished_are_whole}
 use Rattle.cm_stream.specs.Calls.{calls_of}
 use Rattle.cm_stream.specs.Checks.{steps_of_attempt, declares_again}
 use Rattle.cm_stream.specs.Good.{AttemptsGood, AttemptGood}
-use Rattle.cm_stream.specs.Record.{table_of}
+use Rattle.cm_stream.specs.Record.{table_of_envelopes}
 use Rattle.cm_stream.specs.ByOnePass.{IsFaultless}
 use Rattle.cm_stream.specs.References.{Attempt, times_declared, declares_it, as_start, starts, steps_of, move_of, moves, is_ended}
 use Rattle.cm_envelope.specs.declared.envelope.Envelope.{Envelope}
@@ -57,7 +57,7 @@ all_attempts settings es none_fails end before e after cut = at e cut
         let in_front : find (is_of s.id) (starts end.before) ≡ Some s = ap (find (is_of s.id)) (sym (till_end es end.before end.end end.after end.run as_start refl refl)) ∙ found in
         let is : is_ended s.id end.before ≡ true = find_all (λ x. is_ended x.id end.before) (is_of s.id) (starts end.before) s in_front (was_not (list_all (λ x. is_ended x.id end.before) (starts end.before)) ((end.line.passes.1).1).0) in
         let ended : is_ended s.id es ≡ true = ap (list_any is_end) (till_end es end.before end.end end.after end.run (move_of s.id) refl refl) ∙ is in
-        let all = (finished_are_whole first (calls_of es) (table_of first es) (none_is_refused settings es none_fails) s.id (ended_told s.id es ∙ ended)).0 in
+        let all = (finished_are_whole first (calls_of es) (table_of_envelopes first es) (none_is_refused settings es none_fails) s.id (ended_told s.id es ∙ ended)).0 in
         let steps : steps_of_attempt s.id es ≡ steps_of s.test_case_id es = rw found refl in
         sym (moves_told s.id es) ∙ all ∙ ap whole (attempt_steps_told s.id es ∙ steps)
 

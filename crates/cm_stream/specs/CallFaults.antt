@@ -10,7 +10,7 @@ use Rattle.cm_stream.specs.Checks.{Check, checks_of_by, ◌if◌, first_failed, 
 use Rattle.cm_attempt.specs.Table.{Table}
 use Rattle.cm_attempt.specs.Calls.{call_fault}
 use Rattle.cm_stream.specs.Calls.{call_of}
-use Rattle.cm_stream.specs.Record.{table_of}
+use Rattle.cm_stream.specs.Record.{table_of_envelopes}
 use Rattle.cm_attempt.specs.declared.settings.Settings.{Settings}
 use Rattle.cm_stream.specs.FaultlessLines.{IsFaultlessBy}
 use Rattle.cm_envelope.specs.declared.envelope.Envelope.{Envelope}
@@ -63,7 +63,7 @@ own_checks first es _ = []
 -- after lines without a fault the call is refused for what the first failed of these checks reports
 abbrev pub CallFaultsAreBy : (Utf8 → Reading) → Envelope → Type 0
 CallFaultsAreBy read e = (settings : Settings) (es : List Envelope) → IsFaultlessBy read settings es
-    → option_and_then call_fault_finding (call_fault_of_envelope (table_of settings.first_attempt es) e)
+    → option_and_then call_fault_finding (call_fault_of_envelope (table_of_envelopes settings.first_attempt es) e)
     ≡ first_failed (own_checks settings.first_attempt es e)
 
 -- that of each line

@@ -11,7 +11,7 @@ use Rattle.cm_stream.specs.References.{cases, starts, is_ended, is_good_case}
 use Rattle.cm_stream.specs.Checks.{fault_by, steps_of_attempt}
 use Rattle.cm_stream.specs.Readings.{Reading, ByTheGrammar}
 use Rattle.cm_stream.specs.Calls.{calls_of}
-use Rattle.cm_stream.specs.Record.{table_of, changed}
+use Rattle.cm_stream.specs.Record.{table_of_envelopes, changed}
 use Rattle.cm_envelope.specs.declared.envelope.Envelope.{Envelope}
 
 -- the first lines have no fault, each after those before it, where sources' texts are read so
@@ -24,14 +24,14 @@ IsFaultlessBy read settings es =
 abbrev pub TableSteps : Type 0
 TableSteps =
     (first : ℕ) (es : List Envelope) (e : Envelope)
-    → table_of first (es ++ e ∷ []) ≡ changed (table_of first es) e
+    → table_of_envelopes first (es ++ e ∷ []) ≡ changed (table_of_envelopes first es) e
 
 -- after lines without a fault no call is refused, and the table is the one that the calls leave
 abbrev pub NoneIsRefusedBy : (Utf8 → Reading) → Type 0
 NoneIsRefusedBy read =
     (settings : Settings) (es : List Envelope) → IsFaultlessBy read settings es
     → table_after settings.first_attempt (calls_of es)
-    ≡ Some (table_of settings.first_attempt es)
+    ≡ Some (table_of_envelopes settings.first_attempt es)
 
 abbrev pub NoneIsRefused : Type 0
 NoneIsRefused = ByTheGrammar NoneIsRefusedBy
@@ -49,7 +49,7 @@ pub record AgreesWith (es : List Envelope) (t : Table) : Type 0 where
 abbrev pub TablesAgreeBy : (Utf8 → Reading) → Type 0
 TablesAgreeBy read =
     (settings : Settings) (es : List Envelope) → IsFaultlessBy read settings es
-    → AgreesWith es (table_of settings.first_attempt es)
+    → AgreesWith es (table_of_envelopes settings.first_attempt es)
 
 abbrev pub TablesAgree : Type 0
 TablesAgree = ByTheGrammar TablesAgreeBy

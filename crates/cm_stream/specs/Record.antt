@@ -11,5 +11,5 @@ abbrev pub changed : Table → Envelope → Table
 changed t e = option_map_or (after_call t) (call_of e) t
 
 -- the table after the calls for the lines, where the attempts of a case are numbered from the first number
-abbrev pub table_of : (first : ℕ) → List Envelope → Table
-table_of first es = fold changed (table_from first) es
+abbrev pub table_of_envelopes : (first : ℕ) → List Envelope → Table
+table_of_envelopes first es = fold changed (table_from first) es

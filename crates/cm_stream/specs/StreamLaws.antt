@@ -44,7 +44,7 @@ pub record FoundIsNotGood : Type 0 where
 
 -- The answer for what is reported is right: Good only for a good stream with these counts that says this of success, Bad only
 -- where none begins so, and Good for each good stream.
-pub record IsRight (settings : Settings) (bytes : List ℕ)
+pub record IsRightAnswer (settings : Settings) (bytes : List ℕ)
     (answer : Result Audited Trouble) : Type 0 where
   pub good : GoodRunsOnly settings bytes answer
   pub bad : NoneIsGood settings bytes (verdict_in answer)
@@ -55,4 +55,4 @@ abbrev pub AnswersAreRight : Type 0
 AnswersAreRight =
     (settings : Settings) (bytes : List ℕ) (f : FirstFault) (answer : Result Audited Trouble)
     → IsFirstFault settings bytes f → answered answer ≡ answer_for f
-    → IsRight settings bytes answer
+    → IsRightAnswer settings bytes answer

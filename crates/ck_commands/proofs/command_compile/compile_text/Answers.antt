@@ -1,5 +1,5 @@
 use Rattle.std.proofs.Common.{◌≡◌, ◌∙◌, List, ℕ, Err, ap, inl, refl, sym}
-use Rattle.ck_commands.specs.Features.{IsReadable}
+use Rattle.ck_commands.specs.Features.{IsReadableText}
 use Rattle.ck_commands.specs.Output.{Report}
 use Rattle.ck_commands.specs.declared.feature_input.FeatureFault.TheVariants.{Refused}
 use Rattle.ck_commands.specs.declared.output.ExitStatus.TheVariants.{Done}
@@ -14,7 +14,7 @@ pub returns-in-Ok-flush : goal.returns-in-Ok-flush
 unfolding lines_report
 returns-in-Ok-flush g c =
     let wrote = c.in-Ok.ensures.written in
-    let readable : IsReadable c.args.text.now = record { utf8 = c.utf8.text; short = λ long. let no = c.in-Ok.ensures.too_long.1 long in cc } in
+    let readable : IsReadableText c.args.text.now = record { utf8 = c.utf8.text; short = λ long. let no = c.in-Ok.ensures.too_long.1 long in cc } in
     let passed = c.in-Ok-flush.ensures in
     (lines_report wrote.0, inl (inl (wrote.0, readable, wrote.1, refl)), delivered (lines_report wrote.0) _ _ _ _ c.code.ensures wrote.2 c.in-Ok.ensures.none_failed passed.taken passed.shown passed.failures)
 
@@ -22,7 +22,7 @@ pub returns-in-Err : goal.returns-in-Err
 unfolding lines_report
 returns-in-Err g c =
     let wrote = c.in-Ok.ensures.written in
-    let readable : IsReadable c.args.text.now = record { utf8 = c.utf8.text; short = λ long. let no = c.in-Ok.ensures.too_long.1 long in cc } in
+    let readable : IsReadableText c.args.text.now = record { utf8 = c.utf8.text; short = λ long. let no = c.in-Ok.ensures.too_long.1 long in cc } in
     let passed = c.in-Err.ensures in
     (lines_report wrote.0, inl (inl (wrote.0, readable, wrote.1, refl)), not_flushed (lines_report wrote.0) _ _ _ _ c.code-in-Err.ensures wrote.2 c.in-Ok.ensures.none_failed passed.taken passed.shown passed.failures)
 
@@ -40,7 +40,7 @@ returns-in-Err-WriteFailed g c =
     let is = c.in-Err-WriteFailed.field-0-is in
     let compile = c.in-Err-WriteFailed.ensures in
     let wrote = compile.front (ap Err is) in
-    let readable : IsReadable c.args.text.now = record { utf8 = c.utf8.text; short = λ long. let no = compile.too_long.1 long in cc } in
+    let readable : IsReadableText c.args.text.now = record { utf8 = c.utf8.text; short = λ long. let no = compile.too_long.1 long in cc } in
     let told = c.write_trouble.ensures.front in (
       lines_report wrote.0,
       inl (inl (wrote.0, readable, wrote.1, refl)),
