@@ -12,7 +12,7 @@ use Rattle.clap.specs.Faults.{flags_fault, walk_fault, defaults_fault}
 use Rattle.ck_command_line.specs.CommandLine.{Command, ask_parse, ask_compile, command_of, is_help_call}
 use Rattle.ck_command_line.specs.CommandLine.{gate_command, audit_command, cases_command, differs_command, results_command, parse_command, compile_command}
 use Rattle.ck_command_line.specs.Asked.{Ask, CallForHelp, TakesItsOptions, RefusesFiles, RefusesOtherOptions, FeaturesAreAsked, NothingIsAsked, ExamplesAreAsked}
-use Rattle.ck_command_line.specs.Asked.{all_words, usages, named_options, examples, mistakes, help_calls, is_option, parted}
+use Rattle.ck_command_line.specs.Asked.{all_words, usages, named_options, examples, mistakes, help_calls, is_option, words_of_line}
 use Rattle.ck_command_line.proofs.Leaves.{LineAnswers, leaf, gate_words, audit_words, cases_words, differs_words, results_words, parse_words, compile_words}
 use Rattle.ck_command_line.proofs.Options.{answers, gate_takes, audit_takes, results_takes}
 use Rattle.ck_command_line.proofs.Plain.{plain}
@@ -180,7 +180,7 @@ features_are_asked = record {
 
 -- the command that words ask for, and whether they call for help
 told : Text → Option Command × Bool
-told text = (command_of (codes "cukecheck" ∷ parted text), is_help_call (codes "cukecheck" ∷ parted text))
+told text = (command_of (codes "cukecheck" ∷ words_of_line text), is_help_call (codes "cukecheck" ∷ words_of_line text))
 
 abbrev first_or : {A : Type 0} → A → List A → A
 first_or other [] = other
@@ -200,12 +200,12 @@ pub examples_are_asked : ExamplesAreAsked
 unfolding command_of is_help_call clap_on_literals told
 examples_are_asked = record {
   commands =
-      each (λ row. row.0) (λ row. (Some row.1, false)) (λ row. Ask (parted row.0) (Some row.1)) (λ row same. ask (parted row.0) (Some row.1) (ap (λ (t : Option Command × Bool). t.0) same, ap (λ (t : Option Command × Bool). t.1) same))
+      each (λ row. row.0) (λ row. (Some row.1, false)) (λ row. Ask (words_of_line row.0) (Some row.1)) (λ row same. ask (words_of_line row.0) (Some row.1) (ap (λ (t : Option Command × Bool). t.0) same, ap (λ (t : Option Command × Bool). t.1) same))
       examples refl;
   mistakes =
-      each (λ text. text) (λ text. (None, false)) (λ text. Ask (parted text) None) (λ text same. ask (parted text) None (ap (λ (t : Option Command × Bool). t.0) same, ap (λ (t : Option Command × Bool). t.1) same))
+      each (λ text. text) (λ text. (None, false)) (λ text. Ask (words_of_line text) None) (λ text same. ask (words_of_line text) None (ap (λ (t : Option Command × Bool). t.0) same, ap (λ (t : Option Command × Bool). t.1) same))
       mistakes refl;
   help =
-      each (λ text. text) (λ text. (None, true)) (λ text. CallForHelp (parted text)) (λ text same. call_for_help (parted text) (ap (λ (t : Option Command × Bool). t.0) same, ap (λ (t : Option Command × Bool). t.1) same))
+      each (λ text. text) (λ text. (None, true)) (λ text. CallForHelp (words_of_line text)) (λ text same. call_for_help (words_of_line text) (ap (λ (t : Option Command × Bool). t.0) same, ap (λ (t : Option Command × Bool). t.1) same))
       help_calls refl;
 }

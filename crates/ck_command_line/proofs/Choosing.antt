@@ -8,7 +8,7 @@ use Rattle.clap.specs.declared.error.Error.{Error}
 use Rattle.clap.specs.declared.error.kind.ErrorKind.{ErrorKind}
 use Rattle.clap.specs.declared.error.kind.ErrorKind.TheVariants.{DisplayHelp, DisplayVersion, OutOfMemory}
 use Rattle.clap.specs.declared.parser.matches.ArgMatches.{ArgMatches}
-use Rattle.ck_command_line.specs.CommandLine.{Chooses, Command, asked, command_app, command_of, named, where_none}
+use Rattle.ck_command_line.specs.CommandLine.{Chooses, Command, command_of_choice, command_app, command_of, subcommand_named, where_none}
 use Rattle.ck_command_line.specs.CommandLine.{HelpsByKind, HelpsOnCall, IsNoHelp, is_help, is_help_call}
 use Rattle.ck_command_line.specs.declared.command_line.Choice.{Choice}
 use Rattle.ck_command_line.specs.declared.command_line.Refusal.{Refusal}
@@ -21,15 +21,15 @@ is_free_command : (a : App) → a ≡ command_app → is_simple_and_free a ≡ t
 is_free_command a is = subst (λ b. is_simple_and_free b ≡ true) (sym is) refl
 
 taken_by : (a : App) (words : List Text) (m : ArgMatches) → fault_of a words ≡ [] → subcommand_rows_of m ≡ subcommand_of a words
-    → named (subcommand_rows_of m) ≡ where_none (fault_of a words) (named (subcommand_of a words))
-taken_by a words m none sub = rw none (ap named sub)
+    → subcommand_named (subcommand_rows_of m) ≡ where_none (fault_of a words) (subcommand_named (subcommand_of a words))
+taken_by a words m none sub = rw none (ap subcommand_named sub)
 
 -- where the parse has matches, its subcommand is what the words ask for
 pub taken : (a : App) (words : List Text) (m : ArgMatches) → a ≡ command_app → HasMatchesOf a words m
-    → (is_simple_and_free a ≡ true → fault_of a words ≡ []) → named (subcommand_rows_of m) ≡ command_of words
+    → (is_simple_and_free a ≡ true → fault_of a words ≡ []) → subcommand_named (subcommand_rows_of m) ≡ command_of words
 unfolding command_of
 taken a words m is has free =
-    subst (λ b. named (subcommand_rows_of m) ≡ where_none (fault_of b words) (named (subcommand_of b words))) is
+    subst (λ b. subcommand_named (subcommand_rows_of m) ≡ where_none (fault_of b words) (subcommand_named (subcommand_of b words))) is
     (taken_by a words m (free (is_free_command a is)) (has (is_simple_command a is)).1)
 
 by_kinds : (kinds : Kinds) (found : Option Command) (e : Error) (r : Refusal) → HasKind kinds e
@@ -45,17 +45,17 @@ pub refused : (a : App) (words : List Text) (e : Error) (r : Refusal) → a ≡ 
     → Chooses (command_of words) (Err r)
 unfolding command_of
 refused a words e r is free memory =
-    subst (λ b. Chooses (where_none (fault_of b words) (named (subcommand_of b words))) (Err r)) is
-    (by_kinds (fault_of a words) (named (subcommand_of a words)) e r (free (is_free_command a is)) memory)
+    subst (λ b. Chooses (where_none (fault_of b words) (subcommand_named (subcommand_of b words))) (Err r)) is
+    (by_kinds (fault_of a words) (subcommand_named (subcommand_of a words)) e r (free (is_free_command a is)) memory)
 
 -- the choice that was read off the matches
-pub chosen_some : (words : List Text) (found : Option Choice) (c : Choice) → found ≡ Some c → option_map asked found ≡ command_of words
+pub chosen_some : (words : List Text) (found : Option Choice) (c : Choice) → found ≡ Some c → option_map command_of_choice found ≡ command_of words
     → Chooses (command_of words) (Ok c)
-chosen_some words found c is same = subst (λ o. Chooses o (Ok c)) (sym (ap (option_map asked) is) ∙ same) refl
+chosen_some words found c is same = subst (λ o. Chooses o (Ok c)) (sym (ap (option_map command_of_choice) is) ∙ same) refl
 
-pub chosen_none : (words : List Text) (found : Option Choice) (r : Refusal) → found ≡ None → option_map asked found ≡ command_of words
+pub chosen_none : (words : List Text) (found : Option Choice) (r : Refusal) → found ≡ None → option_map command_of_choice found ≡ command_of words
     → Chooses (command_of words) (Err r)
-chosen_none words found r is same = subst (λ o. Chooses o (Err r)) (sym (ap (option_map asked) is) ∙ same) refl
+chosen_none words found r is same = subst (λ o. Chooses o (Err r)) (sym (ap (option_map command_of_choice) is) ∙ same) refl
 
 pub no_help : (words : List Text) (r : Refusal) → IsNoHelp r → HelpsOnCall words (Err r)
 no_help words (Help t) h = absurd h

@@ -9,7 +9,7 @@ use Rattle.clap.specs.Simple.{Shape, built, built_leaf, entered, inherited, name
 use Rattle.clap.specs.Faults.{defaults_fault, flags_fault, level_fault, walk_fault}
 use Rattle.clap.proofs.WalkLemmas.{walk_stopped}
 use Rattle.clap.proofs.FaultLemmas.{stopped_fault}
-use Rattle.ck_command_line.specs.CommandLine.{Command, command_app, command_of, command_named, is_help, is_help_call, named, where_none}
+use Rattle.ck_command_line.specs.CommandLine.{Command, command_app, command_of, command_named, is_help, is_help_call, subcommand_named, where_none}
 use Rattle.ck_command_line.specs.CommandLine.{gate_command, audit_command, cases_command, differs_command, results_command, compile_command, parse_command}
 
 -- the program, built
@@ -50,7 +50,7 @@ module _ (others : List Text) where
       → (command : Option Command) → Answers s others command → LineAnswers (s.name ∷ others) command
   unfolding command_of is_help_call
   passed_on s fault rows command answers = (
-    ap₂ (λ (kinds : Kinds) (rows : Option (Text × List Row)). where_none kinds (named rows)) fault rows ∙ answers.0,
+    ap₂ (λ (kinds : Kinds) (rows : Option (Text × List Row)). where_none kinds (subcommand_named rows)) fault rows ∙ answers.0,
     ap (list_any is_help) fault ∙ answers.1,
   )
 

@@ -9,7 +9,7 @@ use Rattle.clap.specs.Walk.{bundle_met, rows_after, walked}
 use Rattle.clap.specs.Faults.{flags_fault, walk_fault, defaults_fault}
 use Rattle.ck_command_line.specs.CommandLine.{Command, ask_audit, ask_cases, ask_differs, command_named, is_help, where_none}
 use Rattle.ck_command_line.specs.CommandLine.{gate_command, audit_command, cases_command, differs_command, results_command}
-use Rattle.ck_command_line.specs.Asked.{Written, allow_unrun, pending_passes, attempts_from, IsPlain, are_distinct, all_words, asked_with}
+use Rattle.ck_command_line.specs.Asked.{Written, allow_unrun, pending_passes, attempts_from, IsPlain, are_distinct, all_words, command_asked_with}
 use Rattle.ck_command_line.specs.Asked.{gate_usage, usage_like_audit, results_usage}
 use Rattle.ck_command_line.proofs.Leaves.{Answers, faults, leaf}
 use Rattle.ck_command_line.proofs.Plain.{plain}
@@ -25,7 +25,7 @@ answers s words command reads = (
 )
 
 pub gate_takes : (options : List Written) → are_distinct gate_usage.options options ≡ true → AllByRecursion IsPlain options
-    → Reads (leaf gate_command) (all_words options) (asked_with gate_usage options)
+    → Reads (leaf gate_command) (all_words options) (command_asked_with gate_usage options)
 unfolding bundle_met walked flags_fault walk_fault defaults_fault
 gate_takes [] h k = (refl, refl)
 gate_takes (allow_unrun ∷ []) h k = (refl, refl)
@@ -78,9 +78,9 @@ gate_takes (attempts_from w n ∷ attempts_from v m ∷ options) h k = absurd (f
 
 -- the three commands with the options of `audit`
 abbrev AllRead : List Written → Type 0
-AllRead options = Reads (leaf audit_command) (all_words options) (asked_with (usage_like_audit (codes "audit") ask_audit) options)
-    × Reads (leaf cases_command) (all_words options) (asked_with (usage_like_audit (codes "cases") ask_cases) options)
-    × Reads (leaf differs_command) (all_words options) (asked_with (usage_like_audit (codes "differs") ask_differs) options)
+AllRead options = Reads (leaf audit_command) (all_words options) (command_asked_with (usage_like_audit (codes "audit") ask_audit) options)
+    × Reads (leaf cases_command) (all_words options) (command_asked_with (usage_like_audit (codes "cases") ask_cases) options)
+    × Reads (leaf differs_command) (all_words options) (command_asked_with (usage_like_audit (codes "differs") ask_differs) options)
 
 pub audit_takes : (options : List Written) → are_distinct (usage_like_audit (codes "audit") ask_audit).options options ≡ true → AllByRecursion IsPlain options → AllRead options
 unfolding bundle_met walked flags_fault walk_fault defaults_fault
@@ -105,7 +105,7 @@ in_two_steps f g None = refl
 in_two_steps f g (Some x) = refl
 
 pub results_takes : (options : List Written) → are_distinct results_usage.options options ≡ true → AllByRecursion IsPlain options
-    → Reads (leaf results_command) (all_words options) (asked_with results_usage options)
+    → Reads (leaf results_command) (all_words options) (command_asked_with results_usage options)
 unfolding bundle_met walked flags_fault walk_fault defaults_fault
 results_takes [] h k = (refl, refl)
 results_takes (allow_unrun ∷ options) h k = absurd (false≢true h)

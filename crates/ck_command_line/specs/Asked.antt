@@ -9,14 +9,14 @@ use Rattle.clap.specs.Lexer.{long_of}
 use Rattle.cm_attempt.specs.declared.policy.Policy.{Policy}
 use Rattle.cm_attempt.specs.declared.policy.Policy.TheVariants.{Strict, PendingPasses}
 use Rattle.cm_attempt.specs.declared.settings.Settings.{Settings}
-use Rattle.ck_command_line.specs.CommandLine.{AsksNothing, CallsForHelp, Command, asked_by, first_attempt_named}
+use Rattle.ck_command_line.specs.CommandLine.{AsksNothing, CallsForHelp, Command, command_asked_by, first_attempt_named}
 use Rattle.ck_command_line.specs.CommandLine.{ask_audit, ask_cases, ask_compile, ask_differs, ask_gate, ask_parse}
-use Rattle.ck_command_line.specs.CommandLine.{ask_results, helped_by}
+use Rattle.ck_command_line.specs.CommandLine.{ask_results, asks_for_help}
 
 -- words that are these texts ask for this command, or for none, and don't call for help
 abbrev pub Ask : List Text → Option Command → Type 0
 Ask texts command = (words : List (Bor Text)) → map (λ w. w.now) words ≡ texts
-    → (asked_by words ≡ command) × (helped_by words ≡ false)
+    → (command_asked_by words ≡ command) × (asks_for_help words ≡ false)
 
 -- words that are these texts call for help or for the version
 abbrev pub CallForHelp : List Text → Type 0
@@ -119,8 +119,8 @@ usages =
     ∷ usage_like_audit (codes "differs") ask_differs ∷ results_usage ∷ []
 
 -- what a command with these options asks for
-abbrev pub asked_with : Usage → List Written → Option Command
-asked_with usage options =
+abbrev pub command_asked_with : Usage → List Written → Option Command
+command_asked_with usage options =
     option_map (λ settings. usage.asks settings (list_any (has_name (codes "allow-unrun")) options))
     (settings_written options)
 
@@ -129,7 +129,7 @@ asked_with usage options =
 abbrev pub TakesItsOptions : Usage → Type 0
 TakesItsOptions usage = (options : List Written) → are_distinct usage.options options ≡ true
     → AllByRecursion IsPlain options
-    → Ask (usage.name ∷ all_words options) (asked_with usage options)
+    → Ask (usage.name ∷ all_words options) (command_asked_with usage options)
 
 -- ---- words that ask for nothing
 
@@ -181,25 +181,25 @@ abbrev pub with_first : ℕ → List Text → List Text
 with_first c [] = (c ∷ []) ∷ []
 with_first c (word ∷ words) = (c ∷ word) ∷ words
 
-abbrev pub parted : Text → List Text
-parted [] = [] ∷ []
-parted (c ∷ cs) = if c == 32 then [] ∷ parted cs else with_first c (parted cs)
+abbrev pub words_of_line : Text → List Text
+words_of_line [] = [] ∷ []
+words_of_line (c ∷ cs) = if c == 32 then [] ∷ words_of_line cs else with_first c (words_of_line cs)
 
 -- the settings of this policy, with first attempts of this number
-abbrev pub by : Policy → (first : ℕ) → Settings
-by policy first = record { policy = policy; first_attempt = first }
+abbrev pub settings_by : Policy → (first : ℕ) → Settings
+settings_by policy first = record { policy = policy; first_attempt = first }
 
 -- words, and the command that they ask for
 abbrev pub examples : List (Text × Command)
 examples =
-    (codes "gate", ask_gate (by Strict 0) false)
-    ∷ (codes "gate --allow-unrun", ask_gate (by Strict 0) true)
-    ∷ (codes "gate --attempts-from 1 --allow-unrun", ask_gate (by Strict 1) true)
-    ∷ (codes "gate --attempts-from=1 --pending-passes", ask_gate (by PendingPasses 1) false)
-    ∷ (codes "audit", ask_audit (by Strict 0))
-    ∷ (codes "audit --attempts-from 0", ask_audit (by Strict 0))
-    ∷ (codes "cases --pending-passes", ask_cases (by PendingPasses 0))
-    ∷ (codes "differs --attempts-from 1", ask_differs (by Strict 1))
+    (codes "gate", ask_gate (settings_by Strict 0) false)
+    ∷ (codes "gate --allow-unrun", ask_gate (settings_by Strict 0) true)
+    ∷ (codes "gate --attempts-from 1 --allow-unrun", ask_gate (settings_by Strict 1) true)
+    ∷ (codes "gate --attempts-from=1 --pending-passes", ask_gate (settings_by PendingPasses 1) false)
+    ∷ (codes "audit", ask_audit (settings_by Strict 0))
+    ∷ (codes "audit --attempts-from 0", ask_audit (settings_by Strict 0))
+    ∷ (codes "cases --pending-passes", ask_cases (settings_by PendingPasses 0))
+    ∷ (codes "differs --attempts-from 1", ask_differs (settings_by Strict 1))
     ∷ (codes "results --attempts-from 1", ask_results 1)
     ∷ (codes "parse", ask_parse)
     ∷ (codes "compile --uri a.feature", ask_compile (codes "a.feature"))
@@ -231,6 +231,6 @@ help_calls =
     ∷ codes "--version" ∷ codes "-V" ∷ []
 
 pub record ExamplesAreAsked : Type 0 where
-  pub commands : AllByRecursion (λ row. Ask (parted row.0) (Some row.1)) examples
-  pub mistakes : AllByRecursion (λ text. Ask (parted text) None) mistakes
-  pub help : AllByRecursion (λ text. CallForHelp (parted text)) help_calls
+  pub commands : AllByRecursion (λ row. Ask (words_of_line row.0) (Some row.1)) examples
+  pub mistakes : AllByRecursion (λ text. Ask (words_of_line text) None) mistakes
+  pub help : AllByRecursion (λ text. CallForHelp (words_of_line text)) help_calls

@@ -30,14 +30,14 @@ pub data Command : Type 0 where
   ask_differs : Settings → Command
 
 -- the command, as the code holds it
-abbrev pub asked : Choice → Command
-asked choice.Parse = ask_parse
-asked (choice.Compile uri) = ask_compile uri.now
-asked (choice.Audit settings) = ask_audit settings
-asked (choice.Gate settings allows_unrun) = ask_gate settings allows_unrun
-asked (choice.Results first_attempt) = ask_results first_attempt
-asked (choice.Cases settings) = ask_cases settings
-asked (choice.Differs settings) = ask_differs settings
+abbrev pub command_of_choice : Choice → Command
+command_of_choice choice.Parse = ask_parse
+command_of_choice (choice.Compile uri) = ask_compile uri.now
+command_of_choice (choice.Audit settings) = ask_audit settings
+command_of_choice (choice.Gate settings allows_unrun) = ask_gate settings allows_unrun
+command_of_choice (choice.Results first_attempt) = ask_results first_attempt
+command_of_choice (choice.Cases settings) = ask_cases settings
+command_of_choice (choice.Differs settings) = ask_differs settings
 
 -- `--uri URI`, which must be given; its value has one name
 abbrev pub uri_rule : Rule
@@ -161,8 +161,8 @@ command_named name rows =
     else if bytes_eq name (codes "differs") then option_map ask_differs (settings_in rows)
     else None
 
-abbrev pub named : Option (Text × List Row) → Option Command
-named sub = option_and_then (λ s. command_named s.0 s.1) sub
+abbrev pub subcommand_named : Option (Text × List Row) → Option Command
+subcommand_named sub = option_and_then (λ s. command_named s.0 s.1) sub
 
 abbrev pub where_none : {A B : Type 0} → List A → Option B → Option B
 where_none [] found = found
@@ -171,23 +171,23 @@ where_none (x ∷ xs) found = None
 -- What the words ask for, the program's name first: the command that they name, where the command
 -- line has no fault.
 unfoldable pub command_of : List Text → Option Command
-command_of words = where_none (fault_of command_app words) (named (subcommand_of command_app words))
+command_of words = where_none (fault_of command_app words) (subcommand_named (subcommand_of command_app words))
 
 -- what the words after the program's name ask for
-abbrev pub asked_by : List (Bor Text) → Option Command
-asked_by words = command_of (codes "cukecheck" ∷ map (λ w. w.now) words)
+abbrev pub command_asked_by : List (Bor Text) → Option Command
+command_asked_by words = command_of (codes "cukecheck" ∷ map (λ w. w.now) words)
 
 -- they ask for this command
 abbrev pub Asks : List (Bor Text) → Command → Type 0
-Asks words command = asked_by words ≡ Some command
+Asks words command = command_asked_by words ≡ Some command
 
 -- they ask for no command
 abbrev pub AsksNothing : List (Bor Text) → Type 0
-AsksNothing words = asked_by words ≡ None
+AsksNothing words = command_asked_by words ≡ None
 
 -- the words gave this command, or memory ran out; words that ask for no command gave none
 abbrev pub Chooses : Option Command → Result Choice Refusal → Type 0
-Chooses (Some c) (Ok d) = asked d ≡ c
+Chooses (Some c) (Ok d) = command_of_choice d ≡ c
 Chooses (Some c) (Err r) = r ≡ refusal.Memory
 Chooses None result = IsErr result
 
@@ -202,11 +202,11 @@ unfoldable pub is_help_call : List Text → Bool
 is_help_call words = list_any is_help (fault_of command_app words)
 
 -- whether the words after the program's name call for help or for the version
-abbrev pub helped_by : List (Bor Text) → Bool
-helped_by words = is_help_call (codes "cukecheck" ∷ map (λ w. w.now) words)
+abbrev pub asks_for_help : List (Bor Text) → Bool
+asks_for_help words = is_help_call (codes "cukecheck" ∷ map (λ w. w.now) words)
 
 abbrev pub CallsForHelp : List (Bor Text) → Type 0
-CallsForHelp words = helped_by words ≡ true
+CallsForHelp words = asks_for_help words ≡ true
 
 -- help is given only where the words call for it
 abbrev pub HelpsOnCall : List Text → Result Choice Refusal → Type 0

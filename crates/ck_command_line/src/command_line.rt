@@ -3,10 +3,10 @@ ghost use Rattle.std.specs.Prelude.{◌≡◌, IfOk, false, map, option_map};
 ghost use Rattle.clap.specs.Words.{app_of, first_of, found_of, kind_of, new_app, rows_of, rule_of, subcommand_rows_of};
 ghost use Rattle.clap.specs.declared.builder.command.Command.TheViews.{out-Command as fields_of};
 ghost use Rattle.ck_command_line.specs.CommandLine.{HelpsByKind, HelpsOnCall, IsNoHelp};
-ghost use Rattle.ck_command_line.specs.CommandLine.{Chooses, asked, attempts_rule, audit_command, bare_app, cases_command};
+ghost use Rattle.ck_command_line.specs.CommandLine.{Chooses, command_of_choice, attempts_rule, audit_command, bare_app, cases_command};
 ghost use Rattle.ck_command_line.specs.CommandLine.{command_app, command_named, command_of, compile_command, differs_command};
 ghost use Rattle.ck_command_line.specs.CommandLine.{first_attempt_in};
-ghost use Rattle.ck_command_line.specs.CommandLine.{flag_rule, gate_command, is_given, named, parse_command, policy_in, results_command};
+ghost use Rattle.ck_command_line.specs.CommandLine.{flag_rule, gate_command, is_given, subcommand_named, parse_command, policy_in, results_command};
 ghost use Rattle.ck_command_line.specs.CommandLine.{settings_in, uri_rule};
 
 use crate::help;
@@ -319,7 +319,8 @@ fn settings_in<'a>(values: &ArgMatches<'a>) -> Option<Settings>
 
 /// The command of this name, with the values that come after it.
 fn choice_named<'a>(name: &str, values: &ArgMatches<'a>) -> Option<Choice<'a>>
-    ensures { option_map asked result ≡ command_named name.now (rows_of (found_of values.now)) }
+    ensures { option_map command_of_choice result
+        ≡ command_named name.now (rows_of (found_of values.now)) }
 {
     if name == "parse" {
         return Some(Choice::Parse);
@@ -347,7 +348,8 @@ fn choice_named<'a>(name: &str, values: &ArgMatches<'a>) -> Option<Choice<'a>>
 
 /// What the command in the matches asks for.
 fn chosen<'a>(matches: &ArgMatches<'a>) -> Option<Choice<'a>>
-    ensures { option_map asked result ≡ named (subcommand_rows_of matches.now) }
+    ensures { option_map command_of_choice result
+        ≡ subcommand_named (subcommand_rows_of matches.now) }
 {
     let (name, values) = matches.subcommand()?;
     choice_named(name, values)

@@ -8,12 +8,12 @@ use Rattle.cm_envelope.specs.Reading.{LineFault, envelope_of_line}
 use Rattle.cm_envelope.specs.declared.envelope.Envelope.{Envelope}
 use Rattle.cm_envelope.specs.declared.feed.Trouble.{Trouble}
 use Rattle.cm_attempt.specs.Results.{case_results}
-use Rattle.cm_attempt.specs.Table.{Table, reported_of, table_from}
+use Rattle.cm_attempt.specs.Table.{Table, reported_status, table_from}
 use Rattle.cm_attempt.specs.Calls.{table_after}
 use Rattle.cm_stream.specs.Findings.{Finding}
 use Rattle.cm_stream.specs.CallFaults.{call_fault_of_envelope, call_fault_finding}
-use Rattle.cm_stream.specs.Record.{changed}
-use Rattle.cm_stream.specs.Stream.{at_line as at_told, fed}
+use Rattle.cm_stream.specs.Record.{table_after_envelope}
+use Rattle.cm_stream.specs.Stream.{at_line as at_told, feed_of}
 use Rattle.cm_stream.specs.Calls.{calls_of}
 use Rattle.cm_stream.specs.Results.{results_fault, first_results_fault_line, first_results_fault_of, first_results_fault, results_of}
 use Rattle.cm_stream.proofs.Tables.{tables_have_results, refused_for_faults, tables_change}
@@ -28,7 +28,7 @@ flat_twice f g (x ∷ xs) = ap (λ ys. f (g x) ++ ys) (flat_twice f g xs)
 
 -- the lines of a table are those of its results
 pub rows_text : (t : Table) → table_text t ≡ flat_map result_text (case_results t)
-rows_text t = flat_twice (case_result_text t) (λ c. c.id) t.cases ∙ sym (flat_twice result_text (λ c. (c.id, reported_of t c.id)) t.cases)
+rows_text t = flat_twice (case_result_text t) (λ c. c.id) t.cases ∙ sym (flat_twice result_text (λ c. (c.id, reported_status t c.id)) t.cases)
 
 at_end : (first : ℕ) (before : List Envelope) (t : Table) → table_after first (calls_of before) ≡ Some t → table_text t ≡ flat_map result_text (results_of before)
 at_end first before t taken =
@@ -43,10 +43,10 @@ shown first before n t (l ∷ ls) end taken = go (is_blank l) refl (shown first 
     on_fault : (e : Envelope) → (o : Option Finding) → results_fault first before e ≡ o
         → ((u : Table) → table_after first (calls_of (before ++ e ∷ [])) ≡ Some u
         → outcome_report (outcome_at (after_lines (n + 1) u ls) end) ≡ results_report (first_results_fault_of first (before ++ e ∷ []) (n + 1 + 1) ls end))
-        → outcome_report (outcome_at (at_line (n + 1) (unless_found o (changed t e)) >>= λ next. after_lines (n + 1) next ls) end)
+        → outcome_report (outcome_at (at_line (n + 1) (unless_found o (table_after_envelope t e)) >>= λ next. after_lines (n + 1) next ls) end)
         ≡ results_report (at_told (n + 1) (results_fault first before e) (first_results_fault_of first (before ++ e ∷ []) (n + 1 + 1) ls end))
     on_fault e (Some f) k rec = rw k refl
-    on_fault e None k rec = rw k (rec (changed t e) (tables_change first before t taken e k))
+    on_fault e None k rec = rw k (rec (table_after_envelope t e) (tables_change first before t taken e k))
 
     on_read : (r : Result Envelope LineFault)
         → ((e : Envelope) (u : Table) → table_after first (calls_of (before ++ e ∷ [])) ≡ Some u
@@ -64,4 +64,4 @@ shown first before n t (l ∷ ls) end taken = go (is_blank l) refl (shown first 
     go false k skip rec = rw k (on_read (envelope_of_line l) rec)
 
 pub outcome_is_reported : (first : ℕ) (bytes : List ℕ) → outcome_report (outcome_of first bytes) ≡ results_report (first_results_fault first bytes)
-outcome_is_reported first bytes = shown first [] 0 (table_from first) (fed bytes).lines (fed bytes).trouble refl
+outcome_is_reported first bytes = shown first [] 0 (table_from first) (feed_of bytes).lines (feed_of bytes).trouble refl

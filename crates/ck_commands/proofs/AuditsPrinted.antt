@@ -7,7 +7,7 @@ use Rattle.cm_attempt.specs.declared.settings.Settings.{Settings}
 use Rattle.cm_audit.specs.Audit.{AnswersTold, Audits, GoodAtEnd, GoodAtEndIn, IsAuditOf, ShowNoFault}
 use Rattle.cm_envelope.specs.Feeds.{is_failed_read}
 use Rattle.cm_stream.specs.Findings.{Finding, IsBad, IsUnsupported}
-use Rattle.cm_stream.specs.Stream.{Answer, Failed, Found, answered}
+use Rattle.cm_stream.specs.Stream.{Answer, Failed, Found, answer_of_audit}
 use Rattle.cm_stream.specs.declared.verdict.Audited.{Audited}
 use Rattle.cm_stream.specs.declared.verdict.Verdict.{Verdict}
 use Rattle.cm_stream.specs.declared.verdict.Verdict.TheVariants as verdict
@@ -24,18 +24,18 @@ not_done n (IsBad f) e = cc
 not_done n (IsUnsupported r) e = cc
 
 module _ (report : Answer → Report) (found : (n : ℕ) (f : Finding) → (report (Found n f)).status ≡ exit.Done → ⊥) (trouble : (t : Trouble) → (report (Failed t)).status ≡ exit.Trouble) where
-  of_verdict : (j : Input) (v : Verdict) (success : Bool) → GoodAtEndIn j v → (report (answered (Ok (record { verdict = v; success = success })))).status ≡ exit.Done → j.is_over ≡ true
+  of_verdict : (j : Input) (v : Verdict) (success : Bool) → GoodAtEndIn j v → (report (answer_of_audit (Ok (record { verdict = v; success = success })))).status ≡ exit.Done → j.is_over ≡ true
   of_verdict j (verdict.Good counts) success over e = over
   of_verdict j (verdict.Bad n b) success over e = absurd (found n _ e)
   of_verdict j (verdict.Unsupported n r) success over e = absurd (found n _ e)
 
   -- with status 0 the source was at its end, and no read failed
-  over_at : (j : Input) (answer : Result Audited Trouble) (r : Report) → GoodAtEnd j answer → IsOne (report (answered answer)) r → r.status ≡ exit.Done → j.is_over ≡ true
+  over_at : (j : Input) (answer : Result Audited Trouble) (r : Report) → GoodAtEnd j answer → IsOne (report (answer_of_audit answer)) r → r.status ≡ exit.Done → j.is_over ≡ true
   over_at j answer r over (inr e) done = let no : exit.Trouble ≡ exit.Done = ap (λ (x : Report). x.status) (sym e) ∙ done in cc
   over_at j (Ok a) r over (inl e) done = of_verdict j a.verdict a.success over (ap (λ (x : Report). x.status) (sym e) ∙ done)
   over_at j (Err t) r over (inl e) done = let no : exit.Trouble ≡ exit.Done = sym (trouble t) ∙ ap (λ (x : Report). x.status) (sym e) ∙ done in cc
 
-  unread_at : (i j : Input) (answer : Result Audited Trouble) (r : Report) → CountsFailure (is_failed_read answer) i.failed_calls j.failed_calls → IsOne (report (answered answer)) r → r.status ≡ exit.Done
+  unread_at : (i j : Input) (answer : Result Audited Trouble) (r : Report) → CountsFailure (is_failed_read answer) i.failed_calls j.failed_calls → IsOne (report (answer_of_audit answer)) r → r.status ≡ exit.Done
       → j.failed_calls ≡ i.failed_calls
   unread_at i j answer r counts (inr e) done = let no : exit.Trouble ≡ exit.Done = ap (λ (x : Report). x.status) (sym e) ∙ done in cc
   unread_at i j (Ok a) r counts (inl e) done = counts
@@ -49,7 +49,7 @@ no_fault_of settings answer i j h more =
     let failed = failed_answer answer (some_failed _ _ _ h.failures more) in
     reads_weaker {P = IsAuditOf settings answer} {Q = ShowNoFault settings} i j h.heard (λ xs ys a. a.read_failed failed)
 
-pub audit_is_reported : (settings : Settings) (answer : Result Audited Trouble) (r : Report) (i j : Input) → Audits settings answer i j → IsOne (verdict_report (answered answer)) r → Reported (ask_audit settings) r i j
+pub audit_is_reported : (settings : Settings) (answer : Result Audited Trouble) (r : Report) (i j : Input) → Audits settings answer i j → IsOne (verdict_report (answer_of_audit answer)) r → Reported (ask_audit settings) r i j
 audit_is_reported settings answer r i j h one = record {
   answer = λ reads. first_reported verdict_report refl settings i j answer r (told_of settings answer i j h) (none_failed _ _ _ h.failures reads) one;
   tells = λ other. audit_reported verdict_report refl settings i j answer r (λ t. refl) one other h.heard;
@@ -63,7 +63,7 @@ gate_not_done : (allows_unrun : Bool) (n : ℕ) (f : Finding) → (gate_report a
 gate_not_done allows_unrun n (IsBad f) e = cc
 gate_not_done allows_unrun n (IsUnsupported r) e = cc
 
-pub gate_is_reported : (settings : Settings) (allows_unrun : Bool) (answer : Result Audited Trouble) (r : Report) (i j : Input) → Audits settings answer i j → IsOne (gate_report allows_unrun (answered answer)) r
+pub gate_is_reported : (settings : Settings) (allows_unrun : Bool) (answer : Result Audited Trouble) (r : Report) (i j : Input) → Audits settings answer i j → IsOne (gate_report allows_unrun (answer_of_audit answer)) r
     → Reported (ask_gate settings allows_unrun) r i j
 gate_is_reported settings allows_unrun answer r i j h one = record {
   answer = λ reads. first_reported (gate_report allows_unrun) refl settings i j answer r (told_of settings answer i j h) (none_failed _ _ _ h.failures reads) one;

@@ -3,7 +3,7 @@ use Rattle.std.proofs.Common.{◌≡◌, ◌∙◌, ◌∷◌, ℕ, List, Some, 
 use Rattle.std.specs.Borrow.{Bor}
 use Rattle.cm_envelope.specs.Device.{Input, Output}
 use Rattle.cm_envelope.specs.declared.feed.Trouble.TheVariants.{Memory}
-use Rattle.ck_command_line.specs.CommandLine.{Asks, Chooses, Command, asked, command_of}
+use Rattle.ck_command_line.specs.CommandLine.{Asks, Chooses, Command, command_of_choice, command_of}
 use Rattle.ck_command_line.specs.declared.command_line.Choice.{Choice}
 use Rattle.ck_command_line.specs.declared.command_line.Refusal.{Refusal}
 use Rattle.ck_command_line.specs.declared.command_line.Refusal.TheVariants as refusal
@@ -13,7 +13,7 @@ use Rattle.ck_commands.proofs.Ran.{runs_of, without_memory}
 
 module _ (words : List (Bor (List ℕ))) (full : List (List ℕ)) (same : full ≡ codes "cukecheck" ∷ map (λ w. w.now) words) where
   -- the choice is the command that the words ask for
-  pub choice_runs : (d : Choice) (code : ℕ) (i j : Input) (before after : Output) → Chooses (command_of full) (Ok d) → Runs (asked d) code i j before after
+  pub choice_runs : (d : Choice) (code : ℕ) (i j : Input) (before after : Output) → Chooses (command_of full) (Ok d) → Runs (command_of_choice d) code i j before after
       → (c : Command) → Asks words c → Runs c code i j before after
   choice_runs d code i j before after chosen runs c asks =
       let is : Chooses (Some c) (Ok d) = subst (λ o. Chooses o (Ok d)) (ap command_of same ∙ asks) chosen in

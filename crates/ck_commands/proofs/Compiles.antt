@@ -9,7 +9,7 @@ use Rattle.gk_grammar.specs.Tree.{Document}
 use Rattle.gk_tree.specs.declared.fault.ParseFault.{ParseFault}
 use Rattle.cm_compile.specs.Faults.{IsRefusedWith}
 use Rattle.ck_command_line.specs.CommandLine.{ask_compile, ask_parse}
-use Rattle.ck_commands.specs.Features.{IsFaultOf, IsFeatureOf, IsRefusedFeature, fault_report, is_failed_feature_read, of_text, parse_report}
+use Rattle.ck_commands.specs.Features.{IsFaultOf, IsFeatureOf, IsRefusedFeature, fault_report, is_failed_feature_read, feature_fault_of_text, parse_report}
 use Rattle.ck_commands.specs.Output.{DeliversOne, Report, trouble_report}
 use Rattle.ck_commands.specs.Run.{Reports, ReportsCompiled}
 use Rattle.ck_commands.specs.TextInput.{HasTextFault, IsTextOf, is_failed_text_read as text_failed}
@@ -61,18 +61,18 @@ text_is_reported uri t r i j is none one =
     }
 
 -- why a source gives no text is why it gives no document
-text_fault : (bytes : List ℕ) (f : TextFault) → HasTextFault bytes f → (f ≡ text.ReadFailed → ⊥) → IsFaultOf bytes (of_text f)
+text_fault : (bytes : List ℕ) (f : TextFault) → HasTextFault bytes f → (f ≡ text.ReadFailed → ⊥) → IsFaultOf bytes (feature_fault_of_text f)
 text_fault bytes text.ReadFailed h other = absurd (other refl)
 text_fault bytes text.TooLong h other = inl (inl h, refl)
 text_fault bytes text.NotUtf8 h other = h
 text_fault bytes text.Memory h other = tt
 
 -- a fault of the text that is passed on
-pub on_text_fault : (f : TextFault) (r : Result Document FeatureFault) (i j : Input) → IsErrAnd r (λ e. e ≡ of_text f) → OfInput i j (λ bytes. HasTextFault bytes f) → is_failed_feature_read r ≡ false
+pub on_text_fault : (f : TextFault) (r : Result Document FeatureFault) (i j : Input) → IsErrAnd r (λ e. e ≡ feature_fault_of_text f) → OfInput i j (λ bytes. HasTextFault bytes f) → is_failed_feature_read r ≡ false
     → OfInput i j (λ bytes. IsFeatureOf bytes r)
 on_text_fault f (Ok d) i j h is none = absurd h
 on_text_fault f (Err e) i j h is none =
-    input_weaker {P = λ bytes. HasTextFault bytes f} {Q = λ bytes. IsFaultOf bytes e} i j is (λ xs t. subst (IsFaultOf xs) (sym h) (text_fault xs f t (λ read. other e (h ∙ ap of_text read) none)))
+    input_weaker {P = λ bytes. HasTextFault bytes f} {Q = λ bytes. IsFaultOf bytes e} i j is (λ xs t. subst (IsFaultOf xs) (sym h) (text_fault xs f t (λ read. other e (h ∙ ap feature_fault_of_text read) none)))
   where
     other : (e : FeatureFault) → e ≡ ReadFailed → is_failed_feature_read {A = Document} (Err e) ≡ false → ⊥
     other ReadFailed is none = cc
@@ -80,8 +80,8 @@ on_text_fault f (Err e) i j h is none =
     other NotUtf8 is none = cc
     other Memory is none = cc
 
-no_read : (f : TextFault) (r : Report) → IsOne (fault_report (of_text f)) r → (r.status ≡ exit.Trouble → ⊥) → f ≡ text.ReadFailed → ⊥
-no_read f r one other is = other (ap (λ (x : Report). x.status) (made (r ≡ fault_report (of_text f)) r one other) ∙ ap (λ (g : TextFault). (fault_report (of_text g)).status) is)
+no_read : (f : TextFault) (r : Report) → IsOne (fault_report (feature_fault_of_text f)) r → (r.status ≡ exit.Trouble → ⊥) → f ≡ text.ReadFailed → ⊥
+no_read f r one other is = other (ap (λ (x : Report). x.status) (made (r ≡ fault_report (feature_fault_of_text f)) r one other) ∙ ap (λ (g : TextFault). (fault_report (feature_fault_of_text g)).status) is)
 
 fault_not_done : (f : FeatureFault) (r : Report) → IsOne (fault_report f) r → r.status ≡ exit.Done → ⊥
 fault_not_done f r (inr e) done = let no : exit.Trouble ≡ exit.Done = sym (ap (λ (x : Report). x.status) e) ∙ done in cc
@@ -91,22 +91,22 @@ fault_not_done NotUtf8 r (inl e) done = let no : exit.Trouble ≡ exit.Done = sy
 fault_not_done Memory r (inl e) done = let no : exit.Trouble ≡ exit.Done = sym (ap (λ (x : Report). x.status) e) ∙ done in cc
 
 pub fault_is_reported : (uri : List ℕ) (f : TextFault) (r : Report) (i j : Input) → OfInput i j (λ bytes. HasTextFault bytes f) → CountsFailure (text_failed {A = ℕ} (Err f)) i.failed_calls j.failed_calls
-    → IsOne (fault_report (of_text f)) r → Reported (ask_compile uri) r i j
+    → IsOne (fault_report (feature_fault_of_text f)) r → Reported (ask_compile uri) r i j
 fault_is_reported uri f r i j is counts one = record {
   answer = λ all.
       input_weaker {P = λ bytes. HasTextFault bytes f} {Q = λ bytes. ReportsCompiled uri bytes r ⊎ (r ≡ trouble_report trouble.Memory)} i j is
-      (λ xs h. fault_reported uri xs (of_text f) r (text_fault xs f h (other_fault ℕ f (none_failed _ _ _ counts all))) one);
+      (λ xs h. fault_reported uri xs (feature_fault_of_text f) r (text_fault xs f h (other_fault ℕ f (none_failed _ _ _ counts all))) one);
   tells = λ other.
       reads_weaker {P = λ bytes rest. HasTextFault bytes f} {Q = λ bytes rest. ReportsCompiled uri bytes r} i j is
-      (λ xs ys h. inr (of_text f, text_fault xs f h (no_read f r one other), made (r ≡ fault_report (of_text f)) r one other));
-  over = λ done. absurd (fault_not_done (of_text f) r one done);
+      (λ xs ys h. inr (feature_fault_of_text f, text_fault xs f h (no_read f r one other), made (r ≡ fault_report (feature_fault_of_text f)) r one other));
+  over = λ done. absurd (fault_not_done (feature_fault_of_text f) r one done);
   no_fault = λ more. (is.0, is.1, λ rest may. tt);
   read_failed = λ more. failed (failed_fault ℕ f (some_failed _ _ _ counts more)) one;
-  unread = λ done. absurd (fault_not_done (of_text f) r one done);
+  unread = λ done. absurd (fault_not_done (feature_fault_of_text f) r one done);
 }
   where
-    failed : f ≡ text.ReadFailed → IsOne (fault_report (of_text f)) r → IsOne (trouble_report trouble.ReadFailed) r
-    failed is (inl e) = inl (e ∙ ap (λ (g : TextFault). fault_report (of_text g)) is)
+    failed : f ≡ text.ReadFailed → IsOne (fault_report (feature_fault_of_text f)) r → IsOne (trouble_report trouble.ReadFailed) r
+    failed is (inl e) = inl (e ∙ ap (λ (g : TextFault). fault_report (feature_fault_of_text g)) is)
     failed is (inr e) = inr e
 
 -- ---- `parse`

@@ -7,8 +7,8 @@ use Rattle.cm_envelope.specs.Device.{CountsFailure, Input, OfReads}
 use Rattle.cm_envelope.specs.declared.feed.Trouble.{Trouble}
 use Rattle.cm_envelope.specs.declared.feed.Trouble.TheVariants.{ReadFailed, LineTooLong, StreamTooLong, Memory}
 use Rattle.cm_envelope.proofs.Sources.{of_reads, reads_weaker}
-use Rattle.cm_stream.specs.Findings.{IsBad, IsUnsupported, named}
-use Rattle.cm_stream.specs.Stream.{At, Failed, FirstFault, NoFault, Troubled, answer_for, answered}
+use Rattle.cm_stream.specs.Findings.{IsBad, IsUnsupported, stream_fault_named}
+use Rattle.cm_stream.specs.Stream.{At, Failed, FirstFault, NoFault, Troubled, answer_for, answer_of_audit}
 use Rattle.cm_stream.specs.declared.verdict.Verdict.{Verdict}
 use Rattle.cm_stream.specs.declared.verdict.Verdict.TheVariants as verdict
 use Rattle.cm_audit.specs.Audit.{GoodAtEnd, GoodAtEndIn, ShowNoFault}
@@ -28,10 +28,10 @@ use Rattle.ck_commands.proofs.Ran.{Reported}
 
 -- the difference of an answer is that of what is reported first
 of_first : (settings : Settings) (bytes : List ℕ) (first : FirstFault) (v : Verdict) (success : Bool) (d : Option Difference)
-    → answered (Ok (record { verdict = v; success = success })) ≡ answer_for first → DiffersBy settings bytes v d → IsDifferenceOf settings bytes first d
+    → answer_of_audit (Ok (record { verdict = v; success = success })) ≡ answer_for first → DiffersBy settings bytes v d → IsDifferenceOf settings bytes first d
 of_first settings bytes (At n (IsBad f)) (verdict.Bad m b) success d e h =
     let line : m ≡ n = cc in
-    let fault : f ≡ named b = cc in
+    let fault : f ≡ stream_fault_named b = cc in
     (b, fault, subst (λ (k : ℕ). DiffersAt settings bytes k b d) line h)
 of_first settings bytes (At n (IsBad f)) (verdict.Good counts) success d e h = cc
 of_first settings bytes (At n (IsBad f)) (verdict.Unsupported m r) success d e h = cc
@@ -69,7 +69,7 @@ module _ (settings : Settings) where
         told.is_first,
         a.difference,
         of_first settings bytes told.first a.audited.verdict a.audited.success a.difference told.answers h.differs,
-        report_is (differs_report a.difference (answered (Ok a.audited))) x is ∙ ap (differs_report a.difference) told.answers,
+        report_is (differs_report a.difference (answer_of_audit (Ok a.audited))) x is ∙ ap (differs_report a.difference) told.answers,
       )
   reports (Err ReadFailed) (Ok x) bytes rest is none h = cc
   reports (Err Memory) (Ok x) bytes rest is none h = inr (report_is (differs_report None (Failed Memory)) x is ∙ plain Memory)
@@ -85,10 +85,10 @@ module _ (settings : Settings) where
   tells answer (Err e) i j is other h = absurd (other refl)
   tells (Ok a) (Ok x) i j is other h =
       reads_weaker {P = IsDiffersAuditOf settings (Ok a)} {Q = λ bytes rest. Tells (ask_differs settings) bytes rest (report_made (Ok x))} i j h
-      (λ xs ys k. (a.audited, k.audit, (a.difference, k.differs, report_is (differs_report a.difference (answered (Ok a.audited))) x is)))
+      (λ xs ys k. (a.audited, k.audit, (a.difference, k.differs, report_is (differs_report a.difference (answer_of_audit (Ok a.audited))) x is)))
   tells (Err t) (Ok x) i j is other h = absurd (other is.1)
 
-of_verdict : (j : Input) (v : Verdict) (success : Bool) (d : Option Difference) → GoodAtEndIn j v → (differs_report d (answered (Ok (record { verdict = v; success = success })))).status ≡ exit.Done → j.is_over ≡ true
+of_verdict : (j : Input) (v : Verdict) (success : Bool) (d : Option Difference) → GoodAtEndIn j v → (differs_report d (answer_of_audit (Ok (record { verdict = v; success = success })))).status ≡ exit.Done → j.is_over ≡ true
 of_verdict j (verdict.Good counts) success d over e = over
 of_verdict j (verdict.Bad n b) success d over e = cc
 of_verdict j (verdict.Unsupported n r) success d over e = cc

@@ -1,7 +1,7 @@
 -- What is left of an outcome, and what a line makes of it.
 use Rattle.std.proofs.Common.{◌≡◌, ◌∙◌, ℕ, ◌+◌, List, Option, Some, None, Result, Ok, Err, refl}
 use Rattle.cm_envelope.specs.Device.{Input, OfInput}
-use Rattle.cm_envelope.specs.Feeds.{Stored, NextLine, EndsWithSource, GivesNext, Leaves, left, new_feed}
+use Rattle.cm_envelope.specs.Feeds.{Stored, NextLine, EndsWithSource, GivesNext, Leaves, feed_left, new_feed}
 use Rattle.cm_envelope.proofs.Sources.{HasReadSo, of_reads, read_so_far, reads_no_more, reads_then}
 use Rattle.cm_envelope.specs.Lines.{Fed}
 use Rattle.cm_envelope.specs.Member.{◌>>=◌}
@@ -30,7 +30,7 @@ stopped n after new stop.Memory ls end h = tt
 
 -- what has been read and taken of the lines
 abbrev pub HasTaken : ℕ → Stored → ℕ → Table → (before after : List ℕ) → Type 0
-HasTaken first feed n t before after = outcome_of first before ≡ outcome_left n t (left feed after)
+HasTaken first feed n t before after = outcome_of first before ≡ outcome_left n t (feed_left feed after)
 
 pub begins : (first : ℕ) (feed : Stored) → feed ≡ new_feed 67108864 1073741824 → (t : Table) → t ≡ table_from first → (a : Input) → HasReadSo feed a a (HasTaken first feed 0 t)
 begins first feed is t new a = read_so_far (HasTaken first feed 0 t) feed a (λ xs. rw (is, new) refl)
@@ -57,7 +57,7 @@ outcome first feed later n t call held a b c p still ends leaves f =
 stops_here : (first : ℕ) (xs ys zs : List ℕ) (feed later : Stored) (n : ℕ) (t new : Table) (line : List ℕ) → HasTaken first feed n t xs ys
     → GivesNext feed later ys zs (Ok (Some line)) → (why : Stop) → LeavesTable (after_line t line) new (Err why) → HasOutcome (outcome_of first xs) (Err (audited_at (n + 1) why))
 stops_here first xs ys zs feed later n t new line h i why k =
-    rw (h, i.first) (stopped n (after_line t line) new why (left later zs).lines (left later zs).trouble k)
+    rw (h, i.first) (stopped n (after_line t line) new why (feed_left later zs).lines (feed_left later zs).trouble k)
 
 pub stops : (first : ℕ) (feed later : Stored) (n : ℕ) (t new : Table) (line : List ℕ) (a b c : Input) → HasReadSo feed a b (HasTaken first feed n t) → feed.over ≡ None
     → EndsWithSource feed b → Leaves feed later b c (Ok (Some line)) → (why : Stop) → LeavesTable (after_line t line) new (Err why) → OfInput a c (λ bytes. HasOutcome (outcome_of first bytes) (Err (audited_at (n + 1) why)))

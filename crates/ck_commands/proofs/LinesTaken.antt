@@ -19,7 +19,7 @@ use Rattle.cm_audit.specs.declared.stop.Stop.{Stop}
 use Rattle.cm_audit.specs.declared.stop.Stop.TheVariants as stop
 use Rattle.cm_stream.specs.Calls.{calls_of}
 use Rattle.cm_stream.specs.Findings.{Finding}
-use Rattle.cm_stream.specs.Record.{changed}
+use Rattle.cm_stream.specs.Record.{table_after_envelope}
 use Rattle.cm_stream.specs.CallFaults.{call_fault_of_envelope, call_fault_finding}
 use Rattle.cm_stream.specs.Results.{results_fault, first_results_fault_line, first_results_fault_of}
 use Rattle.cm_stream.specs.Stream.{Troubled, at_line as at_told}
@@ -73,11 +73,11 @@ faultless : (first : ℕ) (before : List Envelope) (n : ℕ) (t u : Table) (ls :
 faultless first before n t u [] why taken done = refl
 faultless first before n t u (l ∷ ls) why taken done = go (is_blank l) refl done (faultless first before (n + 1) t u ls why taken) (λ e v. faultless first (before ++ e ∷ []) (n + 1) v u ls why)
   where
-    on_fault : (e : Envelope) → (o : Option Finding) → results_fault first before e ≡ o → (at_line (n + 1) (unless_found o (changed t e)) >>= λ next. after_lines (n + 1) next ls) ≡ Ok u
+    on_fault : (e : Envelope) → (o : Option Finding) → results_fault first before e ≡ o → (at_line (n + 1) (unless_found o (table_after_envelope t e)) >>= λ next. after_lines (n + 1) next ls) ≡ Ok u
         → ((v : Table) → table_after first (calls_of (before ++ e ∷ [])) ≡ Some v → after_lines (n + 1) v ls ≡ Ok u → first_results_fault_of first (before ++ e ∷ []) (n + 1 + 1) ls (Some why) ≡ Troubled why)
         → at_told (n + 1) (results_fault first before e) (first_results_fault_of first (before ++ e ∷ []) (n + 1 + 1) ls (Some why)) ≡ Troubled why
     on_fault e (Some f) k done rec = cc
-    on_fault e None k done rec = rw k (rec (changed t e) (tables_change first before t taken e k) done)
+    on_fault e None k done rec = rw k (rec (table_after_envelope t e) (tables_change first before t taken e k) done)
 
     on_read : (r : Result Envelope LineFault) → (at_line (n + 1) (after_envelope t r) >>= λ next. after_lines (n + 1) next ls) ≡ Ok u
         → ((e : Envelope) (v : Table) → table_after first (calls_of (before ++ e ∷ [])) ≡ Some v → after_lines (n + 1) v ls ≡ Ok u → first_results_fault_of first (before ++ e ∷ []) (n + 1 + 1) ls (Some why) ≡ Troubled why)

@@ -11,7 +11,7 @@ use Rattle.cm_attempt.specs.declared.settings.Settings.{Settings}
 use Rattle.cm_audit.specs.Audit.{AnswersAs, AnswersTold, IsAuditOf}
 use Rattle.cm_envelope.specs.Feeds.{is_failed_read}
 use Rattle.cm_stream.specs.Results.{first_results_fault}
-use Rattle.cm_stream.specs.Stream.{Answer, Failed, FirstFault, IsFirstFault, answer_for, answered}
+use Rattle.cm_stream.specs.Stream.{Answer, Failed, FirstFault, IsFirstFault, answer_for, answer_of_audit}
 use Rattle.cm_stream.specs.declared.verdict.Audited.{Audited}
 use Rattle.ck_commands.specs.Outcome.{outcome_of, outcome_report}
 use Rattle.ck_commands.specs.Output.{NoneFailed, Report, report_made, trouble_report}
@@ -57,7 +57,7 @@ failed_answer (Err Memory) e = cc
 
 module _ (report : Answer → Report) (no_memory : report (Failed Memory) ≡ trouble_report Memory) where
   -- the report of an answer is that of what it is an answer for, but where a read failed
-  answer_is : (a : Answer) (answer : Result Audited Trouble) (r : Report) → AnswersAs a answer → is_failed_read answer ≡ false → IsOne (report (answered answer)) r → IsOne (report a) r
+  answer_is : (a : Answer) (answer : Result Audited Trouble) (r : Report) → AnswersAs a answer → is_failed_read answer ≡ false → IsOne (report (answer_of_audit answer)) r → IsOne (report a) r
   answer_is a answer r is none (inr e) = inr e
   answer_is a (Ok x) r is none (inl e) = inl (e ∙ ap report is)
   answer_is a (Err ReadFailed) r is none (inl e) = cc
@@ -71,20 +71,20 @@ module _ (report : Answer → Report) (no_memory : report (Failed Memory) ≡ tr
   by_first settings bytes first r is (inr e) = inr e
 
   pub first_reported : (settings : Settings) (i j : Input) (answer : Result Audited Trouble) (r : Report) → OfInput i j (λ bytes. AnswersTold settings bytes answer) → is_failed_read answer ≡ false
-      → IsOne (report (answered answer)) r → OfInput i j (λ bytes. ReportsFirst (λ f. report (answer_for f)) settings bytes r ⊎ (r ≡ trouble_report Memory))
+      → IsOne (report (answer_of_audit answer)) r → OfInput i j (λ bytes. ReportsFirst (λ f. report (answer_for f)) settings bytes r ⊎ (r ≡ trouble_report Memory))
   first_reported settings i j answer r told none one =
       input_weaker {P = λ bytes. AnswersTold settings bytes answer} {Q = λ bytes. ReportsFirst (λ f. report (answer_for f)) settings bytes r ⊎ (r ≡ trouble_report Memory)} i j told
       (λ xs h. by_first settings xs h.first r h.is_first (answer_is (answer_for h.first) answer r h.answers none one))
 
-  pub read_failed_reported : (answer : Result Audited Trouble) (r : Report) → report (Failed ReadFailed) ≡ trouble_report ReadFailed → is_failed_read answer ≡ true → IsOne (report (answered answer)) r → IsOne (trouble_report ReadFailed) r
+  pub read_failed_reported : (answer : Result Audited Trouble) (r : Report) → report (Failed ReadFailed) ≡ trouble_report ReadFailed → is_failed_read answer ≡ true → IsOne (report (answer_of_audit answer)) r → IsOne (trouble_report ReadFailed) r
   read_failed_reported answer r is failed (inr e) = inr e
-  read_failed_reported answer r is failed (inl e) = inl (e ∙ ap (λ (x : Result Audited Trouble). report (answered x)) (failed_answer answer failed) ∙ is)
+  read_failed_reported answer r is failed (inl e) = inl (e ∙ ap (λ (x : Result Audited Trouble). report (answer_of_audit x)) (failed_answer answer failed) ∙ is)
 
   -- a status other than that of trouble is that of a verdict
-  pub audit_reported : (settings : Settings) (i j : Input) (answer : Result Audited Trouble) (r : Report) → ((t : Trouble) → (report (Failed t)).status ≡ exit.Trouble) → IsOne (report (answered answer)) r
-      → (r.status ≡ exit.Trouble → ⊥) → OfReads i j (IsAuditOf settings answer) → OfReads i j (λ bytes rest. ReportsAudit (λ a x. x ≡ report (answered (Ok a))) settings bytes rest r)
+  pub audit_reported : (settings : Settings) (i j : Input) (answer : Result Audited Trouble) (r : Report) → ((t : Trouble) → (report (Failed t)).status ≡ exit.Trouble) → IsOne (report (answer_of_audit answer)) r
+      → (r.status ≡ exit.Trouble → ⊥) → OfReads i j (IsAuditOf settings answer) → OfReads i j (λ bytes rest. ReportsAudit (λ a x. x ≡ report (answer_of_audit (Ok a))) settings bytes rest r)
   audit_reported settings i j (Ok a) r trouble (inl e) other heard =
-      reads_weaker {P = IsAuditOf settings (Ok a)} {Q = λ bytes rest. ReportsAudit (λ b x. x ≡ report (answered (Ok b))) settings bytes rest r} i j heard (λ xs ys h. (a, h, e))
+      reads_weaker {P = IsAuditOf settings (Ok a)} {Q = λ bytes rest. ReportsAudit (λ b x. x ≡ report (answer_of_audit (Ok b))) settings bytes rest r} i j heard (λ xs ys h. (a, h, e))
   audit_reported settings i j (Err t) r trouble (inl e) other heard = absurd (other (ap (λ (x : Report). x.status) e ∙ trouble t))
   audit_reported settings i j answer r trouble (inr e) other heard = absurd (other (ap (λ (x : Report). x.status) e))
 

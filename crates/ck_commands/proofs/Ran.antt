@@ -8,7 +8,7 @@ use Rattle.gk_grammar.specs.Tree.{Document}
 use Rattle.cm_stream.specs.Findings.{IsBad, IsUnsupported}
 use Rattle.cm_stream.specs.Release.{hold_of}
 use Rattle.cm_stream.specs.Results.{first_results_fault}
-use Rattle.cm_stream.specs.Stream.{At, FirstFault, GoodRunIn, NoFault, NoneIsGood, Troubled, answered}
+use Rattle.cm_stream.specs.Stream.{At, FirstFault, GoodRunIn, NoFault, NoneIsGood, Troubled, answer_of_audit}
 use Rattle.cm_stream.specs.declared.verdict.Audited.{Audited}
 use Rattle.cm_stream.specs.declared.verdict.Hold.{Hold}
 use Rattle.cm_stream.specs.declared.verdict.Verdict.{Verdict}
@@ -55,13 +55,13 @@ not_trouble r code before after p other is = other (p.status ∙ ap code_of is)
 -- ---- audits
 
 module _ (settings : Settings) (code : ℕ) (before after : Output) where
-  good : (bytes : List ℕ) (v : Verdict) (success : Bool) → GoodRunIn settings bytes v success → Prints (verdict_report (answered (Ok (record { verdict = v; success = success })))) code before after
+  good : (bytes : List ℕ) (v : Verdict) (success : Bool) → GoodRunIn settings bytes v success → Prints (verdict_report (answer_of_audit (Ok (record { verdict = v; success = success })))) code before after
       → code ≡ 0 → PrintsGood settings before after bytes
   good bytes (verdict.Good counts) success run p zero = (counts, (success, run), p.written)
   good bytes (verdict.Bad n b) success run p zero = absurd (not_both 1 0 code p.status zero (λ e. cc))
   good bytes (verdict.Unsupported n r) success run p zero = absurd (not_both 4 0 code p.status zero (λ e. cc))
 
-  bad : (bytes : List ℕ) (v : Verdict) (success : Bool) → NoneIsGood settings bytes (Ok v) → Prints (verdict_report (answered (Ok (record { verdict = v; success = success })))) code before after
+  bad : (bytes : List ℕ) (v : Verdict) (success : Bool) → NoneIsGood settings bytes (Ok v) → Prints (verdict_report (answer_of_audit (Ok (record { verdict = v; success = success })))) code before after
       → code ≡ 1 → PrintsBad settings before after bytes
   bad bytes (verdict.Good counts) success none p one = absurd (not_both 0 1 code p.status one (λ e. cc))
   bad bytes (verdict.Bad n b) success none p one = (n, b, none, p.written)
@@ -77,7 +77,7 @@ without_hold : (h : Option Hold) (text : List ℕ) → h ≡ None → text ++ ho
 without_hold h text none = rw none (append-nil text)
 
 module _ (settings : Settings) (allows_unrun : Bool) (code : ℕ) (before after : Output) where
-  released : (bytes : List ℕ) (v : Verdict) (success : Bool) → GoodRunIn settings bytes v success → Prints (gate_report allows_unrun (answered (Ok (record { verdict = v; success = success })))) code before after
+  released : (bytes : List ℕ) (v : Verdict) (success : Bool) → GoodRunIn settings bytes v success → Prints (gate_report allows_unrun (answer_of_audit (Ok (record { verdict = v; success = success })))) code before after
       → code ≡ 0 → PrintsReleased settings allows_unrun before after bytes
   released bytes (verdict.Good counts) success run p zero =
       let none = not_held (hold_of allows_unrun success counts) (sym p.status ∙ zero) in (
@@ -92,7 +92,7 @@ module _ (settings : Settings) (allows_unrun : Bool) (code : ℕ) (before after 
   held_or_done None e = cc
   held_or_done (Some h) e = cc
 
-  not_released : (bytes : List ℕ) (v : Verdict) (success : Bool) → NoneIsGood settings bytes (Ok v) → Prints (gate_report allows_unrun (answered (Ok (record { verdict = v; success = success })))) code before after
+  not_released : (bytes : List ℕ) (v : Verdict) (success : Bool) → NoneIsGood settings bytes (Ok v) → Prints (gate_report allows_unrun (answer_of_audit (Ok (record { verdict = v; success = success })))) code before after
       → code ≡ 1 → PrintsBad settings before after bytes
   not_released bytes (verdict.Good counts) success none p one = absurd (held_or_done (hold_of allows_unrun success counts) (sym p.status ∙ one))
   not_released bytes (verdict.Bad n b) success none p one = (n, b, none, subst (Writes before after) (append-nil _) p.written)
@@ -114,7 +114,7 @@ module _ (settings : Settings) (code : ℕ) (before after : Output) where
   -- ---- differences
 
   good_differs : (bytes : List ℕ) (v : Verdict) (success : Bool) (d : Option Difference) → GoodRunIn settings bytes v success → DiffersBy settings bytes v d
-      → Prints (differs_report d (answered (Ok (record { verdict = v; success = success })))) code before after → code ≡ 0 → PrintsGood settings before after bytes
+      → Prints (differs_report d (answer_of_audit (Ok (record { verdict = v; success = success })))) code before after → code ≡ 0 → PrintsGood settings before after bytes
   good_differs bytes (verdict.Good counts) success d run none p zero = (
     counts,
     (success, run),
@@ -124,7 +124,7 @@ module _ (settings : Settings) (code : ℕ) (before after : Output) where
   good_differs bytes (verdict.Unsupported n r) success d run h p zero = absurd (not_both 4 0 code p.status zero (λ e. cc))
 
   bad_differs : (bytes : List ℕ) (v : Verdict) (success : Bool) (d : Option Difference) → NoneIsGood settings bytes (Ok v) → DiffersBy settings bytes v d
-      → Prints (differs_report d (answered (Ok (record { verdict = v; success = success })))) code before after → code ≡ 1 → PrintsBadDifference settings before after bytes
+      → Prints (differs_report d (answer_of_audit (Ok (record { verdict = v; success = success })))) code before after → code ≡ 1 → PrintsBadDifference settings before after bytes
   bad_differs bytes (verdict.Good counts) success d none h p one = absurd (not_both 0 1 code p.status one (λ e. cc))
   bad_differs bytes (verdict.Bad n b) success d none h p one = (n, b, none, d, h, p.written)
   bad_differs bytes (verdict.Unsupported n r) success d none h p one = absurd (not_both 4 1 code p.status one (λ e. cc))

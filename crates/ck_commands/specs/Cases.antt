@@ -13,7 +13,7 @@ use Rattle.cm_envelope.specs.declared.envelope.Envelope.{Envelope}
 use Rattle.cm_envelope.specs.declared.feed.Trouble.{Trouble}
 use Rattle.cm_stream.specs.Good.{Good}
 use Rattle.cm_stream.specs.Results.{results_of}
-use Rattle.cm_stream.specs.Stream.{FirstFault, At, Troubled, NoFault, IsRead, answered, envelopes}
+use Rattle.cm_stream.specs.Stream.{FirstFault, At, Troubled, NoFault, IsRead, answer_of_audit, envelopes}
 use Rattle.cm_stream.specs.Texts.{Utf8}
 use Rattle.cm_stream.specs.declared.verdict.Audited.{Audited}
 use Rattle.cm_stream.specs.declared.verdict.Verdict.{Verdict}
@@ -50,7 +50,7 @@ abbrev pub ListsOrTells : Settings → List ℕ → Audited → Verdict → Repo
 ListsOrTells settings bytes a (verdict.Good counts) r =
     (lines : List (ℕ × Envelope)) × IsRead bytes lines × Good settings (envelopes lines)
     × (r ≡ record { text = cases_text (envelopes lines); status = Done })
-ListsOrTells settings bytes a _ r = r ≡ verdict_report (answered (Ok a))
+ListsOrTells settings bytes a _ r = r ≡ verdict_report (answer_of_audit (Ok a))
 
 -- ---- the report that the code makes
 
@@ -67,7 +67,7 @@ IsReport report r = (string_bytes r.text ≡ report.text) × (r.status ≡ repor
 abbrev pub ReportsVerdict : Listing → Table → Audited → Verdict → made.Report → Type 0
 ReportsVerdict listing attempts a (verdict.Good counts) r =
     IsCasesText listing attempts (string_bytes r.text) × (r.status ≡ Done)
-ReportsVerdict listing attempts a _ r = IsReport (verdict_report (answered (Ok a))) r
+ReportsVerdict listing attempts a _ r = IsReport (verdict_report (answer_of_audit (Ok a))) r
 
 abbrev pub ReportsCases : Result AuditedCases Trouble → made.Report → Type 0
 ReportsCases (Ok a) r = ReportsVerdict a.listing a.attempts a.audited a.audited.verdict r

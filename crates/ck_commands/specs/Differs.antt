@@ -9,8 +9,8 @@ use Rattle.cm_cases.specs.Shown.{shown_json, shown_text}
 use Rattle.cm_differs.specs.declared.difference.Difference.{Difference}
 use Rattle.cm_envelope.specs.Lines.{line_feed}
 use Rattle.cm_envelope.specs.declared.feed.Trouble.{Trouble}
-use Rattle.cm_stream.specs.Findings.{IsBad, named}
-use Rattle.cm_stream.specs.Stream.{Answer, FirstFault, At, NoneIsGood, answered}
+use Rattle.cm_stream.specs.Findings.{IsBad, stream_fault_named}
+use Rattle.cm_stream.specs.Stream.{Answer, FirstFault, At, NoneIsGood, answer_of_audit}
 use Rattle.cm_stream.specs.declared.verdict.StreamFault.{StreamFault}
 use Rattle.cm_stream.specs.declared.verdict.Verdict.TheVariants as verdict
 use Rattle.ck_commands.specs.Cases.{IsReport}
@@ -47,7 +47,7 @@ differs_report d a = record {
 -- the difference of what is reported first of these bytes: only a fault has one
 abbrev pub IsDifferenceOf : Settings → List ℕ → FirstFault → Option Difference → Type 0
 IsDifferenceOf settings bytes (At n (IsBad f)) d =
-    (b : StreamFault) × (f ≡ named b) × DiffersAt settings bytes n b d
+    (b : StreamFault) × (f ≡ stream_fault_named b) × DiffersAt settings bytes n b d
 IsDifferenceOf settings bytes _ d = d ≡ None
 
 -- a fault that no good stream begins with was printed, with its difference
@@ -55,7 +55,7 @@ abbrev pub PrintsBadDifference : Settings → (before after : Output) → (bytes
 PrintsBadDifference settings before after bytes =
     (n : ℕ) × (b : StreamFault) × NoneIsGood settings bytes (Ok (verdict.Bad n b))
     × (d : Option Difference) × DiffersAt settings bytes n b d
-    × Writes before after (finding_text n (IsBad (named b)) ++ difference_lines d)
+    × Writes before after (finding_text n (IsBad (stream_fault_named b)) ++ difference_lines d)
 
 -- ---- the report that the code makes
 
@@ -65,4 +65,4 @@ difference_in (Err t) = None
 
 abbrev pub ReportsDifference : Result AuditedDifference Trouble → made.Report → Type 0
 ReportsDifference answer r =
-    IsReport (differs_report (difference_in answer) (answered (audited_of answer))) r
+    IsReport (differs_report (difference_in answer) (answer_of_audit (audited_of answer))) r

@@ -85,18 +85,18 @@ parse_report (Err fault) = fault_report fault
 
 -- ---- how the code's faults become one
 
-abbrev pub of_text : TextFault → FeatureFault
-of_text text.ReadFailed = ReadFailed
-of_text text.TooLong = Refused too_long
-of_text text.NotUtf8 = NotUtf8
-of_text text.Memory = Memory
+abbrev pub feature_fault_of_text : TextFault → FeatureFault
+feature_fault_of_text text.ReadFailed = ReadFailed
+feature_fault_of_text text.TooLong = Refused too_long
+feature_fault_of_text text.NotUtf8 = NotUtf8
+feature_fault_of_text text.Memory = Memory
 
-abbrev pub of_kind : FaultKind → ParseFault → FeatureFault
-of_kind kind.Memory f = Memory
-of_kind _ f = Refused f
+abbrev pub feature_fault_of_kind : FaultKind → ParseFault → FeatureFault
+feature_fault_of_kind kind.Memory f = Memory
+feature_fault_of_kind _ f = Refused f
 
-abbrev pub of_parse : ParseFault → FeatureFault
-of_parse f = of_kind f.kind f
+abbrev pub feature_fault_of_parse : ParseFault → FeatureFault
+feature_fault_of_parse f = feature_fault_of_kind f.kind f
 
 -- it is that a read failed
 abbrev pub is_failed_feature_read : {A : Type 0} → Result A FeatureFault → Bool

@@ -6,11 +6,11 @@ use Rattle.cm_envelope.specs.Member.{◌>>=◌}
 use Rattle.cm_envelope.specs.Reading.{LineFault, envelope_of_line}
 use Rattle.cm_envelope.specs.declared.envelope.Envelope.{Envelope}
 use Rattle.cm_envelope.specs.declared.feed.Trouble.{Trouble}
-use Rattle.cm_attempt.specs.Table.{Table, reported_of, table_from}
+use Rattle.cm_attempt.specs.Table.{Table, reported_status, table_from}
 use Rattle.cm_stream.specs.Findings.{Finding, IsBad, NoEnvelope}
 use Rattle.cm_stream.specs.CallFaults.{call_fault_of_envelope, call_fault_finding}
-use Rattle.cm_stream.specs.Record.{changed}
-use Rattle.cm_stream.specs.Stream.{Answer, Found, Failed, fed}
+use Rattle.cm_stream.specs.Record.{table_after_envelope}
+use Rattle.cm_stream.specs.Stream.{Answer, Found, Failed, feed_of}
 use Rattle.ck_commands.specs.Output.{Report}
 use Rattle.ck_commands.specs.Statuses.{reported_word}
 use Rattle.ck_commands.specs.Verdicts.{verdict_report}
@@ -24,7 +24,7 @@ unless_found None t = Ok t
 
 -- the table after an envelope, or what is found in its line
 abbrev pub after_envelope : Table → Result Envelope LineFault → Result Table Finding
-after_envelope t (Ok e) = unless_found (option_and_then call_fault_finding (call_fault_of_envelope t e)) (changed t e)
+after_envelope t (Ok e) = unless_found (option_and_then call_fault_finding (call_fault_of_envelope t e)) (table_after_envelope t e)
 after_envelope t (Err fault) = Err (IsBad (NoEnvelope fault))
 
 -- the table after a line, or what is found in it; a blank line changes nothing
@@ -51,13 +51,13 @@ outcome_at (Ok t) None = Ok t
 -- the table at the end of a stream, in which the first attempt of each case has the first number, or the answer in place of it
 abbrev pub outcome_of : (first : ℕ) → List ℕ → Result Table Answer
 outcome_of first bytes =
-    outcome_at (after_lines 0 (table_from first) (fed bytes).lines) (fed bytes).trouble
+    outcome_at (after_lines 0 (table_from first) (feed_of bytes).lines) (feed_of bytes).trouble
 
 -- ---- its report
 
 -- a case's id, and the status of its final attempt
 abbrev pub case_result_text : Table → List ℕ → List ℕ
-case_result_text t id = id ++ codes " " ++ reported_word (reported_of t id) ++ line_feed ∷ []
+case_result_text t id = id ++ codes " " ++ reported_word (reported_status t id) ++ line_feed ∷ []
 
 -- one line for each case, in order of declaration
 abbrev pub table_text : Table → List ℕ

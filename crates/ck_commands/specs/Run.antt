@@ -12,7 +12,7 @@ use Rattle.cm_envelope.specs.declared.feed.Trouble.TheVariants.{Memory, ReadFail
 use Rattle.cm_attempt.specs.declared.settings.Settings.{Settings}
 use Rattle.cm_stream.specs.Findings.{Fault, IsBad}
 use Rattle.cm_stream.specs.Results.{first_results_fault, results_of}
-use Rattle.cm_stream.specs.Stream.{At, FirstFault, IsFirstFault, NoFault, answer_for, answered}
+use Rattle.cm_stream.specs.Stream.{At, FirstFault, IsFirstFault, NoFault, answer_for, answer_of_audit}
 use Rattle.cm_stream.specs.declared.verdict.Audited.{Audited}
 use Rattle.cm_audit.specs.Audit.{IsAuditOf, ShowNoFault}
 use Rattle.cm_audit.specs.Differs.{DiffersBy}
@@ -78,14 +78,14 @@ ReportsAudit P s bytes rest r = (a : Audited) × IsAuditOf s (Ok a) bytes rest �
 abbrev pub TellsDifference : Settings → List ℕ → Audited → Report → Type 0
 TellsDifference s bytes a r =
     (d : Option Difference) × DiffersBy s bytes a.verdict d
-    × (r ≡ differs_report d (answered (Ok a)))
+    × (r ≡ differs_report d (answer_of_audit (Ok a)))
 
 -- with a status other than 3: the report, and for an audit all that is said of audits, also how far it was read
 abbrev pub Tells : Command → (bytes rest : List ℕ) → Report → Type 0
 Tells (ask_audit s) bytes rest r =
-    ReportsAudit (λ a r. r ≡ verdict_report (answered (Ok a))) s bytes rest r
+    ReportsAudit (λ a r. r ≡ verdict_report (answer_of_audit (Ok a))) s bytes rest r
 Tells (ask_gate s u) bytes rest r =
-    ReportsAudit (λ a r. r ≡ gate_report u (answered (Ok a))) s bytes rest r
+    ReportsAudit (λ a r. r ≡ gate_report u (answer_of_audit (Ok a))) s bytes rest r
 Tells (ask_cases s) bytes rest r =
     ReportsAudit (λ a r. ListsOrTells s bytes a a.verdict r) s bytes rest r
 Tells (ask_differs s) bytes rest r = ReportsAudit (TellsDifference s bytes) s bytes rest r

@@ -5,7 +5,7 @@ use Rattle.cm_envelope.specs.Lines.{line_feed}
 use Rattle.cm_envelope.specs.Reading.{LineFault, not_json, shape, field}
 use Rattle.cm_attempt.specs.declared.settings.Settings.{Settings}
 use Rattle.cm_stream.specs.Findings as bad
-use Rattle.cm_stream.specs.Findings.{Fault, Finding, IsBad, IsUnsupported, named}
+use Rattle.cm_stream.specs.Findings.{Fault, Finding, IsBad, IsUnsupported, stream_fault_named}
 use Rattle.cm_stream.specs.Stream.{Answer, GoodWith, Found, Failed, IsGoodStream, NoneIsGood}
 use Rattle.cm_stream.specs.declared.verdict.StreamFault.{StreamFault}
 use Rattle.cm_stream.specs.declared.verdict.Verdict.TheVariants as verdict
@@ -94,4 +94,4 @@ PrintsGood settings before after bytes =
 abbrev pub PrintsBad : Settings → (before after : Output) → (bytes : List ℕ) → Type 0
 PrintsBad settings before after bytes =
     (n : ℕ) × (b : StreamFault) × NoneIsGood settings bytes (Ok (verdict.Bad n b))
-    × Writes before after (finding_text n (IsBad (named b)))
+    × Writes before after (finding_text n (IsBad (stream_fault_named b)))

@@ -1,8 +1,8 @@
 //! The command `audit`: the verdict on a stream.
 ghost use Rattle.std.specs.Prelude.{◌≡◌, IfOk, string_bytes};
 ghost use Rattle.cm_envelope.specs.Reading.{fault_named, field};
-ghost use Rattle.cm_stream.specs.Findings.{IsBad, IsUnsupported, named};
-ghost use Rattle.cm_stream.specs.Stream.{answered};
+ghost use Rattle.cm_stream.specs.Findings.{IsBad, IsUnsupported, stream_fault_named};
+ghost use Rattle.cm_stream.specs.Stream.{answer_of_audit};
 ghost use Rattle.ck_command_line.specs.CommandLine.{ask_audit};
 ghost use Rattle.ck_commands.specs.Run.{Runs};
 ghost use Rattle.ck_commands.specs.Verdicts.{counts_text, fault_label, finding_text, line_label};
@@ -35,7 +35,7 @@ fn line_text(alloc: Global, fault: LineFault) -> Result<String, AllocError>
 
 // The number and the name of a fault.
 fn fault_text(alloc: Global, fault: StreamFault) -> Result<String, AllocError>
-    ensures { IfOk result (λ text. string_bytes text ≡ fault_label (named fault)) }
+    ensures { IfOk result (λ text. string_bytes text ≡ fault_label (stream_fault_named fault)) }
 {
     let label = match fault {
         StreamFault::NoEnvelope(fault) => return line_text(alloc, fault),
@@ -112,7 +112,8 @@ fn good_text(alloc: Global, counts: Counts) -> Result<String, AllocError>
 }
 
 fn bad_text(alloc: Global, line: u64, fault: StreamFault) -> Result<String, AllocError>
-    ensures { IfOk result (λ text. string_bytes text ≡ finding_text line (IsBad (named fault))) }
+    ensures { IfOk result (λ text. string_bytes text
+        ≡ finding_text line (IsBad (stream_fault_named fault))) }
 {
     let label = fault_text(alloc, fault)?;
     let text = format!(in alloc; "bad line {line}: {label}\n")?;
@@ -131,7 +132,7 @@ fn unsupported_text(alloc: Global, line: u64, reason: Reason) -> Result<String, 
 /// The text of what an audit answered.
 fn verdict_text(alloc: Global, answer: &Result<Audited, Trouble>) -> Result<String, AllocError>
     ensures { IfOk result (λ text. string_bytes text
-        ≡ (verdict_report (answered answer.now)).text) }
+        ≡ (verdict_report (answer_of_audit answer.now)).text) }
 {
     match answer {
         Ok(audited) => match audited.verdict {
@@ -145,7 +146,7 @@ fn verdict_text(alloc: Global, answer: &Result<Audited, Trouble>) -> Result<Stri
 
 /// The status of what an audit answered.
 fn verdict_status(answer: &Result<Audited, Trouble>) -> ExitStatus
-    ensures { result ≡ (verdict_report (answered answer.now)).status }
+    ensures { result ≡ (verdict_report (answer_of_audit answer.now)).status }
 {
     match answer {
         Ok(audited) => match audited.verdict {
@@ -163,9 +164,9 @@ pub(crate) fn verdict_report(
     answer: &Result<Audited, Trouble>,
 ) -> Result<Report, AllocError>
     ensures text { IfOk result (λ report. string_bytes report.text
-        ≡ (verdict_report (answered answer.now)).text) }
+        ≡ (verdict_report (answer_of_audit answer.now)).text) }
     ensures status { IfOk result (λ report. report.status
-        ≡ (verdict_report (answered answer.now)).status) }
+        ≡ (verdict_report (answer_of_audit answer.now)).status) }
 {
     let status = verdict_status(answer);
     let text = verdict_text(alloc, answer)?;

@@ -1,7 +1,7 @@
 //! The command `gate`: whether a run is to be released.
 ghost use Rattle.std.specs.Prelude.{◌≡◌, ◌++◌, IfOk, Some, string_bytes};
 ghost use Rattle.cm_stream.specs.Release.{hold_of};
-ghost use Rattle.cm_stream.specs.Stream.{answered};
+ghost use Rattle.cm_stream.specs.Stream.{answer_of_audit};
 ghost use Rattle.ck_command_line.specs.CommandLine.{ask_gate};
 ghost use Rattle.ck_commands.specs.Gate.{gate_report, hold_in, hold_name, hold_text};
 ghost use Rattle.ck_commands.specs.Run.{Runs};
@@ -32,7 +32,7 @@ fn hold_of(allows_unrun: bool, success: bool, counts: Counts) -> Option<Hold>
 
 // Why the run isn't to be released, where its report is true.
 fn hold_in(allows_unrun: bool, answer: &Result<Audited, Trouble>) -> Option<Hold>
-    ensures { result ≡ hold_in allows_unrun (answered answer.now) }
+    ensures { result ≡ hold_in allows_unrun (answer_of_audit answer.now) }
 {
     let Ok(audited) = answer else {
         return None;
@@ -70,9 +70,9 @@ fn gate_report(
     answer: &Result<Audited, Trouble>,
 ) -> Result<Report, AllocError>
     ensures text { IfOk result (λ report. string_bytes report.text
-        ≡ (gate_report allows_unrun (answered answer.now)).text) }
+        ≡ (gate_report allows_unrun (answer_of_audit answer.now)).text) }
     ensures status { IfOk result (λ report. report.status
-        ≡ (gate_report allows_unrun (answered answer.now)).status) }
+        ≡ (gate_report allows_unrun (answer_of_audit answer.now)).status) }
 {
     let mut report = verdict_report(alloc, answer)?;
     if let Some(hold) = hold_in(allows_unrun, answer) {

@@ -1,7 +1,7 @@
 //! One command, from the words to the exit code.
 ghost use Rattle.std.specs.Prelude.{◌≡◌, ◌≢◌, ◌∷◌, IfOk, codes, map};
 ghost use Rattle.cm_envelope.specs.Device.{OfInput, OfReads};
-ghost use Rattle.ck_command_line.specs.CommandLine.{Asks, AsksNothing, Command, asked};
+ghost use Rattle.ck_command_line.specs.CommandLine.{Asks, AsksNothing, Command, command_of_choice};
 ghost use Rattle.ck_commands.specs.Output.{Delivers, DeliversOne, NoneFailed, code_of};
 ghost use Rattle.ck_commands.specs.Run.{IsRefusal, IsRight, Reports, Runs, ShowsNone, TellsFailedRead, report_of_refusal};
 
@@ -35,7 +35,7 @@ fn run_choice<R: ByteSource, W: ByteSink>(
     source: &mut R,
     sink: &mut W,
 ) -> u8
-    ensures { Runs (asked choice.entry) result (R.input source.old) (R.input source.new)
+    ensures { Runs (command_of_choice choice.entry) result (R.input source.old) (R.input source.new)
         (W.output sink.old) (W.output sink.new) }
 {
     match choice {

@@ -24,9 +24,9 @@ pub(crate) enum FeatureFault {
 }
 
 impl From<TextFault> for FeatureFault {
-    ghost use Rattle.ck_commands.specs.Features.{of_text};
+    ghost use Rattle.ck_commands.specs.Features.{feature_fault_of_text};
 
-    ghost from_gives = { λ f e. e ≡ of_text f };
+    ghost from_gives = { λ f e. e ≡ feature_fault_of_text f };
 
     fn from(fault: TextFault) -> FeatureFault {
         match fault {
@@ -43,9 +43,9 @@ impl From<TextFault> for FeatureFault {
 }
 
 impl From<ParseFault> for FeatureFault {
-    ghost use Rattle.ck_commands.specs.Features.{of_parse};
+    ghost use Rattle.ck_commands.specs.Features.{feature_fault_of_parse};
 
-    ghost from_gives = { λ f e. e ≡ of_parse f };
+    ghost from_gives = { λ f e. e ≡ feature_fault_of_parse f };
 
     fn from(fault: ParseFault) -> FeatureFault {
         match fault.kind {

@@ -4,10 +4,10 @@ use Rattle.std.specs.Prelude.{find, is_some, unwrap_or, filter, option_and_then}
 use Rattle.std.specs.List.{list_any, list_all, AllByRecursion}
 use Rattle.std.specs.Str.{bytes_eq}
 use Rattle.std.proofs.lemmas.List.Sums.{length-filter}
-use Rattle.cm_attempt.specs.Table.{Utf8, AttemptRow, Table, table_from, finished_at, has_text, has_repeat, find_attempt, is_closed_to_new, status_of_last, reported_of}
+use Rattle.cm_attempt.specs.Table.{Utf8, AttemptRow, Table, table_from, with_finished_attempt_at, has_text, has_repeat, find_attempt, is_closed_to_new, status_of_last, reported_status}
 use Rattle.cm_attempt.specs.declared.rows.Last.{Last}
 use Rattle.cm_attempt.specs.declared.fault.TrackFault.{TrackFault}
-use Rattle.cm_attempt.specs.Calls.{Call, AddCase, Start, StartStep, FinishStep, Finish, call_fault, after_call, unless_refused, left_by, table_after, StartedAttempt, starts, starts_of, steps_of_attempt, moves, whole, ends_of, is_ended, is_retried, last_of, final_status, result_of}
+use Rattle.cm_attempt.specs.Calls.{Call, AddCase, Start, StartStep, FinishStep, Finish, call_fault, after_call, unless_refused, table_after_calls, table_after, StartedAttempt, starts, starts_of, steps_of_attempt, moves, all_moves, ends_of, is_ended, is_retried, last_of, final_status, result_of}
 use Rattle.cm_attempt.specs.CallLaws.{IsFront, CasesKnown, AreNumbered, NoneOverlaps, StepsInOrder, FinishedAreWhole, IdsDistinct, ComeInOrder, HasCases, ReportsResults, CountsOpen}
 use Rattle.cm_attempt.proofs.Growing.{bytes_same, by_id, or_false, all_weaker}
 use Rattle.cm_attempt.proofs.Standing.{left_of, open_is, whole_if_ended}
@@ -33,11 +33,11 @@ one_more xs t (StartStep a step) h e = step_started xs t a step h e
 one_more xs t (FinishStep a step status) h e = step_finished xs t a step status h e
 one_more xs t (Finish a r) h e = attempt_finished xs t a r h e
 
-tracked_from : (xs cs : List Call) (t u : Table) → Tracked xs t → left_by t cs ≡ Some u → Tracked (xs ++ cs) u
+tracked_from : (xs cs : List Call) (t u : Table) → Tracked xs t → table_after_calls t cs ≡ Some u → Tracked (xs ++ cs) u
 tracked_from xs [] t u h e = subst (λ ys. Tracked ys u) (sym (append-nil xs)) (subst (Tracked xs) (ap (λ o. unwrap_or o t) e) h)
 tracked_from xs (c ∷ cs) t u h e = go (call_fault t c) refl e (tracked_from (xs ++ c ∷ []) cs (after_call t c) u)
   where
-    go : (o : Option TrackFault) → call_fault t c ≡ o → unless_refused o (left_by (after_call t c) cs) ≡ Some u → (Tracked (xs ++ c ∷ []) (after_call t c) → left_by (after_call t c) cs ≡ Some u → Tracked ((xs ++ c ∷ []) ++ cs) u) → Tracked (xs ++ c ∷ cs) u
+    go : (o : Option TrackFault) → call_fault t c ≡ o → unless_refused o (table_after_calls (after_call t c) cs) ≡ Some u → (Tracked (xs ++ c ∷ []) (after_call t c) → table_after_calls (after_call t c) cs ≡ Some u → Tracked ((xs ++ c ∷ []) ++ cs) u) → Tracked (xs ++ c ∷ cs) u
     go None k l rec = subst (λ ys. Tracked ys u) (append_assoc xs (c ∷ []) cs) (rec (one_more xs t c h k) l)
     go (Some f) k l rec = cc
 
@@ -45,12 +45,12 @@ pub tracked : (first : ℕ) (calls : List Call) (t : Table) → table_after firs
 tracked first calls t e = tracked_from [] calls (table_from first) t (none_tracked first) e
 
 -- the first of the calls were accepted, and so were the others after them
-pub cut_at : (xs ys : List Call) (t u : Table) → left_by t (xs ++ ys) ≡ Some u → (v : Table) × (left_by t xs ≡ Some v) × (left_by v ys ≡ Some u)
+pub cut_at : (xs ys : List Call) (t u : Table) → table_after_calls t (xs ++ ys) ≡ Some u → (v : Table) × (table_after_calls t xs ≡ Some v) × (table_after_calls v ys ≡ Some u)
 cut_at [] ys t u e = (t, refl, e)
 cut_at (c ∷ xs) ys t u e = go (call_fault t c) refl e (cut_at xs ys (after_call t c) u)
   where
-    go : (o : Option TrackFault) → call_fault t c ≡ o → unless_refused o (left_by (after_call t c) (xs ++ ys)) ≡ Some u
-        → (left_by (after_call t c) (xs ++ ys) ≡ Some u → (v : Table) × (left_by (after_call t c) xs ≡ Some v) × (left_by v ys ≡ Some u)) → (v : Table) × (left_by t (c ∷ xs) ≡ Some v) × (left_by v ys ≡ Some u)
+    go : (o : Option TrackFault) → call_fault t c ≡ o → unless_refused o (table_after_calls (after_call t c) (xs ++ ys)) ≡ Some u
+        → (table_after_calls (after_call t c) (xs ++ ys) ≡ Some u → (v : Table) × (table_after_calls (after_call t c) xs ≡ Some v) × (table_after_calls v ys ≡ Some u)) → (v : Table) × (table_after_calls t (c ∷ xs) ≡ Some v) × (table_after_calls v ys ≡ Some u)
     go None k l rec = let w = rec l in (w.0, rw k w.1, w.2)
     go (Some f) k l rec = cc
 
@@ -64,16 +64,16 @@ first_stays t (StartStep a step) = refl
 first_stays t (FinishStep a step status) = refl
 first_stays t (Finish a r) = go (find_attempt t a)
   where
-    go : (o : Option AttemptRow) → (finished_at a r o t).first ≡ t.first
+    go : (o : Option AttemptRow) → (with_finished_attempt_at a r o t).first ≡ t.first
     go None = refl
     go (Some row) = refl
 
-first_left : (cs : List Call) (t u : Table) → left_by t cs ≡ Some u → u.first ≡ t.first
+first_left : (cs : List Call) (t u : Table) → table_after_calls t cs ≡ Some u → u.first ≡ t.first
 first_left [] t u e = ap (λ o. (unwrap_or o t).first) (sym e)
 first_left (c ∷ cs) t u e = go (call_fault t c) e (first_left cs (after_call t c) u)
   where
-    go : (o : Option TrackFault) → unless_refused o (left_by (after_call t c) cs) ≡ Some u
-        → (left_by (after_call t c) cs ≡ Some u → u.first ≡ (after_call t c).first) → u.first ≡ t.first
+    go : (o : Option TrackFault) → unless_refused o (table_after_calls (after_call t c) cs) ≡ Some u
+        → (table_after_calls (after_call t c) cs ≡ Some u → u.first ≡ (after_call t c).first) → u.first ≡ t.first
     go None l rec = rec l ∙ first_stays t c
     go (Some f) l rec = cc
 
@@ -91,7 +91,7 @@ record AtStart (first : ℕ) (before : List Call) (id case : Utf8) (number : ℕ
 at_start : (first : ℕ) (calls : List Call) (t : Table) → table_after first calls ≡ Some t → (before : List Call) (id case : Utf8) (number : ℕ) (after : List Call) → calls ≡ before ++ Start id case number ∷ after → AtStart first before id case number
 at_start first calls t e before id case number after cut =
     let parts = cut_at before (Start id case number ∷ after) (table_from first) t (ap (table_after first) (sym cut) ∙ e) in
-    record { table = parts.0; counts = first_is first before parts.0 parts.1; so_far = tracked first before parts.0 parts.1; fits = start_fits parts.0 id case number (none (call_fault parts.0 (Start id case number)) (left_by (after_call parts.0 (Start id case number)) after) parts.2) }
+    record { table = parts.0; counts = first_is first before parts.0 parts.1; so_far = tracked first before parts.0 parts.1; fits = start_fits parts.0 id case number (none (call_fault parts.0 (Start id case number)) (table_after_calls (after_call parts.0 (Start id case number)) after) parts.2) }
   where
     none : (o : Option TrackFault) (l : Option Table) → unless_refused o l ≡ Some t → o ≡ None
     none None l k = refl
@@ -147,20 +147,20 @@ its_steps calls t h a row b =
     let k = known_of calls t b.start.case_id b.its_case (h.of_cases b.start.case_id) b.has_case in
     rw (b.is_start, k.is_declared) (sym k.steps)
 
-front_of : (calls : List Call) (t : Table) → Tracked calls t → (a : Utf8) → AttemptIs calls t a → IsFront (moves a calls) (whole (steps_of_attempt a calls))
-front_of calls t h a (unstarted n u) = (whole (steps_of_attempt a calls), ap (λ ms. ms ++ whole (steps_of_attempt a calls)) (sym u.moves))
+front_of : (calls : List Call) (t : Table) → Tracked calls t → (a : Utf8) → AttemptIs calls t a → IsFront (moves a calls) (all_moves (steps_of_attempt a calls))
+front_of calls t h a (unstarted n u) = (all_moves (steps_of_attempt a calls), ap (λ ms. ms ++ all_moves (steps_of_attempt a calls)) (sym u.moves))
 front_of calls t h a (begun row f b) =
     let front = left_of b.its_case.steps (moves a calls) (ends_of a calls) row.cursor b.stands in
-    (front.0, ap whole (its_steps calls t h a row b) ∙ front.1)
+    (front.0, ap all_moves (its_steps calls t h a row b) ∙ front.1)
 
 pub steps_in_order : (first : ℕ) (calls : List Call) (t : Table) → table_after first calls ≡ Some t → StepsInOrder calls
 steps_in_order first calls t e a = let h = tracked first calls t e in front_of calls t h a (h.of_attempts a)
 
-whole_of : (calls : List Call) (t : Table) → Tracked calls t → (a : Utf8) → AttemptIs calls t a → is_ended a calls ≡ true → (moves a calls ≡ whole (steps_of_attempt a calls)) × (length (ends_of a calls) ≡ 1)
+whole_of : (calls : List Call) (t : Table) → Tracked calls t → (a : Utf8) → AttemptIs calls t a → is_ended a calls ≡ true → (moves a calls ≡ all_moves (steps_of_attempt a calls)) × (length (ends_of a calls) ≡ 1)
 whole_of calls t h a (unstarted n u) ended = let no : is_ended a calls ≡ false = rw u.moves refl in cc
 whole_of calls t h a (begun row f b) ended =
     let parts = whole_if_ended b.its_case.steps (moves a calls) (ends_of a calls) row.cursor b.stands ended in
-    (parts.0 ∙ ap whole (sym (its_steps calls t h a row b)), parts.1)
+    (parts.0 ∙ ap all_moves (sym (its_steps calls t h a row b)), parts.1)
 
 pub finished_are_whole : (first : ℕ) (calls : List Call) (t : Table) → table_after first calls ≡ Some t → FinishedAreWhole calls
 finished_are_whole first calls t e a = let h = tracked first calls t e in whole_of calls t h a (h.of_attempts a)
@@ -201,7 +201,7 @@ final_in calls case ss l (one_open front s cut all st cs ends e) = rw (e, cut, l
 final_in calls case ss l (last_over front s true cut all ends e) = rw (e, cut, last_push front s, ends) refl
 final_in calls case ss l (last_over front s false cut all ends e) = rw (e, cut, last_push front s, ends) refl
 
-reports_case : (calls : List Call) (t : Table) (case : Utf8) → CaseIs calls t case → reported_of t case ≡ result_of case calls
+reports_case : (calls : List Call) (t : Table) (case : Utf8) → CaseIs calls t case → reported_status t case ≡ result_of case calls
 reports_case calls t case (undeclared n u) = rw (n, u.no_start) refl
 reports_case calls t case (known row f k) = rw f (final_in calls case (starts_of case calls) row.last k.latest)
 

@@ -11,7 +11,7 @@ use Rattle.cm_attempt.specs.Table.{Utf8, AttemptRow, Table, table_from, has_text
 use Rattle.cm_attempt.specs.declared.rows.Cursor.{Cursor}
 use Rattle.cm_attempt.specs.declared.status.Status.{Status}
 use Rattle.cm_attempt.specs.declared.rows.Last.{Last}
-use Rattle.cm_attempt.specs.Calls.{Call, AddCase, Start, StartStep, FinishStep, Finish, call_fault, after_call, left_by, table_after, DeclaredCase, StartedAttempt, as_case, as_start, cases, starts, declared, start_of, starts_of, steps_of_attempt, Move, Started, StepStarted, StepFinished, Ended, move_of, moves, through, whole, ends_of, is_retried}
+use Rattle.cm_attempt.specs.Calls.{Call, AddCase, Start, StartStep, FinishStep, Finish, call_fault, after_call, table_after_calls, table_after, DeclaredCase, StartedAttempt, as_case, as_start, cases, starts, declared_case, start_of, starts_of, steps_of_attempt, Move, Started, StepStarted, StepFinished, Ended, move_of, moves, step_moves, all_moves, ends_of, is_retried}
 use Rattle.cm_attempt.specs.CallLaws.{IsFront, ComeInOrder}
 use Rattle.cm_attempt.proofs.Growing.{bytes_same, by_id, or_false, at_end, kept_cut}
 use Rattle.cm_attempt.proofs.Standing.{cursor_at, Stands, between, inside, over, rest_of, left_is}
@@ -53,7 +53,7 @@ record MayGo (may : Option Cursor → List Utf8 → Bool) (o : Option Cursor) (s
 is_at : (done : List Utf8) (step : Utf8) (more : List Utf8) → option_map_or (bytes_eq step) (slice_get (done ++ step ∷ more) (length done)) false ≡ true
 is_at done step more = ap (λ z. option_map_or (bytes_eq step) z false) (at_end done (step ∷ more)) ∙ bytes_same step
 
-rest_is : (steps : List Utf8) (ms : List Move) (rs : List Bool) (o : Option Cursor) (zs : List Move) → (st : Stands steps ms rs o) → whole steps ≡ ms ++ zs → rest_of steps ms rs o st ≡ zs
+rest_is : (steps : List Utf8) (ms : List Move) (rs : List Bool) (o : Option Cursor) (zs : List Move) → (st : Stands steps ms rs o) → all_moves steps ≡ ms ++ zs → rest_of steps ms rs o st ≡ zs
 rest_is steps ms rs o zs st e = append_cancel_left ms (rest_of steps ms rs o st) zs (sym (left_is steps ms rs o st) ∙ e)
 
 abbrev step_named : Utf8 → Move → Utf8
@@ -72,21 +72,21 @@ shape (StepStarted s ∷ ms) = 2
 shape (StepFinished s ∷ ms) = 3
 shape (Ended ∷ ms) = 4
 
-may_start_next : (steps : List Utf8) (ms : List Move) (rs : List Bool) (o : Option Cursor) (step : Utf8) (zs : List Move) → Stands steps ms rs o → whole steps ≡ ms ++ StepStarted step ∷ zs → MayGo (may_start step) o steps step
+may_start_next : (steps : List Utf8) (ms : List Move) (rs : List Bool) (o : Option Cursor) (step : Utf8) (zs : List Move) → Stands steps ms rs o → all_moves steps ≡ ms ++ StepStarted step ∷ zs → MayGo (may_start step) o steps step
 may_start_next steps ms rs o step zs (between done [] a b c d) e = let no : 4 ≡ 2 = ap shape (rest_is steps ms rs o (StepStarted step ∷ zs) (between done [] a b c d) e) in absurd (omega (arith, no))
 may_start_next steps ms rs o step zs (between done (x ∷ more) a b c d) e =
-    let first : StepStarted x ∷ StepFinished x ∷ (through more ++ Ended ∷ []) ≡ StepStarted step ∷ zs = rest_is steps ms rs o (StepStarted step ∷ zs) (between done (x ∷ more) a b c d) e in
+    let first : StepStarted x ∷ StepFinished x ∷ (step_moves more ++ Ended ∷ []) ≡ StepStarted step ∷ zs = rest_is steps ms rs o (StepStarted step ∷ zs) (between done (x ∷ more) a b c d) e in
     let same : x ≡ step = ap (λ l. step_named step (first_of_list Ended l)) first in
     let all : steps ≡ done ++ step ∷ more = a ∙ ap (λ z. done ++ z ∷ more) same in
     record { next = rw (d, all) (is_at done step more); known_step = ap (has_text step) all ∙ has_here step done more }
 may_start_next steps ms rs o step zs (inside done x more a b c d) e = let no : 3 ≡ 2 = ap shape (rest_is steps ms rs o (StepStarted step ∷ zs) (inside done x more a b c d) e) in absurd (omega (arith, no))
 may_start_next steps ms rs o step zs (over r a b c) e = let no : 0 ≡ 2 = ap shape (rest_is steps ms rs o (StepStarted step ∷ zs) (over r a b c) e) in absurd (omega (arith, no))
 
-may_finish_next : (steps : List Utf8) (ms : List Move) (rs : List Bool) (o : Option Cursor) (step : Utf8) (zs : List Move) → Stands steps ms rs o → whole steps ≡ ms ++ StepFinished step ∷ zs → MayGo (may_finish step) o steps step
+may_finish_next : (steps : List Utf8) (ms : List Move) (rs : List Bool) (o : Option Cursor) (step : Utf8) (zs : List Move) → Stands steps ms rs o → all_moves steps ≡ ms ++ StepFinished step ∷ zs → MayGo (may_finish step) o steps step
 may_finish_next steps ms rs o step zs (between done [] a b c d) e = let no : 4 ≡ 3 = ap shape (rest_is steps ms rs o (StepFinished step ∷ zs) (between done [] a b c d) e) in absurd (omega (arith, no))
 may_finish_next steps ms rs o step zs (between done (x ∷ more) a b c d) e = let no : 2 ≡ 3 = ap shape (rest_is steps ms rs o (StepFinished step ∷ zs) (between done (x ∷ more) a b c d) e) in absurd (omega (arith, no))
 may_finish_next steps ms rs o step zs (inside done x more a b c d) e =
-    let first : StepFinished x ∷ (through more ++ Ended ∷ []) ≡ StepFinished step ∷ zs = rest_is steps ms rs o (StepFinished step ∷ zs) (inside done x more a b c d) e in
+    let first : StepFinished x ∷ (step_moves more ++ Ended ∷ []) ≡ StepFinished step ∷ zs = rest_is steps ms rs o (StepFinished step ∷ zs) (inside done x more a b c d) e in
     let same : x ≡ step = ap (λ l. step_named step (first_of_list Ended l)) first in
     let all : steps ≡ done ++ step ∷ more = a ∙ ap (λ z. done ++ z ∷ more) same in
     record { next = rw (d, all) (is_at done step more); known_step = ap (has_text step) all ∙ has_here step done more }
@@ -95,7 +95,7 @@ may_finish_next steps ms rs o step zs (over r a b c) e = let no : 0 ≡ 3 = ap s
 all_finished : (done : List Utf8) (b : Bool) → end_fault_of (Some (cursor_at (length done) b)) (done ++ []) ≡ None
 all_finished done b = let same : (length done == length (done ++ [])) ≡ true = (let long = length-append done [] in grind (arith, nat_tests, long)) in rw same refl
 
-may_end_next : (steps : List Utf8) (ms : List Move) (rs : List Bool) (o : Option Cursor) (zs : List Move) → Stands steps ms rs o → whole steps ≡ ms ++ Ended ∷ zs → end_fault_of o steps ≡ None
+may_end_next : (steps : List Utf8) (ms : List Move) (rs : List Bool) (o : Option Cursor) (zs : List Move) → Stands steps ms rs o → all_moves steps ≡ ms ++ Ended ∷ zs → end_fault_of o steps ≡ None
 may_end_next steps ms rs o zs (between done [] a b c d) e = ap (λ z. end_fault_of z steps) d ∙ ap (end_fault_of (Some (cursor_at (length done) false))) a ∙ all_finished done false
 may_end_next steps ms rs o zs (between done (x ∷ more) a b c d) e = let no : 2 ≡ 4 = ap shape (rest_is steps ms rs o (Ended ∷ zs) (between done (x ∷ more) a b c d) e) in absurd (omega (arith, no))
 may_end_next steps ms rs o zs (inside done x more a b c d) e = let no : 3 ≡ 4 = ap shape (rest_is steps ms rs o (Ended ∷ zs) (inside done x more a b c d) e) in absurd (omega (arith, no))
@@ -109,7 +109,7 @@ record GoesOn (xs : List Call) (t : Table) (a : Utf8) (m : Move) : Type 0 where
   found : find_attempt t a ≡ Some row
   begins : Begun xs t a row
   zs : List Move
-  next : whole begins.its_case.steps ≡ moves a xs ++ m ∷ zs
+  next : all_moves begins.its_case.steps ≡ moves a xs ++ m ∷ zs
 
 steps_still : (xs ys : List Call) (t : Table) → Tracked xs t → (a : Utf8) (row : AttemptRow) → (b : Begun xs t a row) → steps_of_attempt a (xs ++ ys) ≡ b.its_case.steps
 steps_still xs ys t h a row b = go (h.of_cases b.start.case_id)
@@ -123,15 +123,15 @@ steps_still xs ys t h a row b = go (h.of_cases b.start.case_id)
 goes_on : (first : ℕ) (xs : List Call) (c : Call) (cs : List Call) (t : Table) → Tracked xs t → ComeInOrder first (xs ++ c ∷ cs) → (a : Utf8) (m : Move) → move_of a c ≡ Some m → 1 ≢ shape (m ∷ []) → GoesOn xs t a m
 goes_on first xs c cs t h order a m moved later = go (h.of_attempts a)
   where
-    front : IsFront (moves a (xs ++ c ∷ cs)) (whole (steps_of_attempt a (xs ++ c ∷ cs)))
+    front : IsFront (moves a (xs ++ c ∷ cs)) (all_moves (steps_of_attempt a (xs ++ c ∷ cs)))
     front = order.steps a
 
-    all : whole (steps_of_attempt a (xs ++ c ∷ cs)) ≡ moves a xs ++ m ∷ (moves a cs ++ front.0)
+    all : all_moves (steps_of_attempt a (xs ++ c ∷ cs)) ≡ moves a xs ++ m ∷ (moves a cs ++ front.0)
     all = front.1 ∙ ap (λ ms. ms ++ front.0) (kept_cut (move_of a) xs c cs m moved) ∙ append_assoc (moves a xs) (m ∷ moves a cs) front.0
 
     go : AttemptIs xs t a → GoesOn xs t a m
     go (unstarted n u) =
-        let first : whole (steps_of_attempt a (xs ++ c ∷ cs)) ≡ m ∷ (moves a cs ++ front.0) = all ∙ ap (λ ms. ms ++ m ∷ (moves a cs ++ front.0)) u.moves in
+        let first : all_moves (steps_of_attempt a (xs ++ c ∷ cs)) ≡ m ∷ (moves a cs ++ front.0) = all ∙ ap (λ ms. ms ++ m ∷ (moves a cs ++ front.0)) u.moves in
         absurd (later (ap shape first ∙ one m (moves a cs ++ front.0)))
       where
         one : (m : Move) (ms : List Move) → shape (m ∷ ms) ≡ shape (m ∷ [])
@@ -144,7 +144,7 @@ goes_on first xs c cs t h order a m moved later = go (h.of_attempts a)
       found = f;
       begins = b;
       zs = moves a cs ++ front.0;
-      next = ap whole (sym (steps_still xs (c ∷ cs) t h a row b)) ∙ all;
+      next = ap all_moves (sym (steps_still xs (c ∷ cs) t h a row b)) ∙ all;
     }
 
 no_step_fault : (t : Table) (a step : Utf8) (may : Option Cursor → List Utf8 → Bool) (row : AttemptRow) → find_attempt t a ≡ Some row → has_text step (steps_of t row.case_id) ≡ true → may row.cursor (steps_of t row.case_id) ≡ true
@@ -165,7 +165,7 @@ case_accepted first xs id steps cs t h order = go (h.of_cases id)
     distinct : has_repeat steps ≡ false
     distinct = all_here (λ (x : DeclaredCase). has_repeat x.steps ≡ false) (cases xs) d (cases cs) (subst (AllByRecursion (λ (x : DeclaredCase). has_repeat x.steps ≡ false)) cut order.distinct.of_steps)
 
-    new : declared id xs ≡ None
+    new : declared_case id xs ≡ None
     new = no_repeat_found (λ (x : DeclaredCase). x.id) (cases xs) d (cases cs) (ap (λ ds. has_repeat (map (λ (x : DeclaredCase). x.id) ds)) (sym cut) ∙ order.distinct.of_cases)
 
     go : CaseIs xs t id → add_case_fault t id steps ≡ None
@@ -205,8 +205,8 @@ start_accepted first xs id case number cs t counts h order = go (h.of_cases case
 
     go : CaseIs xs t case → start_fault t id case number ≡ None
     go (undeclared n u) =
-        let yes : is_some (declared case xs) ≡ true = order.known xs id case number cs refl in
-        let no : is_some (declared case xs) ≡ false = ap is_some u.no_case in
+        let yes : is_some (declared_case case xs) ≡ true = order.known xs id case number cs refl in
+        let no : is_some (declared_case case xs) ≡ false = ap is_some u.no_case in
         cc
     go (known row f k) =
         let count : (number == t.first + row.attempts) ≡ true = same_number number (t.first + row.attempts) (order.numbers xs id case number cs refl ∙ (λ i. sym counts i + sym k.count i)) in
@@ -243,7 +243,7 @@ next_accepted first xs (StartStep a step) cs t counts h order = start_step_accep
 next_accepted first xs (FinishStep a step status) cs t counts h order = finish_step_accepted first xs a step status cs t h order
 next_accepted first xs (Finish a r) cs t counts h order = end_accepted first xs a r cs t h order
 
-accepted_from : (first : ℕ) (xs cs : List Call) (t : Table) → t.first ≡ first → Tracked xs t → ComeInOrder first (xs ++ cs) → is_some (left_by t cs) ≡ true
+accepted_from : (first : ℕ) (xs cs : List Call) (t : Table) → t.first ≡ first → Tracked xs t → ComeInOrder first (xs ++ cs) → is_some (table_after_calls t cs) ≡ true
 accepted_from first xs [] t counts h order = refl
 accepted_from first xs (c ∷ cs) t counts h order =
     let fine = next_accepted first xs c cs t counts h order in

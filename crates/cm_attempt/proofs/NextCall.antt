@@ -8,7 +8,7 @@ use Rattle.std.proofs.lemmas.List.{map-append}
 use Rattle.std.proofs.lemmas.List.Folds.{find-append}
 use Rattle.std.proofs.lemmas.List.Sums.{fold_push}
 use Rattle.cm_attempt.specs.Table.{Utf8, CaseRow, AttemptRow, Table, has_repeat, find_case, find_attempt, steps_of, add_case_fault, start_fault, step_start_fault, step_finish_fault, finish_fault, is_closed_to_new}
-use Rattle.cm_attempt.specs.Table.{may_start, may_finish, end_fault_of, change_first, change_case, change_attempt, new_case, with_case, new_attempt, opened, started, running, running_cursor, after_step, step_done, ended, outcome, with_last, finished, finished_at}
+use Rattle.cm_attempt.specs.Table.{may_start, may_finish, end_fault_of, change_first, change_case, change_attempt, new_case, with_case, new_attempt, with_open_attempt, with_attempt, with_running_step, running_cursor, cursor_after_step, with_finished_step, ended_attempt, outcome, with_last, with_finished_attempt, with_finished_attempt_at}
 use Rattle.cm_attempt.specs.Worst.{worst_so_far, worst_of, with_status}
 use Rattle.cm_attempt.specs.declared.status.Status.{Status}
 use Rattle.cm_attempt.specs.declared.status.Status.TheVariants.{Passed}
@@ -81,28 +81,28 @@ next_open xs id case number new none l closed (last_over front s true cut all en
     let retried : AllByRecursion (Retried xs) (front ++ s ∷ []) = all_push (Retried xs) front s all ends in
     one_open (front ++ s ∷ []) (start_with id case number) (ap (λ ss. ss ++ start_with id case number ∷ []) cut) (still_retried xs c (λ b r k. refl) (front ++ s ∷ []) retried) (is_first xs id case number new) refl (kept_more (retry_in id) xs c refl ∙ none) refl
 
-attempt_begins : (xs : List Call) (t : Table) (id case : Utf8) (number : ℕ) → Tracked xs t → StartFits t id case number → AttemptIs (xs ++ Start id case number ∷ []) (started id case t) id
+attempt_begins : (xs : List Call) (t : Table) (id case : Utf8) (number : ℕ) → Tracked xs t → StartFits t id case number → AttemptIs (xs ++ Start id case number ∷ []) (with_attempt id case t) id
 attempt_begins xs t id case number h fits =
     let c = Start id case number in
     let was = new_of xs t id (h.of_attempts id) fits.new in
     begun (new_attempt id case) (found_new (λ (r : AttemptRow). bytes_eq id r.id) t.attempts (new_attempt id case) fits.new (bytes_same id)) (record {
       start = start_with id case number;
-      its_case = opened fits.row;
+      its_case = with_open_attempt fits.row;
       is_start = is_first xs id case number was.start;
       of_case = refl;
-      has_case = found_changed (λ (r : CaseRow). r.id) opened (λ r. refl) case t.cases ∙ ap (option_map opened) fits.found;
+      has_case = found_changed (λ (r : CaseRow). r.id) with_open_attempt (λ r. refl) case t.cases ∙ ap (option_map with_open_attempt) fits.found;
       stands = between [] fits.row.steps refl (kept_push (move_of id) xs c Started (rw (bytes_same id) refl) ∙ ap (λ ms. ms ++ Started ∷ []) was.moves) (kept_more (retry_in id) xs c refl ∙ was.ends) refl;
       worst = ap worst_so_far (sym (kept_more (status_in id) xs c refl ∙ was.statuses));
     })
 
-case_opens : (xs : List Call) (t : Table) (id case : Utf8) (number : ℕ) → Tracked xs t → StartFits t id case number → CaseIs (xs ++ Start id case number ∷ []) (started id case t) case
+case_opens : (xs : List Call) (t : Table) (id case : Utf8) (number : ℕ) → Tracked xs t → StartFits t id case number → CaseIs (xs ++ Start id case number ∷ []) (with_attempt id case t) case
 case_opens xs t id case number h fits =
     let c = Start id case number in
     let was = new_of xs t id (h.of_attempts id) fits.new in
     let k = known_of xs t case fits.row (h.of_cases case) fits.found in
     let here : starts_of case (c ∷ []) ≡ start_with id case number ∷ [] = rw (bytes_same case) refl in
     let more : starts_of case (xs ++ c ∷ []) ≡ starts_of case xs ++ start_with id case number ∷ [] = starts_both case xs (c ∷ []) ∙ ap (λ ss. starts_of case xs ++ ss) here in
-    known (opened fits.row) (found_changed (λ (r : CaseRow). r.id) opened (λ r. refl) case t.cases ∙ ap (option_map opened) fits.found) (record {
+    known (with_open_attempt fits.row) (found_changed (λ (r : CaseRow). r.id) with_open_attempt (λ r. refl) case t.cases ∙ ap (option_map with_open_attempt) fits.found) (record {
       found = k.found;
       is_declared = declared_still case xs (c ∷ []) k.found k.is_declared;
       steps = k.steps;
@@ -110,17 +110,17 @@ case_opens xs t id case number h fits =
       latest = subst (λ ss. Latest (xs ++ c ∷ []) case ss last.Open) (sym more) (next_open xs id case number was.start was.ends fits.row.last fits.closed k.latest);
     })
 
-pub attempt_started : (xs : List Call) (t : Table) (id case : Utf8) (number : ℕ) → Tracked xs t → start_fault t id case number ≡ None → Tracked (xs ++ Start id case number ∷ []) (started id case t)
+pub attempt_started : (xs : List Call) (t : Table) (id case : Utf8) (number : ℕ) → Tracked xs t → start_fault t id case number ≡ None → Tracked (xs ++ Start id case number ∷ []) (with_attempt id case t)
 attempt_started xs t id case number h accepted = record {
   of_cases = λ other. by_id other case
-      (λ k. carry_case xs c t u other (found_elsewhere (λ (r : CaseRow). r.id) opened (λ r. refl) other case k t.cases) refl (rw k refl) (record { ended = λ b r e. (refl, refl); still_open = λ s st cs e. refl }) (h.of_cases other))
+      (λ k. carry_case xs c t u other (found_elsewhere (λ (r : CaseRow). r.id) with_open_attempt (λ r. refl) other case k t.cases) refl (rw k refl) (record { ended = λ b r e. (refl, refl); still_open = λ s st cs e. refl }) (h.of_cases other))
       (λ k. subst (CaseIs (xs ++ c ∷ []) u) (sym k) (case_opens xs t id case number h fits));
   of_attempts = λ a. by_id a id
-      (λ k. carry_attempt xs c t u a (found_past (λ (r : AttemptRow). bytes_eq a r.id) t.attempts (new_attempt id case) k) (keeps_changed t u case opened (λ r. refl) (λ r. refl) refl) (rw k refl) (rw k refl) refl refl (h.of_attempts a))
+      (λ k. carry_attempt xs c t u a (found_past (λ (r : AttemptRow). bytes_eq a r.id) t.attempts (new_attempt id case) k) (keeps_changed t u case with_open_attempt (λ r. refl) (λ r. refl) refl) (rw k refl) (rw k refl) refl refl (h.of_attempts a))
       (λ k. subst (AttemptIs (xs ++ c ∷ []) u) (sym k) (attempt_begins xs t id case number h fits));
-  case_ids = same_ids (λ (r : CaseRow). r.id) opened (λ r. refl) (λ r. bytes_eq case r.id) t.cases ∙ h.case_ids ∙ ap (map (λ (d : DeclaredCase). d.id)) (sym (kept_more as_case xs c refl));
+  case_ids = same_ids (λ (r : CaseRow). r.id) with_open_attempt (λ r. refl) (λ r. bytes_eq case r.id) t.cases ∙ h.case_ids ∙ ap (map (λ (d : DeclaredCase). d.id)) (sym (kept_more as_case xs c refl));
   attempt_ids = map-append (λ (r : AttemptRow). r.id) t.attempts (new_attempt id case ∷ []) ∙ ap (λ ids. ids ++ id ∷ []) h.attempt_ids ∙ sym (ap (map (λ (s : StartedAttempt). s.id)) (kept_push as_start xs c (start_with id case number) refl) ∙ map-append (λ (s : StartedAttempt). s.id) (starts xs) (start_with id case number ∷ []));
-  cases_distinct = distinct_after_change {X = CaseRow} (λ r. r.id) (λ r. bytes_eq case r.id) opened (λ r. refl) t.cases (change_first (λ r. bytes_eq case r.id) opened t.cases) refl h.cases_distinct;
+  cases_distinct = distinct_after_change {X = CaseRow} (λ r. r.id) (λ r. bytes_eq case r.id) with_open_attempt (λ r. refl) t.cases (change_first (λ r. bytes_eq case r.id) with_open_attempt t.cases) refl h.cases_distinct;
   attempts_distinct = distinct_after_push {X = AttemptRow} (λ r. r.id) (new_attempt id case) t.attempts (t.attempts ++ new_attempt id case ∷ []) refl fits.new h.attempts_distinct;
   steps_distinct = subst (AllByRecursion (λ (d : DeclaredCase). has_repeat d.steps ≡ false)) (sym (kept_more as_case xs c refl)) h.steps_distinct;
 }
@@ -129,7 +129,7 @@ attempt_started xs t id case number h accepted = record {
     c = Start id case number
 
     u : Table
-    u = started id case t
+    u = with_attempt id case t
 
     fits : StartFits t id case number
     fits = start_fits t id case number accepted
@@ -179,7 +179,7 @@ changed_alone xs c t a f ids no_case no_start quiet no_end open_yet h own = reco
     not_so : (b : Utf8) (r : Bool) → ends_of b xs ≡ r ∷ [] → b ≡ a → ⊥
     not_so b r e k = let no : [] ≡ r ∷ [] = sym open_yet ∙ ap (λ z. ends_of z xs) (sym k) ∙ e in cc
 
-pub step_started : (xs : List Call) (t : Table) (a step : Utf8) → Tracked xs t → step_start_fault t a step ≡ None → Tracked (xs ++ StartStep a step ∷ []) (change_attempt a running t)
+pub step_started : (xs : List Call) (t : Table) (a step : Utf8) → Tracked xs t → step_start_fault t a step ≡ None → Tracked (xs ++ StartStep a step ∷ []) (change_attempt a with_running_step t)
 step_started xs t a step h accepted =
     let c = StartStep a step in
     let fits = step_fits t a step (may_start step) accepted in
@@ -187,13 +187,13 @@ step_started xs t a step h accepted =
     let may : may_start step fits.row.cursor b.its_case.steps ≡ true = ap (may_start step fits.row.cursor) (sym (steps_are xs t a fits.row b)) ∙ fits.next in
     let stands = step_starts b.its_case.steps (moves a xs) (ends_of a xs) fits.row.cursor step b.stands may in
     let open_yet = not_over b.its_case.steps (moves a xs) (ends_of a xs) fits.row.cursor b.stands (has_cursor _ fits.row.cursor may) in
-    changed_alone xs c t a running (λ r. refl) refl refl (λ b k. (rw k refl, refl)) (λ b. refl) open_yet h
-    (moved_on xs c t (change_attempt a running t) a fits.row (running fits.row) (StepStarted step) b
-    (found_changed (λ (r : AttemptRow). r.id) running (λ r. refl) a t.attempts ∙ ap (option_map running) fits.found) refl (keeps_same t (change_attempt a running t) refl) refl (rw (bytes_same a) refl)
+    changed_alone xs c t a with_running_step (λ r. refl) refl refl (λ b k. (rw k refl, refl)) (λ b. refl) open_yet h
+    (moved_on xs c t (change_attempt a with_running_step t) a fits.row (with_running_step fits.row) (StepStarted step) b
+    (found_changed (λ (r : AttemptRow). r.id) with_running_step (λ r. refl) a t.attempts ∙ ap (option_map with_running_step) fits.found) refl (keeps_same t (change_attempt a with_running_step t) refl) refl (rw (bytes_same a) refl)
     (subst (λ rs. Stands b.its_case.steps (moves a xs ++ StepStarted step ∷ []) rs (option_map running_cursor fits.row.cursor)) (sym (kept_more (retry_in a) xs c refl)) stands)
     (b.worst ∙ ap worst_so_far (sym (kept_more (status_in a) xs c refl))))
 
-pub step_finished : (xs : List Call) (t : Table) (a step : Utf8) (status : Status) → Tracked xs t → step_finish_fault t a step ≡ None → Tracked (xs ++ FinishStep a step status ∷ []) (change_attempt a (step_done status) t)
+pub step_finished : (xs : List Call) (t : Table) (a step : Utf8) (status : Status) → Tracked xs t → step_finish_fault t a step ≡ None → Tracked (xs ++ FinishStep a step status ∷ []) (change_attempt a (with_finished_step status) t)
 step_finished xs t a step status h accepted =
     let c = FinishStep a step status in
     let fits = step_fits t a step (may_finish step) accepted in
@@ -202,10 +202,10 @@ step_finished xs t a step status h accepted =
     let stands = step_finishes b.its_case.steps (moves a xs) (ends_of a xs) fits.row.cursor step b.stands may in
     let open_yet = not_over b.its_case.steps (moves a xs) (ends_of a xs) fits.row.cursor b.stands (has_cursor _ fits.row.cursor may) in
     let told : status_in a c ≡ Some status = rw (bytes_same a) refl in
-    changed_alone xs c t a (step_done status) (λ r. refl) refl refl (λ b k. (rw k refl, rw k refl)) (λ b. refl) open_yet h
-    (moved_on xs c t (change_attempt a (step_done status) t) a fits.row (step_done status fits.row) (StepFinished step) b
-    (found_changed (λ (r : AttemptRow). r.id) (step_done status) (λ r. refl) a t.attempts ∙ ap (option_map (step_done status)) fits.found) refl (keeps_same t (change_attempt a (step_done status) t) refl) refl (rw (bytes_same a) refl)
-    (subst (λ rs. Stands b.its_case.steps (moves a xs ++ StepFinished step ∷ []) rs (option_map after_step fits.row.cursor)) (sym (kept_more (retry_in a) xs c refl)) stands)
+    changed_alone xs c t a (with_finished_step status) (λ r. refl) refl refl (λ b k. (rw k refl, rw k refl)) (λ b. refl) open_yet h
+    (moved_on xs c t (change_attempt a (with_finished_step status) t) a fits.row (with_finished_step status fits.row) (StepFinished step) b
+    (found_changed (λ (r : AttemptRow). r.id) (with_finished_step status) (λ r. refl) a t.attempts ∙ ap (option_map (with_finished_step status)) fits.found) refl (keeps_same t (change_attempt a (with_finished_step status) t) refl) refl (rw (bytes_same a) refl)
+    (subst (λ rs. Stands b.its_case.steps (moves a xs ++ StepFinished step ∷ []) rs (option_map cursor_after_step fits.row.cursor)) (sym (kept_more (retry_in a) xs c refl)) stands)
     (ap (λ w. with_status w status) b.worst ∙ sym (ap worst_so_far (kept_push (status_in a) xs c status told) ∙ fold_push with_status None (statuses a xs) status)))
 
 -- ---- an attempt ends
@@ -240,7 +240,7 @@ module _ (xs : List Call) (t : Table) (a : Utf8) (r : Bool) (h : Tracked xs t) (
   state = outcome row r
 
   abbrev u : Table
-  u = change_attempt a ended (change_case row.case_id (with_last state) t)
+  u = change_attempt a ended_attempt (change_case row.case_id (with_last state) t)
 
   told : retry_in a c ≡ Some r
   told = rw (bytes_same a) refl
@@ -287,7 +287,7 @@ module _ (xs : List Call) (t : Table) (a : Utf8) (r : Bool) (h : Tracked xs t) (
       cc)
 
   -- the attempt is open, and its end is accepted
-  pub ends_now : (ends : end_fault_of row.cursor (steps_of t row.case_id) ≡ None) → Tracked (xs ++ Finish a r ∷ []) (change_attempt a ended (change_case row.case_id (with_last (outcome row r)) t))
+  pub ends_now : (ends : end_fault_of row.cursor (steps_of t row.case_id) ≡ None) → Tracked (xs ++ Finish a r ∷ []) (change_attempt a ended_attempt (change_case row.case_id (with_last (outcome row r)) t))
   ends_now ends =
       let fine : end_fault_of row.cursor b.its_case.steps ≡ None = ap (end_fault_of row.cursor) (sym (steps_are xs t a row b)) ∙ ends in
       let stands = attempt_ends b.its_case.steps (moves a xs) (ends_of a xs) row.cursor b.stands fine r in
@@ -297,15 +297,15 @@ module _ (xs : List Call) (t : Table) (a : Utf8) (r : Bool) (h : Tracked xs t) (
             (λ k. carry_case xs c t u case (found_elsewhere (λ (x : CaseRow). x.id) (with_last state) (λ x. refl) case row.case_id k t.cases) refl refl (record { ended = λ q s e. (quiet q s e, refl); still_open = λ s st cs e. still_open case k s st cs }) (h.of_cases case))
             (λ k. subst (CaseIs (xs ++ c ∷ []) u) (sym k) case_closes);
         of_attempts = λ q. by_id q a
-            (λ k. carry_attempt xs c t u q (found_elsewhere (λ (x : AttemptRow). x.id) ended (λ x. refl) q a k t.attempts) keeps refl (rw k refl) (rw k refl) refl (h.of_attempts q))
+            (λ k. carry_attempt xs c t u q (found_elsewhere (λ (x : AttemptRow). x.id) ended_attempt (λ x. refl) q a k t.attempts) keeps refl (rw k refl) (rw k refl) refl (h.of_attempts q))
             (λ k. subst (AttemptIs (xs ++ c ∷ []) u) (sym k)
-            (moved_on xs c t u a row (ended row) Ended b (found_changed (λ (x : AttemptRow). x.id) ended (λ x. refl) a t.attempts ∙ ap (option_map ended) found) refl keeps refl (rw (bytes_same a) refl)
+            (moved_on xs c t u a row (ended_attempt row) Ended b (found_changed (λ (x : AttemptRow). x.id) ended_attempt (λ x. refl) a t.attempts ∙ ap (option_map ended_attempt) found) refl keeps refl (rw (bytes_same a) refl)
             (subst (λ rs. Stands b.its_case.steps (moves a xs ++ Ended ∷ []) rs None) (sym (kept_push (retry_in a) xs c r told)) stands)
             (b.worst ∙ ap worst_so_far (sym (kept_more (status_in a) xs c refl)))));
         case_ids = same_ids (λ (x : CaseRow). x.id) (with_last state) (λ x. refl) (λ x. bytes_eq row.case_id x.id) t.cases ∙ h.case_ids ∙ ap (map (λ (d : DeclaredCase). d.id)) (sym (kept_more as_case xs c refl));
-        attempt_ids = same_ids (λ (x : AttemptRow). x.id) ended (λ x. refl) (λ x. bytes_eq a x.id) t.attempts ∙ h.attempt_ids ∙ ap (map (λ (s : StartedAttempt). s.id)) (sym (kept_more as_start xs c refl));
+        attempt_ids = same_ids (λ (x : AttemptRow). x.id) ended_attempt (λ x. refl) (λ x. bytes_eq a x.id) t.attempts ∙ h.attempt_ids ∙ ap (map (λ (s : StartedAttempt). s.id)) (sym (kept_more as_start xs c refl));
         cases_distinct = distinct_after_change {X = CaseRow} (λ x. x.id) (λ x. bytes_eq row.case_id x.id) (with_last state) (λ x. refl) t.cases (change_first (λ x. bytes_eq row.case_id x.id) (with_last state) t.cases) refl h.cases_distinct;
-        attempts_distinct = distinct_after_change {X = AttemptRow} (λ x. x.id) (λ x. bytes_eq a x.id) ended (λ x. refl) t.attempts (change_first (λ x. bytes_eq a x.id) ended t.attempts) refl h.attempts_distinct;
+        attempts_distinct = distinct_after_change {X = AttemptRow} (λ x. x.id) (λ x. bytes_eq a x.id) ended_attempt (λ x. refl) t.attempts (change_first (λ x. bytes_eq a x.id) ended_attempt t.attempts) refl h.attempts_distinct;
         steps_distinct = subst (AllByRecursion (λ (d : DeclaredCase). has_repeat d.steps ≡ false)) (sym (kept_more as_case xs c refl)) h.steps_distinct;
       }
 
@@ -313,9 +313,9 @@ can_end : (o : Option Cursor) (steps : List Utf8) → end_fault_of o steps ≡ N
 can_end None steps h = cc
 can_end (Some c) steps h = refl
 
-pub attempt_finished : (xs : List Call) (t : Table) (a : Utf8) (r : Bool) → Tracked xs t → finish_fault t a ≡ None → Tracked (xs ++ Finish a r ∷ []) (finished a r t)
+pub attempt_finished : (xs : List Call) (t : Table) (a : Utf8) (r : Bool) → Tracked xs t → finish_fault t a ≡ None → Tracked (xs ++ Finish a r ∷ []) (with_finished_attempt a r t)
 attempt_finished xs t a r h accepted =
     let fits = end_fits t a accepted in
     let b = begun_of xs t a fits.row (h.of_attempts a) fits.found in
     let open_yet = not_over b.its_case.steps (moves a xs) (ends_of a xs) fits.row.cursor b.stands (can_end fits.row.cursor (steps_of t fits.row.case_id) fits.ends) in
-    subst (Tracked (xs ++ Finish a r ∷ [])) (sym (ap (λ o. finished_at a r o t) fits.found)) (ends_now xs t a r h fits.row fits.found b open_yet fits.ends)
+    subst (Tracked (xs ++ Finish a r ∷ [])) (sym (ap (λ o. with_finished_attempt_at a r o t) fits.found)) (ends_now xs t a r h fits.row fits.found b open_yet fits.ends)

@@ -10,7 +10,7 @@ use Rattle.cm_attempt.specs.declared.rows.Cursor.{Cursor}
 use Rattle.cm_attempt.specs.declared.rows.Last.{Last}
 use Rattle.cm_attempt.specs.declared.fault.TrackFault.{TrackFault}
 use Rattle.cm_attempt.specs.declared.fault.TrackFault.TheVariants as fault
-use Rattle.cm_attempt.specs.Calls.{Call, AddCase, Start, StartStep, FinishStep, Finish, call_fault, StartedAttempt, declared, start_of, starts_of, steps_of_attempt, Move, StepStarted, StepFinished, Ended, moves, whole, ends_of, is_ended, is_retried}
+use Rattle.cm_attempt.specs.Calls.{Call, AddCase, Start, StartStep, FinishStep, Finish, call_fault, StartedAttempt, declared_case, start_of, starts_of, steps_of_attempt, Move, StepStarted, StepFinished, Ended, moves, all_moves, ends_of, is_ended, is_retried}
 use Rattle.cm_attempt.specs.CallFaults.{same_move, is_next_move, step_fault, fault_of, RefusedForFault}
 use Rattle.cm_attempt.proofs.Growing.{at_end}
 use Rattle.cm_attempt.proofs.Standing.{Stands, between, inside, over, rest_of, left_is, some_left, open_is}
@@ -38,7 +38,7 @@ closed_is calls case ss l (last_over front s false cut all ends e) =
 closed_is calls case ss l (last_over front s true cut all ends e) =
     ap is_closed_to_new e ∙ sym (ap (λ z. not (list_all (λ s. is_retried s.id calls) z)) cut ∙ ap not (all_then calls front s all ends))
 
-has_case : (calls : List Call) (t : Table) (case : Utf8) → CaseIs calls t case → is_some (find_case t case) ≡ is_some (declared case calls)
+has_case : (calls : List Call) (t : Table) (case : Utf8) → CaseIs calls t case → is_some (find_case t case) ≡ is_some (declared_case case calls)
 has_case calls t case (undeclared n u) = rw (n, u.no_case) refl
 has_case calls t case (known row f k) = rw (f, k.is_declared) refl
 
@@ -57,7 +57,7 @@ start_refused first calls t counts h id case number (known row f k) =
 
 next_is : (calls : List Call) (a : Utf8) (steps : List Utf8) (rs : List Bool) (o : Option Cursor) (m : Move) → (st : Stands steps (moves a calls) rs o) → steps_of_attempt a calls ≡ steps → is_next_move m a calls ≡ option_map_or (same_move m) (slice_get (rest_of steps (moves a calls) rs o st) 0) false
 next_is calls a steps rs o m st same =
-    ap (λ z. option_map_or (same_move m) (slice_get z (length (moves a calls))) false) (ap whole same ∙ left_is steps (moves a calls) rs o st)
+    ap (λ z. option_map_or (same_move m) (slice_get z (length (moves a calls))) false) (ap all_moves same ∙ left_is steps (moves a calls) rs o st)
     ∙ ap (λ z. option_map_or (same_move m) z false) (at_end (moves a calls) (rest_of steps (moves a calls) rs o st))
 
 here_is : (step : Utf8) (done todo : List Utf8) → option_map_or (bytes_eq step) (slice_get (done ++ todo) (length done)) false ≡ option_map_or (bytes_eq step) (slice_get todo 0) false

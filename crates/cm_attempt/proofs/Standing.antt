@@ -7,10 +7,10 @@ use Rattle.std.specs.Str.{bytes_eq}
 use Rattle.std.proofs.lemmas.Bool.Decides.{nat_tests}
 use Rattle.std.proofs.lemmas.Grind.{flat_map-append}
 use Rattle.std.proofs.lemmas.List.Folds.{list_any-append}
-use Rattle.cm_attempt.specs.Table.{Utf8, running_cursor, after_step, may_start, may_finish, end_fault_of}
+use Rattle.cm_attempt.specs.Table.{Utf8, running_cursor, cursor_after_step, may_start, may_finish, end_fault_of}
 use Rattle.cm_attempt.specs.declared.rows.Cursor.{Cursor}
 use Rattle.cm_attempt.specs.declared.fault.TrackFault.TheVariants as fault
-use Rattle.cm_attempt.specs.Calls.{Move, Started, StepStarted, StepFinished, Ended, through, whole, is_end}
+use Rattle.cm_attempt.specs.Calls.{Move, Started, StepStarted, StepFinished, Ended, step_moves, all_moves, is_end}
 use Rattle.cm_attempt.specs.CallLaws.{IsFront}
 use Rattle.cm_attempt.proofs.Growing.{at_end, bytes_are}
 
@@ -19,9 +19,9 @@ cursor_at finished is_running = record { finished = finished; is_running = is_ru
 
 -- Where an attempt of a case with these steps is after these moves and ends: between two steps, in one, or at its end.
 pub data Stands (steps : List Utf8) (ms : List Move) (rs : List Bool) (o : Option Cursor) : Type 0 where
-  between : (done todo : List Utf8) → steps ≡ done ++ todo → ms ≡ Started ∷ through done → rs ≡ [] → o ≡ Some (cursor_at (length done) false) → Stands steps ms rs o
-  inside : (done : List Utf8) (s : Utf8) (todo : List Utf8) → steps ≡ done ++ s ∷ todo → ms ≡ Started ∷ through done ++ StepStarted s ∷ [] → rs ≡ [] → o ≡ Some (cursor_at (length done) true) → Stands steps ms rs o
-  over : (r : Bool) → ms ≡ whole steps → rs ≡ r ∷ [] → o ≡ None → Stands steps ms rs o
+  between : (done todo : List Utf8) → steps ≡ done ++ todo → ms ≡ Started ∷ step_moves done → rs ≡ [] → o ≡ Some (cursor_at (length done) false) → Stands steps ms rs o
+  inside : (done : List Utf8) (s : Utf8) (todo : List Utf8) → steps ≡ done ++ s ∷ todo → ms ≡ Started ∷ step_moves done ++ StepStarted s ∷ [] → rs ≡ [] → o ≡ Some (cursor_at (length done) true) → Stands steps ms rs o
+  over : (r : Bool) → ms ≡ all_moves steps → rs ≡ r ∷ [] → o ≡ None → Stands steps ms rs o
 
 -- ---- the next call
 
@@ -40,17 +40,17 @@ step_starts steps ms rs o step (between done todo a b c d) h = go todo a next
 step_starts steps ms rs o step (inside done x todo a b c d) h = let no : false ≡ true = rw d at h in cc
 step_starts steps ms rs o step (over r a b c) h = let no : false ≡ true = rw c at h in cc
 
-pub step_finishes : (steps : List Utf8) (ms : List Move) (rs : List Bool) (o : Option Cursor) (step : Utf8) → Stands steps ms rs o → may_finish step o steps ≡ true → Stands steps (ms ++ StepFinished step ∷ []) rs (option_map after_step o)
+pub step_finishes : (steps : List Utf8) (ms : List Move) (rs : List Bool) (o : Option Cursor) (step : Utf8) → Stands steps ms rs o → may_finish step o steps ≡ true → Stands steps (ms ++ StepFinished step ∷ []) rs (option_map cursor_after_step o)
 step_finishes steps ms rs o step (between done todo a b c d) h = let no : false ≡ true = rw d at h in cc
 step_finishes steps ms rs o step (inside done x todo a b c d) h =
     let all : option_map_or (bytes_eq step) (slice_get (done ++ x ∷ todo) (length done)) false ≡ true = rw (d, a) at h in
     let next : bytes_eq step x ≡ true = sym (ap (λ z. option_map_or (bytes_eq step) z false) (at_end done (x ∷ todo))) ∙ all in
-    let gone : through (done ++ x ∷ []) ≡ through done ++ StepStarted x ∷ StepFinished x ∷ [] = flat_map-append (λ s. StepStarted s ∷ StepFinished s ∷ []) done (x ∷ []) in
+    let gone : step_moves (done ++ x ∷ []) ≡ step_moves done ++ StepStarted x ∷ StepFinished x ∷ [] = flat_map-append (λ s. StepStarted s ∷ StepFinished s ∷ []) done (x ∷ []) in
     between (done ++ x ∷ []) todo
     (a ∙ sym (append_assoc done (x ∷ []) todo))
-    (ap (λ z. z ++ StepFinished step ∷ []) b ∙ ap (λ z. Started ∷ z) (append_assoc (through done) (StepStarted x ∷ []) (StepFinished step ∷ []) ∙ ap (λ z. through done ++ StepStarted x ∷ StepFinished z ∷ []) (bytes_are step x next) ∙ sym gone))
+    (ap (λ z. z ++ StepFinished step ∷ []) b ∙ ap (λ z. Started ∷ z) (append_assoc (step_moves done) (StepStarted x ∷ []) (StepFinished step ∷ []) ∙ ap (λ z. step_moves done ++ StepStarted x ∷ StepFinished z ∷ []) (bytes_are step x next) ∙ sym gone))
     c
-    (ap (option_map after_step) d ∙ ap (λ n. Some (cursor_at n false)) (sym (length-append done (x ∷ []))))
+    (ap (option_map cursor_after_step) d ∙ ap (λ n. Some (cursor_at n false)) (sym (length-append done (x ∷ []))))
 step_finishes steps ms rs o step (over r a b c) h = let no : false ≡ true = rw c at h in cc
 
 pub some_left : (done : List Utf8) (s : Utf8) (more : List Utf8) → (length done == length (done ++ s ∷ more)) ≡ false
@@ -61,7 +61,7 @@ refused_early n b steps e = rw e refl
 
 pub attempt_ends : (steps : List Utf8) (ms : List Move) (rs : List Bool) (o : Option Cursor) → Stands steps ms rs o → end_fault_of o steps ≡ None → (r : Bool) → Stands steps (ms ++ Ended ∷ []) (rs ++ r ∷ []) None
 attempt_ends steps ms rs o (between done [] a b c d) h r =
-    over r (ap (λ z. z ++ Ended ∷ []) b ∙ ap (λ z. whole z) (sym (append-nil done) ∙ sym a)) (ap (λ z. z ++ r ∷ []) c) refl
+    over r (ap (λ z. z ++ Ended ∷ []) b ∙ ap (λ z. all_moves z) (sym (append-nil done) ∙ sym a)) (ap (λ z. z ++ r ∷ []) c) refl
 attempt_ends steps ms rs o (between done (x ∷ more) a b c d) h r =
     let no : Some fault.FinishedEarly ≡ None = sym (ap (λ z. end_fault_of z steps) d ∙ ap (end_fault_of (Some (cursor_at (length done) false))) a ∙ refused_early (length done) false (done ++ x ∷ more) (some_left done x more)) ∙ h in
     cc
@@ -80,22 +80,22 @@ not_over steps ms rs o (over r a b c) h = let no : false ≡ true = rw c at h in
 
 -- what is left of it
 abbrev pub rest_of : (steps : List Utf8) (ms : List Move) (rs : List Bool) (o : Option Cursor) → Stands steps ms rs o → List Move
-rest_of steps ms rs o (between done todo a b c d) = through todo ++ Ended ∷ []
-rest_of steps ms rs o (inside done x todo a b c d) = StepFinished x ∷ (through todo ++ Ended ∷ [])
+rest_of steps ms rs o (between done todo a b c d) = step_moves todo ++ Ended ∷ []
+rest_of steps ms rs o (inside done x todo a b c d) = StepFinished x ∷ (step_moves todo ++ Ended ∷ [])
 rest_of steps ms rs o (over r a b c) = []
 
-pub left_is : (steps : List Utf8) (ms : List Move) (rs : List Bool) (o : Option Cursor) → (st : Stands steps ms rs o) → whole steps ≡ ms ++ rest_of steps ms rs o st
+pub left_is : (steps : List Utf8) (ms : List Move) (rs : List Bool) (o : Option Cursor) → (st : Stands steps ms rs o) → all_moves steps ≡ ms ++ rest_of steps ms rs o st
 left_is steps ms rs o (between done todo a b c d) =
-    ap whole a ∙ ap (λ z. Started ∷ z ++ Ended ∷ []) (flat_map-append (λ s. StepStarted s ∷ StepFinished s ∷ []) done todo) ∙ ap (λ z. Started ∷ z) (append_assoc (through done) (through todo) (Ended ∷ [])) ∙ ap (λ z. z ++ (through todo ++ Ended ∷ [])) (sym b)
+    ap all_moves a ∙ ap (λ z. Started ∷ z ++ Ended ∷ []) (flat_map-append (λ s. StepStarted s ∷ StepFinished s ∷ []) done todo) ∙ ap (λ z. Started ∷ z) (append_assoc (step_moves done) (step_moves todo) (Ended ∷ [])) ∙ ap (λ z. z ++ (step_moves todo ++ Ended ∷ [])) (sym b)
 left_is steps ms rs o (inside done x todo a b c d) =
-    ap whole a ∙ ap (λ z. Started ∷ z ++ Ended ∷ []) (flat_map-append (λ s. StepStarted s ∷ StepFinished s ∷ []) done (x ∷ todo)) ∙ ap (λ z. Started ∷ z) (append_assoc (through done) (through (x ∷ todo)) (Ended ∷ []) ∙ sym (append_assoc (through done) (StepStarted x ∷ []) (StepFinished x ∷ (through todo ++ Ended ∷ []))))
-    ∙ ap (λ z. z ++ (StepFinished x ∷ (through todo ++ Ended ∷ []))) (sym b)
+    ap all_moves a ∙ ap (λ z. Started ∷ z ++ Ended ∷ []) (flat_map-append (λ s. StepStarted s ∷ StepFinished s ∷ []) done (x ∷ todo)) ∙ ap (λ z. Started ∷ z) (append_assoc (step_moves done) (step_moves (x ∷ todo)) (Ended ∷ []) ∙ sym (append_assoc (step_moves done) (StepStarted x ∷ []) (StepFinished x ∷ (step_moves todo ++ Ended ∷ []))))
+    ∙ ap (λ z. z ++ (StepFinished x ∷ (step_moves todo ++ Ended ∷ []))) (sym b)
 left_is steps ms rs o (over r a b c) = sym a ∙ sym (append-nil ms)
 
-pub left_of : (steps : List Utf8) (ms : List Move) (rs : List Bool) (o : Option Cursor) → Stands steps ms rs o → IsFront ms (whole steps)
+pub left_of : (steps : List Utf8) (ms : List Move) (rs : List Bool) (o : Option Cursor) → Stands steps ms rs o → IsFront ms (all_moves steps)
 left_of steps ms rs o st = (rest_of steps ms rs o st, left_is steps ms rs o st)
 
-no_end : (steps : List Utf8) → list_any is_end (through steps) ≡ false
+no_end : (steps : List Utf8) → list_any is_end (step_moves steps) ≡ false
 no_end [] = refl
 no_end (s ∷ steps) = no_end steps
 
@@ -106,15 +106,15 @@ or_end b e ms k = list_any-append is_end ms (Ended ∷ []) ∙ rw (k ∙ e) refl
 pub open_is : (steps : List Utf8) (ms : List Move) (rs : List Bool) (o : Option Cursor) → Stands steps ms rs o → is_some o ≡ not (list_any is_end ms)
 open_is steps ms rs o (between done todo a b c d) = ap is_some d ∙ sym (ap (λ z. not (list_any is_end z)) b ∙ ap not (no_end done))
 open_is steps ms rs o (inside done x todo a b c d) =
-    let none : list_any is_end (through done ++ StepStarted x ∷ []) ≡ false = list_any-append is_end (through done) (StepStarted x ∷ []) ∙ rw (no_end done) refl in
+    let none : list_any is_end (step_moves done ++ StepStarted x ∷ []) ≡ false = list_any-append is_end (step_moves done) (StepStarted x ∷ []) ∙ rw (no_end done) refl in
     ap is_some d ∙ sym (ap (λ z. not (list_any is_end z)) b ∙ ap not none)
-open_is steps ms rs o (over r a b c) = ap is_some c ∙ sym (ap (λ z. not (list_any is_end z)) a ∙ ap not (or_end false refl (Started ∷ through steps) (no_end steps)))
+open_is steps ms rs o (over r a b c) = ap is_some c ∙ sym (ap (λ z. not (list_any is_end z)) a ∙ ap not (or_end false refl (Started ∷ step_moves steps) (no_end steps)))
 
 -- what has ended went through the whole, and ended once
-pub whole_if_ended : (steps : List Utf8) (ms : List Move) (rs : List Bool) (o : Option Cursor) → Stands steps ms rs o → list_any is_end ms ≡ true → (ms ≡ whole steps) × (length rs ≡ 1)
+pub whole_if_ended : (steps : List Utf8) (ms : List Move) (rs : List Bool) (o : Option Cursor) → Stands steps ms rs o → list_any is_end ms ≡ true → (ms ≡ all_moves steps) × (length rs ≡ 1)
 whole_if_ended steps ms rs o (between done todo a b c d) h = let no : true ≡ false = sym h ∙ ap (list_any is_end) b ∙ no_end done in cc
 whole_if_ended steps ms rs o (inside done x todo a b c d) h =
-    let none : list_any is_end (through done ++ StepStarted x ∷ []) ≡ false = list_any-append is_end (through done) (StepStarted x ∷ []) ∙ rw (no_end done) refl in
+    let none : list_any is_end (step_moves done ++ StepStarted x ∷ []) ≡ false = list_any-append is_end (step_moves done) (StepStarted x ∷ []) ∙ rw (no_end done) refl in
     let no : true ≡ false = sym h ∙ ap (list_any is_end) b ∙ none in
     cc
 whole_if_ended steps ms rs o (over r a b c) h = (a, ap length b)

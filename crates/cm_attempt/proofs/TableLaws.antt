@@ -1,7 +1,7 @@
 -- What the changes of a table do to the number of open attempts.
 use Rattle.std.proofs.Common.{◌≡◌, ap, refl, ℕ, ◌+◌, Bool, true, false, cond, List, [], ◌∷◌, Option, None, Some, arith, Result, Err, MatchOption, IsOk, is_ok}
 use Rattle.std.specs.Prelude.{count_by, find, fold, is_some, option_map, unwrap_or}
-use Rattle.cm_attempt.specs.Table.{AttemptRow, Table, change_first, ended, finish_fault_at}
+use Rattle.cm_attempt.specs.Table.{AttemptRow, Table, change_first, ended_attempt, finish_fault_at}
 use Rattle.cm_attempt.specs.declared.rows.Cursor.{Cursor}
 use Rattle.cm_attempt.specs.declared.fault.TrackFault.{TrackFault}
 use Rattle.cm_attempt.specs.declared.fault.TrackFault.TheVariants as fault
@@ -37,21 +37,21 @@ open_kept f (Some c) = refl
 
 -- the end of an open attempt takes one from the count
 pub count_ended : (p : AttemptRow → Bool) (a : AttemptRow) (xs : List AttemptRow) → find p xs ≡ Some a → is_open a ≡ true
-    → count_by is_open (change_first p ended xs) + 1 ≡ count_by is_open xs
+    → count_by is_open (change_first p ended_attempt xs) + 1 ≡ count_by is_open xs
 count_ended p a [] h live = cc
 count_ended p a (x ∷ xs) h live = go (p x) refl (λ r. count_ended p a xs r live)
   where
-    go : (b : Bool) → p x ≡ b → (find p xs ≡ Some a → count_by is_open (change_first p ended xs) + 1 ≡ count_by is_open xs)
-        → count_by is_open (change_first p ended (x ∷ xs)) + 1 ≡ count_by is_open (x ∷ xs)
+    go : (b : Bool) → p x ≡ b → (find p xs ≡ Some a → count_by is_open (change_first p ended_attempt xs) + 1 ≡ count_by is_open xs)
+        → count_by is_open (change_first p ended_attempt (x ∷ xs)) + 1 ≡ count_by is_open (x ∷ xs)
     go true e rec =
         let here : Some x ≡ Some a = rw e at h in
         let same : x ≡ a = ap (λ o. unwrap_or o a) here in
         let was : is_open x ≡ true = rw same live in
-        rw (e, count_cons is_open (ended x) xs, count_cons is_open x xs, was) (omega arith)
+        rw (e, count_cons is_open (ended_attempt x) xs, count_cons is_open x xs, was) (omega arith)
     go false e rec =
         let rest : find p xs ≡ Some a = rw e at h in
         let one = rec rest in
-        rw (e, count_cons is_open x (change_first p ended xs), count_cons is_open x xs) (omega (arith, one))
+        rw (e, count_cons is_open x (change_first p ended_attempt xs), count_cons is_open x xs) (omega (arith, one))
 
 -- an attempt that may end is open
 pub open_before_end : {X : Type 0} (t : Table) (a : AttemptRow) (r : Result X TrackFault)

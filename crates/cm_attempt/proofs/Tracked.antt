@@ -11,7 +11,7 @@ use Rattle.cm_attempt.specs.declared.status.Status.{Status}
 use Rattle.cm_attempt.specs.declared.rows.Cursor.{Cursor}
 use Rattle.cm_attempt.specs.declared.rows.Last.{Last}
 use Rattle.cm_attempt.specs.declared.rows.Last.TheVariants as last
-use Rattle.cm_attempt.specs.Calls.{Call, DeclaredCase, StartedAttempt, as_case, as_start, cases, starts, declared, start_of, starts_of, Move, move_of, moves, retry_in, ends_of, status_in, statuses}
+use Rattle.cm_attempt.specs.Calls.{Call, DeclaredCase, StartedAttempt, as_case, as_start, cases, starts, declared_case, start_of, starts_of, Move, move_of, moves, retry_in, ends_of, status_in, statuses}
 use Rattle.cm_attempt.proofs.Growing.{by_id, kept_more, all_weaker, still_found, found_changed, found_elsewhere}
 use Rattle.cm_attempt.proofs.Standing.{Stands}
 
@@ -66,13 +66,13 @@ pub data Latest (calls : List Call) (case : Utf8) (ss : List StartedAttempt) (l 
   last_over : (front : List StartedAttempt) (s : StartedAttempt) (r : Bool) → ss ≡ front ++ s ∷ [] → AllByRecursion (Retried calls) front → ends_of s.id calls ≡ r ∷ [] → l ≡ left_as r (worst_of (statuses s.id calls)) → Latest calls case ss l
 
 pub record Undeclared (calls : List Call) (case : Utf8) : Type 0 where
-  pub no_case : declared case calls ≡ None
+  pub no_case : declared_case case calls ≡ None
   pub no_start : starts_of case calls ≡ []
 
 -- a case with this row
 pub record Known (calls : List Call) (case : Utf8) (row : CaseRow) : Type 0 where
   pub found : DeclaredCase
-  pub is_declared : declared case calls ≡ Some found
+  pub is_declared : declared_case case calls ≡ Some found
   pub steps : row.steps ≡ found.steps
   pub count : row.attempts ≡ length (starts_of case calls)
   pub latest : Latest calls case (starts_of case calls) row.last
@@ -105,13 +105,13 @@ pub record Tracked (calls : List Call) (t : Table) : Type 0 where
 pub start_still : (a : Utf8) (xs ys : List Call) (s : StartedAttempt) → start_of a xs ≡ Some s → start_of a (xs ++ ys) ≡ Some s
 start_still a xs ys s e = ap (find (is_of a)) (filter_map-append as_start xs ys) ∙ still_found (is_of a) (starts xs) (starts ys) s e
 
-pub declared_still : (case : Utf8) (xs ys : List Call) (d : DeclaredCase) → declared case xs ≡ Some d → declared case (xs ++ ys) ≡ Some d
+pub declared_still : (case : Utf8) (xs ys : List Call) (d : DeclaredCase) → declared_case case xs ≡ Some d → declared_case case (xs ++ ys) ≡ Some d
 declared_still case xs ys d e = ap (find (λ c. bytes_eq case c.id)) (filter_map-append as_case xs ys) ∙ still_found (λ c. bytes_eq case c.id) (cases xs) (cases ys) d e
 
 pub start_past : (a : Utf8) (xs ys : List Call) → start_of a xs ≡ None → start_of a ys ≡ None → start_of a (xs ++ ys) ≡ None
 start_past a xs ys e f = ap (find (is_of a)) (filter_map-append as_start xs ys) ∙ rw (find-append (is_of a) (starts xs) (starts ys), e, f) refl
 
-pub declared_past : (case : Utf8) (xs ys : List Call) → declared case xs ≡ None → declared case ys ≡ None → declared case (xs ++ ys) ≡ None
+pub declared_past : (case : Utf8) (xs ys : List Call) → declared_case case xs ≡ None → declared_case case ys ≡ None → declared_case case (xs ++ ys) ≡ None
 declared_past case xs ys e f = ap (find (λ c. bytes_eq case c.id)) (filter_map-append as_case xs ys) ∙ rw (find-append (λ c. bytes_eq case c.id) (cases xs) (cases ys), e, f) refl
 
 pub starts_both : (case : Utf8) (xs ys : List Call) → starts_of case (xs ++ ys) ≡ starts_of case xs ++ starts_of case ys
@@ -172,7 +172,7 @@ latest_kept xs c case q ss l (last_over front s r cut all ends e) =
     let k = q.ended s.id r ends in
     last_over front s r cut (still_retried xs c (λ b r k. (q.ended b r k).0) front all) (kept_more (retry_in s.id) xs c k.0 ∙ ends) (e ∙ ap (λ ws. left_as r (worst_of ws)) (sym (kept_more (status_in s.id) xs c k.1)))
 
-pub carry_case : (xs : List Call) (c : Call) (t u : Table) (case : Utf8) → find_case u case ≡ find_case t case → declared case (c ∷ []) ≡ None → starts_of case (c ∷ []) ≡ [] → LeavesLatest xs c case → CaseIs xs t case → CaseIs (xs ++ c ∷ []) u case
+pub carry_case : (xs : List Call) (c : Call) (t u : Table) (case : Utf8) → find_case u case ≡ find_case t case → declared_case case (c ∷ []) ≡ None → starts_of case (c ∷ []) ≡ [] → LeavesLatest xs c case → CaseIs xs t case → CaseIs (xs ++ c ∷ []) u case
 carry_case xs c t u case same no_case no_start q (undeclared n h) =
     undeclared (same ∙ n) (record {
       no_case = declared_past case xs (c ∷ []) h.no_case no_case;

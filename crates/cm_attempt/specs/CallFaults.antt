@@ -4,7 +4,7 @@ use Rattle.std.specs.List.{list_all}
 use Rattle.std.specs.Option.{option_map_or}
 use Rattle.std.specs.Str.{bytes_eq}
 use Rattle.cm_attempt.specs.Table.{Utf8, Table, has_text, has_repeat}
-use Rattle.cm_attempt.specs.Calls.{Call, AddCase, Start, StartStep, FinishStep, Finish, call_fault, table_after, declared, start_of, starts_of, steps_of_attempt, Move, Started, StepStarted, StepFinished, Ended, moves, whole, is_ended, is_retried}
+use Rattle.cm_attempt.specs.Calls.{Call, AddCase, Start, StartStep, FinishStep, Finish, call_fault, table_after, declared_case, start_of, starts_of, steps_of_attempt, Move, Started, StepStarted, StepFinished, Ended, moves, all_moves, is_ended, is_retried}
 use Rattle.cm_attempt.specs.declared.fault.TrackFault.{TrackFault}
 use Rattle.cm_attempt.specs.declared.fault.TrackFault.TheVariants.{UnknownCase, UnknownAttempt, UnknownStep, DuplicateId, AttemptNumber, AttemptOverlap, StepOrder, FinishedEarly}
 
@@ -19,7 +19,7 @@ same_move _ _ = false
 abbrev pub is_next_move : Move → Utf8 → List Call → Bool
 is_next_move m a calls =
     option_map_or (same_move m)
-    (slice_get (whole (steps_of_attempt a calls)) (length (moves a calls))) false
+    (slice_get (all_moves (steps_of_attempt a calls)) (length (moves a calls))) false
 
 -- the first fault of a move of a step
 abbrev pub step_fault : List Call → Utf8 → Utf8 → Move → Option TrackFault
@@ -31,9 +31,9 @@ step_fault calls a step m =
 -- the first fault of a call after these calls, where attempts are counted from the first number
 abbrev pub fault_of : ℕ → List Call → Call → Option TrackFault
 fault_of first calls (AddCase id steps) =
-    if is_some (declared id calls) || has_repeat steps then Some DuplicateId else None
+    if is_some (declared_case id calls) || has_repeat steps then Some DuplicateId else None
 fault_of first calls (Start id case number) =
-    if not (is_some (declared case calls)) then Some UnknownCase
+    if not (is_some (declared_case case calls)) then Some UnknownCase
     else (if is_some (start_of id calls) then Some DuplicateId
     else (if not (number == first + length (starts_of case calls)) then Some AttemptNumber
     else (if not (list_all (λ s. is_retried s.id calls) (starts_of case calls))

@@ -1,8 +1,8 @@
 -- What the calls of a run say where none is refused, for every interleaving of attempts, and what their table shows of it.
 use Rattle.std.specs.Prelude.{◌≡◌, ◌+◌, ℕ, true, false, not, List, ◌∷◌, ◌++◌, map, length, Some, is_some, count_by}
 use Rattle.std.specs.List.{list_all, AllByRecursion}
-use Rattle.cm_attempt.specs.Table.{Utf8, Table, has_repeat, open_count, reported_of}
-use Rattle.cm_attempt.specs.Calls.{Call, Start, table_after, cases, starts, declared, starts_of, steps_of_attempt, moves, whole, ends_of, is_ended, is_retried, result_of}
+use Rattle.cm_attempt.specs.Table.{Utf8, Table, has_repeat, open_count, reported_status}
+use Rattle.cm_attempt.specs.Calls.{Call, Start, table_after, cases, starts, declared_case, starts_of, steps_of_attempt, moves, all_moves, ends_of, is_ended, is_retried, result_of}
 
 -- the list begins so
 abbrev pub IsFront : {A : Type 0} → List A → List A → Type 0
@@ -15,7 +15,7 @@ AtEachStart P calls = (before : List Call) (id case : Utf8) (number : ℕ) (afte
 
 -- an attempt is of a case that was declared
 abbrev pub CasesKnown : List Call → Type 0
-CasesKnown = AtEachStart (λ before id case number. is_some (declared case before) ≡ true)
+CasesKnown = AtEachStart (λ before id case number. is_some (declared_case case before) ≡ true)
 
 -- the attempts of a case are numbered from the first number on, in order of start
 abbrev pub AreNumbered : ℕ → List Call → Type 0
@@ -31,12 +31,12 @@ NoneOverlaps = AtEachStart
 -- ended. Of what wasn't started there is no move.
 abbrev pub StepsInOrder : List Call → Type 0
 StepsInOrder calls = (attempt : Utf8)
-    → IsFront (moves attempt calls) (whole (steps_of_attempt attempt calls))
+    → IsFront (moves attempt calls) (all_moves (steps_of_attempt attempt calls))
 
 -- An attempt that is finished went through the whole, and it finished once.
 abbrev pub FinishedAreWhole : List Call → Type 0
 FinishedAreWhole calls = (attempt : Utf8) → is_ended attempt calls ≡ true
-    → (moves attempt calls ≡ whole (steps_of_attempt attempt calls))
+    → (moves attempt calls ≡ all_moves (steps_of_attempt attempt calls))
     × (length (ends_of attempt calls) ≡ 1)
 
 -- no two cases, no two steps of a case and no two attempts have one id
@@ -75,7 +75,7 @@ HasCases calls t = map (λ c. c.id) t.cases ≡ map (λ c. c.id) (cases calls)
 
 -- what it reports of a case is the worst status of the final attempt, and none where there is none
 abbrev pub ReportsResults : List Call → Table → Type 0
-ReportsResults calls t = (case : Utf8) → reported_of t case ≡ result_of case calls
+ReportsResults calls t = (case : Utf8) → reported_status t case ≡ result_of case calls
 
 -- its open attempts are those that were started and aren't finished
 abbrev pub CountsOpen : List Call → Table → Type 0

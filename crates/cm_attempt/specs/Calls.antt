@@ -1,12 +1,12 @@
 -- Calls of a `Track` in a row, and what they say: the cases, the attempts in order of start, and what each attempt went
 -- through. The calls are the Messages' `testCase`, `testCaseStarted`, `testStepStarted`, `testStepFinished` and
--- `testCaseFinished`. Only `left_by` knows a table.
+-- `testCaseFinished`. Only `table_after_calls` knows a table.
 use Rattle.std.specs.Prelude.{ℕ, Bool, true, false, not, List, [], ◌∷◌, ◌++◌, Option, Some, None, if◌then◌else◌, find}
 use Rattle.std.specs.List.{list_any, filter, filter_map, flat_map}
 use Rattle.std.specs.Option.{option_map_or, option_and_then}
 use Rattle.std.specs.Str.{bytes_eq}
 use Rattle.cm_attempt.specs.Table.{Utf8, Table, table_from, add_case_fault, start_fault, step_start_fault, step_finish_fault, finish_fault}
-use Rattle.cm_attempt.specs.Table.{with_case, started, change_attempt, running, step_done, finished}
+use Rattle.cm_attempt.specs.Table.{with_case, with_attempt, change_attempt, with_running_step, with_finished_step, with_finished_attempt}
 use Rattle.cm_attempt.specs.Worst.{worst_of}
 use Rattle.cm_attempt.specs.declared.status.Status.{Status}
 use Rattle.cm_attempt.specs.declared.fault.TrackFault.{TrackFault}
@@ -29,23 +29,23 @@ call_fault t (Finish attempt will_be_retried) = finish_fault t attempt
 -- the table after a call that isn't refused
 abbrev pub after_call : Table → Call → Table
 after_call t (AddCase id steps) = with_case id steps t
-after_call t (Start id case number) = started id case t
-after_call t (StartStep attempt step) = change_attempt attempt running t
-after_call t (FinishStep attempt step status) = change_attempt attempt (step_done status) t
-after_call t (Finish attempt will_be_retried) = finished attempt will_be_retried t
+after_call t (Start id case number) = with_attempt id case t
+after_call t (StartStep attempt step) = change_attempt attempt with_running_step t
+after_call t (FinishStep attempt step status) = change_attempt attempt (with_finished_step status) t
+after_call t (Finish attempt will_be_retried) = with_finished_attempt attempt will_be_retried t
 
 abbrev pub unless_refused : Option TrackFault → Option Table → Option Table
 unless_refused None left = left
 unless_refused (Some fault) left = None
 
 -- the table that the calls make of a table, and none where one of them is refused
-abbrev pub left_by : Table → List Call → Option Table
-left_by t [] = Some t
-left_by t (c ∷ calls) = unless_refused (call_fault t c) (left_by (after_call t c) calls)
+abbrev pub table_after_calls : Table → List Call → Option Table
+table_after_calls t [] = Some t
+table_after_calls t (c ∷ calls) = unless_refused (call_fault t c) (table_after_calls (after_call t c) calls)
 
 -- the table after the calls of a run whose attempts are counted from a number, and none where one of them is refused
 abbrev pub table_after : ℕ → List Call → Option Table
-table_after first calls = left_by (table_from first) calls
+table_after first calls = table_after_calls (table_from first) calls
 
 -- ---- the cases, and the attempts in order of start
 
@@ -72,8 +72,8 @@ cases calls = filter_map as_case calls
 abbrev pub starts : List Call → List StartedAttempt
 starts calls = filter_map as_start calls
 
-abbrev pub declared : Utf8 → List Call → Option DeclaredCase
-declared case calls = find (λ c. bytes_eq case c.id) (cases calls)
+abbrev pub declared_case : Utf8 → List Call → Option DeclaredCase
+declared_case case calls = find (λ c. bytes_eq case c.id) (cases calls)
 
 abbrev pub start_of : Utf8 → List Call → Option StartedAttempt
 start_of attempt calls = find (λ s. bytes_eq attempt s.id) (starts calls)
@@ -84,7 +84,7 @@ starts_of case calls = filter (λ s. bytes_eq case s.case_id) (starts calls)
 
 -- the steps of a case, and those of the case of an attempt
 abbrev pub steps_of : Utf8 → List Call → List Utf8
-steps_of case calls = option_map_or (λ c. c.steps) (declared case calls) []
+steps_of case calls = option_map_or (λ c. c.steps) (declared_case case calls) []
 
 abbrev pub steps_of_attempt : Utf8 → List Call → List Utf8
 steps_of_attempt attempt calls =
@@ -111,12 +111,12 @@ abbrev pub moves : Utf8 → List Call → List Move
 moves a calls = filter_map (move_of a) calls
 
 -- each step started and finished
-abbrev pub through : List Utf8 → List Move
-through steps = flat_map (λ s. StepStarted s ∷ StepFinished s ∷ []) steps
+abbrev pub step_moves : List Utf8 → List Move
+step_moves steps = flat_map (λ s. StepStarted s ∷ StepFinished s ∷ []) steps
 
 -- what an attempt of a case with these steps has to go through
-abbrev pub whole : List Utf8 → List Move
-whole steps = Started ∷ through steps ++ Ended ∷ []
+abbrev pub all_moves : List Utf8 → List Move
+all_moves steps = Started ∷ step_moves steps ++ Ended ∷ []
 
 abbrev pub retry_in : Utf8 → Call → Option Bool
 retry_in a (Finish attempt will_be_retried) =

@@ -71,8 +71,8 @@ abbrev pub status_of_last : Last → Option Status
 status_of_last (last.Final status) = Some status
 status_of_last _ = None
 
-abbrev pub reported_of : Table → Utf8 → Option Status
-reported_of t case_id = option_and_then (λ c. status_of_last c.last) (find_case t case_id)
+abbrev pub reported_status : Table → Utf8 → Option Status
+reported_status t case_id = option_and_then (λ c. status_of_last c.last) (find_case t case_id)
 
 abbrev pub passes_pending : Policy → Bool
 passes_pending Strict = false
@@ -179,32 +179,32 @@ new_attempt id case_id = record {
   worst = None;
 }
 
-abbrev pub opened : CaseRow → CaseRow
-opened c = record c { attempts = c.attempts + 1; last = last.Open }
+abbrev pub with_open_attempt : CaseRow → CaseRow
+with_open_attempt c = record c { attempts = c.attempts + 1; last = last.Open }
 
-abbrev pub started : Utf8 → Utf8 → Table → Table
-started id case_id t =
-    let changed = change_case case_id opened t in
+abbrev pub with_attempt : Utf8 → Utf8 → Table → Table
+with_attempt id case_id t =
+    let changed = change_case case_id with_open_attempt t in
     record changed { attempts = t.attempts ++ new_attempt id case_id ∷ [] }
 
 abbrev pub running_cursor : Cursor → Cursor
 running_cursor c = record c { is_running = true }
 
-abbrev pub running : AttemptRow → AttemptRow
-running a = record a { cursor = option_map running_cursor a.cursor }
+abbrev pub with_running_step : AttemptRow → AttemptRow
+with_running_step a = record a { cursor = option_map running_cursor a.cursor }
 
 -- the cursor after one more finished step
-abbrev pub after_step : Cursor → Cursor
-after_step c = record { finished = c.finished + 1; is_running = false }
+abbrev pub cursor_after_step : Cursor → Cursor
+cursor_after_step c = record { finished = c.finished + 1; is_running = false }
 
-abbrev pub step_done : Status → AttemptRow → AttemptRow
-step_done status a = record a {
-  cursor = option_map after_step a.cursor;
+abbrev pub with_finished_step : Status → AttemptRow → AttemptRow
+with_finished_step status a = record a {
+  cursor = option_map cursor_after_step a.cursor;
   worst = with_status a.worst status;
 }
 
-abbrev pub ended : AttemptRow → AttemptRow
-ended a = record a { cursor = None }
+abbrev pub ended_attempt : AttemptRow → AttemptRow
+ended_attempt a = record a { cursor = None }
 
 -- how an attempt leaves its case
 abbrev pub outcome : AttemptRow → Bool → Last
@@ -214,11 +214,11 @@ outcome a false = last.Final (unwrap_or a.worst Passed)
 abbrev pub with_last : Last → CaseRow → CaseRow
 with_last state c = record c { last = state }
 
-abbrev pub finished_at : Utf8 → Bool → Option AttemptRow → Table → Table
-finished_at attempt will_be_retried None t = t
-finished_at attempt will_be_retried (Some a) t =
-    change_attempt attempt ended (change_case a.case_id (with_last (outcome a will_be_retried)) t)
+abbrev pub with_finished_attempt_at : Utf8 → Bool → Option AttemptRow → Table → Table
+with_finished_attempt_at attempt will_be_retried None t = t
+with_finished_attempt_at attempt will_be_retried (Some a) t =
+    change_attempt attempt ended_attempt (change_case a.case_id (with_last (outcome a will_be_retried)) t)
 
-abbrev pub finished : Utf8 → Bool → Table → Table
-finished attempt will_be_retried t =
-    finished_at attempt will_be_retried (find_attempt t attempt) t
+abbrev pub with_finished_attempt : Utf8 → Bool → Table → Table
+with_finished_attempt attempt will_be_retried t =
+    with_finished_attempt_at attempt will_be_retried (find_attempt t attempt) t

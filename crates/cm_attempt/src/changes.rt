@@ -4,8 +4,8 @@ ghost use Rattle.std.specs.Str.{bytes_eq};
 ghost use Rattle.std.specs.String.{string_bytes};
 ghost use Rattle.indexmap.specs.IndexMap.{index_map_len, values};
 ghost use Rattle.cm_attempt.specs.Rows.{attempt_rows, case_rows, place_of};
-ghost use Rattle.cm_attempt.specs.Table.{Utf8, after_step, change_first, ended, opened, running, running_cursor};
-ghost use Rattle.cm_attempt.specs.Table.{step_done, with_last};
+ghost use Rattle.cm_attempt.specs.Table.{Utf8, cursor_after_step, change_first, ended_attempt, with_open_attempt, with_running_step, running_cursor};
+ghost use Rattle.cm_attempt.specs.Table.{with_finished_step, with_last};
 ghost use Rattle.cm_attempt.specs.Table.{new_attempt as new_row, new_case};
 
 use crate::rows::{Attempt, Attempts, Case, Cases, Cursor, Last, Steps};
@@ -72,7 +72,7 @@ pub(crate) fn open_case(cases: &mut Cases, place: usize, most: u64)
     requires within { place < index_map_len cases.old }
     ensures rows { (id : Utf8) → place_of id cases.old.entries ≡ Some place
         → case_rows cases.new.entries
-        ≡ change_first (λ c. bytes_eq id c.id) opened (case_rows cases.old.entries) }
+        ≡ change_first (λ c. bytes_eq id c.id) with_open_attempt (case_rows cases.old.entries) }
     ensures few { All (λ c. c.attempts ≤ most) (values cases.new) }
 {
     let case = &mut cases[place];
@@ -110,7 +110,8 @@ pub(crate) fn set_running(attempts: &mut Attempts, place: usize)
     requires { place < index_map_len attempts.old }
     ensures rows { (id : Utf8) → place_of id attempts.old.entries ≡ Some place
         → attempt_rows attempts.new.entries
-        ≡ change_first (λ a. bytes_eq id a.id) running (attempt_rows attempts.old.entries) }
+        ≡ change_first (λ a. bytes_eq id a.id) with_running_step
+        (attempt_rows attempts.old.entries) }
     ensures len { index_map_len attempts.new ≡ index_map_len attempts.old }
 {
     let running = &mut attempts[place];
@@ -122,7 +123,7 @@ pub(crate) fn set_ended(attempts: &mut Attempts, place: usize)
     requires { place < index_map_len attempts.old }
     ensures rows { (id : Utf8) → place_of id attempts.old.entries ≡ Some place
         → attempt_rows attempts.new.entries
-        ≡ change_first (λ a. bytes_eq id a.id) ended (attempt_rows attempts.old.entries) }
+        ≡ change_first (λ a. bytes_eq id a.id) ended_attempt (attempt_rows attempts.old.entries) }
     ensures len { index_map_len attempts.new ≡ index_map_len attempts.old }
 {
     let ending = &mut attempts[place];
@@ -134,10 +135,10 @@ pub(crate) fn set_ended(attempts: &mut Attempts, place: usize)
 pub(crate) fn note_status(attempts: &mut Attempts, place: usize, next: Cursor, status: Status)
     requires within { place < index_map_len attempts.old }
     requires next { IfSome (slice_get (values attempts.old) place)
-        (λ a. option_map after_step a.cursor ≡ Some next) }
+        (λ a. option_map cursor_after_step a.cursor ≡ Some next) }
     ensures rows { (id : Utf8) → place_of id attempts.old.entries ≡ Some place
         → attempt_rows attempts.new.entries ≡ change_first (λ a. bytes_eq id a.id)
-        (step_done status) (attempt_rows attempts.old.entries) }
+        (with_finished_step status) (attempt_rows attempts.old.entries) }
     ensures len { index_map_len attempts.new ≡ index_map_len attempts.old }
 {
     let attempt = &mut attempts[place];

@@ -3,7 +3,7 @@ ghost use Rattle.std.specs.Prelude.{◌≡◌, ◌<◌, if◌then◌else◌, [],
 ghost use Rattle.std.specs.String.{string_bytes};
 ghost use Rattle.indexmap.specs.IndexMap.{index_map_len};
 ghost use Rattle.cm_attempt.specs.Rows.{attempt_row, place_of, table_of};
-ghost use Rattle.cm_attempt.specs.Table.{after_step, has_text, start_fault, step_fault_at, step_fault_of};
+ghost use Rattle.cm_attempt.specs.Table.{cursor_after_step, has_text, start_fault, step_fault_at, step_fault_of};
 ghost use Rattle.cm_attempt.specs.Table.{finish_fault_at, is_closed_to_new as closed_to_new, is_next as next_step};
 ghost use Rattle.cm_attempt.specs.Table.{may_finish as ends_in_order, may_start as starts_in_order};
 
@@ -41,7 +41,7 @@ fn may_start(cursor: Option<Cursor>, steps: &[String], step: &str) -> bool
 /// The cursor after one more finished step.
 fn following(cursor: Cursor, steps: &[String]) -> Cursor
     requires { cursor.finished < length steps.now }
-    ensures { result ≡ after_step cursor }
+    ensures { result ≡ cursor_after_step cursor }
 {
     Cursor {
         finished: cursor.finished + 1,
@@ -52,7 +52,7 @@ fn following(cursor: Cursor, steps: &[String]) -> Cursor
 /// The cursor after the step's finish, where it may finish.
 fn finished_in_order(cursor: Option<Cursor>, steps: &[String], step: &str) -> Option<Cursor>
     ensures { result ≡ (if ends_in_order step.now cursor (map string_bytes steps.now)
-        then option_map after_step cursor else None) }
+        then option_map cursor_after_step cursor else None) }
 {
     let cursor = cursor?;
     if cursor.is_running && is_next(cursor, steps, step) {
@@ -130,7 +130,8 @@ pub(crate) fn check_finish(
     ensures answer { MatchOption (step_fault_at (table_of 0 cases.now.entries []) step.now
         (ends_in_order step.now) (Some (attempt_row [] attempt.now)))
         (IsOk result) (λ fault. result ≡ Err fault) }
-    ensures next { IfOk result (λ next. option_map after_step attempt.now.cursor ≡ Some next) }
+    ensures next { IfOk result
+        (λ next. option_map cursor_after_step attempt.now.cursor ≡ Some next) }
 {
     let Some((_, case)) = find_case(cases, attempt.case_id.as_str()) else {
         return Err(TrackFault::UnknownStep);

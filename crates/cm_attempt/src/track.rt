@@ -5,8 +5,8 @@ ghost use Rattle.std.specs.String.{string_bytes};
 ghost use Rattle.cm_attempt.specs.Results.{case_results, result_view};
 ghost use Rattle.cm_attempt.specs.Table.{HasDistinctIds, add_case_fault, change_attempt, empty_table, table_from};
 ghost use Rattle.cm_attempt.specs.Table.{find_attempt as row_of, find_case as case_of};
-ghost use Rattle.cm_attempt.specs.Table.{finish_fault, finished, has_step, is_good_case, open_count};
-ghost use Rattle.cm_attempt.specs.Table.{reported_of, running, start_fault, started, step_done};
+ghost use Rattle.cm_attempt.specs.Table.{finish_fault, with_finished_attempt, has_step, is_good_case, open_count};
+ghost use Rattle.cm_attempt.specs.Table.{reported_status, with_running_step, start_fault, with_attempt, with_finished_step};
 ghost use Rattle.cm_attempt.specs.Table.{step_finish_fault, step_start_fault, with_case};
 
 use crate::changes::{
@@ -119,7 +119,7 @@ impl Track {
     pub fn start(&mut self, id: &str, case: &str, attempt: u64) -> Result<(), TrackFault>
         ensures answer { MatchOption (start_fault self.old id.now case.now attempt)
             (IsOkUnless result TrackFault.Memory) (λ fault. result ≡ Err fault) }
-        ensures ok { OnOk result (self.new ≡ started id.now case.now self.old) }
+        ensures ok { OnOk result (self.new ≡ with_attempt id.now case.now self.old) }
         ensures err { OnErr result (self.new ≡ self.old) }
         ensures opens { OnOk result (open_count self.new ≡ open_count self.old + 1) }
         ensures open_count_err { OnErr result (open_count self.new ≡ open_count self.old) }
@@ -139,7 +139,8 @@ impl Track {
     pub fn step_started(&mut self, attempt: &str, step: &str) -> Result<(), TrackFault>
         ensures answer { MatchOption (step_start_fault self.old attempt.now step.now)
             (IsOk result) (λ fault. result ≡ Err fault) }
-        ensures ok { OnOk result (self.new ≡ change_attempt attempt.now running self.old) }
+        ensures ok { OnOk result
+            (self.new ≡ change_attempt attempt.now with_running_step self.old) }
         ensures err { OnErr result (self.new ≡ self.old) }
         ensures open_count { open_count self.new ≡ open_count self.old }
     {
@@ -165,7 +166,7 @@ impl Track {
         ensures answer { MatchOption (step_finish_fault self.old attempt.now step.now)
             (IsOk result) (λ fault. result ≡ Err fault) }
         ensures ok { OnOk result
-            (self.new ≡ change_attempt attempt.now (step_done status) self.old) }
+            (self.new ≡ change_attempt attempt.now (with_finished_step status) self.old) }
         ensures err { OnErr result (self.new ≡ self.old) }
         ensures open_count { open_count self.new ≡ open_count self.old }
     {
@@ -186,7 +187,8 @@ impl Track {
     pub fn finish(&mut self, attempt: &str, will_be_retried: bool) -> Result<(), TrackFault>
         ensures answer { MatchOption (finish_fault self.old attempt.now)
             (IsOk result) (λ fault. result ≡ Err fault) }
-        ensures ok { OnOk result (self.new ≡ finished attempt.now will_be_retried self.old) }
+        ensures ok { OnOk result
+            (self.new ≡ with_finished_attempt attempt.now will_be_retried self.old) }
         ensures err { OnErr result (self.new ≡ self.old) }
         ensures closes { OnOk result (open_count self.new + 1 ≡ open_count self.old) }
         ensures open_count_err { OnErr result (open_count self.new ≡ open_count self.old) }
@@ -205,7 +207,7 @@ impl Track {
     /// The worst status of the case's final attempt, which is one that ended and is not retried.
     /// None where there is no such attempt or no such case.
     pub fn reported(&self, case: &str) -> Option<Status>
-        ensures value { result ≡ reported_of self.now case.now }
+        ensures value { result ≡ reported_status self.now case.now }
         ensures distinct { HasDistinctIds self.now }
     {
         let (_, found) = find_case(&self.cases, case)?;

@@ -11,11 +11,11 @@ use Rattle.cm_envelope.specs.declared.envelope.Envelope.{Envelope}
 use Rattle.cm_envelope.specs.declared.feed.Trouble.{Trouble}
 use Rattle.cm_envelope.specs.declared.feed.Trouble.TheVariants.{ReadFailed, LineTooLong, StreamTooLong, Memory}
 use Rattle.cm_attempt.specs.declared.settings.Settings.{Settings}
-use Rattle.cm_stream.specs.Stream.{shown, verdict_in}
+use Rattle.cm_stream.specs.Stream.{envelope_unless_blank, verdict_in}
 use Rattle.cm_stream.specs.declared.verdict.Audited.{Audited}
 use Rattle.cm_stream.specs.declared.verdict.Verdict.TheVariants as verdict
 use Rattle.cm_stream.specs.declared.verdict.StreamFault.TheVariants as bad
-use Rattle.cm_state.specs.Summary.{Summary, nothing_seen}
+use Rattle.cm_state.specs.Summary.{Summary, empty_summary}
 use Rattle.cm_state.specs.StateChecks.{finding_at_end}
 use Rattle.cm_state.specs.Laws.{answer_at_end}
 use Rattle.cm_audit.specs.Audit.{AnswersAs, ReadsNoFurther, ReadsUpTo, TakesLine, audited_at, unsuccessful}
@@ -28,10 +28,10 @@ use Rattle.cm_audit.specs.declared.stop.Stop.{Stop}
 use Rattle.cm_audit.specs.declared.stop.Stop.TheVariants as stop
 use Rattle.cm_audit.proofs.Reading.{nothing_judged, next_judged, found_at, at_the_end, at_trouble, up_to_here, fewer_lines, held_no_fault}
 
-pub begins : (settings : Settings) (feed : Stored) → feed ≡ new_feed 67108864 1073741824 → (s : Summary) → s ≡ nothing_seen settings.first_attempt → (a : Input) → HasReadSo feed a a (λ xs ys. HasJudged settings xs ys feed 0 s)
+pub begins : (settings : Settings) (feed : Stored) → feed ≡ new_feed 67108864 1073741824 → (s : Summary) → s ≡ empty_summary settings.first_attempt → (a : Input) → HasReadSo feed a a (λ xs ys. HasJudged settings xs ys feed 0 s)
 begins settings feed f s e a = read_so_far (λ xs ys. HasJudged settings xs ys feed 0 s) feed a (λ xs. rw (f, e) (nothing_judged settings xs))
 
-pub few_at_first : (first : ℕ) (s : State) → summary_of s ≡ nothing_seen first → AreFewer 1 s.counts
+pub few_at_first : (first : ℕ) (s : State) → summary_of s ≡ empty_summary first → AreFewer 1 s.counts
 few_at_first first s e = subst (AreFewer 1) (ap (λ (u : Summary). u.counts) (sym e)) (record { sources = omega arith; pickles = omega arith; cases = omega arith; attempts = omega arith; unrun = omega arith })
 
 -- ---- a line that is taken
@@ -42,7 +42,7 @@ still_listed settings old new (Some (Err b)) k = absurd k
 still_listed settings old new (Some (Ok e)) k = k.2
 
 pub goes_on : (settings : Settings) (feed later : Stored) (old new : State) (n : ℕ) (line : List ℕ) (a b c : Input) → HasReadSo feed a b (λ xs ys. HasJudged settings xs ys feed n (summary_of old)) → feed.over ≡ None
-    → Leaves feed later b c (Ok (Some line)) → GivesLine feed later line → TakesLine settings old new (shown line) (Ok tt) → HasReadSo later a c (λ xs zs. HasJudged settings xs zs later (n + 1) (summary_of new))
+    → Leaves feed later b c (Ok (Some line)) → GivesLine feed later line → TakesLine settings old new (envelope_unless_blank line) (Ok tt) → HasReadSo later a c (λ xs zs. HasJudged settings xs zs later (n + 1) (summary_of new))
 goes_on settings feed later old new n line a b c p still leaves g k =
     reads_then {P = λ xs ys. HasJudged settings xs ys feed n (summary_of old)} {R = λ xs zs. HasJudged settings xs zs later (n + 1) (summary_of new)} feed later a b c p still leaves
     (λ xs ys zs none h i. next_judged settings xs ys zs feed later n old new line h i g k)
@@ -64,7 +64,7 @@ unread settings old (shape.Line line) r h = rw h refl
 unread settings old shape.Memory (Ok e) h = refl
 unread settings old shape.Memory (Err b) h = refl
 
-pub not_read : (settings : Settings) (old : State) (line : List ℕ) → is_blank line ≡ false → (fault : EnvelopeFault) → FailsAtLine fault (envelope_of_line line) → (why : Stop) → why ≡ unread_line fault → TakesLine settings old old (shown line) (Err why)
+pub not_read : (settings : Settings) (old : State) (line : List ℕ) → is_blank line ≡ false → (fault : EnvelopeFault) → FailsAtLine fault (envelope_of_line line) → (why : Stop) → why ≡ unread_line fault → TakesLine settings old old (envelope_unless_blank line) (Err why)
 not_read settings old line filled fault h why e = rw (filled, e) (unread settings old fault (envelope_of_line line) h)
 
 -- nothing is told of it
@@ -73,7 +73,7 @@ told_unread tells s (shape.Line line) r h = rw h tt
 told_unread tells s shape.Memory (Ok e) h = tt
 told_unread tells s shape.Memory (Err b) h = tt
 
-pub not_told : (tells : Summary → Envelope → Type 0) (s : Summary) (line : List ℕ) → is_blank line ≡ false → (fault : EnvelopeFault) → FailsAtLine fault (envelope_of_line line) → (why : Stop) → why ≡ unread_line fault → TellsLine tells s (shown line) (Err why)
+pub not_told : (tells : Summary → Envelope → Type 0) (s : Summary) (line : List ℕ) → is_blank line ≡ false → (fault : EnvelopeFault) → FailsAtLine fault (envelope_of_line line) → (why : Stop) → why ≡ unread_line fault → TellsLine tells s (envelope_unless_blank line) (Err why)
 not_told tells s line filled fault h why e = rw (filled, e) (told_unread tells s fault (envelope_of_line line) h)
 
 pub not_failed : (n : ℕ) (why : Stop) → is_failed_read (audited_at n why) ≡ false
@@ -93,7 +93,7 @@ up_to n stop.Memory xs zs r = tt
 
 -- what is answered at a line that isn't taken
 pub stops_at : (settings : Settings) (feed later : Stored) (old new : State) (n : ℕ) (line xs ys zs : List ℕ) → HasJudged settings xs ys feed n (summary_of old) → IsNextLine feed later ys zs line → GivesLine feed later line
-    → (later.is_ended ≡ true → zs ≡ []) → (why : Stop) → TakesLine settings old new (shown line) (Err why) → JudgesAs settings (audited_at (n + 1) why) xs zs
+    → (later.is_ended ≡ true → zs ≡ []) → (why : Stop) → TakesLine settings old new (envelope_unless_blank line) (Err why) → JudgesAs settings (audited_at (n + 1) why) xs zs
 stops_at settings feed later old new n line xs ys zs h i g none why k = record {
   told = found_at settings xs ys zs feed later n old new line h.read h.judges i why k;
   read_failed = λ e. absurd (never_failed (n + 1) why e);

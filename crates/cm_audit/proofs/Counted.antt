@@ -6,7 +6,7 @@ use Rattle.cm_envelope.specs.Reading.{LineFault}
 use Rattle.cm_envelope.specs.declared.envelope.Envelope.{Envelope}
 use Rattle.cm_envelope.specs.declared.envelope.Envelope.TheVariants as envelope
 use Rattle.cm_stream.specs.declared.verdict.Counts.{Counts}
-use Rattle.cm_state.specs.Summary.{Summary, after, case_counted}
+use Rattle.cm_state.specs.Summary.{Summary, summary_after_line, counts_with_case}
 use Rattle.cm_audit.specs.Audit.{TakesLine}
 use Rattle.cm_audit.specs.State.{AreFewer, summary_of}
 use Rattle.cm_audit.specs.declared.state.State.{State}
@@ -20,7 +20,7 @@ weaker n c h = record {
   unrun = omega (arith, h.unrun);
 }
 
-with_case : (n : ℕ) (b : Bool) (c : Counts) → AreFewer n c → AreFewer (n + 1) (case_counted b c)
+with_case : (n : ℕ) (b : Bool) (c : Counts) → AreFewer n c → AreFewer (n + 1) (counts_with_case b c)
 with_case n true c h = record {
   sources = omega (arith, h.sources);
   pickles = omega (arith, h.pickles);
@@ -36,7 +36,7 @@ with_case n false c h = record {
   unrun = omega (arith, h.unrun);
 }
 
-fewer_after : (n : ℕ) (s : Summary) (e : Envelope) → AreFewer n s.counts → AreFewer (n + 1) (after s e).counts
+fewer_after : (n : ℕ) (s : Summary) (e : Envelope) → AreFewer n s.counts → AreFewer (n + 1) (summary_after_line s e).counts
 fewer_after n s (envelope.Source x) h = record {
   sources = omega (arith, h.sources);
   pickles = omega (arith, h.pickles);

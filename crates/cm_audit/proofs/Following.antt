@@ -3,7 +3,7 @@ use Rattle.std.proofs.Common.{◌≡◌, ℕ, ◌+◌, refl, sym, ap, ◌∙◌,
 use Rattle.std.proofs.lemmas.List.{length-map, map-append}
 use Rattle.std.proofs.lemmas.List.Concat.{flat_map-append}
 use Rattle.cm_envelope.specs.Device.{Input, OfReads}
-use Rattle.cm_envelope.specs.Feeds.{Stored, EndsWithSource, GivesLine, IsNextLine, Leaves, given_line, left, new_feed}
+use Rattle.cm_envelope.specs.Feeds.{Stored, EndsWithSource, GivesLine, IsNextLine, Leaves, given_line, feed_left, new_feed}
 use Rattle.cm_envelope.specs.Lines.{Fed, Line, is_blank}
 use Rattle.cm_envelope.specs.Reading.{LineFault, envelope_of_line}
 use Rattle.cm_envelope.specs.declared.envelope.Envelope.{Envelope}
@@ -13,9 +13,9 @@ use Rattle.cm_attempt.specs.Results.{case_results}
 use Rattle.cm_attempt.specs.Table.{Table}
 use Rattle.cm_attempt.specs.declared.settings.Settings.{Settings}
 use Rattle.cm_stream.specs.ByOnePass.{fault, IsFaultless}
-use Rattle.cm_stream.specs.Findings.{IsBad, NoEnvelope, named}
+use Rattle.cm_stream.specs.Findings.{IsBad, NoEnvelope, stream_fault_named}
 use Rattle.cm_stream.specs.Record.{table_of_envelopes}
-use Rattle.cm_stream.specs.Stream.{IsGoodRun, as_read, envelopes, fed, numbered, read_line, shown}
+use Rattle.cm_stream.specs.Stream.{IsGoodRun, as_read, envelopes, feed_of, numbered_lines, read_line, envelope_unless_blank}
 use Rattle.cm_stream.specs.declared.verdict.Audited.{Audited}
 use Rattle.cm_stream.specs.declared.verdict.Counts.{Counts}
 use Rattle.cm_stream.specs.declared.verdict.StreamFault.{StreamFault}
@@ -27,7 +27,7 @@ use Rattle.cm_stream.proofs.TableSteps.{none_is_refused}
 use Rattle.cm_stream.proofs.Tables.{tables_have_results}
 use Rattle.cm_state.specs.Laws.{answer_at_end}
 use Rattle.cm_state.specs.StateChecks.{finding, finding_at_end}
-use Rattle.cm_state.specs.Summary.{Summary, after, nothing_seen, seen}
+use Rattle.cm_state.specs.Summary.{Summary, summary_after_line, empty_summary, summary_of_lines}
 use Rattle.cm_state.proofs.Checked.{findings_are_faults}
 use Rattle.cm_state.proofs.Judged.{judged_is_told, none_yet, one_more_line}
 use Rattle.cm_state.proofs.Steps.{summaries_step}
@@ -44,47 +44,47 @@ use Rattle.cm_audit.proofs.Reading.{at_the_end, next_judged, next_lines, nothing
 
 -- ---- the envelopes of lines
 
-one_more : (ls : List Line) (l : Line) → envelopes_in (contents (ls ++ l ∷ [])) ≡ envelopes_in (contents ls) ++ envelope_in (shown l.bytes)
+one_more : (ls : List Line) (l : Line) → envelopes_in (contents (ls ++ l ∷ [])) ≡ envelopes_in (contents ls) ++ envelope_in (envelope_unless_blank l.bytes)
 one_more ls l =
     ap envelopes_in (map-append (λ (x : Line). x.bytes) ls (l ∷ []))
-    ∙ flat_map-append (λ (b : List ℕ). envelope_in (shown b)) (contents ls) (l.bytes ∷ [])
-    ∙ ap (λ es. envelopes_in (contents ls) ++ es) (append-nil (envelope_in (shown l.bytes)))
+    ∙ flat_map-append (λ (b : List ℕ). envelope_in (envelope_unless_blank b)) (contents ls) (l.bytes ∷ [])
+    ∙ ap (λ es. envelopes_in (contents ls) ++ es) (append-nil (envelope_in (envelope_unless_blank l.bytes)))
 
 -- lines that are read as envelopes are read as these
-read_all : (n : ℕ) (ls : List (List ℕ)) (lines : List (ℕ × Envelope)) → map read_line (numbered n ls) ≡ map as_read lines → envelopes lines ≡ envelopes_in ls
+read_all : (n : ℕ) (ls : List (List ℕ)) (lines : List (ℕ × Envelope)) → map read_line (numbered_lines n ls) ≡ map as_read lines → envelopes lines ≡ envelopes_in ls
 read_all n [] [] read = refl
 read_all n [] (x ∷ lines) read = cc
 read_all n (l ∷ ls) lines read = go (is_blank l) refl (read_all (n + 1) ls)
   where
-    filled : is_blank l ≡ false → (lines : List (ℕ × Envelope)) → (n, envelope_of_line l) ∷ map read_line (numbered (n + 1) ls) ≡ map as_read lines
-        → ((more : List (ℕ × Envelope)) → map read_line (numbered (n + 1) ls) ≡ map as_read more → envelopes more ≡ envelopes_in ls) → envelopes lines ≡ envelopes_in (l ∷ ls)
+    filled : is_blank l ≡ false → (lines : List (ℕ × Envelope)) → (n, envelope_of_line l) ∷ map read_line (numbered_lines (n + 1) ls) ≡ map as_read lines
+        → ((more : List (ℕ × Envelope)) → map read_line (numbered_lines (n + 1) ls) ≡ map as_read more → envelopes more ≡ envelopes_in ls) → envelopes lines ≡ envelopes_in (l ∷ ls)
     filled is [] read rec = cc
     filled is (x ∷ lines) read rec =
         let first : ◌≡◌ {A = ℕ × Result Envelope LineFault} (n, envelope_of_line l) (as_read x) = cc in
-        let more : map read_line (numbered (n + 1) ls) ≡ map as_read lines = cc in
+        let more : map read_line (numbered_lines (n + 1) ls) ≡ map as_read lines = cc in
         let here : envelope_of_line l ≡ Ok x.1 = ap (λ (r : ℕ × Result Envelope LineFault). r.1) first in
         rw (is, here) (ap (λ es. x.1 ∷ es) (rec lines more))
 
-    go : (b : Bool) → is_blank l ≡ b → ((more : List (ℕ × Envelope)) → map read_line (numbered (n + 1) ls) ≡ map as_read more → envelopes more ≡ envelopes_in ls) → envelopes lines ≡ envelopes_in (l ∷ ls)
+    go : (b : Bool) → is_blank l ≡ b → ((more : List (ℕ × Envelope)) → map read_line (numbered_lines (n + 1) ls) ≡ map as_read more → envelopes more ≡ envelopes_in ls) → envelopes lines ≡ envelopes_in (l ∷ ls)
     go true e rec = rw e (rec lines (rw e at read))
     go false e rec = filled e lines (rw e at read) rec
 
 -- ---- what is kept
 
 kept_next : (settings : Settings) (old new : State) (r : Option (Result Envelope LineFault)) (es : List Envelope) → TakesLine settings old new r (Ok tt) → IsFaultless settings es
-    → summary_of old ≡ seen settings.first_attempt es → IsFaultless settings (es ++ envelope_in r) × (summary_of new ≡ seen settings.first_attempt (es ++ envelope_in r))
+    → summary_of old ≡ summary_of_lines settings.first_attempt es → IsFaultless settings (es ++ envelope_in r) × (summary_of new ≡ summary_of_lines settings.first_attempt (es ++ envelope_in r))
 kept_next settings old new None es k none h =
     let same : es ≡ es ++ [] = sym (append-nil es) in
-    (subst (IsFaultless settings) same none, k.0 ∙ h ∙ ap (seen settings.first_attempt) same)
+    (subst (IsFaultless settings) same none, k.0 ∙ h ∙ ap (summary_of_lines settings.first_attempt) same)
 kept_next settings old new (Some (Err b)) es k none h = absurd k
 kept_next settings old new (Some (Ok e)) es k none h =
     let found : fault settings es e ≡ None = sym (findings_are_faults settings es e none) ∙ ap (λ (s : Summary). finding settings s e) (sym h) ∙ k.0 in
     let more : IsFaultless settings (es ++ e ∷ []) = one_more_line settings es e none found in
-    (more, k.1 ∙ ap (λ (s : Summary). after s e) h ∙ sym (summaries_step settings es e more))
+    (more, k.1 ∙ ap (λ (s : Summary). summary_after_line s e) h ∙ sym (summaries_step settings es e more))
 
 -- ---- line by line
 
-pub follows_first : (settings : Settings) (follows : List Envelope → Type 0) → follows [] → (feed : Stored) → feed ≡ new_feed 67108864 1073741824 → (s : Summary) → s ≡ nothing_seen settings.first_attempt → (a : Input)
+pub follows_first : (settings : Settings) (follows : List Envelope → Type 0) → follows [] → (feed : Stored) → feed ≡ new_feed 67108864 1073741824 → (s : Summary) → s ≡ empty_summary settings.first_attempt → (a : Input)
     → HasReadSo feed a a (λ xs ys. HasFollowed settings follows xs ys feed 0 s)
 follows_first settings follows start feed f s e a =
     read_so_far (λ xs ys. HasFollowed settings follows xs ys feed 0 s) feed a
@@ -95,11 +95,11 @@ follows_first settings follows start feed f s e a =
       judged = nothing_judged settings xs;
       followed = subst follows (sym none) start;
       faultless = subst (IsFaultless settings) (sym none) (none_yet settings);
-      kept = ap (seen settings.first_attempt) (sym none);
+      kept = ap (summary_of_lines settings.first_attempt) (sym none);
     }))
 
 -- a line that isn't an envelope has no fault of one
-not_of_envelope : (b : StreamFault) (f : LineFault) → Some (IsBad (NoEnvelope f)) ≡ Some (IsBad (named b)) → is_of_envelope b ≡ true → ⊥
+not_of_envelope : (b : StreamFault) (f : LineFault) → Some (IsBad (NoEnvelope f)) ≡ Some (IsBad (stream_fault_named b)) → is_of_envelope b ≡ true → ⊥
 not_of_envelope (bad.NoEnvelope x) f e some = cc
 not_of_envelope _ f e some = cc
 
@@ -108,21 +108,21 @@ module _ (settings : Settings) (follows : List Envelope → Type 0) where
   only_judged feed n s a b p = (p.0, p.1, λ rest none. (p.2 rest none).judged)
 
   pub follows_next : (follows_new : List Envelope → Type 0) (feed later : Stored) (old new : State) (n : ℕ) (line : List ℕ) (a b c : Input) → HasReadSo feed a b (λ xs ys. HasFollowed settings follows xs ys feed n (summary_of old))
-      → feed.over ≡ None → Leaves feed later b c (Ok (Some line)) → GivesLine feed later line → TakesLine settings old new (shown line) (Ok tt) → ((es : List Envelope) → follows es → follows_new (es ++ envelope_in (shown line)))
+      → feed.over ≡ None → Leaves feed later b c (Ok (Some line)) → GivesLine feed later line → TakesLine settings old new (envelope_unless_blank line) (Ok tt) → ((es : List Envelope) → follows es → follows_new (es ++ envelope_in (envelope_unless_blank line)))
       → HasReadSo later a c (λ xs zs. HasFollowed settings follows_new xs zs later (n + 1) (summary_of new))
   follows_next follows_new feed later old new n line a b c p still leaves g k f =
       reads_then {P = λ xs ys. HasFollowed settings follows xs ys feed n (summary_of old)} {R = λ xs zs. HasFollowed settings follows_new xs zs later (n + 1) (summary_of new)} feed later a b c p still leaves
       (λ xs ys zs none h i.
       let lines : (next_judged settings xs ys zs feed later n old new line h.judged i g k).read.lines ≡ h.judged.read.lines ++ given_line later line ∷ [] = next_lines settings xs ys zs feed later n old new line h.judged i g k in
       let es = envelopes_in (contents h.judged.read.lines) in
-      let more : envelopes_in (contents (next_judged settings xs ys zs feed later n old new line h.judged i g k).read.lines) ≡ es ++ envelope_in (shown line) =
+      let more : envelopes_in (contents (next_judged settings xs ys zs feed later n old new line h.judged i g k).read.lines) ≡ es ++ envelope_in (envelope_unless_blank line) =
       ap (λ (ls : List Line). envelopes_in (contents ls)) lines ∙ one_more h.judged.read.lines (given_line later line) in
-      let kept = kept_next settings old new (shown line) es k h.faultless h.kept in
+      let kept = kept_next settings old new (envelope_unless_blank line) es k h.faultless h.kept in
       record {
         judged = next_judged settings xs ys zs feed later n old new line h.judged i g k;
         followed = subst follows_new (sym more) (f es h.followed);
         faultless = subst (IsFaultless settings) (sym more) kept.0;
-        kept = kept.1 ∙ ap (seen settings.first_attempt) (sym more);
+        kept = kept.1 ∙ ap (summary_of_lines settings.first_attempt) (sym more);
       })
 
   -- ---- the answer
@@ -138,21 +138,21 @@ module _ (settings : Settings) (follows : List Envelope → Type 0) where
   not_followed after_it table n stop.Memory xs = tt
 
   told_at : (tells : Summary → Envelope → Type 0) (feed later : Stored) (old new : State) (n : ℕ) (line xs ys zs : List ℕ) → HasFollowed settings follows xs ys feed n (summary_of old) → IsNextLine feed later ys zs line → (why : Stop)
-      → TakesLine settings old new (shown line) (Err why) → TellsLine tells (summary_of old) (shown line) (Err why) → TellsAnswer settings tells xs (audited_at (n + 1) why)
+      → TakesLine settings old new (envelope_unless_blank line) (Err why) → TellsLine tells (summary_of old) (envelope_unless_blank line) (Err why) → TellsAnswer settings tells xs (audited_at (n + 1) why)
   told_at tells feed later old new n line xs ys zs h i (stop.Unsupported r) k told = tt
   told_at tells feed later old new n line xs ys zs h i stop.Memory k told = tt
-  told_at tells feed later old new n line xs ys zs h i (stop.Bad b) k told = go (shown line) refl k told
+  told_at tells feed later old new n line xs ys zs h i (stop.Bad b) k told = go (envelope_unless_blank line) refl k told
     where
       es : List Envelope
       es = envelopes_in (contents h.judged.read.lines)
 
-      go : (r : Option (Result Envelope LineFault)) → shown line ≡ r → TakesLine settings old new r (Err (stop.Bad b)) → TellsLine tells (summary_of old) r (Err (stop.Bad b)) → is_of_envelope b ≡ true → IsToldAt settings tells xs (n + 1) b
+      go : (r : Option (Result Envelope LineFault)) → envelope_unless_blank line ≡ r → TakesLine settings old new r (Err (stop.Bad b)) → TellsLine tells (summary_of old) r (Err (stop.Bad b)) → is_of_envelope b ≡ true → IsToldAt settings tells xs (n + 1) b
       go None is k told some = absurd k
       go (Some (Err f)) is k told some = absurd (not_of_envelope b f k some)
       go (Some (Ok e)) is k told some = record {
         before = contents h.judged.read.lines;
         line = line;
-        after = (left later zs).lines;
+        after = (feed_left later zs).lines;
         cut = ap (λ (f : Fed). f.lines) h.judged.read.fed ∙ ap (λ (f : Fed). contents h.judged.read.lines ++ f.lines) i.first;
         count = ap (λ m. m + 1) (sym h.judged.read.count ∙ sym (length-map h.judged.read.lines (λ (l : Line). l.bytes)));
         said = e;
@@ -163,7 +163,7 @@ module _ (settings : Settings) (follows : List Envelope → Type 0) where
       }
 
   pub stops_with : (tells : Summary → Envelope → Type 0) (table : Table) (feed later : Stored) (old new : State) (n : ℕ) (line : List ℕ) (a b c : Input) → HasReadSo feed a b (λ xs ys. HasFollowed settings follows xs ys feed n (summary_of old))
-      → feed.over ≡ None → EndsWithSource feed b → Leaves feed later b c (Ok (Some line)) → (why : Stop) → TakesLine settings old new (shown line) (Err why) → TellsLine tells (summary_of old) (shown line) (Err why) → (after_it : List Envelope → Type 0)
+      → feed.over ≡ None → EndsWithSource feed b → Leaves feed later b c (Ok (Some line)) → (why : Stop) → TakesLine settings old new (envelope_unless_blank line) (Err why) → TellsLine tells (summary_of old) (envelope_unless_blank line) (Err why) → (after_it : List Envelope → Type 0)
       → OfReads a c (JudgesWith settings after_it tells table (audited_at (n + 1) why))
   stops_with tells table feed later old new n line a b c p still ends leaves why k told after_it =
       let answer = audited_at (n + 1) why in
@@ -186,12 +186,12 @@ module _ (settings : Settings) (follows : List Envelope → Type 0) where
 
   -- a good stream's lines were all read
   followed_good : (bytes : List ℕ) (s : Summary) (counts : Counts) (success : Bool) (ls : List (List ℕ)) → AnswersAs (judged settings bytes) (Ok (record { verdict = verdict.Good counts; success = success }))
-      → (fed bytes).lines ≡ ls → follows (envelopes_in ls) → s.table ≡ table_of_envelopes settings.first_attempt (envelopes_in ls) → IsFollowed settings follows s.table bytes
+      → (feed_of bytes).lines ≡ ls → follows (envelopes_in ls) → s.table ≡ table_of_envelopes settings.first_attempt (envelopes_in ls) → IsFollowed settings follows s.table bytes
   followed_good bytes s counts success ls told all follow table =
       let answer : Result Audited Trouble = Ok (record { verdict = verdict.Good counts; success = success }) in
-      let run : IsGoodRun settings bytes counts success = (answers_are_right settings bytes answer (told ∙ judged_is_told settings (fed bytes).lines (fed bytes).trouble)).good in
+      let run : IsGoodRun settings bytes counts success = (answers_are_right settings bytes answer (told ∙ judged_is_told settings (feed_of bytes).lines (feed_of bytes).trouble)).good in
       let es = envelopes run.lines in
-      let same : es ≡ envelopes_in ls = read_all 1 (fed bytes).lines run.lines run.read.read ∙ ap envelopes_in all in
+      let same : es ≡ envelopes_in ls = read_all 1 (feed_of bytes).lines run.lines run.read.read ∙ ap envelopes_in all in
       let here : s.table ≡ table_of_envelopes settings.first_attempt es = table ∙ ap (table_of_envelopes settings.first_attempt) (sym same) in
       let accepted = none_is_refused settings es (good_have_no_fault settings es run.good).lines in
       record {
@@ -212,7 +212,7 @@ module _ (settings : Settings) (follows : List Envelope → Type 0) where
       let read = h.judged.read in
       let end : answer_at_end (n + 1) s (finding_at_end s) ≡ answer_at_end (n + 1) s None = rw e refl in
       let told : AnswersAs (judged settings xs) answer = sym (at_the_end settings h.judged.read h.judged.judges i ∙ end) in
-      let all : (fed xs).lines ≡ contents h.judged.read.lines =
+      let all : (feed_of xs).lines ≡ contents h.judged.read.lines =
       ap (λ (f : Fed). f.lines) h.judged.read.fed ∙ ap (λ (f : Fed). contents h.judged.read.lines ++ f.lines) i ∙ append-nil (contents h.judged.read.lines) in
       record {
         judges = record { told = told; read_failed = λ failed. cc; ahead = tt };

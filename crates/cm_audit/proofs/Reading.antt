@@ -4,18 +4,18 @@ use Rattle.std.specs.Prelude.{if◌then◌else◌}
 use Rattle.std.specs.List.{flat_map}
 use Rattle.cm_envelope.specs.Lines.{Line, Fed, size, line_feed, line_then, nothing, trouble_alone}
 use Rattle.cm_envelope.specs.Reading.{LineFault}
-use Rattle.cm_envelope.specs.Feeds.{Stored, ShowNothing, written, given_line, not_given, left, new_feed, GivesLine, IsNextLine}
+use Rattle.cm_envelope.specs.Feeds.{Stored, ShowNothing, bytes_with_end, given_line, not_given, feed_left, new_feed, GivesLine, IsNextLine}
 use Rattle.cm_envelope.specs.declared.envelope.Envelope.{Envelope}
 use Rattle.cm_envelope.specs.declared.feed.Trouble.{Trouble}
 use Rattle.cm_envelope.specs.declared.feed.Trouble.TheVariants.{ReadFailed}
 use Rattle.cm_attempt.specs.declared.settings.Settings.{Settings}
-use Rattle.cm_stream.specs.Findings.{IsBad, named, NoEnvelope}
-use Rattle.cm_stream.specs.Stream.{Answer, Found, Failed, fed, shown}
+use Rattle.cm_stream.specs.Findings.{IsBad, stream_fault_named, NoEnvelope}
+use Rattle.cm_stream.specs.Stream.{Answer, Found, Failed, feed_of, envelope_unless_blank}
 use Rattle.cm_stream.proofs.Lists.{length-both}
 use Rattle.std.proofs.lemmas.List.{map-append}
-use Rattle.cm_state.specs.Summary.{Summary, nothing_seen}
+use Rattle.cm_state.specs.Summary.{Summary, empty_summary}
 use Rattle.cm_state.specs.StateChecks.{finding_at_end}
-use Rattle.cm_state.specs.Laws.{answer_at_end, judged_line, judged_of}
+use Rattle.cm_state.specs.Laws.{answer_at_end, answer_of_line, answer_of_lines}
 use Rattle.cm_audit.specs.Audit.{AnswersAs, Begins, ReadsNoFurther, TakesLine, audited_at}
 use Rattle.cm_audit.specs.Judging.{judged, lines_then, HasRead, HasJudged, JudgesTo, HoldNoFault}
 use Rattle.cm_audit.specs.State.{summary_of}
@@ -37,7 +37,7 @@ bytes_of lines = map (λ (l : Line). l.bytes) lines
 pub one_more : (lines : List Line) (l : Line) (more : List (List ℕ)) → bytes_of (lines ++ l ∷ []) ++ more ≡ bytes_of lines ++ l.bytes ∷ more
 one_more lines l more = ap (λ ls. ls ++ more) (map-append (λ (x : Line). x.bytes) lines (l ∷ [])) ∙ append_assoc (bytes_of lines) (l.bytes ∷ []) more
 
-as_long : (l : Line) → length (written l) ≡ size l
+as_long : (l : Line) → length (bytes_with_end l) ≡ size l
 as_long l = go l.has_end
   where
     go : (b : Bool) → length (l.bytes ++ (if b then line_feed ∷ [] else [])) ≡ length l.bytes + (if b then 1 else 0)
@@ -53,13 +53,13 @@ next_read {before} {ys} {zs} {old} {new} {n} {line} r i g =
     record {
       lines = r.lines ++ l ∷ [];
       count = length-both r.lines (l ∷ []) ∙ ap (λ k. k + 1) r.count;
-      cut = r.cut ∙ ap (λ b. flat_map written r.lines ++ b) i.bytes ∙ sym (append_assoc (flat_map written r.lines) (written l) (not_given new zs)) ∙ ap (λ b. b ++ not_given new zs) (sym (flat_snoc written r.lines l));
+      cut = r.cut ∙ ap (λ b. flat_map bytes_with_end r.lines ++ b) i.bytes ∙ sym (append_assoc (flat_map bytes_with_end r.lines) (bytes_with_end l) (not_given new zs)) ∙ ap (λ b. b ++ not_given new zs) (sym (flat_snoc bytes_with_end r.lines l));
       fed = r.fed ∙ ap (lines_then (bytes_of r.lines)) i.first ∙ shift l;
-      long = ap length (flat_snoc written r.lines l) ∙ length-both (flat_map written r.lines) (written l) ∙ (λ j. r.long j + as_long l j) ∙ sym g.given;
+      long = ap length (flat_snoc bytes_with_end r.lines l) ∙ length-both (flat_map bytes_with_end r.lines) (bytes_with_end l) ∙ (λ j. r.long j + as_long l j) ∙ sym g.given;
     }
   where
-    shift : (l : Line) → lines_then (bytes_of r.lines) (line_then l.bytes (left new zs)) ≡ lines_then (bytes_of (r.lines ++ l ∷ [])) (left new zs)
-    shift l = λ j. record { lines = sym (one_more r.lines l (left new zs).lines) j; trouble = (left new zs).trouble }
+    shift : (l : Line) → lines_then (bytes_of r.lines) (line_then l.bytes (feed_left new zs)) ≡ lines_then (bytes_of (r.lines ++ l ∷ [])) (feed_left new zs)
+    shift l = λ j. record { lines = sym (one_more r.lines l (feed_left new zs).lines) j; trouble = (feed_left new zs).trouble }
 
 pub next_read_lines : {before ys zs : List ℕ} {old new : Stored} {n : ℕ} {line : List ℕ} (r : HasRead before ys old n) (i : IsNextLine old new ys zs line) (g : GivesLine old new line) → (next_read r i g).lines ≡ r.lines ++ given_line new line ∷ []
 unfolding next_read
@@ -67,10 +67,10 @@ next_read_lines r i g = refl
 
 -- ---- what was judged
 
-judges_nothing : (settings : Settings) → JudgesTo settings [] 0 (nothing_seen settings.first_attempt)
+judges_nothing : (settings : Settings) → JudgesTo settings [] 0 (empty_summary settings.first_attempt)
 judges_nothing settings more t = refl
 
-pub nothing_judged : (settings : Settings) (bytes : List ℕ) → HasJudged settings bytes bytes (new_feed 67108864 1073741824) 0 (nothing_seen settings.first_attempt)
+pub nothing_judged : (settings : Settings) (bytes : List ℕ) → HasJudged settings bytes bytes (new_feed 67108864 1073741824) 0 (empty_summary settings.first_attempt)
 unfolding nothing_read
 nothing_judged settings bytes = record { read = nothing_read bytes; judges = judges_nothing settings }
 
@@ -79,33 +79,33 @@ unfolding nothing_judged nothing_read
 nothing_lines settings bytes = refl
 
 taken : (settings : Settings) (old new : State) (n : ℕ) (r : Option (Result Envelope LineFault)) (more : Summary → Answer) → TakesLine settings old new r (Ok tt)
-    → judged_line settings (summary_of old) n r more ≡ more (summary_of new)
+    → answer_of_line settings (summary_of old) n r more ≡ more (summary_of new)
 taken settings old new n None more k = ap more (sym k.0)
 taken settings old new n (Some (Err b)) more k = absurd k
 taken settings old new n (Some (Ok e)) more k = rw k.0 (ap more (sym k.1))
 
-judges_next : (settings : Settings) (lines : List Line) (n : ℕ) (old new : State) (l : Line) → JudgesTo settings lines n (summary_of old) → TakesLine settings old new (shown l.bytes) (Ok tt)
+judges_next : (settings : Settings) (lines : List Line) (n : ℕ) (old new : State) (l : Line) → JudgesTo settings lines n (summary_of old) → TakesLine settings old new (envelope_unless_blank l.bytes) (Ok tt)
     → JudgesTo settings (lines ++ l ∷ []) (n + 1) (summary_of new)
 judges_next settings lines n old new l h k more t =
-    ap (λ ls. judged_of settings (nothing_seen settings.first_attempt) 1 ls t) (one_more lines l more) ∙ h (l.bytes ∷ more) t
-    ∙ taken settings old new (n + 1) (shown l.bytes) (λ (now : Summary). judged_of settings now (n + 1 + 1) more t) k
+    ap (λ ls. answer_of_lines settings (empty_summary settings.first_attempt) 1 ls t) (one_more lines l more) ∙ h (l.bytes ∷ more) t
+    ∙ taken settings old new (n + 1) (envelope_unless_blank l.bytes) (λ (now : Summary). answer_of_lines settings now (n + 1 + 1) more t) k
 
 pub next_judged : (settings : Settings) (before ys zs : List ℕ) (feed later : Stored) (n : ℕ) (old new : State) (line : List ℕ) → HasJudged settings before ys feed n (summary_of old)
-    → IsNextLine feed later ys zs line → GivesLine feed later line → TakesLine settings old new (shown line) (Ok tt) → HasJudged settings before zs later (n + 1) (summary_of new)
+    → IsNextLine feed later ys zs line → GivesLine feed later line → TakesLine settings old new (envelope_unless_blank line) (Ok tt) → HasJudged settings before zs later (n + 1) (summary_of new)
 unfolding next_read
 next_judged settings before ys zs feed later n old new line h i g k = record { read = next_read h.read i g; judges = judges_next settings (h.read).lines n old new (given_line later line) h.judges k }
 
 pub next_lines : (settings : Settings) (before ys zs : List ℕ) (feed later : Stored) (n : ℕ) (old new : State) (line : List ℕ) (h : HasJudged settings before ys feed n (summary_of old)) (i : IsNextLine feed later ys zs line)
-    (g : GivesLine feed later line) (k : TakesLine settings old new (shown line) (Ok tt)) → ((next_judged settings before ys zs feed later n old new line h i g k).read).lines ≡ (h.read).lines ++ given_line later line ∷ []
+    (g : GivesLine feed later line) (k : TakesLine settings old new (envelope_unless_blank line) (Ok tt)) → ((next_judged settings before ys zs feed later n old new line h i g k).read).lines ≡ (h.read).lines ++ given_line later line ∷ []
 unfolding next_judged next_read
 next_lines settings before ys zs feed later n old new line h i g k = refl
 
 -- ---- the answer
 
 found : (settings : Settings) (old new : State) (n : ℕ) (r : Option (Result Envelope LineFault)) (more : Summary → Answer) (why : Stop) → TakesLine settings old new r (Err why)
-    → AnswersAs (judged_line settings (summary_of old) n r more) (audited_at n why)
+    → AnswersAs (answer_of_line settings (summary_of old) n r more) (audited_at n why)
 found settings old new n None more why k = absurd k
-found settings old new n (Some (Err b)) more (stop.Bad f) k = let same : IsBad (NoEnvelope b) ≡ IsBad (named f) = cc in ap (Found n) (sym same)
+found settings old new n (Some (Err b)) more (stop.Bad f) k = let same : IsBad (NoEnvelope b) ≡ IsBad (stream_fault_named f) = cc in ap (Found n) (sym same)
 found settings old new n (Some (Err b)) more (stop.Unsupported r) k = cc
 found settings old new n (Some (Err b)) more stop.Memory k = tt
 found settings old new n (Some (Ok e)) more (stop.Bad f) k = rw k refl
@@ -114,30 +114,30 @@ found settings old new n (Some (Ok e)) more stop.Memory k = tt
 
 -- what is left decides
 pub judged_left : {before ys : List ℕ} {feed : Stored} {n : ℕ} {s : Summary} (settings : Settings) (r : HasRead before ys feed n) → JudgesTo settings r.lines n s
-    → judged settings before ≡ judged_of settings s (n + 1) (left feed ys).lines (left feed ys).trouble
-judged_left {before} {ys} {feed} settings r h = ap (λ (f : Fed). judged_of settings (nothing_seen settings.first_attempt) 1 f.lines f.trouble) r.fed ∙ h (left feed ys).lines (left feed ys).trouble
+    → judged settings before ≡ answer_of_lines settings s (n + 1) (feed_left feed ys).lines (feed_left feed ys).trouble
+judged_left {before} {ys} {feed} settings r h = ap (λ (f : Fed). answer_of_lines settings (empty_summary settings.first_attempt) 1 f.lines f.trouble) r.fed ∙ h (feed_left feed ys).lines (feed_left feed ys).trouble
 
 pub found_at : (settings : Settings) (before ys zs : List ℕ) (feed later : Stored) (n : ℕ) (old new : State) (line : List ℕ) (r : HasRead before ys feed n) → JudgesTo settings r.lines n (summary_of old)
-    → IsNextLine feed later ys zs line → (why : Stop) → TakesLine settings old new (shown line) (Err why) → AnswersAs (judged settings before) (audited_at (n + 1) why)
+    → IsNextLine feed later ys zs line → (why : Stop) → TakesLine settings old new (envelope_unless_blank line) (Err why) → AnswersAs (judged settings before) (audited_at (n + 1) why)
 found_at settings before ys zs feed later n old new line r h i why k =
-    rw (judged_left settings r h, i.first) (found settings old new (n + 1) (shown line) (λ (now : Summary). judged_of settings now (n + 1 + 1) (left later zs).lines (left later zs).trouble) why k)
+    rw (judged_left settings r h, i.first) (found settings old new (n + 1) (envelope_unless_blank line) (λ (now : Summary). answer_of_lines settings now (n + 1 + 1) (feed_left later zs).lines (feed_left later zs).trouble) why k)
 
-pub at_the_end : {before ys : List ℕ} {feed : Stored} {n : ℕ} {s : Summary} (settings : Settings) (r : HasRead before ys feed n) → JudgesTo settings r.lines n s → left feed ys ≡ nothing
+pub at_the_end : {before ys : List ℕ} {feed : Stored} {n : ℕ} {s : Summary} (settings : Settings) (r : HasRead before ys feed n) → JudgesTo settings r.lines n s → feed_left feed ys ≡ nothing
     → judged settings before ≡ answer_at_end (n + 1) s (finding_at_end s)
-at_the_end {n = n} {s = s} settings r h e = judged_left settings r h ∙ ap (λ (f : Fed). judged_of settings s (n + 1) f.lines f.trouble) e
+at_the_end {n = n} {s = s} settings r h e = judged_left settings r h ∙ ap (λ (f : Fed). answer_of_lines settings s (n + 1) f.lines f.trouble) e
 
 pub at_trouble : {before ys : List ℕ} {feed : Stored} {n : ℕ} {s : Summary} (settings : Settings) (r : HasRead before ys feed n) → JudgesTo settings r.lines n s → (t : Trouble)
-    → left feed ys ≡ trouble_alone t → judged settings before ≡ Failed t
-at_trouble {n = n} {s = s} settings r h t e = judged_left settings r h ∙ ap (λ (f : Fed). judged_of settings s (n + 1) f.lines f.trouble) e
+    → feed_left feed ys ≡ trouble_alone t → judged settings before ≡ Failed t
+at_trouble {n = n} {s = s} settings r h t e = judged_left settings r h ∙ ap (λ (f : Fed). answer_of_lines settings s (n + 1) f.lines f.trouble) e
 
 -- ---- how far it reads
 
 pub first_lines : {before ys : List ℕ} {feed : Stored} {n : ℕ} (r : HasRead before ys feed n) (ahead rest : List ℕ) → not_given feed ys ≡ ahead ++ rest → Begins before r.lines ahead rest
 first_lines {before} {ys} {feed} r ahead rest e = record {
-  read = flat_map written r.lines ++ ahead;
-  cut = r.cut ∙ ap (λ b. flat_map written r.lines ++ b) e ∙ sym (append_assoc (flat_map written r.lines) ahead rest);
+  read = flat_map bytes_with_end r.lines ++ ahead;
+  cut = r.cut ∙ ap (λ b. flat_map bytes_with_end r.lines ++ b) e ∙ sym (append_assoc (flat_map bytes_with_end r.lines) ahead rest);
   has_read = refl;
-  more = (left feed ys).lines;
+  more = (feed_left feed ys).lines;
   first = ap (λ (f : Fed). f.lines) r.fed;
 }
 
@@ -152,10 +152,10 @@ pub up_to_here : (before ys zs : List ℕ) (feed later : Stored) (n : ℕ) (line
 up_to_here before ys zs feed later n line r i g none = no_further (next_read r i g) g.ahead none
 
 -- past the last line
-pub fewer_lines : {before ys : List ℕ} {feed : Stored} {n : ℕ} (r : HasRead before ys feed n) → left feed ys ≡ nothing → length (fed before).lines < n + 1
+pub fewer_lines : {before ys : List ℕ} {feed : Stored} {n : ℕ} (r : HasRead before ys feed n) → feed_left feed ys ≡ nothing → length (feed_of before).lines < n + 1
 fewer_lines {before} {ys} {feed} {n} r e =
-    let all : (fed before).lines ≡ bytes_of r.lines ++ [] = ap (λ (f : Fed). f.lines) (r.fed ∙ ap (lines_then (bytes_of r.lines)) e) in
-    let long : length (fed before).lines ≡ n = ap length (all ∙ append-nil (bytes_of r.lines)) ∙ as_many r.lines ∙ r.count in
+    let all : (feed_of before).lines ≡ bytes_of r.lines ++ [] = ap (λ (f : Fed). f.lines) (r.fed ∙ ap (lines_then (bytes_of r.lines)) e) in
+    let long : length (feed_of before).lines ≡ n = ap length (all ∙ append-nil (bytes_of r.lines)) ∙ as_many r.lines ∙ r.count in
     omega (arith, long)
   where
     as_many : (ls : List Line) → length (bytes_of ls) ≡ length ls
@@ -168,6 +168,6 @@ held_no_fault settings before ys zs feed after_it n s r h line stream e shows = 
   lines = r.lines;
   ahead = after_it.held;
   begins = first_lines r after_it.held zs e;
-  faultless = ap (λ ls. judged_of settings (nothing_seen settings.first_attempt) 1 ls (Some ReadFailed)) (sym (append-nil (bytes_of r.lines))) ∙ h [] (Some ReadFailed);
+  faultless = ap (λ ls. answer_of_lines settings (empty_summary settings.first_attempt) 1 ls (Some ReadFailed)) (sym (append-nil (bytes_of r.lines))) ∙ h [] (Some ReadFailed);
   nothing = rw (r.long, ← line, ← stream) shows;
 }

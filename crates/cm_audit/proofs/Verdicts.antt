@@ -6,7 +6,7 @@ use Rattle.cm_envelope.proofs.Sources.{whole_of}
 use Rattle.cm_envelope.specs.declared.feed.Trouble.{Trouble}
 use Rattle.cm_envelope.specs.declared.feed.Trouble.TheVariants.{ReadFailed, LineTooLong, StreamTooLong, Memory}
 use Rattle.cm_attempt.specs.declared.settings.Settings.{Settings}
-use Rattle.cm_stream.specs.Stream.{IsGoodRun, FirstFault, At, Troubled, NoFault, Failed, answer_for, fed, verdict_in, GoodRunsOnly, NoneIsGood}
+use Rattle.cm_stream.specs.Stream.{IsGoodRun, FirstFault, At, Troubled, NoFault, Failed, answer_for, feed_of, verdict_in, GoodRunsOnly, NoneIsGood}
 use Rattle.cm_stream.specs.ByOnePass.{first_fault}
 use Rattle.cm_stream.specs.declared.verdict.Audited.{Audited}
 use Rattle.cm_stream.specs.declared.verdict.Verdict.{Verdict}
@@ -40,7 +40,7 @@ shown settings before after h = record {
 
 module _ (settings : Settings) where
   same : (bytes : List ℕ) → judged settings bytes ≡ answer_for (first_fault settings bytes)
-  same bytes = judged_is_told settings (fed bytes).lines (fed bytes).trouble
+  same bytes = judged_is_told settings (feed_of bytes).lines (feed_of bytes).trouble
 
   as_reported : (bytes : List ℕ) (answer : Result Audited Trouble) → AnswersAs (judged settings bytes) answer → AnswersAs (answer_for (first_fault settings bytes)) answer
   as_reported bytes (Ok v) h = h ∙ same bytes

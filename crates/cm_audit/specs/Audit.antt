@@ -4,13 +4,13 @@ use Rattle.std.specs.List.{flat_map}
 use Rattle.cm_envelope.specs.Device.{CountsFailure, Input, OfReads, OfWhole}
 use Rattle.cm_envelope.specs.Lines.{Line, max_line_bytes, max_stream_bytes}
 use Rattle.cm_envelope.specs.Reading.{LineFault}
-use Rattle.cm_envelope.specs.Feeds.{ShowNothing, is_failed_read, written}
+use Rattle.cm_envelope.specs.Feeds.{ShowNothing, is_failed_read, bytes_with_end}
 use Rattle.cm_envelope.specs.declared.envelope.Envelope.{Envelope}
 use Rattle.cm_envelope.specs.declared.feed.Trouble.{Trouble}
 use Rattle.cm_envelope.specs.declared.feed.Trouble.TheVariants.{ReadFailed, Memory}
 use Rattle.cm_attempt.specs.declared.settings.Settings.{Settings}
 use Rattle.cm_stream.specs.Findings.{IsBad, NoEnvelope}
-use Rattle.cm_stream.specs.Stream.{FirstFault, IsFirstFault, IsFirstFaultOf, IsGoodRun, GoodWith, Answer, GoodRunsOnly, NoneIsGood, Troubled, fed, answered, answer_for, verdict_in}
+use Rattle.cm_stream.specs.Stream.{FirstFault, IsFirstFault, IsFirstFaultOf, IsGoodRun, GoodWith, Answer, GoodRunsOnly, NoneIsGood, Troubled, feed_of, answer_of_audit, answer_for, verdict_in}
 use Rattle.cm_stream.specs.Unsupported.{ShowsReason}
 use Rattle.cm_stream.specs.declared.verdict.Counts.{Counts}
 use Rattle.cm_stream.specs.declared.verdict.Audited.{Audited}
@@ -27,7 +27,7 @@ use Rattle.cm_audit.specs.declared.stop.Stop.TheVariants as stop
 abbrev pub AnswersAs : Answer → Result Audited Trouble → Type 0
 AnswersAs a (Err ReadFailed) = ⊤
 AnswersAs a (Err Memory) = ⊤
-AnswersAs a answer = answered answer ≡ a
+AnswersAs a answer = answer_of_audit answer ≡ a
 
 -- the answer is that for the first fault of the bytes
 pub record AnswersTold (settings : Settings) (bytes : List ℕ)
@@ -43,7 +43,7 @@ abbrev pub contents : List Line → List (List ℕ)
 contents lines = map (λ l. l.bytes) lines
 
 abbrev pub all_written : List Line → List ℕ
-all_written lines = flat_map written lines
+all_written lines = flat_map bytes_with_end lines
 
 -- The first lines of the bytes were read, then `ahead`, and the rest was not.
 pub record Begins (bytes : List ℕ) (lines : List Line) (ahead rest : List ℕ) : Type 0 where
@@ -54,7 +54,7 @@ pub record Begins (bytes : List ℕ) (lines : List Line) (ahead rest : List ℕ)
   pub has_read : read ≡ all_written lines ++ ahead
   -- and the lines are the first ones
   pub more : List (List ℕ)
-  pub first : (fed bytes).lines ≡ contents lines ++ more
+  pub first : (feed_of bytes).lines ≡ contents lines ++ more
 
 -- none of these lines has a fault, where a read failed after them
 abbrev pub HaveNoFault : Settings → List Line → Type 0
@@ -80,7 +80,7 @@ pub record ReadsNoFurther (n : ℕ) (before after : List ℕ) : Type 0 where
 -- no more than that is read before a finding at line n is reported, unless n is past the last line
 abbrev pub ReadsUpTo : Result Verdict Trouble → (before after : List ℕ) → Type 0
 ReadsUpTo (Ok (verdict.Bad n b)) before after =
-    (length (fed before).lines < n) ⊎ ReadsNoFurther n before after
+    (length (feed_of before).lines < n) ⊎ ReadsNoFurther n before after
 ReadsUpTo (Ok (verdict.Unsupported n r)) before after = ReadsNoFurther n before after
 ReadsUpTo _ before after = ⊤
 

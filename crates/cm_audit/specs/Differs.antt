@@ -8,10 +8,10 @@ use Rattle.cm_envelope.specs.declared.envelope.Source.{Source}
 use Rattle.cm_envelope.specs.declared.feed.Trouble.{Trouble}
 use Rattle.cm_attempt.specs.declared.settings.Settings.{Settings}
 use Rattle.cm_stream.specs.Checks.{document_ids, fault_by, is_incomplete_by, next_pickle_by}
-use Rattle.cm_stream.specs.Findings.{IsBad, named}
+use Rattle.cm_stream.specs.Findings.{IsBad, stream_fault_named}
 use Rattle.cm_stream.specs.Readings.{Reading, Accepted, ReadsByTheGrammar}
 use Rattle.cm_stream.specs.References.{documents_of, pickles_of, reading_of_by, sources}
-use Rattle.cm_stream.specs.Stream.{fed, shown}
+use Rattle.cm_stream.specs.Stream.{feed_of, envelope_unless_blank}
 use Rattle.cm_stream.specs.Texts.{Utf8}
 use Rattle.cm_stream.specs.declared.verdict.Audited.{Audited}
 use Rattle.cm_stream.specs.declared.verdict.StreamFault.{StreamFault}
@@ -58,11 +58,11 @@ pub record IsDifferenceAt (settings : Settings) (bytes : List ℕ) (n : ℕ) (b 
   pub before : List (List ℕ)
   pub line : List ℕ
   pub after : List (List ℕ)
-  pub cut : (fed bytes).lines ≡ before ++ line ∷ after
+  pub cut : (feed_of bytes).lines ≡ before ++ line ∷ after
   pub count : n ≡ length before + 1
   pub said : Envelope
-  pub is_read : shown line ≡ Some (Ok said)
-  pub why : fault_by read settings (envelopes_in before) said ≡ Some (IsBad (named b))
+  pub is_read : envelope_unless_blank line ≡ Some (Ok said)
+  pub why : fault_by read settings (envelopes_in before) said ≡ Some (IsBad (stream_fault_named b))
   pub differs : IsDifferenceBy read (envelopes_in before) said d
 
 -- ---- the audit with its difference

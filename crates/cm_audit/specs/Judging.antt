@@ -2,26 +2,26 @@
 use Rattle.std.specs.Prelude.{◌≡◌, ◌+◌, ℕ, List, [], ◌∷◌, ◌++◌, Option, Some, Result, Ok, Err, length}
 use Rattle.std.specs.List.{flat_map}
 use Rattle.cm_envelope.specs.Lines.{Line, Fed, max_line_bytes, max_stream_bytes}
-use Rattle.cm_envelope.specs.Feeds.{Stored, ShowNothing, not_given, left}
+use Rattle.cm_envelope.specs.Feeds.{Stored, ShowNothing, not_given, feed_left}
 use Rattle.cm_envelope.specs.Reading.{LineFault}
 use Rattle.cm_envelope.specs.declared.envelope.Envelope.{Envelope}
 use Rattle.cm_envelope.specs.declared.feed.Trouble.{Trouble}
 use Rattle.cm_envelope.specs.declared.feed.Trouble.TheVariants.{ReadFailed}
 use Rattle.cm_attempt.specs.declared.settings.Settings.{Settings}
-use Rattle.cm_stream.specs.Stream.{Answer, Failed, fed, shown, verdict_in}
+use Rattle.cm_stream.specs.Stream.{Answer, Failed, feed_of, envelope_unless_blank, verdict_in}
 use Rattle.cm_stream.specs.ByOnePass.{IsFaultless}
 use Rattle.cm_stream.specs.declared.verdict.Audited.{Audited}
-use Rattle.cm_state.specs.Summary.{Summary, nothing_seen, seen}
-use Rattle.cm_state.specs.Laws.{judged_of}
+use Rattle.cm_state.specs.Summary.{Summary, empty_summary, summary_of_lines}
+use Rattle.cm_state.specs.Laws.{answer_of_lines}
 use Rattle.cm_audit.specs.Audit.{AnswersAs, Begins, ReadsUpTo, all_written, contents}
 
 -- the answer line by line, from the first line on, and then for the trouble or the end
 abbrev pub judged_from_first : Settings → List (List ℕ) → Option Trouble → Answer
 judged_from_first settings lines trouble =
-    judged_of settings (nothing_seen settings.first_attempt) 1 lines trouble
+    answer_of_lines settings (empty_summary settings.first_attempt) 1 lines trouble
 
 abbrev pub judged : Settings → List ℕ → Answer
-judged settings bytes = judged_from_first settings (fed bytes).lines (fed bytes).trouble
+judged settings bytes = judged_from_first settings (feed_of bytes).lines (feed_of bytes).trouble
 
 -- the envelope of a line that is read so, if any
 abbrev pub envelope_in : Option (Result Envelope LineFault) → List Envelope
@@ -30,7 +30,7 @@ envelope_in _ = []
 
 -- the envelopes of lines
 abbrev pub envelopes_in : List (List ℕ) → List Envelope
-envelopes_in lines = flat_map (λ l. envelope_in (shown l)) lines
+envelopes_in lines = flat_map (λ l. envelope_in (envelope_unless_blank l)) lines
 
 -- `ShowNoFault`, where the lines are judged one by one
 pub record HoldNoFault (settings : Settings) (before after : List ℕ) : Type 0 where
@@ -49,7 +49,7 @@ pub record HasRead (before after : List ℕ) (feed : Stored) (number : ℕ) : Ty
   pub lines : List Line
   pub count : length lines ≡ number
   pub cut : before ≡ all_written lines ++ not_given feed after
-  pub fed : fed before ≡ lines_then (contents lines) (left feed after)
+  pub fed : feed_of before ≡ lines_then (contents lines) (feed_left feed after)
   pub long : length (all_written lines) ≡ feed.given
 
 -- after these lines this is kept
@@ -57,7 +57,7 @@ abbrev pub JudgesTo : Settings → List Line → ℕ → Summary → Type 0
 JudgesTo settings lines number s =
     (more : List (List ℕ)) (trouble : Option Trouble)
     → judged_from_first settings (contents lines ++ more) trouble
-    ≡ judged_of settings s (number + 1) more trouble
+    ≡ answer_of_lines settings s (number + 1) more trouble
 
 -- so many lines were given and taken
 pub record HasJudged (settings : Settings) (before after : List ℕ) (feed : Stored) (number : ℕ)
@@ -71,7 +71,7 @@ pub record HasFollowed (settings : Settings) (follows : List Envelope → Type 0
   pub judged : HasJudged settings before after feed number s
   pub followed : follows (envelopes_in (contents judged.read.lines))
   pub faultless : IsFaultless settings (envelopes_in (contents judged.read.lines))
-  pub kept : s ≡ seen settings.first_attempt (envelopes_in (contents judged.read.lines))
+  pub kept : s ≡ summary_of_lines settings.first_attempt (envelopes_in (contents judged.read.lines))
 
 -- `IsAuditOf`, where the lines are judged one by one
 pub record JudgesAs (settings : Settings) (answer : Result Audited Trouble)

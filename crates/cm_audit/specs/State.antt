@@ -3,12 +3,12 @@ use Rattle.std.specs.Prelude.{◌≡◌, ◌<◌, ℕ, ⊤, map, Option, Result,
 use Rattle.std.specs.String.{string_bytes}
 use Rattle.cm_envelope.specs.declared.envelope.Envelope.{Envelope}
 use Rattle.cm_stream.specs.declared.verdict.Counts.{Counts}
-use Rattle.cm_state.specs.Summary.{Summary, after}
+use Rattle.cm_state.specs.Summary.{Summary, summary_after_line}
 use Rattle.cm_attempt.specs.declared.policy.Policy.{Policy}
 use Rattle.cm_attempt.specs.declared.settings.Settings.{Settings}
 use Rattle.cm_state.specs.StateChecks.{finding, finding_inside, plain_finding}
 use Rattle.cm_audit.specs.Kept.{kept_rows}
-use Rattle.cm_stream.specs.Findings.{Finding, IsBad, IsUnsupported, named}
+use Rattle.cm_stream.specs.Findings.{Finding, IsBad, IsUnsupported, stream_fault_named}
 use Rattle.cm_audit.specs.Stops.{StopsFor}
 use Rattle.cm_audit.specs.declared.state.State.{State}
 use Rattle.cm_audit.specs.declared.stop.Stop.{Stop}
@@ -41,7 +41,7 @@ pub record AreFewer (n : ℕ) (c : Counts) : Type 0 where
 
 -- a line has the finding, or memory was refused, and then what is kept is as it was
 abbrev pub Refuses : Option Finding → (old new : State) → Stop → Type 0
-Refuses f old new (stop.Bad b) = f ≡ Some (IsBad (named b))
+Refuses f old new (stop.Bad b) = f ≡ Some (IsBad (stream_fault_named b))
 Refuses f old new (stop.Unsupported r) = f ≡ Some (IsUnsupported r)
 Refuses f old new stop.Memory = summary_of new ≡ summary_of old
 
@@ -53,7 +53,7 @@ Checks s e (Err why) = StopsFor (plain_finding (summary_of s) e) why
 -- a line without a finding is taken, and any other is refused for its finding, unless memory was refused
 abbrev pub TakesUnless : Option Finding → (old new : State) → Envelope → Result ⊤ Stop → Type 0
 TakesUnless found old new e (Ok done) =
-    (found ≡ None) × (summary_of new ≡ after (summary_of old) e) × IsListed new
+    (found ≡ None) × (summary_of new ≡ summary_after_line (summary_of old) e) × IsListed new
 TakesUnless found old new e (Err why) = Refuses found old new why
 
 -- by the checks that are made whatever statuses are good

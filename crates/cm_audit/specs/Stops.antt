@@ -7,13 +7,13 @@ use Rattle.cm_attempt.specs.declared.fault.TrackFault.TheVariants as track
 use Rattle.cm_envelope.specs.declared.fault.EnvelopeFault.{EnvelopeFault}
 use Rattle.cm_envelope.specs.declared.fault.EnvelopeFault.TheVariants as line
 use Rattle.cm_stream.specs.declared.verdict.StreamFault.TheVariants as bad
-use Rattle.cm_stream.specs.Findings.{Finding, IsBad, IsUnsupported, named}
+use Rattle.cm_stream.specs.Findings.{Finding, IsBad, IsUnsupported, stream_fault_named}
 use Rattle.cm_audit.specs.declared.stop.Stop.{Stop}
 use Rattle.cm_audit.specs.declared.stop.Stop.TheVariants as stop
 
 -- the finding is the reason, unless memory was refused
 abbrev pub StopsFor : Option Finding → Stop → Type 0
-StopsFor f (stop.Bad b) = f ≡ Some (IsBad (named b))
+StopsFor f (stop.Bad b) = f ≡ Some (IsBad (stream_fault_named b))
 StopsFor f (stop.Unsupported r) = f ≡ Some (IsUnsupported r)
 StopsFor f stop.Memory = Unit {0}
 

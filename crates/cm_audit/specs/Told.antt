@@ -5,14 +5,14 @@ use Rattle.cm_envelope.specs.declared.envelope.Envelope.{Envelope}
 use Rattle.cm_envelope.specs.declared.feed.Trouble.{Trouble}
 use Rattle.cm_attempt.specs.declared.settings.Settings.{Settings}
 use Rattle.cm_stream.specs.ByOnePass.{fault, IsFaultless}
-use Rattle.cm_stream.specs.Findings.{IsBad, named}
-use Rattle.cm_stream.specs.Stream.{fed, shown}
+use Rattle.cm_stream.specs.Findings.{IsBad, stream_fault_named}
+use Rattle.cm_stream.specs.Stream.{feed_of, envelope_unless_blank}
 use Rattle.cm_stream.specs.declared.verdict.Audited.{Audited}
 use Rattle.cm_stream.specs.declared.verdict.StreamFault.{StreamFault}
 use Rattle.cm_stream.specs.declared.verdict.StreamFault.TheVariants as bad
 use Rattle.cm_stream.specs.declared.verdict.Verdict.{Verdict}
 use Rattle.cm_stream.specs.declared.verdict.Verdict.TheVariants as verdict
-use Rattle.cm_state.specs.Summary.{Summary, seen}
+use Rattle.cm_state.specs.Summary.{Summary, summary_of_lines}
 use Rattle.cm_audit.specs.Judging.{envelopes_in}
 use Rattle.cm_audit.specs.declared.stop.Stop.{Stop}
 use Rattle.cm_audit.specs.declared.stop.Stop.TheVariants as stop
@@ -30,13 +30,13 @@ pub record IsToldAt (settings : Settings) (tells : Summary → Envelope → Type
   pub before : List (List ℕ)
   pub line : List ℕ
   pub after : List (List ℕ)
-  pub cut : (fed bytes).lines ≡ before ++ line ∷ after
+  pub cut : (feed_of bytes).lines ≡ before ++ line ∷ after
   pub count : n ≡ length before + 1
   pub said : Envelope
-  pub read : shown line ≡ Some (Ok said)
+  pub read : envelope_unless_blank line ≡ Some (Ok said)
   pub faultless : IsFaultless settings (envelopes_in before)
-  pub why : fault settings (envelopes_in before) said ≡ Some (IsBad (named b))
-  pub told : tells (seen settings.first_attempt (envelopes_in before)) said
+  pub why : fault settings (envelopes_in before) said ≡ Some (IsBad (stream_fault_named b))
+  pub told : tells (summary_of_lines settings.first_attempt (envelopes_in before)) said
 
 -- a fault of an envelope, and not of a line that is none, or of the end
 abbrev pub is_of_envelope : StreamFault → Bool

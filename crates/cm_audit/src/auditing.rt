@@ -4,7 +4,7 @@ ghost use Rattle.cm_envelope.specs.Device.{CountsFailure, OfInput, OfReads};
 ghost use Rattle.cm_envelope.specs.declared.envelope.Envelope.{Envelope as SomeEnvelope};
 ghost use Rattle.cm_envelope.specs.declared.feed.Trouble.TheVariants.{ReadFailed};
 ghost use Rattle.cm_attempt.specs.Settings.{settings_of};
-ghost use Rattle.cm_stream.specs.Stream.{NoneIsGood, shown, verdict_in};
+ghost use Rattle.cm_stream.specs.Stream.{NoneIsGood, envelope_unless_blank, verdict_in};
 ghost use Rattle.cm_audit.specs.Audit.{AnswersTold, Audits, DecidesGood, GoodAtEnd, GoodHeard, IsVerdictOf, ReadsUpTo};
 ghost use Rattle.cm_audit.specs.Audit.{ShowNoFault, ShowsUnsupported, TakesLine};
 ghost use Rattle.cm_audit.specs.Audit.{audited_at, unsuccessful};
@@ -13,7 +13,7 @@ ghost use Rattle.cm_audit.specs.Cases.{JudgesWith};
 ghost use Rattle.cm_audit.specs.Told.{TellsLine};
 ghost use Rattle.cm_audit.specs.Judging.{envelope_in};
 ghost use Rattle.cm_audit.specs.State.{AreFewer, IsListed, Takes, summary_of};
-ghost use Rattle.cm_state.specs.Summary.{nothing_seen};
+ghost use Rattle.cm_state.specs.Summary.{empty_summary};
 
 use crate::judge::judge;
 use crate::limits::MOST;
@@ -60,10 +60,11 @@ fn take_line<W: Watch>(
 ) -> Result<(), Stop>
     requires listed { IsListed state.old }
     requires few { AreFewer MOST state.old.counts }
-    ensures taken { TakesLine settings state.old state.new (shown line.now) result }
+    ensures taken { TakesLine settings state.old state.new (envelope_unless_blank line.now) result }
     ensures followed { OnOk result ((es : List SomeEnvelope) → W.follows watch.old es
-        → W.follows watch.new (es ++ envelope_in (shown line.now))) }
-    ensures told { TellsLine (W.tells watch.new) (summary_of state.old) (shown line.now) result }
+        → W.follows watch.new (es ++ envelope_in (envelope_unless_blank line.now))) }
+    ensures told { TellsLine (W.tells watch.new) (summary_of state.old)
+        (envelope_unless_blank line.now) result }
 {
     if is_blank_line(line) {
         return Ok(());
@@ -103,7 +104,7 @@ pub(crate) fn judge_lines<R: ByteSource, W: Watch>(
     source: &mut R,
     settings: Settings,
 ) -> Result<Audited, Trouble>
-    requires nothing { summary_of state.old ≡ nothing_seen settings.first_attempt }
+    requires nothing { summary_of state.old ≡ empty_summary settings.first_attempt }
     requires listed { IsListed state.old }
     requires starts { W.follows watch.old [] }
     ensures judged { OfReads (R.input source.old) (R.input source.new)

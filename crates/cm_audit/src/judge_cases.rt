@@ -10,7 +10,7 @@ ghost use Rattle.cm_refs.specs.Declarations.{find_pickle, steps_of};
 ghost use Rattle.cm_envelope.specs.declared.envelope.Envelope.TheVariants as Envelope;
 ghost use Rattle.cm_stream.specs.Texts.{same_texts};
 ghost use Rattle.cm_stream.specs.References.{pickle_step_ids};
-ghost use Rattle.cm_state.specs.Summary.{case_counted, with_name};
+ghost use Rattle.cm_state.specs.Summary.{counts_with_case, with_name};
 ghost use Rattle.cm_state.specs.StateChecks.{is_among, knows_case, knows_step};
 ghost use Rattle.cm_audit.specs.State.{AreFewer, IsListed, Judges, summary_of};
 
@@ -138,7 +138,7 @@ fn add_name(named: &mut Names, pickle: String) -> Result<bool, AllocFailed<Strin
 /// Counts a case. Where it is the first of its pickle, that one isn't left to be run.
 fn count_case(counts: &mut Counts, is_first: bool)
     requires { counts.old.cases < MOST }
-    ensures { counts.new ≡ case_counted (not is_first) counts.old }
+    ensures { counts.new ≡ counts_with_case (not is_first) counts.old }
 {
     counts.cases += 1;
     if is_first {

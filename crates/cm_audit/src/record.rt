@@ -2,7 +2,7 @@
 ghost use Rattle.std.specs.Prelude.{◌≡◌, ◌⊎◌, IsErrAnd, IsOkUnless, MatchOption, OnErr, OnOk, map};
 ghost use Rattle.cm_attempt.specs.Table.{add_case_fault, with_case};
 ghost use Rattle.cm_stream.specs.CallFaults.{call_fault_of_envelope};
-ghost use Rattle.cm_stream.specs.Record.{changed};
+ghost use Rattle.cm_stream.specs.Record.{table_after_envelope};
 ghost use Rattle.cm_stream.specs.Statuses.{kept_status as kept};
 ghost use Rattle.cm_audit.specs.Record.{AnswersRefusal};
 
@@ -63,7 +63,7 @@ pub(crate) fn start_attempt(
     ensures answer { AnswersRefusal (Envelope.TestCaseStarted started.now)
         (call_fault_of_envelope attempts.old (Envelope.TestCaseStarted started.now)) result }
     ensures ok { OnOk result (attempts.new
-        ≡ changed attempts.old (Envelope.TestCaseStarted started.now)) }
+        ≡ table_after_envelope attempts.old (Envelope.TestCaseStarted started.now)) }
     ensures err { OnErr result (attempts.new ≡ attempts.old) }
 {
     let case = started.test_case_id.as_str();
@@ -78,7 +78,7 @@ pub(crate) fn start_step(attempts: &mut Track, started: &TestStepStarted) -> Res
     ensures answer { AnswersRefusal (Envelope.TestStepStarted started.now)
         (call_fault_of_envelope attempts.old (Envelope.TestStepStarted started.now)) result }
     ensures ok { OnOk result (attempts.new
-        ≡ changed attempts.old (Envelope.TestStepStarted started.now)) }
+        ≡ table_after_envelope attempts.old (Envelope.TestStepStarted started.now)) }
     ensures err { OnErr result (attempts.new ≡ attempts.old) }
 {
     let attempt = started.test_case_started_id.as_str();
@@ -96,7 +96,7 @@ pub(crate) fn finish_step(
     ensures answer { AnswersRefusal (Envelope.TestStepFinished finished.now)
         (call_fault_of_envelope attempts.old (Envelope.TestStepFinished finished.now)) result }
     ensures ok { OnOk result (attempts.new
-        ≡ changed attempts.old (Envelope.TestStepFinished finished.now)) }
+        ≡ table_after_envelope attempts.old (Envelope.TestStepFinished finished.now)) }
     ensures err { OnErr result (attempts.new ≡ attempts.old) }
 {
     let attempt = finished.test_case_started_id.as_str();
@@ -116,7 +116,7 @@ pub(crate) fn finish_attempt(
     ensures answer { AnswersRefusal (Envelope.TestCaseFinished finished.now)
         (call_fault_of_envelope attempts.old (Envelope.TestCaseFinished finished.now)) result }
     ensures ok { OnOk result (attempts.new
-        ≡ changed attempts.old (Envelope.TestCaseFinished finished.now)) }
+        ≡ table_after_envelope attempts.old (Envelope.TestCaseFinished finished.now)) }
     ensures err { OnErr result (attempts.new ≡ attempts.old) }
 {
     let attempt = finished.test_case_started_id.as_str();
@@ -130,7 +130,7 @@ pub(crate) fn finish_attempt(
 /// Why the record refuses it, or `Memory`. The record is then as it was.
 pub fn track(alloc: Global, attempts: &mut Track, envelope: Envelope) -> Result<(), TrackFault>
     ensures answer { AnswersRefusal envelope (call_fault_of_envelope attempts.old envelope) result }
-    ensures ok { OnOk result (attempts.new ≡ changed attempts.old envelope) }
+    ensures ok { OnOk result (attempts.new ≡ table_after_envelope attempts.old envelope) }
     ensures err { OnErr result (attempts.new ≡ attempts.old) }
 {
     match envelope {

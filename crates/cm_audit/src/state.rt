@@ -2,7 +2,7 @@
 ghost use Rattle.std.specs.Prelude.{◌≡◌, find, option_map};
 ghost use Rattle.std.specs.Str.{bytes_eq};
 ghost use Rattle.cm_state.specs.StateChecks.{knows_run};
-ghost use Rattle.cm_state.specs.Summary.{nothing_seen};
+ghost use Rattle.cm_state.specs.Summary.{empty_summary};
 ghost use Rattle.cm_audit.specs.Kept.{kept_row, kept_rows};
 ghost use Rattle.cm_audit.specs.State.{IsListed, summary_of};
 
@@ -38,7 +38,7 @@ pub(crate) struct State {
 impl State {
     /// Nothing was seen yet, and the attempts of a case will be numbered from `first`. It takes no memory.
     pub(crate) fn new(alloc: Global, first: u64) -> State
-        ensures seen { summary_of result ≡ nothing_seen first }
+        ensures seen { summary_of result ≡ empty_summary first }
         ensures listed { IsListed result }
     {
         State {

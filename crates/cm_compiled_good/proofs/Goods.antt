@@ -8,7 +8,7 @@ use Rattle.gk_pickle.specs.declared.pickle.Pickle.{Pickle}
 use Rattle.gk_pickle.specs.Pickles.{pickles as compiled}
 use Rattle.cm_attempt.specs.declared.settings.Settings.{Settings}
 use Rattle.cm_stream.specs.Good.{Good}
-use Rattle.cm_stream.specs.Stream.{fed, IsRead, IsGoodStream, envelopes, counts_of, unrun}
+use Rattle.cm_stream.specs.Stream.{feed_of, IsRead, IsGoodStream, envelopes, counts_of, unrun_count}
 use Rattle.cm_stream.specs.References.{sources, pickles, cases, starts, as_source, as_case, as_start, run_succeeded}
 use Rattle.cm_stream.proofs.FaultlessGood.{faultless_are_good}
 use Rattle.cm_read_back.specs.Documents.{IsReadable}
@@ -39,7 +39,7 @@ counts_are uri text d =
     let no_case : cases es ≡ [] = none_found as_case (λ p. refl) uri d.nodes (compiled d) run_envelopes in
     let no_start : starts es ≡ [] = none_found as_start (λ p. refl) uri d.nodes (compiled d) run_envelopes in
     let one : length (sources es) ≡ 1 = rw (none_found as_source (λ p. refl) uri d.nodes (compiled d) run_envelopes) refl in
-    let free : unrun es ≡ length (compiled d) = rw no_case (all_counted (pickles es)) ∙ all in
+    let free : unrun_count es ≡ length (compiled d) = rw no_case (all_counted (pickles es)) ∙ all in
     λ i. record {
       sources = sym one i;
       pickles = sym all i;
@@ -50,12 +50,12 @@ counts_are uri text d =
 
 -- ---- the stream
 
-pub good_if_plain : (settings : Settings) (uri text : List ℕ) (d : Document) → IsReadable d → Known uri text d → ArePlain uri text d → (fed (stream_of uri text d)).trouble ≡ None → IsGoodStream settings (stream_of uri text d) (counts_for d)
+pub good_if_plain : (settings : Settings) (uri text : List ℕ) (d : Document) → IsReadable d → Known uri text d → ArePlain uri text d → (feed_of (stream_of uri text d)).trouble ≡ None → IsGoodStream settings (stream_of uri text d) (counts_for d)
 good_if_plain settings uri text d readable k plain fits =
     let es = expected uri text d in
     let joined = texts_joined uri text d in
     let read : IsRead (concat (all_texts uri text d)) (with_numbers 1 es) =
-    they_are_read (all_texts uri text d) es (all_lines uri text d readable plain) (ap (λ (bytes : List ℕ). (fed bytes).trouble) joined ∙ fits) in
+    they_are_read (all_texts uri text d) es (all_lines uri text d readable plain) (ap (λ (bytes : List ℕ). (feed_of bytes).trouble) joined ∙ fits) in
     let good : Good settings es = faultless_are_good settings es (none_faulty settings uri text d k) in
     let same : envelopes (with_numbers 1 es) ≡ es = numbers_off 1 es in (
       run_succeeded (envelopes (with_numbers 1 es)),

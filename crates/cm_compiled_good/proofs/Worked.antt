@@ -17,7 +17,7 @@ use Rattle.gk_pickle.specs.TreeJson.{source_data, document_data}
 use Rattle.cm_attempt.specs.declared.policy.Policy.TheVariants.{Strict}
 use Rattle.cm_stream.specs.OnePass.{reads}
 use Rattle.cm_stream.specs.Readings.{Accepted, IsReading}
-use Rattle.cm_stream.specs.Stream.{fed, IsGoodStream}
+use Rattle.cm_stream.specs.Stream.{feed_of, IsGoodStream}
 use Rattle.cm_stream.proofs.OnePass.{is_read}
 use Rattle.cm_stream.proofs.Streaming.{by, one_step, document_in}
 use Rattle.cm_compiled_good.specs.Law.{stream_of, counts_for}
@@ -30,7 +30,7 @@ accepted : reads one_step ≡ Accepted the_document
 unfolding reads lines_read lines_of numbered_lines without_mark chars after body_of first_some trimmed begins_by fence_of indent_of is_blank_line language_of step_of title_of token_of encode
 accepted = refl
 
-fits : (fed (stream_of (codes "a") one_step the_document)).trouble ≡ None
+fits : (feed_of (stream_of (codes "a") one_step the_document)).trouble ≡ None
 unfolding reads lines_read lines_of numbered_lines without_mark chars after body_of first_some trimmed begins_by fence_of indent_of is_blank_line language_of step_of title_of token_of encode pickles source_data document_data pickle_data escape_byte digits
 fits = refl
 

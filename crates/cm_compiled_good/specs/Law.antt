@@ -6,7 +6,7 @@ use Rattle.gk_document.specs.declared.tree.Document.{Document}
 use Rattle.gk_grammar.specs.Documents.{IsDocumentOf, IsTooLong}
 use Rattle.gk_pickle.specs.Pickles.{pickles}
 use Rattle.cm_attempt.specs.declared.settings.Settings.{Settings}
-use Rattle.cm_stream.specs.Stream.{fed, IsGoodStream}
+use Rattle.cm_stream.specs.Stream.{feed_of, IsGoodStream}
 use Rattle.cm_stream.specs.declared.verdict.Counts.{Counts}
 use Rattle.cm_compile.specs.Compiled.{compiled_lines}
 
@@ -34,5 +34,5 @@ abbrev pub CompiledAreGood : Type 0
 CompiledAreGood =
     (settings : Settings) (uri text : List ℕ) (d : Document) → IsUtf8 uri → IsUtf8 text
     → IsDocumentOf text d → (IsTooLong text → ⊥)
-    → (fed (stream_of uri text d)).trouble ≡ None
+    → (feed_of (stream_of uri text d)).trouble ≡ None
     → IsGoodStream settings (stream_of uri text d) (counts_for d)

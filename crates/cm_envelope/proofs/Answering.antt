@@ -2,7 +2,7 @@
 use Rattle.std.proofs.Common.{◌≡◌, ℕ, ◌+◌, ◌-◌, ◌≤◌, Bool, true, false, not, List, [], ◌++◌, slice_range, Some, None, Ok, Err, refl, subst, arith}
 use Rattle.std.specs.Prelude.{IfSome, IfNone}
 use Rattle.cm_envelope.specs.Device.{Hears, Input, OfInput}
-use Rattle.cm_envelope.specs.Feeds.{Stored, NextLine, AnswersFirst, OnLine, IsLineWithin, EndsWithSource, Leaves, last_answer, left}
+use Rattle.cm_envelope.specs.Feeds.{Stored, NextLine, AnswersFirst, OnLine, IsLineWithin, EndsWithSource, Leaves, last_answer, feed_left}
 use Rattle.cm_envelope.specs.Held.{Finds}
 use Rattle.cm_envelope.specs.Lines.{size}
 use Rattle.cm_envelope.specs.declared.feed.Trouble.{Trouble}
@@ -14,7 +14,7 @@ use Rattle.cm_envelope.proofs.Taking.{Takes, takes_first, gives-refusal, refusal
 -- what the clauses of a call ask that read nothing of the source itself
 pub record Answer (old new : Stored) (before after : Input) (answer : NextLine) : Type 0 where
   pub repeats : IfSome old.over (λ over. answer ≡ last_answer over)
-  pub first : IfNone old.over (OfInput before after (λ bytes. AnswersFirst (left old bytes) answer))
+  pub first : IfNone old.over (OfInput before after (λ bytes. AnswersFirst (feed_left old bytes) answer))
   pub line : OnLine answer (IsLineWithin old.line_limit)
   pub end : EndsWithSource old before → answer ≡ Ok None → (after.is_over ≡ true)
   pub leaves : Leaves old new before after answer
@@ -98,7 +98,7 @@ pub ended_answer : (ll sl g : ℕ) (input : Input) → Answer (state ll sl [] g 
 ended_answer ll sl g input =
     record {
       repeats = tt;
-      first = of_any {P = λ xs. AnswersFirst (left (state ll sl [] g true None) xs) (Ok None)} input (λ xs. refl);
+      first = of_any {P = λ xs. AnswersFirst (feed_left (state ll sl [] g true None) xs) (Ok None)} input (λ xs. refl);
       line = tt;
       end = λ was told. was refl;
       leaves = record {

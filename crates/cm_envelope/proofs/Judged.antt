@@ -13,8 +13,8 @@ use Rattle.serde_json.specs.declared.value.Value.{Value}
 use Rattle.serde_json.proofs.Views.{Entry, member_here, member_later}
 use Rattle.cm_envelope.specs.declared.kind.Kind.{Kind}
 use Rattle.cm_envelope.specs.declared.kind.Kind.TheVariants.{Source, GherkinDocument, ParseError, Pickle, StepDefinition, Hook, TestCase, TestRunStarted, TestCaseStarted, TestStepStarted, TestStepFinished, TestCaseFinished, TestRunFinished, Attachment, TestRunHookStarted, TestRunHookFinished}
-use Rattle.cm_envelope.specs.Member.{present, unless_null}
-use Rattle.cm_envelope.specs.Reading.{LineFault, shape, kinds, kind_name, kind_named, judged, the_one, seen}
+use Rattle.cm_envelope.specs.Member.{present_member, unless_null}
+use Rattle.cm_envelope.specs.Reading.{LineFault, shape, kinds, kind_name, kind_named, judged_kinds_of, the_one, kind_and_data}
 
 -- the object of these members
 abbrev pub object_of : List Entry → Data
@@ -31,7 +31,7 @@ judged_members es = filter_map judged_member es
 
 -- the kind with its value, where the object has one
 abbrev judged_at : Data → Kind → Option (Kind × Data)
-judged_at d k = option_map (λ v. (k, v)) (present (kind_name k) d)
+judged_at d k = option_map (λ v. (k, v)) (present_member (kind_name k) d)
 
 -- ---- names
 
@@ -164,7 +164,7 @@ module _ (e : Entry) (es : List Entry) (below : AllByRecursion (λ y. string_cmp
   gone j is = ap (λ o. option_map (λ v. (j, v)) (option_and_then unless_null o)) (ap (λ name. get_member name (members_view es)) is ∙ absent e.0 es below)
 
   -- a null member is absent
-  null_more : is_some (as_null (view e.1)) ≡ true → judged (object_of (e ∷ es)) ≡ judged (object_of es)
+  null_more : is_some (as_null (view e.1)) ≡ true → judged_kinds_of (object_of (e ∷ es)) ≡ judged_kinds_of (object_of es)
   null_more null = same_all _ _ kinds (λ j. go j (bytes_eq (kind_name j) (string_bytes e.0)) refl)
     where
       go : (j : Kind) (b : Bool) → bytes_eq (kind_name j) (string_bytes e.0) ≡ b → judged_at (object_of (e ∷ es)) j ≡ judged_at (object_of es) j
@@ -173,14 +173,14 @@ module _ (e : Entry) (es : List Entry) (below : AllByRecursion (λ y. string_cmp
           at_key j is ∙ ap (λ b. option_map (λ v. (j, v)) (cond b None (Some (view e.1)))) null ∙ sym (gone j is)
       go j false t = later j (λ is. true≢false (sym ((bytes_eq-Decides (kind_name j) (string_bytes e.0)).1 is) ∙ t))
 
-  other_more : kind_named (string_bytes e.0) ≡ None → judged (object_of (e ∷ es)) ≡ judged (object_of es)
+  other_more : kind_named (string_bytes e.0) ≡ None → judged_kinds_of (object_of (e ∷ es)) ≡ judged_kinds_of (object_of es)
   other_more none = same_all _ _ kinds (λ j. later j (λ is. unnamed j (sym (named j) ∙ ap kind_named is ∙ none)))
     where
       unnamed : (j : Kind) → Some j ≡ None → ⊥
       unnamed j e = cc
 
   judged_more : (k : Kind) (ws : List (Kind × Data)) → is_some (as_null (view e.1)) ≡ false → kind_named (string_bytes e.0) ≡ Some k
-      → the_one ws ≡ the_one (judged (object_of es)) → the_one ((k, view e.1) ∷ ws) ≡ the_one (judged (object_of (e ∷ es)))
+      → the_one ws ≡ the_one (judged_kinds_of (object_of es)) → the_one ((k, view e.1) ∷ ws) ≡ the_one (judged_kinds_of (object_of (e ∷ es)))
   judged_more k ws kept is so_far =
       let name = name_of (string_bytes e.0) k is in
       let differ = λ (j : Kind) (t : bytes_eq (kind_name k) (kind_name j) ≡ false). later j (λ same. true≢false (sym ((bytes_eq-Decides (kind_name k) (kind_name j)).1 (sym name ∙ sym same)) ∙ t)) in
@@ -194,7 +194,7 @@ module _ (e : Entry) (es : List Entry) (below : AllByRecursion (λ y. string_cmp
       one_more (k, view e.1) ws s.0 s.1 (so_far ∙ ap the_one s.3) ∙ sym (ap the_one s.2)
 
   walked_more : (b : Bool) → is_some (as_null (view e.1)) ≡ b → (n : Option Kind) → kind_named (string_bytes e.0) ≡ n
-      → the_one (judged_members es) ≡ the_one (judged (object_of es)) → the_one (judged_members (e ∷ es)) ≡ the_one (judged (object_of (e ∷ es)))
+      → the_one (judged_members es) ≡ the_one (judged_kinds_of (object_of es)) → the_one (judged_members (e ∷ es)) ≡ the_one (judged_kinds_of (object_of (e ∷ es)))
   walked_more true null n is so_far =
       ap (λ b. the_one (cons_option (option_map (λ k. (k, view e.1)) (option_and_then (λ v. kind_named (string_bytes e.0)) (cond b None (Some (view e.1))))) (judged_members es))) null
       ∙ so_far ∙ sym (ap the_one (null_more null))
@@ -208,39 +208,39 @@ module _ (e : Entry) (es : List Entry) (below : AllByRecursion (λ y. string_cmp
       ∙ judged_more k (judged_members es) kept is so_far
 
 -- the members' walk finds what looking for each kind finds
-pub walked : (es : List Entry) → IsStrictlySortedBy string_cmp (keys_of es) → the_one (judged_members es) ≡ the_one (judged (object_of es))
+pub walked : (es : List Entry) → IsStrictlySortedBy string_cmp (keys_of es) → the_one (judged_members es) ≡ the_one (judged_kinds_of (object_of es))
 unfolding IsStrictlySortedBy
 walked [] h = refl
 walked (e ∷ es) h = walked_more e es h.0 (is_some (as_null (view e.1))) refl (kind_named (string_bytes e.0)) refl (walked es h.1)
 
 -- ---- member by member
 
-module _ (found : Option (Kind × Bor Value)) (es : List Entry) (total : Result (Option (Kind × Data)) LineFault) (so_far : the_one (cons_option (option_map seen found) (judged_members es)) ≡ total) where
+module _ (found : Option (Kind × Bor Value)) (es : List Entry) (total : Result (Option (Kind × Data)) LineFault) (so_far : the_one (cons_option (option_map kind_and_data found) (judged_members es)) ≡ total) where
   -- a member that is of no judged kind
-  pub passed : (e : Entry) (rest : List Entry) → es ≡ e ∷ rest → judged_member e ≡ None → the_one (cons_option (option_map seen found) (judged_members rest)) ≡ total
-  passed e rest is none = sym (ap (λ l. the_one (cons_option (option_map seen found) (judged_members l))) is ∙ ap (λ o. the_one (cons_option (option_map seen found) (cons_option o (judged_members rest)))) none) ∙ so_far
+  pub passed : (e : Entry) (rest : List Entry) → es ≡ e ∷ rest → judged_member e ≡ None → the_one (cons_option (option_map kind_and_data found) (judged_members rest)) ≡ total
+  passed e rest is none = sym (ap (λ l. the_one (cons_option (option_map kind_and_data found) (judged_members l))) is ∙ ap (λ o. the_one (cons_option (option_map kind_and_data found) (cons_option o (judged_members rest)))) none) ∙ so_far
 
   -- a member of a judged kind
-  taken : (e : Entry) (rest : List Entry) (j : Kind × Data) → es ≡ e ∷ rest → judged_member e ≡ Some j → the_one (cons_option (option_map seen found) (j ∷ judged_members rest)) ≡ total
-  taken e rest j is some = sym (ap (λ l. the_one (cons_option (option_map seen found) (judged_members l))) is ∙ ap (λ o. the_one (cons_option (option_map seen found) (cons_option o (judged_members rest)))) some) ∙ so_far
+  taken : (e : Entry) (rest : List Entry) (j : Kind × Data) → es ≡ e ∷ rest → judged_member e ≡ Some j → the_one (cons_option (option_map kind_and_data found) (j ∷ judged_members rest)) ≡ total
+  taken e rest j is some = sym (ap (λ l. the_one (cons_option (option_map kind_and_data found) (judged_members l))) is ∙ ap (λ o. the_one (cons_option (option_map kind_and_data found) (cons_option o (judged_members rest)))) some) ∙ so_far
 
   pub first_taken : (e : Entry) (rest : List Entry) (j : Kind × Data) → is_some found ≡ false → es ≡ e ∷ rest → judged_member e ≡ Some j → the_one (j ∷ judged_members rest) ≡ total
   first_taken e rest j first is some = go found first (taken e rest j is some)
     where
-      go : (o : Option (Kind × Bor Value)) → is_some o ≡ false → the_one (cons_option (option_map seen o) (j ∷ judged_members rest)) ≡ total → the_one (j ∷ judged_members rest) ≡ total
+      go : (o : Option (Kind × Bor Value)) → is_some o ≡ false → the_one (cons_option (option_map kind_and_data o) (j ∷ judged_members rest)) ≡ total → the_one (j ∷ judged_members rest) ≡ total
       go None first t = t
       go (Some x) first t = absurd (true≢false first)
 
   pub second_taken : (e : Entry) (rest : List Entry) (j : Kind × Data) → is_some found ≡ true → es ≡ e ∷ rest → judged_member e ≡ Some j → total ≡ Err shape
   second_taken e rest j second is some = go found second (taken e rest j is some)
     where
-      go : (o : Option (Kind × Bor Value)) → is_some o ≡ true → the_one (cons_option (option_map seen o) (j ∷ judged_members rest)) ≡ total → total ≡ Err shape
+      go : (o : Option (Kind × Bor Value)) → is_some o ≡ true → the_one (cons_option (option_map kind_and_data o) (j ∷ judged_members rest)) ≡ total → total ≡ Err shape
       go None second t = absurd (true≢false (sym second))
       go (Some x) second t = sym t
 
-  pub none_left : es ≡ [] → total ≡ Ok (option_map seen found)
-  none_left is = go found (ap (λ l. the_one (cons_option (option_map seen found) (judged_members l))) (sym is) ∙ so_far)
+  pub none_left : es ≡ [] → total ≡ Ok (option_map kind_and_data found)
+  none_left is = go found (ap (λ l. the_one (cons_option (option_map kind_and_data found) (judged_members l))) (sym is) ∙ so_far)
     where
-      go : (o : Option (Kind × Bor Value)) → the_one (cons_option (option_map seen o) []) ≡ total → total ≡ Ok (option_map seen o)
+      go : (o : Option (Kind × Bor Value)) → the_one (cons_option (option_map kind_and_data o) []) ≡ total → total ≡ Ok (option_map kind_and_data o)
       go None t = sym t
       go (Some x) t = sym t

@@ -30,7 +30,7 @@ use Rattle.cm_envelope.specs.declared.read_documents.TaggedHeading.{TaggedHeadin
 use Rattle.cm_envelope.specs.declared.read_documents.Body.{Body}
 use Rattle.cm_envelope.specs.declared.read_documents.FeatureHeading.{FeatureHeading}
 use Rattle.cm_envelope.specs.declared.read_documents.FeatureBody.{FeatureBody}
-use Rattle.cm_envelope.specs.Member.{◌>>=◌, FailsAtMember, all_items, good, required, nested, optional_nested, list_of, items_in, present, rule, has_both, media_type, as_whole_number}
+use Rattle.cm_envelope.specs.Member.{◌>>=◌, FailsAtMember, all_items, good, required, nested, optional_nested, list_of, items_in, present_member, rule, has_both, media_type, as_whole_number}
 
 abbrev pub Ids : Type 0
 Ids = List (List ℕ)
@@ -58,7 +58,7 @@ optional_node_in read name ids (Some d) = do
 
 abbrev pub optional_node : {A : Type 0} → (Ids → Data → NodeRead A) → List ℕ → Ids → Data
     → NodeRead (Option A)
-optional_node read name ids d = optional_node_in read name ids (present name d)
+optional_node read name ids d = optional_node_in read name ids (present_member name d)
 
 abbrev pub each_node : {A : Type 0} → (Ids → Data → NodeRead A) → Ids → Items → NodeRead (List A)
 each_node read ids no_items = Ok ([], ids)
@@ -69,7 +69,7 @@ each_node read ids (item d ds) = do
 
 abbrev pub nodes_of : {A : Type 0} → (Ids → Data → NodeRead A) → List ℕ → Ids → Data
     → NodeRead (List A)
-nodes_of read name ids d = items_in name (present name d) >>= each_node (node_in name read) ids
+nodes_of read name ids d = items_in name (present_member name d) >>= each_node (node_in name read) ids
 
 -- ---- the children of a feature and of a rule
 
@@ -80,12 +80,12 @@ before_items (Some d) ds = item d ds
 -- the children of one kind, in order: the items that have the member
 abbrev pub children_of : List ℕ → Items → Items
 children_of name no_items = no_items
-children_of name (item d ds) = before_items (present name d) (children_of name ds)
+children_of name (item d ds) = before_items (present_member name d) (children_of name ds)
 
 -- the background, which is the first child where there is one
 abbrev pub background_in : Items → Option Data
 background_in no_items = None
-background_in (item d ds) = present (codes "background") d
+background_in (item d ds) = present_member (codes "background") d
 
 -- a child's place in the order of children, where it has exactly one of the three members
 abbrev pub rank_if : Bool → Bool → Bool → Option ℕ
@@ -97,8 +97,8 @@ rank_if a b c = None
 -- In a rule's child, `rule` is an unknown member.
 abbrev pub rank_of : Bool → Data → Option ℕ
 rank_of in_feature d =
-    rank_if (is_some (present (codes "background") d)) (is_some (present (codes "scenario") d))
-    (in_feature && is_some (present (codes "rule") d))
+    rank_if (is_some (present_member (codes "background") d)) (is_some (present_member (codes "scenario") d))
+    (in_feature && is_some (present_member (codes "rule") d))
 
 -- at most one background, then scenarios, then rules: no child's rank is below least, nor the later ones' below its own or 1
 abbrev pub are_in_order : Bool → ℕ → Items → Bool
@@ -110,7 +110,7 @@ are_in_order in_feature least (item d ds) =
 -- the children, once each has its kind and they are in order
 abbrev pub children_in : Bool → Data → Result Items (List ℕ)
 children_in in_feature d = do
-  children ← items_in (codes "children") (present (codes "children") d)
+  children ← items_in (codes "children") (present_member (codes "children") d)
   checked ← rule (codes "children") (are_in_order in_feature 0 children)
   Ok children
 
@@ -149,21 +149,21 @@ mark d = do
   Ok (record { id = id; location = place })
 
 -- the number of the node that has this id
-abbrev pub numbered : List ℕ → Ids → NodeRead ℕ
-numbered id ids = Ok (length ids, ids ++ id ∷ [])
+abbrev pub node_number : List ℕ → Ids → NodeRead ℕ
+node_number id ids = Ok (length ids, ids ++ id ∷ [])
 
 abbrev pub tag : Ids → Data → NodeRead Tag
 tag ids d = do
   own ← mark d
   name ← required as_str (codes "name") d
-  node ← numbered own.id ids
+  node ← node_number own.id ids
   Ok (record { node = node.0; location = own.location; name = name }, node.1)
 
 abbrev pub row : Ids → Data → NodeRead Row
 row ids d = do
   own ← mark d
   cells ← list_of cell (codes "cells") d
-  node ← numbered own.id ids
+  node ← node_number own.id ids
   Ok (record { node = node.0; location = own.location; cells = cells }, node.1)
 
 -- without rows it is a table all the same
@@ -197,7 +197,7 @@ abbrev pub heading : List ℕ → Ids → Data → NodeRead Heading
 heading name ids d = do
   own ← mark d
   words ← title name d
-  node ← numbered own.id ids
+  node ← node_number own.id ids
   Ok (record { node = node.0; location = own.location; title = words }, node.1)
 
 abbrev pub step : Ids → Data → NodeRead Step
@@ -246,7 +246,7 @@ is_object d = is_some (as_object d)
 -- Each element of the body is an object, and a body that isn't empty needs a header.
 abbrev pub body_rows : Bool → Data → Result Items (List ℕ)
 body_rows has_header d = do
-  rows ← items_in (codes "tableBody") (present (codes "tableBody") d)
+  rows ← items_in (codes "tableBody") (present_member (codes "tableBody") d)
   objects ← rule (codes "tableBody") (all_items is_object rows)
   checked ← rule (codes "tableBody") (has_header || is_empty rows)
   Ok rows
@@ -264,7 +264,7 @@ tagged_heading ids d = do
   own ← mark d
   tags ← nodes_of tag (codes "tags") ids d
   words ← title (codes "name") d
-  node ← numbered own.id tags.1
+  node ← node_number own.id tags.1
   Ok (
     record { node = node.0; location = own.location; tags = tags.0; title = words },
     node.1,

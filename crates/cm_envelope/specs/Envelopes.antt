@@ -22,7 +22,7 @@ use Rattle.cm_envelope.specs.declared.envelope.TestRunHookStarted.{TestRunHookSt
 use Rattle.cm_envelope.specs.declared.envelope.TestRunHookFinished.{TestRunHookFinished}
 use Rattle.cm_envelope.specs.declared.envelope.Status.{Status}
 use Rattle.cm_envelope.specs.declared.envelope.Status.TheVariants.{Unknown, Passed, Skipped, Pending, Undefined, Ambiguous, Failed}
-use Rattle.cm_envelope.specs.Member.{◌>>=◌, present, required, optional, optional_or, nested, list_of, list_of_values, rule, each_item, has_one_of, as_whole_number}
+use Rattle.cm_envelope.specs.Member.{◌>>=◌, present_member, required, optional, optional_or, nested, list_of, list_of_values, rule, each_item, has_one_of, as_whole_number}
 
 abbrev pub status_of : List ℕ → Option Status
 status_of word = if bytes_eq word (codes "UNKNOWN") then Some Unknown
@@ -77,7 +77,7 @@ test_run_finished d = do
   Ok (record {
     test_run_started_id = run;
     success = success;
-    has_exception = is_some (present (codes "exception") d);
+    has_exception = is_some (present_member (codes "exception") d);
   })
 
 abbrev pub attachment : Data → Result Attachment (List ℕ)

@@ -60,8 +60,8 @@ has_line_feed [] = false
 has_line_feed (b ∷ bs) = (b == line_feed) || has_line_feed bs
 
 -- a line's bytes with its LF
-abbrev pub written : Line → List ℕ
-written l = l.bytes ++ (if l.has_end then line_feed ∷ [] else [])
+abbrev pub bytes_with_end : Line → List ℕ
+bytes_with_end l = l.bytes ++ (if l.has_end then line_feed ∷ [] else [])
 
 -- a call finds its answer without a read: it was answered for good, the end was read, or a whole line is held
 abbrev pub NeedsNoRead : Stored → Type 0
@@ -77,8 +77,8 @@ abbrev pub not_given : Stored → List ℕ → List ℕ
 not_given s to_come = if s.is_ended then s.held else s.held ++ to_come
 
 -- what is left to answer
-abbrev pub left : Stored → List ℕ → Fed
-left s to_come = feed_lines s.line_limit s.stream_limit s.given (lines_of (not_given s to_come))
+abbrev pub feed_left : Stored → List ℕ → Fed
+feed_left s to_come = feed_lines s.line_limit s.stream_limit s.given (lines_of (not_given s to_come))
 
 -- the first of some lines, or where there is none their trouble or the end
 abbrev pub first_answer : List (List ℕ) → Option Trouble → NextLine
@@ -124,18 +124,18 @@ pub record GivesLine (old new : Stored) (line : List ℕ) : Type 0 where
 
 -- the line is the first of what was left, and the others are left
 pub record IsNextLine (old new : Stored) (before after line : List ℕ) : Type 0 where
-  pub first : left old before ≡ line_then line (left new after)
-  pub bytes : not_given old before ≡ written (given_line new line) ++ not_given new after
+  pub first : feed_left old before ≡ line_then line (feed_left new after)
+  pub bytes : not_given old before ≡ bytes_with_end (given_line new line) ++ not_given new after
 
 -- what a feed that wasn't over answers, with these bytes to come before and after
 abbrev pub GivesNext : (old new : Stored) (before after : List ℕ) → NextLine → Type 0
 GivesNext old new before after (Ok (Some line)) = IsNextLine old new before after line
-GivesNext old new before after (Ok None) = left old before ≡ nothing
+GivesNext old new before after (Ok None) = feed_left old before ≡ nothing
 GivesNext old new before after (Err ReadFailed) =
     (not_given old before ≡ new.held ++ after) × (new.given ≡ old.given)
     × ShowNothing old.line_limit old.stream_limit old.given new.held
-GivesNext old new before after (Err LineTooLong) = left old before ≡ trouble_alone LineTooLong
-GivesNext old new before after (Err StreamTooLong) = left old before ≡ trouble_alone StreamTooLong
+GivesNext old new before after (Err LineTooLong) = feed_left old before ≡ trouble_alone LineTooLong
+GivesNext old new before after (Err StreamTooLong) = feed_left old before ≡ trouble_alone StreamTooLong
 GivesNext old new before after (Err Memory) = ⊤
 
 -- any bytes may come after a call, but none where the call read the end

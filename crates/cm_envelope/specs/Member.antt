@@ -29,8 +29,8 @@ GivesMemberOf view (Err e) reading = FailsAtMember e reading
 abbrev pub unless_null : Data → Option Data
 unless_null d = if is_some (as_null d) then None else Some d
 
-abbrev pub present : List ℕ → Data → Option Data
-present name d = option_and_then unless_null (get name d)
+abbrev pub present_member : List ℕ → Data → Option Data
+present_member name d = option_and_then unless_null (get name d)
 
 abbrev pub as_whole_number : Data → Option ℕ
 as_whole_number d = option_and_then as_u64 (as_number d)
@@ -43,7 +43,7 @@ good name (Some x) = Ok x
 -- ---- members of one value
 
 abbrev pub required : {A : Type 0} → (Data → Option A) → List ℕ → Data → Result A (List ℕ)
-required type name d = good name (option_and_then type (present name d))
+required type name d = good name (option_and_then type (present_member name d))
 
 abbrev pub optional_in : {A : Type 0} → (Data → Option A) → List ℕ → Option Data
     → Result (Option A) (List ℕ)
@@ -51,7 +51,7 @@ optional_in type name None = Ok None
 optional_in type name (Some d) = good name (option_map Some (type d))
 
 abbrev pub optional : {A : Type 0} → (Data → Option A) → List ℕ → Data → Result (Option A) (List ℕ)
-optional type name d = optional_in type name (present name d)
+optional type name d = optional_in type name (present_member name d)
 
 -- with a value for an absent member
 abbrev pub optional_or : {A : Type 0} → A → (Data → Option A) → List ℕ → Data → Result A (List ℕ)
@@ -72,7 +72,7 @@ abbrev pub object_in : {A : Type 0} → List ℕ → (Data → Result A (List �
 object_in name read d = good name (as_object d) >>= λ members. read d
 
 abbrev pub nested : {A : Type 0} → (Data → Result A (List ℕ)) → List ℕ → Data → Result A (List ℕ)
-nested read name d = good name (present name d) >>= object_in name read
+nested read name d = good name (present_member name d) >>= object_in name read
 
 abbrev pub optional_nested_in : {A : Type 0} → (Data → Result A (List ℕ)) → List ℕ → Option Data
     → Result (Option A) (List ℕ)
@@ -81,7 +81,7 @@ optional_nested_in read name (Some d) = object_in name read d >>= λ x. Ok (Some
 
 abbrev pub optional_nested : {A : Type 0} → (Data → Result A (List ℕ)) → List ℕ → Data
     → Result (Option A) (List ℕ)
-optional_nested read name d = optional_nested_in read name (present name d)
+optional_nested read name d = optional_nested_in read name (present_member name d)
 
 -- the items, one after the other
 abbrev pub each : {A : Type 0} → (Data → Result A (List ℕ)) → Items → Result (List A) (List ℕ)
@@ -98,11 +98,11 @@ items_in name (Some d) = good name (as_array d)
 
 abbrev pub list_of : {A : Type 0} → (Data → Result A (List ℕ)) → List ℕ → Data
     → Result (List A) (List ℕ)
-list_of read name d = items_in name (present name d) >>= each (object_in name read)
+list_of read name d = items_in name (present_member name d) >>= each (object_in name read)
 
 abbrev pub list_of_values : {A : Type 0} → (Data → Option A) → List ℕ → Data
     → Result (List A) (List ℕ)
-list_of_values type name d = items_in name (present name d) >>= each (λ e. good name (type e))
+list_of_values type name d = items_in name (present_member name d) >>= each (λ e. good name (type e))
 
 -- ---- rules, checked when their member is reached
 
@@ -111,10 +111,10 @@ rule name holds = if holds then Ok tt else Err name
 
 abbrev pub has_one_of : List ℕ → List ℕ → Data → Bool
 has_one_of a b d =
-    if is_some (present a d) then not (is_some (present b d)) else is_some (present b d)
+    if is_some (present_member a d) then not (is_some (present_member b d)) else is_some (present_member b d)
 
 abbrev pub has_both : List ℕ → List ℕ → Data → Bool
-has_both a b d = is_some (present a d) && is_some (present b d)
+has_both a b d = is_some (present_member a d) && is_some (present_member b d)
 
 abbrev pub all_items : (Data → Bool) → Items → Bool
 all_items test no_items = true
@@ -123,4 +123,4 @@ all_items test (item d ds) = test d && all_items test ds
 -- where the member is a list, each item passes the test
 abbrev pub each_item : (Data → Bool) → List ℕ → Data → Bool
 each_item test name d =
-    unwrap_or (option_map (all_items test) (option_and_then as_array (present name d))) true
+    unwrap_or (option_map (all_items test) (option_and_then as_array (present_member name d))) true

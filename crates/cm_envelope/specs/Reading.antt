@@ -16,7 +16,7 @@ use Rattle.cm_envelope.specs.declared.fault.LineFault as line_fault
 use Rattle.cm_envelope.specs.declared.fault.LineFault.TheVariants as line_faults
 use Rattle.cm_envelope.specs.declared.fault.EnvelopeFault.{EnvelopeFault}
 use Rattle.cm_envelope.specs.declared.fault.EnvelopeFault.TheVariants as faults
-use Rattle.cm_envelope.specs.Member.{◌>>=◌, present}
+use Rattle.cm_envelope.specs.Member.{◌>>=◌, present_member}
 use Rattle.cm_envelope.specs.Documents.{gherkin_document}
 use Rattle.cm_envelope.specs.Pickles.{pickle}
 use Rattle.cm_envelope.specs.Envelopes.{source, parse_error, step_definition, hook, test_case, test_run_started, test_case_started, test_step_started, test_step_finished, test_case_finished, test_run_finished, attachment, test_run_hook_started, test_run_hook_finished}
@@ -81,11 +81,11 @@ members TestRunHookStarted d = result_map envelope.TestRunHookStarted (test_run_
 members TestRunHookFinished d = result_map envelope.TestRunHookFinished (test_run_hook_finished d)
 
 -- the judged kinds that the object has, each with its value
-abbrev pub judged_in : List Kind → Data → List (Kind × Data)
-judged_in ks d = filter_map (λ k. option_map (λ v. (k, v)) (present (kind_name k) d)) ks
+abbrev pub kinds_of : List Kind → Data → List (Kind × Data)
+kinds_of ks d = filter_map (λ k. option_map (λ v. (k, v)) (present_member (kind_name k) d)) ks
 
-abbrev pub judged : Data → List (Kind × Data)
-judged d = judged_in kinds d
+abbrev pub judged_kinds_of : Data → List (Kind × Data)
+judged_kinds_of d = kinds_of kinds d
 
 abbrev pub in_kind : {A : Type 0} → Kind → Result A (List ℕ) → Result A LineFault
 in_kind k (Ok x) = Ok x
@@ -105,7 +105,7 @@ envelope_in_one None = Ok envelope.Other
 envelope_in_one (Some j) = envelope_in j.0 j.1
 
 abbrev pub envelope_of : Data → Result Envelope LineFault
-envelope_of d = if is_some (as_object d) then the_one (judged d) >>= envelope_in_one else Err shape
+envelope_of d = if is_some (as_object d) then the_one (judged_kinds_of d) >>= envelope_in_one else Err shape
 
 -- the JSON value that the line is
 abbrev pub value_of_line : List ℕ → Option Data
@@ -141,5 +141,5 @@ abbrev pub GivesEnvelope : {A : Type 0} → Result A EnvelopeFault → Result A 
 GivesEnvelope result reading = GivesLineValue (λ x. x) result reading
 
 -- a judged kind and its value, as the code holds them
-abbrev pub seen : Kind × Bor Value → Kind × Data
-seen j = (j.0, view j.1.now)
+abbrev pub kind_and_data : Kind × Bor Value → Kind × Data
+kind_and_data j = (j.0, view j.1.now)

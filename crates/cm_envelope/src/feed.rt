@@ -3,7 +3,7 @@ ghost use Rattle.std.specs.Prelude.{◌≡◌, ◌≤◌, ◌<◌, ◌-◌, ◌+
 ghost use Rattle.std.specs.Borrow.{sem};
 ghost use Rattle.std.specs.Io.BufRead.{Rests};
 ghost use Rattle.cm_envelope.specs.Device.{CountsFailure, Hears, OfInput};
-ghost use Rattle.cm_envelope.specs.Feeds.{has_line_feed, new_feed, answer_of, last_answer, left, is_failed_read, NeedsNoRead, AnswersFirst, OnLine, IsLineWithin, EndsWithSource, Leaves};
+ghost use Rattle.cm_envelope.specs.Feeds.{has_line_feed, new_feed, answer_of, last_answer, feed_left, is_failed_read, NeedsNoRead, AnswersFirst, OnLine, IsLineWithin, EndsWithSource, Leaves};
 ghost use Rattle.cm_envelope.specs.Held.{items, FindsEnd, Judges, Finds};
 ghost use Rattle.cm_envelope.specs.Lines.{max_line_bytes, max_stream_bytes};
 ghost use Rattle.cm_envelope.specs.contracts.feed.Feed.{the_row};
@@ -126,7 +126,7 @@ impl Feed {
         // A feed that is over answers the same again, and any other the first of what is left.
         ensures repeats { IfSome self.old.over (λ over. answer_of result ≡ last_answer over) }
         ensures first { IfNone self.old.over (OfInput (S.input source.old) (S.input source.new)
-            (λ bytes. AnswersFirst (left self.old bytes) (answer_of result))) }
+            (λ bytes. AnswersFirst (feed_left self.old bytes) (answer_of result))) }
         ensures line { OnLine (answer_of result) (IsLineWithin self.old.line_limit) }
 
         // It reads only where it must, and each failed read is counted and reported.

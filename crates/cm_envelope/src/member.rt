@@ -2,7 +2,7 @@
 ghost use Rattle.std.specs.Prelude.{◌≡◌, option_map, option_and_then};
 ghost use Rattle.serde_json.specs.Find.{as_str, as_bool};
 ghost use Rattle.serde_json.specs.View.{view};
-ghost use Rattle.cm_envelope.specs.Member.{GivesMember, present as present_member, required, optional, optional_or, as_whole_number, has_both as has_both_members, media_type as media_type_member};
+ghost use Rattle.cm_envelope.specs.Member.{GivesMember, present_member, required, optional, optional_or, as_whole_number, has_both as has_both_members, media_type as media_type_member};
 ghost use Rattle.gk_document.specs.MediaType.{unless_empty};
 
 use crate::fault::MemberFault;

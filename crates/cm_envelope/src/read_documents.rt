@@ -3,7 +3,7 @@ ghost use Rattle.std.specs.Prelude.{◌≡◌, [], codes};
 ghost use Rattle.serde_json.specs.Data.{Data};
 ghost use Rattle.serde_json.specs.View.{view, items_view};
 ghost use Rattle.cm_envelope.specs.Member.{GivesMember, GivesMemberOf, all_items, required};
-ghost use Rattle.cm_envelope.specs.Documents.{GivesNode, NodeRead, Ids, node_in, optional_node_in, optional_node as optional_node_of, each_node, nodes_of as nodes_of_member, children_of, background_in, rank_of as rank_of_child, are_in_order as children_are_in_order, children_in as children_in_member, as_line, location, cell, doc_string, mark, title, numbered, tag, row, data_table, argument_of, argument, heading, step, background, is_empty, is_object, table_of, body_rows, example_table as example_table_of, tagged_heading, examples, scenario, body, rule_node, feature_heading, feature_body, feature, gherkin_document};
+ghost use Rattle.cm_envelope.specs.Documents.{GivesNode, NodeRead, Ids, node_in, optional_node_in, optional_node as optional_node_of, each_node, nodes_of as nodes_of_member, children_of, background_in, rank_of as rank_of_child, are_in_order as children_are_in_order, children_in as children_in_member, as_line, location, cell, doc_string, mark, title, node_number, tag, row, data_table, argument_of, argument, heading, step, background, is_empty, is_object, table_of, body_rows, example_table as example_table_of, tagged_heading, examples, scenario, body, rule_node, feature_heading, feature_body, feature, gherkin_document};
 
 use crate::envelope::GherkinDocument;
 use crate::fault::MemberFault;
@@ -224,7 +224,7 @@ fn read_mark(alloc: Global, object: &Value) -> Result<Mark, MemberFault>
 
 /// The number of the node that has this id; the id is kept.
 fn numbered(id: Text, ids: &mut Sequence<Text>) -> Result<u64, MemberFault>
-    ensures { GivesNode result ids.new (numbered id ids.old) }
+    ensures { GivesNode result ids.new (node_number id ids.old) }
 {
     let node = ids.len() as u64;
     ids.push(id)?;

@@ -3,7 +3,7 @@ ghost use Rattle.std.specs.Prelude.{◌≡◌, option_map, option_and_then};
 ghost use Rattle.serde_json.specs.Data.{object as json_object};
 ghost use Rattle.serde_json.specs.View.{view, members_view};
 ghost use Rattle.cm_envelope.specs.Member.{GivesMember, unless_null};
-ghost use Rattle.cm_envelope.specs.Reading.{members as members_of_kind, kind_named, judged, the_one, seen, envelope_in, envelope_of as envelope_of_value, json_of_line as json_of, envelope_of_line, GivesEnvelope, GivesLineValue};
+ghost use Rattle.cm_envelope.specs.Reading.{members as members_of_kind, kind_named, judged_kinds_of, the_one, kind_and_data, envelope_in, envelope_of as envelope_of_value, json_of_line as json_of, envelope_of_line, GivesEnvelope, GivesLineValue};
 
 use crate::envelope::Envelope;
 use crate::fault::{EnvelopeFault, LineFault, MemberFault};
@@ -52,8 +52,8 @@ fn judged_kind(name: &str, value: &Value) -> Option<Kind>
 
 /// The one judged kind that the object has, with its value.
 fn judged_of(members: &Map<String, Value>) -> Result<Option<(Kind, &Value)>, EnvelopeFault>
-    ensures { GivesLineValue (option_map seen) result
-        (the_one (judged (json_object (members_view members.now.entries)))) }
+    ensures { GivesLineValue (option_map kind_and_data) result
+        (the_one (judged_kinds_of (json_object (members_view members.now.entries)))) }
 {
     let mut found = None;
     for (name, value) in members.iter() {

@@ -117,10 +117,10 @@ abbrev pub change_first : {X : Type 0} → (X → Bool) → (X → X) → List X
 change_first p f [] = []
 change_first p f (x ∷ xs) = if p x then f x ∷ xs else (x ∷ change_first p f xs)
 
-abbrev pub finished : RunHookRow → RunHookRow
-finished r = record r { is_finished = true }
+abbrev pub finished_run_hook : RunHookRow → RunHookRow
+finished_run_hook r = record r { is_finished = true }
 
 -- the run hook is finished; nothing else changes
-abbrev pub with_finished : Utf8 → Declarations → Declarations
-with_finished id d =
-    record d { run_hooks = change_first (λ r. bytes_eq id r.id) finished d.run_hooks }
+abbrev pub with_finished_run_hook : Utf8 → Declarations → Declarations
+with_finished_run_hook id d =
+    record d { run_hooks = change_first (λ r. bytes_eq id r.id) finished_run_hook d.run_hooks }

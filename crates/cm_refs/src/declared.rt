@@ -2,7 +2,7 @@
 ghost use Rattle.std.specs.Prelude.{◌≡◌, ◌⊎◌, IfSome, IsErrAnd, IsOk, IsOkUnless, MatchOption, OnErr, OnOk, is_some, map, option_map};
 ghost use Rattle.std.specs.String.{string_bytes};
 ghost use Rattle.cm_refs.specs.Declarations.{find_pickle, find_run_hook, finish_fault, has_text, name_fault, no_declarations, pickle_fault, steps_of as steps_in};
-ghost use Rattle.cm_refs.specs.Declarations.{open_count, run_hook_fault, with_definition, with_document, with_finished};
+ghost use Rattle.cm_refs.specs.Declarations.{open_count, run_hook_fault, with_definition, with_document, with_finished_run_hook};
 ghost use Rattle.cm_refs.specs.Declarations.{with_hook, with_pickle, with_run_hook, with_source};
 
 use crate::fault::RefFault;
@@ -165,7 +165,7 @@ impl Declared {
     pub fn finish_run_hook(&mut self, id: &str) -> Result<(), RefFault>
         ensures answer { MatchOption (finish_fault self.old id.now)
             (IsOk result) (λ fault. result ≡ Err fault) }
-        ensures ok { OnOk result (self.new ≡ with_finished id.now self.old) }
+        ensures ok { OnOk result (self.new ≡ with_finished_run_hook id.now self.old) }
         ensures err { OnErr result (self.new ≡ self.old) }
     {
         let Some(is_finished) = finish_of(&self.run_hooks, id) else {

@@ -2,7 +2,7 @@
 ghost use Rattle.std.specs.Prelude.{◌≡◌, ◌++◌, ◌∷◌, [], None, OnErr, OnOk, count_by, find, not, option_map};
 ghost use Rattle.std.specs.Str.{bytes_eq};
 ghost use Rattle.indexmap.specs.IndexMap.{values};
-ghost use Rattle.cm_refs.specs.Declarations.{change_first, finished, new_run_hook};
+ghost use Rattle.cm_refs.specs.Declarations.{change_first, finished_run_hook, new_run_hook};
 ghost use Rattle.cm_refs.specs.Rows.{run_hook_row, run_hook_rows};
 
 use indexmap::IndexMap;
@@ -34,7 +34,8 @@ pub(crate) fn append(run_hooks: &mut RunHooks, alloc: Global, id: &str) -> Resul
 /// Marks a run hook as finished.
 pub(crate) fn set_finished(run_hooks: &mut RunHooks, id: &str)
     ensures { run_hook_rows run_hooks.new.entries
-        ≡ change_first (λ r. bytes_eq id.now r.id) finished (run_hook_rows run_hooks.old.entries) }
+        ≡ change_first (λ r. bytes_eq id.now r.id) finished_run_hook
+        (run_hook_rows run_hooks.old.entries) }
 {
     if let Some(at) = run_hooks.get_index_of(id) {
         let is_finished = &mut run_hooks[at];

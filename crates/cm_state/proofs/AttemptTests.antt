@@ -21,7 +21,7 @@ use Rattle.cm_stream.proofs.Passing.{AllPass}
 use Rattle.cm_stream.proofs.CallChecks.{step_asked, distinct_cases}
 use Rattle.cm_stream.proofs.TableSteps.{AreAccepted}
 use Rattle.cm_stream.proofs.TableWords.{step_told, good_cases}
-use Rattle.cm_state.specs.Summary.{seen}
+use Rattle.cm_state.specs.Summary.{summary_of_lines}
 use Rattle.cm_state.specs.StateChecks.{knows_place, is_well}
 use Rattle.cm_state.proofs.Tests.{attempt_declared, unknown}
 use Rattle.cm_state.proofs.SourceTests.{each_accepted}
@@ -49,12 +49,12 @@ known_hooks (_ ∷ es) h = known_hooks es h
 good_hooks : (policy : Policy) (es : List Envelope) → AllPass es → is_good_status policy (worst_of (hook_statuses es)) ≡ list_all (is_good_status policy) (hook_statuses es)
 good_hooks policy es pass = good_worst policy (hook_statuses es) (known_hooks es (all_known es pass))
 
-pub same_well : (policy : Policy) (first : ℕ) (es : List Envelope) → AllPass es → AreAccepted first es → is_well policy (seen first es) ≡ all_well policy es
+pub same_well : (policy : Policy) (first : ℕ) (es : List Envelope) → AllPass es → AreAccepted first es → is_well policy (summary_of_lines first es) ≡ all_well policy es
 same_well policy first es pass accepted = λ i. good_cases policy first es accepted i && good_hooks policy es pass i && each_accepted es i
 
 -- ---- attachments
 
-pub place_known : (first : ℕ) (es : List Envelope) → AreAccepted first es → (a step : Option Utf8) → list_any (unknown es) (attachment_names es a step) ≡ not (knows_place (seen first es) a step)
+pub place_known : (first : ℕ) (es : List Envelope) → AreAccepted first es → (a step : Option Utf8) → list_any (unknown es) (attachment_names es a step) ≡ not (knows_place (summary_of_lines first es) a step)
 place_known first es accepted None step = refl
 place_known first es accepted (Some a) None = or_no (unknown es (Attempt a)) ∙ (attempt_declared a first es accepted).unknown
 place_known first es accepted (Some a) (Some step) =

@@ -15,7 +15,7 @@ use Rattle.cm_envelope.specs.declared.envelope.Envelope.TheVariants as envelope
 use Rattle.cm_stream.proofs.Passing.{AllPass, plain_passes}
 use Rattle.cm_stream.proofs.TableSteps.{AreAccepted, none_is_refused, own_refused}
 use Rattle.cm_stream.proofs.TableWords.{none_open}
-use Rattle.cm_state.specs.Summary.{declared_in, seen}
+use Rattle.cm_state.specs.Summary.{declarations_in, summary_of_lines}
 use Rattle.cm_state.specs.Laws.{FindingsAreFaults}
 use Rattle.cm_state.specs.StateChecks.{checks_before, checks_after, success_by, plain_finding, or_else, finding_inside}
 use Rattle.cm_state.proofs.Tests.{IsDeclaredIf, source_declared, document_declared, definition_declared, hook_declared, run_hook_declared, started_is, run_known}
@@ -78,24 +78,24 @@ again_one name es b k = sym k.again ∙ sym (or_no (nat_lt 0 (times_declared nam
 
 -- ---- each line
 
-agree : (first : ℕ) (es : List Envelope) → AllPass es → AreAccepted first es → (e : Envelope) → AreSame (checks_before (seen first es) e) (checks_first first es e)
+agree : (first : ℕ) (es : List Envelope) → AllPass es → AreAccepted first es → (e : Envelope) → AreSame (checks_before (summary_of_lines first es) e) (checks_first first es e)
 agree first es pass accepted (envelope.Source x) =
-    (refl, again_one (SourceOf x.uri) es (has_text x.uri (declared_in es).sources) (source_declared x.uri es), λ _. (refl, refl, λ _. (refl, refl, λ _. (refl, refl, λ _. tt))))
+    (refl, again_one (SourceOf x.uri) es (has_text x.uri (declarations_in es).sources) (source_declared x.uri es), λ _. (refl, refl, λ _. (refl, refl, λ _. (refl, refl, λ _. tt))))
 agree first es pass accepted (envelope.GherkinDocument d) =
-    let source = unknown_one (SourceOf d.uri) es (has_text d.uri (declared_in es).sources) (source_declared d.uri es) in
-    let document = again_one (DocumentOf d.uri) es (has_text d.uri (declared_in es).documents) (document_declared d.uri es) in
+    let source = unknown_one (SourceOf d.uri) es (has_text d.uri (declarations_in es).sources) (source_declared d.uri es) in
+    let document = again_one (DocumentOf d.uri) es (has_text d.uri (declarations_in es).documents) (document_declared d.uri es) in
     let accepted = ap not (same_accepted first es d.uri) in
     (refl, source, λ _. (refl, document, λ new. (refl, accepted, λ _. (refl, ap not (same_awaited first es d new), λ _. (refl, refl, λ _. tt)))))
 agree first es pass accepted (envelope.ParseError p) =
-    let source = unknown_one (SourceOf p.source.uri) es (has_text p.source.uri (declared_in es).sources) (source_declared p.source.uri es) in
+    let source = unknown_one (SourceOf p.source.uri) es (has_text p.source.uri (declarations_in es).sources) (source_declared p.source.uri es) in
     (refl, source, λ _. (refl, same_accepted first es p.source.uri, λ _. tt))
 agree first es pass accepted (envelope.Pickle p) =
     let source = (source_declared p.uri es).unknown in
-    let document = unknown_one (DocumentOf p.uri) es (has_text p.uri (declared_in es).documents) (document_declared p.uri es) in
-    let both = both_known (has_text p.uri (declared_in es).sources) (has_text p.uri (declared_in es).documents) in
+    let document = unknown_one (DocumentOf p.uri) es (has_text p.uri (declarations_in es).documents) (document_declared p.uri es) in
+    let both = both_known (has_text p.uri (declarations_in es).sources) (has_text p.uri (declarations_in es).documents) in
     (refl, sym both ∙ (λ i. sym source i || document i), λ _. (refl, ap not (same_next first es p), λ _. (refl, pickle_again es p, λ _. tt)))
-agree first es pass accepted (envelope.StepDefinition d) = (refl, again_one (Definition d.id) es (has_text d.id (declared_in es).definitions) (definition_declared d.id es), λ _. tt)
-agree first es pass accepted (envelope.Hook h) = (refl, again_one (HookNamed h.id) es (has_text h.id (declared_in es).hooks) (hook_declared h.id es), λ _. tt)
+agree first es pass accepted (envelope.StepDefinition d) = (refl, again_one (Definition d.id) es (has_text d.id (declarations_in es).definitions) (definition_declared d.id es), λ _. tt)
+agree first es pass accepted (envelope.Hook h) = (refl, again_one (HookNamed h.id) es (has_text h.id (declarations_in es).hooks) (hook_declared h.id es), λ _. tt)
 agree first es pass accepted (envelope.TestCase c) = (refl, sym (case_known first es pass c), λ _. (refl, ap not (steps_are first es c), λ _. tt))
 agree first es pass accepted (envelope.TestRunStarted r) = (refl, started_is es, λ _. tt)
 agree first es pass accepted (envelope.TestCaseStarted x) = (refl, ap not (started_is es), λ _. tt)
@@ -104,30 +104,30 @@ agree first es pass accepted (envelope.TestRunFinished f) =
     (refl, ap not (started_is es), λ _. (refl, run, λ _. (refl, ap not (none_open first es accepted), λ _. (refl, ap not (no_hook_open es), λ _. (refl, same_incomplete es, λ _. tt)))))
 agree first es pass accepted (envelope.Attachment a) = (refl, sym (place_known first es accepted a.test_case_started_id a.test_step_id), λ _. tt)
 agree first es pass accepted (envelope.TestRunHookStarted x) =
-    let again = again_one (RunHook x.id) es (is_some (find_run_hook (declared_in es) x.id)) (run_hook_declared x.id es) in
+    let again = again_one (RunHook x.id) es (is_some (find_run_hook (declarations_in es) x.id)) (run_hook_declared x.id es) in
     (refl, ap not (started_is es), λ _. (refl, sym (hook_start_known first es pass x), λ _. (refl, again, λ _. tt)))
 agree first es pass accepted (envelope.TestRunHookFinished f) =
-    let known = unknown_one (RunHook f.test_run_hook_started_id) es (is_some (find_run_hook (declared_in es) f.test_run_hook_started_id)) (run_hook_declared f.test_run_hook_started_id es) in
+    let known = unknown_one (RunHook f.test_run_hook_started_id) es (is_some (find_run_hook (declarations_in es) f.test_run_hook_started_id)) (run_hook_declared f.test_run_hook_started_id es) in
     (refl, known, λ _. (refl, hook_finished_by first es pass f.test_run_hook_started_id, λ _. (refl, refl, λ _. tt)))
 agree first es pass accepted _ = tt
 
-agree_last : (policy : Policy) (first : ℕ) (es : List Envelope) → AllPass es → AreAccepted first es → (e : Envelope) → AreSame (success_by policy (seen first es) e) (success_check policy es e)
+agree_last : (policy : Policy) (first : ℕ) (es : List Envelope) → AllPass es → AreAccepted first es → (e : Envelope) → AreSame (success_by policy (summary_of_lines first es) e) (success_check policy es e)
 agree_last policy first es pass accepted (envelope.TestRunFinished f) = (refl, ap (λ (b : Bool). not (same_flag f.success (b && not f.has_exception))) (same_well policy first es pass accepted), λ _. tt)
 agree_last policy first es pass accepted _ = tt
 
-plainly : (first : ℕ) (es : List Envelope) (e : Envelope) → AllPass es → AreAccepted first es → plain_finding (seen first es) e ≡ first_failed (checks_of first es e)
+plainly : (first : ℕ) (es : List Envelope) (e : Envelope) → AllPass es → AreAccepted first es → plain_finding (summary_of_lines first es) e ≡ first_failed (checks_of first es e)
 plainly first es e pass accepted =
-    let front = same_failed (checks_before (seen first es) e) (checks_first first es e) (agree first es pass accepted e) in
+    let front = same_failed (checks_before (summary_of_lines first es) e) (checks_first first es e) (agree first es pass accepted e) in
     let own = own_refused first es e accepted in
     (λ i. or_else (front i) (or_else (own i) (first_failed (checks_after e))))
     ∙ ap (or_else (first_failed (checks_first first es e))) (sym (in_turn (own_checks first es e) (checks_after e)))
     ∙ sym (in_turn (checks_first first es e) (own_checks first es e ++ checks_after e))
     ∙ ap first_failed (sym (in_parts first es e))
 
-inside : (policy : Policy) (first : ℕ) (es : List Envelope) (e : Envelope) → AllPass es → AreAccepted first es → finding_inside policy (seen first es) e ≡ first_failed (checks_of first es e ++ success_check policy es e)
+inside : (policy : Policy) (first : ℕ) (es : List Envelope) (e : Envelope) → AllPass es → AreAccepted first es → finding_inside policy (summary_of_lines first es) e ≡ first_failed (checks_of first es e ++ success_check policy es e)
 inside policy first es e pass accepted =
     let plain = plainly first es e pass accepted in
-    let last = same_failed (success_by policy (seen first es) e) (success_check policy es e) (agree_last policy first es pass accepted e) in
+    let last = same_failed (success_by policy (summary_of_lines first es) e) (success_check policy es e) (agree_last policy first es pass accepted e) in
     (λ i. or_else (plain i) (last i)) ∙ sym (in_turn (checks_of first es e) (success_check policy es e))
 
 pub findings_are_faults : FindingsAreFaults

@@ -11,11 +11,11 @@ use Rattle.cm_stream.specs.References.{has_run_finished}
 use Rattle.cm_stream.specs.Stream.{answer_for}
 use Rattle.cm_stream.specs.Stream as stream
 use Rattle.cm_stream.specs.ByOnePass.{fault, first_fault_line, first_fault_of, IsFaultless}
-use Rattle.cm_state.specs.Summary.{Summary, seen, nothing_seen, after}
+use Rattle.cm_state.specs.Summary.{Summary, summary_of_lines, empty_summary, summary_after_line}
 use Rattle.cm_state.specs.StateChecks.{finding, finding_at_end}
 use Rattle.cm_state.proofs.Checked.{findings_are_faults as findings}
 use Rattle.cm_state.proofs.Steps.{summaries_step as steps}
-use Rattle.cm_state.specs.Laws.{JudgedIsTold, answer_at_end, answer_at_line, judged_line, judged_of}
+use Rattle.cm_state.specs.Laws.{JudgedIsTold, answer_at_end, answer_at_line, answer_of_line, answer_of_lines}
 
 -- ---- one more line without a fault
 
@@ -46,44 +46,44 @@ one_more_line settings before e h none b x a cut = go (cut_before before e b x a
 
 -- ---- all lines
 
-finished : (first n : ℕ) (before : List Envelope) → answer_at_end n (seen first before) (finding_at_end (seen first before)) ≡ answer_for (stream.at_end n before (fault_at_end before))
+finished : (first n : ℕ) (before : List Envelope) → answer_at_end n (summary_of_lines first before) (finding_at_end (summary_of_lines first before)) ≡ answer_for (stream.at_end n before (fault_at_end before))
 finished first n before = go (has_run_finished before) refl
   where
-    go : (b : Bool) → has_run_finished before ≡ b → answer_at_end n (seen first before) (finding_at_end (seen first before)) ≡ answer_for (stream.at_end n before (fault_at_end before))
+    go : (b : Bool) → has_run_finished before ≡ b → answer_at_end n (summary_of_lines first before) (finding_at_end (summary_of_lines first before)) ≡ answer_for (stream.at_end n before (fault_at_end before))
     go true e = rw e refl
     go false e = rw e refl
 
 module _ (settings : Settings) where
-  same : (before : List Envelope) (s : Summary) → s ≡ seen settings.first_attempt before → IsFaultless settings before → (n : ℕ) (ls : List (List ℕ)) (t : Option Trouble) → judged_of settings s n ls t ≡ answer_for (first_fault_of settings before n ls t)
+  same : (before : List Envelope) (s : Summary) → s ≡ summary_of_lines settings.first_attempt before → IsFaultless settings before → (n : ℕ) (ls : List (List ℕ)) (t : Option Trouble) → answer_of_lines settings s n ls t ≡ answer_for (first_fault_of settings before n ls t)
   same before s is h n [] (Some t) = refl
   same before s is h n [] None = ap (λ u. answer_at_end n u (finding_at_end u)) is ∙ finished settings.first_attempt n before
   same before s is h n (l ∷ ls) t = go (is_blank l) refl (same before s is h (n + 1) ls t) (λ e u k more. same (before ++ e ∷ []) u k more (n + 1) ls t)
     where
       Later : Envelope → Type 0
-      Later e = (u : Summary) → u ≡ seen settings.first_attempt (before ++ e ∷ []) → IsFaultless settings (before ++ e ∷ []) → judged_of settings u (n + 1) ls t ≡ answer_for (first_fault_of settings (before ++ e ∷ []) (n + 1) ls t)
+      Later e = (u : Summary) → u ≡ summary_of_lines settings.first_attempt (before ++ e ∷ []) → IsFaultless settings (before ++ e ∷ []) → answer_of_lines settings u (n + 1) ls t ≡ answer_for (first_fault_of settings (before ++ e ∷ []) (n + 1) ls t)
 
-      on_fault : (e : Envelope) (o : Option Finding) → fault settings before e ≡ o → Later e → answer_at_line n o (judged_of settings (after s e) (n + 1) ls t) ≡ answer_for (stream.at_line n o (first_fault_of settings (before ++ e ∷ []) (n + 1) ls t))
+      on_fault : (e : Envelope) (o : Option Finding) → fault settings before e ≡ o → Later e → answer_at_line n o (answer_of_lines settings (summary_after_line s e) (n + 1) ls t) ≡ answer_for (stream.at_line n o (first_fault_of settings (before ++ e ∷ []) (n + 1) ls t))
       on_fault e (Some f) k rec = refl
       on_fault e None k rec =
           let more = one_more_line settings before e h k in
-          rec (after s e) (ap (λ u. after u e) is ∙ sym (steps settings before e more)) more
+          rec (summary_after_line s e) (ap (λ u. summary_after_line u e) is ∙ sym (steps settings before e more)) more
 
       on_read : (r : Result Envelope LineFault) → ((e : Envelope) → Later e)
-          → judged_line settings s n (Some r) (λ (now : Summary). judged_of settings now (n + 1) ls t) ≡ answer_for (first_fault_line settings before n (Some r) (λ (now : List Envelope). first_fault_of settings now (n + 1) ls t))
+          → answer_of_line settings s n (Some r) (λ (now : Summary). answer_of_lines settings now (n + 1) ls t) ≡ answer_for (first_fault_line settings before n (Some r) (λ (now : List Envelope). first_fault_of settings now (n + 1) ls t))
       on_read (Err b) rec = refl
       on_read (Ok e) rec =
           let found : finding settings s e ≡ fault settings before e = ap (λ u. finding settings u e) is ∙ findings settings before e h in
           rw found (on_fault e (fault settings before e) refl (rec e))
 
-      go : (b : Bool) → is_blank l ≡ b → judged_of settings s (n + 1) ls t ≡ answer_for (first_fault_of settings before (n + 1) ls t) → ((e : Envelope) → Later e) → judged_of settings s n (l ∷ ls) t ≡ answer_for (first_fault_of settings before n (l ∷ ls) t)
+      go : (b : Bool) → is_blank l ≡ b → answer_of_lines settings s (n + 1) ls t ≡ answer_for (first_fault_of settings before (n + 1) ls t) → ((e : Envelope) → Later e) → answer_of_lines settings s n (l ∷ ls) t ≡ answer_for (first_fault_of settings before n (l ∷ ls) t)
       go true k skip rec = rw k skip
       go false k skip rec = rw k (on_read (envelope_of_line l) rec)
 
   pub none_yet : IsFaultless settings []
   none_yet b x a cut = absurd (empty_isnt b x a cut)
 
-  judged_as_told : (lines : List (List ℕ)) (t : Option Trouble) → judged_of settings (nothing_seen settings.first_attempt) 1 lines t ≡ answer_for (first_fault_of settings [] 1 lines t)
-  judged_as_told lines t = same [] (nothing_seen settings.first_attempt) refl none_yet 1 lines t
+  judged_as_told : (lines : List (List ℕ)) (t : Option Trouble) → answer_of_lines settings (empty_summary settings.first_attempt) 1 lines t ≡ answer_for (first_fault_of settings [] 1 lines t)
+  judged_as_told lines t = same [] (empty_summary settings.first_attempt) refl none_yet 1 lines t
 
 pub judged_is_told : JudgedIsTold
 judged_is_told settings lines t = judged_as_told settings lines t

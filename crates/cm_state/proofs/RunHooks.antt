@@ -6,7 +6,7 @@ use Rattle.std.specs.Option.{option_map, option_map_or}
 use Rattle.std.specs.Str.{bytes_eq}
 use Rattle.std.proofs.lemmas.List.Folds.{list_any-append}
 use Rattle.std.proofs.lemmas.List.Sums.{fold_push}
-use Rattle.cm_refs.specs.Declarations.{RunHookRow, change_first, finished, new_run_hook, open_count}
+use Rattle.cm_refs.specs.Declarations.{RunHookRow, change_first, finished_run_hook, new_run_hook, open_count}
 use Rattle.cm_refs.proofs.EntryLemmas.{list_any-map}
 use Rattle.std.proofs.lemmas.List.{map-append}
 use Rattle.cm_stream.specs.Texts.{Utf8}
@@ -25,7 +25,7 @@ use Rattle.cm_stream.proofs.Declared.{declares_run_hook}
 use Rattle.cm_stream.proofs.Passing.{AllPass, front_passes, last_passes}
 use Rattle.cm_stream.proofs.Distinct.{all_distinct, at_most_once}
 use Rattle.cm_stream.proofs.OneRow.{OnlyOne, only_one, change_one}
-use Rattle.cm_state.specs.Summary.{declared_in, run_hook_row, seen}
+use Rattle.cm_state.specs.Summary.{declarations_in, run_hook_row, summary_of_lines}
 use Rattle.cm_state.specs.StateChecks.{is_hook_finished_by, knows_run_hook}
 use Rattle.cm_state.proofs.OneMore.{found_after, push_if, kept_named, not_found, none_refers}
 use Rattle.cm_state.proofs.StepTests.{both_known}
@@ -80,19 +80,19 @@ one_hook es pass u =
     only_one (λ s. bytes_eq u s.id) (run_hooks es) (omega (arith, counted, at_most_once (RunHook u) es (all_distinct es pass)))
 
 finish_rows : (es : List Envelope) (f : TestRunHookFinished) → AllPass (es ++ envelope.TestRunHookFinished f ∷ [])
-    → hook_rows (es ++ envelope.TestRunHookFinished f ∷ []) ≡ change_first (λ r. bytes_eq f.test_run_hook_started_id r.id) finished (hook_rows es)
+    → hook_rows (es ++ envelope.TestRunHookFinished f ∷ []) ≡ change_first (λ r. bytes_eq f.test_run_hook_started_id r.id) finished_run_hook (hook_rows es)
 finish_rows es f more =
     let e = envelope.TestRunHookFinished f in
     let pass = front_passes es (e ∷ []) more in
     ap (map (run_hook_row (es ++ e ∷ []))) (found_more as_run_hook es e refl)
-    ∙ sym (change_one (λ r. bytes_eq f.test_run_hook_started_id r.id) finished (λ s. bytes_eq f.test_run_hook_started_id s.id) (run_hook_row es) (run_hook_row (es ++ e ∷ [])) (λ s. refl) hit other (run_hooks es) (one_hook es pass f.test_run_hook_started_id))
+    ∙ sym (change_one (λ r. bytes_eq f.test_run_hook_started_id r.id) finished_run_hook (λ s. bytes_eq f.test_run_hook_started_id s.id) (run_hook_row es) (run_hook_row (es ++ e ∷ [])) (λ s. refl) hit other (run_hooks es) (one_hook es pass f.test_run_hook_started_id))
   where
     one_more : (u : Utf8) → is_hook_finished u (es ++ envelope.TestRunHookFinished f ∷ []) ≡ (is_hook_finished u es || (bytes_eq u f.test_run_hook_started_id || false))
     one_more u =
         ap (list_any (λ (x : TestRunHookFinished). bytes_eq u x.test_run_hook_started_id)) (found_push as_run_hook_end es (envelope.TestRunHookFinished f) f refl)
         ∙ list_any-append (λ (x : TestRunHookFinished). bytes_eq u x.test_run_hook_started_id) (run_hook_ends es) (f ∷ [])
 
-    hit : (s : TestRunHookStarted) → bytes_eq f.test_run_hook_started_id s.id ≡ true → run_hook_row (es ++ envelope.TestRunHookFinished f ∷ []) s ≡ finished (run_hook_row es s)
+    hit : (s : TestRunHookStarted) → bytes_eq f.test_run_hook_started_id s.id ≡ true → run_hook_row (es ++ envelope.TestRunHookFinished f ∷ []) s ≡ finished_run_hook (run_hook_row es s)
     hit s k =
         let same : s.id ≡ f.test_run_hook_started_id = sym (bytes_are f.test_run_hook_started_id s.id k) in
         let here : bytes_eq s.id f.test_run_hook_started_id ≡ true = ap (λ u. bytes_eq u f.test_run_hook_started_id) same ∙ bytes_same f.test_run_hook_started_id in
@@ -104,7 +104,7 @@ finish_rows es f more =
 
 abbrev pub hook_rows_after : List RunHookRow → Envelope → List RunHookRow
 hook_rows_after rs (envelope.TestRunHookStarted s) = rs ++ new_run_hook s.id ∷ []
-hook_rows_after rs (envelope.TestRunHookFinished f) = change_first (λ r. bytes_eq f.test_run_hook_started_id r.id) finished rs
+hook_rows_after rs (envelope.TestRunHookFinished f) = change_first (λ r. bytes_eq f.test_run_hook_started_id r.id) finished_run_hook rs
 hook_rows_after rs _ = rs
 
 pub hook_rows_step : (es : List Envelope) (e : Envelope) → AllPass (es ++ e ∷ []) → hook_rows (es ++ e ∷ []) ≡ hook_rows_after (hook_rows es) e
@@ -125,7 +125,7 @@ hooks_worst_step es e = ap (λ fs. worst_so_far (map (λ (f : TestRunHookFinishe
 
 -- ---- what is reported of a line
 
-pub hook_finished_by : (first : ℕ) (es : List Envelope) → AllPass es → (u : Utf8) → is_hook_finished_by (seen first es) u ≡ is_hook_finished u es
+pub hook_finished_by : (first : ℕ) (es : List Envelope) → AllPass es → (u : Utf8) → is_hook_finished_by (summary_of_lines first es) u ≡ is_hook_finished u es
 hook_finished_by first es pass u =
     ap (λ o. option_map_or (λ (r : RunHookRow). r.is_finished) o false) (find_map (λ (r : RunHookRow). bytes_eq u r.id) (run_hook_row es) (run_hooks es)) ∙ go (find (λ s. bytes_eq u s.id) (run_hooks es)) refl
   where
@@ -144,13 +144,13 @@ hook_finished_by first es pass u =
     go None e = sym (never_finished es pass u e)
     go (Some s) e = ap (λ v. is_hook_finished v es) (sym (bytes_are u s.id (found (run_hooks es) s e)))
 
-pub no_hook_open : (es : List Envelope) → (open_count (declared_in es) == 0) ≡ list_all (λ (s : TestRunHookStarted). is_hook_finished s.id es) (run_hooks es)
+pub no_hook_open : (es : List Envelope) → (open_count (declarations_in es) == 0) ≡ list_all (λ (s : TestRunHookStarted). is_hook_finished s.id es) (run_hooks es)
 no_hook_open es =
     none_counts (λ (r : RunHookRow). not r.is_finished) (hook_rows es)
     ∙ ap not (list_any-map (λ (r : RunHookRow). not r.is_finished) (run_hook_row es) (run_hooks es))
     ∙ none_or_all (λ (s : TestRunHookStarted). not (is_hook_finished s.id es)) (λ (s : TestRunHookStarted). is_hook_finished s.id es) (λ s. refl) (run_hooks es)
 
-pub hook_start_known : (first : ℕ) (es : List Envelope) → AllPass es → (s : TestRunHookStarted) → refers_to_unknown es (envelope.TestRunHookStarted s) ≡ not (knows_run_hook (seen first es) s)
+pub hook_start_known : (first : ℕ) (es : List Envelope) → AllPass es → (s : TestRunHookStarted) → refers_to_unknown es (envelope.TestRunHookStarted s) ≡ not (knows_run_hook (summary_of_lines first es) s)
 hook_start_known first es pass s =
     list_any-append (unknown es) (map Run (if_any s.test_run_started_id)) (HookNamed s.hook_id ∷ [])
     ∙ (λ i. run_known first es pass s.test_run_started_id i || (or_no (unknown es (HookNamed s.hook_id)) ∙ (hook_declared s.hook_id es).unknown) i)

@@ -24,7 +24,7 @@ use Rattle.cm_envelope.specs.declared.envelope.GherkinDocument.{GherkinDocument}
 use Rattle.cm_envelope.specs.declared.pickle.Pickle.{Pickle}
 use Rattle.cm_stream.proofs.Found.{bytes_are}
 use Rattle.cm_stream.proofs.Declared.{same_any}
-use Rattle.cm_state.specs.Summary.{SourceRow, document_of, awaited_of, declared_in, row_of, source_row, seen}
+use Rattle.cm_state.specs.Summary.{SourceRow, document_of, awaited_of, declarations_in, row_of, source_row, summary_of_lines}
 use Rattle.cm_state.specs.StateChecks.{find_source, is_accepted_by, is_awaited_of, is_awaited_by, is_next_of, is_next_by, lacks_by}
 use Rattle.cm_stream.proofs.Lists.{find_map, keeps_none}
 
@@ -34,34 +34,34 @@ of_uri uri s = bytes_eq uri s.uri
 -- what is asked of the row of a uri is what is asked of what its source is read as
 asked_by : (f : SourceRow → Bool) (g : Option Reading → Bool) (first : ℕ) (es : List Envelope) (uri : Utf8) → g None ≡ false
     → ((s : Source) → s.uri ≡ uri → f (source_row es s) ≡ g (Some (reads s.content)))
-    → option_map_or f (find_source (seen first es) uri) false ≡ g (reading_of uri es)
+    → option_map_or f (find_source (summary_of_lines first es) uri) false ≡ g (reading_of uri es)
 asked_by f g first es uri none same = go (find (of_uri uri) (sources es)) refl
   where
-    row_is : find_source (seen first es) uri ≡ option_map (source_row es) (find (of_uri uri) (sources es))
+    row_is : find_source (summary_of_lines first es) uri ≡ option_map (source_row es) (find (of_uri uri) (sources es))
     row_is = find_map (λ r. bytes_eq uri r.uri) (source_row es) (sources es)
 
-    by : (o : Option Source) → find (of_uri uri) (sources es) ≡ o → option_map_or f (find_source (seen first es) uri) false ≡ option_map_or f (option_map (source_row es) o) false
+    by : (o : Option Source) → find (of_uri uri) (sources es) ≡ o → option_map_or f (find_source (summary_of_lines first es) uri) false ≡ option_map_or f (option_map (source_row es) o) false
     by o e = ap (λ r. option_map_or f r false) (row_is ∙ ap (option_map (source_row es)) e)
 
     of : (o : Option Source) → find (of_uri uri) (sources es) ≡ o → g (reading_of uri es) ≡ g (option_map (λ (s : Source). reads s.content) o)
     of o e = ap (λ r. g (option_map (λ (s : Source). reads s.content) r)) e
 
-    go : (o : Option Source) → find (of_uri uri) (sources es) ≡ o → option_map_or f (find_source (seen first es) uri) false ≡ g (reading_of uri es)
+    go : (o : Option Source) → find (of_uri uri) (sources es) ≡ o → option_map_or f (find_source (summary_of_lines first es) uri) false ≡ g (reading_of uri es)
     go None e = by None e ∙ sym none ∙ sym (of None e)
     go (Some s) e = by (Some s) e ∙ same s (sym (bytes_are uri s.uri (find_passes (of_uri uri) (sources es) s e))) ∙ sym (of (Some s) e)
 
-pub same_accepted : (first : ℕ) (es : List Envelope) (uri : Utf8) → is_accepted_by (seen first es) uri ≡ is_uri_accepted uri es
+pub same_accepted : (first : ℕ) (es : List Envelope) (uri : Utf8) → is_accepted_by (summary_of_lines first es) uri ≡ is_uri_accepted uri es
 same_accepted first es uri = asked_by (λ r. r.is_accepted) (λ o. option_map_or is_accepted o false) first es uri refl (λ s k. refl)
 
 -- ---- the document
 
-pub no_document : (es : List Envelope) (uri : Utf8) → has_text uri (declared_in es).documents ≡ false → documents_of uri es ≡ []
+pub no_document : (es : List Envelope) (uri : Utf8) → has_text uri (declarations_in es).documents ≡ false → documents_of uri es ≡ []
 no_document es uri new =
     keeps_none (λ (d : GherkinDocument). bytes_eq uri d.uri) (filter_map as_document es)
     (sym (list_any-map (bytes_eq uri) (λ (d : GherkinDocument). d.uri) (filter_map as_document es)) ∙ new)
 
 -- a document is compared with what the text is read as, unless one came
-pub same_awaited : (first : ℕ) (es : List Envelope) (d : GherkinDocument) → has_text d.uri (declared_in es).documents ≡ false → is_awaited_by (seen first es) d ≡ has_skeleton_of d.document (reading_of d.uri es)
+pub same_awaited : (first : ℕ) (es : List Envelope) (d : GherkinDocument) → has_text d.uri (declarations_in es).documents ≡ false → is_awaited_by (summary_of_lines first es) d ≡ has_skeleton_of d.document (reading_of d.uri es)
 same_awaited first es d new = asked_by (is_awaited_of d.document) (has_skeleton_of d.document) first es d.uri refl same
   where
     of_reading : (r : Reading) → option_map_or (same_skeleton d.document) (document_of r) false ≡ has_skeleton_of d.document (Some r)
@@ -85,7 +85,7 @@ first_left (x ∷ xs) (suc n) = first_left xs n
 abbrev is_at : Pickle → List Utf8 → Option Reading → ℕ → Bool
 is_at p ids r n = option_map_or (λ due. is_due ids p due) (slice_get (due_pickles r) n) false
 
-pub same_next : (first : ℕ) (es : List Envelope) (p : Pickle) → is_next_by (seen first es) p ≡ is_next_pickle es p
+pub same_next : (first : ℕ) (es : List Envelope) (p : Pickle) → is_next_by (summary_of_lines first es) p ≡ is_next_pickle es p
 same_next first es p = asked_by (is_next_of p) (λ r. is_at p (document_ids p.uri es) r (length (pickles_of p.uri es))) first es p.uri refl same
   where
     same : (s : Source) → s.uri ≡ p.uri → is_next_of p (source_row es s) ≡ is_at p (document_ids p.uri es) (Some (reads s.content)) (length (pickles_of p.uri es))

@@ -22,7 +22,7 @@ use Rattle.cm_stream.proofs.Found.{bytes_same, eq_back}
 use Rattle.cm_stream.proofs.Passing.{AllPass}
 use Rattle.cm_stream.proofs.OneRow.{one_pickle}
 use Rattle.cm_stream.proofs.Steps.{one_with, none_with, out_of_or, never}
-use Rattle.cm_state.specs.Summary.{pickle_row, declared_in, seen}
+use Rattle.cm_state.specs.Summary.{pickle_row, declarations_in, summary_of_lines}
 use Rattle.cm_state.specs.StateChecks.{is_among, steps_by, knows_run, knows_step, knows_case, has_steps_by}
 use Rattle.cm_state.proofs.Tests.{IsDeclaredIf, by_same, by_test, pickle_declared, definition_declared, hook_declared, unknown, run_known}
 use Rattle.cm_stream.proofs.Lists.{or_no, find_map, found_any}
@@ -45,25 +45,25 @@ declares_step pickle step (envelope.TestCase c) = none_of (PickleStep pickle ste
 declares_step pickle step (envelope.TestRunStarted r) = none_of (PickleStep pickle step) Run (if_any r.id) (λ s. refl)
 declares_step pickle step _ = refl
 
-row_is : (es : List Envelope) (id : Utf8) → find_pickle (declared_in es) id ≡ option_map pickle_row (pickle_in id es)
+row_is : (es : List Envelope) (id : Utf8) → find_pickle (declarations_in es) id ≡ option_map pickle_row (pickle_in id es)
 row_is es id = find_map (λ r. bytes_eq id r.id) pickle_row (pickles es)
 
-step_declared : (first : ℕ) (es : List Envelope) → AllPass es → (pickle step : Utf8) → IsDeclaredIf (PickleStep pickle step) es (has_text step (steps_by (seen first es) pickle))
+step_declared : (first : ℕ) (es : List Envelope) → AllPass es → (pickle step : Utf8) → IsDeclaredIf (PickleStep pickle step) es (has_text step (steps_by (summary_of_lines first es) pickle))
 step_declared first es pass pickle step = go (pickle_in pickle es) refl
   where
     k : IsDeclaredIf (PickleStep pickle step) es (list_any (has_step_of pickle step) (pickles es))
     k = by_test (PickleStep pickle step) as_pickle (has_step_of pickle step) (declares_step pickle step) es
 
-    its : (o : Option Pickle) → pickle_in pickle es ≡ o → steps_by (seen first es) pickle ≡ option_map_or (λ (r : PickleRow). r.steps) (option_map pickle_row o) []
+    its : (o : Option Pickle) → pickle_in pickle es ≡ o → steps_by (summary_of_lines first es) pickle ≡ option_map_or (λ (r : PickleRow). r.steps) (option_map pickle_row o) []
     its o e = ap (λ r. option_map_or (λ (x : PickleRow). x.steps) r []) (row_is es pickle ∙ ap (option_map pickle_row) e)
 
-    go : (o : Option Pickle) → pickle_in pickle es ≡ o → IsDeclaredIf (PickleStep pickle step) es (has_text step (steps_by (seen first es) pickle))
+    go : (o : Option Pickle) → pickle_in pickle es ≡ o → IsDeclaredIf (PickleStep pickle step) es (has_text step (steps_by (summary_of_lines first es) pickle))
     go None e =
         let none : list_any (has_step_of pickle step) (pickles es) ≡ false = sym (found_any (has_step_of pickle step) (pickles es)) ∙ none_with (λ p. bytes_eq pickle p.id) (λ p. has_text step (ids_of p)) (pickles es) e in
-        by_same (PickleStep pickle step) es (list_any (has_step_of pickle step) (pickles es)) (has_text step (steps_by (seen first es) pickle)) (none ∙ sym (ap (has_text step) (its None e))) k
+        by_same (PickleStep pickle step) es (list_any (has_step_of pickle step) (pickles es)) (has_text step (steps_by (summary_of_lines first es) pickle)) (none ∙ sym (ap (has_text step) (its None e))) k
     go (Some p) e =
         let some : list_any (has_step_of pickle step) (pickles es) ≡ has_text step (ids_of p) = one_with (λ x. bytes_eq pickle x.id) (λ x. has_text step (ids_of x)) (pickles es) p (one_pickle es pass pickle) e in
-        by_same (PickleStep pickle step) es (list_any (has_step_of pickle step) (pickles es)) (has_text step (steps_by (seen first es) pickle)) (some ∙ sym (ap (has_text step) (its (Some p) e))) k
+        by_same (PickleStep pickle step) es (list_any (has_step_of pickle step) (pickles es)) (has_text step (steps_by (summary_of_lines first es) pickle)) (some ∙ sym (ap (has_text step) (its (Some p) e))) k
 
 -- ---- a pickle that is declared again
 
@@ -96,20 +96,20 @@ if_some : (b : Bool) → is_some (if b then Some fault.DuplicateId else None) �
 if_some true = refl
 if_some false = refl
 
-pub pickle_again : (es : List Envelope) (p : Pickle) → is_some (pickle_fault (declared_in es) p.id (map (λ x. x.id) p.steps)) ≡ declares_again es (envelope.Pickle p)
-pickle_again es p = if_some (is_some (find_pickle (declared_in es) p.id) || has_repeat (ids_of p)) ∙ go (pickle_in p.id es) refl
+pub pickle_again : (es : List Envelope) (p : Pickle) → is_some (pickle_fault (declarations_in es) p.id (map (λ x. x.id) p.steps)) ≡ declares_again es (envelope.Pickle p)
+pickle_again es p = if_some (is_some (find_pickle (declarations_in es) p.id) || has_repeat (ids_of p)) ∙ go (pickle_in p.id es) refl
   where
     repeats : has_same_names (declares (envelope.Pickle p)) ≡ has_repeat (ids_of p)
     repeats = (λ i. no_pickle p.id p.steps i || has_same_names (map (λ (s : pickle_step.PickleStep). PickleStep p.id s.id) p.steps)) ∙ same_repeat p.id p.steps
 
     again : list_any (λ name. nat_lt 0 (times_declared name es)) (declares (envelope.Pickle p))
-        ≡ (is_some (find_pickle (declared_in es) p.id) || list_any (λ name. nat_lt 0 (times_declared name es)) (map (λ (s : pickle_step.PickleStep). PickleStep p.id s.id) p.steps))
+        ≡ (is_some (find_pickle (declarations_in es) p.id) || list_any (λ name. nat_lt 0 (times_declared name es)) (map (λ (s : pickle_step.PickleStep). PickleStep p.id s.id) p.steps))
     again = ap (λ b. b || list_any (λ name. nat_lt 0 (times_declared name es)) (map (λ (s : pickle_step.PickleStep). PickleStep p.id s.id) p.steps)) (pickle_declared p.id es).again
 
-    found : (o : Option Pickle) → pickle_in p.id es ≡ o → is_some (find_pickle (declared_in es) p.id) ≡ is_some (option_map pickle_row o)
+    found : (o : Option Pickle) → pickle_in p.id es ≡ o → is_some (find_pickle (declarations_in es) p.id) ≡ is_some (option_map pickle_row o)
     found o e = ap is_some (row_is es p.id ∙ ap (option_map pickle_row) e)
 
-    go : (o : Option Pickle) → pickle_in p.id es ≡ o → (is_some (find_pickle (declared_in es) p.id) || has_repeat (ids_of p)) ≡ declares_again es (envelope.Pickle p)
+    go : (o : Option Pickle) → pickle_in p.id es ≡ o → (is_some (find_pickle (declarations_in es) p.id) || has_repeat (ids_of p)) ≡ declares_again es (envelope.Pickle p)
     go None e =
         let none = found None e in
         let nothing : list_any (λ name. nat_lt 0 (times_declared name es)) (declares (envelope.Pickle p)) ≡ false = again ∙ (λ i. none i || none_declared es p.id e p.steps i) in
@@ -125,17 +125,17 @@ pub both_known : (a b : Bool) → (not a || not b) ≡ not (a && b)
 both_known true b = refl
 both_known false b = refl
 
-hook_known : (es : List Envelope) (o : Option Utf8) → list_any (unknown es) (map HookNamed (if_any o)) ≡ not (is_among (declared_in es).hooks o)
+hook_known : (es : List Envelope) (o : Option Utf8) → list_any (unknown es) (map HookNamed (if_any o)) ≡ not (is_among (declarations_in es).hooks o)
 hook_known es None = refl
 hook_known es (Some id) = or_no (unknown es (HookNamed id)) ∙ (hook_declared id es).unknown
 
-definitions_known : (es : List Envelope) (ids : List Utf8) → list_any (unknown es) (map Definition ids) ≡ not (list_all (λ id. has_text id (declared_in es).definitions) ids)
+definitions_known : (es : List Envelope) (ids : List Utf8) → list_any (unknown es) (map Definition ids) ≡ not (list_all (λ id. has_text id (declarations_in es).definitions) ids)
 definitions_known es [] = refl
 definitions_known es (id ∷ ids) =
     let here = (definition_declared id es).unknown in
-    (λ i. here i || definitions_known es ids i) ∙ both_known (has_text id (declared_in es).definitions) (list_all (λ x. has_text x (declared_in es).definitions) ids)
+    (λ i. here i || definitions_known es ids i) ∙ both_known (has_text id (declarations_in es).definitions) (list_all (λ x. has_text x (declarations_in es).definitions) ids)
 
-pickle_step_known : (first : ℕ) (es : List Envelope) → AllPass es → (pickle : Utf8) (o : Option Utf8) → list_any (unknown es) (map (PickleStep pickle) (if_any o)) ≡ not (is_among (steps_by (seen first es) pickle) o)
+pickle_step_known : (first : ℕ) (es : List Envelope) → AllPass es → (pickle : Utf8) (o : Option Utf8) → list_any (unknown es) (map (PickleStep pickle) (if_any o)) ≡ not (is_among (steps_by (summary_of_lines first es) pickle) o)
 pickle_step_known first es pass pickle None = refl
 pickle_step_known first es pass pickle (Some step) = or_no (unknown es (PickleStep pickle step)) ∙ (step_declared first es pass pickle step).unknown
 
@@ -143,7 +143,7 @@ three : (a b c : Bool) → ((not a || not b) || not c) ≡ not (a && b && c)
 three true b c = both_known b c
 three false b c = refl
 
-step_known : (first : ℕ) (es : List Envelope) → AllPass es → (pickle : Utf8) (t : TestStep) → list_any (unknown es) (test_step_names pickle t) ≡ not (knows_step (seen first es) pickle t)
+step_known : (first : ℕ) (es : List Envelope) → AllPass es → (pickle : Utf8) (t : TestStep) → list_any (unknown es) (test_step_names pickle t) ≡ not (knows_step (summary_of_lines first es) pickle t)
 step_known first es pass pickle t =
     let hooks = map HookNamed (if_any t.hook_id) in
     let steps = map (PickleStep pickle) (if_any t.pickle_step_id) in
@@ -151,27 +151,27 @@ step_known first es pass pickle t =
     list_any-append (unknown es) (hooks ++ steps) definitions
     ∙ ap (λ b. b || list_any (unknown es) definitions) (list_any-append (unknown es) hooks steps)
     ∙ (λ i. (hook_known es t.hook_id i || pickle_step_known first es pass pickle t.pickle_step_id i) || definitions_known es t.step_definition_ids i)
-    ∙ three (is_among (declared_in es).hooks t.hook_id) (is_among (steps_by (seen first es) pickle) t.pickle_step_id) (list_all (λ id. has_text id (declared_in es).definitions) t.step_definition_ids)
+    ∙ three (is_among (declarations_in es).hooks t.hook_id) (is_among (steps_by (summary_of_lines first es) pickle) t.pickle_step_id) (list_all (λ id. has_text id (declarations_in es).definitions) t.step_definition_ids)
 
-steps_known : (first : ℕ) (es : List Envelope) → AllPass es → (pickle : Utf8) (ts : List TestStep) → list_any (unknown es) (flat_map (test_step_names pickle) ts) ≡ not (list_all (knows_step (seen first es) pickle) ts)
+steps_known : (first : ℕ) (es : List Envelope) → AllPass es → (pickle : Utf8) (ts : List TestStep) → list_any (unknown es) (flat_map (test_step_names pickle) ts) ≡ not (list_all (knows_step (summary_of_lines first es) pickle) ts)
 steps_known first es pass pickle [] = refl
 steps_known first es pass pickle (t ∷ ts) =
     list_any-append (unknown es) (test_step_names pickle t) (flat_map (test_step_names pickle) ts)
     ∙ (λ i. step_known first es pass pickle t i || steps_known first es pass pickle ts i)
-    ∙ both_known (knows_step (seen first es) pickle t) (list_all (knows_step (seen first es) pickle) ts)
+    ∙ both_known (knows_step (summary_of_lines first es) pickle t) (list_all (knows_step (summary_of_lines first es) pickle) ts)
 
-pub case_known : (first : ℕ) (es : List Envelope) → AllPass es → (c : TestCase) → refers_to_unknown es (envelope.TestCase c) ≡ not (knows_case (seen first es) c)
+pub case_known : (first : ℕ) (es : List Envelope) → AllPass es → (c : TestCase) → refers_to_unknown es (envelope.TestCase c) ≡ not (knows_case (summary_of_lines first es) c)
 case_known first es pass c =
     let here = (pickle_declared c.pickle_id es).unknown in
     list_any-append (unknown es) (map Run (if_any c.test_run_started_id)) (PickleNamed c.pickle_id ∷ flat_map (test_step_names c.pickle_id) c.test_steps)
     ∙ (λ i. run_known first es pass c.test_run_started_id i || (here i || steps_known first es pass c.pickle_id c.test_steps i))
-    ∙ right (knows_run (seen first es) c.test_run_started_id) (is_some (find_pickle (declared_in es) c.pickle_id)) (list_all (knows_step (seen first es) c.pickle_id) c.test_steps)
+    ∙ right (knows_run (summary_of_lines first es) c.test_run_started_id) (is_some (find_pickle (declarations_in es) c.pickle_id)) (list_all (knows_step (summary_of_lines first es) c.pickle_id) c.test_steps)
   where
     right : (x y z : Bool) → (not x || (not y || not z)) ≡ not (x && y && z)
     right true y z = both_known y z
     right false y z = refl
 
-pub steps_are : (first : ℕ) (es : List Envelope) (c : TestCase) → has_steps_by (seen first es) c ≡ has_steps_of_pickle es c
+pub steps_are : (first : ℕ) (es : List Envelope) (c : TestCase) → has_steps_by (summary_of_lines first es) c ≡ has_steps_of_pickle es c
 steps_are first es c = ap (λ o. option_map_or (λ (r : PickleRow). same_texts r.steps (pickle_step_ids c)) o false) (row_is es c.pickle_id) ∙ go (pickle_in c.pickle_id es)
   where
     go : (o : Option Pickle) → option_map_or (λ (r : PickleRow). same_texts r.steps (pickle_step_ids c)) (option_map pickle_row o) false ≡ option_map_or (λ (p : Pickle). same_texts (ids_of p) (pickle_step_ids c)) o false

@@ -6,7 +6,7 @@ use Rattle.std.proofs.lemmas.List.Folds.{list_any-append}
 use Rattle.cm_refs.specs.Declarations.{Declarations}
 use Rattle.cm_stream.specs.Texts.{Utf8}
 use Rattle.cm_stream.specs.References.{as_source, as_document, as_pickle, as_case, as_run_hook_end, sources, pickles, cases, is_run_finished, has_run_started, has_run_finished, says_success, run_succeeded}
-use Rattle.cm_stream.specs.Record.{changed}
+use Rattle.cm_stream.specs.Record.{table_after_envelope}
 use Rattle.cm_envelope.specs.declared.envelope.Envelope.{Envelope}
 use Rattle.cm_envelope.specs.declared.envelope.Envelope.TheVariants as envelope
 use Rattle.cm_envelope.specs.declared.envelope.Source.{Source}
@@ -15,7 +15,7 @@ use Rattle.cm_envelope.specs.declared.envelope.TestCase.{TestCase}
 use Rattle.cm_envelope.specs.declared.envelope.TestRunStarted.{TestRunStarted}
 use Rattle.cm_stream.proofs.Passing.{LinePasses, AllPass, plain_passes, last_passes}
 use Rattle.cm_stream.proofs.TableSteps.{table_steps}
-use Rattle.cm_state.specs.Summary.{SourceRow, Summary, as_definition, as_hook, as_run, first_of, pickle_row, declared_in, with_name, once_each, seen, new_source, with_ids, one_more, change_source, after}
+use Rattle.cm_state.specs.Summary.{SourceRow, Summary, as_definition, as_hook, as_run, first_of, pickle_row, declarations_in, with_name, once_each, summary_of_lines, new_source, with_ids, one_more, change_source, summary_after_line}
 use Rattle.cm_state.specs.Laws.{SummariesStep}
 use Rattle.cm_state.proofs.OneMore.{push_if, found_after, map_after}
 use Rattle.cm_state.proofs.Rows.{rows, other_rows, source_rows, document_rows, pickle_rows}
@@ -35,7 +35,7 @@ declared_after d e = record {
   run_hooks = hook_rows_after d.run_hooks e;
 }
 
-declared_step : (es : List Envelope) (e : Envelope) → AllPass (es ++ e ∷ []) → declared_in (es ++ e ∷ []) ≡ declared_after (declared_in es) e
+declared_step : (es : List Envelope) (e : Envelope) → AllPass (es ++ e ∷ []) → declarations_in (es ++ e ∷ []) ≡ declared_after (declarations_in es) e
 declared_step es e h = λ i. record {
   sources = (ap (map (λ (s : Source). s.uri)) (found_after as_source es e) ∙ map_after (λ (s : Source). s.uri) (sources es) (as_source e)) i;
   documents = (ap (map (λ (d : GherkinDocument). d.uri)) (found_after as_document es e) ∙ map_after (λ (d : GherkinDocument). d.uri) (filter_map as_document es) (as_document e)) i;
@@ -114,7 +114,7 @@ success_step es e h = list_any-append says_success es (e ∷ []) ∙ or_no (run_
 abbrev kept_after : Summary → Envelope → Summary
 kept_after s e = record {
   declared = declared_after s.declared e;
-  table = changed s.table e;
+  table = table_after_envelope s.table e;
   sources = rows_after s.sources e;
   named = named_after s.named (as_case e);
   run = run_after s.run (as_run e);
@@ -124,7 +124,7 @@ kept_after s e = record {
   counts = counts_after s.named s.counts e;
 }
 
-after_is : (s : Summary) (e : Envelope) → kept_after s e ≡ after s e
+after_is : (s : Summary) (e : Envelope) → kept_after s e ≡ summary_after_line s e
 after_is s (envelope.Source x) = refl
 after_is s (envelope.GherkinDocument d) = refl
 after_is s (envelope.Pickle p) = refl
@@ -139,7 +139,7 @@ after_is s (envelope.TestRunFinished f) = refl
 after_is s e = refl
 
 pub summaries_step : SummariesStep
-summaries_step settings es e none = all ∙ after_is (seen first es) e
+summaries_step settings es e none = all ∙ after_is (summary_of_lines first es) e
   where
     first : ℕ
     first = settings.first_attempt
@@ -147,7 +147,7 @@ summaries_step settings es e none = all ∙ after_is (seen first es) e
     h : AllPass (es ++ e ∷ [])
     h = plain_passes settings (es ++ e ∷ []) none
 
-    all : seen first (es ++ e ∷ []) ≡ kept_after (seen first es) e
+    all : summary_of_lines first (es ++ e ∷ []) ≡ kept_after (summary_of_lines first es) e
     all = λ i. record {
       declared = declared_step es e h i;
       table = table_steps first es e i;

@@ -21,7 +21,7 @@ use Rattle.cm_stream.proofs.Declared.{none_of, declares_source, declares_documen
 use Rattle.cm_stream.proofs.TableSteps.{AreAccepted}
 use Rattle.cm_stream.proofs.TableWords.{attempt_told}
 use Rattle.cm_stream.proofs.Passing.{AllPass, last_passes, by_lines}
-use Rattle.cm_state.specs.Summary.{as_definition, as_hook, as_run, first_of, pickle_row, run_hook_row, declared_in, seen}
+use Rattle.cm_state.specs.Summary.{as_definition, as_hook, as_run, first_of, pickle_row, run_hook_row, declarations_in, summary_of_lines}
 use Rattle.cm_state.specs.StateChecks.{is_run, knows_run}
 use Rattle.cm_stream.proofs.Lists.{or_no, found_any, found_more, found_push}
 
@@ -40,19 +40,19 @@ by_test name h p same es =
     let any = found_any p (filter_map h es) in
     record { unknown = k.0 ∙ ap not any; again = k.1 ∙ any }
 
-pub source_declared : (u : Utf8) (es : List Envelope) → IsDeclaredIf (SourceOf u) es (has_text u (declared_in es).sources)
+pub source_declared : (u : Utf8) (es : List Envelope) → IsDeclaredIf (SourceOf u) es (has_text u (declarations_in es).sources)
 source_declared u es =
-    by_same (SourceOf u) es (list_any (λ (s : Source). bytes_eq u s.uri) (filter_map as_source es)) (has_text u (declared_in es).sources)
+    by_same (SourceOf u) es (list_any (λ (s : Source). bytes_eq u s.uri) (filter_map as_source es)) (has_text u (declarations_in es).sources)
     (sym (list_any-map (bytes_eq u) (λ (s : Source). s.uri) (filter_map as_source es))) (by_test (SourceOf u) as_source (λ s. bytes_eq u s.uri) (declares_source u) es)
 
-pub document_declared : (u : Utf8) (es : List Envelope) → IsDeclaredIf (DocumentOf u) es (has_text u (declared_in es).documents)
+pub document_declared : (u : Utf8) (es : List Envelope) → IsDeclaredIf (DocumentOf u) es (has_text u (declarations_in es).documents)
 document_declared u es =
-    by_same (DocumentOf u) es (list_any (λ (d : GherkinDocument). bytes_eq u d.uri) (filter_map as_document es)) (has_text u (declared_in es).documents)
+    by_same (DocumentOf u) es (list_any (λ (d : GherkinDocument). bytes_eq u d.uri) (filter_map as_document es)) (has_text u (declarations_in es).documents)
     (sym (list_any-map (bytes_eq u) (λ (d : GherkinDocument). d.uri) (filter_map as_document es))) (by_test (DocumentOf u) as_document (λ d. bytes_eq u d.uri) (declares_document u) es)
 
-pub pickle_declared : (id : Utf8) (es : List Envelope) → IsDeclaredIf (PickleNamed id) es (is_some (find_pickle (declared_in es) id))
+pub pickle_declared : (id : Utf8) (es : List Envelope) → IsDeclaredIf (PickleNamed id) es (is_some (find_pickle (declarations_in es) id))
 pickle_declared id es =
-    by_same (PickleNamed id) es (list_any (λ (p : Pickle). bytes_eq id p.id) (pickles es)) (is_some (find_pickle (declared_in es) id))
+    by_same (PickleNamed id) es (list_any (λ (p : Pickle). bytes_eq id p.id) (pickles es)) (is_some (find_pickle (declarations_in es) id))
     (sym (list_any-map (λ (r : PickleRow). bytes_eq id r.id) pickle_row (pickles es)) ∙ sym (found_any (λ (r : PickleRow). bytes_eq id r.id) (map pickle_row (pickles es))))
     (by_test (PickleNamed id) as_pickle (λ p. bytes_eq id p.id) (declares_pickle id) es)
 
@@ -62,9 +62,9 @@ attempt_declared id first es accepted =
     (sym (found_any (λ s. bytes_eq id s.id) (starts es)) ∙ sym (attempt_told first es accepted id))
     (by_test (Attempt id) as_start (λ s. bytes_eq id s.id) (declares_attempt id) es)
 
-pub run_hook_declared : (id : Utf8) (es : List Envelope) → IsDeclaredIf (RunHook id) es (is_some (find_run_hook (declared_in es) id))
+pub run_hook_declared : (id : Utf8) (es : List Envelope) → IsDeclaredIf (RunHook id) es (is_some (find_run_hook (declarations_in es) id))
 run_hook_declared id es =
-    by_same (RunHook id) es (list_any (λ s. bytes_eq id s.id) (run_hooks es)) (is_some (find_run_hook (declared_in es) id))
+    by_same (RunHook id) es (list_any (λ s. bytes_eq id s.id) (run_hooks es)) (is_some (find_run_hook (declarations_in es) id))
     (sym (list_any-map (λ (r : RunHookRow). bytes_eq id r.id) (run_hook_row es) (run_hooks es)) ∙ sym (found_any (λ (r : RunHookRow). bytes_eq id r.id) (map (run_hook_row es) (run_hooks es))))
     (by_test (RunHook id) as_run_hook (λ s. bytes_eq id s.id) (declares_run_hook id) es)
 
@@ -82,10 +82,10 @@ declares_hook id (envelope.TestCase c) = none_of (HookNamed id) (λ (s : TestSte
 declares_hook id (envelope.TestRunStarted r) = none_of (HookNamed id) Run (if_any r.id) (λ s. refl)
 declares_hook id _ = refl
 
-pub definition_declared : (id : Utf8) (es : List Envelope) → IsDeclaredIf (Definition id) es (has_text id (declared_in es).definitions)
+pub definition_declared : (id : Utf8) (es : List Envelope) → IsDeclaredIf (Definition id) es (has_text id (declarations_in es).definitions)
 definition_declared id es = by_test (Definition id) as_definition (bytes_eq id) (declares_definition id) es
 
-pub hook_declared : (id : Utf8) (es : List Envelope) → IsDeclaredIf (HookNamed id) es (has_text id (declared_in es).hooks)
+pub hook_declared : (id : Utf8) (es : List Envelope) → IsDeclaredIf (HookNamed id) es (has_text id (declarations_in es).hooks)
 hook_declared id es = by_test (HookNamed id) as_hook (bytes_eq id) (declares_hook id) es
 
 -- ---- the run
@@ -136,6 +136,6 @@ run_declared es pass id =
 abbrev pub unknown : List Envelope → Name → Bool
 unknown es name = times_declared name es == 0
 
-pub run_known : (first : ℕ) (es : List Envelope) → AllPass es → (o : Option Utf8) → list_any (unknown es) (map Run (if_any o)) ≡ not (knows_run (seen first es) o)
+pub run_known : (first : ℕ) (es : List Envelope) → AllPass es → (o : Option Utf8) → list_any (unknown es) (map Run (if_any o)) ≡ not (knows_run (summary_of_lines first es) o)
 run_known first es pass None = refl
 run_known first es pass (Some id) = or_no (unknown es (Run id)) ∙ (run_declared es pass id).unknown

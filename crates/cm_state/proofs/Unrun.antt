@@ -9,7 +9,7 @@ use Rattle.cm_refs.proofs.EntryLemmas.{list_any-map}
 use Rattle.cm_attempt.specs.Table.{has_text}
 use Rattle.cm_stream.specs.Texts.{Utf8}
 use Rattle.cm_stream.specs.References.{Name, PickleNamed, Run, times_declared, refers, if_any, as_source, as_pickle, as_case, as_start, sources, pickles, cases, starts}
-use Rattle.cm_stream.specs.Stream.{unrun, counts_of}
+use Rattle.cm_stream.specs.Stream.{unrun_count, counts_of}
 use Rattle.cm_stream.specs.declared.verdict.Counts.{Counts}
 use Rattle.cm_envelope.specs.declared.envelope.Envelope.{Envelope}
 use Rattle.cm_envelope.specs.declared.envelope.Envelope.TheVariants as envelope
@@ -20,7 +20,7 @@ use Rattle.cm_stream.proofs.Found.{bytes_same, bytes_are, by_id, differs_back}
 use Rattle.cm_stream.proofs.Declared.{declares_pickle, case_is}
 use Rattle.cm_stream.proofs.Passing.{AllPass, front_passes, last_passes}
 use Rattle.cm_stream.proofs.Distinct.{all_refer}
-use Rattle.cm_state.specs.Summary.{with_name, names_from, once_each, source_counted, pickle_counted, case_counted, attempt_counted}
+use Rattle.cm_state.specs.Summary.{with_name, names_from, once_each, counts_with_source, counts_with_pickle, counts_with_case, counts_with_attempt}
 use Rattle.cm_state.proofs.OneMore.{one_if, found_after, length_after, same_count, kept_apart, kept_named, not_found, none_refers}
 
 -- ---- names, each once
@@ -70,7 +70,7 @@ named_by cs = once_each (map (λ c. c.pickle_id) cs)
 is_named : (id : Utf8) (cs : List TestCase) → has_text id (named_by cs) ≡ list_any (names_it id) cs
 is_named id cs = has_names id [] (map (λ c. c.pickle_id) cs) ∙ list_any-map (bytes_eq id) (λ (c : TestCase). c.pickle_id) cs
 
-other_unrun : (es : List Envelope) (e : Envelope) → as_case e ≡ None → as_pickle e ≡ None → unrun (es ++ e ∷ []) ≡ unrun es
+other_unrun : (es : List Envelope) (e : Envelope) → as_case e ≡ None → as_pickle e ≡ None → unrun_count (es ++ e ∷ []) ≡ unrun_count es
 other_unrun es e c p = λ i. count_by (unnamed (found_more as_case es e c i)) (found_more as_pickle es e p i)
 
 after_run : (P : Name → Type 0) (run : Option Utf8) (name : Name) (more : List Name) → AllByRecursion P (map Run (if_any run) ++ name ∷ more) → P name
@@ -82,7 +82,7 @@ case_refers front here c is refs =
     after_run (λ n. times_declared n front ≡ 1) c.test_run_started_id (PickleNamed c.pickle_id) _
     (subst (λ (e : Envelope). AllByRecursion (λ (n : Name). times_declared n front ≡ 1) (refers front e)) (case_is here c is) refs)
 
-pickle_unrun : (es : List Envelope) (p : Pickle) → AllPass (es ++ envelope.Pickle p ∷ []) → unrun (es ++ envelope.Pickle p ∷ []) ≡ unrun es + 1
+pickle_unrun : (es : List Envelope) (p : Pickle) → AllPass (es ++ envelope.Pickle p ∷ []) → unrun_count (es ++ envelope.Pickle p ∷ []) ≡ unrun_count es + 1
 pickle_unrun es p more =
     let e = envelope.Pickle p in
     let pass = front_passes es (e ∷ []) more in
@@ -90,9 +90,9 @@ pickle_unrun es p more =
     let new = (or_false _ _ again.1).0 in
     let none = not_found (PickleNamed p.id) as_pickle (λ (x : Pickle). bytes_eq p.id x.id) (declares_pickle p.id) es new in
     let unused : list_any (names_it p.id) (cases es) ≡ false = none_refers es pass PickleNamed as_pickle (λ (x : Pickle). x.id) declares_pickle as_case (λ (c : TestCase). c.pickle_id) case_refers p.id none in
-    let same : unrun (es ++ e ∷ []) ≡ count_by (unnamed (cases es)) (pickles es ++ p ∷ []) = λ i. count_by (unnamed (found_more as_case es e refl i)) (found_push as_pickle es e p refl i) in
+    let same : unrun_count (es ++ e ∷ []) ≡ count_by (unnamed (cases es)) (pickles es ++ p ∷ []) = λ i. count_by (unnamed (found_more as_case es e refl i)) (found_push as_pickle es e p refl i) in
     let back : count_by (unnamed (cases es)) [] ≡ 0 = none_counted (unnamed (cases es)) [] refl in
-    same ∙ count_cut (unnamed (cases es)) (pickles es) p [] (ap not unused) ∙ tail (unrun es) (count_by (unnamed (cases es)) []) back
+    same ∙ count_cut (unnamed (cases es)) (pickles es) p [] (ap not unused) ∙ tail (unrun_count es) (count_by (unnamed (cases es)) []) back
   where
     tail : (m n : ℕ) → n ≡ 0 → m + 1 + n ≡ m + 1
     tail m n h = omega (arith, h)
@@ -103,10 +103,10 @@ unrun_with true n = n
 unrun_with false n = n - 1
 
 case_unrun : (es : List Envelope) (c : TestCase) → AllPass (es ++ envelope.TestCase c ∷ [])
-    → unrun (es ++ envelope.TestCase c ∷ []) ≡ unrun_with (list_any (names_it c.pickle_id) (cases es)) (unrun es)
+    → unrun_count (es ++ envelope.TestCase c ∷ []) ≡ unrun_with (list_any (names_it c.pickle_id) (cases es)) (unrun_count es)
 case_unrun es c more = go (list_any (names_it c.pickle_id) (cases es)) refl
   where
-    same : unrun (es ++ envelope.TestCase c ∷ []) ≡ count_by (unnamed (cases es ++ c ∷ [])) (pickles es)
+    same : unrun_count (es ++ envelope.TestCase c ∷ []) ≡ count_by (unnamed (cases es ++ c ∷ [])) (pickles es)
     same = λ i. count_by (unnamed (found_push as_case es (envelope.TestCase c) c refl i)) (found_more as_pickle es (envelope.TestCase c) refl i)
 
     with_it : (p : Pickle) → unnamed (cases es ++ c ∷ []) p ≡ not (list_any (names_it p.id) (cases es) || bytes_eq p.id c.pickle_id)
@@ -132,24 +132,24 @@ case_unrun es c more = go (list_any (names_it c.pickle_id) (cases es)) refl
     less : (m n k : ℕ) → m ≡ n + k → k ≡ 1 → n ≡ m - 1
     less m n k h e = omega (arith, h, e)
 
-    go : (b : Bool) → list_any (names_it c.pickle_id) (cases es) ≡ b → unrun (es ++ envelope.TestCase c ∷ []) ≡ unrun_with b (unrun es)
+    go : (b : Bool) → list_any (names_it c.pickle_id) (cases es) ≡ b → unrun_count (es ++ envelope.TestCase c ∷ []) ≡ unrun_with b (unrun_count es)
     go true e = same ∙ same_count (unnamed (cases es ++ c ∷ [])) (unnamed (cases es)) (again e) (pickles es)
     go false e =
         let parts = kept_apart (unnamed (cases es)) (unnamed (cases es ++ c ∷ [])) (λ p. bytes_eq c.pickle_id p.id) (first e) (λ p k. sym (away p (differs_back c.pickle_id p.id k))) (pickles es) in
-        let all : unrun es ≡ count_by (unnamed (cases es ++ c ∷ [])) (pickles es) + length (filter (λ p. bytes_eq c.pickle_id p.id) (pickles es)) =
+        let all : unrun_count es ≡ count_by (unnamed (cases es ++ c ∷ [])) (pickles es) + length (filter (λ p. bytes_eq c.pickle_id p.id) (pickles es)) =
         sym (length-filter (unnamed (cases es)) (pickles es)) ∙ parts ∙ ap (λ n. n + length (filter (λ (p : Pickle). bytes_eq c.pickle_id p.id) (pickles es))) (length-filter (unnamed (cases es ++ c ∷ [])) (pickles es)) in
-        same ∙ less (unrun es) (count_by (unnamed (cases es ++ c ∷ [])) (pickles es)) (length (filter (λ p. bytes_eq c.pickle_id p.id) (pickles es))) all one
+        same ∙ less (unrun_count es) (count_by (unnamed (cases es ++ c ∷ [])) (pickles es)) (length (filter (λ p. bytes_eq c.pickle_id p.id) (pickles es))) all one
 
 -- ---- all counts
 
 abbrev pub counts_after : List Utf8 → Counts → Envelope → Counts
-counts_after names n (envelope.Source s) = source_counted n
-counts_after names n (envelope.Pickle p) = pickle_counted n
-counts_after names n (envelope.TestCase c) = case_counted (has_text c.pickle_id names) n
-counts_after names n (envelope.TestCaseStarted s) = attempt_counted n
+counts_after names n (envelope.Source s) = counts_with_source n
+counts_after names n (envelope.Pickle p) = counts_with_pickle n
+counts_after names n (envelope.TestCase c) = counts_with_case (has_text c.pickle_id names) n
+counts_after names n (envelope.TestCaseStarted s) = counts_with_attempt n
 counts_after names n _ = n
 
-counts_with : (es : List Envelope) (e : Envelope) (n : ℕ) → unrun (es ++ e ∷ []) ≡ n
+counts_with : (es : List Envelope) (e : Envelope) (n : ℕ) → unrun_count (es ++ e ∷ []) ≡ n
     → counts_of (es ++ e ∷ []) ≡ record { sources = one_if (length (sources es)) (as_source e); pickles = one_if (length (pickles es)) (as_pickle e); cases = one_if (length (cases es)) (as_case e); attempts = one_if (length (starts es)) (as_start e); unrun = n }
 counts_with es e n h = λ i. record {
   sources = (ap length (found_after as_source es e) ∙ length_after (sources es) (as_source e)) i;
@@ -159,15 +159,15 @@ counts_with es e n h = λ i. record {
   unrun = h i;
 }
 
-case_counts : (n : Counts) (b : Bool) → record n { cases = n.cases + 1; unrun = unrun_with b n.unrun } ≡ case_counted b n
+case_counts : (n : Counts) (b : Bool) → record n { cases = n.cases + 1; unrun = unrun_with b n.unrun } ≡ counts_with_case b n
 case_counts n true = refl
 case_counts n false = refl
 
 pub counts_step : (es : List Envelope) (e : Envelope) → AllPass (es ++ e ∷ []) → counts_of (es ++ e ∷ []) ≡ counts_after (named_by (cases es)) (counts_of es) e
-counts_step es (envelope.Source s) h = counts_with es (envelope.Source s) (unrun es) (other_unrun es (envelope.Source s) refl refl)
-counts_step es (envelope.Pickle p) h = counts_with es (envelope.Pickle p) (unrun es + 1) (pickle_unrun es p h)
+counts_step es (envelope.Source s) h = counts_with es (envelope.Source s) (unrun_count es) (other_unrun es (envelope.Source s) refl refl)
+counts_step es (envelope.Pickle p) h = counts_with es (envelope.Pickle p) (unrun_count es + 1) (pickle_unrun es p h)
 counts_step es (envelope.TestCase c) h =
-    counts_with es (envelope.TestCase c) (unrun_with (list_any (names_it c.pickle_id) (cases es)) (unrun es)) (case_unrun es c h)
-    ∙ case_counts (counts_of es) (list_any (names_it c.pickle_id) (cases es)) ∙ ap (λ b. case_counted b (counts_of es)) (sym (is_named c.pickle_id (cases es)))
-counts_step es (envelope.TestCaseStarted s) h = counts_with es (envelope.TestCaseStarted s) (unrun es) (other_unrun es (envelope.TestCaseStarted s) refl refl)
-counts_step es e h = counts_with es e (unrun es) (other_unrun es e refl refl)
+    counts_with es (envelope.TestCase c) (unrun_with (list_any (names_it c.pickle_id) (cases es)) (unrun_count es)) (case_unrun es c h)
+    ∙ case_counts (counts_of es) (list_any (names_it c.pickle_id) (cases es)) ∙ ap (λ b. counts_with_case b (counts_of es)) (sym (is_named c.pickle_id (cases es)))
+counts_step es (envelope.TestCaseStarted s) h = counts_with es (envelope.TestCaseStarted s) (unrun_count es) (other_unrun es (envelope.TestCaseStarted s) refl refl)
+counts_step es e h = counts_with es e (unrun_count es) (other_unrun es e refl refl)

@@ -5,9 +5,9 @@ use Rattle.cm_envelope.specs.declared.envelope.Envelope.{Envelope}
 use Rattle.cm_envelope.specs.declared.feed.Trouble.{Trouble}
 use Rattle.cm_attempt.specs.declared.settings.Settings.{Settings}
 use Rattle.cm_stream.specs.Findings.{Finding, IsBad, NoEnvelope}
-use Rattle.cm_stream.specs.Stream.{Answer, GoodWith, Found, Failed, shown, answer_for}
+use Rattle.cm_stream.specs.Stream.{Answer, GoodWith, Found, Failed, envelope_unless_blank, answer_for}
 use Rattle.cm_stream.specs.ByOnePass.{fault, first_fault_of, IsFaultless}
-use Rattle.cm_state.specs.Summary.{Summary, seen, nothing_seen, after}
+use Rattle.cm_state.specs.Summary.{Summary, summary_of_lines, empty_summary, summary_after_line}
 use Rattle.cm_state.specs.StateChecks.{finding, finding_at_end}
 
 -- ---- one line
@@ -16,13 +16,13 @@ use Rattle.cm_state.specs.StateChecks.{finding, finding_at_end}
 abbrev pub FindingsAreFaults : Type 0
 FindingsAreFaults =
     (settings : Settings) (es : List Envelope) (e : Envelope) → IsFaultless settings es
-    → finding settings (seen settings.first_attempt es) e ≡ fault settings es e
+    → finding settings (summary_of_lines settings.first_attempt es) e ≡ fault settings es e
 
 -- what is kept changes by a line
 abbrev pub SummariesStep : Type 0
 SummariesStep =
     (settings : Settings) (es : List Envelope) (e : Envelope) → IsFaultless settings (es ++ e ∷ [])
-    → seen settings.first_attempt (es ++ e ∷ []) ≡ after (seen settings.first_attempt es) e
+    → summary_of_lines settings.first_attempt (es ++ e ∷ []) ≡ summary_after_line (summary_of_lines settings.first_attempt es) e
 
 -- ---- a stream
 
@@ -35,22 +35,22 @@ abbrev pub answer_at_line : ℕ → Option Finding → Answer → Answer
 answer_at_line n None more = more
 answer_at_line n (Some f) more = Found n f
 
-abbrev pub judged_line : Settings → Summary → ℕ → Option (Result Envelope LineFault)
+abbrev pub answer_of_line : Settings → Summary → ℕ → Option (Result Envelope LineFault)
     → (Summary → Answer) → Answer
-judged_line settings s n None more = more s
-judged_line settings s n (Some (Err b)) more = Found n (IsBad (NoEnvelope b))
-judged_line settings s n (Some (Ok e)) more = answer_at_line n (finding settings s e) (more (after s e))
+answer_of_line settings s n None more = more s
+answer_of_line settings s n (Some (Err b)) more = Found n (IsBad (NoEnvelope b))
+answer_of_line settings s n (Some (Ok e)) more = answer_at_line n (finding settings s e) (more (summary_after_line s e))
 
 -- the answer for these lines, the first of which has the number n, and then the trouble or the end
-abbrev pub judged_of : Settings → Summary → ℕ → List (List ℕ) → Option Trouble → Answer
-judged_of settings s n [] (Some t) = Failed t
-judged_of settings s n [] None = answer_at_end n s (finding_at_end s)
-judged_of settings s n (l ∷ ls) t =
-    judged_line settings s n (shown l) (λ (now : Summary). judged_of settings now (n + 1) ls t)
+abbrev pub answer_of_lines : Settings → Summary → ℕ → List (List ℕ) → Option Trouble → Answer
+answer_of_lines settings s n [] (Some t) = Failed t
+answer_of_lines settings s n [] None = answer_at_end n s (finding_at_end s)
+answer_of_lines settings s n (l ∷ ls) t =
+    answer_of_line settings s n (envelope_unless_blank l) (λ (now : Summary). answer_of_lines settings now (n + 1) ls t)
 
 -- the answer is that for what is reported of the lines
 abbrev pub JudgedIsTold : Type 0
 JudgedIsTold =
     (settings : Settings) (lines : List (List ℕ)) (t : Option Trouble)
-    → judged_of settings (nothing_seen settings.first_attempt) 1 lines t
+    → answer_of_lines settings (empty_summary settings.first_attempt) 1 lines t
     ≡ answer_for (first_fault_of settings [] 1 lines t)

@@ -3,7 +3,7 @@ use Rattle.std.specs.Prelude.{ℕ, ◌+◌, ◌-◌, Bool, false, true, List, []
 use Rattle.std.specs.List.{filter_map}
 use Rattle.std.specs.Str.{bytes_eq}
 use Rattle.gk_document.specs.declared.tree.Document.{Document}
-use Rattle.cm_refs.specs.Declarations.{Declarations, PickleRow, RunHookRow, no_declarations, with_source, with_document, with_pickle, with_definition, with_hook, with_run_hook, with_finished}
+use Rattle.cm_refs.specs.Declarations.{Declarations, PickleRow, RunHookRow, no_declarations, with_source, with_document, with_pickle, with_definition, with_hook, with_run_hook, with_finished_run_hook}
 use Rattle.cm_attempt.specs.Table.{Table, table_from, change_first, has_text}
 use Rattle.cm_attempt.specs.Worst.{with_status, worst_so_far}
 use Rattle.cm_attempt.specs.declared.status.Status.{Status}
@@ -15,7 +15,7 @@ use Rattle.cm_stream.specs.Sources.{DuePickle}
 use Rattle.cm_stream.specs.Checks.{due_pickles, first_ids}
 use Rattle.cm_stream.specs.References.{as_document, sources, pickles, cases, run_hooks, hook_statuses, documents_of, pickles_of, has_run_finished, is_accepted, run_succeeded, is_hook_finished}
 use Rattle.cm_stream.specs.Stream.{counts_of}
-use Rattle.cm_stream.specs.Record.{table_of_envelopes, changed}
+use Rattle.cm_stream.specs.Record.{table_of_envelopes, table_after_envelope}
 use Rattle.cm_envelope.specs.declared.envelope.Envelope.{Envelope}
 use Rattle.cm_envelope.specs.declared.envelope.Envelope.TheVariants as envelope
 use Rattle.cm_envelope.specs.declared.envelope.Source.{Source}
@@ -76,8 +76,8 @@ pickle_row p = record { id = p.id; steps = map (λ s. s.id) p.steps }
 abbrev pub run_hook_row : List Envelope → TestRunHookStarted → RunHookRow
 run_hook_row es s = record { id = s.id; is_finished = is_hook_finished s.id es }
 
-abbrev pub declared_in : List Envelope → Declarations
-declared_in es = record {
+abbrev pub declarations_in : List Envelope → Declarations
+declarations_in es = record {
   sources = map (λ s. s.uri) (sources es);
   documents = map (λ d. d.uri) (filter_map as_document es);
   pickles = map pickle_row (pickles es);
@@ -122,9 +122,9 @@ abbrev pub once_each : List Utf8 → List Utf8
 once_each texts = names_from [] texts
 
 -- where the attempts of a case are numbered from the first number
-abbrev pub seen : (first : ℕ) → List Envelope → Summary
-seen first es = record {
-  declared = declared_in es;
+abbrev pub summary_of_lines : (first : ℕ) → List Envelope → Summary
+summary_of_lines first es = record {
+  declared = declarations_in es;
   table = table_of_envelopes first es;
   sources = map (source_row es) (sources es);
   named = once_each (map (λ c. c.pickle_id) (cases es));
@@ -137,8 +137,8 @@ seen first es = record {
 
 -- ---- line by line
 
-abbrev pub nothing_seen : (first : ℕ) → Summary
-nothing_seen first = record {
+abbrev pub empty_summary : (first : ℕ) → Summary
+empty_summary first = record {
   declared = no_declarations;
   table = table_from first;
   sources = [];
@@ -168,56 +168,56 @@ one_more r = record r { due = drop 1 r.due }
 abbrev pub change_source : Utf8 → (SourceRow → SourceRow) → List SourceRow → List SourceRow
 change_source uri f = change_first (λ r. bytes_eq uri r.uri) f
 
-abbrev pub source_counted : Counts → Counts
-source_counted n = record n { sources = n.sources + 1 }
+abbrev pub counts_with_source : Counts → Counts
+counts_with_source n = record n { sources = n.sources + 1 }
 
-abbrev pub pickle_counted : Counts → Counts
-pickle_counted n = record n { pickles = n.pickles + 1; unrun = n.unrun + 1 }
+abbrev pub counts_with_pickle : Counts → Counts
+counts_with_pickle n = record n { pickles = n.pickles + 1; unrun = n.unrun + 1 }
 
 -- a case whose pickle another case named, or not
-abbrev pub case_counted : (is_named : Bool) → Counts → Counts
-case_counted true n = record n { cases = n.cases + 1 }
-case_counted false n = record n { cases = n.cases + 1; unrun = n.unrun - 1 }
+abbrev pub counts_with_case : (is_named : Bool) → Counts → Counts
+counts_with_case true n = record n { cases = n.cases + 1 }
+counts_with_case false n = record n { cases = n.cases + 1; unrun = n.unrun - 1 }
 
-abbrev pub attempt_counted : Counts → Counts
-attempt_counted n = record n { attempts = n.attempts + 1 }
+abbrev pub counts_with_attempt : Counts → Counts
+counts_with_attempt n = record n { attempts = n.attempts + 1 }
 
 -- what a line makes of it
-abbrev pub after : Summary → Envelope → Summary
-after s (envelope.Source x) =
+abbrev pub summary_after_line : Summary → Envelope → Summary
+summary_after_line s (envelope.Source x) =
     record s {
       declared = with_source x.uri s.declared;
       sources = s.sources ++ new_source x ∷ [];
-      counts = source_counted s.counts;
+      counts = counts_with_source s.counts;
     }
-after s (envelope.GherkinDocument d) =
+summary_after_line s (envelope.GherkinDocument d) =
     record s {
       declared = with_document d.uri s.declared;
       sources = change_source d.uri (with_ids d.ids) s.sources;
     }
-after s (envelope.Pickle p) = record s {
+summary_after_line s (envelope.Pickle p) = record s {
   declared = with_pickle p.id (map (λ x. x.id) p.steps) s.declared;
   sources = change_source p.uri one_more s.sources;
-  counts = pickle_counted s.counts;
+  counts = counts_with_pickle s.counts;
 }
-after s (envelope.StepDefinition d) = record s { declared = with_definition d.id s.declared }
-after s (envelope.Hook h) = record s { declared = with_hook h.id s.declared }
-after s (envelope.TestCase c) = record s {
-  table = changed s.table (envelope.TestCase c);
+summary_after_line s (envelope.StepDefinition d) = record s { declared = with_definition d.id s.declared }
+summary_after_line s (envelope.Hook h) = record s { declared = with_hook h.id s.declared }
+summary_after_line s (envelope.TestCase c) = record s {
+  table = table_after_envelope s.table (envelope.TestCase c);
   named = with_name s.named c.pickle_id;
-  counts = case_counted (has_text c.pickle_id s.named) s.counts;
+  counts = counts_with_case (has_text c.pickle_id s.named) s.counts;
 }
-after s (envelope.TestRunStarted r) = record s { run = Some r }
-after s (envelope.TestCaseStarted x) =
+summary_after_line s (envelope.TestRunStarted r) = record s { run = Some r }
+summary_after_line s (envelope.TestCaseStarted x) =
     record s {
-      table = changed s.table (envelope.TestCaseStarted x);
-      counts = attempt_counted s.counts;
+      table = table_after_envelope s.table (envelope.TestCaseStarted x);
+      counts = counts_with_attempt s.counts;
     }
-after s (envelope.TestRunHookStarted x) = record s { declared = with_run_hook x.id s.declared }
-after s (envelope.TestRunHookFinished f) =
+summary_after_line s (envelope.TestRunHookStarted x) = record s { declared = with_run_hook x.id s.declared }
+summary_after_line s (envelope.TestRunHookFinished f) =
     record s {
-      declared = with_finished f.test_run_hook_started_id s.declared;
+      declared = with_finished_run_hook f.test_run_hook_started_id s.declared;
       hooks_worst = with_status s.hooks_worst (kept_status f.result.status);
     }
-after s (envelope.TestRunFinished f) = record s { is_finished = true; success = f.success }
-after s e = record s { table = changed s.table e }
+summary_after_line s (envelope.TestRunFinished f) = record s { is_finished = true; success = f.success }
+summary_after_line s e = record s { table = table_after_envelope s.table e }

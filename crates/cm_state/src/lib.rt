@@ -8,7 +8,7 @@
 //!
 //! ```text
 //! ghost use Rattle.cm_state.specs.StateChecks.{finding};
-//! ghost use Rattle.cm_state.specs.Summary.{after};
+//! ghost use Rattle.cm_state.specs.Summary.{summary_after_line};
 //!
 //! fn judge(state: &mut State, envelope: Envelope, settings: Settings) -> Option<Finding>
 //!     ensures found { result ≡ finding settings state.old envelope }

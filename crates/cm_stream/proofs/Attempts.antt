@@ -5,7 +5,7 @@ use Rattle.std.specs.List.{list_any, filter_map, flat_map}
 use Rattle.std.specs.Str.{bytes_eq}
 use Rattle.cm_stream.specs.Texts.{Utf8}
 use Rattle.cm_stream.specs.References.{Case, Attempt, times_declared, as_case, as_start, find_case, steps_of, move_of, moves, is_ended}
-use Rattle.cm_attempt.specs.Calls.{Move, Started, StepStarted, StepFinished, Ended, whole, is_end}
+use Rattle.cm_attempt.specs.Calls.{Move, Started, StepStarted, StepFinished, Ended, all_moves, is_end}
 use Rattle.cm_stream.specs.Good.{Sound}
 use Rattle.cm_stream.specs.Checks.{steps_of_attempt, is_next_move}
 use Rattle.cm_attempt.specs.CallFaults.{same_move}
@@ -22,7 +22,7 @@ use Rattle.cm_stream.proofs.Declared.{declarer, declares_attempt, declares_case,
 -- an attempt that is started, with the steps of its case before the line and in the whole
 pub record IsUnderWay (es before : List Envelope) (a : Utf8) : Type 0 where
   pub steps : steps_of_attempt a before ≡ steps_of_attempt a es
-  pub goes : moves a es ≡ whole (steps_of_attempt a es)
+  pub goes : moves a es ≡ all_moves (steps_of_attempt a es)
 
 pub under_way : (es before : List Envelope) (e : Envelope) (after : List Envelope) → Sound es → es ≡ before ++ e ∷ after → (a : Utf8) → times_declared (Attempt a) before ≡ 1 → IsUnderWay es before a
 under_way es before e after good cut a one =
@@ -41,7 +41,7 @@ under_way es before e after good cut a one =
     let same : steps_of case before ≡ steps_of case es = rw (in_before, in_all) refl in
     record {
       steps = part ∙ same ∙ sym all;
-      goes = ap (λ x. moves x es) a_is ∙ good.attempts at.front (envelope.TestCaseStarted at.value) (at.back ++ e ∷ after) its_cut ∙ ap whole (sym all);
+      goes = ap (λ x. moves x es) a_is ∙ good.attempts at.front (envelope.TestCaseStarted at.value) (at.back ++ e ∷ after) its_cut ∙ ap all_moves (sym all);
     }
 
 same_move_itself : (m : Move) → same_move m m ≡ true
@@ -56,9 +56,9 @@ pub is_next : (es before : List Envelope) (e : Envelope) (after : List Envelope)
     → is_next_move m a before ≡ true
 is_next es before e after good cut a m moved one =
     let way = under_way es before e after good cut a one in
-    let parts : whole (steps_of_attempt a before) ≡ moves a before ++ m ∷ moves a after =
-    ap whole way.steps ∙ sym way.goes ∙ ap (moves a) cut ∙ found_cut (move_of a) before e after m moved in
-    let next : slice_get (whole (steps_of_attempt a before)) (length (moves a before)) ≡ Some m = ap (λ ms. slice_get ms (length (moves a before))) parts ∙ at_length (moves a before) m (moves a after) in
+    let parts : all_moves (steps_of_attempt a before) ≡ moves a before ++ m ∷ moves a after =
+    ap all_moves way.steps ∙ sym way.goes ∙ ap (moves a) cut ∙ found_cut (move_of a) before e after m moved in
+    let next : slice_get (all_moves (steps_of_attempt a before)) (length (moves a before)) ≡ Some m = ap (λ ms. slice_get ms (length (moves a before))) parts ∙ at_length (moves a before) m (moves a after) in
     rw next (same_move_itself m)
 
 pub step_starts_next : (es before : List Envelope) (s : TestStepStarted) (after : List Envelope) → Sound es → es ≡ before ++ envelope.TestStepStarted s ∷ after
@@ -112,5 +112,5 @@ not_ended_yet es before f after good cut =
     let a = f.test_case_started_id in
     let way = under_way es before (envelope.TestCaseFinished f) after good cut a (good.references before (envelope.TestCaseFinished f) after cut).0 in
     let moved : move_of a (envelope.TestCaseFinished f) ≡ Some Ended = rw (bytes_same a) refl in
-    let parts : whole (steps_of_attempt a es) ≡ moves a before ++ Ended ∷ moves a after = sym way.goes ∙ ap (moves a) cut ∙ found_cut (move_of a) before (envelope.TestCaseFinished f) after Ended moved in
+    let parts : all_moves (steps_of_attempt a es) ≡ moves a before ++ Ended ∷ moves a after = sym way.goes ∙ ap (moves a) cut ∙ found_cut (move_of a) before (envelope.TestCaseFinished f) after Ended moved in
     ends_last (Started ∷ flat_map (λ s. StepStarted s ∷ StepFinished s ∷ []) (steps_of_attempt a es)) (moves a before) (moves a after) (steps_have_no_end (steps_of_attempt a es)) parts

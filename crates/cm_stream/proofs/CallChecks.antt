@@ -16,7 +16,7 @@ use Rattle.cm_stream.specs.Texts.{Utf8}
 use Rattle.cm_stream.specs.Findings as bad
 use Rattle.cm_stream.specs.Findings.{Finding}
 use Rattle.cm_stream.specs.References.{has_run_started, Attempt, Case, Step, same_name, declares, times_declared, step_names, as_case, as_start, cases, starts, starts_of, find_case, is_ended, is_retried}
-use Rattle.cm_attempt.specs.Calls.{Move, StepStarted, StepFinished, Ended, whole}
+use Rattle.cm_attempt.specs.Calls.{Move, StepStarted, StepFinished, Ended, all_moves}
 use Rattle.cm_stream.specs.Good.{has_same_names, is_unknown}
 use Rattle.cm_stream.specs.Checks.{◌if◌, ◌unsupported_if◌, has_steps_of_pickle, first_failed, refers_to_unknown, declares_again, is_next_move, steps_of_attempt, checks_of_by}
 use Rattle.cm_attempt.specs.CallFaults.{same_move}
@@ -69,7 +69,7 @@ pub start_seen : (a : Utf8) (es : List Envelope) → is_some (call.start_of a (c
 start_seen a es = ap is_some (start_of_told a es) ∙ some_mapped start_in_calls (find (is_of a) (starts es))
 
 next_told : (m : Move) (a : Utf8) (es : List Envelope) → calls.is_next_move m a (calls_of es) ≡ is_next_move m a es
-next_told m a es = λ i. option_map_or (same_move m) (slice_get (whole (attempt_steps_told a es i)) (length (moves_told a es i))) false
+next_told m a es = λ i. option_map_or (same_move m) (slice_get (all_moves (attempt_steps_told a es i)) (length (moves_told a es i))) false
 
 -- ---- a case
 
@@ -131,7 +131,7 @@ start_checked first es s =
     (λ i. option_and_then told (start_fault (unknown i) (again i) (not (s.attempt == first + long_told s.test_case_id es i)) (not (retried_told s.test_case_id es i))))
     ∙ start_told (refers_to_unknown es (envelope.TestCaseStarted s)) (declares_again es (envelope.TestCaseStarted s)) (not (s.attempt == first + length (starts_of s.test_case_id es))) (not (list_all (λ x. is_retried x.id es) (starts_of s.test_case_id es)))
   where
-    unknown : not (is_some (call.declared s.test_case_id (calls_of es))) ≡ refers_to_unknown es (envelope.TestCaseStarted s)
+    unknown : not (is_some (call.declared_case s.test_case_id (calls_of es))) ≡ refers_to_unknown es (envelope.TestCaseStarted s)
     unknown = ap not (some_told s.test_case_id es) ∙ sym (known (Case s.test_case_id) as_case (λ c. bytes_eq s.test_case_id c.id) (declares_case s.test_case_id) es).0 ∙ sym (or_no (times_declared (Case s.test_case_id) es == 0))
 
     again : is_some (call.start_of s.id (calls_of es)) ≡ declares_again es (envelope.TestCaseStarted s)

@@ -80,7 +80,7 @@ cases_told es = kept_twice call_of call.as_case (λ e. option_map case_told (as_
 pub starts_told : (es : List Envelope) → call.starts (calls_of es) ≡ map start_told (starts es)
 starts_told es = kept_twice call_of call.as_start (λ e. option_map start_told (as_start e)) start_same es ∙ kept_map as_start start_told es
 
-pub declared_told : (case : Utf8) (es : List Envelope) → call.declared case (calls_of es) ≡ option_map case_told (find_case case es)
+pub declared_told : (case : Utf8) (es : List Envelope) → call.declared_case case (calls_of es) ≡ option_map case_told (find_case case es)
 declared_told case es = ap (find (λ (c : DeclaredCase). bytes_eq case c.id)) (cases_told es) ∙ find_map (λ c. bytes_eq case c.id) case_told (cases es)
 
 pub start_of_told : (a : Utf8) (es : List Envelope) → call.start_of a (calls_of es) ≡ option_map start_told (find (λ s. bytes_eq a s.id) (starts es))
@@ -133,7 +133,7 @@ some_mapped f (Some x) = refl
 pub case_ids : (es : List Envelope) → map (λ (c : DeclaredCase). c.id) (call.cases (calls_of es)) ≡ map (λ (c : TestCase). c.id) (cases es)
 case_ids es = ap (map (λ (c : DeclaredCase). c.id)) (cases_told es) ∙ map_twice (λ (c : DeclaredCase). c.id) case_told (cases es)
 
-pub some_told : (case : Utf8) (es : List Envelope) → is_some (call.declared case (calls_of es)) ≡ is_some (find_case case es)
+pub some_told : (case : Utf8) (es : List Envelope) → is_some (call.declared_case case (calls_of es)) ≡ is_some (find_case case es)
 some_told case es = ap is_some (declared_told case es) ∙ some_mapped case_told (find_case case es)
 
 pub long_told : (case : Utf8) (es : List Envelope) → length (call.starts_of case (calls_of es)) ≡ length (starts_of case es)

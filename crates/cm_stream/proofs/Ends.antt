@@ -11,7 +11,7 @@ use Rattle.cm_stream.specs.Readings.{Reading, Accepted, Refused, OtherLanguage, 
 use Rattle.cm_stream.specs.OnePass.{reads}
 use Rattle.cm_stream.specs.Sources.{is_due}
 use Rattle.cm_stream.specs.References.{as_source, as_document, as_pickle, as_case, as_start, as_run_hook_end, sources, cases, starts, hook_statuses, starts_of, documents_of, pickles_of, is_run_started, is_judged, has_run_started, move_of, moves, is_ended, retry_in, ends_of, status_in, statuses, ends_well, is_good_case, steps_of}
-use Rattle.cm_attempt.specs.Calls.{StepStarted, StepFinished, Ended, whole, is_end, last_of}
+use Rattle.cm_attempt.specs.Calls.{StepStarted, StepFinished, Ended, all_moves, is_end, last_of}
 use Rattle.cm_stream.specs.Good.{Good, Sound, MeetsSource}
 use Rattle.cm_attempt.specs.declared.policy.Policy.{Policy}
 use Rattle.cm_attempt.specs.declared.settings.Settings.{Settings}
@@ -78,7 +78,7 @@ module _ (es before : List Envelope) (f : TestRunFinished) (after : List Envelop
 
   -- ---- AttemptOpen
 
-  has_end : (xs : List Utf8) → list_any is_end (whole xs) ≡ true
+  has_end : (xs : List Utf8) → list_any is_end (all_moves xs) ≡ true
   has_end xs = go xs
     where
       go : (steps : List Utf8) → list_any is_end (flat_map (λ s. StepStarted s ∷ StepFinished s ∷ []) steps ++ Ended ∷ []) ≡ true
@@ -93,7 +93,7 @@ module _ (es before : List Envelope) (f : TestRunFinished) (after : List Envelop
           let start = start_is here s is in
           let its_cut : es ≡ front ++ envelope.TestCaseStarted s ∷ (back ++ envelope.TestRunFinished f ∷ after) =
           run.cut ∙ ap (λ xs. xs ++ envelope.TestRunFinished f ∷ after) cut ∙ append_assoc front (here ∷ back) (envelope.TestRunFinished f ∷ after) ∙ ap (λ x. front ++ x ∷ (back ++ envelope.TestRunFinished f ∷ after)) start in
-          let goes : moves s.id es ≡ whole (steps_of s.test_case_id es) = good.attempts front (envelope.TestCaseStarted s) (back ++ envelope.TestRunFinished f ∷ after) its_cut in
+          let goes : moves s.id es ≡ all_moves (steps_of s.test_case_id es) = good.attempts front (envelope.TestCaseStarted s) (back ++ envelope.TestRunFinished f ∷ after) its_cut in
           ap (list_any is_end) (sym (till_end (move_of s.id) refl refl) ∙ goes) ∙ has_end (steps_of s.test_case_id es)
 
   -- ---- SourceIncomplete

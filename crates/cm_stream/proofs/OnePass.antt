@@ -9,7 +9,7 @@ use Rattle.gk_grammar.specs.Machine.{FlatBlock, State, PlacedFault, run, blocks_
 use Rattle.gk_grammar.proofs.LawLemmas.{one_document_holds, no_document_with_fault_holds, one_fault_holds, whole_run, stopped_run, open_run}
 use Rattle.cm_stream.specs.Texts.{Utf8}
 use Rattle.cm_stream.specs.Readings.{Reading, Accepted, Refused, OtherLanguage, TooLong, IsReading, OneReading}
-use Rattle.cm_stream.specs.OnePass.{passes_limits, refused_for, reading_at_end, reading_after, reads, EachTextIsRead}
+use Rattle.cm_stream.specs.OnePass.{passes_limits, reading_of_fault, reading_at_end, reading_after, reads, EachTextIsRead}
 
 -- ---- limits
 
@@ -34,7 +34,7 @@ few_enough m n p q h (inr l) =
 
 -- ---- what the pass makes of a text
 
-fault_read : (text : Utf8) → (IsTooLong text → ⊥) → (k : FaultKind) (line column : ℕ) → HasFault text k line column → IsReading text (refused_for k)
+fault_read : (text : Utf8) → (IsTooLong text → ⊥) → (k : FaultKind) (line column : ℕ) → HasFault text k line column → IsReading text (reading_of_fault k)
 fault_read text fits kind.UnsupportedLanguage n c h = (fits, record { line = n; column = c; fault = h })
 fault_read text fits kind.Unexpected n c h = (fits, record { kind = kind.Unexpected; line = n; column = c; fault = h; other = λ e. cc })
 fault_read text fits kind.TagSpace n c h = (fits, record { kind = kind.TagSpace; line = n; column = c; fault = h; other = λ e. cc })

@@ -17,7 +17,7 @@ use Rattle.cm_stream.specs.Findings.{Fault, Finding, IsBad, IsUnsupported, NoRun
 use Rattle.cm_stream.specs.Sources.{plain}
 use Rattle.cm_stream.specs.Checks.{Check, ◌if◌, ◌unsupported_if◌, first_failed, is_too_long, is_other_language}
 use Rattle.cm_stream.specs.ByOnePass.{checks, fault, first_fault, first_fault_line, first_fault_of}
-use Rattle.cm_stream.specs.Stream.{At, fed, shown, at_end, at_line}
+use Rattle.cm_stream.specs.Stream.{At, feed_of, envelope_unless_blank, at_end, at_line}
 use Rattle.cm_stream.specs.Unsupported.{HasReason, ShowsReason, ReasonsAreShown}
 use Rattle.cm_stream.specs.declared.verdict.Reason.{Reason}
 use Rattle.cm_stream.specs.declared.verdict.Reason.TheVariants as reason
@@ -128,7 +128,7 @@ record ShownIn (n : ℕ) (ls : List (List ℕ)) (m : ℕ) (r : Reason) : Type 0 
   cut : ls ≡ before ++ line ∷ after
   count : m ≡ length before + n
   said : Envelope
-  read : shown line ≡ Some (Ok said)
+  read : envelope_unless_blank line ≡ Some (Ok said)
   why : HasReason r said
 
 module _ (settings : Settings) (m : ℕ) (r : Reason) where
@@ -155,9 +155,9 @@ module _ (settings : Settings) (m : ℕ) (r : Reason) where
       go : (b : Bool) → at_end n before (if b then None else Some (IsBad NoRunFinished)) ≡ At m (IsUnsupported r) → ShownIn n [] m r
       go true k = cc
       go false k = absurd cc
-  shown_in before n (l ∷ ls) t h = go (shown l) refl h (shown_in before (n + 1) ls t) (λ e. shown_in (before ++ e ∷ []) (n + 1) ls t)
+  shown_in before n (l ∷ ls) t h = go (envelope_unless_blank l) refl h (shown_in before (n + 1) ls t) (λ e. shown_in (before ++ e ∷ []) (n + 1) ls t)
     where
-      on_fault : (e : Envelope) → shown l ≡ Some (Ok e) → (o : Option Finding) → fault settings before e ≡ o → at_line n o (first_fault_of settings (before ++ e ∷ []) (n + 1) ls t) ≡ At m (IsUnsupported r) → Later (n + 1) ls t (before ++ e ∷ []) → ShownIn n (l ∷ ls) m r
+      on_fault : (e : Envelope) → envelope_unless_blank l ≡ Some (Ok e) → (o : Option Finding) → fault settings before e ≡ o → at_line n o (first_fault_of settings (before ++ e ∷ []) (n + 1) ls t) ≡ At m (IsUnsupported r) → Later (n + 1) ls t (before ++ e ∷ []) → ShownIn n (l ∷ ls) m r
       on_fault e is None k told rec = shown_later n l ls (rec told)
       on_fault e is (Some f) k told rec =
           let here : n ≡ m = cc in
@@ -173,7 +173,7 @@ module _ (settings : Settings) (m : ℕ) (r : Reason) where
             why = fault_has_reason settings before e r (k ∙ ap Some its);
           }
 
-      go : (o : Option (Result Envelope LineFault)) → shown l ≡ o → first_fault_line settings before n o (λ (now : List Envelope). first_fault_of settings now (n + 1) ls t) ≡ At m (IsUnsupported r) → Later (n + 1) ls t before
+      go : (o : Option (Result Envelope LineFault)) → envelope_unless_blank l ≡ o → first_fault_line settings before n o (λ (now : List Envelope). first_fault_of settings now (n + 1) ls t) ≡ At m (IsUnsupported r) → Later (n + 1) ls t before
           → ((e : Envelope) → Later (n + 1) ls t (before ++ e ∷ [])) → ShownIn n (l ∷ ls) m r
       go None is k skip rec = shown_later n l ls (skip k)
       go (Some (Err b)) is k skip rec = absurd cc
@@ -181,7 +181,7 @@ module _ (settings : Settings) (m : ℕ) (r : Reason) where
 
 pub shows_reason : (settings : Settings) (bytes : List ℕ) (n : ℕ) (r : Reason) → first_fault settings bytes ≡ At n (IsUnsupported r) → ShowsReason bytes n r
 shows_reason settings bytes n r h =
-    let s = shown_in settings n r [] 1 (fed bytes).lines (fed bytes).trouble h in
+    let s = shown_in settings n r [] 1 (feed_of bytes).lines (feed_of bytes).trouble h in
     record { before = s.before; line = s.line; after = s.after; cut = s.cut; count = s.count; said = s.said; read = s.read; why = s.why }
 
 pub reasons_are_shown : ReasonsAreShown

@@ -13,9 +13,9 @@ use Rattle.cm_stream.specs.Readings.{Accepted}
 use Rattle.cm_stream.specs.References.{as_source, as_pickle, as_case, as_start, as_run_hook, as_run_end, sources, pickles, cases, starts, run_hook_ends, run_ends, starts_of, documents_of, find_pickle, find_case, pickle_step_ids, steps_of, moves, is_final, statuses, ends_well, is_good_case, is_run_finished, says_success, run_succeeded}
 use Rattle.cm_stream.specs.Statuses.{kept_status}
 use Rattle.cm_stream.specs.ByOnePass.{first_fault}
-use Rattle.cm_attempt.specs.Calls.{whole, last_of}
+use Rattle.cm_attempt.specs.Calls.{all_moves, last_of}
 use Rattle.cm_stream.specs.Good.{Good, SuccessGood, AllWell, IsAccepted, MeetsSource}
-use Rattle.cm_stream.specs.Stream.{IsGoodRun, answered, answer_for, envelopes, unrun}
+use Rattle.cm_stream.specs.Stream.{IsGoodRun, answer_of_audit, answer_for, envelopes, unrun_count}
 use Rattle.cm_stream.specs.Release.{hold_of, is_named, EachNamed, IsReleasedStream, IsCompiled, CaseRan, Ran, HookRan, RunEnded, EachSourceIsCompiled, EachPickleRan, EachCaseRan, EachHookRan, ReleasedIsNotHeld, ReleasedExactly, Releases, AnswersRelease, ReleasedRan, ReleasedCasesRan}
 use Rattle.cm_stream.specs.declared.verdict.Hold.{Hold}
 use Rattle.cm_stream.specs.declared.verdict.Hold.TheVariants.{NotSuccessful, Empty, Unrun}
@@ -56,12 +56,12 @@ each_so P Q f (x ∷ xs) h = (f x h.0, each_so P Q f xs h.1)
 
 -- ---- which runs are released
 
-all_named : (es : List Envelope) → unrun es ≡ 0 → EachNamed es
+all_named : (es : List Envelope) → unrun_count es ≡ 0 → EachNamed es
 all_named es none =
     let q = λ (p : Pickle). not (is_named es p) in
     each_so (λ p. q p ≡ false) (λ p. is_named es p ≡ true) (λ p h. was_not (is_named es p) h) (pickles es) (each_false q (pickles es) (count_none q (pickles es) none))
 
-none_unrun : (es : List Envelope) → EachNamed es → unrun es ≡ 0
+none_unrun : (es : List Envelope) → EachNamed es → unrun_count es ≡ 0
 none_unrun es named =
     let q = λ (p : Pickle). not (is_named es p) in
     none_counted q (pickles es) (none_any q (pickles es) (each_so (λ p. is_named es p ≡ true) (λ p. q p ≡ false) (λ p h. ap not h) (pickles es) named))
@@ -149,13 +149,13 @@ released_exactly settings allows_unrun bytes counts = (unheld, λ h. (released_i
 pub answers_release : AnswersRelease
 answers_release settings allows_unrun bytes counts f answer first e = (released, releases)
   where
-    told : answered answer ≡ answer_for (first_fault settings bytes)
+    told : answer_of_audit answer ≡ answer_for (first_fault settings bytes)
     told = e ∙ ap answer_for (sym (reported settings bytes f first))
 
-    released : Releases allows_unrun counts (answered answer) → IsReleasedStream settings allows_unrun bytes counts
+    released : Releases allows_unrun counts (answer_of_audit answer) → IsReleasedStream settings allows_unrun bytes counts
     released h = (released_exactly settings allows_unrun bytes counts).1 (h.0, run_if_told settings bytes counts h.0 (sym told ∙ h.1), h.2)
 
-    releases : IsReleasedStream settings allows_unrun bytes counts → Releases allows_unrun counts (answered answer)
+    releases : IsReleasedStream settings allows_unrun bytes counts → Releases allows_unrun counts (answer_of_audit answer)
     releases r =
         let h = (released_exactly settings allows_unrun bytes counts).0 r in
         (h.0, told ∙ run_is_told settings bytes counts h.0 h.1, h.2)
@@ -250,8 +250,8 @@ module _ (settings : Settings) (es : List Envelope) (good : Good settings es) (w
       let q = λ (x : TestCase). bytes_eq c.id x.id in
       ap (find q) all ∙ only_here q (cases front) c (cases back) (subst (OnlyOne q) all (one_case es pass c.id)) (bytes_same c.id)
 
-  each_whole : AllByRecursion (λ (s : TestCaseStarted). moves s.id es ≡ whole (steps_of s.test_case_id es)) (starts es)
-  each_whole = each_found as_start (λ (s : TestCaseStarted). moves s.id es ≡ whole (steps_of s.test_case_id es)) es
+  each_whole : AllByRecursion (λ (s : TestCaseStarted). moves s.id es ≡ all_moves (steps_of s.test_case_id es)) (starts es)
+  each_whole = each_found as_start (λ (s : TestCaseStarted). moves s.id es ≡ all_moves (steps_of s.test_case_id es)) es
       (λ front here back s cut is. good.sound.attempts front (envelope.TestCaseStarted s) back (cut ∙ ap (λ x. front ++ x ∷ back) (start_is here s is)))
 
   case_ran : (front back : List Envelope) (c : TestCase) (p : Pickle) → es ≡ front ++ envelope.TestCase c ∷ back → find_pickle c.pickle_id es ≡ Some p → CaseRan settings.policy es c p
@@ -262,8 +262,8 @@ module _ (settings : Settings) (es : List Envelope) (good : Good settings es) (w
       let same_steps : map (λ s. s.id) p.steps ≡ pickle_step_ids c = cc in
       let is_good = all_here (λ x. is_good_case settings.policy es x ≡ true) (cases front) c (cases back) (subst (AllByRecursion (λ x. is_good_case settings.policy es x ≡ true)) all well.all.each_case) in
       let e = well_ended settings.policy es (last_of (starts_of c.id es)) is_good in
-      let one = last_so (λ (s : TestCaseStarted). (moves s.id es ≡ whole (steps_of s.test_case_id es)) × (bytes_eq c.id s.test_case_id ≡ true)) (starts_of c.id es) e.attempt
-      (kept_so (λ (s : TestCaseStarted). moves s.id es ≡ whole (steps_of s.test_case_id es)) (λ s. bytes_eq c.id s.test_case_id) (starts es) each_whole) e.is in
+      let one = last_so (λ (s : TestCaseStarted). (moves s.id es ≡ all_moves (steps_of s.test_case_id es)) × (bytes_eq c.id s.test_case_id ≡ true)) (starts_of c.id es) e.attempt
+      (kept_so (λ (s : TestCaseStarted). moves s.id es ≡ all_moves (steps_of s.test_case_id es)) (λ s. bytes_eq c.id s.test_case_id) (starts es) each_whole) e.is in
       let case : c.id ≡ e.attempt.test_case_id = bytes_are c.id e.attempt.test_case_id one.1 in
       let own : steps_of c.id es ≡ map (λ s. s.id) c.test_steps = ap (λ o. option_map_or (λ (x : TestCase). map (λ s. s.id) x.test_steps) o []) here in
       record {
@@ -272,7 +272,7 @@ module _ (settings : Settings) (es : List Envelope) (good : Good settings es) (w
         same_steps = sym same_steps;
         attempt = e.attempt;
         is_last = e.is;
-        each_step = one.0 ∙ ap (λ u. whole (steps_of u es)) (sym case) ∙ ap whole own;
+        each_step = one.0 ∙ ap (λ u. all_moves (steps_of u es)) (sym case) ∙ ap all_moves own;
         not_retried = e.final;
         good_status = e.good;
       }

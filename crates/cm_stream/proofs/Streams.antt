@@ -9,7 +9,7 @@ use Rattle.cm_stream.specs.Findings.{Finding}
 use Rattle.cm_stream.specs.StreamLaws.{IsRightAnswer}
 use Rattle.cm_stream.specs.Good.{Good}
 use Rattle.cm_stream.specs.References.{run_succeeded}
-use Rattle.cm_stream.specs.Stream.{FirstFault, Troubled, GoodWith, answer_in, answered, answer_for, GoodRunIn, NoneIsGood, fed, numbered, read_line, as_read, envelopes, counts_of, IsRead, IsGoodStream, IsGoodRun, At, NoFault, at_end, at_line, shown, HaveFirstLines}
+use Rattle.cm_stream.specs.Stream.{FirstFault, Troubled, GoodWith, answer_in, answer_of_audit, answer_for, GoodRunIn, NoneIsGood, feed_of, numbered_lines, read_line, as_read, envelopes, counts_of, IsRead, IsGoodStream, IsGoodRun, At, NoFault, at_end, at_line, envelope_unless_blank, HaveFirstLines}
 use Rattle.cm_stream.specs.ByOnePass.{fault, HasNoFault, first_fault_line, first_fault_of, first_fault}
 use Rattle.cm_envelope.specs.declared.envelope.Envelope.{Envelope}
 use Rattle.cm_envelope.specs.Lines.{is_blank}
@@ -24,7 +24,7 @@ module _ (settings : Settings) where
   record Clean (before : List Envelope) (n : ℕ) (ls : List (List ℕ)) (t : Option Trouble) (es : List Envelope) : Type 0 where
     lines : List (ℕ × Envelope)
     no_trouble : t ≡ None
-    read : map read_line (numbered n ls) ≡ map as_read lines
+    read : map read_line (numbered_lines n ls) ≡ map as_read lines
     all : es ≡ before ++ envelopes lines
     none : (b : List Envelope) (e : Envelope) (a : List Envelope) → envelopes lines ≡ b ++ e ∷ a → fault settings (before ++ b) e ≡ None
     end : fault_at_end es ≡ None
@@ -81,7 +81,7 @@ module _ (settings : Settings) where
   -- Good only for good streams, which say this of success
   good_run : (bytes : List ℕ) (es : List Envelope) → first_fault settings bytes ≡ NoFault es → IsGoodRun settings bytes (counts_of es) (run_succeeded es)
   good_run bytes es h =
-      let c = clean [] 1 (fed bytes).lines (fed bytes).trouble es h in
+      let c = clean [] 1 (feed_of bytes).lines (feed_of bytes).trouble es h in
       let faultless : HasNoFault settings (envelopes c.lines) = record { lines = λ b e a cut. c.none b e a cut; end = ap fault_at_end (sym c.all) ∙ c.end } in
       record {
         lines = c.lines;
@@ -112,7 +112,7 @@ module _ (settings : Settings) where
 
   -- ---- the other direction
 
-  told_good : (before : List Envelope) (n : ℕ) (ls : List (List ℕ)) (lines : List (ℕ × Envelope)) → map read_line (numbered n ls) ≡ map as_read lines
+  told_good : (before : List Envelope) (n : ℕ) (ls : List (List ℕ)) (lines : List (ℕ × Envelope)) → map read_line (numbered_lines n ls) ≡ map as_read lines
       → ((b : List Envelope) (e : Envelope) (a : List Envelope) → envelopes lines ≡ b ++ e ∷ a → fault settings (before ++ b) e ≡ None) → fault_at_end (before ++ envelopes lines) ≡ None
       → first_fault_of settings before n ls None ≡ NoFault (before ++ envelopes lines)
   told_good before n [] [] read none end =
@@ -121,16 +121,16 @@ module _ (settings : Settings) where
   told_good before n [] (x ∷ lines) read none end = cc
   told_good before n (l ∷ ls) lines read none end = go (is_blank l) refl (told_good before (n + 1) ls lines) (λ e more. told_good (before ++ e ∷ []) (n + 1) ls more)
     where
-      filled : is_blank l ≡ false → (lines : List (ℕ × Envelope)) → (n, envelope_of_line l) ∷ map read_line (numbered (n + 1) ls) ≡ map as_read lines
+      filled : is_blank l ≡ false → (lines : List (ℕ × Envelope)) → (n, envelope_of_line l) ∷ map read_line (numbered_lines (n + 1) ls) ≡ map as_read lines
           → ((b : List Envelope) (e : Envelope) (a : List Envelope) → envelopes lines ≡ b ++ e ∷ a → fault settings (before ++ b) e ≡ None) → fault_at_end (before ++ envelopes lines) ≡ None
-          → ((e : Envelope) (more : List (ℕ × Envelope)) → map read_line (numbered (n + 1) ls) ≡ map as_read more
+          → ((e : Envelope) (more : List (ℕ × Envelope)) → map read_line (numbered_lines (n + 1) ls) ≡ map as_read more
           → ((b : List Envelope) (x : Envelope) (a : List Envelope) → envelopes more ≡ b ++ x ∷ a → fault settings ((before ++ e ∷ []) ++ b) x ≡ None) → fault_at_end ((before ++ e ∷ []) ++ envelopes more) ≡ None
           → first_fault_of settings (before ++ e ∷ []) (n + 1) ls None ≡ NoFault ((before ++ e ∷ []) ++ envelopes more))
           → first_fault_of settings before n (l ∷ ls) None ≡ NoFault (before ++ envelopes lines)
       filled is [] read none end rec = cc
       filled is (x ∷ lines) read none end rec =
           let first : ◌≡◌ {A = ℕ × Result Envelope LineFault} (n, envelope_of_line l) (as_read x) = cc in
-          let more : map read_line (numbered (n + 1) ls) ≡ map as_read lines = cc in
+          let more : map read_line (numbered_lines (n + 1) ls) ≡ map as_read lines = cc in
           let here : envelope_of_line l ≡ Ok x.1 = ap (λ (r : ℕ × Result Envelope LineFault). r.1) first in
           let passes : fault settings before x.1 ≡ None = ap (λ bs. fault settings bs x.1) (sym (append-nil before)) ∙ none [] x.1 (envelopes lines) refl in
           let rest = rec x.1 lines more (λ b e a c. ap (λ bs. fault settings bs e) (append_assoc before (x.1 ∷ []) b) ∙ none (x.1 ∷ b) e a (ap (λ ys. x.1 ∷ ys) c))
@@ -138,9 +138,9 @@ module _ (settings : Settings) where
           rw (is, here, passes) (rest ∙ ap NoFault (append_assoc before (x.1 ∷ []) (envelopes lines)))
 
       go : (b : Bool) → is_blank l ≡ b
-          → (map read_line (numbered (n + 1) ls) ≡ map as_read lines → ((b : List Envelope) (e : Envelope) (a : List Envelope) → envelopes lines ≡ b ++ e ∷ a → fault settings (before ++ b) e ≡ None)
+          → (map read_line (numbered_lines (n + 1) ls) ≡ map as_read lines → ((b : List Envelope) (e : Envelope) (a : List Envelope) → envelopes lines ≡ b ++ e ∷ a → fault settings (before ++ b) e ≡ None)
           → fault_at_end (before ++ envelopes lines) ≡ None → first_fault_of settings before (n + 1) ls None ≡ NoFault (before ++ envelopes lines))
-          → ((e : Envelope) (more : List (ℕ × Envelope)) → map read_line (numbered (n + 1) ls) ≡ map as_read more
+          → ((e : Envelope) (more : List (ℕ × Envelope)) → map read_line (numbered_lines (n + 1) ls) ≡ map as_read more
           → ((b : List Envelope) (x : Envelope) (a : List Envelope) → envelopes more ≡ b ++ x ∷ a → fault settings ((before ++ e ∷ []) ++ b) x ≡ None) → fault_at_end ((before ++ e ∷ []) ++ envelopes more) ≡ None
           → first_fault_of settings (before ++ e ∷ []) (n + 1) ls None ≡ NoFault ((before ++ e ∷ []) ++ envelopes more))
           → first_fault_of settings before n (l ∷ ls) None ≡ NoFault (before ++ envelopes lines)
@@ -151,8 +151,8 @@ module _ (settings : Settings) where
   pub read_is_told : (bytes : List ℕ) (lines : List (ℕ × Envelope)) → IsRead bytes lines → Good settings (envelopes lines) → first_fault settings bytes ≡ NoFault (envelopes lines)
   read_is_told bytes lines read good =
       let faultless = good_have_no_fault settings (envelopes lines) good in
-      let here : first_fault_of settings [] 1 (fed bytes).lines None ≡ NoFault (envelopes lines) = told_good [] 1 (fed bytes).lines lines read.read (λ b e a c. faultless.lines b e a c) faultless.end in
-      ap (first_fault_of settings [] 1 (fed bytes).lines) read.no_trouble ∙ here
+      let here : first_fault_of settings [] 1 (feed_of bytes).lines None ≡ NoFault (envelopes lines) = told_good [] 1 (feed_of bytes).lines lines read.read (λ b e a c. faultless.lines b e a c) faultless.end in
+      ap (first_fault_of settings [] 1 (feed_of bytes).lines) read.no_trouble ∙ here
 
   pub good_is_told : (bytes : List ℕ) (counts : Counts) → IsGoodStream settings bytes counts → (es : List Envelope) × (first_fault settings bytes ≡ NoFault es) × (counts ≡ counts_of es)
   good_is_told bytes counts g = let r = g.1 in (envelopes r.lines, read_is_told bytes r.lines r.read r.good, r.exact)
@@ -174,7 +174,7 @@ module _ (settings : Settings) where
       go : (o : Option Finding) → at_end n before o ≡ At m f → n ≤ m
       go None k = cc
       go (Some g) k = let same : n ≡ m = cc in omega arith
-  at_is_after before n (l ∷ ls) t m f h = go (shown l) h (at_is_after before (n + 1) ls t m f) (λ e. at_is_after (before ++ e ∷ []) (n + 1) ls t m f)
+  at_is_after before n (l ∷ ls) t m f h = go (envelope_unless_blank l) h (at_is_after before (n + 1) ls t m f) (λ e. at_is_after (before ++ e ∷ []) (n + 1) ls t m f)
     where
       on_fault : (e : Envelope) (o : Option Finding) → at_line n o (first_fault_of settings (before ++ e ∷ []) (n + 1) ls t) ≡ At m f → (first_fault_of settings (before ++ e ∷ []) (n + 1) ls t ≡ At m f → n + 1 ≤ m) → n ≤ m
       on_fault e None k rec = let later = rec k in omega arith
@@ -190,7 +190,7 @@ module _ (settings : Settings) where
       → first_fault_of settings before n (front ++ more) u ≡ At m f
   told_by_front before n [] later more t u m f h lt = let le = at_is_after before n later t m f h in absurd (omega arith)
   told_by_front before n (l ∷ front) later more t u m f h lt =
-      go (shown l) h (λ k. told_by_front before (n + 1) front later more t u m f k (omega arith)) (λ e k. told_by_front (before ++ e ∷ []) (n + 1) front later more t u m f k (omega arith))
+      go (envelope_unless_blank l) h (λ k. told_by_front before (n + 1) front later more t u m f k (omega arith)) (λ e k. told_by_front (before ++ e ∷ []) (n + 1) front later more t u m f k (omega arith))
     where
       on_fault : (e : Envelope) (o : Option Finding) → at_line n o (first_fault_of settings (before ++ e ∷ []) (n + 1) (front ++ later) t) ≡ At m f
           → (first_fault_of settings (before ++ e ∷ []) (n + 1) (front ++ later) t ≡ At m f → first_fault_of settings (before ++ e ∷ []) (n + 1) (front ++ more) u ≡ At m f) → at_line n o (first_fault_of settings (before ++ e ∷ []) (n + 1) (front ++ more) u) ≡ At m f
@@ -211,10 +211,10 @@ module _ (settings : Settings) where
       let more = begins.other_rest in
       let front = begins.first in
       let later = begins.rest in
-      let mine : first_fault_of settings [] 1 (front ++ later) (fed bytes).trouble ≡ At n f = ap (λ ls. first_fault_of settings [] 1 ls (fed bytes).trouble) (sym begins.here) ∙ h in
+      let mine : first_fault_of settings [] 1 (front ++ later) (feed_of bytes).trouble ≡ At n f = ap (λ ls. first_fault_of settings [] 1 ls (feed_of bytes).trouble) (sym begins.here) ∙ h in
       let long : length front ≡ n = begins.count in
-      let its : first_fault_of settings [] 1 (front ++ more) (fed other).trouble ≡ At n f = told_by_front [] 1 front later more (fed bytes).trouble (fed other).trouble n f mine (omega arith) in
-      let told_other : first_fault settings other ≡ At n f = ap (λ ls. first_fault_of settings [] 1 ls (fed other).trouble) begins.there ∙ its in
+      let its : first_fault_of settings [] 1 (front ++ more) (feed_of other).trouble ≡ At n f = told_by_front [] 1 front later more (feed_of bytes).trouble (feed_of other).trouble n f mine (omega arith) in
+      let told_other : first_fault settings other ≡ At n f = ap (λ ls. first_fault_of settings [] 1 ls (feed_of other).trouble) begins.there ∙ its in
       let good_other = (good_is_told other counts good).1 in
       cc
 
@@ -234,7 +234,7 @@ module _ (settings : Settings) where
   right_so bytes (verdict.Unsupported n r) success t h e = (tt, tt)
 
 -- an audit that answers what is reported is right
-pub answers_are_right : (settings : Settings) (bytes : List ℕ) (answer : Result Audited Trouble) → answered answer ≡ answer_for (first_fault settings bytes) → IsRightAnswer settings bytes answer
+pub answers_are_right : (settings : Settings) (bytes : List ℕ) (answer : Result Audited Trouble) → answer_of_audit answer ≡ answer_for (first_fault settings bytes) → IsRightAnswer settings bytes answer
 answers_are_right settings bytes (Ok a) e =
     let both = right_so settings bytes a.verdict a.success (first_fault settings bytes) refl e in
     record { good = both.0; bad = both.1; decided = λ counts success run. e ∙ run_is_told settings bytes counts success run }

@@ -9,7 +9,7 @@ use Rattle.cm_attempt.specs.declared.settings.Settings.{Settings}
 use Rattle.cm_stream.specs.Calls.{calls_of}
 use Rattle.cm_stream.specs.Checks.{first_failed}
 use Rattle.cm_stream.specs.CallFaults.{call_fault_finding, call_fault_of_envelope, own_checks}
-use Rattle.cm_stream.specs.Record.{table_of_envelopes, changed}
+use Rattle.cm_stream.specs.Record.{table_of_envelopes, table_after_envelope}
 use Rattle.cm_stream.specs.FaultlessLines.{TableSteps, NoneIsRefusedBy}
 use Rattle.cm_stream.specs.ByOnePass.{checks_of, IsFaultless, CallFaultsAre}
 use Rattle.cm_stream.specs.OnePass.{reads}
@@ -19,7 +19,7 @@ use Rattle.cm_stream.proofs.CallChecks.{own_are_checks, faults_are_checks}
 use Rattle.cm_stream.proofs.Tables.{refused_for_faults, tables_change}
 
 pub table_steps : TableSteps
-table_steps first es e = fold_push changed (table_from first) es e
+table_steps first es e = fold_push table_after_envelope (table_from first) es e
 
 -- ---- the calls of lines without a fault
 

@@ -5,7 +5,7 @@ use Rattle.std.specs.List.{list_all, AllByRecursion}
 use Rattle.std.specs.Option.{option_map, option_map_or, option_and_then}
 use Rattle.std.specs.Str.{bytes_eq}
 use Rattle.std.proofs.lemmas.List.Folds.{list_all-map}
-use Rattle.cm_attempt.specs.Table.{CaseRow, Table, has_text, has_repeat, has_step, find_case as case_in, find_attempt, is_good_case as is_good_row, is_good_status, status_of_last, reported_of, open_count}
+use Rattle.cm_attempt.specs.Table.{CaseRow, Table, has_text, has_repeat, has_step, find_case as case_in, find_attempt, is_good_case as is_good_row, is_good_status, status_of_last, reported_status, open_count}
 use Rattle.cm_attempt.specs.Calls as call
 use Rattle.cm_attempt.specs.Calls.{Call, StartedAttempt, last_of, result_of}
 use Rattle.cm_attempt.specs.Worst.{worst_of}
@@ -93,10 +93,10 @@ found_itself (x ∷ xs) h =
     (rw (bytes_same x.id) refl, past x xs xs parts.0 (found_itself xs parts.1))
 
 -- a row is good exactly if what is reported of its case is
-good_by_report : (policy : Policy) (t : Table) (cs : List CaseRow) → AllByRecursion (λ (c : CaseRow). case_in t c.id ≡ Some c) cs → list_all (is_good_row policy) cs ≡ list_all (λ (c : CaseRow). is_good policy (reported_of t c.id)) cs
+good_by_report : (policy : Policy) (t : Table) (cs : List CaseRow) → AllByRecursion (λ (c : CaseRow). case_in t c.id ≡ Some c) cs → list_all (is_good_row policy) cs ≡ list_all (λ (c : CaseRow). is_good policy (reported_status t c.id)) cs
 good_by_report policy t [] h = refl
 good_by_report policy t (c ∷ cs) h =
-    let here : is_good_row policy c ≡ is_good policy (reported_of t c.id) = ap (λ o. is_good policy (option_and_then (λ (r : CaseRow). status_of_last r.last) o)) (sym h.0) in
+    let here : is_good_row policy c ≡ is_good policy (reported_status t c.id) = ap (λ o. is_good policy (option_and_then (λ (r : CaseRow). status_of_last r.last) o)) (sym h.0) in
     λ i. here i && good_by_report policy t cs h.1 i
 
 last_map : {X Y : Type 0} (f : X → Y) (xs : List X) → last_of (map f xs) ≡ option_map f (last_of xs)
@@ -126,7 +126,7 @@ same_all p q h (x ∷ xs) = λ i. h x i && same_all p q h xs i
 pub good_cases : (policy : Policy) (first : ℕ) (es : List Envelope) → AreAccepted first es → list_all (is_good_row policy) (table_of_envelopes first es).cases ≡ list_all (is_good_case policy es) (cases es)
 good_cases policy first es accepted =
     let t = table_of_envelopes first es in
-    let good : Utf8 → Bool = λ id. is_good policy (reported_of t id) in
+    let good : Utf8 → Bool = λ id. is_good policy (reported_status t id) in
     let itself = found_itself t.cases (tracked first (calls_of es) t accepted).cases_distinct in
     good_by_report policy t t.cases itself
     ∙ sym (list_all-map good (λ (c : CaseRow). c.id) t.cases)

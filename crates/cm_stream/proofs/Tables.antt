@@ -4,10 +4,10 @@ use Rattle.std.specs.Prelude.{is_some}
 use Rattle.std.specs.List.{list_all, cons_option}
 use Rattle.std.specs.Option.{option_and_then, option_map_or}
 use Rattle.std.proofs.lemmas.List.Elements.{filter_map-append}
-use Rattle.cm_attempt.specs.Table.{Utf8, Table, table_from, has_text, has_repeat, reported_of}
+use Rattle.cm_attempt.specs.Table.{Utf8, Table, table_from, has_text, has_repeat, reported_status}
 use Rattle.cm_attempt.specs.Calls as call
 use Rattle.cm_attempt.specs.Calls.{DeclaredCase, cases, result_of}
-use Rattle.cm_attempt.specs.Calls.{Call, AddCase, Start, StartStep, FinishStep, Finish, Move, call_fault, after_call, unless_refused, left_by, table_after}
+use Rattle.cm_attempt.specs.Calls.{Call, AddCase, Start, StartStep, FinishStep, Finish, Move, call_fault, after_call, unless_refused, table_after_calls, table_after}
 use Rattle.cm_attempt.specs.CallFaults as calls
 use Rattle.cm_attempt.specs.CallFaults.{fault_of, step_fault}
 use Rattle.cm_attempt.specs.declared.fault.TrackFault.{TrackFault}
@@ -16,7 +16,7 @@ use Rattle.cm_attempt.proofs.Accepted.{come_in_order, has_cases, reports, cut_at
 use Rattle.cm_attempt.proofs.Converse.{are_accepted}
 use Rattle.cm_stream.specs.Findings.{Finding}
 use Rattle.cm_stream.specs.CallFaults.{call_fault_finding, call_fault_of_envelope}
-use Rattle.cm_stream.specs.Record.{changed}
+use Rattle.cm_stream.specs.Record.{table_after_envelope}
 use Rattle.cm_envelope.specs.declared.envelope.Envelope.{Envelope}
 use Rattle.cm_stream.specs.Results.{AreWellOrdered, results_of, results_fault, TablesHaveResults, RefusedForFaults, TablesChange, WellOrderedAreAccepted, FrontsAreWellOrdered, FaultsAreExact}
 use Rattle.cm_stream.specs.Calls.{call_of, calls_of}
@@ -55,8 +55,8 @@ step_told : (cs : List Call) (a step : Utf8) (m : Move) → option_and_then told
 step_told cs a step m h = move_told_none (not (is_some (call.start_of a cs))) (not (has_text step (call.steps_of_attempt a cs))) (calls.is_next_move m a cs) h
 
 fault_told : (first : ℕ) (cs : List Call) (c : Call) → option_and_then told (fault_of first cs c) ≡ None → fault_of first cs c ≡ None
-fault_told first cs (AddCase id steps) h = case_told_none (is_some (call.declared id cs) || has_repeat steps) h
-fault_told first cs (Start id case number) h = start_told_none (not (is_some (call.declared case cs))) (is_some (call.start_of id cs)) (not (number == first + length (call.starts_of case cs))) (not (list_all (λ s. call.is_retried s.id cs) (call.starts_of case cs))) h
+fault_told first cs (AddCase id steps) h = case_told_none (is_some (call.declared_case id cs) || has_repeat steps) h
+fault_told first cs (Start id case number) h = start_told_none (not (is_some (call.declared_case case cs))) (is_some (call.start_of id cs)) (not (number == first + length (call.starts_of case cs))) (not (list_all (λ s. call.is_retried s.id cs) (call.starts_of case cs))) h
 fault_told first cs (StartStep a step) h = step_told cs a step (call.StepStarted step) h
 fault_told first cs (FinishStep a step status) h = step_told cs a step (call.StepFinished step) h
 fault_told first cs (Finish a r) h = end_told_none (not (is_some (call.start_of a cs))) (call.is_ended a cs) (calls.is_next_move call.Ended a cs) h
@@ -80,34 +80,34 @@ refused_for_faults first es t taken e = go (call_of e)
 
 -- ---- one more envelope
 
-left_both : (xs ys : List Call) (t u : Table) → left_by t xs ≡ Some u → left_by t (xs ++ ys) ≡ left_by u ys
-left_both [] ys t u e = ap (λ o. left_by (unwrap_or o t) ys) e
+left_both : (xs ys : List Call) (t u : Table) → table_after_calls t xs ≡ Some u → table_after_calls t (xs ++ ys) ≡ table_after_calls u ys
+left_both [] ys t u e = ap (λ o. table_after_calls (unwrap_or o t) ys) e
 left_both (c ∷ xs) ys t u e = go (call_fault t c) refl e (left_both xs ys (after_call t c) u)
   where
-    go : (o : Option TrackFault) → call_fault t c ≡ o → unless_refused o (left_by (after_call t c) xs) ≡ Some u → (left_by (after_call t c) xs ≡ Some u → left_by (after_call t c) (xs ++ ys) ≡ left_by u ys) → left_by t (c ∷ xs ++ ys) ≡ left_by u ys
+    go : (o : Option TrackFault) → call_fault t c ≡ o → unless_refused o (table_after_calls (after_call t c) xs) ≡ Some u → (table_after_calls (after_call t c) xs ≡ Some u → table_after_calls (after_call t c) (xs ++ ys) ≡ table_after_calls u ys) → table_after_calls t (c ∷ xs ++ ys) ≡ table_after_calls u ys
     go None k l rec = rw k (rec l)
     go (Some f) k l rec = cc
 
-left_one : (first : ℕ) (es : List Envelope) (t : Table) → table_after first (calls_of es) ≡ Some t → (e : Envelope) → table_after first (calls_of (es ++ e ∷ [])) ≡ unless_refused (call_fault_of_envelope t e) (Some (changed t e))
+left_one : (first : ℕ) (es : List Envelope) (t : Table) → table_after first (calls_of es) ≡ Some t → (e : Envelope) → table_after first (calls_of (es ++ e ∷ [])) ≡ unless_refused (call_fault_of_envelope t e) (Some (table_after_envelope t e))
 left_one first es t taken e = ap (table_after first) (filter_map-append call_of es (e ∷ [])) ∙ left_both (calls_of es) (calls_of (e ∷ [])) (table_from first) t taken ∙ go (call_of e)
   where
-    go : (o : Option Call) → left_by t (cons_option o []) ≡ unless_refused (option_and_then (call_fault t) o) (Some (option_map_or (after_call t) o t))
+    go : (o : Option Call) → table_after_calls t (cons_option o []) ≡ unless_refused (option_and_then (call_fault t) o) (Some (option_map_or (after_call t) o t))
     go None = refl
     go (Some c) = refl
 
 pub tables_change : TablesChange
 tables_change first es t taken e none =
     let fine : call_fault_of_envelope t e ≡ None = not_refused first es t taken e (refused_for_faults first es t taken e ∙ none) in
-    left_one first es t taken e ∙ ap (λ o. unless_refused o (Some (changed t e))) fine
+    left_one first es t taken e ∙ ap (λ o. unless_refused o (Some (table_after_envelope t e))) fine
 
 -- ---- the results
 
-table_results : (first : ℕ) (es : List Envelope) (t : Table) → table_after first (calls_of es) ≡ Some t → map (λ c. (c.id, reported_of t c.id)) t.cases ≡ results_of es
+table_results : (first : ℕ) (es : List Envelope) (t : Table) → table_after first (calls_of es) ≡ Some t → map (λ c. (c.id, reported_status t c.id)) t.cases ≡ results_of es
 table_results first es t e =
-    sym (map_twice (λ (id : Utf8). (id, reported_of t id)) (λ c. c.id) t.cases)
-    ∙ ap (map (λ (id : Utf8). (id, reported_of t id))) (has_cases first (calls_of es) t e)
-    ∙ map_twice (λ (id : Utf8). (id, reported_of t id)) (λ (c : DeclaredCase). c.id) (cases (calls_of es))
-    ∙ map_same (λ (c : DeclaredCase). (c.id, reported_of t c.id)) (λ (c : DeclaredCase). (c.id, result_of c.id (calls_of es))) (λ c. ap (λ r. (c.id, r)) (reports first (calls_of es) t e c.id)) (cases (calls_of es))
+    sym (map_twice (λ (id : Utf8). (id, reported_status t id)) (λ c. c.id) t.cases)
+    ∙ ap (map (λ (id : Utf8). (id, reported_status t id))) (has_cases first (calls_of es) t e)
+    ∙ map_twice (λ (id : Utf8). (id, reported_status t id)) (λ (c : DeclaredCase). c.id) (cases (calls_of es))
+    ∙ map_same (λ (c : DeclaredCase). (c.id, reported_status t c.id)) (λ (c : DeclaredCase). (c.id, result_of c.id (calls_of es))) (λ c. ap (λ r. (c.id, r)) (reports first (calls_of es) t e c.id)) (cases (calls_of es))
 
 pub tables_have_results : TablesHaveResults
 tables_have_results first es t e = (come_in_order first (calls_of es) t e, table_results first es t e)
@@ -136,8 +136,8 @@ faults_are_exact first es well e = go (table_after first (calls_of es)) refl (we
     go : (o : Option Table) → table_after first (calls_of es) ≡ o → is_some o ≡ true → (results_fault first es e ≡ None) ↔ AreWellOrdered first (es ++ e ∷ [])
     go None taken k = cc
     go (Some t) taken k = (
-      λ none. (tables_have_results first (es ++ e ∷ []) (changed t e) (tables_change first es t taken e none)).0,
+      λ none. (tables_have_results first (es ++ e ∷ []) (table_after_envelope t e) (tables_change first es t taken e none)).0,
       λ more.
-          let all : is_some (unless_refused (call_fault_of_envelope t e) (Some (changed t e))) ≡ true = ap is_some (sym (left_one first es t taken e)) ∙ well_ordered_are_accepted first (es ++ e ∷ []) more in
-          sym (refused_for_faults first es t taken e) ∙ ap (option_and_then told) (accepted_one (call_fault_of_envelope t e) (Some (changed t e)) all),
+          let all : is_some (unless_refused (call_fault_of_envelope t e) (Some (table_after_envelope t e))) ≡ true = ap is_some (sym (left_one first es t taken e)) ∙ well_ordered_are_accepted first (es ++ e ∷ []) more in
+          sym (refused_for_faults first es t taken e) ∙ ap (option_and_then told) (accepted_one (call_fault_of_envelope t e) (Some (table_after_envelope t e)) all),
     )

@@ -5,7 +5,7 @@ use Rattle.std.specs.List.{list_any, list_all}
 use Rattle.std.specs.Option.{option_map_or}
 use Rattle.std.proofs.lemmas.List.Elements.{filter_map-append}
 use Rattle.std.proofs.lemmas.List.Folds.{find-append}
-use Rattle.cm_attempt.specs.Calls.{whole, is_end}
+use Rattle.cm_attempt.specs.Calls.{all_moves, is_end}
 use Rattle.cm_attempt.specs.declared.settings.Settings.{Settings}
 use Rattle.cm_attempt.proofs.Accepted.{finished_are_whole}
 use Rattle.cm_stream.specs.Calls.{calls_of}
@@ -51,7 +51,7 @@ find_all p q (y ∷ xs) x found all = go (q y) refl (find_all p q xs x)
 pub all_attempts : (settings : Settings) (es : List Envelope) → IsFaultless settings es → TheEnd es → AttemptsGood es
 all_attempts settings es none_fails end before e after cut = at e cut
   where
-    whole_of : (s : TestCaseStarted) → find (is_of s.id) (starts es) ≡ Some s → moves s.id es ≡ whole (steps_of s.test_case_id es)
+    whole_of : (s : TestCaseStarted) → find (is_of s.id) (starts es) ≡ Some s → moves s.id es ≡ all_moves (steps_of s.test_case_id es)
     whole_of s found =
         let first = settings.first_attempt in
         let in_front : find (is_of s.id) (starts end.before) ≡ Some s = ap (find (is_of s.id)) (sym (till_end es end.before end.end end.after end.run as_start refl refl)) ∙ found in
@@ -59,7 +59,7 @@ all_attempts settings es none_fails end before e after cut = at e cut
         let ended : is_ended s.id es ≡ true = ap (list_any is_end) (till_end es end.before end.end end.after end.run (move_of s.id) refl refl) ∙ is in
         let all = (finished_are_whole first (calls_of es) (table_of_envelopes first es) (none_is_refused settings es none_fails) s.id (ended_told s.id es ∙ ended)).0 in
         let steps : steps_of_attempt s.id es ≡ steps_of s.test_case_id es = rw found refl in
-        sym (moves_told s.id es) ∙ all ∙ ap whole (attempt_steps_told s.id es ∙ steps)
+        sym (moves_told s.id es) ∙ all ∙ ap all_moves (attempt_steps_told s.id es ∙ steps)
 
     at : (e : Envelope) → es ≡ before ++ e ∷ after → AttemptGood es e
     at (envelope.TestCaseStarted s) cut =

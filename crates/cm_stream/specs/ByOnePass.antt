@@ -18,7 +18,7 @@ use Rattle.cm_stream.specs.Checks.{Check, is_uri_accepted_by, next_pickle_by, is
 use Rattle.cm_stream.specs.FaultlessLines.{IsFaultlessBy}
 use Rattle.cm_stream.specs.Laws.{HasNoFaultBy}
 use Rattle.cm_stream.specs.CallFaults.{CallFaultsAreBy}
-use Rattle.cm_stream.specs.Stream.{FirstFault, fed, first_fault_line_by, first_fault_of_by}
+use Rattle.cm_stream.specs.Stream.{FirstFault, feed_of, first_fault_line_by, first_fault_of_by}
 
 abbrev pub reading_of : Utf8 → List Envelope → Option Reading
 reading_of = reading_of_by reads
@@ -71,4 +71,4 @@ abbrev pub first_fault_of : Settings → (before : List Envelope) → (n : ℕ) 
 first_fault_of = first_fault_of_by reads
 
 abbrev pub first_fault : Settings → List ℕ → FirstFault
-first_fault settings bytes = first_fault_of settings [] 1 (fed bytes).lines (fed bytes).trouble
+first_fault settings bytes = first_fault_of settings [] 1 (feed_of bytes).lines (feed_of bytes).trouble

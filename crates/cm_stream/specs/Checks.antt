@@ -15,7 +15,7 @@ use Rattle.cm_stream.specs.Readings.{Reading, Accepted, OtherLanguage, TooLong}
 use Rattle.cm_stream.specs.Skeleton.{same_skeleton}
 use Rattle.cm_stream.specs.Sources.{DuePickle, plain, is_due}
 use Rattle.cm_stream.specs.References.{declares, times_declared, refers, sources, run_hooks, documents_of, pickles_of, starts, starts_of, case_of, has_run_started, has_run_finished, is_judged, is_accepted, reading_of_by, find_pickle, pickle_step_ids, steps_of, moves, is_ended, is_retried, is_hook_finished, all_well_by}
-use Rattle.cm_attempt.specs.Calls.{Move, StepStarted, StepFinished, Ended, whole}
+use Rattle.cm_attempt.specs.Calls.{Move, StepStarted, StepFinished, Ended, all_moves}
 use Rattle.cm_stream.specs.Good.{is_unknown, has_same_names}
 use Rattle.cm_envelope.specs.declared.envelope.Envelope.{Envelope}
 use Rattle.cm_envelope.specs.declared.envelope.Envelope.TheVariants as envelope
@@ -110,7 +110,7 @@ steps_of_attempt a before = option_map_or (λ c. steps_of c before) (case_of a b
 -- it is what the attempt has to go through next
 abbrev pub is_next_move : Move → Utf8 → List Envelope → Bool
 is_next_move m a before =
-    option_map_or (same_move m) (slice_get (whole (steps_of_attempt a before))
+    option_map_or (same_move m) (slice_get (all_moves (steps_of_attempt a before))
     (length (moves a before))) false
 
 -- a source that is accepted and has no document, or fewer pickles than it compiles to

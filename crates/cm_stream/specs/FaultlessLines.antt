@@ -11,7 +11,7 @@ use Rattle.cm_stream.specs.References.{cases, starts, is_ended, is_good_case}
 use Rattle.cm_stream.specs.Checks.{fault_by, steps_of_attempt}
 use Rattle.cm_stream.specs.Readings.{Reading, ByTheGrammar}
 use Rattle.cm_stream.specs.Calls.{calls_of}
-use Rattle.cm_stream.specs.Record.{table_of_envelopes, changed}
+use Rattle.cm_stream.specs.Record.{table_of_envelopes, table_after_envelope}
 use Rattle.cm_envelope.specs.declared.envelope.Envelope.{Envelope}
 
 -- the first lines have no fault, each after those before it, where sources' texts are read so
@@ -24,7 +24,7 @@ IsFaultlessBy read settings es =
 abbrev pub TableSteps : Type 0
 TableSteps =
     (first : ℕ) (es : List Envelope) (e : Envelope)
-    → table_of_envelopes first (es ++ e ∷ []) ≡ changed (table_of_envelopes first es) e
+    → table_of_envelopes first (es ++ e ∷ []) ≡ table_after_envelope (table_of_envelopes first es) e
 
 -- after lines without a fault no call is refused, and the table is the one that the calls leave
 abbrev pub NoneIsRefusedBy : (Utf8 → Reading) → Type 0

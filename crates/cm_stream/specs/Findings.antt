@@ -35,26 +35,26 @@ pub data Finding : Type 0 where
   IsUnsupported : Reason → Finding
 
 -- the fault that a program's answer names
-abbrev pub named : StreamFault → Fault
-named (declared.NoEnvelope fault) = NoEnvelope (fault_named fault)
-named declared.DuplicateId = DuplicateId
-named declared.DuplicateUri = DuplicateUri
-named declared.UnknownReference = UnknownReference
-named declared.DocumentOfRefusedSource = DocumentOfRefusedSource
-named declared.TreeDiffers = TreeDiffers
-named declared.PickleDiffers = PickleDiffers
-named declared.ParseErrorOfGoodSource = ParseErrorOfGoodSource
-named declared.CaseStepsDiffer = CaseStepsDiffer
-named declared.AttemptNumber = AttemptNumber
-named declared.AttemptOverlap = AttemptOverlap
-named declared.StepOrder = StepOrder
-named declared.FinishedEarly = FinishedEarly
-named declared.SecondRunStarted = SecondRunStarted
-named declared.OutsideRun = OutsideRun
-named declared.AfterRunFinished = AfterRunFinished
-named declared.AttemptOpen = AttemptOpen
-named declared.SourceIncomplete = SourceIncomplete
-named declared.SuccessDiffers = SuccessDiffers
-named declared.NoRunFinished = NoRunFinished
-named declared.RunHookOpen = RunHookOpen
-named declared.RunHookTwice = RunHookTwice
+abbrev pub stream_fault_named : StreamFault → Fault
+stream_fault_named (declared.NoEnvelope fault) = NoEnvelope (fault_named fault)
+stream_fault_named declared.DuplicateId = DuplicateId
+stream_fault_named declared.DuplicateUri = DuplicateUri
+stream_fault_named declared.UnknownReference = UnknownReference
+stream_fault_named declared.DocumentOfRefusedSource = DocumentOfRefusedSource
+stream_fault_named declared.TreeDiffers = TreeDiffers
+stream_fault_named declared.PickleDiffers = PickleDiffers
+stream_fault_named declared.ParseErrorOfGoodSource = ParseErrorOfGoodSource
+stream_fault_named declared.CaseStepsDiffer = CaseStepsDiffer
+stream_fault_named declared.AttemptNumber = AttemptNumber
+stream_fault_named declared.AttemptOverlap = AttemptOverlap
+stream_fault_named declared.StepOrder = StepOrder
+stream_fault_named declared.FinishedEarly = FinishedEarly
+stream_fault_named declared.SecondRunStarted = SecondRunStarted
+stream_fault_named declared.OutsideRun = OutsideRun
+stream_fault_named declared.AfterRunFinished = AfterRunFinished
+stream_fault_named declared.AttemptOpen = AttemptOpen
+stream_fault_named declared.SourceIncomplete = SourceIncomplete
+stream_fault_named declared.SuccessDiffers = SuccessDiffers
+stream_fault_named declared.NoRunFinished = NoRunFinished
+stream_fault_named declared.RunHookOpen = RunHookOpen
+stream_fault_named declared.RunHookTwice = RunHookTwice

@@ -14,7 +14,7 @@ use Rattle.gk_pickle.specs.Pickles.{pickles as compiled}
 use Rattle.cm_stream.specs.Readings.{Reading, Accepted, Refused, OtherLanguage, TooLong, IsReading}
 use Rattle.cm_stream.specs.Sources.{plain, is_due}
 use Rattle.cm_stream.specs.References.{cases, sources, hook_statuses, is_good_case, times_finished, Name, same_name, declares, times_declared, refers, sources_of, documents_of, pickles_of, starts_of, has_run_started, is_run_started, is_run_finished, is_judged, find_pickle, pickle_step_ids, steps_of, moves, is_retried}
-use Rattle.cm_attempt.specs.Calls.{whole}
+use Rattle.cm_attempt.specs.Calls.{all_moves}
 use Rattle.cm_envelope.specs.declared.envelope.Envelope.{Envelope}
 use Rattle.cm_envelope.specs.declared.envelope.Envelope.TheVariants as envelope
 use Rattle.cm_envelope.specs.declared.envelope.Source.{Source}
@@ -93,7 +93,7 @@ CasesGood es = Everywhere (λ before e after. CaseGood es e) es
 
 -- An attempt starts, starts and finishes each step of its case in order, and finishes; no other envelope but attachments names it.
 abbrev pub AttemptGood : List Envelope → Envelope → Type 0
-AttemptGood es (envelope.TestCaseStarted s) = moves s.id es ≡ whole (steps_of s.test_case_id es)
+AttemptGood es (envelope.TestCaseStarted s) = moves s.id es ≡ all_moves (steps_of s.test_case_id es)
 AttemptGood es _ = Unit {0}
 
 abbrev pub AttemptsGood : List Envelope → Type 0

@@ -12,16 +12,16 @@ use Rattle.cm_stream.specs.Readings.{Reading, Accepted, Refused, OtherLanguage, 
 abbrev pub passes_limits : Utf8 → Bool
 passes_limits text = nat_lt max_bytes (length text) || nat_lt max_lines (length (lines_read text))
 
-abbrev pub refused_for : FaultKind → Reading
-refused_for UnsupportedLanguage = OtherLanguage
-refused_for _ = Refused
+abbrev pub reading_of_fault : FaultKind → Reading
+reading_of_fault UnsupportedLanguage = OtherLanguage
+reading_of_fault _ = Refused
 
 abbrev pub reading_at_end : State → Option (List FlatBlock) → Reading
 reading_at_end s None = Refused
 reading_at_end s (Some last) = Accepted (document_of s last)
 
 abbrev pub reading_after : Result State PlacedFault → Reading
-reading_after (Err b) = refused_for b.kind
+reading_after (Err b) = reading_of_fault b.kind
 reading_after (Ok s) = reading_at_end s (blocks_at_end s.phase)
 
 -- what one pass over the lines of a text makes of it

@@ -14,9 +14,9 @@ use Rattle.cm_stream.specs.Readings.{Accepted, IsReading}
 use Rattle.cm_stream.specs.Sources.{is_due}
 use Rattle.cm_stream.specs.Statuses.{kept_status}
 use Rattle.cm_stream.specs.References.{sources, pickles, cases, run_hooks, hook_ends_of, run_ends, documents_of, pickles_of, starts_of, find_case, find_pickle, pickle_step_ids, moves, is_final, statuses, run_succeeded}
-use Rattle.cm_attempt.specs.Calls.{whole, last_of}
+use Rattle.cm_attempt.specs.Calls.{all_moves, last_of}
 use Rattle.cm_stream.specs.Good.{Good}
-use Rattle.cm_stream.specs.Stream.{Answer, GoodWith, FirstFault, IsFirstFault, IsRead, IsGoodRun, envelopes, counts_of, answered, answer_for}
+use Rattle.cm_stream.specs.Stream.{Answer, GoodWith, FirstFault, IsFirstFault, IsRead, IsGoodRun, envelopes, counts_of, answer_of_audit, answer_for}
 use Rattle.cm_envelope.specs.declared.envelope.Envelope.{Envelope}
 use Rattle.cm_envelope.specs.declared.envelope.GherkinDocument.{GherkinDocument}
 use Rattle.cm_envelope.specs.declared.envelope.Source.{Source}
@@ -82,7 +82,7 @@ pub record CaseRan (policy : Policy) (es : List Envelope) (c : TestCase)
   pub same_steps : pickle_step_ids c ≡ map (λ s. s.id) p.steps
   pub attempt : TestCaseStarted
   pub is_last : last_of (starts_of c.id es) ≡ Some attempt
-  pub each_step : moves attempt.id es ≡ whole (map (λ s. s.id) c.test_steps)
+  pub each_step : moves attempt.id es ≡ all_moves (map (λ s. s.id) c.test_steps)
   pub not_retried : is_final attempt.id es ≡ true
   pub good_status : is_good_status policy (worst_of (statuses attempt.id es)) ≡ true
 
@@ -152,8 +152,8 @@ abbrev pub AnswersRelease : Type 0
 AnswersRelease =
     (settings : Settings) (allows_unrun : Bool) (bytes : List ℕ) (counts : Counts)
     (f : FirstFault) (answer : Result Audited Trouble)
-    → IsFirstFault settings bytes f → answered answer ≡ answer_for f
-    → Releases allows_unrun counts (answered answer)
+    → IsFirstFault settings bytes f → answer_of_audit answer ≡ answer_for f
+    → Releases allows_unrun counts (answer_of_audit answer)
     ↔ IsReleasedStream settings allows_unrun bytes counts
 
 -- in a released stream without unrun pickles each scenario of each source ran

@@ -5,7 +5,7 @@ use Rattle.std.specs.Option.{option_and_then}
 use Rattle.cm_envelope.specs.Reading.{LineFault, envelope_of_line}
 use Rattle.cm_envelope.specs.declared.envelope.Envelope.{Envelope}
 use Rattle.cm_envelope.specs.declared.feed.Trouble.{Trouble}
-use Rattle.cm_attempt.specs.Table.{Table, reported_of}
+use Rattle.cm_attempt.specs.Table.{Table, reported_status}
 use Rattle.cm_attempt.specs.Calls.{table_after, cases, result_of}
 use Rattle.cm_attempt.specs.CallFaults.{fault_of}
 use Rattle.cm_attempt.specs.CallLaws.{ComeInOrder}
@@ -15,8 +15,8 @@ use Rattle.cm_stream.specs.Calls.{call_of, calls_of}
 use Rattle.cm_stream.specs.Checks.{first_failed}
 use Rattle.cm_stream.specs.Findings.{Finding, IsBad, NoEnvelope}
 use Rattle.cm_stream.specs.CallFaults.{call_fault_finding, call_fault_of_envelope, own_checks}
-use Rattle.cm_stream.specs.Record.{changed}
-use Rattle.cm_stream.specs.Stream.{FirstFault, At, Troubled, NoFault, at_line, shown, fed, numbered, read_line, as_read, envelopes, IsRead}
+use Rattle.cm_stream.specs.Record.{table_after_envelope}
+use Rattle.cm_stream.specs.Stream.{FirstFault, At, Troubled, NoFault, at_line, envelope_unless_blank, feed_of, numbered_lines, read_line, as_read, envelopes, IsRead}
 
 -- ---- the results
 
@@ -48,12 +48,12 @@ abbrev pub first_results_fault_of : (first : ℕ) → (before : List Envelope) �
 first_results_fault_of first before n [] (Some t) = Troubled t
 first_results_fault_of first before n [] None = NoFault before
 first_results_fault_of first before n (l ∷ ls) t =
-    first_results_fault_line first before n (shown l)
+    first_results_fault_line first before n (envelope_unless_blank l)
     (λ (now : List Envelope). first_results_fault_of first now (n + 1) ls t)
 
 -- the first line with a fault, why no further line could be read, or the envelopes
 abbrev pub first_results_fault : (first : ℕ) → List ℕ → FirstFault
-first_results_fault first bytes = first_results_fault_of first [] 1 (fed bytes).lines (fed bytes).trouble
+first_results_fault first bytes = first_results_fault_of first [] 1 (feed_of bytes).lines (feed_of bytes).trouble
 
 -- ---- that it is right
 
@@ -76,7 +76,7 @@ pub record IsFirstResultsFault (first : ℕ) (bytes : List ℕ) (n : ℕ) (f : F
   pub line : List ℕ
   pub rest : List (ℕ × List ℕ)
   pub before : List (ℕ × Envelope)
-  pub cut : numbered 1 (fed bytes).lines ≡ front ++ (n, line) ∷ rest
+  pub cut : numbered_lines 1 (feed_of bytes).lines ≡ front ++ (n, line) ∷ rest
   pub read : map read_line front ≡ map as_read before
   pub well : AreWellOrdered first (envelopes before)
   pub why : FaultOf first (envelopes before) (envelope_of_line line) f
@@ -84,9 +84,9 @@ pub record IsFirstResultsFault (first : ℕ) (bytes : List ℕ) (n : ℕ) (f : F
 -- every line is read as envelopes whose attempts are well ordered, and then comes this trouble
 pub record IsTroubled (first : ℕ) (bytes : List ℕ) (t : Trouble) : Type 0 where
   pub lines : List (ℕ × Envelope)
-  pub read : map read_line (numbered 1 (fed bytes).lines) ≡ map as_read lines
+  pub read : map read_line (numbered_lines 1 (feed_of bytes).lines) ≡ map as_read lines
   pub well : AreWellOrdered first (envelopes lines)
-  pub end : (fed bytes).trouble ≡ Some t
+  pub end : (feed_of bytes).trouble ≡ Some t
 
 -- No fault is reported exactly of streams that are read as envelopes whose attempts are well ordered.
 pub record NoFaultIsExact : Type 0 where
@@ -118,7 +118,7 @@ AfterAccepted P =
 -- the attempts are well ordered, and the table reports the results
 abbrev pub TablesHaveResults : Type 0
 TablesHaveResults = AfterAccepted (λ first es t.
-    AreWellOrdered first es × (map (λ c. (c.id, reported_of t c.id)) t.cases ≡ results_of es))
+    AreWellOrdered first es × (map (λ c. (c.id, reported_status t c.id)) t.cases ≡ results_of es))
 
 -- an envelope is refused for its fault
 abbrev pub RefusedForFaults : Type 0
@@ -133,7 +133,7 @@ FaultsAreChecks = AfterAccepted (λ first es t.
 -- where an envelope has no fault, the table changes by its call
 abbrev pub TablesChange : Type 0
 TablesChange = AfterAccepted (λ first es t. (e : Envelope) → results_fault first es e ≡ None
-    → table_after first (calls_of (es ++ e ∷ [])) ≡ Some (changed t e))
+    → table_after first (calls_of (es ++ e ∷ [])) ≡ Some (table_after_envelope t e))
 
 -- where the attempts are well ordered, no call is refused
 abbrev pub WellOrderedAreAccepted : Type 0

@@ -13,20 +13,20 @@ use Rattle.cm_stream.specs.Checks.{fault_by, fault_at_end}
 use Rattle.cm_stream.specs.Texts.{Utf8}
 use Rattle.cm_stream.specs.Readings.{Reading, ReadsByTheGrammar}
 use Rattle.cm_envelope.specs.declared.envelope.Envelope.{Envelope}
-use Rattle.cm_stream.specs.Findings.{Finding, IsBad, IsUnsupported, named, NoEnvelope}
+use Rattle.cm_stream.specs.Findings.{Finding, IsBad, IsUnsupported, stream_fault_named, NoEnvelope}
 use Rattle.cm_stream.specs.declared.verdict.Audited.{Audited}
 use Rattle.cm_stream.specs.declared.verdict.Counts.{Counts}
 use Rattle.cm_stream.specs.declared.verdict.Verdict.{Verdict}
 use Rattle.cm_stream.specs.declared.verdict.Verdict.TheVariants as verdict
 
 -- a stream's lines within the limits
-abbrev pub fed : List ℕ → Fed
-fed bytes = feed bytes max_line_bytes max_stream_bytes
+abbrev pub feed_of : List ℕ → Fed
+feed_of bytes = feed bytes max_line_bytes max_stream_bytes
 
 -- the lines that aren't blank, each with its number
-abbrev pub numbered : ℕ → List (List ℕ) → List (ℕ × List ℕ)
-numbered n [] = []
-numbered n (l ∷ ls) = if is_blank l then numbered (n + 1) ls else (n, l) ∷ numbered (n + 1) ls
+abbrev pub numbered_lines : ℕ → List (List ℕ) → List (ℕ × List ℕ)
+numbered_lines n [] = []
+numbered_lines n (l ∷ ls) = if is_blank l then numbered_lines (n + 1) ls else (n, l) ∷ numbered_lines (n + 1) ls
 
 abbrev pub read_line : ℕ × List ℕ → ℕ × Result Envelope LineFault
 read_line l = (l.0, envelope_of_line l.1)
@@ -36,15 +36,15 @@ as_read l = (l.0, Ok l.1)
 
 -- The stream has no trouble, and its lines that aren't blank are read as these envelopes, each with its line number.
 pub record IsRead (bytes : List ℕ) (es : List (ℕ × Envelope)) : Type 0 where
-  pub no_trouble : (fed bytes).trouble ≡ None
-  pub read : map read_line (numbered 1 (fed bytes).lines) ≡ map as_read es
+  pub no_trouble : (feed_of bytes).trouble ≡ None
+  pub read : map read_line (numbered_lines 1 (feed_of bytes).lines) ≡ map as_read es
 
 abbrev pub envelopes : List (ℕ × Envelope) → List Envelope
 envelopes es = map (λ (l : ℕ × Envelope). l.1) es
 
 -- how many pickles no case names
-abbrev pub unrun : List Envelope → ℕ
-unrun es = count_by (λ p. not (list_any (λ c. bytes_eq p.id c.pickle_id) (cases es))) (pickles es)
+abbrev pub unrun_count : List Envelope → ℕ
+unrun_count es = count_by (λ p. not (list_any (λ c. bytes_eq p.id c.pickle_id) (cases es))) (pickles es)
 
 abbrev pub counts_of : List Envelope → Counts
 counts_of es =
@@ -53,7 +53,7 @@ counts_of es =
       pickles = length (pickles es);
       cases = length (cases es);
       attempts = length (starts es);
-      unrun = unrun es;
+      unrun = unrun_count es;
     }
 
 -- a good stream by the settings, which has these counts, and says this of the run's success
@@ -87,8 +87,8 @@ at_line n None more = more
 at_line n (Some f) more = At n f
 
 -- what a line is read as: nothing where it is blank
-abbrev pub shown : List ℕ → Option (Result Envelope LineFault)
-shown line = if is_blank line then None else Some (envelope_of_line line)
+abbrev pub envelope_unless_blank : List ℕ → Option (Result Envelope LineFault)
+envelope_unless_blank line = if is_blank line then None else Some (envelope_of_line line)
 
 abbrev pub first_fault_line_by : (read : Utf8 → Reading) → Settings → (before : List Envelope)
     → (n : ℕ) → Option (Result Envelope LineFault) → (List Envelope → FirstFault) → FirstFault
@@ -104,7 +104,7 @@ abbrev pub first_fault_of_by : (read : Utf8 → Reading) → Settings → (befor
 first_fault_of_by read settings before n [] (Some t) = Troubled t
 first_fault_of_by read settings before n [] None = at_end n before (fault_at_end before)
 first_fault_of_by read settings before n (l ∷ ls) t =
-    first_fault_line_by read settings before n (shown l)
+    first_fault_line_by read settings before n (envelope_unless_blank l)
     (λ (now : List Envelope). first_fault_of_by read settings now (n + 1) ls t)
 
 -- that is reported of the lines and of the trouble or the end after them, where sources' texts are read by the grammar
@@ -116,7 +116,7 @@ pub record IsFirstFaultOf (settings : Settings) (lines : List (List ℕ)) (troub
 
 -- that is the first fault of the bytes
 abbrev pub IsFirstFault : Settings → List ℕ → FirstFault → Type 0
-IsFirstFault settings bytes f = IsFirstFaultOf settings (fed bytes).lines (fed bytes).trouble f
+IsFirstFault settings bytes f = IsFirstFaultOf settings (feed_of bytes).lines (feed_of bytes).trouble f
 
 -- ---- what an audit promises
 
@@ -128,12 +128,12 @@ pub data Answer : Type 0 where
 
 abbrev pub answer_in : Verdict → Bool → Answer
 answer_in (verdict.Good counts) success = GoodWith counts success
-answer_in (verdict.Bad n b) success = Found n (IsBad (named b))
+answer_in (verdict.Bad n b) success = Found n (IsBad (stream_fault_named b))
 answer_in (verdict.Unsupported n r) success = Found n (IsUnsupported r)
 
-abbrev pub answered : Result Audited Trouble → Answer
-answered (Ok a) = answer_in a.verdict a.success
-answered (Err t) = Failed t
+abbrev pub answer_of_audit : Result Audited Trouble → Answer
+answer_of_audit (Ok a) = answer_in a.verdict a.success
+answer_of_audit (Err t) = Failed t
 
 abbrev pub verdict_in : Result Audited Trouble → Result Verdict Trouble
 verdict_in (Ok a) = Ok a.verdict
@@ -161,8 +161,8 @@ pub record HaveFirstLines (n : ℕ) (bytes other : List ℕ) : Type 0 where
   pub rest : List (List ℕ)
   pub other_rest : List (List ℕ)
   pub count : length first ≡ n
-  pub here : (fed bytes).lines ≡ first ++ rest
-  pub there : (fed other).lines ≡ first ++ other_rest
+  pub here : (feed_of bytes).lines ≡ first ++ rest
+  pub there : (feed_of other).lines ≡ first ++ other_rest
 
 -- A fault at line n: no good stream has the first n lines of this one, if it has n, and this one isn't good. Of a fault past the
 -- last line, as of a run that doesn't end, only the second is said: a good stream may begin with all of these lines.

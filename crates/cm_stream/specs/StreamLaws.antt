@@ -1,7 +1,7 @@
 -- What is reported of a stream is right: laws over bytes.
 use Rattle.std.specs.Prelude.{◌≡◌, ℕ, Bool, List, Result}
 use Rattle.cm_attempt.specs.declared.settings.Settings.{Settings}
-use Rattle.cm_stream.specs.Stream.{FirstFault, At, Troubled, NoFault, IsFirstFault, IsGoodStream, IsGoodRun, counts_of, GoodWith, answered, answer_for, verdict_in, GoodRunsOnly, NoneIsGood, HaveFirstLines}
+use Rattle.cm_stream.specs.Stream.{FirstFault, At, Troubled, NoFault, IsFirstFault, IsGoodStream, IsGoodRun, counts_of, GoodWith, answer_of_audit, answer_for, verdict_in, GoodRunsOnly, NoneIsGood, HaveFirstLines}
 use Rattle.cm_envelope.specs.declared.envelope.Envelope.{Envelope}
 use Rattle.cm_envelope.specs.declared.feed.Trouble.{Trouble}
 use Rattle.cm_stream.specs.declared.verdict.Counts.{Counts}
@@ -49,10 +49,10 @@ pub record IsRightAnswer (settings : Settings) (bytes : List ℕ)
   pub good : GoodRunsOnly settings bytes answer
   pub bad : NoneIsGood settings bytes (verdict_in answer)
   pub decided : (counts : Counts) (success : Bool) → IsGoodRun settings bytes counts success
-      → answered answer ≡ GoodWith counts success
+      → answer_of_audit answer ≡ GoodWith counts success
 
 abbrev pub AnswersAreRight : Type 0
 AnswersAreRight =
     (settings : Settings) (bytes : List ℕ) (f : FirstFault) (answer : Result Audited Trouble)
-    → IsFirstFault settings bytes f → answered answer ≡ answer_for f
+    → IsFirstFault settings bytes f → answer_of_audit answer ≡ answer_for f
     → IsRightAnswer settings bytes answer

@@ -7,7 +7,7 @@ use Rattle.cm_stream.specs.Readings.{IsInOtherLanguage}
 use Rattle.cm_stream.specs.Sources.{plain}
 use Rattle.cm_stream.specs.Good.{has_unknown_result}
 use Rattle.cm_stream.specs.Findings.{IsUnsupported}
-use Rattle.cm_stream.specs.Stream.{At, IsFirstFault, fed, shown}
+use Rattle.cm_stream.specs.Stream.{At, IsFirstFault, feed_of, envelope_unless_blank}
 use Rattle.cm_stream.specs.declared.verdict.Reason.{Reason}
 use Rattle.cm_stream.specs.declared.verdict.Reason.TheVariants as reason
 use Rattle.cm_envelope.specs.declared.envelope.Envelope.{Envelope}
@@ -28,10 +28,10 @@ pub record ShowsReason (bytes : List ℕ) (n : ℕ) (r : Reason) : Type 0 where
   pub before : List (List ℕ)
   pub line : List ℕ
   pub after : List (List ℕ)
-  pub cut : (fed bytes).lines ≡ before ++ line ∷ after
+  pub cut : (feed_of bytes).lines ≡ before ++ line ∷ after
   pub count : n ≡ length before + 1
   pub said : Envelope
-  pub read : shown line ≡ Some (Ok said)
+  pub read : envelope_unless_blank line ≡ Some (Ok said)
   pub why : HasReason r said
 
 -- where the first fault is that a stream isn't judged for a reason, its line shows that reason

@@ -9,7 +9,7 @@
 //! A judge's contract cites the definitions:
 //!
 //! ```text
-//! ghost use Rattle.cm_stream.specs.Stream.{FirstFault, IsFirstFault, answer_for, answered};
+//! ghost use Rattle.cm_stream.specs.Stream.{FirstFault, IsFirstFault, answer_for, answer_of_audit};
 //!
 //! /// Audits the stream of these bytes.
 //! pub fn audit(bytes: &[u8], settings: Settings) -> Result<Audited, Trouble>

@@ -1,6 +1,6 @@
 use Rattle.std.proofs.Common.{rules, ◌+◌, ◌∙◌, refl, Ok, Err, Some, None, arith}
 use Rattle.cm_envelope.specs.Feeds.{Leaves, GivesLine}
-use Rattle.cm_stream.specs.Stream.{shown}
+use Rattle.cm_stream.specs.Stream.{envelope_unless_blank}
 use Rattle.cm_audit.specs.State.{summary_of}
 use Rattle.cm_audit.proofs.Answering.{few_at_first, still_listed}
 use Rattle.cm_audit.proofs.Counted.{still_fewer}
@@ -35,8 +35,8 @@ lines-preserved g c =
       stream_limit = leaves.stream_limit ∙ c.lines.invariant.stream_limit;
       counted = omega (arith, c.lines.invariant.counted, given.some);
       few = omega (arith, given.fits, c.lines.invariant.stream_limit);
-      listed = still_listed c.args.settings c.lines.state c.take_line.new.state (shown line) taken;
-      fewer = still_fewer c.args.settings (c.lines.number + 1) c.lines.state c.take_line.new.state (shown line) taken c.lines.invariant.fewer;
+      listed = still_listed c.args.settings c.lines.state c.take_line.new.state (envelope_unless_blank line) taken;
+      fewer = still_fewer c.args.settings (c.lines.number + 1) c.lines.state c.take_line.new.state (envelope_unless_blank line) taken c.lines.invariant.fewer;
       ends = leaves.source c.lines.invariant.ends;
       judged = follows_next c.args.settings (g.W.Watch.follows c.lines.watch) (g.W.Watch.follows c.take_line.new.watch) c.lines.feed later c.lines.state c.take_line.new.state c.lines.number line _ _ _ c.lines.invariant.judged c.lines.invariant.open_still leaves given taken c.in-Ok.ensures.followed;
       no_failure = search rules;

@@ -1,5 +1,5 @@
 use Rattle.std.proofs.Common.{◌≡◌, ◌∙◌, Bool, refl, ap, sym, Some, true, false}
-use Rattle.cm_refs.specs.Declarations.{Declarations, find_run_hook, with_finished}
+use Rattle.cm_refs.specs.Declarations.{Declarations, find_run_hook, with_finished_run_hook}
 use Rattle.cm_attempt.specs.Worst.{with_status}
 use Rattle.cm_envelope.specs.declared.envelope.Envelope.TheVariants.{TestRunHookFinished}
 use Rattle.cm_stream.specs.Good.{is_unknown}
@@ -48,7 +48,7 @@ returns c =
     let finished = c.args.finished.now in
     let answer = rw c.as_str.ensures at c.in_ok-finish_run_hook.ensures.answer in
     let known : is_unknown finished.result.status ≡ false = sym (unknown_by finished.result.status c.eq.result (rw (← c.kept_status-status.ensures) c.eq.ensures)) ∙ c.if-eq.false in
-    let made = c.in_ok-finish_run_hook.ensures.ok ∙ ap (λ t. with_finished t old.declared) c.as_str.ensures in
+    let made = c.in_ok-finish_run_hook.ensures.ok ∙ ap (λ t. with_finished_run_hook t old.declared) c.as_str.ensures in
     let worst : Some c.worst_with.result ≡ with_status old.hooks_worst (kept_status finished.result.status) = c.worst_with.ensures ∙ ap (with_status old.hooks_worst) c.kept_status-status.ensures in (
       end_found_is (find_run_hook old.declared finished.test_run_hook_started_id) (is_unknown finished.result.status) answer ∙ rw known refl,
       λ i. record (summary_of old) { declared = made i; hooks_worst = worst i },

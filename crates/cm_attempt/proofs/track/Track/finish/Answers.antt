@@ -2,7 +2,7 @@ use Rattle.std.proofs.Common.{rules, ◌≡◌, refl, sym, true, []}
 use Rattle.std.specs.Str.{bytes_eq}
 use Rattle.std.specs.String.{string_bytes}
 use Rattle.cm_attempt.specs.Rows.{attempt_row, attempt_rows, case_rows, table_of}
-use Rattle.cm_attempt.specs.Table.{AttemptRow, CaseRow, ended, with_last}
+use Rattle.cm_attempt.specs.Table.{AttemptRow, CaseRow, ended_attempt, with_last}
 use Rattle.cm_attempt.proofs.IdLaws.{distinct_after_change}
 use Rattle.cm_attempt.proofs.TableLaws.{count_ended, is_open, open_before_end}
 use Rattle.cm_attempt.proofs.track.Track.finish.Goals as goal
@@ -20,7 +20,7 @@ invariant_of-self c = (
   record {
     of_cases = distinct_after_change {X = CaseRow} (λ r. r.id) (λ r. bytes_eq (string_bytes c.in-Some.found.now.case_id) r.id) (with_last c.outcome-last.result) (λ r. refl) (case_rows c.self.inside.cases.entries) (case_rows c.close_case.new.cases.entries)
         (c.close_case.ensures.rows (string_bytes c.in-Some.found.now.case_id) (search rules)) c.self.invariant.1.of_cases;
-    of_attempts = distinct_after_change {X = AttemptRow} (λ r. r.id) (λ r. bytes_eq c.args.attempt.now r.id) ended (λ r. refl) (attempt_rows c.self.inside.attempts.entries) (attempt_rows c.set_ended.new.attempts.entries)
+    of_attempts = distinct_after_change {X = AttemptRow} (λ r. r.id) (λ r. bytes_eq c.args.attempt.now r.id) ended_attempt (λ r. refl) (attempt_rows c.self.inside.attempts.entries) (attempt_rows c.set_ended.new.attempts.entries)
         (c.set_ended.ensures.rows c.args.attempt.now (sym c.in-Some.ensures.place)) c.self.invariant.1.of_attempts;
   },
 )

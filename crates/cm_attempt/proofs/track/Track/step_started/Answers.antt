@@ -1,6 +1,6 @@
 use Rattle.std.proofs.Common.{rules, refl, sym}
 use Rattle.std.specs.Str.{bytes_eq}
-use Rattle.cm_attempt.specs.Table.{AttemptRow, running_cursor, running}
+use Rattle.cm_attempt.specs.Table.{AttemptRow, running_cursor, with_running_step}
 use Rattle.cm_attempt.specs.Rows.{attempt_rows}
 use Rattle.cm_attempt.proofs.IdLaws.{distinct_after_change}
 use Rattle.cm_attempt.proofs.TableLaws.{count_kept, is_open, open_kept}
@@ -9,7 +9,7 @@ use Rattle.cm_attempt.proofs.track.Track.step_started.Goals as goal
 pub returns-clause-open_count : goal.returns-clause-open_count
 returns-clause-open_count c =
     rw (← c.self.view_is, c.set_running.ensures.rows c.args.attempt.now (sym c.in-Some.ensures.place))
-    (count_kept (λ r. bytes_eq c.args.attempt.now r.id) is_open running (λ a. open_kept running_cursor a.cursor) _)
+    (count_kept (λ r. bytes_eq c.args.attempt.now r.id) is_open with_running_step (λ a. open_kept running_cursor a.cursor) _)
 
 pub returns-clause-ok : goal.returns-clause-ok
 returns-clause-ok c =
@@ -21,7 +21,7 @@ invariant_of-self c = (
   search rules,
   record {
     of_cases = c.self.invariant.1.of_cases;
-    of_attempts = distinct_after_change {X = AttemptRow} (λ r. r.id) (λ r. bytes_eq c.args.attempt.now r.id) running (λ r. refl) (attempt_rows c.self.inside.attempts.entries) (attempt_rows c.set_running.new.attempts.entries)
+    of_attempts = distinct_after_change {X = AttemptRow} (λ r. r.id) (λ r. bytes_eq c.args.attempt.now r.id) with_running_step (λ r. refl) (attempt_rows c.self.inside.attempts.entries) (attempt_rows c.set_running.new.attempts.entries)
         (c.set_running.ensures.rows c.args.attempt.now (sym c.in-Some.ensures.place)) c.self.invariant.1.of_attempts;
   },
 )
