@@ -183,7 +183,8 @@ with_first c (word ∷ words) = (c ∷ word) ∷ words
 
 abbrev pub words_of_line : Text → List Text
 words_of_line [] = [] ∷ []
-words_of_line (c ∷ cs) = if c == 32 then [] ∷ words_of_line cs else with_first c (words_of_line cs)
+words_of_line (c ∷ cs) =
+    if c == 32 then [] ∷ words_of_line cs else with_first c (words_of_line cs)
 
 -- the settings of this policy, with first attempts of this number
 abbrev pub settings_by : Policy → (first : ℕ) → Settings
@@ -195,7 +196,8 @@ examples =
     (codes "gate", ask_gate (settings_by Strict 0) false)
     ∷ (codes "gate --allow-unrun", ask_gate (settings_by Strict 0) true)
     ∷ (codes "gate --attempts-from 1 --allow-unrun", ask_gate (settings_by Strict 1) true)
-    ∷ (codes "gate --attempts-from=1 --pending-passes", ask_gate (settings_by PendingPasses 1) false)
+    ∷ (codes "gate --attempts-from=1 --pending-passes",
+    ask_gate (settings_by PendingPasses 1) false)
     ∷ (codes "audit", ask_audit (settings_by Strict 0))
     ∷ (codes "audit --attempts-from 0", ask_audit (settings_by Strict 0))
     ∷ (codes "cases --pending-passes", ask_cases (settings_by PendingPasses 0))

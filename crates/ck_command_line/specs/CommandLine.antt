@@ -171,7 +171,8 @@ where_none (x ∷ xs) found = None
 -- What the words ask for, the program's name first: the command that they name, where the command
 -- line has no fault.
 unfoldable pub command_of : List Text → Option Command
-command_of words = where_none (fault_of command_app words) (subcommand_named (subcommand_of command_app words))
+command_of words =
+    where_none (fault_of command_app words) (subcommand_named (subcommand_of command_app words))
 
 -- what the words after the program's name ask for
 abbrev pub command_asked_by : List (Bor Text) → Option Command

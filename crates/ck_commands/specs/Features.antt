@@ -33,7 +33,8 @@ IsNoText bytes = (length bytes ≤ max_bytes) × (IsUtf8 bytes → ⊥)
 -- why a feature file is refused: it is too long, or its text has the fault
 abbrev pub IsRefusedFeature : List ℕ → ParseFault → Type 0
 IsRefusedFeature bytes f =
-    (HasTooMany bytes × (f ≡ too_long)) ⊎ (IsReadableText bytes × HasFault bytes f.kind f.line f.column)
+    (HasTooMany bytes × (f ≡ too_long))
+    ⊎ (IsReadableText bytes × HasFault bytes f.kind f.line f.column)
 
 -- Why the bytes give no document, where they could all be read. Memory may be refused of any.
 abbrev pub IsFaultOf : List ℕ → FeatureFault → Type 0

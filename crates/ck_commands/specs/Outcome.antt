@@ -24,7 +24,9 @@ unless_found None t = Ok t
 
 -- the table after an envelope, or what is found in its line
 abbrev pub after_envelope : Table → Result Envelope LineFault → Result Table Finding
-after_envelope t (Ok e) = unless_found (option_and_then call_fault_finding (call_fault_of_envelope t e)) (table_after_envelope t e)
+after_envelope t (Ok e) =
+    unless_found (option_and_then call_fault_finding (call_fault_of_envelope t e))
+    (table_after_envelope t e)
 after_envelope t (Err fault) = Err (IsBad (NoEnvelope fault))
 
 -- the table after a line, or what is found in it; a blank line changes nothing

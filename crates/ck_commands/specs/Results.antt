@@ -29,5 +29,6 @@ pub record ResultsShowNoFault (first : ℕ) (before after : List ℕ) : Type 0 w
   pub lines : List Line
   pub ahead : List ℕ
   pub begins : Begins before lines ahead after
-  pub faultless : first_results_fault_of first [] 1 (contents lines) (Some ReadFailed) ≡ Troubled ReadFailed
+  pub faultless : first_results_fault_of first [] 1 (contents lines) (Some ReadFailed)
+      ≡ Troubled ReadFailed
   pub nothing : ShowNothing max_line_bytes max_stream_bytes (length (all_written lines)) ahead

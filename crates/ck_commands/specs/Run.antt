@@ -93,11 +93,13 @@ Tells c bytes rest r = Reports c bytes r
 
 abbrev pub PrintsDocument : (before after : Output) → List ℕ → Type 0
 PrintsDocument before after bytes =
-    (d : Document) × IsReadableText bytes × IsDocumentOf bytes d × Writes before after (document_text d)
+    (d : Document) × IsReadableText bytes × IsDocumentOf bytes d
+    × Writes before after (document_text d)
 
 abbrev pub PrintsCompiled : (uri : List ℕ) → (before after : Output) → List ℕ → Type 0
 PrintsCompiled uri before after bytes =
-    (lines : List ℕ) × IsReadableText bytes × IsCompiledOf uri bytes lines × Writes before after lines
+    (lines : List ℕ) × IsReadableText bytes × IsCompiledOf uri bytes lines
+    × Writes before after lines
 
 abbrev pub PrintsResults : (first : ℕ) → (before after : Output) → List ℕ → Type 0
 PrintsResults first before after bytes =

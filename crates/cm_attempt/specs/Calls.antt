@@ -41,7 +41,8 @@ unless_refused (Some fault) left = None
 -- the table that the calls make of a table, and none where one of them is refused
 abbrev pub table_after_calls : Table → List Call → Option Table
 table_after_calls t [] = Some t
-table_after_calls t (c ∷ calls) = unless_refused (call_fault t c) (table_after_calls (after_call t c) calls)
+table_after_calls t (c ∷ calls) =
+    unless_refused (call_fault t c) (table_after_calls (after_call t c) calls)
 
 -- the table after the calls of a run whose attempts are counted from a number, and none where one of them is refused
 abbrev pub table_after : ℕ → List Call → Option Table

@@ -217,7 +217,8 @@ with_last state c = record c { last = state }
 abbrev pub with_finished_attempt_at : Utf8 → Bool → Option AttemptRow → Table → Table
 with_finished_attempt_at attempt will_be_retried None t = t
 with_finished_attempt_at attempt will_be_retried (Some a) t =
-    change_attempt attempt ended_attempt (change_case a.case_id (with_last (outcome a will_be_retried)) t)
+    change_attempt attempt ended_attempt
+    (change_case a.case_id (with_last (outcome a will_be_retried)) t)
 
 abbrev pub with_finished_attempt : Utf8 → Bool → Table → Table
 with_finished_attempt attempt will_be_retried t =

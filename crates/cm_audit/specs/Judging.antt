@@ -71,7 +71,8 @@ pub record HasFollowed (settings : Settings) (follows : List Envelope → Type 0
   pub judged : HasJudged settings before after feed number s
   pub followed : follows (envelopes_in (contents judged.read.lines))
   pub faultless : IsFaultless settings (envelopes_in (contents judged.read.lines))
-  pub kept : s ≡ summary_of_lines settings.first_attempt (envelopes_in (contents judged.read.lines))
+  pub kept : s
+      ≡ summary_of_lines settings.first_attempt (envelopes_in (contents judged.read.lines))
 
 -- `IsAuditOf`, where the lines are judged one by one
 pub record JudgesAs (settings : Settings) (answer : Result Audited Trouble)

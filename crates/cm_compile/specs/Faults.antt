@@ -14,10 +14,10 @@ IsRefusedWith text f =
     (IsTooLong text × (f ≡ too_long)) ⊎ ((IsTooLong text → ⊥)
     × HasFault text f.kind f.line f.column)
 
-abbrev told_at : FaultKind → ParseFault → CompileFault
-told_at kind.Memory f = Memory
-told_at _ f = Parse f
+abbrev fault_of_kind : FaultKind → ParseFault → CompileFault
+fault_of_kind kind.Memory f = Memory
+fault_of_kind _ f = Parse f
 
 -- what a fault of the parser is reported as: its want of memory is want of memory
 abbrev pub compile_fault : ParseFault → CompileFault
-compile_fault f = told_at f.kind f
+compile_fault f = fault_of_kind f.kind f

@@ -69,7 +69,8 @@ each_node read ids (item d ds) = do
 
 abbrev pub nodes_of : {A : Type 0} → (Ids → Data → NodeRead A) → List ℕ → Ids → Data
     → NodeRead (List A)
-nodes_of read name ids d = items_in name (present_member name d) >>= each_node (node_in name read) ids
+nodes_of read name ids d =
+    items_in name (present_member name d) >>= each_node (node_in name read) ids
 
 -- ---- the children of a feature and of a rule
 
@@ -97,7 +98,8 @@ rank_if a b c = None
 -- In a rule's child, `rule` is an unknown member.
 abbrev pub rank_of : Bool → Data → Option ℕ
 rank_of in_feature d =
-    rank_if (is_some (present_member (codes "background") d)) (is_some (present_member (codes "scenario") d))
+    rank_if (is_some (present_member (codes "background") d))
+    (is_some (present_member (codes "scenario") d))
     (in_feature && is_some (present_member (codes "rule") d))
 
 -- at most one background, then scenarios, then rules: no child's rank is below least, nor the later ones' below its own or 1

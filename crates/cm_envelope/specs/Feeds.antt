@@ -78,7 +78,8 @@ not_given s to_come = if s.is_ended then s.held else s.held ++ to_come
 
 -- what is left to answer
 abbrev pub feed_left : Stored → List ℕ → Fed
-feed_left s to_come = feed_lines s.line_limit s.stream_limit s.given (lines_of (not_given s to_come))
+feed_left s to_come =
+    feed_lines s.line_limit s.stream_limit s.given (lines_of (not_given s to_come))
 
 -- the first of some lines, or where there is none their trouble or the end
 abbrev pub first_answer : List (List ℕ) → Option Trouble → NextLine
@@ -135,7 +136,8 @@ GivesNext old new before after (Err ReadFailed) =
     (not_given old before ≡ new.held ++ after) × (new.given ≡ old.given)
     × ShowNothing old.line_limit old.stream_limit old.given new.held
 GivesNext old new before after (Err LineTooLong) = feed_left old before ≡ trouble_alone LineTooLong
-GivesNext old new before after (Err StreamTooLong) = feed_left old before ≡ trouble_alone StreamTooLong
+GivesNext old new before after (Err StreamTooLong) =
+    feed_left old before ≡ trouble_alone StreamTooLong
 GivesNext old new before after (Err Memory) = ⊤
 
 -- any bytes may come after a call, but none where the call read the end

@@ -21,7 +21,8 @@ GivesMember (Ok x) reading = reading ≡ Ok x
 GivesMember (Err e) reading = FailsAtMember e reading
 
 -- the same of a value that is seen by view
-abbrev pub GivesMemberOf : {A B : Type 0} → (A → B) → Result A MemberFault → Result B (List ℕ) → Type 0
+abbrev pub GivesMemberOf : {A B : Type 0} → (A → B) → Result A MemberFault → Result B (List ℕ)
+    → Type 0
 GivesMemberOf view (Ok x) reading = reading ≡ Ok (view x)
 GivesMemberOf view (Err e) reading = FailsAtMember e reading
 
@@ -102,7 +103,8 @@ list_of read name d = items_in name (present_member name d) >>= each (object_in 
 
 abbrev pub list_of_values : {A : Type 0} → (Data → Option A) → List ℕ → Data
     → Result (List A) (List ℕ)
-list_of_values type name d = items_in name (present_member name d) >>= each (λ e. good name (type e))
+list_of_values type name d =
+    items_in name (present_member name d) >>= each (λ e. good name (type e))
 
 -- ---- rules, checked when their member is reached
 
@@ -111,7 +113,8 @@ rule name holds = if holds then Ok tt else Err name
 
 abbrev pub has_one_of : List ℕ → List ℕ → Data → Bool
 has_one_of a b d =
-    if is_some (present_member a d) then not (is_some (present_member b d)) else is_some (present_member b d)
+    if is_some (present_member a d) then not (is_some (present_member b d))
+    else is_some (present_member b d)
 
 abbrev pub has_both : List ℕ → List ℕ → Data → Bool
 has_both a b d = is_some (present_member a d) && is_some (present_member b d)

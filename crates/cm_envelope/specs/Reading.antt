@@ -105,7 +105,8 @@ envelope_in_one None = Ok envelope.Other
 envelope_in_one (Some j) = envelope_in j.0 j.1
 
 abbrev pub envelope_of : Data → Result Envelope LineFault
-envelope_of d = if is_some (as_object d) then the_one (judged_kinds_of d) >>= envelope_in_one else Err shape
+envelope_of d =
+    if is_some (as_object d) then the_one (judged_kinds_of d) >>= envelope_in_one else Err shape
 
 -- the JSON value that the line is
 abbrev pub value_of_line : List ℕ → Option Data
@@ -133,7 +134,8 @@ FailsAtLine (faults.Line fault) reading = reading ≡ Err (fault_named fault)
 FailsAtLine faults.Memory reading = Unit {0}
 
 -- What a function returned, seen by view, is what the reading gives, unless memory ran out.
-abbrev pub GivesLineValue : {A B : Type 0} → (A → B) → Result A EnvelopeFault → Result B LineFault → Type 0
+abbrev pub GivesLineValue : {A B : Type 0} → (A → B) → Result A EnvelopeFault → Result B LineFault
+    → Type 0
 GivesLineValue view (Ok x) reading = reading ≡ Ok (view x)
 GivesLineValue view (Err e) reading = FailsAtLine e reading
 

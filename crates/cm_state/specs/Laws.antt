@@ -22,7 +22,8 @@ FindingsAreFaults =
 abbrev pub SummariesStep : Type 0
 SummariesStep =
     (settings : Settings) (es : List Envelope) (e : Envelope) → IsFaultless settings (es ++ e ∷ [])
-    → summary_of_lines settings.first_attempt (es ++ e ∷ []) ≡ summary_after_line (summary_of_lines settings.first_attempt es) e
+    → summary_of_lines settings.first_attempt (es ++ e ∷ [])
+    ≡ summary_after_line (summary_of_lines settings.first_attempt es) e
 
 -- ---- a stream
 
@@ -39,14 +40,16 @@ abbrev pub answer_of_line : Settings → Summary → ℕ → Option (Result Enve
     → (Summary → Answer) → Answer
 answer_of_line settings s n None more = more s
 answer_of_line settings s n (Some (Err b)) more = Found n (IsBad (NoEnvelope b))
-answer_of_line settings s n (Some (Ok e)) more = answer_at_line n (finding settings s e) (more (summary_after_line s e))
+answer_of_line settings s n (Some (Ok e)) more =
+    answer_at_line n (finding settings s e) (more (summary_after_line s e))
 
 -- the answer for these lines, the first of which has the number n, and then the trouble or the end
 abbrev pub answer_of_lines : Settings → Summary → ℕ → List (List ℕ) → Option Trouble → Answer
 answer_of_lines settings s n [] (Some t) = Failed t
 answer_of_lines settings s n [] None = answer_at_end n s (finding_at_end s)
 answer_of_lines settings s n (l ∷ ls) t =
-    answer_of_line settings s n (envelope_unless_blank l) (λ (now : Summary). answer_of_lines settings now (n + 1) ls t)
+    answer_of_line settings s n (envelope_unless_blank l)
+    (λ (now : Summary). answer_of_lines settings now (n + 1) ls t)
 
 -- the answer is that for what is reported of the lines
 abbrev pub JudgedIsTold : Type 0

@@ -178,7 +178,8 @@ or_else (Some f) later = Some f
 abbrev pub plain_finding : Summary → Envelope → Option Finding
 plain_finding s e =
     or_else (first_failed (checks_before s e))
-    (or_else (option_and_then call_fault_finding (call_fault_of_envelope s.table e)) (first_failed (checks_after e)))
+    (or_else (option_and_then call_fault_finding (call_fault_of_envelope s.table e))
+    (first_failed (checks_after e)))
 
 -- the finding of a line of which no check comes after the end of the run
 abbrev pub finding_inside : Policy → Summary → Envelope → Option Finding

@@ -200,7 +200,8 @@ summary_after_line s (envelope.Pickle p) = record s {
   sources = change_source p.uri one_more s.sources;
   counts = counts_with_pickle s.counts;
 }
-summary_after_line s (envelope.StepDefinition d) = record s { declared = with_definition d.id s.declared }
+summary_after_line s (envelope.StepDefinition d) =
+    record s { declared = with_definition d.id s.declared }
 summary_after_line s (envelope.Hook h) = record s { declared = with_hook h.id s.declared }
 summary_after_line s (envelope.TestCase c) = record s {
   table = table_after_envelope s.table (envelope.TestCase c);
@@ -213,11 +214,13 @@ summary_after_line s (envelope.TestCaseStarted x) =
       table = table_after_envelope s.table (envelope.TestCaseStarted x);
       counts = counts_with_attempt s.counts;
     }
-summary_after_line s (envelope.TestRunHookStarted x) = record s { declared = with_run_hook x.id s.declared }
+summary_after_line s (envelope.TestRunHookStarted x) =
+    record s { declared = with_run_hook x.id s.declared }
 summary_after_line s (envelope.TestRunHookFinished f) =
     record s {
       declared = with_finished_run_hook f.test_run_hook_started_id s.declared;
       hooks_worst = with_status s.hooks_worst (kept_status f.result.status);
     }
-summary_after_line s (envelope.TestRunFinished f) = record s { is_finished = true; success = f.success }
+summary_after_line s (envelope.TestRunFinished f) =
+    record s { is_finished = true; success = f.success }
 summary_after_line s e = record s { table = table_after_envelope s.table e }

@@ -71,4 +71,5 @@ abbrev pub first_fault_of : Settings → (before : List Envelope) → (n : ℕ) 
 first_fault_of = first_fault_of_by reads
 
 abbrev pub first_fault : Settings → List ℕ → FirstFault
-first_fault settings bytes = first_fault_of settings [] 1 (feed_of bytes).lines (feed_of bytes).trouble
+first_fault settings bytes =
+    first_fault_of settings [] 1 (feed_of bytes).lines (feed_of bytes).trouble

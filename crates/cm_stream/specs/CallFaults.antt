@@ -63,7 +63,8 @@ own_checks first es _ = []
 -- after lines without a fault the call is refused for what the first failed of these checks reports
 abbrev pub CallFaultsAreBy : (Utf8 → Reading) → Envelope → Type 0
 CallFaultsAreBy read e = (settings : Settings) (es : List Envelope) → IsFaultlessBy read settings es
-    → option_and_then call_fault_finding (call_fault_of_envelope (table_of_envelopes settings.first_attempt es) e)
+    → option_and_then call_fault_finding
+    (call_fault_of_envelope (table_of_envelopes settings.first_attempt es) e)
     ≡ first_failed (own_checks settings.first_attempt es e)
 
 -- that of each line

@@ -24,7 +24,8 @@ IsFaultlessBy read settings es =
 abbrev pub TableSteps : Type 0
 TableSteps =
     (first : ℕ) (es : List Envelope) (e : Envelope)
-    → table_of_envelopes first (es ++ e ∷ []) ≡ table_after_envelope (table_of_envelopes first es) e
+    → table_of_envelopes first (es ++ e ∷ [])
+    ≡ table_after_envelope (table_of_envelopes first es) e
 
 -- after lines without a fault no call is refused, and the table is the one that the calls leave
 abbrev pub NoneIsRefusedBy : (Utf8 → Reading) → Type 0

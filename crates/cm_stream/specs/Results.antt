@@ -33,7 +33,8 @@ results_of es = map (λ c. (c.id, result_of c.id (calls_of es))) (cases (calls_o
 -- the fault of a line after these envelopes, whose attempts are well ordered: the first fault of its call
 abbrev pub results_fault : (first : ℕ) → List Envelope → Envelope → Option Finding
 results_fault first before e =
-    option_and_then call_fault_finding (option_and_then (fault_of first (calls_of before)) (call_of e))
+    option_and_then call_fault_finding
+    (option_and_then (fault_of first (calls_of before)) (call_of e))
 
 abbrev pub first_results_fault_line : (first : ℕ) → (before : List Envelope) → (n : ℕ)
     → Option (Result Envelope LineFault) → (List Envelope → FirstFault) → FirstFault
@@ -43,8 +44,8 @@ first_results_fault_line first before n (Some (Ok e)) more =
     at_line n (results_fault first before e) (more (before ++ e ∷ []))
 
 -- of these lines, the first of which has the number n, and then the trouble or the end, after envelopes without a fault
-abbrev pub first_results_fault_of : (first : ℕ) → (before : List Envelope) → (n : ℕ) → List (List ℕ)
-    → Option Trouble → FirstFault
+abbrev pub first_results_fault_of : (first : ℕ) → (before : List Envelope) → (n : ℕ)
+    → List (List ℕ) → Option Trouble → FirstFault
 first_results_fault_of first before n [] (Some t) = Troubled t
 first_results_fault_of first before n [] None = NoFault before
 first_results_fault_of first before n (l ∷ ls) t =
@@ -53,7 +54,8 @@ first_results_fault_of first before n (l ∷ ls) t =
 
 -- the first line with a fault, why no further line could be read, or the envelopes
 abbrev pub first_results_fault : (first : ℕ) → List ℕ → FirstFault
-first_results_fault first bytes = first_results_fault_of first [] 1 (feed_of bytes).lines (feed_of bytes).trouble
+first_results_fault first bytes =
+    first_results_fault_of first [] 1 (feed_of bytes).lines (feed_of bytes).trouble
 
 -- ---- that it is right
 
@@ -123,7 +125,8 @@ TablesHaveResults = AfterAccepted (λ first es t.
 -- an envelope is refused for its fault
 abbrev pub RefusedForFaults : Type 0
 RefusedForFaults = AfterAccepted (λ first es t.
-    (e : Envelope) → option_and_then call_fault_finding (call_fault_of_envelope t e) ≡ results_fault first es e)
+    (e : Envelope) → option_and_then call_fault_finding (call_fault_of_envelope t e)
+    ≡ results_fault first es e)
 
 -- that is the first failed of the checks that the audit leaves to the record
 abbrev pub FaultsAreChecks : Type 0

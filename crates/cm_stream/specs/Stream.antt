@@ -26,7 +26,8 @@ feed_of bytes = feed bytes max_line_bytes max_stream_bytes
 -- the lines that aren't blank, each with its number
 abbrev pub numbered_lines : ℕ → List (List ℕ) → List (ℕ × List ℕ)
 numbered_lines n [] = []
-numbered_lines n (l ∷ ls) = if is_blank l then numbered_lines (n + 1) ls else (n, l) ∷ numbered_lines (n + 1) ls
+numbered_lines n (l ∷ ls) =
+    if is_blank l then numbered_lines (n + 1) ls else (n, l) ∷ numbered_lines (n + 1) ls
 
 abbrev pub read_line : ℕ × List ℕ → ℕ × Result Envelope LineFault
 read_line l = (l.0, envelope_of_line l.1)
@@ -44,7 +45,8 @@ envelopes es = map (λ (l : ℕ × Envelope). l.1) es
 
 -- how many pickles no case names
 abbrev pub unrun_count : List Envelope → ℕ
-unrun_count es = count_by (λ p. not (list_any (λ c. bytes_eq p.id c.pickle_id) (cases es))) (pickles es)
+unrun_count es =
+    count_by (λ p. not (list_any (λ c. bytes_eq p.id c.pickle_id) (cases es))) (pickles es)
 
 abbrev pub counts_of : List Envelope → Counts
 counts_of es =
@@ -116,7 +118,8 @@ pub record IsFirstFaultOf (settings : Settings) (lines : List (List ℕ)) (troub
 
 -- that is the first fault of the bytes
 abbrev pub IsFirstFault : Settings → List ℕ → FirstFault → Type 0
-IsFirstFault settings bytes f = IsFirstFaultOf settings (feed_of bytes).lines (feed_of bytes).trouble f
+IsFirstFault settings bytes f =
+    IsFirstFaultOf settings (feed_of bytes).lines (feed_of bytes).trouble f
 
 -- ---- what an audit promises
 
