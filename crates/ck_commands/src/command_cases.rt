@@ -10,9 +10,9 @@ ghost use Rattle.ck_command_line.specs.CommandLine.{ask_cases};
 ghost use Rattle.ck_commands.specs.Cases.{IsCasesText, ReportsCases, case_text};
 ghost use Rattle.ck_commands.specs.Run.{Runs};
 
-use crate::command_audit::verdict_report;
 use crate::output::{ExitStatus, Report, write_report};
 use crate::status_words::word_of;
+use crate::verdict_report::verdict_report;
 use cm_attempt::{CaseResult, Settings, Track};
 use cm_audit::{AuditedCases, audit_cases};
 use cm_cases::{Listing, Places};

@@ -3,8 +3,8 @@ ghost use Rattle.ck_command_line.specs.CommandLine.{ask_compile};
 ghost use Rattle.ck_commands.specs.Output.{DeliversOne};
 ghost use Rattle.ck_commands.specs.Run.{ReportsCompiled, Runs};
 
-use crate::command_parse::print_fault;
 use crate::feature_input::FeatureFault;
+use crate::feature_report::print_fault;
 use crate::output::{ExitStatus, write_trouble};
 use crate::text_input::read_text;
 use cm_compile::{CompileFault, write_compiled};

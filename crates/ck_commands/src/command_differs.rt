@@ -4,8 +4,8 @@ ghost use Rattle.ck_command_line.specs.CommandLine.{ask_differs};
 ghost use Rattle.ck_commands.specs.Differs.{ReportsDifference, difference_lines, difference_text, side_text};
 ghost use Rattle.ck_commands.specs.Run.{Runs};
 
-use crate::command_audit::verdict_report;
 use crate::output::{ExitStatus, Report, write_report};
+use crate::verdict_report::verdict_report;
 use cm_attempt::Settings;
 use cm_audit::{AuditedDifference, audit_differs};
 use cm_cases::{add_shown, add_shown_json};

@@ -6,8 +6,8 @@ ghost use Rattle.ck_command_line.specs.CommandLine.{ask_gate};
 ghost use Rattle.ck_commands.specs.Gate.{gate_report, hold_in, hold_name, hold_text};
 ghost use Rattle.ck_commands.specs.Run.{Runs};
 
-use crate::command_audit::verdict_report;
 use crate::output::{ExitStatus, Report, write_report};
+use crate::verdict_report::verdict_report;
 use cm_attempt::Settings;
 use cm_audit::audit_run;
 use cm_envelope::{ByteSink, ByteSource, Trouble};

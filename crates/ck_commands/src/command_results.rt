@@ -6,9 +6,9 @@ ghost use Rattle.ck_commands.specs.Reading.{held_outcome};
 ghost use Rattle.ck_commands.specs.Run.{Runs};
 
 use crate::attempts::read_attempts;
-use crate::command_audit::verdict_report;
 use crate::output::{ExitStatus, Report, write_report};
 use crate::status_words::word_of;
+use crate::verdict_report::verdict_report;
 use cm_attempt::Track;
 use cm_audit::Audited;
 use cm_envelope::{ByteSink, ByteSource, Trouble};
@@ -30,7 +30,7 @@ fn table_text(alloc: Global, attempts: &Track) -> Result<String, AllocError>
 }
 
 // The report of a stream that was read.
-fn report_of(
+fn results_report(
     alloc: Global,
     read: &Result<Track, Result<Audited, Trouble>>,
 ) -> Result<Report, AllocError>
@@ -60,7 +60,7 @@ pub(crate) fn print_results<R: ByteSource, W: ByteSink>(
         (W.output sink.old) (W.output sink.new) }
 {
     let read = read_attempts(alloc, first_attempt, source);
-    let report = report_of(alloc, &read);
+    let report = results_report(alloc, &read);
     drop(read);
     write_report(sink, report)
 }

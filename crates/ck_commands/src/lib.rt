@@ -22,11 +22,13 @@ mod command_parse;
 mod command_results;
 mod commands;
 mod feature_input;
+mod feature_report;
 mod laws;
 mod output;
 mod standard;
 mod status_words;
 mod text_input;
+mod verdict_report;
 
 pub use commands::run;
 pub use laws::{gate_releases_exactly, shown_bytes_are_heard};

@@ -1,0 +1,64 @@
+//! The report of a feature file that gives no document.
+ghost use Rattle.std.specs.Prelude.{◌≡◌, IfOk, string_bytes};
+ghost use Rattle.ck_commands.specs.Features.{fault_report, kind_label, refused_text};
+ghost use Rattle.ck_commands.specs.Output.{DeliversOne};
+
+use crate::feature_input::FeatureFault;
+use crate::output::{ExitStatus, Report, trouble_text, write_report};
+use cm_envelope::{ByteSink, Trouble};
+use gk_grammar::FaultKind;
+use gk_tree::ParseFault;
+use std::alloc::{AllocError, Global};
+
+fn kind_label(kind: FaultKind) -> &'static str
+    ensures { result.now ≡ kind_label kind }
+{
+    match kind {
+        FaultKind::Unexpected => "1 Unexpected",
+        FaultKind::TagSpace => "2 TagSpace",
+        FaultKind::CellCount => "3 CellCount",
+        FaultKind::UnsupportedLanguage => "4 UnsupportedLanguage",
+        FaultKind::UnexpectedEnd => "5 UnexpectedEnd",
+        FaultKind::TooLong => "6 TooLong",
+        FaultKind::Memory => "7 Memory",
+    }
+}
+
+fn refused_text(alloc: Global, fault: ParseFault) -> Result<String, AllocError>
+    ensures { IfOk result (λ text. string_bytes text ≡ refused_text fault) }
+{
+    let ParseFault { kind, line, column } = fault;
+    let label = kind_label(kind);
+    let text = format!(in alloc; "refused {line}:{column} {label}\n")?;
+    Ok(text)
+}
+
+/// The report of a feature file that gave no document.
+pub(crate) fn fault_report(alloc: Global, fault: FeatureFault) -> Result<Report, AllocError>
+    ensures text { IfOk result (λ report. string_bytes report.text ≡ (fault_report fault).text) }
+    ensures status { IfOk result (λ report. report.status ≡ (fault_report fault).status) }
+{
+    let text = match fault {
+        FeatureFault::Refused(refused) => {
+            return Ok(Report {
+                text: refused_text(alloc, refused)?,
+                status: ExitStatus::Refused,
+            });
+        }
+        FeatureFault::ReadFailed => trouble_text(alloc, Trouble::ReadFailed)?,
+        FeatureFault::NotUtf8 => String::from_str(alloc, "trouble NotUtf8\n")?,
+        FeatureFault::Memory => trouble_text(alloc, Trouble::Memory)?,
+    };
+    Ok(Report {
+        text,
+        status: ExitStatus::Trouble,
+    })
+}
+
+/// Prints why a feature file gives no document, and gives the exit code.
+pub(crate) fn print_fault<W: ByteSink>(alloc: Global, fault: FeatureFault, sink: &mut W) -> u8
+    ensures { DeliversOne (λ report. report ≡ fault_report fault) result (W.output sink.old)
+        (W.output sink.new) }
+{
+    write_report(sink, fault_report(alloc, fault))
+}
