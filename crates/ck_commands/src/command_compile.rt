@@ -11,7 +11,7 @@ use cm_compile::{CompileFault, write_compiled};
 use cm_envelope::{ByteSink, ByteSource, DeviceFailed, Trouble};
 use std::alloc::Global;
 
-// Writes the lines of a text and flushes them, or prints why there are none, and gives the exit code.
+/// Writes the lines of a text and flushes them, or prints why there are none, and gives the exit code.
 fn compile_text<W: ByteSink>(alloc: Global, uri: &str, text: &str, sink: &mut W) -> u8
     ensures { DeliversOne (ReportsCompiled uri.now text.now) result (W.output sink.old)
         (W.output sink.new) }

@@ -14,7 +14,7 @@ use cm_envelope::{ByteSink, ByteSource, Trouble};
 use cm_stream::{Audited, Counts, Hold, Verdict};
 use std::alloc::{AllocError, Global};
 
-// Why a run with these counts isn't to be released, the first reason that holds.
+/// Why a run with these counts isn't to be released, the first reason that holds.
 fn hold_of(allows_unrun: bool, success: bool, counts: Counts) -> Option<Hold>
     ensures { result ≡ hold_of allows_unrun success counts }
 {
@@ -30,7 +30,7 @@ fn hold_of(allows_unrun: bool, success: bool, counts: Counts) -> Option<Hold>
     None
 }
 
-// Why the run isn't to be released, where its report is true.
+/// Why the run isn't to be released, where its report is true.
 fn hold_in(allows_unrun: bool, answer: &Result<Audited, Trouble>) -> Option<Hold>
     ensures { result ≡ hold_in allows_unrun (answer_of_audit answer.now) }
 {
@@ -43,6 +43,7 @@ fn hold_in(allows_unrun: bool, answer: &Result<Audited, Trouble>) -> Option<Hold
     }
 }
 
+/// The name of a hold, after the word `stop`.
 fn hold_name(hold: Hold) -> &'static str
     ensures { result.now ≡ hold_name hold }
 {
@@ -53,7 +54,7 @@ fn hold_name(hold: Hold) -> &'static str
     }
 }
 
-// Adds the line of why the run isn't to be released.
+/// Adds the line of why the run isn't to be released.
 fn add_hold(text: &mut String, hold: Hold) -> Result<(), AllocError>
     ensures { IfOk result (λ done. string_bytes text.new
         ≡ string_bytes text.old ++ hold_text (Some hold)) }
@@ -63,7 +64,7 @@ fn add_hold(text: &mut String, hold: Hold) -> Result<(), AllocError>
     Ok(())
 }
 
-// The report of what an audit answered, and of why the run isn't to be released.
+/// The report of what an audit answered, and of why the run isn't to be released.
 fn gate_report(
     alloc: Global,
     allows_unrun: bool,

@@ -11,6 +11,7 @@ use cm_envelope::{ByteSink, ByteSource};
 use gk_document::Document;
 use std::alloc::{AllocError, Global};
 
+/// The counts of a document's nodes and comments.
 fn document_text(alloc: Global, document: &Document) -> Result<String, AllocError>
     ensures { IfOk result (λ text. string_bytes text ≡ document_text document.now) }
 {

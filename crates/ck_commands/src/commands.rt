@@ -17,7 +17,7 @@ use ck_command_line::{Choice, Refusal, choose};
 use cm_envelope::{ByteSink, ByteSource, Trouble};
 use std::alloc::{AllocError, Global};
 
-// The words with the program's name before them.
+/// The words with the program's name before them.
 fn with_name<'a>(alloc: Global, words: &[&'a str]) -> Result<Vec<&'a str>, AllocError>
     ensures { IfOk result (λ all. map (λ w. w.now) all.items
         ≡ codes "cukecheck" ∷ map (λ w. w.now) words.now) }

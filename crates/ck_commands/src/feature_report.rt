@@ -10,6 +10,7 @@ use gk_grammar::FaultKind;
 use gk_tree::ParseFault;
 use std::alloc::{AllocError, Global};
 
+/// The number and the name of a kind of fault.
 fn kind_label(kind: FaultKind) -> &'static str
     ensures { result.now ≡ kind_label kind }
 {
@@ -24,6 +25,7 @@ fn kind_label(kind: FaultKind) -> &'static str
     }
 }
 
+/// The line of a refused feature file: where its fault is, and which.
 fn refused_text(alloc: Global, fault: ParseFault) -> Result<String, AllocError>
     ensures { IfOk result (λ text. string_bytes text ≡ refused_text fault) }
 {

@@ -46,6 +46,7 @@ pub(crate) struct Report {
     pub status: ExitStatus,
 }
 
+/// The name of a trouble.
 fn name_of(trouble: Trouble) -> &'static str
     ensures { result.now ≡ trouble_name trouble }
 {

@@ -50,8 +50,8 @@ impl From<AllocError> for TextFault {
     }
 }
 
-// Puts all bytes of the source into `bytes`, at most the limit. A read takes at most the length of `piece`, and there is room for
-// what it takes before it is made.
+/// Puts all bytes of the source into `bytes`, at most the limit. A read takes at most the length of `piece`, and there is room for
+/// what it takes before it is made.
 fn gather<R: ByteSource>(
     source: &mut R,
     piece: &mut [u8],
@@ -80,7 +80,7 @@ fn gather<R: ByteSource>(
     Err(TextFault::TooLong)
 }
 
-// All bytes of the source, at most the limit.
+/// All bytes of the source, at most the limit.
 fn read_bytes<R: ByteSource>(alloc: Global, source: &mut R) -> Result<Vec<u8>, TextFault>
     ensures few { (read : List ℕ) × Hears (R.input source.old) (R.input source.new) read
         × (length read ≤ TEXT_LIMIT + PIECE) }

@@ -11,6 +11,7 @@ use cm_envelope::{LineFault, Trouble};
 use cm_stream::{Audited, Counts, Reason, StreamFault, Verdict};
 use std::alloc::{AllocError, Global};
 
+/// The label of a bad member, of this kind of envelope.
 fn field_text(alloc: Global, kind: &str, member: &str) -> Result<String, AllocError>
     ensures { IfOk result (λ text. string_bytes text ≡ line_label (field kind.now member.now)) }
 {
@@ -18,7 +19,7 @@ fn field_text(alloc: Global, kind: &str, member: &str) -> Result<String, AllocEr
     Ok(text)
 }
 
-// The number and the name of what is wrong with a line, and for a bad member its kind of envelope and its name.
+/// The number and the name of what is wrong with a line, and for a bad member its kind of envelope and its name.
 fn line_text(alloc: Global, fault: LineFault) -> Result<String, AllocError>
     ensures { IfOk result (λ text. string_bytes text ≡ line_label (fault_named fault)) }
 {
@@ -29,7 +30,7 @@ fn line_text(alloc: Global, fault: LineFault) -> Result<String, AllocError>
     }
 }
 
-// The number and the name of a fault.
+/// The number and the name of a fault.
 fn fault_text(alloc: Global, fault: StreamFault) -> Result<String, AllocError>
     ensures { IfOk result (λ text. string_bytes text ≡ fault_label (stream_fault_named fault)) }
 {
@@ -60,6 +61,7 @@ fn fault_text(alloc: Global, fault: StreamFault) -> Result<String, AllocError>
     Ok(String::from_str(alloc, label)?)
 }
 
+/// The number and the name of why a stream isn't judged.
 fn reason_name(reason: Reason) -> &'static str
     ensures { result.now ≡ reason_label reason }
 {
@@ -71,6 +73,7 @@ fn reason_name(reason: Reason) -> &'static str
     }
 }
 
+/// The counts of a good stream, but for the pickles that no case names.
 fn plain_text(alloc: Global, counts: Counts) -> Result<String, AllocError>
     ensures { IfOk result (λ text. string_bytes text ≡ plain_counts_text counts) }
 {
@@ -87,7 +90,7 @@ fn plain_text(alloc: Global, counts: Counts) -> Result<String, AllocError>
     Ok(text)
 }
 
-// The pickles that no case names, where there are any.
+/// The pickles that no case names, where there are any.
 fn unrun_part(alloc: Global, unrun: u64) -> Result<String, AllocError>
     ensures { IfOk result (λ text. string_bytes text ≡ unrun_count_text unrun) }
 {
@@ -98,6 +101,7 @@ fn unrun_part(alloc: Global, unrun: u64) -> Result<String, AllocError>
     Ok(text)
 }
 
+/// The line of a good stream.
 fn good_text(alloc: Global, counts: Counts) -> Result<String, AllocError>
     ensures { IfOk result (λ text. string_bytes text ≡ counts_text counts) }
 {
@@ -107,6 +111,7 @@ fn good_text(alloc: Global, counts: Counts) -> Result<String, AllocError>
     Ok(text)
 }
 
+/// The line of a stream that is bad at a line.
 fn bad_text(alloc: Global, line: u64, fault: StreamFault) -> Result<String, AllocError>
     ensures { IfOk result (λ text. string_bytes text
         ≡ finding_text line (IsBad (stream_fault_named fault))) }
@@ -116,6 +121,7 @@ fn bad_text(alloc: Global, line: u64, fault: StreamFault) -> Result<String, Allo
     Ok(text)
 }
 
+/// The line of a stream that isn't judged from a line on.
 fn unsupported_text(alloc: Global, line: u64, reason: Reason) -> Result<String, AllocError>
     ensures { IfOk result
         (λ text. string_bytes text ≡ finding_text line (IsUnsupported reason)) }

@@ -1,3 +1,4 @@
+//! Blank lines.
 ghost use Rattle.std.specs.Prelude.{◌≡◌};
 ghost use Rattle.cm_envelope.specs.Lines.{is_blank};
 

@@ -1,3 +1,5 @@
+//! The judged kinds of envelope, and the names of their members.
+
 /// The judged kinds of envelope.
 #[derive(Clone, Copy)]
 pub(crate) enum Kind {

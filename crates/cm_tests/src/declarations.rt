@@ -1,3 +1,4 @@
+//! Declarations: the answers to what a stream declares, and to what it names.
 use cm_refs::{Declared, RefFault, distinct_texts};
 use std::alloc::{AllocError, Global};
 use std::process::Abort;
