@@ -29,15 +29,6 @@ bytes_fault i j fault h = input_weaker {P = λ all. HasBytesFault all fault} {Q 
 pub too_many : (i j : Input) (read : List ℕ) → Hears i j read → 16777216 < length read → OfInput i j (λ all. HasBytesFault all TooLong)
 too_many i j read heard many = (read, heard, λ rest may. omega (arith, many, length-append read rest))
 
--- where a read failed, or memory was refused, nothing is said of the bytes
-pub on_failed_read : {T : Type 0} (i j : Input) (read : List ℕ) → Hears i j read → (r : Result T TextFault) → IsErrAnd r (λ f. f ≡ ReadFailed) → IfErr r (λ fault. OfInput i j (λ all. HasBytesFault all fault))
-on_failed_read i j read heard (Ok x) h = absurd h
-on_failed_read i j read heard (Err f) h = rw h (read, heard, λ rest may. tt)
-
-pub on_no_memory : {T : Type 0} (i j : Input) (read : List ℕ) → Hears i j read → (r : Result T TextFault) → IsErrAnd r (λ f. f ≡ Memory) → IfErr r (λ fault. OfInput i j (λ all. HasBytesFault all fault))
-on_no_memory i j read heard (Ok x) h = absurd h
-on_no_memory i j read heard (Err f) h = rw h (read, heard, λ rest may. tt)
-
 -- a fault of the bytes that is passed on
 pub on_fault : {T : Type 0} (i j : Input) (x : TextFault) (r : Result T TextFault) → IsErrAnd r (λ f. f ≡ x) → OfInput i j (λ all. HasBytesFault all x) → IfErr r (λ fault. OfInput i j (λ all. HasTextFault all fault))
 on_fault i j x (Ok y) h is = absurd h

@@ -75,9 +75,6 @@ finish_is steps ms rs o step (between done (x ∷ more) a b c d) = rw d refl
 finish_is steps ms rs o step (inside done x more a b c d) = rw (d, a) (here_is step done (x ∷ more))
 finish_is steps ms rs o step (over r a b c) = rw c refl
 
-two_tests : (b n : Bool) → step_fault_of b n ≡ (if not b then Some fault.UnknownStep else (if n then None else Some fault.StepOrder))
-two_tests b n = refl
-
 step_refused : (calls : List Call) (t : Table) → Tracked calls t → (a step : Utf8) (m : Move) (may : Option Cursor → List Utf8 → Bool)
     → ((steps : List Utf8) (ms : List Move) (rs : List Bool) (o : Option Cursor) → (st : Stands steps ms rs o) → may o steps ≡ option_map_or (same_move m) (slice_get (rest_of steps ms rs o st) 0) false)
     → AttemptIs calls t a → step_fault_at t step may (find_attempt t a) ≡ step_fault calls a step m
@@ -88,9 +85,6 @@ step_refused calls t h a step m may fits (begun row f b) =
     let next : may row.cursor (steps_of t row.case_id) ≡ is_next_move m a calls =
     ap (may row.cursor) (steps_are calls t a row b) ∙ fits b.its_case.steps (moves a calls) (ends_of a calls) row.cursor b.stands ∙ sym (next_is calls a b.its_case.steps (ends_of a calls) row.cursor m b.stands steps) in
     ap (step_fault_at t step may) f ∙ (λ i. step_fault_of (has_text step (same i)) (next i)) ∙ rw b.is_start refl
-
-end_tests : Bool → Bool → Option TrackFault
-end_tests ended next = if ended then Some fault.StepOrder else (if next then None else Some fault.FinishedEarly)
 
 end_is : (steps : List Utf8) (ms : List Move) (rs : List Bool) (o : Option Cursor) → (st : Stands steps ms rs o)
     → end_fault_of o steps ≡ (if not (is_some o) then Some fault.StepOrder else (if option_map_or (same_move Ended) (slice_get (rest_of steps ms rs o st) 0) false then None else Some fault.FinishedEarly))

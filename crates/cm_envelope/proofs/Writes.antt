@@ -8,9 +8,6 @@ use Rattle.std.specs.Io.KnownBytes.{Keeps}
 use Rattle.std.proofs.KnownBytes.{Appends-kept, Appends-nil, Appends-trans}
 use Rattle.cm_envelope.specs.Device.{CountsFailure, Output, Writes, is_failed_write}
 
-pub writes_nothing : (o : Output) → Writes o o []
-writes_nothing o = record { taken = sym (append-nil o.taken); shown = Appends-nil o.shown }
-
 pub writes_then : (a b c : Output) (bytes more : List ℕ) → Writes a b bytes → Writes b c more → Writes a c (bytes ++ more)
 writes_then a b c bytes more p q =
     record {
@@ -37,7 +34,3 @@ pub no_failed_write : {E : Type 0} (r : Result ℕ E) (n : ℕ) (bytes : List �
     → CountsFailure (is_failed_write r bytes) old new → new ≡ old
 no_failed_write r n bytes old new is some counts =
     rw (is, ne_eqb n 0 some) at counts
-
-pub on_err : {A E : Type 0} (P : Type 0) (r : Result A E) → P → OnErr r P
-on_err P (Ok _) h = tt
-on_err P (Err _) h = h

@@ -20,7 +20,6 @@ pub mod FaultlessGood
 pub mod Streams
 pub mod Streaming
 pub mod WorkedStreams
-pub mod SomeGood
 pub mod OneRow
 pub mod Steps
 pub mod RunHooks
