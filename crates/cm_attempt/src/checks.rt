@@ -1,7 +1,8 @@
 //! What a call has to find before it changes anything.
-ghost use Rattle.std.specs.Prelude.{◌≡◌, ◌<◌, if◌then◌else◌, [], false, IfOk, IfSome, IsOk, MatchOption, None, Ok, Some, length, map, option_map};
+ghost use Rattle.std.specs.Prelude.{◌≡◌, ◌<◌, if◌then◌else◌, [], false, IfOk, IfSome, MatchOption, None, Ok, Some, length, map, option_map};
 ghost use Rattle.std.specs.String.{string_bytes};
 ghost use Rattle.indexmap.specs.IndexMap.{index_map_len};
+ghost use Rattle.cm_refs.specs.Due.{RefusesExactly};
 ghost use Rattle.cm_attempt.specs.Rows.{attempt_row, place_of, table_of};
 ghost use Rattle.cm_attempt.specs.Table.{cursor_after_step, has_text, start_fault, step_fault_at, step_fault_of};
 ghost use Rattle.cm_attempt.specs.Table.{finish_fault_at, is_closed_to_new as closed_to_new, is_next as next_step};
@@ -84,9 +85,9 @@ pub(crate) fn check_new(
     case: &str,
     number: u64,
 ) -> Result<usize, TrackFault>
-    ensures answer { MatchOption
+    ensures answer { RefusesExactly
         (start_fault (table_of first cases.now.entries attempts.now.entries) id.now case.now number)
-        (IsOk result) (λ fault. result ≡ Err fault) }
+        result }
     ensures place { IfOk result (λ place. place_of case.now cases.now.entries ≡ Some place) }
     ensures within { IfOk result (λ place. place < index_map_len cases.now) }
 {
@@ -127,9 +128,9 @@ pub(crate) fn check_finish(
     attempt: &Attempt,
     step: &str,
 ) -> Result<Cursor, TrackFault>
-    ensures answer { MatchOption (step_fault_at (table_of 0 cases.now.entries []) step.now
-        (ends_in_order step.now) (Some (attempt_row [] attempt.now)))
-        (IsOk result) (λ fault. result ≡ Err fault) }
+    ensures answer { RefusesExactly
+        (step_fault_at (table_of 0 cases.now.entries []) step.now
+        (ends_in_order step.now) (Some (attempt_row [] attempt.now))) result }
     ensures next { IfOk result
         (λ next. option_map cursor_after_step attempt.now.cursor ≡ Some next) }
 {
@@ -144,9 +145,9 @@ pub(crate) fn check_finish(
 
 /// Whether the attempt may end, and the place of its case.
 pub(crate) fn check_end(cases: &Cases, attempt: &Attempt) -> Result<Option<usize>, TrackFault>
-    ensures answer { MatchOption
+    ensures answer { RefusesExactly
         (finish_fault_at (table_of 0 cases.now.entries []) (Some (attempt_row [] attempt.now)))
-        (IsOk result) (λ fault. result ≡ Err fault) }
+        result }
     ensures place { IfOk result
         (λ place. place_of (string_bytes attempt.now.case_id) cases.now.entries ≡ place) }
     ensures within { IfOk result

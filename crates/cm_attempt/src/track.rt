@@ -1,7 +1,8 @@
 //! The record of test cases and attempts.
-ghost use Rattle.std.specs.Prelude.{◌≡◌, ◌+◌, ◌⊎◌, IfOk, IfSome, IsErrAnd, IsOk, IsOkUnless, MatchOption, OnErr, OnOk, is_some, map};
+ghost use Rattle.std.specs.Prelude.{◌≡◌, ◌+◌, ◌⊎◌, IfOk, IfSome, IsErrAnd, IsOkUnless, MatchOption, OnErr, OnOk, is_some, map};
 ghost use Rattle.std.specs.List.{list_all};
 ghost use Rattle.std.specs.String.{string_bytes};
+ghost use Rattle.cm_refs.specs.Due.{RefusesExactly, RefusesExactlyUnless};
 ghost use Rattle.cm_attempt.specs.Results.{case_results, result_view};
 ghost use Rattle.cm_attempt.specs.Table.{HasDistinctIds, add_case_fault, change_attempt, empty_table, table_from};
 ghost use Rattle.cm_attempt.specs.Table.{find_attempt as row_of, find_case as case_of};
@@ -117,8 +118,8 @@ impl Track {
     /// `AttemptOverlap` where an attempt of the case is open or its last one is not retried;
     /// `Memory` where a growth is refused.
     pub fn start(&mut self, id: &str, case: &str, attempt: u64) -> Result<(), TrackFault>
-        ensures answer { MatchOption (start_fault self.old id.now case.now attempt)
-            (IsOkUnless result TrackFault.Memory) (λ fault. result ≡ Err fault) }
+        ensures answer { RefusesExactlyUnless
+            (start_fault self.old id.now case.now attempt) result TrackFault.Memory }
         ensures ok { OnOk result (self.new ≡ with_attempt id.now case.now self.old) }
         ensures err { OnErr result (self.new ≡ self.old) }
         ensures opens { OnOk result (open_count self.new ≡ open_count self.old + 1) }
@@ -137,8 +138,7 @@ impl Track {
     /// In this order: `UnknownAttempt`, `UnknownStep`, and `StepOrder` where the attempt has
     /// ended, a step runs or the step is not the next of its case.
     pub fn step_started(&mut self, attempt: &str, step: &str) -> Result<(), TrackFault>
-        ensures answer { MatchOption (step_start_fault self.old attempt.now step.now)
-            (IsOk result) (λ fault. result ≡ Err fault) }
+        ensures answer { RefusesExactly (step_start_fault self.old attempt.now step.now) result }
         ensures ok { OnOk result
             (self.new ≡ change_attempt attempt.now with_running_step self.old) }
         ensures err { OnErr result (self.new ≡ self.old) }
@@ -163,8 +163,7 @@ impl Track {
         step: &str,
         status: Status,
     ) -> Result<(), TrackFault>
-        ensures answer { MatchOption (step_finish_fault self.old attempt.now step.now)
-            (IsOk result) (λ fault. result ≡ Err fault) }
+        ensures answer { RefusesExactly (step_finish_fault self.old attempt.now step.now) result }
         ensures ok { OnOk result
             (self.new ≡ change_attempt attempt.now (with_finished_step status) self.old) }
         ensures err { OnErr result (self.new ≡ self.old) }
@@ -185,8 +184,7 @@ impl Track {
     /// In this order: `UnknownAttempt`, `StepOrder` where the attempt has ended already, and
     /// `FinishedEarly` where it has a step that is not finished.
     pub fn finish(&mut self, attempt: &str, will_be_retried: bool) -> Result<(), TrackFault>
-        ensures answer { MatchOption (finish_fault self.old attempt.now)
-            (IsOk result) (λ fault. result ≡ Err fault) }
+        ensures answer { RefusesExactly (finish_fault self.old attempt.now) result }
         ensures ok { OnOk result
             (self.new ≡ with_finished_attempt attempt.now will_be_retried self.old) }
         ensures err { OnErr result (self.new ≡ self.old) }

@@ -1,2 +1,3 @@
 pub mod Declarations
 pub mod Rows
+pub mod Due

@@ -1,7 +1,8 @@
 //! The declarations of a stream.
-ghost use Rattle.std.specs.Prelude.{◌≡◌, ◌⊎◌, IfSome, IsErrAnd, IsOk, IsOkUnless, MatchOption, OnErr, OnOk, is_some, map, option_map};
+ghost use Rattle.std.specs.Prelude.{◌≡◌, ◌⊎◌, IfSome, IsErrAnd, IsOkUnless, MatchOption, OnErr, OnOk, is_some, map, option_map};
 ghost use Rattle.std.specs.String.{string_bytes};
 ghost use Rattle.cm_refs.specs.Declarations.{find_pickle, find_run_hook, finish_fault, has_text, name_fault, no_declarations, pickle_fault, steps_of as steps_in};
+ghost use Rattle.cm_refs.specs.Due.{RefusesExactly, RefusesExactlyUnless};
 ghost use Rattle.cm_refs.specs.Declarations.{open_count, run_hook_fault, with_definition, with_document, with_finished_run_hook};
 ghost use Rattle.cm_refs.specs.Declarations.{with_hook, with_pickle, with_run_hook, with_source};
 
@@ -67,8 +68,8 @@ impl Declared {
     /// # Errors
     /// `DuplicateUri` where the uri has a source, `Memory` where a growth is refused.
     pub fn declare_source(&mut self, uri: &str) -> Result<(), RefFault>
-        ensures answer { MatchOption (name_fault RefFault.DuplicateUri uri.now self.old.sources)
-            (IsOkUnless result RefFault.Memory) (λ fault. result ≡ Err fault) }
+        ensures answer { RefusesExactlyUnless
+            (name_fault RefFault.DuplicateUri uri.now self.old.sources) result RefFault.Memory }
         ensures ok { OnOk result (self.new ≡ with_source uri.now self.old) }
         ensures err { OnErr result (self.new ≡ self.old) }
     {
@@ -80,8 +81,8 @@ impl Declared {
     /// # Errors
     /// `DuplicateUri` where the uri has a document, `Memory` where a growth is refused.
     pub fn declare_document(&mut self, uri: &str) -> Result<(), RefFault>
-        ensures answer { MatchOption (name_fault RefFault.DuplicateUri uri.now self.old.documents)
-            (IsOkUnless result RefFault.Memory) (λ fault. result ≡ Err fault) }
+        ensures answer { RefusesExactlyUnless
+            (name_fault RefFault.DuplicateUri uri.now self.old.documents) result RefFault.Memory }
         ensures ok { OnOk result (self.new ≡ with_document uri.now self.old) }
         ensures err { OnErr result (self.new ≡ self.old) }
     {
@@ -120,8 +121,8 @@ impl Declared {
     /// # Errors
     /// `DuplicateId` where the id is that of a step definition, `Memory` where a growth is refused.
     pub fn declare_definition(&mut self, id: &str) -> Result<(), RefFault>
-        ensures answer { MatchOption (name_fault RefFault.DuplicateId id.now self.old.definitions)
-            (IsOkUnless result RefFault.Memory) (λ fault. result ≡ Err fault) }
+        ensures answer { RefusesExactlyUnless
+            (name_fault RefFault.DuplicateId id.now self.old.definitions) result RefFault.Memory }
         ensures ok { OnOk result (self.new ≡ with_definition id.now self.old) }
         ensures err { OnErr result (self.new ≡ self.old) }
     {
@@ -133,8 +134,8 @@ impl Declared {
     /// # Errors
     /// `DuplicateId` where the id is that of a hook, `Memory` where a growth is refused.
     pub fn declare_hook(&mut self, id: &str) -> Result<(), RefFault>
-        ensures answer { MatchOption (name_fault RefFault.DuplicateId id.now self.old.hooks)
-            (IsOkUnless result RefFault.Memory) (λ fault. result ≡ Err fault) }
+        ensures answer { RefusesExactlyUnless
+            (name_fault RefFault.DuplicateId id.now self.old.hooks) result RefFault.Memory }
         ensures ok { OnOk result (self.new ≡ with_hook id.now self.old) }
         ensures err { OnErr result (self.new ≡ self.old) }
     {
@@ -146,8 +147,8 @@ impl Declared {
     /// # Errors
     /// `DuplicateId` where the id is that of a run hook, `Memory` where a growth is refused.
     pub fn start_run_hook(&mut self, id: &str) -> Result<(), RefFault>
-        ensures answer { MatchOption (run_hook_fault self.old id.now)
-            (IsOkUnless result RefFault.Memory) (λ fault. result ≡ Err fault) }
+        ensures answer { RefusesExactlyUnless
+            (run_hook_fault self.old id.now) result RefFault.Memory }
         ensures ok { OnOk result (self.new ≡ with_run_hook id.now self.old) }
         ensures err { OnErr result (self.new ≡ self.old) }
     {
@@ -163,8 +164,7 @@ impl Declared {
     /// # Errors
     /// `UnknownRunHook` where no run hook of the id was started, `RunHookTwice` where it is finished already.
     pub fn finish_run_hook(&mut self, id: &str) -> Result<(), RefFault>
-        ensures answer { MatchOption (finish_fault self.old id.now)
-            (IsOk result) (λ fault. result ≡ Err fault) }
+        ensures answer { RefusesExactly (finish_fault self.old id.now) result }
         ensures ok { OnOk result (self.new ≡ with_finished_run_hook id.now self.old) }
         ensures err { OnErr result (self.new ≡ self.old) }
     {

@@ -1,7 +1,8 @@
 //! Sets of ids and uris, in the order of their declaration.
-ghost use Rattle.std.specs.Prelude.{◌≡◌, ◌++◌, ◌∷◌, [], IfOk, IfSome, IsOkUnless, MatchOption, OnErr, OnOk, false, is_none, map};
+ghost use Rattle.std.specs.Prelude.{◌≡◌, ◌++◌, ◌∷◌, [], IfOk, IfSome, OnErr, OnOk, false, is_none, map};
 ghost use Rattle.std.specs.String.{string_bytes};
 ghost use Rattle.cm_refs.specs.Declarations.{has_repeat, has_text, name_fault};
+ghost use Rattle.cm_refs.specs.Due.{RefusesExactlyUnless};
 
 use crate::fault::RefFault;
 use indexmap::IndexSet;
@@ -35,8 +36,8 @@ pub(crate) fn declare(
     name: &str,
     taken: RefFault,
 ) -> Result<(), RefFault>
-    ensures answer { MatchOption (name_fault taken name.now (map string_bytes names.old.keys))
-        (IsOkUnless result RefFault.Memory) (λ fault. result ≡ Err fault) }
+    ensures answer { RefusesExactlyUnless
+        (name_fault taken name.now (map string_bytes names.old.keys)) result RefFault.Memory }
     ensures ok { OnOk result (map string_bytes names.new.keys
         ≡ map string_bytes names.old.keys ++ name.now ∷ []) }
     ensures err { OnErr result
