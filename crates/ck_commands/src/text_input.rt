@@ -1,17 +1,14 @@
 //! A text, read whole from a source.
 ghost use Rattle.std.specs.Prelude.{◌≡◌, ◌+◌, ◌≤◌, ℕ, List, [], true, length, string_bytes, IfOk, IfErr, OnOk};
 ghost use Rattle.cm_envelope.specs.Device.{CountsFailure, Hears, OfInput, OfWhole};
+ghost use Rattle.cm_envelope.specs.Lines.{max_piece_bytes};
+ghost use Rattle.gk_grammar.specs.Documents.{max_bytes};
 ghost use Rattle.ck_commands.specs.TextInput.{HasBytesFault, HasTextFault, IsTextOf, is_failed_text_read};
 
-use cm_envelope::{ByteSource, DeviceFailed};
+use cm_envelope::{ByteSource, DeviceFailed, PIECE_LIMIT};
+use gk_line::FEATURE_LIMIT;
 use std::alloc::{AllocError, Global};
 use thiserror::Error;
-
-/// The most bytes of a text.
-pub(crate) const TEXT_LIMIT: usize = 16_777_216;
-
-/// The most bytes that are read at a time.
-pub(crate) const PIECE: usize = 65_536;
 
 /// Why a source gives no text.
 #[derive(Clone, Copy, PartialEq, Eq, Debug, Error)]
@@ -57,11 +54,11 @@ fn gather<R: ByteSource>(
     piece: &mut [u8],
     bytes: &mut Vec<u8>,
 ) -> Result<(), TextFault>
-    requires room { length piece.old ≡ PIECE }
+    requires room { length piece.old ≡ max_piece_bytes }
     requires none { bytes.old.items ≡ [] }
     ensures few { (read : List ℕ) × Hears (R.input source.old) (R.input source.new) read
-        × (length read ≤ TEXT_LIMIT + PIECE) }
-    ensures ok { OnOk result ((length bytes.new.items ≤ TEXT_LIMIT)
+        × (length read ≤ max_bytes + max_piece_bytes) }
+    ensures ok { OnOk result ((length bytes.new.items ≤ max_bytes)
         × Hears (R.input source.old) (R.input source.new) bytes.new.items
         × ((R.input source.new).is_over ≡ true)) }
     ensures err { IfErr result (λ fault. OfInput (R.input source.old) (R.input source.new)
@@ -69,8 +66,8 @@ fn gather<R: ByteSource>(
     ensures failures { CountsFailure (is_failed_text_read result)
         (R.input source.old).failed_calls (R.input source.new).failed_calls }
 {
-    'pieces: while bytes.len() <= TEXT_LIMIT {
-        bytes.reserve(PIECE)?;
+    'pieces: while bytes.len() <= FEATURE_LIMIT {
+        bytes.reserve(PIECE_LIMIT)?;
         let count = source.read_some(piece)?;
         if count == 0 {
             return Ok(());
@@ -83,8 +80,8 @@ fn gather<R: ByteSource>(
 /// All bytes of the source, at most the limit.
 fn read_bytes<R: ByteSource>(alloc: Global, source: &mut R) -> Result<Vec<u8>, TextFault>
     ensures few { (read : List ℕ) × Hears (R.input source.old) (R.input source.new) read
-        × (length read ≤ TEXT_LIMIT + PIECE) }
-    ensures ok { IfOk result (λ bytes. (length bytes.items ≤ TEXT_LIMIT)
+        × (length read ≤ max_bytes + max_piece_bytes) }
+    ensures ok { IfOk result (λ bytes. (length bytes.items ≤ max_bytes)
         × Hears (R.input source.old) (R.input source.new) bytes.items
         × ((R.input source.new).is_over ≡ true)) }
     ensures err { IfErr result (λ fault. OfInput (R.input source.old) (R.input source.new)
@@ -93,7 +90,7 @@ fn read_bytes<R: ByteSource>(alloc: Global, source: &mut R) -> Result<Vec<u8>, T
         (R.input source.old).failed_calls (R.input source.new).failed_calls }
 {
     let mut piece = Vec::new(alloc);
-    piece.resize(PIECE, 0)?;
+    piece.resize(PIECE_LIMIT, 0)?;
     let mut bytes = Vec::new(alloc);
     gather(source, piece.as_mut_slice(), &mut bytes)?;
     Ok(bytes)
@@ -110,7 +107,7 @@ pub fn read_text<R: ByteSource>(alloc: Global, source: &mut R) -> Result<String,
     ensures fault { IfErr result (λ fault. OfInput (R.input source.old) (R.input source.new)
         (λ bytes. HasTextFault bytes fault)) }
     ensures few { (read : List ℕ) × Hears (R.input source.old) (R.input source.new) read
-        × (length read ≤ TEXT_LIMIT + PIECE) }
+        × (length read ≤ max_bytes + max_piece_bytes) }
     ensures failures { CountsFailure (is_failed_text_read result)
         (R.input source.old).failed_calls (R.input source.new).failed_calls }
 {

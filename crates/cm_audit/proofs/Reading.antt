@@ -2,7 +2,7 @@
 use Rattle.std.proofs.Common.{◌≡◌, ◌≤◌, ◌<◌, ℕ, ◌+◌, refl, sym, ap, ◌∙◌, List, [], ◌∷◌, ◌++◌, Option, Some, None, Result, Ok, Err, true, false, Bool, append_assoc, append-nil, map, length, arith}
 use Rattle.std.specs.Prelude.{if◌then◌else◌}
 use Rattle.std.specs.List.{flat_map}
-use Rattle.cm_envelope.specs.Lines.{Line, Fed, size, line_feed, line_then, nothing, trouble_alone}
+use Rattle.cm_envelope.specs.Lines.{Line, Fed, size, line_feed, line_then, max_piece_bytes, nothing, trouble_alone}
 use Rattle.cm_envelope.specs.Reading.{LineFault}
 use Rattle.cm_envelope.specs.Feeds.{Stored, ShowNothing, bytes_with_end, given_line, not_given, feed_left, new_feed, GivesLine, IsNextLine}
 use Rattle.cm_envelope.specs.declared.envelope.Envelope.{Envelope}
@@ -141,7 +141,7 @@ first_lines {before} {ys} {feed} r ahead rest e = record {
   first = ap (λ (f : Fed). f.lines) r.fed;
 }
 
-no_further : {before ys : List ℕ} {feed : Stored} {n : ℕ} (r : HasRead before ys feed n) → length feed.held ≤ 65536 → (feed.is_ended ≡ true → ys ≡ []) → ReadsNoFurther n before ys
+no_further : {before ys : List ℕ} {feed : Stored} {n : ℕ} (r : HasRead before ys feed n) → length feed.held ≤ max_piece_bytes → (feed.is_ended ≡ true → ys ≡ []) → ReadsNoFurther n before ys
 no_further {before} {ys} {feed} {n} r few none = record { lines = r.lines; ahead = feed.held; begins = first_lines r feed.held ys (all feed.is_ended refl); count = r.count; few = few }
   where
     all : (b : Bool) → feed.is_ended ≡ b → not_given feed ys ≡ feed.held ++ ys

@@ -2,7 +2,7 @@
 use Rattle.std.specs.Prelude.{◌≡◌, ◌⊎◌, ◌≤◌, ◌<◌, ⊤, Bool, true, false, ℕ, List, ◌++◌, Option, Some, None, Result, Ok, Err, length, map}
 use Rattle.std.specs.List.{flat_map}
 use Rattle.cm_envelope.specs.Device.{CountsFailure, Input, OfReads, OfWhole}
-use Rattle.cm_envelope.specs.Lines.{Line, max_line_bytes, max_stream_bytes}
+use Rattle.cm_envelope.specs.Lines.{Line, max_line_bytes, max_piece_bytes, max_stream_bytes}
 use Rattle.cm_envelope.specs.Reading.{LineFault}
 use Rattle.cm_envelope.specs.Feeds.{ShowNothing, is_failed_read, bytes_with_end}
 use Rattle.cm_envelope.specs.declared.envelope.Envelope.{Envelope}
@@ -69,13 +69,13 @@ pub record ShowNoFault (settings : Settings) (before after : List ℕ) : Type 0 
   pub faultless : HaveNoFault settings lines
   pub nothing : ShowNothing max_line_bytes max_stream_bytes (length (all_written lines)) ahead
 
--- Of these bytes to come before and after, the first n lines with their line feeds were read, and at most 65,536 bytes more.
+-- Of these bytes to come before and after, the first n lines with their line feeds were read, and at most one piece more.
 pub record ReadsNoFurther (n : ℕ) (before after : List ℕ) : Type 0 where
   pub lines : List Line
   pub ahead : List ℕ
   pub begins : Begins before lines ahead after
   pub count : length lines ≡ n
-  pub few : length ahead ≤ 65536
+  pub few : length ahead ≤ max_piece_bytes
 
 -- no more than that is read before a finding at line n is reported, unless n is past the last line
 abbrev pub ReadsUpTo : Result Verdict Trouble → (before after : List ℕ) → Type 0

@@ -1,7 +1,7 @@
 -- What a feed stores between two calls, and what one call does to it.
 use Rattle.std.specs.Prelude.{ℕ, ◌≡◌, ◌+◌, ◌<◌, ◌≤◌, ◌⊎◌, ⊤, Bool, true, false, not, IsTrue, ◌||◌, ◌==◌, List, [], ◌∷◌, ◌++◌, length, Option, Some, None, Result, Ok, Err, IsSome, if◌then◌else◌}
 use Rattle.cm_envelope.specs.Device.{Hears, Input}
-use Rattle.cm_envelope.specs.Lines.{Line, Fed, size, line_feed, lines_of, feed_lines, trouble_of, nothing, trouble_alone, line_then}
+use Rattle.cm_envelope.specs.Lines.{Line, Fed, size, line_feed, lines_of, feed_lines, max_piece_bytes, trouble_of, nothing, trouble_alone, line_then}
 use Rattle.cm_envelope.specs.declared.feed.Trouble.{Trouble}
 use Rattle.cm_envelope.specs.declared.feed.Trouble.TheVariants.{ReadFailed, LineTooLong, StreamTooLong, Memory}
 use Rattle.cm_envelope.specs.declared.feed.Over.{Over}
@@ -120,8 +120,8 @@ pub record GivesLine (old new : Stored) (line : List ℕ) : Type 0 where
   pub given : new.given ≡ old.given + size (given_line new line)
   pub some : old.given < new.given
   pub fits : new.given ≤ old.stream_limit
-  -- at most 65,536 bytes past the line and its LF have been read
-  pub ahead : length new.held ≤ 65536
+  -- at most one piece past the line and its LF has been read
+  pub ahead : length new.held ≤ max_piece_bytes
 
 -- the line is the first of what was left, and the others are left
 pub record IsNextLine (old new : Stored) (before after line : List ℕ) : Type 0 where

@@ -23,6 +23,10 @@ max_line_bytes = 67_108_864
 abbrev pub max_stream_bytes : ℕ
 max_stream_bytes = 1_073_741_824
 
+-- the most bytes that are read at a time
+abbrev pub max_piece_bytes : ℕ
+max_piece_bytes = 65_536
+
 -- blank: no byte, or spaces, tabs and CRs alone
 abbrev pub is_blank : List ℕ → Bool
 is_blank line =

@@ -7,6 +7,9 @@ use crate::record::{Heard, Taken};
 use std::io::{Read, Write};
 use thiserror::Error;
 
+/// The most bytes of a source that are read at a time.
+pub const PIECE_LIMIT: usize = 65_536;
+
 /// A call of a device failed.
 #[derive(Clone, Copy, PartialEq, Eq, Debug, Error)]
 #[error("the device failed")]

@@ -5,7 +5,7 @@ ghost use Rattle.std.specs.Io.BufRead.{Rests};
 ghost use Rattle.cm_envelope.specs.Device.{CountsFailure, Hears, OfInput};
 ghost use Rattle.cm_envelope.specs.Feeds.{has_line_feed, new_feed, answer_of, last_answer, feed_left, is_failed_read, NeedsNoRead, AnswersFirst, OnLine, IsLineWithin, EndsWithSource, Leaves};
 ghost use Rattle.cm_envelope.specs.Held.{items, FindsEnd, Judges, Finds};
-ghost use Rattle.cm_envelope.specs.Lines.{max_line_bytes, max_stream_bytes};
+ghost use Rattle.cm_envelope.specs.Lines.{max_line_bytes, max_piece_bytes, max_stream_bytes};
 ghost use Rattle.cm_envelope.specs.contracts.feed.Feed.{the_row};
 
 use crate::device::{ByteSource, DeviceFailed};
@@ -70,6 +70,7 @@ impl Model for Feed {
     ghost use Rattle.std.specs.Prelude.{◌≡◌, ◌≤◌, [], None, Some, true, length};
     ghost use Rattle.cm_envelope.specs.Feeds.{Stored};
     ghost use Rattle.cm_envelope.specs.Held.{items};
+    ghost use Rattle.cm_envelope.specs.Lines.{max_piece_bytes};
     ghost use Rattle.cm_envelope.specs.declared.feed.Over.TheVariants.{Ended};
     ghost use Rattle.cm_envelope.specs.declared.feed.TheConstants.{LINE_LIMIT, STREAM_LIMIT};
 
@@ -86,7 +87,7 @@ impl Model for Feed {
 
     ghost invariant = { λ a. (a.line_limit ≤ LINE_LIMIT) × (a.stream_limit ≤ STREAM_LIMIT)
         × (a.given ≤ a.stream_limit) × (a.over ≡ Some Ended → a.is_ended ≡ true)
-        × (a.over ≡ None → (length (items a.window) ≤ 65536)
+        × (a.over ≡ None → (length (items a.window) ≤ max_piece_bytes)
         × (a.is_ended ≡ true → items a.window ≡ [])) };
 }
 
@@ -188,7 +189,7 @@ fn find_line<S: ByteSource>(
     line_limit: u64,
     room: u64,
 ) -> Result<Found, Trouble>
-    requires few { length (items window.old) ≤ 65536 }
+    requires few { length (items window.old) ≤ max_piece_bytes }
     requires limit { line_limit ≤ LINE_LIMIT }
     ensures reads { (read : List ℕ) × (items window.new ≡ items window.old ++ read)
         × Hears (S.input source.old) (S.input source.new) read

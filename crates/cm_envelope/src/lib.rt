@@ -37,7 +37,7 @@ mod window;
 mod write;
 
 pub use blank::is_blank_line;
-pub use device::{ByteSink, ByteSource, DeviceFailed, Reader, Writer};
+pub use device::{ByteSink, ByteSource, DeviceFailed, PIECE_LIMIT, Reader, Writer};
 pub use envelope::{
     Attachment, Envelope, GherkinDocument, Hook, ParseError, Source, SourceReference, Status,
     StepDefinition, TestCase, TestCaseFinished, TestCaseStarted, TestRunFinished,

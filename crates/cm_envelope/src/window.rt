@@ -2,11 +2,8 @@
 ghost use Rattle.std.specs.Prelude.{◌≡◌, ℕ, true, ◌+◌, ◌-◌, ◌<◌, ◌≤◌, List, [], ◌++◌, length, vec_len, slice_range, is_err, IfOk, OnOk, OnErr};
 ghost use Rattle.cm_envelope.specs.Device.{CountsFailure, Hears};
 
-use crate::device::{ByteSource, DeviceFailed};
+use crate::device::{ByteSource, DeviceFailed, PIECE_LIMIT};
 use std::alloc::{AllocError, Global};
-
-/// The most bytes that are read at a time.
-pub(crate) const PIECE: usize = 65_536;
 
 #[derive(Drop)]
 pub struct Window {
@@ -36,7 +33,7 @@ impl Window {
         &self.bytes[self.start..self.end]
     }
 
-    // The bytes between two places, also of those that were consumed.
+    /// The bytes between two places, also of those that were consumed.
     pub(crate) fn slice(&self, from: usize, to: usize) -> &[u8]
         requires order { from ≤ to }
         requires within { to ≤ vec_len self.now.bytes }
@@ -60,10 +57,10 @@ impl Window {
         self.start += count;
     }
 
-    // Makes room for a piece.
+    /// Makes room for a piece.
     pub(crate) fn make_room(&mut self) -> Result<(), AllocError>
         ensures items { items self.new ≡ items self.old }
-        ensures room { OnOk result (self.new.end + PIECE ≤ vec_len self.new.bytes) }
+        ensures room { OnOk result (self.new.end + PIECE_LIMIT ≤ vec_len self.new.bytes) }
     {
         let (start, end) = (self.start, self.end);
         if start > 0 {
@@ -71,18 +68,18 @@ impl Window {
             self.start = 0;
             self.end = end - start;
         }
-        if self.bytes.len() < self.end + PIECE {
-            self.bytes.resize(self.end + PIECE, 0)?;
+        if self.bytes.len() < self.end + PIECE_LIMIT {
+            self.bytes.resize(self.end + PIECE_LIMIT, 0)?;
         }
         Ok(())
     }
 
-    // Reads a piece after the bytes.
+    /// Reads a piece after the bytes.
     pub(crate) fn read_from<S: ByteSource>(&mut self, source: &mut S) -> Result<usize, DeviceFailed>
-        requires { self.old.end + PIECE ≤ vec_len self.old.bytes }
+        requires { self.old.end + PIECE_LIMIT ≤ vec_len self.old.bytes }
         ensures ok { IfOk result (λ n. (more : List ℕ) × (length more ≡ n)
             × (items self.new ≡ items self.old ++ more)
-            × Hears (S.input source.old) (S.input source.new) more × (n ≤ PIECE)) }
+            × Hears (S.input source.old) (S.input source.new) more × (n ≤ PIECE_LIMIT)) }
         ensures end { IfOk result (λ n. n ≡ 0 → (S.input source.new).is_over ≡ true) }
         ensures err { OnErr result ((items self.new ≡ items self.old)
             × Hears (S.input source.old) (S.input source.new) []) }
@@ -90,7 +87,7 @@ impl Window {
             (S.input source.new).failed_calls }
     {
         let end = self.end;
-        let count = source.read_some(&mut self.bytes[end..end + PIECE])?;
+        let count = source.read_some(&mut self.bytes[end..end + PIECE_LIMIT])?;
         self.end = end + count;
         Ok(count)
     }
