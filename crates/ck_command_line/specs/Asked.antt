@@ -196,8 +196,10 @@ examples =
     (codes "gate", ask_gate (settings_by Strict 0) false)
     ∷ (codes "gate --allow-unrun", ask_gate (settings_by Strict 0) true)
     ∷ (codes "gate --attempts-from 1 --allow-unrun", ask_gate (settings_by Strict 1) true)
-    ∷ (codes "gate --attempts-from=1 --pending-passes",
-    ask_gate (settings_by PendingPasses 1) false)
+    ∷ (
+      codes "gate --attempts-from=1 --pending-passes",
+      ask_gate (settings_by PendingPasses 1) false,
+    )
     ∷ (codes "audit", ask_audit (settings_by Strict 0))
     ∷ (codes "audit --attempts-from 0", ask_audit (settings_by Strict 0))
     ∷ (codes "cases --pending-passes", ask_cases (settings_by PendingPasses 0))

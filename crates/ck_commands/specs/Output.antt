@@ -78,6 +78,13 @@ pub record Delivers (report : Report) (code : ℕ) (before after : Output) : Typ
       → Prints report code before after
   pub broken : after.failed_calls ≢ before.failed_calls → Breaks report.text code before after
 
+-- with this status and code a text is delivered that was written whole before, without a failed call
+abbrev pub DeliversWritten : ExitStatus → ℕ → (written after : Output) → Type 0
+DeliversWritten status code written after =
+    (before : Output) (text : List ℕ) → Writes before written text
+    → written.failed_calls ≡ before.failed_calls
+    → Delivers (record { text = text; status = status }) code before after
+
 -- a report of which P holds was delivered, or that of no memory
 abbrev pub DeliversOne : (Report → Type 0) → ℕ → (before after : Output) → Type 0
 DeliversOne P code before after =

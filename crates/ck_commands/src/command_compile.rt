@@ -5,10 +5,10 @@ ghost use Rattle.ck_commands.specs.Run.{ReportsCompiled, Runs};
 
 use crate::feature_input::FeatureFault;
 use crate::feature_report::print_fault;
-use crate::output::{ExitStatus, write_trouble};
+use crate::output::{ExitStatus, flush_text, write_trouble};
 use crate::text_input::read_text;
 use cm_compile::{CompileFault, write_compiled};
-use cm_envelope::{ByteSink, ByteSource, DeviceFailed, Trouble};
+use cm_envelope::{ByteSink, ByteSource, Trouble};
 use std::alloc::Global;
 
 /// Writes the lines of a text and flushes them, or prints why there are none, and gives the exit code.
@@ -17,10 +17,7 @@ fn compile_text<W: ByteSink>(alloc: Global, uri: &str, text: &str, sink: &mut W)
         (W.output sink.new) }
 {
     match write_compiled(alloc, uri, text, sink) {
-        Ok(()) => match sink.flush() {
-            Ok(()) => ExitStatus::Done.code(),
-            Err(DeviceFailed) => ExitStatus::Trouble.code(),
-        },
+        Ok(()) => flush_text(sink, ExitStatus::Done),
         Err(CompileFault::Parse(fault)) => print_fault(alloc, FeatureFault::Refused(fault), sink),
         Err(CompileFault::Memory) => print_fault(alloc, FeatureFault::Memory, sink),
         Err(CompileFault::WriteFailed) => write_trouble(sink),

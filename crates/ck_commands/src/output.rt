@@ -1,7 +1,8 @@
 //! What a command prints, and the status that it ends with.
 ghost use Rattle.std.specs.Prelude.{◌≡◌, ◌≤◌, ◌++◌, ℕ, List, IfOk, string_bytes};
 ghost use Rattle.cm_envelope.specs.Device.{Writes, greatest_count};
-ghost use Rattle.ck_commands.specs.Output.{Delivers, code_of, report_made, trouble_name, trouble_report, write_failed_text};
+ghost use Rattle.ck_commands.specs.Output.{Delivers, DeliversWritten, code_of, report_made, trouble_name, trouble_report};
+ghost use Rattle.ck_commands.specs.Output.{write_failed_text};
 
 use cm_envelope::{ByteSink, DeviceFailed, Trouble, write_all};
 use std::alloc::{AllocError, Global};
@@ -81,6 +82,16 @@ pub(crate) fn write_trouble<W: ByteSink>(sink: &mut W) -> u8
     ExitStatus::Trouble.code()
 }
 
+/// Flushes a text that was written, and gives the status's code, or that of trouble where the flush failed.
+pub(crate) fn flush_text<W: ByteSink>(sink: &mut W, status: ExitStatus) -> u8
+    ensures { DeliversWritten status result (W.output sink.old) (W.output sink.new) }
+{
+    match sink.flush() {
+        Ok(()) => status.code(),
+        Err(DeviceFailed) => ExitStatus::Trouble.code(),
+    }
+}
+
 /// Writes the text and flushes it, and gives the status's code, or that of trouble where a write or the flush failed. After a
 /// failed write it tries to write `trouble WriteFailed`, as far as the sink takes it.
 pub(crate) fn write_text<W: ByteSink>(sink: &mut W, text: &str, status: ExitStatus) -> u8
@@ -88,10 +99,7 @@ pub(crate) fn write_text<W: ByteSink>(sink: &mut W, text: &str, status: ExitStat
         (W.output sink.new) }
 {
     match write_all(sink, text.as_bytes()) {
-        Ok(()) => match sink.flush() {
-            Ok(()) => status.code(),
-            Err(DeviceFailed) => ExitStatus::Trouble.code(),
-        },
+        Ok(()) => flush_text(sink, status),
         Err(DeviceFailed) => write_trouble(sink),
     }
 }

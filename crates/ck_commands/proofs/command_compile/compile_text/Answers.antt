@@ -4,27 +4,18 @@ use Rattle.ck_commands.specs.Output.{Report}
 use Rattle.ck_commands.specs.declared.feature_input.FeatureFault.TheVariants.{Refused}
 use Rattle.ck_commands.specs.declared.output.ExitStatus.TheVariants.{Done}
 use Rattle.ck_commands.proofs.Compiles.{fault_delivered, refused_of}
-use Rattle.ck_commands.proofs.Delivering.{delivered, not_flushed, not_written}
+use Rattle.ck_commands.proofs.Delivering.{not_written}
 use Rattle.ck_commands.proofs.command_compile.compile_text.Goals as goal
 
 lines_report : List ℕ → Report
 lines_report lines = record { text = lines; status = Done }
 
-pub returns-in-Ok-flush : goal.returns-in-Ok-flush
+pub returns-in-Ok : goal.returns-in-Ok
 unfolding lines_report
-returns-in-Ok-flush g c =
+returns-in-Ok g c =
     let wrote = c.in-Ok.ensures.written in
     let readable : IsReadableText c.args.text.now = record { utf8 = c.utf8.text; short = λ long. let no = c.in-Ok.ensures.too_long.1 long in cc } in
-    let passed = c.in-Ok-flush.ensures in
-    (lines_report wrote.0, inl (inl (wrote.0, readable, wrote.1, refl)), delivered (lines_report wrote.0) _ _ _ _ c.code.ensures wrote.2 c.in-Ok.ensures.none_failed passed.taken passed.shown passed.failures)
-
-pub returns-in-Err : goal.returns-in-Err
-unfolding lines_report
-returns-in-Err g c =
-    let wrote = c.in-Ok.ensures.written in
-    let readable : IsReadableText c.args.text.now = record { utf8 = c.utf8.text; short = λ long. let no = c.in-Ok.ensures.too_long.1 long in cc } in
-    let passed = c.in-Err.ensures in
-    (lines_report wrote.0, inl (inl (wrote.0, readable, wrote.1, refl)), not_flushed (lines_report wrote.0) _ _ _ _ c.code-in-Err.ensures wrote.2 c.in-Ok.ensures.none_failed passed.taken passed.shown passed.failures)
+    (lines_report wrote.0, inl (inl (wrote.0, readable, wrote.1, refl)), c.flush_text.ensures _ wrote.0 wrote.2 c.in-Ok.ensures.none_failed)
 
 pub returns-in-Err-Parse : goal.returns-in-Err-Parse
 returns-in-Err-Parse g c =
