@@ -16,7 +16,7 @@ use Rattle.cm_stream.specs.References.{Name, PickleNamed, PickleStep, declares_i
 use Rattle.cm_stream.specs.ByOnePass.{fault, is_incomplete, HasNoFault}
 use Rattle.cm_stream.proofs.Found.{bytes_same}
 use Rattle.cm_stream.proofs.Skeletons.{same_skeletons}
-use Rattle.cm_read_back.specs.Documents.{document_read, kept}
+use Rattle.cm_read_back.specs.Documents.{document_read, document_kept}
 use Rattle.cm_read_back.specs.Pickles.{pickle_read, source_read}
 use Rattle.cm_compile.specs.Compiled.{id_count}
 use Rattle.cm_compiled_good.proofs.Fine.{below, PickleFine}
@@ -47,7 +47,7 @@ each_line settings before (x ∷ rest) h (y ∷ b) e a cut =
 
 pub record Known (uri text : List ℕ) (d : Document) : Type 0 where
   pub read : reads text ≡ Accepted d
-  pub same : skeleton (kept d) ≡ skeleton d
+  pub same : skeleton (document_kept d) ≡ skeleton d
   pub small : next_id d.nodes (compiled d) < 18446744073709551616
   pub fine : AllByRecursion (PickleFine (below d.nodes)) (compiled d)
 
@@ -59,7 +59,7 @@ source_passes settings uri text d k = rw k.read refl
 document_passes : (settings : Settings) (uri text : List ℕ) (d : Document) → Known uri text d → fault settings (envelope.Source (source_read uri text) ∷ []) (envelope.GherkinDocument (document_read uri d)) ≡ None
 document_passes settings uri text d k =
     let few : d.nodes ≤ 18446744073709551616 = omega (arith, k.small, next_later d.nodes (compiled d)) in
-    rw (reading_is uri text d [] k.read, bytes_same uri, same_skeletons (kept d) d k.same, none_repeats 0 d.nodes (omega arith)) refl
+    rw (reading_is uri text d [] k.read, bytes_same uri, same_skeletons (document_kept d) d k.same, none_repeats 0 d.nodes (omega arith)) refl
 
 -- ---- pickles
 

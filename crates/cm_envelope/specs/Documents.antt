@@ -30,7 +30,7 @@ use Rattle.cm_envelope.specs.declared.read_documents.TaggedHeading.{TaggedHeadin
 use Rattle.cm_envelope.specs.declared.read_documents.Body.{Body}
 use Rattle.cm_envelope.specs.declared.read_documents.FeatureHeading.{FeatureHeading}
 use Rattle.cm_envelope.specs.declared.read_documents.FeatureBody.{FeatureBody}
-use Rattle.cm_envelope.specs.Member.{◌>>=◌, FailsAtMember, all_items, good, required, nested, optional_nested, list_of, items_in, present_member, rule, has_both, media_type, as_whole_number}
+use Rattle.cm_envelope.specs.Member.{◌>>=◌, FailsAtMember, all_items, good, required_member, nested_member, optional_nested_member, list_of, items_in, present_member, rule, has_both, media_type_member, as_whole_number}
 
 abbrev pub Ids : Type 0
 Ids = List (List ℕ)
@@ -126,19 +126,19 @@ as_line d = option_and_then line_of (as_whole_number d)
 
 abbrev pub location : Data → Result Location (List ℕ)
 location d = do
-  line ← required as_line (codes "line") d
+  line ← required_member as_line (codes "line") d
   Ok (record { line = line; column = 0 })
 
 abbrev pub cell : Data → Result Cell (List ℕ)
 cell d = do
-  value ← required as_str (codes "value") d
+  value ← required_member as_str (codes "value") d
   Ok (record { value = value; column = 0 })
 
 abbrev pub doc_string : Data → Result DocString (List ℕ)
 doc_string d = do
-  place ← nested location (codes "location") d
-  content ← required as_str (codes "content") d
-  media ← media_type d
+  place ← nested_member location (codes "location") d
+  content ← required_member as_str (codes "content") d
+  media ← media_type_member d
   Ok (record { location = place; media = media; content = content; fence = Quotes })
 
 -- ---- nodes
@@ -146,8 +146,8 @@ doc_string d = do
 -- what a node that has an id begins with
 abbrev pub mark : Data → Result Mark (List ℕ)
 mark d = do
-  id ← required as_str (codes "id") d
-  place ← nested location (codes "location") d
+  id ← required_member as_str (codes "id") d
+  place ← nested_member location (codes "location") d
   Ok (record { id = id; location = place })
 
 -- the number of the node that has this id
@@ -157,7 +157,7 @@ node_number id ids = Ok (length ids, ids ++ id ∷ [])
 abbrev pub tag : Ids → Data → NodeRead Tag
 tag ids d = do
   own ← mark d
-  name ← required as_str (codes "name") d
+  name ← required_member as_str (codes "name") d
   node ← node_number own.id ids
   Ok (record { node = node.0; location = own.location; name = name }, node.1)
 
@@ -184,14 +184,14 @@ abbrev pub argument : Ids → Data → NodeRead (Option Argument)
 argument ids d = do
   table ← optional_node data_table (codes "dataTable") ids d
   checked ← rule (codes "docString") (not (has_both (codes "dataTable") (codes "docString") d))
-  content ← optional_nested doc_string (codes "docString") d
+  content ← optional_nested_member doc_string (codes "docString") d
   Ok (argument_of table.0 content, table.1)
 
 -- the keyword, and the name or a step's text
 abbrev pub title : List ℕ → Data → Result Title (List ℕ)
 title name d = do
-  keyword ← required as_str (codes "keyword") d
-  text ← required as_str name d
+  keyword ← required_member as_str (codes "keyword") d
+  text ← required_member as_str name d
   Ok (record { keyword = keyword; text = text })
 
 -- what a step and a background begin with
@@ -338,9 +338,9 @@ rule_node ids d = do
 -- what a feature begins with, which has no id
 abbrev pub feature_heading : Ids → Data → NodeRead FeatureHeading
 feature_heading ids d = do
-  place ← nested location (codes "location") d
+  place ← nested_member location (codes "location") d
   tags ← nodes_of tag (codes "tags") ids d
-  language ← required as_str (codes "language") d
+  language ← required_member as_str (codes "language") d
   words ← title (codes "name") d
   Ok (
     record { location = place; tags = tags.0; language = language; title = words },
@@ -378,7 +378,7 @@ feature ids d = do
 -- the tree and the ids of its nodes in their order
 abbrev pub gherkin_document : Data → Result GherkinDocument (List ℕ)
 gherkin_document d = do
-  uri ← required as_str (codes "uri") d
+  uri ← required_member as_str (codes "uri") d
   top ← optional_node feature (codes "feature") [] d
   Ok (record {
     uri = uri;

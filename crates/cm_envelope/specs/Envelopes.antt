@@ -22,7 +22,7 @@ use Rattle.cm_envelope.specs.declared.envelope.TestRunHookStarted.{TestRunHookSt
 use Rattle.cm_envelope.specs.declared.envelope.TestRunHookFinished.{TestRunHookFinished}
 use Rattle.cm_envelope.specs.declared.envelope.Status.{Status}
 use Rattle.cm_envelope.specs.declared.envelope.Status.TheVariants.{Unknown, Passed, Skipped, Pending, Undefined, Ambiguous, Failed}
-use Rattle.cm_envelope.specs.Member.{◌>>=◌, present_member, required, optional, optional_or, nested, list_of, list_of_values, rule, each_item, has_one_of, as_whole_number}
+use Rattle.cm_envelope.specs.Member.{◌>>=◌, present_member, required_member, optional_member, optional_or, nested_member, list_of, list_of_values, rule, each_item, has_one_of, as_whole_number}
 
 abbrev pub status_of : List ℕ → Option Status
 status_of word = if bytes_eq word (codes "UNKNOWN") then Some Unknown
@@ -39,41 +39,41 @@ as_status d = option_and_then status_of (as_str d)
 
 abbrev pub source : Data → Result Source (List ℕ)
 source d = do
-  uri ← required as_str (codes "uri") d
-  content ← required as_str (codes "data") d
-  media ← required as_str (codes "mediaType") d
+  uri ← required_member as_str (codes "uri") d
+  content ← required_member as_str (codes "data") d
+  media ← required_member as_str (codes "mediaType") d
   Ok (record { uri = uri; content = content; media_type = media })
 
 abbrev pub source_reference : Data → Result SourceReference (List ℕ)
 source_reference d = do
-  uri ← required as_str (codes "uri") d
+  uri ← required_member as_str (codes "uri") d
   Ok (record { uri = uri })
 
 abbrev pub parse_error : Data → Result ParseError (List ℕ)
 parse_error d = do
-  place ← nested source_reference (codes "source") d
+  place ← nested_member source_reference (codes "source") d
   Ok (record { source = place })
 
 abbrev pub step_definition : Data → Result StepDefinition (List ℕ)
 step_definition d = do
-  id ← required as_str (codes "id") d
+  id ← required_member as_str (codes "id") d
   Ok (record { id = id })
 
 abbrev pub hook : Data → Result Hook (List ℕ)
 hook d = do
-  id ← required as_str (codes "id") d
+  id ← required_member as_str (codes "id") d
   Ok (record { id = id })
 
 abbrev pub test_run_started : Data → Result TestRunStarted (List ℕ)
 test_run_started d = do
-  id ← optional as_str (codes "id") d
+  id ← optional_member as_str (codes "id") d
   Ok (record { id = id })
 
 -- any value of `exception` is one
 abbrev pub test_run_finished : Data → Result TestRunFinished (List ℕ)
 test_run_finished d = do
-  run ← optional as_str (codes "testRunStartedId") d
-  success ← required as_bool (codes "success") d
+  run ← optional_member as_str (codes "testRunStartedId") d
+  success ← required_member as_bool (codes "success") d
   Ok (record {
     test_run_started_id = run;
     success = success;
@@ -82,15 +82,15 @@ test_run_finished d = do
 
 abbrev pub attachment : Data → Result Attachment (List ℕ)
 attachment d = do
-  attempt ← optional as_str (codes "testCaseStartedId") d
-  step ← optional as_str (codes "testStepId") d
+  attempt ← optional_member as_str (codes "testCaseStartedId") d
+  step ← optional_member as_str (codes "testStepId") d
   Ok (record { test_case_started_id = attempt; test_step_id = step })
 
 abbrev pub test_step : Data → Result TestStep (List ℕ)
 test_step d = do
-  id ← required as_str (codes "id") d
-  hook ← optional as_str (codes "hookId") d
-  pickle_step ← optional as_str (codes "pickleStepId") d
+  id ← required_member as_str (codes "id") d
+  hook ← optional_member as_str (codes "hookId") d
+  pickle_step ← optional_member as_str (codes "pickleStepId") d
   definitions ← list_of_values as_str (codes "stepDefinitionIds") d
   Ok (record {
     id = id;
@@ -101,9 +101,9 @@ test_step d = do
 
 abbrev pub test_case : Data → Result TestCase (List ℕ)
 test_case d = do
-  id ← required as_str (codes "id") d
-  pickle ← required as_str (codes "pickleId") d
-  run ← optional as_str (codes "testRunStartedId") d
+  id ← required_member as_str (codes "id") d
+  pickle ← required_member as_str (codes "pickleId") d
+  run ← optional_member as_str (codes "testRunStartedId") d
   checked ← rule (codes "testSteps") (each_item (has_one_of (codes "hookId") (codes "pickleStepId"))
       (codes "testSteps") d)
   steps ← list_of test_step (codes "testSteps") d
@@ -111,44 +111,44 @@ test_case d = do
 
 abbrev pub test_case_started : Data → Result TestCaseStarted (List ℕ)
 test_case_started d = do
-  id ← required as_str (codes "id") d
-  test_case ← required as_str (codes "testCaseId") d
+  id ← required_member as_str (codes "id") d
+  test_case ← required_member as_str (codes "testCaseId") d
   attempt ← optional_or 0 as_whole_number (codes "attempt") d
   Ok (record { id = id; test_case_id = test_case; attempt = attempt })
 
 abbrev pub test_step_started : Data → Result TestStepStarted (List ℕ)
 test_step_started d = do
-  attempt ← required as_str (codes "testCaseStartedId") d
-  step ← required as_str (codes "testStepId") d
+  attempt ← required_member as_str (codes "testCaseStartedId") d
+  step ← required_member as_str (codes "testStepId") d
   Ok (record { test_case_started_id = attempt; test_step_id = step })
 
 abbrev pub test_step_result : Data → Result TestStepResult (List ℕ)
 test_step_result d = do
-  status ← required as_status (codes "status") d
+  status ← required_member as_status (codes "status") d
   Ok (record { status = status })
 
 abbrev pub test_step_finished : Data → Result TestStepFinished (List ℕ)
 test_step_finished d = do
-  attempt ← required as_str (codes "testCaseStartedId") d
-  step ← required as_str (codes "testStepId") d
-  result ← nested test_step_result (codes "testStepResult") d
+  attempt ← required_member as_str (codes "testCaseStartedId") d
+  step ← required_member as_str (codes "testStepId") d
+  result ← nested_member test_step_result (codes "testStepResult") d
   Ok (record { test_case_started_id = attempt; test_step_id = step; test_step_result = result })
 
 abbrev pub test_case_finished : Data → Result TestCaseFinished (List ℕ)
 test_case_finished d = do
-  attempt ← required as_str (codes "testCaseStartedId") d
+  attempt ← required_member as_str (codes "testCaseStartedId") d
   retried ← optional_or false as_bool (codes "willBeRetried") d
   Ok (record { test_case_started_id = attempt; will_be_retried = retried })
 
 abbrev pub test_run_hook_started : Data → Result TestRunHookStarted (List ℕ)
 test_run_hook_started d = do
-  id ← required as_str (codes "id") d
-  run ← optional as_str (codes "testRunStartedId") d
-  hook ← required as_str (codes "hookId") d
+  id ← required_member as_str (codes "id") d
+  run ← optional_member as_str (codes "testRunStartedId") d
+  hook ← required_member as_str (codes "hookId") d
   Ok (record { id = id; test_run_started_id = run; hook_id = hook })
 
 abbrev pub test_run_hook_finished : Data → Result TestRunHookFinished (List ℕ)
 test_run_hook_finished d = do
-  start ← required as_str (codes "testRunHookStartedId") d
-  result ← nested test_step_result (codes "result") d
+  start ← required_member as_str (codes "testRunHookStartedId") d
+  result ← nested_member test_step_result (codes "result") d
   Ok (record { test_run_hook_started_id = start; result = result })

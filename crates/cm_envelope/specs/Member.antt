@@ -43,27 +43,28 @@ good name (Some x) = Ok x
 
 -- ---- members of one value
 
-abbrev pub required : {A : Type 0} → (Data → Option A) → List ℕ → Data → Result A (List ℕ)
-required type name d = good name (option_and_then type (present_member name d))
+abbrev pub required_member : {A : Type 0} → (Data → Option A) → List ℕ → Data → Result A (List ℕ)
+required_member type name d = good name (option_and_then type (present_member name d))
 
 abbrev pub optional_in : {A : Type 0} → (Data → Option A) → List ℕ → Option Data
     → Result (Option A) (List ℕ)
 optional_in type name None = Ok None
 optional_in type name (Some d) = good name (option_map Some (type d))
 
-abbrev pub optional : {A : Type 0} → (Data → Option A) → List ℕ → Data → Result (Option A) (List ℕ)
-optional type name d = optional_in type name (present_member name d)
+abbrev pub optional_member : {A : Type 0} → (Data → Option A) → List ℕ → Data
+    → Result (Option A) (List ℕ)
+optional_member type name d = optional_in type name (present_member name d)
 
 -- with a value for an absent member
 abbrev pub optional_or : {A : Type 0} → A → (Data → Option A) → List ℕ → Data → Result A (List ℕ)
 optional_or absent type name d = do
-  found ← optional type name d
+  found ← optional_member type name d
   Ok (unwrap_or found absent)
 
 -- the media type of a doc string, which is none where it is empty
-abbrev pub media_type : Data → Result (Option (List ℕ)) (List ℕ)
-media_type d = do
-  media ← optional as_str (codes "mediaType") d
+abbrev pub media_type_member : Data → Result (Option (List ℕ)) (List ℕ)
+media_type_member d = do
+  media ← optional_member as_str (codes "mediaType") d
   Ok (option_and_then unless_empty media)
 
 -- ---- objects and lists
@@ -72,17 +73,18 @@ media_type d = do
 abbrev pub object_in : {A : Type 0} → List ℕ → (Data → Result A (List ℕ)) → Data → Result A (List ℕ)
 object_in name read d = good name (as_object d) >>= λ members. read d
 
-abbrev pub nested : {A : Type 0} → (Data → Result A (List ℕ)) → List ℕ → Data → Result A (List ℕ)
-nested read name d = good name (present_member name d) >>= object_in name read
+abbrev pub nested_member : {A : Type 0} → (Data → Result A (List ℕ)) → List ℕ → Data
+    → Result A (List ℕ)
+nested_member read name d = good name (present_member name d) >>= object_in name read
 
 abbrev pub optional_nested_in : {A : Type 0} → (Data → Result A (List ℕ)) → List ℕ → Option Data
     → Result (Option A) (List ℕ)
 optional_nested_in read name None = Ok None
 optional_nested_in read name (Some d) = object_in name read d >>= λ x. Ok (Some x)
 
-abbrev pub optional_nested : {A : Type 0} → (Data → Result A (List ℕ)) → List ℕ → Data
+abbrev pub optional_nested_member : {A : Type 0} → (Data → Result A (List ℕ)) → List ℕ → Data
     → Result (Option A) (List ℕ)
-optional_nested read name d = optional_nested_in read name (present_member name d)
+optional_nested_member read name d = optional_nested_in read name (present_member name d)
 
 -- the items, one after the other
 abbrev pub each : {A : Type 0} → (Data → Result A (List ℕ)) → Items → Result (List A) (List ℕ)

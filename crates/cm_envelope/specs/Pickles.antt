@@ -16,7 +16,7 @@ use Rattle.cm_envelope.specs.declared.pickle.PickleCell.{PickleCell}
 use Rattle.cm_envelope.specs.declared.pickle.PickleDocString.{PickleDocString}
 use Rattle.cm_envelope.specs.declared.read_pickles.PickleTexts.{PickleTexts}
 use Rattle.cm_envelope.specs.declared.read_pickles.PickleLists.{PickleLists}
-use Rattle.cm_envelope.specs.Member.{◌>>=◌, required, optional, optional_nested, list_of, list_of_values, rule, has_both, media_type}
+use Rattle.cm_envelope.specs.Member.{◌>>=◌, required_member, optional_member, optional_nested_member, list_of, list_of_values, rule, has_both, media_type_member}
 
 -- Messages: PickleStepType
 abbrev pub step_kind_of : List ℕ → Option StepKind
@@ -31,13 +31,13 @@ as_step_kind d = option_and_then step_kind_of (as_str d)
 
 abbrev pub pickle_tag : Data → Result PickleTag (List ℕ)
 pickle_tag d = do
-  name ← required as_str (codes "name") d
-  node ← required as_str (codes "astNodeId") d
+  name ← required_member as_str (codes "name") d
+  node ← required_member as_str (codes "astNodeId") d
   Ok (record { name = name; ast_node_id = node })
 
 abbrev pub pickle_cell : Data → Result PickleCell (List ℕ)
 pickle_cell d = do
-  value ← required as_str (codes "value") d
+  value ← required_member as_str (codes "value") d
   Ok (record { value = value })
 
 abbrev pub pickle_row : Data → Result PickleRow (List ℕ)
@@ -53,8 +53,8 @@ pickle_table d = do
 
 abbrev pub pickle_doc_string : Data → Result PickleDocString (List ℕ)
 pickle_doc_string d = do
-  content ← required as_str (codes "content") d
-  media ← media_type d
+  content ← required_member as_str (codes "content") d
+  media ← media_type_member d
   Ok (record { content = content; media_type = media })
 
 -- the one that there is
@@ -65,36 +65,36 @@ argument_of None None = None
 
 abbrev pub pickle_argument : Data → Result (Option PickleArgument) (List ℕ)
 pickle_argument d = do
-  table ← optional_nested pickle_table (codes "dataTable") d
+  table ← optional_nested_member pickle_table (codes "dataTable") d
   checked ← rule (codes "docString") (not (has_both (codes "dataTable") (codes "docString") d))
-  text ← optional_nested pickle_doc_string (codes "docString") d
+  text ← optional_nested_member pickle_doc_string (codes "docString") d
   Ok (argument_of table text)
 
-abbrev pub flattened : {A : Type 0} → Option (Option A) → Option A
-flattened None = None
-flattened (Some o) = o
+abbrev pub inner_option : {A : Type 0} → Option (Option A) → Option A
+inner_option None = None
+inner_option (Some o) = o
 
 -- An argument with neither counts as absent.
 abbrev pub argument : Data → Result (Option PickleArgument) (List ℕ)
 argument d = do
-  found ← optional_nested pickle_argument (codes "argument") d
-  Ok (flattened found)
+  found ← optional_nested_member pickle_argument (codes "argument") d
+  Ok (inner_option found)
 
 abbrev pub pickle_step : Data → Result PickleStep (List ℕ)
 pickle_step d = do
-  id ← required as_str (codes "id") d
-  text ← required as_str (codes "text") d
-  kind ← optional as_step_kind (codes "type") d
+  id ← required_member as_str (codes "id") d
+  text ← required_member as_str (codes "text") d
+  kind ← optional_member as_step_kind (codes "type") d
   nodes ← list_of_values as_str (codes "astNodeIds") d
   below ← argument d
   Ok (record { id = id; text = text; kind = kind; ast_node_ids = nodes; argument = below })
 
 abbrev pub pickle_texts : Data → Result PickleTexts (List ℕ)
 pickle_texts d = do
-  id ← required as_str (codes "id") d
-  uri ← required as_str (codes "uri") d
-  name ← required as_str (codes "name") d
-  language ← required as_str (codes "language") d
+  id ← required_member as_str (codes "id") d
+  uri ← required_member as_str (codes "uri") d
+  name ← required_member as_str (codes "name") d
+  language ← required_member as_str (codes "language") d
   Ok (record { id = id; uri = uri; name = name; language = language })
 
 abbrev pub pickle_lists : Data → Result PickleLists (List ℕ)

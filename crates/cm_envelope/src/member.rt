@@ -2,7 +2,7 @@
 ghost use Rattle.std.specs.Prelude.{◌≡◌, option_map, option_and_then};
 ghost use Rattle.serde_json.specs.Find.{as_str, as_bool};
 ghost use Rattle.serde_json.specs.View.{view};
-ghost use Rattle.cm_envelope.specs.Member.{GivesMember, present_member, required, optional, optional_or, as_whole_number, has_both as has_both_members, media_type as media_type_member};
+ghost use Rattle.cm_envelope.specs.Member.{GivesMember, present_member, required_member, optional_member, optional_or, as_whole_number, has_both as has_both_members, media_type_member};
 ghost use Rattle.gk_document.specs.MediaType.{unless_empty};
 
 use crate::fault::MemberFault;
@@ -20,7 +20,7 @@ pub(crate) fn present<'v>(object: &'v Value, name: &str) -> Option<&'v Value>
 }
 
 pub(crate) fn text(alloc: Global, object: &Value, name: &'static str) -> Result<Text, MemberFault>
-    ensures { GivesMember result (required as_str name.now (view object.now)) }
+    ensures { GivesMember result (required_member as_str name.now (view object.now)) }
 {
     match present(object, name).and_then(Value::as_str) {
         Some(found) => Ok(Text::copy_of(alloc, found)?),
@@ -33,7 +33,7 @@ pub(crate) fn optional_text(
     object: &Value,
     name: &'static str,
 ) -> Result<Option<Text>, MemberFault>
-    ensures { GivesMember result (optional as_str name.now (view object.now)) }
+    ensures { GivesMember result (optional_member as_str name.now (view object.now)) }
 {
     let Some(member) = present(object, name) else {
         return Ok(None);
@@ -58,7 +58,7 @@ pub(crate) fn whole_number_or(
 }
 
 pub(crate) fn flag(object: &Value, name: &'static str) -> Result<bool, MemberFault>
-    ensures { GivesMember result (required as_bool name.now (view object.now)) }
+    ensures { GivesMember result (required_member as_bool name.now (view object.now)) }
 {
     match present(object, name).and_then(Value::as_bool) {
         Some(flag) => Ok(flag),

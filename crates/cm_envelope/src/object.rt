@@ -3,7 +3,7 @@ ghost use Rattle.std.specs.Prelude.{List, Result, ℕ};
 ghost use Rattle.serde_json.specs.Data.{Data};
 ghost use Rattle.serde_json.specs.Find.{as_str};
 ghost use Rattle.serde_json.specs.View.{view, items_view};
-ghost use Rattle.cm_envelope.specs.Member.{GivesMember, nested as nested_member, optional_nested as optional_nested_member, items_in, present_member, GivesMemberOf, list_of as list_of_objects, list_of_values, each, object_in, good};
+ghost use Rattle.cm_envelope.specs.Member.{GivesMember, nested_member, optional_nested_member, items_in, present_member, GivesMemberOf, list_of as list_of_objects, list_of_values, each, object_in, good};
 
 use crate::fault::MemberFault;
 use crate::member::present;

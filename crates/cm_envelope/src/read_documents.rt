@@ -2,7 +2,7 @@
 ghost use Rattle.std.specs.Prelude.{◌≡◌, [], codes};
 ghost use Rattle.serde_json.specs.Data.{Data};
 ghost use Rattle.serde_json.specs.View.{view, items_view};
-ghost use Rattle.cm_envelope.specs.Member.{GivesMember, GivesMemberOf, all_items, required};
+ghost use Rattle.cm_envelope.specs.Member.{GivesMember, GivesMemberOf, all_items, required_member};
 ghost use Rattle.cm_envelope.specs.Documents.{GivesNode, NodeRead, Ids, node_in, optional_node_in, optional_node as optional_node_of, each_node, nodes_of as nodes_of_member, children_of, background_in, rank_of as rank_of_child, are_in_order as children_are_in_order, children_in as children_in_member, as_line, location, cell, doc_string, mark, title, node_number, tag, row, data_table, argument_of, argument, heading, step, background, is_empty, is_object, table_of, body_rows, example_table as example_table_of, tagged_heading, examples, scenario, body, rule_node, feature_heading, feature_body, feature, gherkin_document};
 
 use crate::envelope::GherkinDocument;
@@ -160,7 +160,7 @@ fn children_in(object: &Value, in_feature: bool) -> Result<&[Value], MemberFault
 }
 
 fn line(object: &Value, name: &'static str) -> Result<u32, MemberFault>
-    ensures { GivesMember result (required as_line name.now (view object.now)) }
+    ensures { GivesMember result (required_member as_line name.now (view object.now)) }
 {
     match present(object, name).and_then(Value::as_u64) {
         Some(line) if 0 < line && line < 1 << 32 => Ok(line as u32),

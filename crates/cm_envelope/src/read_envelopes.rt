@@ -2,7 +2,7 @@
 ghost use Rattle.std.specs.Prelude.{◌≡◌, codes};
 ghost use Rattle.serde_json.specs.Find.{as_str};
 ghost use Rattle.serde_json.specs.View.{view, items_view};
-ghost use Rattle.cm_envelope.specs.Member.{GivesMember, required, has_one_of as has_one_member, each_item, all_items};
+ghost use Rattle.cm_envelope.specs.Member.{GivesMember, required_member, has_one_of as has_one_member, each_item, all_items};
 ghost use Rattle.cm_envelope.specs.Envelopes.{source, source_reference, parse_error, step_definition, hook, test_run_started, test_run_finished, attachment, status_of, as_status, test_step, test_case, test_case_started, test_step_started, test_step_result, test_step_finished, test_case_finished, test_run_hook_started, test_run_hook_finished};
 
 use crate::envelope::{
@@ -32,7 +32,7 @@ fn status_of(word: &str) -> Option<Status>
 }
 
 fn status(object: &Value, name: &'static str) -> Result<Status, MemberFault>
-    ensures { GivesMember result (required as_status name.now (view object.now)) }
+    ensures { GivesMember result (required_member as_status name.now (view object.now)) }
 {
     match present(object, name).and_then(Value::as_str) {
         Some(word) => status_of(word).ok_or(MemberFault::Bad(name)),

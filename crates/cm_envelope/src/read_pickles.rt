@@ -1,7 +1,7 @@
 //! How a pickle is read, member by member.
 ghost use Rattle.std.specs.Prelude.{◌≡◌};
 ghost use Rattle.serde_json.specs.View.{view};
-ghost use Rattle.cm_envelope.specs.Member.{GivesMember, optional};
+ghost use Rattle.cm_envelope.specs.Member.{GivesMember, optional_member};
 ghost use Rattle.cm_envelope.specs.Pickles.{step_kind_of, as_step_kind, pickle_texts, pickle_lists, pickle, pickle_tag, pickle_step, pickle_argument, argument_of, pickle_table, pickle_row, pickle_cell, pickle_doc_string, argument as argument_member};
 
 use crate::fault::MemberFault;
@@ -28,7 +28,7 @@ fn step_kind_of(word: &str) -> Option<StepKind>
 }
 
 fn optional_step_kind(object: &Value, name: &'static str) -> Result<Option<StepKind>, MemberFault>
-    ensures { GivesMember result (optional as_step_kind name.now (view object.now)) }
+    ensures { GivesMember result (optional_member as_step_kind name.now (view object.now)) }
 {
     let Some(member) = present(object, name) else {
         return Ok(None);

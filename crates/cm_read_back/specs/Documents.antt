@@ -95,13 +95,13 @@ feature_kept f = record f {
   rules = map rule_kept f.rules;
 }
 
-abbrev pub kept : Document → Document
-kept d = record d { feature = option_map feature_kept d.feature; comments = [] }
+abbrev pub document_kept : Document → Document
+document_kept d = record d { feature = option_map feature_kept d.feature; comments = [] }
 
 -- with the decimal texts of 0, 1, .. as ids
 abbrev pub document_read : List ℕ → Document → GherkinDocument
 document_read uri d =
-    record { uri = uri; document = kept d; ids = map decimal (range_with_len 0 d.nodes) }
+    record { uri = uri; document = document_kept d; ids = map decimal (range_with_len 0 d.nodes) }
 
 -- ---- which documents
 

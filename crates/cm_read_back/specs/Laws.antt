@@ -13,7 +13,7 @@ use Rattle.gk_pickle.specs.TreeJson.{document_data, source_data}
 use Rattle.cm_envelope.specs.declared.envelope.Envelope.{Envelope}
 use Rattle.cm_envelope.specs.declared.envelope.Envelope.TheVariants as envelope
 use Rattle.cm_envelope.specs.Reading.{envelope_of, envelope_of_line}
-use Rattle.cm_read_back.specs.Documents.{IsReadable, document_read, kept}
+use Rattle.cm_read_back.specs.Documents.{IsReadable, document_read, document_kept}
 use Rattle.cm_read_back.specs.Pickles.{pickle_read, source_read}
 use Rattle.cm_read_back.specs.Values.{IsPlain, in_order}
 
@@ -54,4 +54,4 @@ ParsedAreReadable =
 -- what is kept of the document of a text has that document's skeleton
 abbrev pub ParsedHaveSkeletons : Type 0
 ParsedHaveSkeletons =
-    (text : List ℕ) (d : Document) → IsDocumentOf text d → skeleton (kept d) ≡ skeleton d
+    (text : List ℕ) (d : Document) → IsDocumentOf text d → skeleton (document_kept d) ≡ skeleton d
