@@ -92,7 +92,7 @@ is_good_case policy c = option_map_or (is_good_status policy) (status_of_last c.
 abbrev pub open_count : Table → ℕ
 open_count t = count_by (λ a. is_some a.cursor) t.attempts
 
--- ---- refusals, of which the first in order is due
+-- ---- faults of a call, of which the first in order is due
 
 abbrev pub add_case_fault : Table → Utf8 → List Utf8 → Option TrackFault
 add_case_fault t id steps =

@@ -64,7 +64,7 @@ fn finished_in_order(cursor: Option<Cursor>, steps: &[String], step: &str) -> Op
 }
 
 /// Why a step that is out of order is refused.
-fn step_refusal(steps: &Steps, step: &str) -> TrackFault
+fn step_fault(steps: &Steps, step: &str) -> TrackFault
     ensures { step_fault_of (has_text step.now (map string_bytes steps.now.keys)) false
         ≡ Some result }
 {
@@ -118,7 +118,7 @@ pub(crate) fn check_start(cases: &Cases, attempt: &Attempt, step: &str) -> Resul
     if may_start(attempt.cursor, case.steps.as_slice(), step) {
         Ok(())
     } else {
-        Err(step_refusal(&case.steps, step))
+        Err(step_fault(&case.steps, step))
     }
 }
 
@@ -139,7 +139,7 @@ pub(crate) fn check_finish(
     };
     match finished_in_order(attempt.cursor, case.steps.as_slice(), step) {
         Some(next) => Ok(next),
-        None => Err(step_refusal(&case.steps, step)),
+        None => Err(step_fault(&case.steps, step)),
     }
 }
 

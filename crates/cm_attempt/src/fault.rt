@@ -1,4 +1,4 @@
-//! Refusals of a track.
+//! Why a track refuses a call.
 ghost use Rattle.std.specs.Prelude.{◌≡◌};
 ghost use Rattle.cm_attempt.specs.declared.fault.TrackFault.TheVariants as fault;
 

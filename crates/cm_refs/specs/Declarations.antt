@@ -66,7 +66,7 @@ find_run_hook d id = find (λ r. bytes_eq id r.id) d.run_hooks
 abbrev pub open_count : Declarations → ℕ
 open_count d = count_by (λ r. not r.is_finished) d.run_hooks
 
--- ---- refusals
+-- ---- faults
 
 -- a name that is in its kind's list is refused
 abbrev pub name_fault : RefFault → Utf8 → List Utf8 → Option RefFault

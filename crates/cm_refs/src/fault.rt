@@ -1,4 +1,4 @@
-//! Refusals of a declaration.
+//! Why a declaration is refused.
 ghost use Rattle.std.specs.Prelude.{◌≡◌};
 ghost use Rattle.cm_refs.specs.declared.fault.RefFault.TheVariants as fault;
 
