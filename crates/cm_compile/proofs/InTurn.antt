@@ -7,7 +7,7 @@ use Rattle.std.proofs.lemmas.List.Sums.{sum_by-cons, sum_by-append}
 use Rattle.gk_pickle.specs.declared.pickle.Pickle.{Pickle}
 use Rattle.gk_pickle.specs.InFeature.{ScenarioInFeature}
 use Rattle.gk_pickle.specs.Scenarios.{pickles_of_one}
-use Rattle.gk_pickle.specs.Json.{pickle_data}
+use Rattle.cm_messages.specs.PickleLayout.{pickle_data}
 use Rattle.cm_compile.specs.Compiled.{json_line, id_count, pickle_lines}
 
 -- the lines of pickles in two parts

@@ -7,8 +7,9 @@ use Rattle.gk_document.specs.declared.tree.Document.{Document}
 use Rattle.gk_grammar.specs.Documents.{IsDocumentOf}
 use Rattle.gk_pickle.specs.declared.pickle.Pickle.{Pickle}
 use Rattle.gk_pickle.specs.Pickles.{pickles}
-use Rattle.gk_pickle.specs.Json.{pickle_data}
-use Rattle.gk_pickle.specs.TreeJson.{source_data, document_data}
+use Rattle.cm_messages.specs.SourceLayout.{source_data}
+use Rattle.cm_messages.specs.DocumentLayout.{document_data}
+use Rattle.cm_messages.specs.PickleLayout.{pickle_data}
 
 -- a value without spaces, as `serde_json` writes it, and a line feed
 abbrev pub json_line : Data → List ℕ

@@ -4,7 +4,7 @@ use Rattle.std.specs.List.{AllByRecursion}
 use Rattle.gk_document.specs.declared.tree.Document.{Document}
 use Rattle.gk_grammar.specs.Documents.{IsDocumentOf, IsTooLong}
 use Rattle.gk_pickle.specs.declared.pickle.Pickle.{Pickle}
-use Rattle.gk_pickle.specs.Json.{pickle_data}
+use Rattle.cm_messages.specs.PickleLayout.{pickle_data}
 use Rattle.gk_pickle.specs.Pickles.{pickles}
 use Rattle.cm_stream.specs.Readings.{Accepted}
 use Rattle.cm_stream.proofs.OnePass.{reads_it}

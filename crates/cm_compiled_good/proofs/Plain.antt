@@ -14,8 +14,9 @@ use Rattle.gk_pickle.specs.declared.pickle.PickleArgument.{PickleArgument}
 use Rattle.gk_pickle.specs.declared.pickle.PickleArgument.TheVariants.{Table, Text}
 use Rattle.gk_pickle.specs.declared.pickle.PickleStep.{PickleStep}
 use Rattle.gk_pickle.specs.declared.pickle.Pickle.{Pickle}
-use Rattle.gk_pickle.specs.Json.{id_data, type_word, pickle_tag_data, pickle_cell_data, pickle_row_data, pickle_doc_string_data, pickle_step_data, pickle_steps_data, pickle_data}
-use Rattle.gk_pickle.specs.TreeJson.{source_data}
+use Rattle.cm_messages.specs.Layout.{id_data}
+use Rattle.cm_messages.specs.SourceLayout.{source_data}
+use Rattle.cm_messages.specs.PickleLayout.{type_word, pickle_tag_data, pickle_cell_data, pickle_row_data, pickle_doc_string_data, pickle_step_data, pickle_steps_data, pickle_data}
 use Rattle.cm_read_back.specs.Values.{IsPlain, ItemsArePlain}
 use Rattle.cm_compiled_good.proofs.Fine.{clean, TagFine, MediaFine, ArgumentFine, StepFine, PickleFine}
 

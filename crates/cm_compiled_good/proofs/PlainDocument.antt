@@ -12,7 +12,7 @@ use Rattle.gk_document.specs.declared.tree.Scenario.{Scenario}
 use Rattle.gk_document.specs.declared.tree.Rule.{Rule}
 use Rattle.gk_document.specs.declared.tree.Feature.{Feature}
 use Rattle.gk_document.specs.declared.tree.Document.{Document}
-use Rattle.gk_pickle.specs.TreeJson.{comment_data, background_data, examples_data, scenario_data, background_child, scenario_child, children_data, rule_data, rule_child, feature_data, document_data}
+use Rattle.cm_messages.specs.DocumentLayout.{comment_data, background_data, examples_data, scenario_data, background_child, scenario_child, children_data, rule_data, rule_child, feature_data, document_data}
 use Rattle.cm_read_back.specs.Values.{IsPlain, ItemsArePlain}
 use Rattle.cm_compiled_good.proofs.Clean.{CommentOk}
 use Rattle.cm_compiled_good.proofs.Compiling.{all_joined, all_mapped}

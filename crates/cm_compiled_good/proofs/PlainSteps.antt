@@ -16,7 +16,7 @@ use Rattle.gk_document.specs.declared.tree.Argument.{Argument}
 use Rattle.gk_document.specs.declared.tree.Argument.TheVariants.{Table, Text}
 use Rattle.gk_document.specs.declared.tree.Step.{Step}
 use Rattle.gk_document.specs.declared.tree.Comment.{Comment}
-use Rattle.gk_pickle.specs.TreeJson.{location_data, cell_data, row_data, tag_data, comment_data, delimiter, doc_string_data, table_place, table_data, keyword_word, step_data}
+use Rattle.cm_messages.specs.DocumentLayout.{location_data, cell_data, row_data, tag_data, comment_data, delimiter, doc_string_data, table_place, table_data, keyword_word, step_data}
 use Rattle.cm_read_back.specs.Values.{IsPlain, ItemsArePlain}
 use Rattle.cm_compiled_good.proofs.Clean.{CommentOk}
 use Rattle.cm_compiled_good.proofs.Fine.{Fits64, clean, TagOf, CellOf, RowOf, MediaOf, StepOf}

@@ -11,9 +11,10 @@ use Rattle.gk_line.specs.Texts.{after, body_of, first_some, trimmed}
 use Rattle.gk_line.specs.Tokens.{begins_by, fence_of, indent_of, is_blank_line, language_of, step_of, title_of}
 use Rattle.gk_grammar.specs.Token.{token_of}
 use Rattle.gk_grammar.specs.Documents.{lines_read}
-use Rattle.gk_pickle.specs.Json.{pickle_data}
+use Rattle.cm_messages.specs.SourceLayout.{source_data}
+use Rattle.cm_messages.specs.DocumentLayout.{document_data}
+use Rattle.cm_messages.specs.PickleLayout.{pickle_data}
 use Rattle.gk_pickle.specs.Pickles.{pickles}
-use Rattle.gk_pickle.specs.TreeJson.{source_data, document_data}
 use Rattle.cm_attempt.specs.declared.policy.Policy.TheVariants.{Strict}
 use Rattle.cm_stream.specs.OnePass.{reads}
 use Rattle.cm_stream.specs.Readings.{Accepted, IsReading}

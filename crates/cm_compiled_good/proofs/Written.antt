@@ -9,8 +9,9 @@ use Rattle.serde_json.specs.Written.{compact_text}
 use Rattle.gk_document.specs.declared.tree.Document.{Document}
 use Rattle.gk_pickle.specs.declared.pickle.Pickle.{Pickle}
 use Rattle.gk_pickle.specs.Pickles.{pickles}
-use Rattle.gk_pickle.specs.Json.{pickle_data}
-use Rattle.gk_pickle.specs.TreeJson.{source_data, document_data}
+use Rattle.cm_messages.specs.SourceLayout.{source_data}
+use Rattle.cm_messages.specs.DocumentLayout.{document_data}
+use Rattle.cm_messages.specs.PickleLayout.{pickle_data}
 use Rattle.cm_envelope.specs.declared.envelope.Envelope.{Envelope}
 use Rattle.cm_envelope.specs.declared.envelope.Envelope.TheVariants as envelope
 use Rattle.cm_envelope.specs.Lines.{is_blank}

@@ -4,8 +4,8 @@ use Rattle.std.specs.Prelude.{option_map}
 use Rattle.serde_json.specs.Data.{Data, Members, array, object, put, string}
 use Rattle.serde_json.specs.View.{items_of}
 use Rattle.serde_json.specs.Written.{compact_text, has_float}
-use Rattle.gk_pickle.specs.Json.{list_data, members_of, object_of}
-use Rattle.gk_pickle.proofs.Floats.{ArePlain, IsPlain, plain_list, plain_map, plain_object, plain_put, plain_put_some}
+use Rattle.cm_messages.specs.Layout.{list_data, members_of, object_of}
+use Rattle.cm_messages.proofs.Plain.{ArePlain, IsPlain, plain_list, plain_map, plain_object, plain_put, plain_put_some}
 use Rattle.gk_document.specs.Skeleton.{bare_argument, bare_cell, bare_row, bare_step, bare_tag}
 use Rattle.gk_document.specs.declared.tree.Argument.{Argument}
 use Rattle.gk_document.specs.declared.tree.Argument.TheVariants.{Table, Text}

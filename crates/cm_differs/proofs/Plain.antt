@@ -3,7 +3,7 @@ use Rattle.std.proofs.Common.{◌≡◌, ℕ, List, false, codes, refl}
 use Rattle.std.specs.Prelude.{option_map}
 use Rattle.serde_json.specs.Data.{string}
 use Rattle.serde_json.specs.Written.{has_float}
-use Rattle.gk_pickle.specs.Json.{list_data}
+use Rattle.cm_messages.specs.Layout.{list_data}
 use Rattle.cm_envelope.specs.declared.pickle.Pickle.{Pickle}
 use Rattle.cm_envelope.specs.declared.pickle.PickleArgument.{PickleArgument}
 use Rattle.cm_envelope.specs.declared.pickle.PickleArgument.TheVariants as argument
@@ -12,7 +12,7 @@ use Rattle.cm_envelope.specs.declared.pickle.PickleRow.{PickleRow}
 use Rattle.cm_envelope.specs.declared.pickle.PickleStep.{PickleStep}
 use Rattle.cm_envelope.specs.declared.pickle.PickleTable.{PickleTable}
 use Rattle.cm_differs.specs.PickleData.{kind_data, cell_data, row_data, table_data, doc_string_data, argument_data, step_data, tag_data, pickle_members, bare_pickle_data}
-use Rattle.gk_pickle.proofs.Floats.{IsPlain, plain_list, plain_map, plain_object, plain_put_some}
+use Rattle.cm_messages.proofs.Plain.{IsPlain, plain_list, plain_map, plain_object, plain_put_some}
 
 texts_plain : (texts : List (List ℕ)) → IsPlain (list_data string texts)
 texts_plain texts = plain_list string (λ t. refl) texts

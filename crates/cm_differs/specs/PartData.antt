@@ -2,7 +2,7 @@
 use Rattle.std.specs.Prelude.{ℕ, List, [], ◌∷◌, Option, Some, None, codes, option_map}
 use Rattle.serde_json.specs.Data.{Data, Members, number, object, put, string, unsigned}
 use Rattle.serde_json.specs.Written.{compact_text}
-use Rattle.gk_pickle.specs.Json.{list_data, members_of, object_of, object_with}
+use Rattle.cm_messages.specs.Layout.{list_data, members_of, object_of, object_with}
 use Rattle.gk_document.specs.declared.tree.Argument.{Argument}
 use Rattle.gk_document.specs.declared.tree.Argument.TheVariants.{Table, Text}
 use Rattle.gk_document.specs.declared.tree.Background.{Background}

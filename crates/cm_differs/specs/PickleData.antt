@@ -2,7 +2,7 @@
 use Rattle.std.specs.Prelude.{ℕ, List, [], ◌∷◌, codes, option_map}
 use Rattle.serde_json.specs.Data.{Data, string}
 use Rattle.serde_json.specs.Written.{compact_text}
-use Rattle.gk_pickle.specs.Json.{list_data, object_of, object_with, object_with_two}
+use Rattle.cm_messages.specs.Layout.{list_data, object_of, object_with, object_with_two}
 use Rattle.cm_envelope.specs.declared.pickle.Pickle.{Pickle}
 use Rattle.cm_envelope.specs.declared.pickle.PickleArgument.{PickleArgument}
 use Rattle.cm_envelope.specs.declared.pickle.PickleArgument.TheVariants as argument

@@ -3,7 +3,7 @@ ghost use Rattle.std.specs.Prelude.{◌≡◌, ◌∷◌, [], IfOk, OnOk, false,
 ghost use Rattle.serde_json.specs.Data.{Data, string, put as with_member};
 ghost use Rattle.serde_json.specs.View.{view, members_view};
 ghost use Rattle.serde_json.specs.Written.{compact_text, has_float};
-ghost use Rattle.gk_pickle.specs.Json.{list_data, object_of, put_some};
+ghost use Rattle.cm_messages.specs.Layout.{list_data, object_of, put_some};
 
 use gk_document::{Sequence, Text};
 use serde_json::{Map, Value, put};

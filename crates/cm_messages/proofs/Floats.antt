@@ -23,9 +23,12 @@ use Rattle.gk_pickle.specs.declared.pickle.PickleArgument.{PickleArgument}
 use Rattle.gk_pickle.specs.declared.pickle.PickleArgument.TheVariants as value
 use Rattle.gk_pickle.specs.declared.pickle.PickleStep.{PickleStep}
 use Rattle.gk_pickle.specs.declared.pickle.Pickle.{Pickle}
-use Rattle.gk_pickle.specs.Json.{list_data, id_data, media_data, pickle_tag_data, pickle_cell_data, pickle_row_data, pickle_doc_string_data, argument_data, pickle_step_data, pickle_steps_data, pickle_data}
-use Rattle.gk_pickle.specs.TreeJson.{comment_data, tag_data, cell_data, row_data, doc_string_data, table_data, table_of, doc_string_of, step_data, background_data, body_of, examples_data, scenario_data, background_child, scenario_child, children_data, rule_data, rule_child, feature_data, document_data, source_data}
-use Rattle.gk_pickle.proofs.Floats.{IsPlain, IsPlainIfSome, AllPlain, all_of_map, all_of_two, plain_items, plain_list, plain_map, plain_members, plain_object, plain_put_some}
+use Rattle.gk_document.specs.ExampleRows.{table_rows_of}
+use Rattle.cm_messages.specs.Layout.{list_data, id_data, media_data}
+use Rattle.cm_messages.specs.SourceLayout.{source_data}
+use Rattle.cm_messages.specs.DocumentLayout.{comment_data, tag_data, cell_data, row_data, doc_string_data, table_data, argument_table, argument_doc_string, step_data, background_data, examples_data, scenario_data, background_child, scenario_child, children_data, rule_data, rule_child, feature_data, document_data}
+use Rattle.cm_messages.specs.PickleLayout.{pickle_tag_data, pickle_cell_data, pickle_row_data, pickle_doc_string_data, argument_data, pickle_step_data, pickle_steps_data, pickle_data}
+use Rattle.cm_messages.proofs.Plain.{IsPlain, IsPlainIfSome, AllPlain, all_of_map, all_of_two, plain_items, plain_list, plain_map, plain_members, plain_object, plain_put_some}
 
 -- what an object's first member holds
 abbrev first_value : Data → Data
@@ -52,20 +55,20 @@ doc_string_plain d = plain_object (doc_string_data d) (plain_put_some (codes "me
 table_plain : (place : Location) (rows : List Row) → IsPlain (table_data place rows)
 table_plain place rows = plain_object (table_data place rows) (refl, (plain_list row_data row_plain rows, tt))
 
-table_of_plain : (place : Location) (o : Option Argument) → IsPlainIfSome (table_of place o)
+table_of_plain : (place : Location) (o : Option Argument) → IsPlainIfSome (argument_table place o)
 table_of_plain place None = tt
 table_of_plain place (Some (argument.Table rows)) = table_plain place rows
 table_of_plain place (Some (argument.Text d)) = tt
 
-doc_string_of_plain : (o : Option Argument) → IsPlainIfSome (doc_string_of o)
+doc_string_of_plain : (o : Option Argument) → IsPlainIfSome (argument_doc_string o)
 doc_string_of_plain None = tt
 doc_string_of_plain (Some (argument.Table rows)) = tt
 doc_string_of_plain (Some (argument.Text d)) = doc_string_plain d
 
 step_plain : (s : Step) → IsPlain (step_data s)
 step_plain s =
-    plain_object (step_data s) (plain_put_some (codes "docString") (doc_string_of s.argument) _ (doc_string_of_plain s.argument)
-    (plain_put_some (codes "dataTable") (table_of s.location s.argument) _ (table_of_plain s.location s.argument) (refl, (refl, (refl, (refl, (refl, tt)))))))
+    plain_object (step_data s) (plain_put_some (codes "docString") (argument_doc_string s.argument) _ (doc_string_of_plain s.argument)
+    (plain_put_some (codes "dataTable") (argument_table s.location s.argument) _ (table_of_plain s.location s.argument) (refl, (refl, (refl, (refl, (refl, tt)))))))
 
 background_plain : (b : Background) → IsPlain (background_data b)
 background_plain b = plain_object (background_data b) (refl, (refl, (refl, (refl, (refl, (plain_list step_data step_plain b.steps, tt))))))
@@ -74,7 +77,7 @@ examples_plain : (e : Examples) → IsPlain (examples_data e)
 examples_plain e =
     plain_object (examples_data e) (plain_put_some (codes "tableHeader") (option_map (λ (t : ExampleTable). row_data t.header) e.table) _
     (plain_map (λ (t : ExampleTable). row_data t.header) (λ t. row_plain t.header) e.table)
-    (refl, (refl, (refl, (refl, (refl, (plain_list row_data row_plain (body_of e.table), (plain_list tag_data (λ t. refl) e.tags, tt))))))))
+    (refl, (refl, (refl, (refl, (refl, (plain_list row_data row_plain (table_rows_of e.table), (plain_list tag_data (λ t. refl) e.tags, tt))))))))
 
 scenario_plain : (s : Scenario) → IsPlain (scenario_data s)
 scenario_plain s =

@@ -11,8 +11,9 @@ use Rattle.gk_document.specs.declared.tree.Background.{Background}
 use Rattle.gk_document.specs.declared.tree.Scenario.{Scenario}
 use Rattle.gk_document.specs.declared.tree.Rule.{Rule}
 use Rattle.gk_pickle.specs.declared.pickle.PickleStep.{PickleStep}
-use Rattle.gk_pickle.specs.Json.{object_with, object_with_two, pickle_steps_data}
-use Rattle.gk_pickle.specs.TreeJson.{scenario_child, rule_child, children_data, table_of, doc_string_of}
+use Rattle.cm_messages.specs.Layout.{object_with, object_with_two}
+use Rattle.cm_messages.specs.DocumentLayout.{scenario_child, rule_child, children_data, argument_table, argument_doc_string}
+use Rattle.cm_messages.specs.PickleLayout.{pickle_steps_data}
 use Rattle.cm_messages.specs.Sending.{SendsMember, SendsOptional, present}
 
 pub present-option_map : {A B : Type 0} (f : A → B) (o : Option A) → present (option_map f o) ≡ present o
@@ -41,7 +42,7 @@ length-feature_children background scenarios rules = omega (
 pub counted : {A : Type 0} (k n m : ℕ) (o : Option A) → n ≡ m → present o ≡ m → k + n ≡ k + present o
 counted k n m o counts same = ap (λ x. k + x) (counts ∙ sym same)
 
-pub present-argument : (place : Location) (a : Option Argument) → present (table_of place a) + present (doc_string_of a) ≡ present a
+pub present-argument : (place : Location) (a : Option Argument) → present (argument_table place a) + present (argument_doc_string a) ≡ present a
 present-argument place None = refl
 present-argument place (Some (argument.Table rows)) = refl
 present-argument place (Some (argument.Text d)) = refl

@@ -1,4 +1,5 @@
 pub mod Floats
 pub mod Layouts
+pub mod Plain
 pub mod Sent
 pub mod Texts

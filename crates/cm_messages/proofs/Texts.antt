@@ -5,8 +5,9 @@ use Rattle.serde_json.specs.Events.{SendsValue}
 use Rattle.serde_json.proofs.FreeTexts.{text_of_value}
 use Rattle.gk_document.specs.declared.tree.Document.{Document}
 use Rattle.gk_pickle.specs.declared.pickle.Pickle.{Pickle}
-use Rattle.gk_pickle.specs.Json.{pickle_data}
-use Rattle.gk_pickle.specs.TreeJson.{source_data, document_data}
+use Rattle.cm_messages.specs.SourceLayout.{source_data}
+use Rattle.cm_messages.specs.DocumentLayout.{document_data}
+use Rattle.cm_messages.specs.PickleLayout.{pickle_data}
 use Rattle.cm_messages.specs.Sending.{IsWrittenFor}
 use Rattle.cm_messages.proofs.Floats.{source_plain, document_plain, pickle_plain}
 

@@ -1,1 +1,5 @@
+pub mod Layout
+pub mod SourceLayout
+pub mod DocumentLayout
+pub mod PickleLayout
 pub mod Sending

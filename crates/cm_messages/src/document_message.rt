@@ -4,8 +4,9 @@ ghost use Rattle.serde.specs.Event.{WritesEach};
 ghost use Rattle.serde_json.specs.Data.{array, number, string, unsigned};
 ghost use Rattle.serde_json.specs.View.{items_of};
 ghost use Rattle.serde_json.specs.Events.{SendsValue};
-ghost use Rattle.gk_pickle.specs.Json.{list_data};
-ghost use Rattle.gk_pickle.specs.TreeJson.{location_data, cell_data, row_data, tag_data, comment_data, delimiter, doc_string_data, table_place, table_data, keyword_word, table_of, doc_string_of, step_data, background_data, body_of, examples_data, scenario_data, rule_child, children_data, rule_data, feature_data, document_data};
+ghost use Rattle.gk_document.specs.ExampleRows.{table_rows_of};
+ghost use Rattle.cm_messages.specs.Layout.{list_data};
+ghost use Rattle.cm_messages.specs.DocumentLayout.{location_data, cell_data, row_data, tag_data, comment_data, delimiter, doc_string_data, table_place, table_data, keyword_word, argument_table, argument_doc_string, step_data, background_data, examples_data, scenario_data, rule_child, children_data, rule_data, feature_data, document_data};
 ghost use Rattle.cm_messages.specs.Sending.{SendsMember, SendsOptional};
 
 use crate::send::{
@@ -222,7 +223,7 @@ fn send_data_table<S: Serializer>(
     argument: &Option<Argument>,
     out: &mut S,
 ) -> Result<(), S::Error>
-    ensures { OnOk result (SendsOptional (codes "dataTable") (table_of place argument.now)
+    ensures { OnOk result (SendsOptional (codes "dataTable") (argument_table place argument.now)
         (S.written out.old) (S.written out.new)) }
 {
     match argument {
@@ -234,7 +235,7 @@ fn send_data_table<S: Serializer>(
 
 /// The member `docString`, where a doc string is below the step.
 fn send_doc_string<S: Serializer>(argument: &Option<Argument>, out: &mut S) -> Result<(), S::Error>
-    ensures { OnOk result (SendsOptional (codes "docString") (doc_string_of argument.now)
+    ensures { OnOk result (SendsOptional (codes "docString") (argument_doc_string argument.now)
         (S.written out.old) (S.written out.new)) }
 {
     match argument {
@@ -286,7 +287,7 @@ impl SendJson for ExampleTable {
 
 /// The member `tableBody` of a block, which has no rows where it has no table.
 fn send_body<S: Serializer>(table: &Option<ExampleTable>, out: &mut S) -> Result<(), S::Error>
-    ensures { OnOk result (SendsMember (codes "tableBody") (list_data row_data (body_of table.now))
+    ensures { OnOk result (SendsMember (codes "tableBody") (list_data row_data (table_rows_of table.now))
         (S.written out.old) (S.written out.new)) }
 {
     out.key("tableBody")?;
@@ -295,7 +296,7 @@ fn send_body<S: Serializer>(table: &Option<ExampleTable>, out: &mut S) -> Result
 
 /// The body rows of a block.
 fn body_rows(table: &Option<ExampleTable>) -> &[Row]
-    ensures { result.now ≡ body_of table.now }
+    ensures { result.now ≡ table_rows_of table.now }
 {
     match table {
         Some(table) => table.body.as_slice(),

@@ -1,8 +1,9 @@
 //! The texts of messages.
 ghost use Rattle.std.specs.Prelude.{◌≡◌, ◌+◌, ◌<◌, ◌^◌, length, IfOk};
 ghost use Rattle.serde_json.specs.Written.{compact_text};
-ghost use Rattle.gk_pickle.specs.Json.{pickle_data};
-ghost use Rattle.gk_pickle.specs.TreeJson.{source_data, document_data};
+ghost use Rattle.cm_messages.specs.SourceLayout.{source_data};
+ghost use Rattle.cm_messages.specs.DocumentLayout.{document_data};
+ghost use Rattle.cm_messages.specs.PickleLayout.{pickle_data};
 ghost use Rattle.cm_messages.specs.Sending.{IsWrittenFor};
 
 use crate::document_message::DocumentMessage;

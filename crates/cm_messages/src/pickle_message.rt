@@ -5,7 +5,8 @@ ghost use Rattle.serde_json.specs.Data.{array, string};
 ghost use Rattle.serde_json.specs.View.{items_of};
 ghost use Rattle.serde_json.specs.Events.{SendsValue};
 ghost use Rattle.cm_messages.specs.Sending.{SendsMember};
-ghost use Rattle.gk_pickle.specs.Json.{object_of, list_data, id_data, type_word, pickle_tag_data, pickle_cell_data, pickle_row_data, pickle_doc_string_data, argument_data, pickle_step_data, pickle_steps_data, pickle_data};
+ghost use Rattle.cm_messages.specs.Layout.{object_of, list_data, id_data};
+ghost use Rattle.cm_messages.specs.PickleLayout.{type_word, pickle_tag_data, pickle_cell_data, pickle_row_data, pickle_doc_string_data, argument_data, pickle_step_data, pickle_steps_data, pickle_data};
 
 use crate::send::{
     SendJson, media_of, one_if, send_list_member, send_media, send_member, send_only,

@@ -3,7 +3,7 @@ ghost use Rattle.std.specs.Prelude.{◌≡◌, ◌≤◌, [], ◌∷◌, map, co
 ghost use Rattle.serde.specs.Event.{WritesEach};
 ghost use Rattle.serde_json.specs.Data.{Data, string};
 ghost use Rattle.serde_json.specs.Events.{SendsValue};
-ghost use Rattle.gk_pickle.specs.Json.{object_of, id_data, list_data, media_data};
+ghost use Rattle.cm_messages.specs.Layout.{object_of, id_data, list_data, media_data};
 ghost use Rattle.cm_messages.specs.Sending.{SendsMember, SendsOptional, present};
 
 use gk_document::{Sequence, Text};

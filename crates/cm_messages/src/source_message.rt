@@ -1,6 +1,6 @@
 //! The envelope of a source.
 ghost use Rattle.serde_json.specs.Events.{SendsValue};
-ghost use Rattle.gk_pickle.specs.TreeJson.{source_data};
+ghost use Rattle.cm_messages.specs.SourceLayout.{source_data};
 
 use crate::send::send_str;
 use serde::{Described, Serialize, Serializer};

@@ -6,7 +6,7 @@ use Rattle.serde_json.specs.View.{items_of}
 use Rattle.gk_document.specs.declared.tree.Background.{Background}
 use Rattle.gk_document.specs.declared.tree.Scenario.{Scenario}
 use Rattle.gk_document.specs.declared.tree.Rule.{Rule}
-use Rattle.gk_pickle.specs.TreeJson.{background_data, scenario_data, scenario_child, children_data, rule_data, rule_child}
+use Rattle.cm_messages.specs.DocumentLayout.{background_data, scenario_data, scenario_child, children_data, rule_data, rule_child}
 use Rattle.cm_envelope.specs.Documents.{children_of, background_in, are_in_order}
 
 -- ---- their order

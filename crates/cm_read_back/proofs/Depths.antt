@@ -23,8 +23,10 @@ use Rattle.gk_pickle.specs.declared.pickle.PickleArgument.{PickleArgument}
 use Rattle.gk_pickle.specs.declared.pickle.PickleArgument.TheVariants.{Table, Text}
 use Rattle.gk_pickle.specs.declared.pickle.PickleStep.{PickleStep}
 use Rattle.gk_pickle.specs.declared.pickle.Pickle.{Pickle}
-use Rattle.gk_pickle.specs.Json.{id_data, pickle_cell_data, pickle_row_data, pickle_tag_data, pickle_doc_string_data, argument_data, pickle_step_data, pickle_steps_data, pickle_data}
-use Rattle.gk_pickle.specs.TreeJson.{cell_data, row_data, tag_data, comment_data, doc_string_data, step_data, background_child, examples_data, scenario_child, children_data, rule_child, feature_data, document_data, source_data}
+use Rattle.cm_messages.specs.Layout.{id_data}
+use Rattle.cm_messages.specs.SourceLayout.{source_data}
+use Rattle.cm_messages.specs.DocumentLayout.{cell_data, row_data, tag_data, comment_data, doc_string_data, step_data, background_child, examples_data, scenario_child, children_data, rule_child, feature_data, document_data}
+use Rattle.cm_messages.specs.PickleLayout.{pickle_cell_data, pickle_row_data, pickle_tag_data, pickle_doc_string_data, argument_data, pickle_step_data, pickle_steps_data, pickle_data}
 
 pub items_within : {A : Type 0} (written : A → Data) (n : ℕ) → ((x : A) → depth (written x) ≤ n) → (xs : List A) → items_depth (items_of (map written xs)) ≤ n
 items_within written n one [] = omega arith

@@ -11,8 +11,9 @@ use Rattle.gk_pickle.specs.declared.pickle.PickleArgument.{PickleArgument}
 use Rattle.gk_pickle.specs.declared.pickle.PickleArgument.TheVariants.{Table, Text}
 use Rattle.gk_pickle.specs.declared.pickle.PickleStep.{PickleStep}
 use Rattle.gk_pickle.specs.declared.pickle.Pickle.{Pickle}
-use Rattle.gk_pickle.specs.Json.{id_data, type_word, pickle_cell_data, pickle_row_data, pickle_tag_data, pickle_doc_string_data, pickle_step_data, pickle_steps_data, pickle_data}
-use Rattle.gk_pickle.specs.TreeJson.{source_data}
+use Rattle.cm_messages.specs.Layout.{id_data}
+use Rattle.cm_messages.specs.SourceLayout.{source_data}
+use Rattle.cm_messages.specs.PickleLayout.{type_word, pickle_cell_data, pickle_row_data, pickle_tag_data, pickle_doc_string_data, pickle_step_data, pickle_steps_data, pickle_data}
 use Rattle.cm_envelope.specs.declared.envelope.Envelope.TheVariants as envelope
 use Rattle.cm_envelope.specs.Reading.{envelope_of}
 use Rattle.cm_envelope.specs.Member.{each, object_in, good}

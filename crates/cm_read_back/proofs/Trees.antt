@@ -25,7 +25,7 @@ use Rattle.gk_document.specs.declared.tree.Document.{Document}
 use Rattle.gk_document.specs.Skeleton.{bare_cell}
 use Rattle.gk_grammar.specs.Grammar.{Node, node_of_tag, tag_nodes, node_of_row, row_nodes, step_nodes, background_nodes, examples_nodes, scenario_nodes, rule_nodes, feature_nodes}
 use Rattle.gk_grammar.proofs.Complete.{Counts}
-use Rattle.gk_pickle.specs.TreeJson.{cell_data, row_data, tag_data, doc_string_data, step_data, background_data, examples_data, scenario_data, rule_data, feature_data, document_data}
+use Rattle.cm_messages.specs.DocumentLayout.{cell_data, row_data, tag_data, doc_string_data, step_data, background_data, examples_data, scenario_data, rule_data, feature_data, document_data}
 use Rattle.cm_envelope.specs.declared.envelope.Envelope.TheVariants as envelope
 use Rattle.cm_envelope.specs.Reading.{envelope_of}
 use Rattle.cm_envelope.specs.Member.{all_items, each, object_in}

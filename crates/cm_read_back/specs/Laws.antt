@@ -8,8 +8,9 @@ use Rattle.gk_document.specs.declared.tree.Document.{Document}
 use Rattle.gk_document.specs.Skeleton.{skeleton}
 use Rattle.gk_grammar.specs.Documents.{IsDocumentOf, IsTooLong}
 use Rattle.gk_pickle.specs.declared.pickle.Pickle.{Pickle}
-use Rattle.gk_pickle.specs.Json.{pickle_data}
-use Rattle.gk_pickle.specs.TreeJson.{document_data, source_data}
+use Rattle.cm_messages.specs.SourceLayout.{source_data}
+use Rattle.cm_messages.specs.DocumentLayout.{document_data}
+use Rattle.cm_messages.specs.PickleLayout.{pickle_data}
 use Rattle.cm_envelope.specs.declared.envelope.Envelope.{Envelope}
 use Rattle.cm_envelope.specs.declared.envelope.Envelope.TheVariants as envelope
 use Rattle.cm_envelope.specs.Reading.{envelope_of, envelope_of_line}

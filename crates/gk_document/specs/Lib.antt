@@ -1,2 +1,3 @@
+pub mod ExampleRows
 pub mod MediaType
 pub mod Skeleton

@@ -11,7 +11,7 @@ use Rattle.gk_document.specs.declared.tree.Scenario.{Scenario}
 use Rattle.gk_pickle.specs.declared.pickle.Pickle.{Pickle}
 use Rattle.gk_pickle.specs.Inherited.{Inherited}
 use Rattle.gk_pickle.specs.Pickles.{pickle_of, row_filling, table_pickles, examples_pickles, outline_pickles}
-use Rattle.gk_pickle.specs.TreeJson.{body_of}
+use Rattle.gk_document.specs.ExampleRows.{table_rows_of}
 use Rattle.gk_pickle.specs.Counts.{body_rows, OneWithoutExamples, OneForEachRow, RowsInOrder}
 
 abbrev nodes : Pickle → List ℕ
@@ -26,7 +26,7 @@ of_rows inherited s tags header [] = refl
 of_rows inherited s tags header (row ∷ rows) = ap (λ ns. row_nodes s row ∷ ns) (of_rows inherited s tags header rows)
 
 of_table : (inherited : Inherited) (s : Scenario) (tags : List Tag) (table : Option ExampleTable)
-    → map nodes (table_pickles inherited s tags table) ≡ map (row_nodes s) (body_of table)
+    → map nodes (table_pickles inherited s tags table) ≡ map (row_nodes s) (table_rows_of table)
 of_table inherited s tags None = refl
 of_table inherited s tags (Some table) = of_rows inherited s tags table.header table.body
 

@@ -7,8 +7,6 @@ pub mod Opens
 pub mod Reading
 pub mod Parts
 pub mod Made
-pub mod Written
-pub mod Floats
 pub mod Cutting
 pub mod Alike
 pub mod Characters

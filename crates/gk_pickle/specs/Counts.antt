@@ -6,11 +6,11 @@ use Rattle.gk_document.specs.declared.tree.Examples.{Examples}
 use Rattle.gk_document.specs.declared.tree.Scenario.{Scenario}
 use Rattle.gk_pickle.specs.Inherited.{Inherited}
 use Rattle.gk_pickle.specs.Pickles.{scenario_pickles}
-use Rattle.gk_pickle.specs.TreeJson.{body_of}
+use Rattle.gk_document.specs.ExampleRows.{table_rows_of}
 
 -- the rows of a block below its header
 abbrev pub body_rows : Examples → List Row
-body_rows e = body_of e.table
+body_rows e = table_rows_of e.table
 
 -- a scenario without examples blocks gives one pickle
 abbrev pub OneWithoutExamples : Type 0

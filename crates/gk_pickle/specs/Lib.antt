@@ -6,8 +6,6 @@ pub mod Steps
 pub mod Pickles
 pub mod InFeature
 pub mod Scenarios
-pub mod Json
-pub mod TreeJson
 pub mod Cut
 pub mod Alike
 pub mod Characters

@@ -2,7 +2,9 @@
 ghost use Rattle.std.specs.Prelude.{◌≡◌, ◌+◌, ◌<◌, ◌^◌, ◌∷◌, [], codes, length, IfOk, OnOk, option_map};
 ghost use Rattle.serde_json.specs.Data.{Data, array, string, put as with_member};
 ghost use Rattle.serde_json.specs.View.{view, members_view, items_of};
-ghost use Rattle.gk_pickle.specs.Json.{object_of, put_some, with_some, media_data, id_data, list_data, type_word, pickle_tag_data, pickle_cell_data, pickle_row_data, pickle_doc_string_data, argument_data, pickle_step_data, pickle_steps_data, pickle_data};
+ghost use Rattle.cm_messages.specs.Layout.{object_of, put_some, media_data, id_data, list_data};
+ghost use Rattle.cm_messages.specs.PickleLayout.{type_word, pickle_tag_data, pickle_cell_data, pickle_row_data, pickle_doc_string_data, argument_data, pickle_step_data, pickle_steps_data, pickle_data};
+ghost use Rattle.gk_values.specs.Optional.{with_some};
 
 use gk_document::{Sequence, Text, media_type};
 use gk_pickle::{Pickle, PickleArgument, PickleDocString, PickleStep, PickleTag, StepType};
@@ -260,7 +262,7 @@ fn steps_value(alloc: Global, steps: &[PickleStep], first_id: u64) -> Result<Val
 ///
 /// # Errors
 /// Only where there is no memory for the value.
-#[tactic(auto, unfolding(gk_pickle::specs::Json::pickle_data))]
+#[tactic(auto, unfolding(cm_messages::specs::PickleLayout::pickle_data))]
 pub fn pickle_value(
     alloc: Global,
     uri: &str,

@@ -1,8 +1,10 @@
 //! Sources and trees as JSON, in the layout of Cucumber Messages.
 ghost use Rattle.std.specs.Prelude.{◌≡◌, ◌++◌, [], map, codes, IfOk, OnOk};
 ghost use Rattle.serde_json.specs.View.{view, members_view};
-ghost use Rattle.gk_pickle.specs.Json.{object_of, list_data, put_some};
-ghost use Rattle.gk_pickle.specs.TreeJson.{location_data, cell_data, row_data, tag_data, comment_data, delimiter, doc_string_data, table_place, table_data, keyword_word, table_of, doc_string_of, step_data, background_data, body_of, block_members, examples_data, scenario_data, background_child as background_child_data, scenario_child as scenario_child_data, rule_child as rule_child_data, children_data, rule_data, feature_data, document_data, source_data};
+ghost use Rattle.gk_document.specs.ExampleRows.{table_rows_of};
+ghost use Rattle.cm_messages.specs.Layout.{object_of, list_data, put_some};
+ghost use Rattle.cm_messages.specs.SourceLayout.{source_data};
+ghost use Rattle.cm_messages.specs.DocumentLayout.{location_data, cell_data, row_data, tag_data, comment_data, delimiter, doc_string_data, table_place, table_data, keyword_word, argument_table, argument_doc_string, step_data, background_data, block_members, examples_data, scenario_data, background_child as background_child_data, scenario_child as scenario_child_data, rule_child as rule_child_data, children_data, rule_data, feature_data, document_data};
 
 use crate::json::{
     WriteJson, add, add_list, add_media, add_optional, add_text, list_value, one_member,
@@ -153,8 +155,8 @@ fn add_argument(
     argument: &Option<Argument>,
 ) -> Result<(), AllocError>
     ensures { OnOk result (members_view members.new.entries
-        ≡ put_some (codes "docString") (doc_string_of argument.now)
-        (put_some (codes "dataTable") (table_of place argument.now)
+        ≡ put_some (codes "docString") (argument_doc_string argument.now)
+        (put_some (codes "dataTable") (argument_table place argument.now)
         (members_view members.old.entries))) }
 {
     match argument {
@@ -220,7 +222,7 @@ impl WriteJson for ExampleTable {
 
 /// The body rows of a block.
 fn body_value(alloc: Global, table: &Option<ExampleTable>) -> Result<Value, AllocError>
-    ensures { IfOk result (λ v. view v ≡ list_data row_data (body_of table.now)) }
+    ensures { IfOk result (λ v. view v ≡ list_data row_data (table_rows_of table.now)) }
 {
     match table {
         Some(table) => list_value(alloc, table.body.as_slice()),
@@ -392,7 +394,7 @@ impl WriteJson for Feature {
 ///
 /// # Errors
 /// Only where there is no memory for the value.
-#[tactic(auto, unfolding(gk_pickle::specs::TreeJson::document_data))]
+#[tactic(auto, unfolding(cm_messages::specs::DocumentLayout::document_data))]
 pub fn document_value(alloc: Global, uri: &str, document: &Document) -> Result<Value, AllocError>
     ensures { IfOk result (λ v. view v ≡ document_data uri.now document.now) }
 {
@@ -413,7 +415,7 @@ pub fn document_value(alloc: Global, uri: &str, document: &Document) -> Result<V
 ///
 /// # Errors
 /// Only where there is no memory for the value.
-#[tactic(auto, unfolding(gk_pickle::specs::TreeJson::source_data))]
+#[tactic(auto, unfolding(cm_messages::specs::SourceLayout::source_data))]
 pub fn source_value(alloc: Global, uri: &str, text: &str) -> Result<Value, AllocError>
     ensures { IfOk result (λ v. view v ≡ source_data uri.now text.now) }
 {

@@ -2,7 +2,8 @@ use Rattle.std.proofs.Common.{◌≡◌, ◌∙◌, ◌++◌, ap, sym, append_as
 use Rattle.std.specs.List.{sum_by, concat, flat_map}
 use Rattle.gk_pickle.specs.Pickles.{pickles}
 use Rattle.gk_pickle.specs.Scenarios.{pickles_of_one}
-use Rattle.gk_pickle.specs.TreeJson.{source_data, document_data}
+use Rattle.cm_messages.specs.SourceLayout.{source_data}
+use Rattle.cm_messages.specs.DocumentLayout.{document_data}
 use Rattle.gk_pickle.proofs.InTurn.{scenario_by_scenario}
 use Rattle.cm_compile.specs.Compiled.{json_line, id_count, pickle_lines}
 use Rattle.cm_compile.proofs.InTurn.{ids_from_here, one_added, all_added}

@@ -1,6 +1,6 @@
 use Rattle.std.proofs.Common.{◌∙◌, ◌+◌, ◌++◌, length, map, ap, sym}
 use Rattle.serde_json.specs.Events.{SendsValue}
-use Rattle.gk_pickle.specs.TreeJson.{children_data, rule_child}
+use Rattle.cm_messages.specs.DocumentLayout.{children_data, rule_child}
 use Rattle.cm_messages.proofs.Layouts.{length-feature_children}
 use Rattle.std.proofs.lemmas.Result.{on_ok_weaker}
 use Rattle.cm_messages.proofs.Sent.{array_sent, each_of_two}

@@ -1,5 +1,5 @@
 use Rattle.std.proofs.Common.{rules}
-use Rattle.gk_pickle.specs.TreeJson.{cell_data}
+use Rattle.cm_messages.specs.DocumentLayout.{cell_data}
 use Rattle.cm_messages.proofs.Sent.{each_next}
 use Rattle.cm_messages.proofs.document_message.send_cells.Goals as goal
 

@@ -1,7 +1,7 @@
 use Rattle.std.proofs.Common.{map, drop}
 use Rattle.serde.specs.Event.{Log, WritesEach}
 use Rattle.serde_json.specs.Events.{SendsValue}
-use Rattle.gk_pickle.specs.TreeJson.{cell_data}
+use Rattle.cm_messages.specs.DocumentLayout.{cell_data}
 use Rattle.cm_messages.proofs.document_message.send_cells.Given as goal
 
 -- what ends it well from here ends it well from the start

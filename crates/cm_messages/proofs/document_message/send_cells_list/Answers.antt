@@ -1,6 +1,6 @@
 use Rattle.std.proofs.Common.{length, map, sym}
 use Rattle.std.proofs.lemmas.List.{length-map}
-use Rattle.gk_pickle.specs.TreeJson.{cell_data}
+use Rattle.cm_messages.specs.DocumentLayout.{cell_data}
 use Rattle.std.proofs.lemmas.Result.{on_ok_weaker}
 use Rattle.cm_messages.proofs.Sent.{array_sent}
 use Rattle.cm_messages.proofs.document_message.send_cells_list.Goals as goal

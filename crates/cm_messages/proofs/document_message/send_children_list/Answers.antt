@@ -1,5 +1,5 @@
 use Rattle.std.proofs.Common.{◌∙◌, ◌+◌, length, ap, sym}
-use Rattle.gk_pickle.specs.TreeJson.{children_data}
+use Rattle.cm_messages.specs.DocumentLayout.{children_data}
 use Rattle.cm_messages.proofs.Layouts.{length-children_data}
 use Rattle.std.proofs.lemmas.Result.{on_ok_weaker}
 use Rattle.cm_messages.proofs.Sent.{array_sent}

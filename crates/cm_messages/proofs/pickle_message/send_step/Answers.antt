@@ -1,6 +1,7 @@
 use Rattle.std.proofs.Common.{◌+◌, option_map}
 use Rattle.serde_json.specs.Data.{string}
-use Rattle.gk_pickle.specs.Json.{argument_data, list_data, id_data, type_word}
+use Rattle.cm_messages.specs.Layout.{list_data, id_data}
+use Rattle.cm_messages.specs.PickleLayout.{argument_data, type_word}
 use Rattle.cm_messages.proofs.Layouts.{counted, present-option_map, pickle_step_sent}
 use Rattle.std.proofs.lemmas.Result.{on_ok_weaker}
 use Rattle.cm_messages.proofs.pickle_message.send_step.Goals as goal

@@ -1,7 +1,7 @@
 use Rattle.std.proofs.Common.{◌≡◌, ◌+◌, drop}
 use Rattle.serde.specs.Event.{Log, WritesEach}
 use Rattle.serde_json.specs.Events.{SendsValue}
-use Rattle.gk_pickle.specs.Json.{pickle_steps_data}
+use Rattle.cm_messages.specs.PickleLayout.{pickle_steps_data}
 use Rattle.cm_messages.proofs.pickle_message.send_steps.Given as goal
 
 -- what ends it well from here ends it well from the start

@@ -1,5 +1,5 @@
 use Rattle.std.proofs.Common.{length, sym}
-use Rattle.gk_pickle.specs.Json.{pickle_steps_data}
+use Rattle.cm_messages.specs.PickleLayout.{pickle_steps_data}
 use Rattle.cm_messages.proofs.Layouts.{length-pickle_steps_data}
 use Rattle.std.proofs.lemmas.Result.{on_ok_weaker}
 use Rattle.cm_messages.proofs.Sent.{array_sent}

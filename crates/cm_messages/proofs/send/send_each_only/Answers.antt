@@ -1,5 +1,5 @@
 use Rattle.std.proofs.Common.{[], ◌∷◌, rules}
-use Rattle.gk_pickle.specs.Json.{object_of}
+use Rattle.cm_messages.specs.Layout.{object_of}
 use Rattle.cm_messages.proofs.Sent.{each_next}
 use Rattle.cm_messages.proofs.send.send_each_only.Goals as goal
 

@@ -1,7 +1,7 @@
 use Rattle.std.proofs.Common.{map, drop, [], ◌∷◌}
 use Rattle.serde.specs.Event.{Log, WritesEach}
 use Rattle.serde_json.specs.Events.{SendsValue}
-use Rattle.gk_pickle.specs.Json.{object_of}
+use Rattle.cm_messages.specs.Layout.{object_of}
 use Rattle.cm_messages.proofs.send.send_each_only.Given as goal
 
 -- what ends it well from here ends it well from the start

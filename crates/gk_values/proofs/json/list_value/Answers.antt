@@ -3,7 +3,7 @@ use Rattle.serde_json.specs.Data.{array}
 use Rattle.serde_json.specs.View.{items_of}
 use Rattle.serde_json.proofs.Views.{view-Array}
 use Rattle.gk_pickle.proofs.Made.{all_made}
-use Rattle.gk_pickle.proofs.Written.{one_written}
+use Rattle.gk_values.proofs.Written.{one_written}
 use Rattle.gk_values.proofs.json.list_value.Goals as goal
 
 pub loop-item-preserved : goal.loop-item-preserved

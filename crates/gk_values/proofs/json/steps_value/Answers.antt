@@ -2,9 +2,9 @@ use Rattle.std.proofs.Common.{◌∙◌, ap, arith, refl}
 use Rattle.serde_json.specs.Data.{array}
 use Rattle.serde_json.specs.View.{items_of}
 use Rattle.serde_json.proofs.Views.{view-Array}
-use Rattle.gk_pickle.specs.Json.{pickle_steps_data}
+use Rattle.cm_messages.specs.PickleLayout.{pickle_steps_data}
 use Rattle.gk_pickle.proofs.Made.{all_made}
-use Rattle.gk_pickle.proofs.Written.{one_step_written}
+use Rattle.gk_values.proofs.Written.{one_step_written}
 use Rattle.gk_values.proofs.json.steps_value.Goals as goal
 
 pub loop-step-preserved : goal.loop-step-preserved

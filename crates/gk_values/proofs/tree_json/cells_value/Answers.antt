@@ -2,9 +2,9 @@ use Rattle.std.proofs.Common.{◌∙◌, ap, map, refl}
 use Rattle.serde_json.specs.Data.{array}
 use Rattle.serde_json.specs.View.{items_of}
 use Rattle.serde_json.proofs.Views.{view-Array}
-use Rattle.gk_pickle.specs.TreeJson.{cell_data}
+use Rattle.cm_messages.specs.DocumentLayout.{cell_data}
 use Rattle.gk_pickle.proofs.Made.{all_made}
-use Rattle.gk_pickle.proofs.Written.{one_written}
+use Rattle.gk_values.proofs.Written.{one_written}
 use Rattle.gk_values.proofs.tree_json.cells_value.Goals as goal
 
 pub loop-cell-preserved : goal.loop-cell-preserved

@@ -1,7 +1,7 @@
 use Rattle.std.proofs.Common.{◌∙◌, ◌+◌, ap, sym}
 use Rattle.serde_json.specs.Data.{string}
-use Rattle.gk_pickle.specs.Json.{media_data}
-use Rattle.gk_pickle.specs.TreeJson.{location_data, delimiter}
+use Rattle.cm_messages.specs.Layout.{media_data}
+use Rattle.cm_messages.specs.DocumentLayout.{location_data, delimiter}
 use Rattle.cm_messages.specs.Sending.{present}
 use Rattle.cm_messages.proofs.Layouts.{counted, present-option_map, doc_string_sent}
 use Rattle.std.proofs.lemmas.Result.{on_ok_weaker}

@@ -1,7 +1,7 @@
 use Rattle.std.proofs.Common.{◌+◌, option_map}
 use Rattle.serde_json.specs.Data.{string}
-use Rattle.gk_pickle.specs.Json.{list_data}
-use Rattle.gk_pickle.specs.TreeJson.{feature_data, comment_data, document_data}
+use Rattle.cm_messages.specs.Layout.{list_data}
+use Rattle.cm_messages.specs.DocumentLayout.{feature_data, comment_data, document_data}
 use Rattle.cm_messages.proofs.Layouts.{counted, present-option_map, document_sent}
 use Rattle.std.proofs.lemmas.Result.{on_ok_weaker}
 use Rattle.cm_messages.proofs.document_message.DocumentMessageSerialize.serialize.Goals as goal

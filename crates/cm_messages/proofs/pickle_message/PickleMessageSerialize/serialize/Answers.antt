@@ -1,5 +1,5 @@
 use Rattle.std.proofs.lemmas.Result.{on_ok_weaker}
-use Rattle.gk_pickle.specs.Json.{pickle_data}
+use Rattle.cm_messages.specs.PickleLayout.{pickle_data}
 use Rattle.cm_messages.proofs.pickle_message.PickleMessageSerialize.serialize.Goals as goal
 
 pub returns : goal.returns

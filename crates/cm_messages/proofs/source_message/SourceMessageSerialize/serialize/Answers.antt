@@ -1,5 +1,5 @@
 use Rattle.std.proofs.lemmas.Result.{on_ok_weaker}
-use Rattle.gk_pickle.specs.TreeJson.{source_data}
+use Rattle.cm_messages.specs.SourceLayout.{source_data}
 use Rattle.cm_messages.proofs.source_message.SourceMessageSerialize.serialize.Goals as goal
 
 pub returns : goal.returns

@@ -6,7 +6,7 @@ use Rattle.std.specs.Cmp.Lexicographic.{slice_cmp}
 use Rattle.serde_json.specs.Data.{Data, array, object, Members, no_members, member, put}
 use Rattle.serde_json.specs.View.{items_of}
 use Rattle.serde_json.specs.Written.{has_float, items_have_float, members_have_float}
-use Rattle.gk_pickle.specs.Json.{put_some, list_data}
+use Rattle.cm_messages.specs.Layout.{put_some, list_data}
 
 abbrev pub IsPlain : Data → Type 0
 IsPlain d = has_float d ≡ false

@@ -1,4 +1,4 @@
--- What is written for a source and for a document (Cucumber Messages, `Source.json` and `GherkinDocument.json`).
+-- What is written for a document (Cucumber Messages, `GherkinDocument.json`).
 use Rattle.std.specs.Prelude.{ℕ, List, [], ◌∷◌, ◌++◌, map, Option, Some, None, option_map, codes}
 use Rattle.std.specs.Option.{option_to_list}
 use Rattle.serde_json.specs.Data.{Data, string, number, unsigned, array}
@@ -23,7 +23,8 @@ use Rattle.gk_document.specs.declared.tree.Rule.{Rule}
 use Rattle.gk_document.specs.declared.tree.Feature.{Feature}
 use Rattle.gk_document.specs.declared.tree.Comment.{Comment}
 use Rattle.gk_document.specs.declared.tree.Document.{Document}
-use Rattle.gk_pickle.specs.Json.{object_of, object_with, object_with_two, list_data, id_data, media_data}
+use Rattle.gk_document.specs.ExampleRows.{table_rows_of}
+use Rattle.cm_messages.specs.Layout.{object_of, object_with, object_with_two, list_data, id_data, media_data}
 
 abbrev pub location_data : Location → Data
 location_data l =
@@ -82,20 +83,20 @@ keyword_word keyword.Outcome = codes "Outcome"
 keyword_word keyword.Conjunction = codes "Conjunction"
 
 -- the table of a step's argument, and its doc string
-abbrev pub table_of : Location → Option Argument → Option Data
-table_of place (Some (argument.Table rows)) = Some (table_data place rows)
-table_of place (Some (argument.Text d)) = None
-table_of place None = None
+abbrev pub argument_table : Location → Option Argument → Option Data
+argument_table place (Some (argument.Table rows)) = Some (table_data place rows)
+argument_table place (Some (argument.Text d)) = None
+argument_table place None = None
 
-abbrev pub doc_string_of : Option Argument → Option Data
-doc_string_of (Some (argument.Table rows)) = None
-doc_string_of (Some (argument.Text d)) = Some (doc_string_data d)
-doc_string_of None = None
+abbrev pub argument_doc_string : Option Argument → Option Data
+argument_doc_string (Some (argument.Table rows)) = None
+argument_doc_string (Some (argument.Text d)) = Some (doc_string_data d)
+argument_doc_string None = None
 
 abbrev pub step_data : Step → Data
 step_data s =
-    object_with_two (codes "dataTable") (table_of s.location s.argument) (codes "docString")
-    (doc_string_of s.argument)
+    object_with_two (codes "dataTable") (argument_table s.location s.argument) (codes "docString")
+    (argument_doc_string s.argument)
     ((codes "id", id_data s.node) ∷ (codes "keyword", string s.keyword)
     ∷ (codes "keywordType", string (keyword_word s.kind))
     ∷ (codes "location", location_data s.location) ∷ (codes "text", string s.text) ∷ [])
@@ -108,15 +109,12 @@ background_data b =
     ∷ (codes "location", location_data b.location) ∷ (codes "name", string b.name)
     ∷ (codes "steps", list_data step_data b.steps) ∷ [])
 
-abbrev pub body_of : Option ExampleTable → List Row
-body_of None = []
-body_of (Some t) = t.body
-
+-- the members of an examples block, but for its header row
 abbrev pub block_members : Examples → List (List ℕ × Data)
 block_members e =
     (codes "description", string e.description) ∷ (codes "id", id_data e.node)
     ∷ (codes "keyword", string e.keyword) ∷ (codes "location", location_data e.location)
-    ∷ (codes "name", string e.name) ∷ (codes "tableBody", list_data row_data (body_of e.table))
+    ∷ (codes "name", string e.name) ∷ (codes "tableBody", list_data row_data (table_rows_of e.table))
     ∷ (codes "tags", list_data tag_data e.tags) ∷ []
 
 abbrev pub examples_data : Examples → Data
@@ -175,13 +173,4 @@ document_data uri d = object_of ((
   codes "gherkinDocument",
   object_with (codes "feature") (option_map feature_data d.feature)
       ((codes "comments", list_data comment_data d.comments) ∷ (codes "uri", string uri) ∷ []),
-) ∷ [])
-
--- the source's line
-unfoldable pub source_data : List ℕ → List ℕ → Data
-source_data uri text = object_of ((
-  codes "source",
-  object_of ((codes "data", string text)
-      ∷ (codes "mediaType", string (codes "text/x.cucumber.gherkin+plain"))
-      ∷ (codes "uri", string uri) ∷ []),
 ) ∷ [])
