@@ -1,15 +1,15 @@
 -- What the first character of a line after its indent says of its token.
-use Rattle.std.proofs.Common.{◌≡◌, ℕ, suc, ◌+◌, ◌<◌, length, get_or, drop, drop-cons, add-one, Bool, true, false, cond, List, [], ◌∷◌, ◌++◌, Option, Some, None, refl, sym, ap, ◌∙◌, subst, codes, arith, is_some}
+use Rattle.std.proofs.Common.{◌≡◌, ℕ, suc, ◌+◌, ◌<◌, length, get_or, drop, drop-cons, add-one, Bool, true, false, cond, List, [], ◌∷◌, Option, Some, None, refl, sym, ap, ◌∙◌, arith, is_some}
 use Rattle.std.proofs.lemmas.Grind.{common_steps}
-use Rattle.std.proofs.lemmas.Bool.{eqb-true, false≢true}
+use Rattle.std.proofs.lemmas.Bool.{eqb-true}
 use Rattle.std.proofs.lemmas.List.{drop_all}
-use Rattle.std.specs.Prelude.{◌&&◌, ◌||◌, ◌==◌, if◌then◌else◌, map, MatchOption}
+use Rattle.std.specs.Prelude.{◌&&◌, ◌==◌, if◌then◌else◌, map}
 use Rattle.std.specs.Char.{is_whitespace}
-use Rattle.std.specs.List.{list_all, list_any, prefix_len}
+use Rattle.std.specs.List.{list_all, prefix_len}
 use Rattle.std.specs.Option.{option_map}
 use Rattle.std.specs.Str.{skip_leading_whitespace}
-use Rattle.gk_line.specs.Texts.{after, body_of, trimmed, first_some}
-use Rattle.gk_line.specs.Tokens.{is_blank_line, begins_by, language_of, keywords, TitleText, title_of, step_words, step_of, fences, fence_of, indent_of}
+use Rattle.gk_line.specs.Texts.{after, body_of, first_some, or_else}
+use Rattle.gk_line.specs.Tokens.{is_blank_line, begins_by, language_of, TitleText, title_of, block_title_of, step_of, fence_of, indent_of}
 use Rattle.gk_line.specs.Tags.{spaced_piece, tags_of}
 use Rattle.gk_line.specs.Cells.{cells_of}
 use Rattle.gk_line.specs.Kinds.{Kind, is_of_kind}
@@ -19,7 +19,12 @@ use Rattle.gk_line.specs.declared.tokens.Block.TheVariants as block
 use Rattle.gk_line.proofs.KindLemmas.{kinds_exclude}
 use Rattle.gk_grammar.specs.Token as read
 use Rattle.gk_grammar.specs.Token.{Token, token_of, comment_token, title_token, step_token, fence_token, word_token, token_or_other, tag_list, cell, blocks}
-use Rattle.gk_tree.specs.Heads.{BeginsWith, may_begin}
+use Rattle.gk_tree.specs.Read.{first_character}
+
+-- what follows the first character
+after_first : (c : ℕ) (text : List ℕ) → first_character text ≡ Some c → (rest : List ℕ) × (text ≡ c ∷ rest)
+after_first c [] e = absurd cc
+after_first c (x ∷ xs) e = (xs, cc)
 
 -- ---- blank lines
 
@@ -35,28 +40,33 @@ not_skipped : (cs rest : List ℕ) (c : ℕ) → skip_leading_whitespace cs ≡ 
 not_skipped [] rest c h = absurd cc
 not_skipped (x ∷ cs) rest c h = grind (arith, common_steps, not_skipped cs rest c)
 
-pub blank_token : (cs : List ℕ) → body_of cs ≡ [] → token_of cs ≡ read.Blank
+no_first : (text : List ℕ) → first_character text ≡ None → text ≡ []
+no_first [] e = refl
+no_first (c ∷ cs) e = absurd cc
+
+pub blank_token : (cs : List ℕ) → first_character (body_of cs) ≡ None → token_of cs ≡ read.Blank
 unfolding body_of is_blank_line token_of
-blank_token cs h = rw (skipped cs h) refl
+blank_token cs h = rw (skipped cs (no_first (body_of cs) h)) refl
 
 -- ---- lines that their first character decides
 
-pub first_begins : (x c : ℕ) (cs : List ℕ) → BeginsWith c (body_of cs) → begins_by (x ∷ []) cs ≡ (c == x)
+pub first_begins : (x c : ℕ) (cs : List ℕ) → first_character (body_of cs) ≡ Some c → begins_by (x ∷ []) cs ≡ (c == x)
 unfolding begins_by after
-first_begins x c cs (rest, h) = rw h (go (c == x))
+first_begins x c cs e = let split = after_first c (body_of cs) e in rw split.1 (go split.0 (c == x))
   where
-    go : (b : Bool) → is_some (cond b (Some rest) None) ≡ b
-    go true = refl
-    go false = refl
+    go : (rest : List ℕ) (b : Bool) → is_some (cond b (Some rest) None) ≡ b
+    go rest true = refl
+    go rest false = refl
 
-pub first_token : (c : ℕ) (cs : List ℕ) → BeginsWith c (body_of cs) → token_of cs
+pub first_token : (c : ℕ) (cs : List ℕ) → first_character (body_of cs) ≡ Some c → token_of cs
     ≡ (if c == 35 then comment_token (language_of cs)
     else if c == 64 then read.Tags (tag_list (spaced_piece cs) (tags_of cs))
     else if c == 124 then read.Row (map cell (cells_of cs))
     else token_or_other (word_token cs))
 unfolding token_of is_blank_line body_of
 first_token c cs h =
-    rw (not_skipped cs h.0 c h.1, first_begins 35 c cs h, first_begins 64 c cs h, first_begins 124 c cs h) refl
+    let split = after_first c (body_of cs) h in
+    rw (not_skipped cs split.0 c split.1, first_begins 35 c cs h, first_begins 64 c cs h, first_begins 124 c cs h) refl
 
 differ : (c x : ℕ) → (c ≡ x → ⊥) → (c == x) ≡ false
 differ c x h = go (c == x) refl
@@ -65,46 +75,25 @@ differ c x h = go (c == x) refl
     go true e = absurd (h (eqb-true c x e))
     go false e = e
 
-pub other_first : (c : ℕ) (cs : List ℕ) → BeginsWith c (body_of cs) → (c ≡ 35 → ⊥) → (c ≡ 64 → ⊥) → (c ≡ 124 → ⊥) → token_of cs ≡ token_or_other (word_token cs)
+pub other_first : (c : ℕ) (cs : List ℕ) → first_character (body_of cs) ≡ Some c → (c ≡ 35 → ⊥) → (c ≡ 64 → ⊥) → (c ≡ 124 → ⊥) → token_of cs ≡ token_or_other (word_token cs)
 other_first c cs h no_comment no_tags no_row =
     rw (first_token c cs h, differ c 35 no_comment, differ c 64 no_tags, differ c 124 no_row) refl
 
--- ---- words that do not begin with a character
+-- ---- the first block that a line is the title of
 
-misses : (front rest : List ℕ) (c : ℕ) → may_begin c front ≡ false → after front (c ∷ rest) ≡ None
-unfolding after
-misses [] rest c h = absurd (false≢true (sym h))
-misses (x ∷ front) rest c h = rw h refl
-
-or_left : (a b : Bool) → (a || b) ≡ false → a ≡ false
-or_left true b h = h
-or_left false b h = refl
-
-or_right : (a b : Bool) → (a || b) ≡ false → b ≡ false
-or_right true b h = absurd (false≢true (sym h))
-or_right false b h = h
-
-none_begins : {A B : Type 0} (front : A → List ℕ) (give : A → List ℕ → B) (c : ℕ) (rest : List ℕ) (xs : List A) →
-    list_any (λ x. may_begin c (front x)) xs ≡ false → first_some (λ x. option_map (give x) (after (front x) (c ∷ rest))) xs ≡ None
+map_first : {A B C : Type 0} (f : A → B → C) (g : A → Option B) (xs : List A) →
+    first_some (λ x. option_map (f x) (g x)) xs ≡ option_map (λ (p : A × B). f p.0 p.1) (first_some (λ x. option_map (λ y. (x, y)) (g x)) xs)
 unfolding first_some
-none_begins front give c rest [] h = refl
-none_begins front give c rest (x ∷ xs) h =
-    rw (misses (front x) rest c (or_left _ _ h)) (none_begins front give c rest xs (or_right _ _ h))
+map_first {A = A} {B = B} f g [] = refl
+map_first {A = A} {B = B} f g (x ∷ xs) = go (g x) (map_first f g xs)
+  where
+    go : (o : Option B) → first_some (λ x. option_map (f x) (g x)) xs ≡ option_map (λ (p : A × B). f p.0 p.1) (first_some (λ x. option_map (λ y. (x, y)) (g x)) xs)
+        → or_else (option_map (f x) o) (first_some (λ x. option_map (f x) (g x)) xs) ≡ option_map (λ (p : A × B). f p.0 p.1) (or_else (option_map (λ y. (x, y)) o) (first_some (λ x. option_map (λ y. (x, y)) (g x)) xs))
+    go None h = h
+    go (Some y) h = refl
 
-pub no_step : (c : ℕ) (cs : List ℕ) → BeginsWith c (body_of cs) → list_any (λ w. may_begin c (w.0 ++ codes " ")) step_words ≡ false → step_of cs ≡ None
-unfolding step_of
-no_step c cs (rest, e) h =
-    rw e (none_begins (λ w. w.0 ++ codes " ") (λ w rest. record { keyword = w.0 ++ codes " "; kind = w.1; text = trimmed rest; column = indent_of cs + 1 }) c rest step_words h)
-
-pub no_fence : (c : ℕ) (cs : List ℕ) → BeginsWith c (body_of cs) → list_any (λ f. may_begin c f.0) fences ≡ false → fence_of cs ≡ None
-unfolding fence_of
-no_fence c cs (rest, e) h =
-    rw e (none_begins (λ f. f.0) (λ f rest. record { fence = f.1; media = trimmed rest; column = indent_of cs + 1 }) c rest fences h)
-
-pub no_title : (b : Block) (c : ℕ) (cs : List ℕ) → BeginsWith c (body_of cs) → list_any (λ k. may_begin c (k ++ codes ":")) (keywords b) ≡ false → title_of b cs ≡ None
-unfolding title_of
-no_title b c cs (rest, e) h =
-    rw e (none_begins (λ k. k ++ codes ":") (λ k rest. record { keyword = k; name = trimmed rest; column = indent_of cs + 1 }) c rest (keywords b) h)
+pub first_title : (cs : List ℕ) → first_some (λ b. option_map (title_token b) (title_of b cs)) blocks ≡ option_map (λ (p : Block × TitleText). title_token p.0 p.1) (block_title_of cs)
+first_title cs = map_first title_token (λ b. title_of b cs) blocks
 
 -- ---- a line is of one kind
 
@@ -169,25 +158,19 @@ module _ (cs : List ℕ) (n c : ℕ) (at : (n < length cs) × (c ≡ get_or cs n
       ∙ ap (λ (b : Bool). n + cond b (1 + prefix_len is_whitespace (drop (n + 1) cs)) 0) black
       ∙ omega arith
 
-  pub end_body : is_whitespace c ≡ false → body_of cs ≡ body_of (drop n cs) → BeginsWith c (body_of cs)
+  pub end_body : is_whitespace c ≡ false → body_of cs ≡ body_of (drop n cs) → Some c ≡ first_character (body_of cs)
   unfolding body_of
-  end_body black so_far = (
-    drop (n + 1) cs,
-    so_far
-        ∙ ap (λ (z : List ℕ). skip_leading_whitespace z) cut
-        ∙ ap (λ (b : Bool). cond b (skip_leading_whitespace (drop (n + 1) cs)) (c ∷ drop (n + 1) cs)) black,
-  )
+  end_body black so_far =
+      sym (ap first_character
+      (so_far
+      ∙ ap (λ (z : List ℕ). skip_leading_whitespace z) cut
+      ∙ ap (λ (b : Bool). cond b (skip_leading_whitespace (drop (n + 1) cs)) (c ∷ drop (n + 1) cs)) black))
 
 pub all_indent : (cs : List ℕ) (n : ℕ) → n ≡ length cs → indent_of cs ≡ n + indent_of (drop n cs) → indent_of cs ≡ n
 unfolding indent_of
 all_indent cs n e so_far =
     so_far ∙ ap (λ (z : List ℕ). n + prefix_len is_whitespace z) (drop_all n cs (omega (arith, e))) ∙ omega arith
 
-pub all_body : (cs : List ℕ) (n : ℕ) → n ≡ length cs → body_of cs ≡ body_of (drop n cs) → body_of cs ≡ []
+pub all_body : (cs : List ℕ) (n : ℕ) → n ≡ length cs → body_of cs ≡ body_of (drop n cs) → None ≡ first_character (body_of cs)
 unfolding body_of
-all_body cs n e so_far = so_far ∙ ap (λ (z : List ℕ). skip_leading_whitespace z) (drop_all n cs (omega (arith, e)))
-
--- the first character, where it is this one
-pub first_is : (first : Option ℕ) (text : List ℕ) (c x : ℕ) → MatchOption first (text ≡ []) (λ c. BeginsWith c text) → first ≡ Some c → c ≡ x → BeginsWith x text
-first_is first text c x h e same =
-    subst (λ (z : ℕ). BeginsWith z text) same (subst (λ (o : Option ℕ). MatchOption o (text ≡ []) (λ c. BeginsWith c text)) e h)
+all_body cs n e so_far = sym (ap first_character (so_far ∙ ap (λ (z : List ℕ). skip_leading_whitespace z) (drop_all n cs (omega (arith, e)))))

@@ -1,7 +1,6 @@
 pub mod Assembling
 pub mod EndViews
 pub mod Ends
-pub mod Heads
 pub mod Read
 pub mod Rows
 pub mod Views

@@ -1,22 +1,21 @@
 //! What a line is read as: its token, and its indent.
-ghost use Rattle.std.specs.Prelude.{◌≡◌, ◌≤◌, ◌++◌, [], length, map, codes, IfOk, IsTrue, MatchOption};
-ghost use Rattle.std.specs.List.{list_any};
+ghost use Rattle.std.specs.Prelude.{◌≡◌, ◌≤◌, length, map, codes, IfOk, IsTrue};
 ghost use Rattle.std.specs.Str.{chars};
 ghost use Rattle.std.specs.Option.{option_map};
 ghost use Rattle.gk_line.specs.declared.limit.TheConstants.{FEATURE_LIMIT};
 ghost use Rattle.gk_line.specs.Cells.{cells_of};
 ghost use Rattle.gk_line.specs.Texts.{body_of, first_some};
-ghost use Rattle.gk_line.specs.Tokens.{indent_of, keywords, step_words, fences, title_of, step_of, fence_of, begins_by, language_of};
+ghost use Rattle.gk_line.specs.Tokens.{indent_of, title_of, step_of, fence_of, begins_by, language_of};
 ghost use Rattle.gk_line.specs.Tags.{spaced_piece, tags_of};
-ghost use Rattle.gk_line.specs.Views.{line_chars, title_text};
+ghost use Rattle.gk_line.specs.Views.{line_chars};
 ghost use Rattle.gk_grammar.specs.Token as read;
 ghost use Rattle.gk_grammar.specs.Token.{token_of, comment_token as comment_or_language, title_token as titled, step_token as stepped, fence_token as fenced, tag_list, word_token as by_word, token_or_other, blocks, cell};
-ghost use Rattle.gk_tree.specs.Heads.{BeginsWith, may_begin};
+ghost use Rattle.gk_tree.specs.Read.{first_character};
 ghost use Rattle.gk_tree.specs.Views.{token_view};
 
 use crate::token::{Head, TagWords, Token};
 use gk_document::{Cell, Sequence};
-use gk_line::{Block, Line, TagFault, Title, cells, fence, language, step, tags, title};
+use gk_line::{Line, TagFault, block_title, cells, fence, language, step, tags};
 use std::alloc::{AllocError, Global};
 
 /// The indent of a line with this text, and the first character after it.
@@ -24,8 +23,7 @@ pub(crate) fn head(text: &str) -> Head
     requires { length text.now ≤ FEATURE_LIMIT }
     ensures indent { result.indent ≡ indent_of (chars text.now) }
     ensures bound { result.indent ≤ FEATURE_LIMIT }
-    ensures first { MatchOption result.first (body_of (chars text.now) ≡ [])
-        (λ c. BeginsWith c (body_of (chars text.now))) }
+    ensures first { result.first ≡ first_character (body_of (chars text.now)) }
 {
     let mut indent = 0;
     for c in text.chars() {
@@ -51,8 +49,7 @@ pub(crate) fn token(
     first: Option<char>,
 ) -> Result<Token<'_>, AllocError>
     requires short { length line.text.now ≤ FEATURE_LIMIT }
-    requires first { MatchOption first (body_of (line_chars line) ≡ [])
-        (λ c. BeginsWith c (body_of (line_chars line))) }
+    requires first { first ≡ first_character (body_of (line_chars line)) }
     ensures { IfOk result (λ t. token_view t ≡ token_of (line_chars line.entry)) }
 {
     match first {
@@ -60,10 +57,11 @@ pub(crate) fn token(
         Some('#') => Ok(comment_token(line)),
         Some('@') => tag_token(alloc, line),
         Some('|') => Ok(Token::Row(row_cells(alloc, line)?)),
-        Some(first) => Ok(word_token(line, first)),
+        Some(_) => Ok(word_token(line)),
     }
 }
 
+/// The comment that the line is, or its language.
 fn comment_token(line: Line<'_>) -> Token<'_>
     ensures { token_view result ≡ comment_or_language (language_of (line_chars line.entry)) }
 {
@@ -98,104 +96,46 @@ fn row_cells(alloc: Global, line: Line<'_>) -> Result<Sequence<Cell>, AllocError
 }
 
 /// A line that begins with a keyword or a fence, or any other one.
-fn word_token(line: Line<'_>, first: char) -> Token<'_>
-    requires short { length line.text.now ≤ FEATURE_LIMIT }
-    requires first { BeginsWith first (body_of (line_chars line)) }
+fn word_token(line: Line<'_>) -> Token<'_>
+    requires { length line.text.now ≤ FEATURE_LIMIT }
     ensures { token_view result ≡ token_or_other (by_word (line_chars line.entry)) }
 {
-    if let Some(token) = step_token(line, first) {
+    if let Some(token) = step_token(line) {
         return token;
     }
-    if let Some(token) = fence_token(line, first) {
+    if let Some(token) = fence_token(line) {
         return token;
     }
-    match title_token(line, first) {
+    match title_token(line) {
         Some(token) => token,
         None => Token::Other,
     }
 }
 
-fn step_token(line: Line<'_>, first: char) -> Option<Token<'_>>
-    requires short { length line.text.now ≤ FEATURE_LIMIT }
-    requires first { BeginsWith first (body_of (line_chars line)) }
+/// The step that the line is.
+fn step_token(line: Line<'_>) -> Option<Token<'_>>
+    requires { length line.text.now ≤ FEATURE_LIMIT }
     ensures { option_map token_view result
         ≡ option_map stepped (step_of (line_chars line.entry)) }
 {
-    if !may_begin_step(first) {
-        return None;
-    }
     Some(Token::Step(step(line)?))
 }
 
-/// Whether a step keyword begins with the character.
-fn may_begin_step(first: char) -> bool
-    ensures { result ≡ list_any (λ word. may_begin first (word.0 ++ codes " ")) step_words }
-{
-    matches!(first, '*' | 'G' | 'W' | 'T' | 'A' | 'B')
-}
-
-fn fence_token(line: Line<'_>, first: char) -> Option<Token<'_>>
-    requires short { length line.text.now ≤ FEATURE_LIMIT }
-    requires first { BeginsWith first (body_of (line_chars line)) }
+/// The fence that the line is.
+fn fence_token(line: Line<'_>) -> Option<Token<'_>>
+    requires { length line.text.now ≤ FEATURE_LIMIT }
     ensures { option_map token_view result
         ≡ option_map fenced (fence_of (line_chars line.entry)) }
 {
-    if !may_begin_fence(first) {
-        return None;
-    }
     Some(Token::Fenced(fence(line)?))
 }
 
-/// Whether a fence begins with the character.
-fn may_begin_fence(first: char) -> bool
-    ensures { result ≡ list_any (λ mark. may_begin first mark.0) fences }
-{
-    first == '"' || first == '`'
-}
-
-#[tactic(auto, unfolding(gk_line::specs::Texts::first_some))]
-fn title_token(line: Line<'_>, first: char) -> Option<Token<'_>>
-    requires short { length line.text.now ≤ FEATURE_LIMIT }
-    requires first { BeginsWith first (body_of (line_chars line)) }
+/// The title that the line is.
+fn title_token(line: Line<'_>) -> Option<Token<'_>>
+    requires { length line.text.now ≤ FEATURE_LIMIT }
     ensures { option_map token_view result
         ≡ first_some (λ b. option_map (titled b) (title_of b (line_chars line.entry))) blocks }
 {
-    if let Some(title) = block_title(line, Block::Feature, first) {
-        return Some(Token::Title(Block::Feature, title));
-    }
-    if let Some(title) = block_title(line, Block::Rule, first) {
-        return Some(Token::Title(Block::Rule, title));
-    }
-    if let Some(title) = block_title(line, Block::Background, first) {
-        return Some(Token::Title(Block::Background, title));
-    }
-    if let Some(title) = block_title(line, Block::Scenario, first) {
-        return Some(Token::Title(Block::Scenario, title));
-    }
-    let title = block_title(line, Block::Examples, first)?;
-    Some(Token::Title(Block::Examples, title))
-}
-
-/// The title of this block that the line reads as.
-fn block_title<'a>(line: Line<'a>, block: Block, first: char) -> Option<Title<'a>>
-    requires short { length line.text.now ≤ FEATURE_LIMIT }
-    requires first { BeginsWith first (body_of (line_chars line)) }
-    ensures { option_map title_text result ≡ title_of block (line_chars line.entry) }
-{
-    if !may_begin_title(block, first) {
-        return None;
-    }
-    title(line, block)
-}
-
-/// Whether a keyword of the block begins with the character.
-fn may_begin_title(block: Block, first: char) -> bool
-    ensures { result ≡ list_any (λ word. may_begin first (word ++ codes ":")) (keywords block) }
-{
-    match block {
-        Block::Feature => first == 'F' || first == 'B' || first == 'A',
-        Block::Rule => first == 'R',
-        Block::Background => first == 'B',
-        Block::Scenario | Block::Examples => first == 'E' || first == 'S',
-    }
+    let (block, title) = block_title(line)?;
+    Some(Token::Title(block, title))
 }
