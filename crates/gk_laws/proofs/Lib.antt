@@ -1,5 +1,6 @@
 pub mod CellTexts
 pub mod FenceCuts
+pub mod Fronts
 pub mod Keywords
 pub mod LanguageParts
 pub mod LineDocuments

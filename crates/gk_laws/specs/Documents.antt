@@ -1,10 +1,10 @@
 -- What holds of every list of lines and its document, and of the places of faults.
-use Rattle.std.specs.Prelude.{◌≡◌, ◌≢◌, ◌⊎◌, ℕ, List, ◌∷◌, ◌++◌, map, length, IsTrue, IsFalse}
+use Rattle.std.specs.Prelude.{◌≡◌, ◌≢◌, ◌≤◌, ◌⊎◌, ℕ, List, ◌∷◌, ◌++◌, map, length, take, IsTrue, IsFalse}
 use Rattle.std.specs.List.{AllByRecursion, enumerate_from}
 use Rattle.gk_grammar.specs.Token.{Language, Row, Line, line, line_of, number, is_gap, is_language}
 use Rattle.gk_grammar.specs.Tree.{Document}
 use Rattle.gk_grammar.specs.Grammar.{Doc, english}
-use Rattle.gk_grammar.specs.Place.{IsFault, is_row_or_gap}
+use Rattle.gk_grammar.specs.Place.{IsFault, IsFront, IsText, is_row_or_gap}
 use Rattle.gk_grammar.specs.Documents.{lines_read}
 use Rattle.gk_grammar.specs.declared.fault.FaultKind.{FaultKind}
 use Rattle.gk_grammar.specs.declared.fault.FaultKind.TheVariants as kind
@@ -42,6 +42,21 @@ OneFaultOfLines =
     → IsFault (read_lines texts) kind n column
     → IsFault (read_lines texts) other_kind other_n other_column
     → (kind ≡ other_kind) × (n ≡ other_n) × (column ≡ other_column)
+
+-- ---- where a fault is
+
+-- The first lines of a text of the grammar are a front: what some lines complete, one of the five completions does.
+abbrev pub FrontsAreShown : Type 0
+FrontsAreShown =
+    (texts : List (List ℕ)) (m : ℕ)
+    → IsText (read_lines texts) → IsFront (take m (read_lines texts))
+
+-- Where lines have a fault, no lines that begin with those up to it are a text of the grammar, whatever comes after them.
+abbrev pub FaultsStay : Type 0
+FaultsStay =
+    (texts others : List (List ℕ)) (kind : FaultKind) (n column : ℕ)
+    → n ≤ length texts → take n texts ≡ take n others
+    → IsFault (read_lines texts) kind n column → IsText (read_lines others) → ⊥
 
 -- ---- the place of an unsupported language
 

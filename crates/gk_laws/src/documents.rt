@@ -1,5 +1,5 @@
 //! What holds of every list of lines and its document, and of the places of faults.
-ghost use Rattle.gk_laws.specs.Documents.{TextsAreLines, OneDocumentOfLines, DocumentOrFaultOfLines, NoDocumentWithFaultOfLines, OneFaultOfLines, OtherLanguageAtFault, OtherCountAtFault};
+ghost use Rattle.gk_laws.specs.Documents.{TextsAreLines, OneDocumentOfLines, DocumentOrFaultOfLines, NoDocumentWithFaultOfLines, OneFaultOfLines, OtherLanguageAtFault, OtherCountAtFault, FrontsAreShown, FaultsStay};
 
 /// The lines of a text are lines of characters, numbered from 1, of which the other laws speak.
 pub fn texts_are_lines()
@@ -36,4 +36,14 @@ pub fn other_language_at_fault()
 /// count than the table's first row.
 pub fn other_count_at_fault()
     ensures { OtherCountAtFault }
+{}
+
+/// The first lines of a text of the grammar are a front, by one of the five completions.
+pub fn fronts_are_shown()
+    ensures { FrontsAreShown }
+{}
+
+/// Where lines have a fault, nothing that comes after the line of the fault makes them a text of the grammar.
+pub fn faults_stay()
+    ensures { FaultsStay }
 {}
