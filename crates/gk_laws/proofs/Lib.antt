@@ -6,6 +6,7 @@ pub mod LanguageParts
 pub mod LineDocuments
 pub mod OtherCounts
 pub mod OtherLanguages
+pub mod PickleRows
 pub mod PickleScenarios
 pub mod RowCuts
 pub mod Stopped

@@ -23,7 +23,7 @@ use Rattle.gk_pickle.specs.Steps.{own_type, last_or, type_of, keywords, filled_b
 use Rattle.gk_pickle.specs.Pickles.{pickle_of, row_filling, table_pickles, examples_pickles, outline_pickles, scenario_pickles, background_steps, in_feature, in_rule, rule_pickles, pickles_in, pickles}
 use Rattle.gk_pickle.specs.Order.{rule_steps, feature_steps, document_steps, IsSubsequence}
 use Rattle.gk_pickle.proofs.Ordering.{front, same, later, through, kept, of_parts}
-use Rattle.gk_laws.specs.PickleSteps.{IsScenarioOf, IsFillingOf, types_after, argument_by, AreMadeOf, AreStepsOf, IsOfScenario, StepsAreMade}
+use Rattle.gk_laws.specs.Pickles.{IsScenarioOf, IsFillingOf, types_after, argument_by, AreMadeOf, AreStepsOf, IsOfScenario, PicklesAreMade}
 
 -- ---- types
 
@@ -125,15 +125,15 @@ module _ {X : Type 0} where
 abbrev own_steps : Scenario → List Step
 own_steps s = s.steps
 
-ordered : (f : Feature) (background : List Step) (s : Scenario) → IsScenarioOf f background s → IsSubsequence (background ++ s.steps) (feature_steps f)
-ordered f background s (inl h) =
+ordered : (f : Feature) (tags : List Tag) (background : List Step) (s : Scenario) → IsScenarioOf f tags background s → IsSubsequence (background ++ s.steps) (feature_steps f)
+ordered f tags background s (inl h) =
     let b : List Step = background_steps f.background in
     let own : List Step = flat_map own_steps f.scenarios in
     let rules : List Step = flat_map rule_steps f.rules in
     let all : List Step = (b ++ own) ++ rules in
     let P : List Step → Type 0 = λ z. IsSubsequence (z ++ s.steps) all in
-    subst P (sym h.1) (through (b ++ s.steps) (b ++ own) all (kept b s.steps own (among own_steps f.scenarios s h.0)) (front (b ++ own) rules all (same all)))
-ordered f background s (inr h) =
+    subst P (sym h.2) (through (b ++ s.steps) (b ++ own) all (kept b s.steps own (among own_steps f.scenarios s h.0)) (front (b ++ own) rules all (same all)))
+ordered f tags background s (inr h) =
     let r : Rule = h.0 in
     let b : List Step = background_steps f.background in
     let c : List Step = background_steps r.background in
@@ -144,40 +144,44 @@ ordered f background s (inr h) =
     let whole : IsSubsequence (b ++ (c ++ s.steps)) (b ++ (own ++ rules)) = kept b (c ++ s.steps) (own ++ rules) (later own (c ++ s.steps) rules outer) in
     let P : List Step → Type 0 = λ z. IsSubsequence z ((b ++ own) ++ rules) in
     let Q : List Step → Type 0 = λ z. IsSubsequence (b ++ (c ++ s.steps)) z in
-    subst P (sym (append_assoc b c s.steps) ∙ ap (λ (z : List Step). z ++ s.steps) (sym h.3)) (subst Q (sym (append_assoc b own rules)) whole)
+    subst P (sym (append_assoc b c s.steps) ∙ ap (λ (z : List Step). z ++ s.steps) (sym h.4)) (subst Q (sym (append_assoc b own rules)) whole)
 
 -- ---- pickles
 
 module _ (d : Document) (f : Feature) (is : d.feature ≡ Some f) where
-  of_pickle : (inherited : Inherited) (s : Scenario) (tags : List Tag) (filling : Filling) → IsScenarioOf f inherited.steps s → IsFillingOf s filling → IsOfScenario d (pickle_of inherited s tags filling)
+  of_pickle : (inherited : Inherited) (s : Scenario) (tags : List Tag) (filling : Filling) → IsScenarioOf f inherited.tags inherited.steps s → IsFillingOf s tags filling → IsOfScenario d (pickle_of inherited s tags filling)
   of_pickle inherited s tags filling h k = record {
     feature = f;
     scenario = s;
+    inherited = inherited.tags;
+    added = tags;
     background = inherited.steps;
     filling = filling;
     in_document = is;
     in_feature = h;
     filled = k;
-    in_order = subst (λ (o : Option Feature). IsSubsequence (inherited.steps ++ s.steps) (document_steps o)) (sym is) (ordered f inherited.steps s h);
+    in_order = subst (λ (o : Option Feature). IsSubsequence (inherited.steps ++ s.steps) (document_steps o)) (sym is) (ordered f inherited.tags inherited.steps s h);
     nodes = refl;
+    name = refl;
+    tags = refl;
     steps = steps_made inherited.steps s.steps filling;
   }
 
-  of_table : (inherited : Inherited) (s : Scenario) (e : Examples) (o : Option ExampleTable) → IsScenarioOf f inherited.steps s → Contains s.examples e → e.table ≡ o → AllByRecursion (IsOfScenario d) (table_pickles inherited s e.tags o)
+  of_table : (inherited : Inherited) (s : Scenario) (e : Examples) (o : Option ExampleTable) → IsScenarioOf f inherited.tags inherited.steps s → Contains s.examples e → e.table ≡ o → AllByRecursion (IsOfScenario d) (table_pickles inherited s e.tags o)
   of_table inherited s e None h c same = tt
   of_table inherited s e (Some table) h c same =
       of_each_map (IsOfScenario d) (λ (row : Row). pickle_of inherited s e.tags (row_filling table.header row)) table.body
       (all_elements (λ (row : Row). IsOfScenario d (pickle_of inherited s e.tags (row_filling table.header row))) table.body
-      (λ row k. of_pickle inherited s e.tags (row_filling table.header row) h (inr (e, table, row, c, same, k, refl))))
+      (λ row k. of_pickle inherited s e.tags (row_filling table.header row) h (inr (e, table, row, c, same, k, refl, refl))))
 
-  of_outline : (inherited : Inherited) (s : Scenario) (blocks : List Examples) → IsScenarioOf f inherited.steps s → s.examples ≡ blocks → AllByRecursion (IsOfScenario d) (outline_pickles inherited s blocks)
-  of_outline inherited s [] h same = (of_pickle inherited s [] unfilled h (inl (same, refl)), tt)
+  of_outline : (inherited : Inherited) (s : Scenario) (blocks : List Examples) → IsScenarioOf f inherited.tags inherited.steps s → s.examples ≡ blocks → AllByRecursion (IsOfScenario d) (outline_pickles inherited s blocks)
+  of_outline inherited s [] h same = (of_pickle inherited s [] unfilled h (inl (same, refl, refl)), tt)
   of_outline inherited s (e ∷ es) h same =
       of_each_flat_map (IsOfScenario d) (examples_pickles inherited s) (e ∷ es)
       (all_elements (λ (b : Examples). AllByRecursion (IsOfScenario d) (examples_pickles inherited s b)) (e ∷ es)
       (λ b c. of_table inherited s b b.table h (subst (λ (l : List Examples). Contains l b) (sym same) c) refl))
 
-  of_scenarios : (inherited : Inherited) (ss : List Scenario) → ((s : Scenario) → Contains ss s → IsScenarioOf f inherited.steps s) → AllByRecursion (IsOfScenario d) (flat_map (scenario_pickles inherited) ss)
+  of_scenarios : (inherited : Inherited) (ss : List Scenario) → ((s : Scenario) → Contains ss s → IsScenarioOf f inherited.tags inherited.steps s) → AllByRecursion (IsOfScenario d) (flat_map (scenario_pickles inherited) ss)
   of_scenarios inherited ss h =
       of_each_flat_map (IsOfScenario d) (scenario_pickles inherited) ss
       (all_elements (λ (s : Scenario). AllByRecursion (IsOfScenario d) (scenario_pickles inherited s)) ss (λ s c. of_outline inherited s s.examples (h s c) refl))
@@ -185,15 +189,15 @@ module _ (d : Document) (f : Feature) (is : d.feature ≡ Some f) where
   of_feature : AllByRecursion (IsOfScenario d) (pickles_in (Some f))
   of_feature =
       of_parts (IsOfScenario d) (flat_map (scenario_pickles (in_feature f)) f.scenarios) (flat_map (rule_pickles f) f.rules)
-      (of_scenarios (in_feature f) f.scenarios (λ s c. inl (c, refl)))
+      (of_scenarios (in_feature f) f.scenarios (λ s c. inl (c, refl, refl)))
       (of_each_flat_map (IsOfScenario d) (rule_pickles f) f.rules
       (all_elements (λ (r : Rule). AllByRecursion (IsOfScenario d) (rule_pickles f r)) f.rules
-      (λ r c. of_scenarios (in_rule f r) r.scenarios (λ s b. inr (r, c, b, refl)))))
+      (λ r c. of_scenarios (in_rule f r) r.scenarios (λ s b. inr (r, c, b, refl, refl)))))
 
 each_pickle : (d : Document) (o : Option Feature) → d.feature ≡ o → AllByRecursion (IsOfScenario d) (pickles_in o)
 each_pickle d None is = tt
 each_pickle d (Some f) is = of_feature d f is
 
-pub steps_are_made_holds : StepsAreMade
+pub pickles_are_made_holds : PicklesAreMade
 unfolding pickles
-steps_are_made_holds d = each_pickle d d.feature refl
+pickles_are_made_holds d = each_pickle d d.feature refl

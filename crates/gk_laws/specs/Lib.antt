@@ -2,7 +2,7 @@ pub mod Documents
 pub mod Fences
 pub mod KeywordLines
 pub mod LanguageLines
-pub mod PickleSteps
+pub mod Pickles
 pub mod Rows
 pub mod TagLines
 pub mod TokenKinds

@@ -29,4 +29,4 @@ pub use lines::{
     bars_cut_rows, escaped_fences_cut_lines, keyword_lines_have_parts, language_lines_have_parts,
     marks_cut_tag_lines, tokens_read_lines, units_write_rows,
 };
-pub use pickles::steps_are_made;
+pub use pickles::{pickles_are_made, pickles_name_rows};
