@@ -4,6 +4,7 @@ pub mod Fronts
 pub mod Keywords
 pub mod LanguageParts
 pub mod LineDocuments
+pub mod OneAnswer
 pub mod OtherCounts
 pub mod OtherLanguages
 pub mod PickleRows

@@ -5,5 +5,6 @@ pub mod LanguageLines
 pub mod Pickles
 pub mod Rows
 pub mod TagLines
+pub mod TextAnswers
 pub mod TokenKinds
 pub mod Trimming

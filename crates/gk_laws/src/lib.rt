@@ -19,6 +19,7 @@
 mod documents;
 mod lines;
 mod pickles;
+mod texts;
 
 pub use documents::{
     document_or_fault_of_lines, faults_stay, fronts_are_shown, no_document_with_fault_of_lines,
@@ -30,3 +31,4 @@ pub use lines::{
     marks_cut_tag_lines, tokens_read_lines, units_write_rows,
 };
 pub use pickles::{pickles_are_made, pickles_name_rows};
+pub use texts::each_text_has_one_answer;
