@@ -22,7 +22,7 @@ use Rattle.gk_laws.proofs.TextParts.{after_front, skip_gap, trimmed_ends}
 use Rattle.gk_laws.proofs.Trims.{front_split, front_length, is_trimmed, trimmed_is}
 
 -- what a line reads as after its indent and a mark
-marked : (line mark rest : List ℕ) → after mark (body_of line) ≡ Some rest → IsMarkedLine line mark (trimmed rest) (indent_of line + 1)
+pub marked : (line mark rest : List ℕ) → after mark (body_of line) ≡ Some rest → IsMarkedLine line mark (trimmed rest) (indent_of line + 1)
 unfolding body_of indent_of
 marked line mark rest e =
     let front = skip-split line in
@@ -97,7 +97,7 @@ fronts_agree (x ∷ p) (y ∷ q) r s e =
     ap (λ b. b && agree p q) (eq-eqb x y first) ∙ fronts_agree p q r s later
 
 module _ {A B : Type 0} (key : A → List ℕ) (value : A → List ℕ → B) where
-  abbrev found : List ℕ → List A → Option B
+  abbrev pub found : List ℕ → List A → Option B
   found body xs = first_some (λ x. option_map (value x) (after (key x) body)) xs
 
   -- no mark is a front of another
@@ -105,7 +105,7 @@ module _ {A B : Type 0} (key : A → List ℕ) (value : A → List ℕ → B) wh
   apart [] = true
   apart (x ∷ xs) = list_all (λ y. not (agree (key x) (key y))) xs && apart xs
 
-  abbrev IsFound : List ℕ → List A → B → Type 0
+  abbrev pub IsFound : List ℕ → List A → B → Type 0
   IsFound body xs z = (x : A) × Contains xs x × (rest : List ℕ) × (after (key x) body ≡ Some rest) × (z ≡ value x rest)
 
   pub is_found : (body : List ℕ) (xs : List A) (z : B) → found body xs ≡ Some z → IsFound body xs z
@@ -136,10 +136,10 @@ module _ {A B : Type 0} (key : A → List ℕ) (value : A → List ℕ → B) wh
 
 -- ---- titles
 
-abbrev title_key : List ℕ → List ℕ
+abbrev pub title_key : List ℕ → List ℕ
 title_key keyword = keyword ++ codes ":"
 
-abbrev title_at : List ℕ → List ℕ → List ℕ → TitleText
+abbrev pub title_at : List ℕ → List ℕ → List ℕ → TitleText
 title_at line keyword rest = record { keyword = keyword; name = trimmed rest; column = indent_of line + 1 }
 
 keywords_apart : (block : Block) → apart title_key (title_at []) (keywords block) ≡ true
@@ -175,10 +175,10 @@ titles_are_marked block line t = (
 
 -- ---- steps
 
-abbrev step_key : List ℕ × KeywordType → List ℕ
+abbrev pub step_key : List ℕ × KeywordType → List ℕ
 step_key entry = entry.0 ++ codes " "
 
-abbrev step_at : List ℕ → List ℕ × KeywordType → List ℕ → StepText
+abbrev pub step_at : List ℕ → List ℕ × KeywordType → List ℕ → StepText
 step_at line entry rest = record { keyword = step_key entry; kind = entry.1; text = trimmed rest; column = indent_of line + 1 }
 
 same_step : (k l n m : List ℕ) (t : KeywordType) (c d : ℕ) → k ≡ l → n ≡ m → c ≡ d → ◌≡◌ {A = StepText} (record { keyword = k; kind = t; text = n; column = c }) (record { keyword = l; kind = t; text = m; column = d })
@@ -202,14 +202,14 @@ steps_are_marked line s = (
 
 -- ---- fences
 
-abbrev fence_key : List ℕ × Fence → List ℕ
+abbrev pub fence_key : List ℕ × Fence → List ℕ
 fence_key entry = entry.0
 
-abbrev fence_at : List ℕ → List ℕ × Fence → List ℕ → FenceText
+abbrev pub fence_at : List ℕ → List ℕ × Fence → List ℕ → FenceText
 fence_at line entry rest = record { fence = entry.1; media = trimmed rest; column = indent_of line + 1 }
 
 -- each fence is listed with its characters
-listed : (x : List ℕ × Fence) → Contains fences x → x.0 ≡ fence_characters x.1
+pub listed : (x : List ℕ × Fence) → Contains fences x → x.0 ≡ fence_characters x.1
 listed x c = by_first (contains_cases (fence_characters Quotes, Quotes) x ((fence_characters Backticks, Backticks) ∷ []) c) where
   by_second : ((fence_characters Backticks, Backticks) ≡ x) ⊎ Contains [] x → x.0 ≡ fence_characters x.1
   by_second (inl e) = subst (λ (x : List ℕ × Fence). x.0 ≡ fence_characters x.1) e refl

@@ -1,9 +1,12 @@
 pub mod CellTexts
+pub mod DocumentMarks
 pub mod FenceCuts
 pub mod Fronts
 pub mod Keywords
 pub mod LanguageParts
 pub mod LineDocuments
+pub mod LineMarks
+pub mod MarkPlaces
 pub mod OneAnswer
 pub mod OtherCounts
 pub mod OtherLanguages

@@ -62,7 +62,7 @@ comment line h = by_language (language_of line) refl where
   by_language None is = (h, is)
   by_language (Some word) is = ap (option_map encode_utf8_all) is
 
-reads : (line : List ℕ) → ReadsAs line (token_of line)
+pub reads : (line : List ℕ) → ReadsAs line (token_of line)
 unfolding token_of
 reads line = by_test (is_blank_line line) (begins_by (codes "#") line) (begins_by (codes "@") line) (begins_by (codes "|") line) refl refl refl refl where
   by_test : (b h a r : Bool) → is_blank_line line ≡ b → begins_by (codes "#") line ≡ h → begins_by (codes "@") line ≡ a → begins_by (codes "|") line ≡ r

@@ -2,6 +2,7 @@ pub mod Documents
 pub mod Fences
 pub mod KeywordLines
 pub mod LanguageLines
+pub mod Marks
 pub mod Pickles
 pub mod Rows
 pub mod TagLines

@@ -1,4 +1,5 @@
 //! What holds of every list of lines and its document, and of the places of faults.
+ghost use Rattle.gk_laws.specs.Marks.{PartsComeInOrder, PartsStandAtTheirPlaces};
 ghost use Rattle.gk_laws.specs.Documents.{TextsAreLines, OneDocumentOfLines, DocumentOrFaultOfLines, NoDocumentWithFaultOfLines, OneFaultOfLines, OtherLanguageAtFault, OtherCountAtFault, FrontsAreShown, FaultsStay};
 
 /// The lines of a text are lines of characters, numbered from 1, of which the other laws speak.
@@ -46,4 +47,15 @@ pub fn fronts_are_shown()
 /// Where lines have a fault, nothing that comes after the line of the fault makes them a text of the grammar.
 pub fn faults_stay()
     ensures { FaultsStay }
+{}
+
+/// Each part of a document stands in its text where it says: in the line of its location, at its column, is a block's or a
+/// step's keyword, a row's bar, a doc string's fence, or a tag's `@`, followed by the tag's word; white space may be between.
+pub fn parts_stand_at_their_places()
+    ensures { PartsStandAtTheirPlaces }
+{}
+
+/// The parts of a document come in the order of the file: each is before all that come after it in the tree, by line and column.
+pub fn parts_come_in_order()
+    ensures { PartsComeInOrder }
 {}
