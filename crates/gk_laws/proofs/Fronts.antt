@@ -1,6 +1,6 @@
 -- The first lines of a text are a front, so no lines make a text of those that have a fault.
 use Rattle.std.proofs.Common.{◌≡◌, ℕ, zero, suc, ◌+◌, List, [], ◌∷◌, ◌++◌, length, take, drop, Result, Ok, Err, refl, sym, ap, subst, ◌∙◌, arith, inl, inr}
-use Rattle.std.specs.Prelude.{map, ◌≤◌}
+use Rattle.std.specs.Prelude.{map}
 use Rattle.std.specs.List.{enumerate_from}
 use Rattle.std.proofs.lemmas.List.{take-append-drop}
 use Rattle.gk_grammar.specs.Token.{Line, line_of}

@@ -10,6 +10,7 @@ pub mod MarkPlaces
 pub mod OneAnswer
 pub mod OtherCounts
 pub mod OtherLanguages
+pub mod OutsideLines
 pub mod PickleRows
 pub mod PickleScenarios
 pub mod RowCuts

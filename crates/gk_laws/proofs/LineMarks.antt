@@ -1,5 +1,5 @@
 -- What stands in a line at the columns of its token.
-use Rattle.std.proofs.Common.{◌≡◌, ℕ, ◌+◌, Bool, true, false, List, [], ◌∷◌, ◌++◌, length, Option, Some, None, Ok, Err, refl, sym, ap, subst, ◌∙◌, append_assoc, cond}
+use Rattle.std.proofs.Common.{◌≡◌, ℕ, ◌+◌, Bool, true, false, List, [], ◌∷◌, ◌++◌, Option, Some, None, Ok, Err, refl, sym, ap, subst, ◌∙◌, append_assoc, cond}
 use Rattle.std.specs.Prelude.{map, codes, filter, is_some}
 use Rattle.std.specs.Char.{is_whitespace}
 use Rattle.std.specs.Option.{option_map}
@@ -8,18 +8,16 @@ use Rattle.std.specs.Str.{encode_utf8_all}
 use Rattle.gk_document.specs.declared.tree.Fence.{Fence}
 use Rattle.gk_document.specs.declared.tree.KeywordType.{KeywordType}
 use Rattle.gk_line.specs.DocStrings.{fence_characters}
-use Rattle.gk_line.specs.Kinds.{Kind, is_of_kind}
-use Rattle.gk_line.specs.Tags.{TagWord, spaced_piece, tags_of, tag_pieces, is_tag, uncommented}
+use Rattle.gk_line.specs.Tags.{TagWord, spaced_piece, tags_of, tag_pieces, is_tag}
 use Rattle.gk_line.specs.Texts.{after, body_of, trimmed}
 use Rattle.gk_line.specs.Tokens.{TitleText, StepText, FenceText, begins_by, fences, fence_of, indent_of, keywords, step_of, step_words, title_of}
 use Rattle.gk_line.specs.declared.tokens.Block.{Block}
 use Rattle.gk_grammar.specs.Token.{Utf8, TagText, Token, Tags, Title, Step, Row, Fenced, Line, line, line_of, token_of, tag_list, tag_text, title_token, step_token, fence_token}
-use Rattle.gk_grammar.specs.Tree.{Location}
 use Rattle.gk_grammar.specs.Grammar.{at}
-use Rattle.gk_laws.specs.Marks.{Writing, Exactly, AsTag, Writes, StandsIn, Mark}
-use Rattle.gk_laws.specs.TagLines.{IsTagged, IsUncommented, after_mark, words_after}
+use Rattle.gk_laws.specs.Marks.{Exactly, AsTag, StandsIn, Mark}
+use Rattle.gk_laws.specs.TagLines.{after_mark, words_after}
 use Rattle.gk_laws.specs.TokenKinds.{ReadsAs}
-use Rattle.gk_laws.specs.Trimming.{IsSpace, IsTrimmed}
+use Rattle.gk_laws.specs.Trimming.{IsTrimmed}
 use Rattle.gk_laws.proofs.Keywords.{fence_at, fence_key, is_found, listed, marked, step_at, step_key, title_at, title_key}
 use Rattle.gk_laws.proofs.TagCuts.{pieces_are_cut}
 use Rattle.gk_laws.proofs.TextParts.{trimmed_ends}

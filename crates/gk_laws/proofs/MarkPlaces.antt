@@ -1,12 +1,12 @@
 -- The parts of a document stand at their places in its lines, in order.
-use Rattle.std.proofs.Common.{◌≡◌, ℕ, ◌+◌, ◌≤◌, ◌<◌, Bool, true, List, [], ◌∷◌, ◌++◌, length, Ok, Err, refl, sym, ap, subst, ◌∙◌, append_assoc, arith, inl, inr}
+use Rattle.std.proofs.Common.{◌≡◌, ℕ, ◌+◌, ◌≤◌, true, List, [], ◌∷◌, ◌++◌, length, Ok, Err, refl, sym, subst, append_assoc, arith, inl, inr}
 use Rattle.std.proofs.lemmas.List.{length-append}
-use Rattle.std.specs.Prelude.{◌⊎◌, codes, map, IsTrue}
-use Rattle.std.specs.List.{AllByRecursion, enumerate_from, flat_map}
+use Rattle.std.specs.Prelude.{codes, map, IsTrue}
+use Rattle.std.specs.List.{AllByRecursion, enumerate_from}
 use Rattle.gk_grammar.specs.Token.{TagText, Tags, Title, Step, Row, Fenced, Line, line, line_of, number}
-use Rattle.gk_grammar.specs.Tree.{Location, Document}
-use Rattle.gk_grammar.specs.Grammar.{at, stands_before, Doc}
-use Rattle.gk_grammar.proofs.Order.{Rise, rise_both, all_both, all_weaker, before_by_line}
+use Rattle.gk_grammar.specs.Tree.{Location}
+use Rattle.gk_grammar.specs.Grammar.{at, stands_before}
+use Rattle.gk_grammar.proofs.Order.{Rise, all_both, all_weaker, before_by_line}
 use Rattle.gk_grammar.proofs.Places.{AreLines, line_places}
 use Rattle.gk_laws.specs.Documents.{read_lines}
 use Rattle.gk_laws.specs.Marks.{AsTag, Mark, StandsAt, feature_marks, ComeInOrder, PartsStandAtTheirPlaces, PartsComeInOrder}

@@ -1,5 +1,5 @@
 -- Each text has exactly one of a document and a fault.
-use Rattle.std.proofs.Common.{◌≡◌, ◌⊎◌, ℕ, List, refl, sym, ap, ◌∙◌, inl, inr}
+use Rattle.std.proofs.Common.{◌≡◌, ◌⊎◌, ℕ, List, ap, ◌∙◌, inl, inr}
 use Rattle.gk_grammar.specs.Tree.{Document}
 use Rattle.gk_grammar.specs.Documents.{IsDocumentOf, HasFault}
 use Rattle.gk_grammar.specs.declared.fault.FaultKind.{FaultKind}

@@ -9,7 +9,7 @@ use Rattle.gk_pickle.specs.declared.pickle.Pickle.{Pickle}
 use Rattle.gk_pickle.specs.Counts.{body_rows}
 use Rattle.gk_pickle.specs.Inherited.{Inherited}
 use Rattle.gk_pickle.specs.InFeature.{ScenarioInFeature}
-use Rattle.gk_pickle.specs.Pickles.{outline_pickles, scenario_pickles, pickles}
+use Rattle.gk_pickle.specs.Pickles.{outline_pickles, scenario_pickles}
 use Rattle.gk_pickle.specs.Scenarios.{inherited_in, pickles_of_one, scenarios_of}
 use Rattle.gk_pickle.proofs.Counting.{rows_in_order}
 use Rattle.gk_pickle.proofs.InTurn.{scenario_by_scenario}

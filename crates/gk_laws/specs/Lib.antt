@@ -1,3 +1,4 @@
+pub mod Comments
 pub mod Documents
 pub mod Fences
 pub mod KeywordLines

@@ -1,4 +1,5 @@
 //! What holds of every list of lines and its document, and of the places of faults.
+ghost use Rattle.gk_laws.specs.Comments.{CommentsAreOutside};
 ghost use Rattle.gk_laws.specs.Marks.{PartsComeInOrder, PartsStandAtTheirPlaces};
 ghost use Rattle.gk_laws.specs.Documents.{TextsAreLines, OneDocumentOfLines, DocumentOrFaultOfLines, NoDocumentWithFaultOfLines, OneFaultOfLines, OtherLanguageAtFault, OtherCountAtFault, FrontsAreShown, FaultsStay};
 
@@ -58,4 +59,9 @@ pub fn parts_stand_at_their_places()
 /// The parts of a document come in the order of the file: each is before all that come after it in the tree, by line and column.
 pub fn parts_come_in_order()
     ensures { PartsComeInOrder }
+{}
+
+/// The comments of a document are the comment lines of its text outside its doc strings, but the language line that counts.
+pub fn comments_stand_outside_doc_strings()
+    ensures { CommentsAreOutside }
 {}
