@@ -91,7 +91,15 @@ testCase testSteps {"testCase":{"testSteps":[{}],"id":"c","pickleId":"p"}}
 testCase id {"testCase":{"testSteps":[{"hookId":5}],"id":"c","pickleId":"p"}}
 testCase stepDefinitionIds {"testCase":{"testSteps":[{"id":"t","hookId":"h","stepDefinitionIds":[1]}],"id":"c","pickleId":"p"}}
 testStepFinished testStepResult {"testStepFinished":{"testCaseStartedId":"a","testStepId":"t"}}
-testStepFinished status {"testStepFinished":{"testCaseStartedId":"a","testStepId":"t","testStepResult":{"status":"passed"}}}"#;
+testStepFinished status {"testStepFinished":{"testCaseStartedId":"a","testStepId":"t","testStepResult":{"status":"passed"}}}
+testRunHookFinished testRunHookStartedId {"testRunHookFinished":{"result":{}}}
+testRunHookFinished status {"testRunHookFinished":{"testRunHookStartedId":"r","result":{}}}
+testRunHookFinished status {"testRunHookFinished":{"testRunHookStartedId":"r","result":{"status":null}}}
+testRunHookFinished status {"testRunHookFinished":{"testRunHookStartedId":"r","result":{"status":1}}}
+testRunHookFinished status {"testRunHookFinished":{"testRunHookStartedId":"r","result":{"status":"passed"}}}
+parseError uri {"parseError":{"source":{}}}
+parseError uri {"parseError":{"source":{"uri":null}}}
+parseError uri {"parseError":{"source":{"uri":["a.feature"]}}}"#;
 
 #[test]
 fn faults_of_lines(rt: HostRuntime) -> Result<(), Fail> {

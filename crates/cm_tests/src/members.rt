@@ -165,6 +165,23 @@ fn attachments(rt: HostRuntime) -> Result<(), Fail> {
     expect_members(&rt, rt.alloc(), "attachment", ATTACHMENT)
 }
 
+const RUN_HOOK_STARTED: &str = r#"required id "r1" 1
+optional testRunStartedId "r" 1
+required hookId "h" {}"#;
+
+#[test]
+fn started_run_hooks(rt: HostRuntime) -> Result<(), Fail> {
+    expect_members(&rt, rt.alloc(), "testRunHookStarted", RUN_HOOK_STARTED)
+}
+
+const RUN_HOOK_FINISHED: &str = r#"required testRunHookStartedId "r1" 1
+required result {"status":"PASSED"} "PASSED""#;
+
+#[test]
+fn finished_run_hooks(rt: HostRuntime) -> Result<(), Fail> {
+    expect_members(&rt, rt.alloc(), "testRunHookFinished", RUN_HOOK_FINISHED)
+}
+
 const TEST_CASE: &str = r#"required id "c1" 1
 required pickleId "3" 3
 optional testRunStartedId "r" []

@@ -1,5 +1,5 @@
 //! Readers and writers of std that fail.
-use cm_envelope::{ByteSink, ByteSource, DeviceFailed, Reader, Writer};
+use cm_envelope::{ByteSink, ByteSource, DeviceFailed, Feed, Reader, Trouble, Writer};
 use std::io;
 
 // Every call fails.
@@ -19,6 +19,41 @@ impl io::Write for Broken {
 
     fn flush(&mut self) -> io::Result<()> {
         Err(io::Error::from(io::ErrorKind::BrokenPipe))
+    }
+}
+
+// The first call fails, and each after it does what it is asked.
+#[derive(Drop)]
+struct Recovering {
+    calls: u64,
+}
+
+impl Recovering {
+    fn called(&mut self) -> io::Result<()> {
+        self.calls = self.calls.saturating_add(1);
+        if self.calls == 1 {
+            return Err(io::Error::from(io::ErrorKind::Interrupted));
+        }
+        Ok(())
+    }
+}
+
+impl io::Read for Recovering {
+    fn read(&mut self, piece: &mut [u8]) -> io::Result<usize> {
+        self.called()?;
+        piece.fill(b'a');
+        Ok(piece.len())
+    }
+}
+
+impl io::Write for Recovering {
+    fn write(&mut self, bytes: &[u8]) -> io::Result<usize> {
+        self.called()?;
+        Ok(bytes.len())
+    }
+
+    fn flush(&mut self) -> io::Result<()> {
+        self.called()
     }
 }
 
@@ -49,6 +84,38 @@ fn a_failed_call_is_told(rt: HostRuntime) {
     );
     assert_eq!(rt; Writer::new(Broken).write_some(b"ab"), Err(DeviceFailed));
     assert_eq!(rt; Writer::new(Broken).flush(), Err(DeviceFailed));
+}
+
+#[test]
+fn a_failed_call_is_not_repeated(rt: HostRuntime) {
+    let mut device = Recovering { calls: 0 };
+    let mut piece = [0; 4];
+    let read = Reader::new(&mut device).read_some(&mut piece);
+    assert_eq!(rt; read, Err(DeviceFailed));
+    assert_eq!(rt; device.calls, 1);
+    let mut device = Recovering { calls: 0 };
+    let written = Writer::new(&mut device).write_some(b"ab");
+    assert_eq!(rt; written, Err(DeviceFailed));
+    assert_eq!(rt; device.calls, 1);
+    let mut device = Recovering { calls: 0 };
+    let flushed = Writer::new(&mut device).flush();
+    assert_eq!(rt; flushed, Err(DeviceFailed));
+    assert_eq!(rt; device.calls, 1);
+}
+
+// The reader would go on after its failure, but the feed doesn't read again.
+#[test]
+fn a_feed_ends_with_its_first_failed_read(rt: HostRuntime) {
+    let mut device = Recovering { calls: 0 };
+    let mut reader = Reader::new(&mut device);
+    let mut feed = Feed::new(rt.alloc());
+    for _ in 0..2 {
+        let answer = feed.next_line(&mut reader);
+        assert!(rt; matches!(answer, Err(Trouble::ReadFailed)));
+    }
+    drop(feed);
+    drop(reader);
+    assert_eq!(rt; device.calls, 1);
 }
 
 #[test]
