@@ -180,6 +180,64 @@ fn failures_of_compile(rt: HostRuntime) {
     expect_failures(&rt, rt.alloc(), case);
 }
 
+// A text that is refused is told of.
+fn expect_refused(rt: &impl Abort, alloc: Global, words: &[&str]) {
+    let case = Case {
+        words,
+        input: "Feature: f\n  Scenario: s\n    Given a\n  Background:\n",
+        text: "refused 4:3 1 Unexpected\n",
+        status: 1,
+    };
+    expect_failures(rt, alloc, case);
+}
+
+#[test]
+fn failures_with_a_refused_text(rt: HostRuntime) {
+    expect_refused(&rt, rt.alloc(), &["parse"]);
+    expect_refused(&rt, rt.alloc(), &["compile", "--uri", "a.feature"]);
+}
+
+#[test]
+fn failures_of_the_version(rt: HostRuntime) {
+    let case = Case {
+        words: &["--version"],
+        input: "[]",
+        text: "cukecheck 0.1.0\n",
+        status: 0,
+    };
+    expect_failures(&rt, rt.alloc(), case);
+}
+
+// What the words print where no call fails, of which the rest is told where one does.
+fn expect_words_to_fail(
+    rt: &impl Abort,
+    alloc: Global,
+    words: &[&str],
+    status: u8,
+) -> Result<(), Fail> {
+    let mut sink = Store::new(alloc, usize::MAX);
+    assert_eq!(rt;
+        run(alloc, words, &mut Pieces::whole(b""), &mut sink),
+        status
+    );
+    let text = std::str::from_utf8(sink.bytes())?;
+    assert!(rt; !text.is_empty());
+    let case = Case {
+        words,
+        input: "[]",
+        text,
+        status,
+    };
+    expect_failures(rt, alloc, case);
+    Ok(())
+}
+
+#[test]
+fn failures_of_help_and_of_mistakes(rt: HostRuntime) -> Result<(), Fail> {
+    expect_words_to_fail(&rt, rt.alloc(), &["help", "parse"], 0)?;
+    expect_words_to_fail(&rt, rt.alloc(), &["parse", "x"], 2)
+}
+
 const GOOD: &str = "good sources=1 pickles=1 cases=1 attempts=2\n";
 
 const HELD: &str = "good sources=0 pickles=0 cases=0 attempts=0\nstop Empty\n";
@@ -195,6 +253,16 @@ fn failures_of_audit(rt: HostRuntime) -> Result<(), Fail> {
     expect_stream(&rt, rt.alloc(), "audit", RETRIED, GOOD, 0)?;
     let text = "unsupported line 1: 1 Language\n";
     expect_stream(&rt, rt.alloc(), "audit", "french", text, 4)
+}
+
+const NO_OBJECT: &str = "bad line 1: 2 Shape\n";
+
+#[test]
+fn failures_with_a_bad_stream(rt: HostRuntime) -> Result<(), Fail> {
+    expect_stream(&rt, rt.alloc(), "audit", "array", NO_OBJECT, 1)?;
+    expect_stream(&rt, rt.alloc(), "gate", "array", NO_OBJECT, 1)?;
+    expect_stream(&rt, rt.alloc(), "results", "array", NO_OBJECT, 1)?;
+    expect_stream(&rt, rt.alloc(), "cases", "array", NO_OBJECT, 1)
 }
 
 #[test]
