@@ -6,7 +6,8 @@ use Rattle.cm_envelope.specs.Reading.{LineFault}
 use Rattle.cm_envelope.specs.declared.envelope.Envelope.{Envelope}
 use Rattle.cm_envelope.specs.declared.envelope.Envelope.TheVariants as envelope
 use Rattle.cm_stream.specs.declared.verdict.Counts.{Counts}
-use Rattle.cm_state.specs.Summary.{Summary, summary_after_line, counts_with_case}
+use Rattle.cm_state.specs.Summary.{Summary, counts_with_case}
+use Rattle.cm_state.specs.ByOnePass.{summary_after_line}
 use Rattle.cm_audit.specs.Audit.{TakesLine}
 use Rattle.cm_audit.specs.State.{AreFewer, summary_of}
 use Rattle.cm_audit.specs.declared.state.State.{State}

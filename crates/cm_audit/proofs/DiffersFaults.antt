@@ -29,7 +29,8 @@ use Rattle.cm_stream.specs.Texts.{Utf8}
 use Rattle.cm_stream.proofs.Found.{bytes_are}
 use Rattle.cm_stream.proofs.Lists.{find_map, found_any, or_false}
 use Rattle.cm_state.specs.StateChecks.{find_source, is_accepted_by, is_awaited_by, is_awaited_of, is_next_by, is_next_of, is_well, knows_run, lacks_by, or_else}
-use Rattle.cm_state.specs.Summary.{SourceRow, Summary, awaited_of, row_of, summary_of_lines, source_row}
+use Rattle.cm_state.specs.Summary.{SourceRow, Summary, awaited_of, row_of}
+use Rattle.cm_state.specs.ByOnePass.{summary_of_lines, source_row}
 use Rattle.cm_state.proofs.Checked.{findings_are_faults}
 use Rattle.cm_state.proofs.SourceTests.{first_left, no_document, not_zero, same_lack, some_left}
 use Rattle.cm_differs.specs.Differences.{IsTreeDifference, missing_document, missing_pickle, pickle_difference}

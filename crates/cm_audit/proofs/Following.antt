@@ -26,8 +26,9 @@ use Rattle.cm_stream.proofs.Streams.{answers_are_right}
 use Rattle.cm_stream.proofs.TableSteps.{none_is_refused}
 use Rattle.cm_stream.proofs.Tables.{tables_have_results}
 use Rattle.cm_state.specs.Laws.{answer_at_end}
-use Rattle.cm_state.specs.StateChecks.{finding, finding_at_end}
-use Rattle.cm_state.specs.Summary.{Summary, summary_after_line, empty_summary, summary_of_lines}
+use Rattle.cm_state.specs.StateChecks.{finding_at_end}
+use Rattle.cm_state.specs.Summary.{Summary, empty_summary}
+use Rattle.cm_state.specs.ByOnePass.{finding, summary_after_line, summary_of_lines}
 use Rattle.cm_state.proofs.Checked.{findings_are_faults}
 use Rattle.cm_state.proofs.Judged.{judged_is_told, none_yet, one_more_line}
 use Rattle.cm_state.proofs.Steps.{summaries_step}

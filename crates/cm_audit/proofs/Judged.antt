@@ -22,8 +22,9 @@ use Rattle.cm_envelope.specs.declared.envelope.GherkinDocument.{GherkinDocument}
 use Rattle.cm_envelope.specs.declared.envelope.ParseError.{ParseError}
 use Rattle.cm_envelope.specs.declared.envelope.TestRunHookStarted.{TestRunHookStarted}
 use Rattle.cm_envelope.specs.declared.pickle.Pickle.{Pickle}
-use Rattle.cm_state.specs.Summary.{Summary, new_row, new_source}
-use Rattle.cm_state.specs.StateChecks.{find_source, plain_finding, is_accepted_by, is_awaited_of, is_next_by, knows_run_hook, or_else}
+use Rattle.cm_state.specs.Summary.{Summary, new_row}
+use Rattle.cm_state.specs.StateChecks.{find_source, is_accepted_by, is_awaited_of, is_next_by, knows_run_hook, or_else}
+use Rattle.cm_state.specs.ByOnePass.{new_source, plain_finding}
 use Rattle.cm_audit.specs.Kept.{ReadsAs, accepted_row, kept_row}
 use Rattle.cm_audit.specs.State.{Checks, Judges, Refuses, summary_of}
 use Rattle.cm_audit.specs.Stops.{StopsFor, refused_reference}

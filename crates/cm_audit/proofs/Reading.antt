@@ -15,7 +15,8 @@ use Rattle.cm_stream.proofs.Lists.{length-both}
 use Rattle.std.proofs.lemmas.List.{map-append}
 use Rattle.cm_state.specs.Summary.{Summary, empty_summary}
 use Rattle.cm_state.specs.StateChecks.{finding_at_end}
-use Rattle.cm_state.specs.Laws.{answer_at_end, answer_of_line, answer_of_lines}
+use Rattle.cm_state.specs.Laws.{answer_at_end}
+use Rattle.cm_state.specs.ByOnePass.{answer_of_line, answer_of_lines}
 use Rattle.cm_audit.specs.Audit.{AnswersAs, Begins, ReadsNoFurther, TakesLine, audited_at}
 use Rattle.cm_audit.specs.Judging.{judged, lines_then, HasRead, HasJudged, JudgesTo, HoldNoFault}
 use Rattle.cm_audit.specs.State.{summary_of}

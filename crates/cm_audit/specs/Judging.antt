@@ -11,8 +11,8 @@ use Rattle.cm_attempt.specs.declared.settings.Settings.{Settings}
 use Rattle.cm_stream.specs.Stream.{Answer, Failed, feed_of, envelope_unless_blank, verdict_in}
 use Rattle.cm_stream.specs.ByOnePass.{IsFaultless}
 use Rattle.cm_stream.specs.declared.verdict.Audited.{Audited}
-use Rattle.cm_state.specs.Summary.{Summary, empty_summary, summary_of_lines}
-use Rattle.cm_state.specs.Laws.{answer_of_lines}
+use Rattle.cm_state.specs.Summary.{Summary, empty_summary}
+use Rattle.cm_state.specs.ByOnePass.{summary_of_lines, answer_of_lines}
 use Rattle.cm_audit.specs.Audit.{AnswersAs, Begins, ReadsUpTo, all_written, contents}
 
 -- the answer line by line, from the first line on, and then for the trouble or the end

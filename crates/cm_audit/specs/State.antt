@@ -3,10 +3,10 @@ use Rattle.std.specs.Prelude.{◌≡◌, ◌<◌, ℕ, ⊤, map, Option, Result,
 use Rattle.std.specs.String.{string_bytes}
 use Rattle.cm_envelope.specs.declared.envelope.Envelope.{Envelope}
 use Rattle.cm_stream.specs.declared.verdict.Counts.{Counts}
-use Rattle.cm_state.specs.Summary.{Summary, summary_after_line}
+use Rattle.cm_state.specs.Summary.{Summary}
 use Rattle.cm_attempt.specs.declared.policy.Policy.{Policy}
 use Rattle.cm_attempt.specs.declared.settings.Settings.{Settings}
-use Rattle.cm_state.specs.StateChecks.{finding, finding_inside, plain_finding}
+use Rattle.cm_state.specs.ByOnePass.{summary_after_line, finding, finding_inside, plain_finding}
 use Rattle.cm_audit.specs.Kept.{kept_rows}
 use Rattle.cm_stream.specs.Findings.{Finding, IsBad, IsUnsupported, stream_fault_named}
 use Rattle.cm_audit.specs.Stops.{StopsFor}

@@ -12,7 +12,8 @@ use Rattle.cm_stream.specs.declared.verdict.StreamFault.{StreamFault}
 use Rattle.cm_stream.specs.declared.verdict.StreamFault.TheVariants as bad
 use Rattle.cm_stream.specs.declared.verdict.Verdict.{Verdict}
 use Rattle.cm_stream.specs.declared.verdict.Verdict.TheVariants as verdict
-use Rattle.cm_state.specs.Summary.{Summary, summary_of_lines}
+use Rattle.cm_state.specs.Summary.{Summary}
+use Rattle.cm_state.specs.ByOnePass.{summary_of_lines}
 use Rattle.cm_audit.specs.Judging.{envelopes_in}
 use Rattle.cm_audit.specs.declared.stop.Stop.{Stop}
 use Rattle.cm_audit.specs.declared.stop.Stop.TheVariants as stop

@@ -2,7 +2,8 @@
 ghost use Rattle.std.specs.Prelude.{◌≡◌, ◌&&◌, IfErr, IfOk, OnOk, false, true};
 ghost use Rattle.cm_attempt.specs.Table.{has_repeat, has_text};
 ghost use Rattle.cm_envelope.specs.declared.envelope.Envelope.TheVariants as envelope;
-ghost use Rattle.cm_state.specs.StateChecks.{plain_finding, is_next_by};
+ghost use Rattle.cm_state.specs.StateChecks.{is_next_by};
+ghost use Rattle.cm_state.specs.ByOnePass.{plain_finding};
 ghost use Rattle.cm_state.specs.Summary.{change_source, one_more, with_ids};
 ghost use Rattle.cm_audit.specs.Kept.{IsAcceptedAt, kept_rows};
 ghost use Rattle.cm_audit.specs.State.{AreFewer, Checks, IsListed, Judges, summary_of};

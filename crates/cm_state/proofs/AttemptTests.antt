@@ -21,7 +21,7 @@ use Rattle.cm_stream.proofs.Passing.{AllPass}
 use Rattle.cm_stream.proofs.CallChecks.{step_asked, distinct_cases}
 use Rattle.cm_stream.proofs.TableSteps.{AreAccepted}
 use Rattle.cm_stream.proofs.TableWords.{step_told, good_cases}
-use Rattle.cm_state.specs.Summary.{summary_of_lines}
+use Rattle.cm_state.specs.ByOnePass.{summary_of_lines}
 use Rattle.cm_state.specs.StateChecks.{knows_place, is_well}
 use Rattle.cm_state.proofs.Tests.{attempt_declared, unknown}
 use Rattle.cm_state.proofs.SourceTests.{each_accepted}

@@ -15,9 +15,12 @@ use Rattle.cm_envelope.specs.declared.envelope.Envelope.TheVariants as envelope
 use Rattle.cm_stream.proofs.Passing.{AllPass, plain_passes}
 use Rattle.cm_stream.proofs.TableSteps.{AreAccepted, none_is_refused, own_refused}
 use Rattle.cm_stream.proofs.TableWords.{none_open}
-use Rattle.cm_state.specs.Summary.{declarations_in, summary_of_lines}
-use Rattle.cm_state.specs.Laws.{FindingsAreFaults}
-use Rattle.cm_state.specs.StateChecks.{checks_before, checks_after, success_by, plain_finding, or_else, finding_inside}
+use Rattle.cm_state.specs.Summary.{declarations_in}
+use Rattle.cm_stream.specs.OnePass.{reads}
+use Rattle.cm_stream.proofs.ByGrammar.{by_the_grammar}
+use Rattle.cm_state.specs.Laws.{FindingsAreFaults, FindingsAreFaultsBy}
+use Rattle.cm_state.specs.StateChecks.{checks_after, success_by, or_else}
+use Rattle.cm_state.specs.ByOnePass.{summary_of_lines, checks_before, plain_finding, finding_inside}
 use Rattle.cm_state.proofs.Tests.{IsDeclaredIf, source_declared, document_declared, definition_declared, hook_declared, run_hook_declared, started_is, run_known}
 use Rattle.cm_state.proofs.StepTests.{both_known, pickle_again, case_known, steps_are}
 use Rattle.cm_state.proofs.SourceTests.{same_accepted, same_awaited, same_next, same_incomplete}
@@ -130,7 +133,10 @@ inside policy first es e pass accepted =
     let last = same_failed (success_by policy (summary_of_lines first es) e) (success_check policy es e) (agree_last policy first es pass accepted e) in
     (λ i. or_else (plain i) (last i)) ∙ sym (in_turn (checks_of first es e) (success_check policy es e))
 
-pub findings_are_faults : FindingsAreFaults
+pub findings_are_faults : FindingsAreFaultsBy reads
 findings_are_faults settings es e none =
     let told = inside settings.policy settings.first_attempt es e (plain_passes settings es none) (none_is_refused settings es none) in
     ap (λ o. if is_judged e && has_run_finished es then Some (IsBad bad.AfterRunFinished) else o) told
+
+pub findings_are_faults_law : FindingsAreFaults
+findings_are_faults_law = by_the_grammar FindingsAreFaultsBy findings_are_faults

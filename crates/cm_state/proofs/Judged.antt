@@ -11,11 +11,14 @@ use Rattle.cm_stream.specs.References.{has_run_finished}
 use Rattle.cm_stream.specs.Stream.{answer_for}
 use Rattle.cm_stream.specs.Stream as stream
 use Rattle.cm_stream.specs.ByOnePass.{fault, first_fault_line, first_fault_of, IsFaultless}
-use Rattle.cm_state.specs.Summary.{Summary, summary_of_lines, empty_summary, summary_after_line}
-use Rattle.cm_state.specs.StateChecks.{finding, finding_at_end}
+use Rattle.cm_state.specs.Summary.{Summary, empty_summary}
+use Rattle.cm_state.specs.StateChecks.{finding_at_end}
 use Rattle.cm_state.proofs.Checked.{findings_are_faults as findings}
 use Rattle.cm_state.proofs.Steps.{summaries_step as steps}
-use Rattle.cm_state.specs.Laws.{JudgedIsTold, answer_at_end, answer_at_line, answer_of_line, answer_of_lines}
+use Rattle.cm_stream.specs.OnePass.{reads}
+use Rattle.cm_stream.proofs.ByGrammar.{by_the_grammar}
+use Rattle.cm_state.specs.Laws.{JudgedIsTold, JudgedIsToldBy, answer_at_end, answer_at_line}
+use Rattle.cm_state.specs.ByOnePass.{summary_of_lines, summary_after_line, finding, answer_of_line, answer_of_lines}
 
 -- ---- one more line without a fault
 
@@ -85,5 +88,8 @@ module _ (settings : Settings) where
   judged_as_told : (lines : List (List ℕ)) (t : Option Trouble) → answer_of_lines settings (empty_summary settings.first_attempt) 1 lines t ≡ answer_for (first_fault_of settings [] 1 lines t)
   judged_as_told lines t = same [] (empty_summary settings.first_attempt) refl none_yet 1 lines t
 
-pub judged_is_told : JudgedIsTold
+pub judged_is_told : JudgedIsToldBy reads
 judged_is_told settings lines t = judged_as_told settings lines t
+
+pub judged_is_told_law : JudgedIsTold
+judged_is_told_law = by_the_grammar JudgedIsToldBy judged_is_told

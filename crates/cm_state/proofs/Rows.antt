@@ -20,7 +20,8 @@ use Rattle.cm_stream.proofs.Documents.{documents_both, pickles_both}
 use Rattle.cm_stream.proofs.Passing.{AllPass, front_passes, last_passes}
 use Rattle.cm_stream.proofs.Distinct.{all_distinct, at_most_once}
 use Rattle.cm_stream.proofs.OneRow.{OnlyOne, only_one, change_one}
-use Rattle.cm_state.specs.Summary.{SourceRow, row_of, source_row, new_source, with_ids, one_more, change_source}
+use Rattle.cm_state.specs.Summary.{SourceRow, row_of, with_ids, one_more, change_source}
+use Rattle.cm_state.specs.ByOnePass.{source_row, new_source}
 use Rattle.cm_state.proofs.OneMore.{kept_named, not_found, none_refers}
 
 -- what is kept of the sources

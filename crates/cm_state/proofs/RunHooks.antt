@@ -25,7 +25,8 @@ use Rattle.cm_stream.proofs.Declared.{declares_run_hook}
 use Rattle.cm_stream.proofs.Passing.{AllPass, front_passes, last_passes}
 use Rattle.cm_stream.proofs.Distinct.{all_distinct, at_most_once}
 use Rattle.cm_stream.proofs.OneRow.{OnlyOne, only_one, change_one}
-use Rattle.cm_state.specs.Summary.{declarations_in, run_hook_row, summary_of_lines}
+use Rattle.cm_state.specs.Summary.{declarations_in, run_hook_row}
+use Rattle.cm_state.specs.ByOnePass.{summary_of_lines}
 use Rattle.cm_state.specs.StateChecks.{is_hook_finished_by, knows_run_hook}
 use Rattle.cm_state.proofs.OneMore.{found_after, push_if, kept_named, not_found, none_refers}
 use Rattle.cm_state.proofs.StepTests.{both_known}

@@ -24,7 +24,8 @@ use Rattle.cm_envelope.specs.declared.envelope.GherkinDocument.{GherkinDocument}
 use Rattle.cm_envelope.specs.declared.pickle.Pickle.{Pickle}
 use Rattle.cm_stream.proofs.Found.{bytes_are}
 use Rattle.cm_stream.proofs.Declared.{same_any}
-use Rattle.cm_state.specs.Summary.{SourceRow, document_of, awaited_of, declarations_in, row_of, source_row, summary_of_lines}
+use Rattle.cm_state.specs.Summary.{SourceRow, document_of, awaited_of, declarations_in, row_of}
+use Rattle.cm_state.specs.ByOnePass.{source_row, summary_of_lines}
 use Rattle.cm_state.specs.StateChecks.{find_source, is_accepted_by, is_awaited_of, is_awaited_by, is_next_of, is_next_by, lacks_by}
 use Rattle.cm_stream.proofs.Lists.{find_map, keeps_none}
 

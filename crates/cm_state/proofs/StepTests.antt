@@ -22,7 +22,8 @@ use Rattle.cm_stream.proofs.Found.{bytes_same, eq_back}
 use Rattle.cm_stream.proofs.Passing.{AllPass}
 use Rattle.cm_stream.proofs.OneRow.{one_pickle}
 use Rattle.cm_stream.proofs.Steps.{one_with, none_with, out_of_or, never}
-use Rattle.cm_state.specs.Summary.{pickle_row, declarations_in, summary_of_lines}
+use Rattle.cm_state.specs.Summary.{pickle_row, declarations_in}
+use Rattle.cm_state.specs.ByOnePass.{summary_of_lines}
 use Rattle.cm_state.specs.StateChecks.{is_among, steps_by, knows_run, knows_step, knows_case, has_steps_by}
 use Rattle.cm_state.proofs.Tests.{IsDeclaredIf, by_same, by_test, pickle_declared, definition_declared, hook_declared, unknown, run_known}
 use Rattle.cm_stream.proofs.Lists.{or_no, find_map, found_any}

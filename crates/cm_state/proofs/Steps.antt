@@ -15,8 +15,11 @@ use Rattle.cm_envelope.specs.declared.envelope.TestCase.{TestCase}
 use Rattle.cm_envelope.specs.declared.envelope.TestRunStarted.{TestRunStarted}
 use Rattle.cm_stream.proofs.Passing.{LinePasses, AllPass, plain_passes, last_passes}
 use Rattle.cm_stream.proofs.TableSteps.{table_steps}
-use Rattle.cm_state.specs.Summary.{SourceRow, Summary, as_definition, as_hook, as_run, first_of, pickle_row, declarations_in, with_name, once_each, summary_of_lines, new_source, with_ids, one_more, change_source, summary_after_line}
-use Rattle.cm_state.specs.Laws.{SummariesStep}
+use Rattle.cm_state.specs.Summary.{SourceRow, Summary, as_definition, as_hook, as_run, first_of, pickle_row, declarations_in, with_name, once_each, with_ids, one_more, change_source}
+use Rattle.cm_state.specs.ByOnePass.{summary_of_lines, new_source, summary_after_line}
+use Rattle.cm_stream.specs.OnePass.{reads}
+use Rattle.cm_stream.proofs.ByGrammar.{by_the_grammar}
+use Rattle.cm_state.specs.Laws.{SummariesStep, SummariesStepBy}
 use Rattle.cm_state.proofs.OneMore.{push_if, found_after, map_after}
 use Rattle.cm_state.proofs.Rows.{rows, other_rows, source_rows, document_rows, pickle_rows}
 use Rattle.cm_state.proofs.RunHooks.{hook_rows_after, hook_rows_step, hooks_worst_after, hooks_worst_step}
@@ -138,7 +141,7 @@ after_is s (envelope.TestRunHookFinished f) = refl
 after_is s (envelope.TestRunFinished f) = refl
 after_is s e = refl
 
-pub summaries_step : SummariesStep
+pub summaries_step : SummariesStepBy reads
 summaries_step settings es e none = all ∙ after_is (summary_of_lines first es) e
   where
     first : ℕ
@@ -159,3 +162,6 @@ summaries_step settings es e none = all ∙ after_is (summary_of_lines first es)
       hooks_worst = hooks_worst_step es e i;
       counts = counts_step es e h i;
     }
+
+pub summaries_step_law : SummariesStep
+summaries_step_law = by_the_grammar SummariesStepBy summaries_step

@@ -21,7 +21,8 @@ use Rattle.cm_stream.proofs.Declared.{none_of, declares_source, declares_documen
 use Rattle.cm_stream.proofs.TableSteps.{AreAccepted}
 use Rattle.cm_stream.proofs.TableWords.{attempt_told}
 use Rattle.cm_stream.proofs.Passing.{AllPass, last_passes, by_lines}
-use Rattle.cm_state.specs.Summary.{as_definition, as_hook, as_run, first_of, pickle_row, run_hook_row, declarations_in, summary_of_lines}
+use Rattle.cm_state.specs.Summary.{as_definition, as_hook, as_run, first_of, pickle_row, run_hook_row, declarations_in}
+use Rattle.cm_state.specs.ByOnePass.{summary_of_lines}
 use Rattle.cm_state.specs.StateChecks.{is_run, knows_run}
 use Rattle.cm_stream.proofs.Lists.{or_no, found_any, found_more, found_push}
 

@@ -1,3 +1,4 @@
 pub mod Summary
 pub mod StateChecks
 pub mod Laws
+pub mod ByOnePass

@@ -10,8 +10,8 @@ use Rattle.cm_attempt.specs.declared.policy.Policy.{Policy}
 use Rattle.cm_attempt.specs.declared.settings.Settings.{Settings}
 use Rattle.gk_document.specs.declared.tree.Document.{Document}
 use Rattle.cm_stream.specs.Texts.{Utf8, same_texts}
+use Rattle.cm_stream.specs.Readings.{Reading}
 use Rattle.cm_stream.specs.Skeleton.{same_skeleton}
-use Rattle.cm_stream.specs.OnePass.{reads}
 use Rattle.cm_stream.specs.Sources.{plain, is_due}
 use Rattle.cm_stream.specs.References.{is_judged, pickle_step_ids}
 use Rattle.cm_stream.specs.Good.{is_unknown}
@@ -110,53 +110,53 @@ is_well policy s =
     && is_good_status policy (unwrap_or s.hooks_worst Passed)
     && list_all (λ r. r.is_accepted) s.sources
 
--- ---- the checks of a line before the one that the record of attempts makes, and after it
+-- ---- the checks of a line, where texts are read so, before the one that the record of attempts makes, and after it
 
-abbrev pub checks_before : Summary → Envelope → List Check
-checks_before s (envelope.Source x) =
+abbrev pub checks_before_by : (read : Utf8 → Reading) → Summary → Envelope → List Check
+checks_before_by read s (envelope.Source x) =
     bad.DuplicateUri if has_text x.uri s.declared.sources
     ∷ reason.MediaType unsupported_if not (bytes_eq x.media_type plain)
-    ∷ reason.SourceTooLong unsupported_if is_too_long (reads x.content)
-    ∷ reason.Language unsupported_if is_other_language (reads x.content) ∷ []
-checks_before s (envelope.GherkinDocument d) =
+    ∷ reason.SourceTooLong unsupported_if is_too_long (read x.content)
+    ∷ reason.Language unsupported_if is_other_language (read x.content) ∷ []
+checks_before_by read s (envelope.GherkinDocument d) =
     bad.UnknownReference if not (has_text d.uri s.declared.sources)
     ∷ bad.DuplicateUri if has_text d.uri s.declared.documents
     ∷ bad.DocumentOfRefusedSource if not (is_accepted_by s d.uri)
     ∷ bad.TreeDiffers if not (is_awaited_by s d)
     ∷ bad.DuplicateId if has_repeat d.ids ∷ []
-checks_before s (envelope.ParseError p) =
+checks_before_by read s (envelope.ParseError p) =
     bad.UnknownReference if not (has_text p.source.uri s.declared.sources)
     ∷ bad.ParseErrorOfGoodSource if is_accepted_by s p.source.uri ∷ []
-checks_before s (envelope.Pickle p) =
+checks_before_by read s (envelope.Pickle p) =
     bad.UnknownReference if not (has_text p.uri s.declared.sources
     && has_text p.uri s.declared.documents)
     ∷ bad.PickleDiffers if not (is_next_by s p)
     ∷ bad.DuplicateId if is_some (pickle_fault s.declared p.id (map (λ x. x.id) p.steps)) ∷ []
-checks_before s (envelope.StepDefinition d) =
+checks_before_by read s (envelope.StepDefinition d) =
     bad.DuplicateId if has_text d.id s.declared.definitions ∷ []
-checks_before s (envelope.Hook h) = bad.DuplicateId if has_text h.id s.declared.hooks ∷ []
-checks_before s (envelope.TestCase c) =
+checks_before_by read s (envelope.Hook h) = bad.DuplicateId if has_text h.id s.declared.hooks ∷ []
+checks_before_by read s (envelope.TestCase c) =
     bad.UnknownReference if not (knows_case s c)
     ∷ bad.CaseStepsDiffer if not (has_steps_by s c) ∷ []
-checks_before s (envelope.TestRunStarted r) = bad.SecondRunStarted if is_some s.run ∷ []
-checks_before s (envelope.TestCaseStarted x) = bad.OutsideRun if is_none s.run ∷ []
-checks_before s (envelope.TestRunFinished f) =
+checks_before_by read s (envelope.TestRunStarted r) = bad.SecondRunStarted if is_some s.run ∷ []
+checks_before_by read s (envelope.TestCaseStarted x) = bad.OutsideRun if is_none s.run ∷ []
+checks_before_by read s (envelope.TestRunFinished f) =
     bad.OutsideRun if is_none s.run
     ∷ bad.UnknownReference if not (knows_run s f.test_run_started_id)
     ∷ bad.AttemptOpen if not (open_count s.table == 0)
     ∷ bad.RunHookOpen if not (open_hook_count s.declared == 0)
     ∷ bad.SourceIncomplete if list_any lacks_by s.sources ∷ []
-checks_before s (envelope.Attachment a) =
+checks_before_by read s (envelope.Attachment a) =
     bad.UnknownReference if not (knows_place s a.test_case_started_id a.test_step_id) ∷ []
-checks_before s (envelope.TestRunHookStarted x) =
+checks_before_by read s (envelope.TestRunHookStarted x) =
     bad.OutsideRun if is_none s.run
     ∷ bad.UnknownReference if not (knows_run_hook s x)
     ∷ bad.DuplicateId if is_some (find_run_hook s.declared x.id) ∷ []
-checks_before s (envelope.TestRunHookFinished f) =
+checks_before_by read s (envelope.TestRunHookFinished f) =
     bad.UnknownReference if not (is_some (find_run_hook s.declared f.test_run_hook_started_id))
     ∷ bad.RunHookTwice if is_hook_finished_by s f.test_run_hook_started_id
     ∷ reason.UnknownStatus unsupported_if is_unknown f.result.status ∷ []
-checks_before s _ = []
+checks_before_by read s _ = []
 
 abbrev pub checks_after : Envelope → List Check
 checks_after (envelope.TestStepFinished x) =
@@ -175,21 +175,23 @@ or_else None later = later
 or_else (Some f) later = Some f
 
 -- the finding of a line by the checks that are made whatever statuses are good
-abbrev pub plain_finding : Summary → Envelope → Option Finding
-plain_finding s e =
-    or_else (first_failed (checks_before s e))
+abbrev pub plain_finding_by : (read : Utf8 → Reading) → Summary → Envelope → Option Finding
+plain_finding_by read s e =
+    or_else (first_failed (checks_before_by read s e))
     (or_else (option_and_then call_fault_finding (call_fault_of_envelope s.table e))
     (first_failed (checks_after e)))
 
 -- the finding of a line of which no check comes after the end of the run
-abbrev pub finding_inside : Policy → Summary → Envelope → Option Finding
-finding_inside policy s e = or_else (plain_finding s e) (first_failed (success_by policy s e))
+abbrev pub finding_inside_by : (read : Utf8 → Reading) → Policy → Summary → Envelope
+    → Option Finding
+finding_inside_by read policy s e =
+    or_else (plain_finding_by read s e) (first_failed (success_by policy s e))
 
 -- the finding of a line: nothing is judged after the end of the run
-abbrev pub finding : Settings → Summary → Envelope → Option Finding
-finding settings s e =
+abbrev pub finding_by : (read : Utf8 → Reading) → Settings → Summary → Envelope → Option Finding
+finding_by read settings s e =
     if is_judged e && s.is_finished then Some (IsBad bad.AfterRunFinished)
-    else finding_inside settings.policy s e
+    else finding_inside_by read settings.policy s e
 
 -- the finding at the end
 abbrev pub finding_at_end : Summary → Option Finding

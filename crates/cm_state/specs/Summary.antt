@@ -10,7 +10,6 @@ use Rattle.cm_attempt.specs.declared.status.Status.{Status}
 use Rattle.cm_stream.specs.Statuses.{kept_status}
 use Rattle.cm_stream.specs.Texts.{Utf8}
 use Rattle.cm_stream.specs.Readings.{Reading, Accepted}
-use Rattle.cm_stream.specs.OnePass.{reads}
 use Rattle.cm_stream.specs.Sources.{DuePickle}
 use Rattle.cm_stream.specs.Checks.{due_pickles, first_ids}
 use Rattle.cm_stream.specs.References.{as_document, sources, pickles, cases, run_hooks, hook_statuses, documents_of, pickles_of, has_run_finished, is_accepted, run_succeeded, is_hook_finished}
@@ -106,8 +105,10 @@ row_of uri reading documents pickles = record {
   due = drop (length pickles) (due_pickles (Some reading));
 }
 
-abbrev pub source_row : List Envelope → Source → SourceRow
-source_row es s = row_of s.uri (reads s.content) (documents_of s.uri es) (pickles_of s.uri es)
+-- where texts are read so
+abbrev pub source_row_by : (read : Utf8 → Reading) → List Envelope → Source → SourceRow
+source_row_by read es s =
+    row_of s.uri (read s.content) (documents_of s.uri es) (pickles_of s.uri es)
 
 -- the names, and this one after them if it isn't among them
 abbrev pub with_name : List Utf8 → Utf8 → List Utf8
@@ -121,12 +122,12 @@ names_from names (name ∷ more) = names_from (with_name names name) more
 abbrev pub once_each : List Utf8 → List Utf8
 once_each texts = names_from [] texts
 
--- where the attempts of a case are numbered from the first number
-abbrev pub summary_of_lines : (first : ℕ) → List Envelope → Summary
-summary_of_lines first es = record {
+-- where texts are read so, and the attempts of a case are numbered from the first number
+abbrev pub summary_of_lines_by : (read : Utf8 → Reading) → (first : ℕ) → List Envelope → Summary
+summary_of_lines_by read first es = record {
   declared = declarations_in es;
   table = table_of_envelopes first es;
-  sources = map (source_row es) (sources es);
+  sources = map (source_row_by read es) (sources es);
   named = once_each (map (λ c. c.pickle_id) (cases es));
   run = first_of (filter_map as_run es);
   is_finished = has_run_finished es;
@@ -154,8 +155,8 @@ empty_summary first = record {
 abbrev pub new_row : Utf8 → Reading → SourceRow
 new_row uri reading = row_of uri reading [] []
 
-abbrev pub new_source : Source → SourceRow
-new_source s = new_row s.uri (reads s.content)
+abbrev pub new_source_by : (read : Utf8 → Reading) → Source → SourceRow
+new_source_by read s = new_row s.uri (read s.content)
 
 -- its document came, with these ids
 abbrev pub with_ids : List Utf8 → SourceRow → SourceRow
@@ -182,45 +183,45 @@ counts_with_case false n = record n { cases = n.cases + 1; unrun = n.unrun - 1 }
 abbrev pub counts_with_attempt : Counts → Counts
 counts_with_attempt n = record n { attempts = n.attempts + 1 }
 
--- what a line makes of it
-abbrev pub summary_after_line : Summary → Envelope → Summary
-summary_after_line s (envelope.Source x) =
+-- what a line makes of it, where texts are read so
+abbrev pub summary_after_line_by : (read : Utf8 → Reading) → Summary → Envelope → Summary
+summary_after_line_by read s (envelope.Source x) =
     record s {
       declared = with_source x.uri s.declared;
-      sources = s.sources ++ new_source x ∷ [];
+      sources = s.sources ++ new_source_by read x ∷ [];
       counts = counts_with_source s.counts;
     }
-summary_after_line s (envelope.GherkinDocument d) =
+summary_after_line_by read s (envelope.GherkinDocument d) =
     record s {
       declared = with_document d.uri s.declared;
       sources = change_source d.uri (with_ids d.ids) s.sources;
     }
-summary_after_line s (envelope.Pickle p) = record s {
+summary_after_line_by read s (envelope.Pickle p) = record s {
   declared = with_pickle p.id (map (λ x. x.id) p.steps) s.declared;
   sources = change_source p.uri one_more s.sources;
   counts = counts_with_pickle s.counts;
 }
-summary_after_line s (envelope.StepDefinition d) =
+summary_after_line_by read s (envelope.StepDefinition d) =
     record s { declared = with_definition d.id s.declared }
-summary_after_line s (envelope.Hook h) = record s { declared = with_hook h.id s.declared }
-summary_after_line s (envelope.TestCase c) = record s {
+summary_after_line_by read s (envelope.Hook h) = record s { declared = with_hook h.id s.declared }
+summary_after_line_by read s (envelope.TestCase c) = record s {
   table = table_after_envelope s.table (envelope.TestCase c);
   named = with_name s.named c.pickle_id;
   counts = counts_with_case (has_text c.pickle_id s.named) s.counts;
 }
-summary_after_line s (envelope.TestRunStarted r) = record s { run = Some r }
-summary_after_line s (envelope.TestCaseStarted x) =
+summary_after_line_by read s (envelope.TestRunStarted r) = record s { run = Some r }
+summary_after_line_by read s (envelope.TestCaseStarted x) =
     record s {
       table = table_after_envelope s.table (envelope.TestCaseStarted x);
       counts = counts_with_attempt s.counts;
     }
-summary_after_line s (envelope.TestRunHookStarted x) =
+summary_after_line_by read s (envelope.TestRunHookStarted x) =
     record s { declared = with_run_hook x.id s.declared }
-summary_after_line s (envelope.TestRunHookFinished f) =
+summary_after_line_by read s (envelope.TestRunHookFinished f) =
     record s {
       declared = with_finished_run_hook f.test_run_hook_started_id s.declared;
       hooks_worst = with_status s.hooks_worst (kept_status f.result.status);
     }
-summary_after_line s (envelope.TestRunFinished f) =
+summary_after_line_by read s (envelope.TestRunFinished f) =
     record s { is_finished = true; success = f.success }
-summary_after_line s e = record s { table = table_after_envelope s.table e }
+summary_after_line_by read s e = record s { table = table_after_envelope s.table e }

@@ -8,8 +8,8 @@ use Rattle.gk_grammar.specs.Documents.{lines_read, HasFault, IsTooLong, max_byte
 use Rattle.gk_grammar.specs.Machine.{FlatBlock, State, PlacedFault, run, blocks_at_end, initial}
 use Rattle.gk_grammar.proofs.LawLemmas.{one_document_holds, no_document_with_fault_holds, one_fault_holds, whole_run, stopped_run, open_run}
 use Rattle.cm_stream.specs.Texts.{Utf8}
-use Rattle.cm_stream.specs.Readings.{Reading, Accepted, Refused, OtherLanguage, TooLong, IsReading, OneReading}
-use Rattle.cm_stream.specs.OnePass.{passes_limits, reading_of_fault, reading_at_end, reading_after, reads, EachTextIsRead}
+use Rattle.cm_stream.specs.Readings.{Reading, Accepted, Refused, OtherLanguage, TooLong, IsReading, OneReading, ReadsByTheGrammar, SomeReading}
+use Rattle.cm_stream.specs.OnePass.{passes_limits, reading_of_fault, reading_at_end, reading_after, reads}
 
 -- ---- limits
 
@@ -51,7 +51,8 @@ pass_read text fits (Ok s) e = go (blocks_at_end s.phase) refl
     go (Some last) k = (fits, (whole_run text s last e k).doc)
     go None k = fault_read text fits kind.UnexpectedEnd _ _ (open_run text s e k)
 
-pub is_read : EachTextIsRead
+-- what the one pass makes of a text is what the grammar says of it
+pub is_read : ReadsByTheGrammar reads
 unfolding reads
 is_read text = go (passes_limits text) refl
   where
@@ -81,3 +82,6 @@ one_reading text TooLong TooLong x y = refl
 
 pub reads_it : (text : Utf8) (r : Reading) → IsReading text r → reads text ≡ r
 reads_it text r h = one_reading text (reads text) r (is_read text) h
+
+pub some_reading : SomeReading
+some_reading text = (reads text, is_read text)

@@ -6,7 +6,7 @@ use Rattle.gk_grammar.specs.Documents.{lines_read, max_bytes, max_lines}
 use Rattle.gk_grammar.specs.Machine.{FlatBlock, State, PlacedFault, run, blocks_at_end, initial}
 use Rattle.gk_grammar.specs.Assembly.{document_of}
 use Rattle.cm_stream.specs.Texts.{Utf8}
-use Rattle.cm_stream.specs.Readings.{Reading, Accepted, Refused, OtherLanguage, TooLong, ReadsByTheGrammar}
+use Rattle.cm_stream.specs.Readings.{Reading, Accepted, Refused, OtherLanguage, TooLong}
 
 -- the text has more bytes or lines than the limits allow
 abbrev pub passes_limits : Utf8 → Bool
@@ -27,7 +27,3 @@ reading_after (Ok s) = reading_at_end s (blocks_at_end s.phase)
 -- what one pass over the lines of a text makes of it
 unfoldable pub reads : Utf8 → Reading
 reads text = if passes_limits text then TooLong else reading_after (run initial (lines_read text))
-
--- what the one pass makes of a text is what the grammar says of it
-abbrev pub EachTextIsRead : Type 0
-EachTextIsRead = ReadsByTheGrammar reads

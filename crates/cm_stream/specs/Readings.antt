@@ -35,11 +35,15 @@ IsReading text Refused = (IsTooLong text → ⊥) × IsRefused text
 IsReading text OtherLanguage = (IsTooLong text → ⊥) × IsInOtherLanguage text
 IsReading text TooLong = IsTooLong text
 
--- a text is accepted with one document, refused, in another language, or too long, and never two of these
+-- a text is accepted with one document, refused, in another language, or too long
+abbrev pub SomeReading : Type 0
+SomeReading = (text : Utf8) → (r : Reading) × IsReading text r
+
+-- and never two of these
 abbrev pub OneReading : Type 0
 OneReading = (text : Utf8) (a b : Reading) → IsReading text a → IsReading text b → a ≡ b
 
--- the function gives of each text its reading; by the law above there is no other such function
+-- the function gives of each text its reading; by the two laws above there is exactly one such function
 abbrev pub ReadsByTheGrammar : (Utf8 → Reading) → Type 0
 ReadsByTheGrammar read = (text : Utf8) → IsReading text (read text)
 

@@ -1,7 +1,6 @@
 //! Laws of the definitions.
 ghost use Rattle.cm_stream.specs.Laws.{FaultlessAreGood, GoodHaveNoFault};
-ghost use Rattle.cm_stream.specs.OnePass.{EachTextIsRead};
-ghost use Rattle.cm_stream.specs.Readings.{OneReading};
+ghost use Rattle.cm_stream.specs.Readings.{OneReading, SomeReading};
 ghost use Rattle.cm_stream.specs.CallFaults.{OwnAreChecks, CallFaultsAreTold};
 ghost use Rattle.cm_stream.specs.Release.{AnswersRelease, ReleasedCasesRan, ReleasedExactly, ReleasedIsNotHeld, ReleasedRan};
 ghost use Rattle.cm_stream.specs.Results.{FaultsAreChecks, FaultsAreExact, FaultsAreFirst, FrontsAreWellOrdered, NoFaultIsExact};
@@ -12,7 +11,7 @@ ghost use Rattle.cm_stream.specs.Unsupported.{ReasonsAreShown};
 
 /// Each text is accepted with one document, refused, in another language, or too long, and never two of these.
 pub fn each_text_has_one_reading()
-    ensures some { EachTextIsRead }
+    ensures some { SomeReading }
     ensures one { OneReading }
 {}
 

@@ -4,7 +4,7 @@ use Rattle.cm_attempt.specs.Table.{has_text}
 use Rattle.cm_refs.specs.Declarations.{Declarations, with_document}
 use Rattle.cm_refs.specs.declared.fault.RefFault.TheVariants.{DuplicateUri}
 use Rattle.cm_envelope.specs.declared.envelope.Envelope.TheVariants.{GherkinDocument}
-use Rattle.cm_state.specs.StateChecks.{plain_finding}
+use Rattle.cm_state.specs.ByOnePass.{plain_finding}
 use Rattle.cm_state.specs.Summary.{SourceRow, change_source, with_ids}
 use Rattle.cm_audit.specs.Kept.{IsAcceptedAt, kept_rows}
 use Rattle.cm_audit.specs.State.{summary_of}

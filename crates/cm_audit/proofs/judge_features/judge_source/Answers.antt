@@ -8,7 +8,8 @@ use Rattle.cm_refs.specs.Declarations.{Declarations, with_source}
 use Rattle.cm_envelope.specs.declared.envelope.Envelope.TheVariants.{Source}
 use Rattle.cm_stream.specs.OnePass.{reads}
 use Rattle.cm_stream.specs.Sources.{plain}
-use Rattle.cm_state.specs.Summary.{SourceRow, new_source}
+use Rattle.cm_state.specs.Summary.{SourceRow}
+use Rattle.cm_state.specs.ByOnePass.{new_source}
 use Rattle.cm_audit.specs.Kept.{ReadsAs, kept_row, kept_rows}
 use Rattle.cm_audit.specs.State.{summary_of}
 use Rattle.cm_audit.specs.declared.stop.Stop.TheVariants.{Memory}
