@@ -1,7 +1,8 @@
--- Where the machine stops, it reports the kind and the column of the fault at that line.
+-- Where the machine stops, it reports the kind and the column of the fault at that line, but for the language that the line
+-- names and for which row of a table a row differs from.
 use Rattle.std.proofs.Common.{◌≡◌, ℕ, Bool, true, false, List, [], ◌∷◌, ◌++◌, length, Option, Some, None, Result, Ok, Err, refl, sym, ap, subst, ◌∙◌, append_assoc, append-nil, inl, inr}
 use Rattle.std.proofs.lemmas.Bool.{eq-eqb}
-use Rattle.std.specs.Prelude.{IfErr, IfOk, IsTrue, cond, ◌==◌}
+use Rattle.std.specs.Prelude.{IfErr, IfOk, IsTrue, cond, ◌==◌, ◌⊎◌, ◌+◌}
 use Rattle.std.specs.List.{AllByRecursion}
 use Rattle.gk_line.specs.declared.tokens.Block.{Block}
 use Rattle.gk_line.specs.declared.tokens.Block.TheVariants as block
@@ -14,24 +15,26 @@ use Rattle.gk_grammar.specs.Tree as tree
 use Rattle.gk_grammar.specs.Tree.{Tag, Argument, DocString}
 use Rattle.gk_grammar.specs.Grammar.{Piece, Then, Each, AtMostOne, OneLine, IsRow, IsTable, IsTagLine, IsArgument, IsStepLine, IsStep, IsDocString, IsPlainGap, IsEnglish, stops, is_fence, english}
 use Rattle.gk_grammar.specs.Machine.{FlatBlock, Phase, Start, AfterLanguage, AfterTags, InDescription, AfterStep, InDocString, InExamplesTable, State, PlacedFault, next, at_phase, run, initial, follows, takes_tags, close_block, after_description, with_description, after_step, step_row, step_fence, in_examples_table, another_row, count_of, before_first_block, at_start, after_language, after_tags, same_text, with_steps, with_rows}
-use Rattle.gk_grammar.specs.Place.{is_row_or_gap, HasOtherCount, DiffersFromTable, IsFaultAt}
+use Rattle.gk_grammar.specs.Place.{is_row_or_gap, HasOtherCount}
+use Rattle.gk_grammar.specs.declared.fault.FaultKind.{FaultKind}
+use Rattle.gk_grammar.specs.declared.fault.FaultKind.TheVariants as kind
 use Rattle.gk_grammar.proofs.Open.{IsDone, IsOpen, Holds, StateHolds, IsHead, SomeTagLines}
 use Rattle.gk_grammar.proofs.Sound.{run_holds, starts}
 
 -- ---- the lines at the end
 
 -- the last lines are such a piece
-record Ends (P : Piece) (ls : List Line) : Type 0 where
-  earlier : List Line
-  tail : List Line
-  comments : List tree.Comment
-  cut : ls ≡ earlier ++ tail
-  holds : P tail comments
+pub record Ends (P : Piece) (ls : List Line) : Type 0 where
+  pub earlier : List Line
+  pub tail : List Line
+  pub comments : List tree.Comment
+  pub cut : ls ≡ earlier ++ tail
+  pub holds : P tail comments
 
-ends_then : (P Q : Piece) (ls : List Line) (cs : List tree.Comment) → Then P Q ls cs → Ends Q ls
+pub ends_then : (P Q : Piece) (ls : List Line) (cs : List tree.Comment) → Then P Q ls cs → Ends Q ls
 ends_then P Q ls cs t = record { earlier = t.front; tail = t.back; comments = t.back_comments; cut = t.cut; holds = t.second }
 
-ends_later : (P Q : Piece) (ls : List Line) → Ends (Then P Q) ls → Ends Q ls
+pub ends_later : (P Q : Piece) (ls : List Line) → Ends (Then P Q) ls → Ends Q ls
 ends_later P Q ls e =
     let t = e.holds in
     record {
@@ -43,6 +46,26 @@ ends_later P Q ls e =
     }
 
 -- ---- rows of another count
+
+-- a row of another count is among the last lines, with nothing but rows, comments and blank lines after it
+pub record RowDiffers (before : List Line) (cells : List Cell) : Type 0 where
+  pub earlier : List Line
+  pub row : Line
+  pub between : List Line
+  pub cut : before ≡ earlier ++ row ∷ between
+  pub other : HasOtherCount cells row
+  pub one_table : AllByRecursion (λ l. IsTrue (is_row_or_gap l)) between
+
+-- the kind and the column of a fault at a line, whichever language it names, and whichever row it differs from
+abbrev pub IsKindAt : List Line → Line → FaultKind → ℕ → Type 0
+IsKindAt before (line n t i (Tags (Err c))) k column = (k ≡ kind.TagSpace) × (column ≡ c)
+IsKindAt before (line n t i (Language w)) k column =
+    (k ≡ kind.UnsupportedLanguage) × (column ≡ i + 1)
+IsKindAt before (line n t i (Row cells)) k column =
+    ((RowDiffers before cells × (k ≡ kind.CellCount))
+    ⊎ ((RowDiffers before cells → ⊥) × (k ≡ kind.Unexpected)))
+    × (column ≡ i + 1)
+IsKindAt before (line n t i _) k column = (k ≡ kind.Unexpected) × (column ≡ i + 1)
 
 -- the lines end with one that is no row, after which comments and blank lines come
 record EndsOther (ls : List Line) : Type 0 where
@@ -72,10 +95,10 @@ module _ (cells : List Cell) (row : Line) (between : List Line) (other : HasOthe
   cuts_differ at gap f g (x ∷ xs) [] e = let same : xs ++ row ∷ between ≡ gap = cc in row_is_no_gap cells row other (all_at (λ l. IsTrue (is_gap l)) xs row between (subst (AllByRecursion (λ l. IsTrue (is_gap l))) (sym same) g))
   cuts_differ at gap f g (x ∷ xs) (y ∷ ys) e = let same : xs ++ row ∷ between ≡ ys ++ at ∷ gap = cc in cuts_differ at gap f g xs ys same
 
-no_table : (cells : List Cell) (ls : List Line) → EndsOther ls → DiffersFromTable ls cells → ⊥
+no_table : (cells : List Cell) (ls : List Line) → EndsOther ls → RowDiffers ls cells → ⊥
 no_table cells ls e d = cuts_differ cells d.row d.between d.other d.one_table e.at e.gap e.other e.gaps d.earlier e.earlier (sym d.cut ∙ e.cut)
 
-no_rows : (cells : List Cell) (ls : List Line) → AllByRecursion (λ l. IsTrue (is_gap l)) ls → DiffersFromTable ls cells → ⊥
+no_rows : (cells : List Cell) (ls : List Line) → AllByRecursion (λ l. IsTrue (is_gap l)) ls → RowDiffers ls cells → ⊥
 no_rows cells ls g d = row_is_no_gap cells d.row d.other (all_at (λ l. IsTrue (is_gap l)) d.earlier d.row d.between (subst (AllByRecursion (λ l. IsTrue (is_gap l))) d.cut g))
 
 -- ---- after tag lines and doc strings
@@ -134,7 +157,7 @@ gap_or_row (line n t i Comment) g = refl
 gap_or_row (line n t i (Language w)) g = refl
 gap_or_row (line n t i _) g = absurd cc
 
-gaps_or_rows : (ls : List Line) → AllByRecursion (λ l. IsTrue (is_gap l)) ls → AllByRecursion (λ l. IsTrue (is_row_or_gap l)) ls
+pub gaps_or_rows : (ls : List Line) → AllByRecursion (λ l. IsTrue (is_gap l)) ls → AllByRecursion (λ l. IsTrue (is_row_or_gap l)) ls
 gaps_or_rows [] a = tt
 gaps_or_rows (l ∷ ls) a = (gap_or_row l a.0, gaps_or_rows ls a.1)
 
@@ -142,7 +165,7 @@ row_or_gap : (r : tree.Row) (l : Line) → IsRow r l → IsTrue (is_row_or_gap l
 row_or_gap r (line n t i (Row cells)) h = refl
 row_or_gap r (line n t i _) h = absurd h
 
-all_join : (xs ys : List Line) → AllByRecursion (λ l. IsTrue (is_row_or_gap l)) xs → AllByRecursion (λ l. IsTrue (is_row_or_gap l)) ys → AllByRecursion (λ l. IsTrue (is_row_or_gap l)) (xs ++ ys)
+pub all_join : (xs ys : List Line) → AllByRecursion (λ l. IsTrue (is_row_or_gap l)) xs → AllByRecursion (λ l. IsTrue (is_row_or_gap l)) ys → AllByRecursion (λ l. IsTrue (is_row_or_gap l)) (xs ++ ys)
 all_join [] ys a b = b
 all_join (x ∷ xs) ys a b = (a.0, all_join xs ys a.1 b)
 
@@ -150,7 +173,7 @@ row_lines : (r : tree.Row) (ls : List Line) (cs : List tree.Comment) → OneLine
 row_lines r [] cs h = absurd h
 row_lines r (l ∷ ls) cs h = (row_or_gap r l h.0, gaps_or_rows ls h.1.0)
 
-rows_lines : (rs : List tree.Row) (ls : List Line) (cs : List tree.Comment) → Each (λ x. OneLine (IsRow x)) rs ls cs → AllByRecursion (λ l. IsTrue (is_row_or_gap l)) ls
+pub rows_lines : (rs : List tree.Row) (ls : List Line) (cs : List tree.Comment) → Each (λ x. OneLine (IsRow x)) rs ls cs → AllByRecursion (λ l. IsTrue (is_row_or_gap l)) ls
 rows_lines [] ls cs h = subst (AllByRecursion (λ l. IsTrue (is_row_or_gap l))) (sym h.0) tt
 rows_lines (r ∷ rs) ls cs h = subst (AllByRecursion (λ l. IsTrue (is_row_or_gap l))) (sym h.cut) (all_join h.front h.back (row_lines r h.front h.front_comments h.first) (rows_lines rs h.back h.back_comments h.second))
 
@@ -158,11 +181,11 @@ other_count : (r : tree.Row) (cells : List Cell) (l : Line) → IsRow r l → (l
 other_count r cells (line n t i (Row others)) h e = λ same. let yes : (length cells == length r.cells) ≡ true = eq-eqb _ _ (sym same ∙ ap (λ (z : List Cell). length z) (sym h.1)) in cc
 other_count r cells (line n t i _) h e = absurd h
 
-table_differs : (rows : List tree.Row) (cells : List Cell) (ls : List Line) → Ends (IsTable rows) ls → (length cells == count_of rows) ≡ false → DiffersFromTable ls cells
+table_differs : (rows : List tree.Row) (cells : List Cell) (ls : List Line) → Ends (IsTable rows) ls → (length cells == count_of rows) ≡ false → RowDiffers ls cells
 table_differs [] cells ls e f = absurd e.holds
 table_differs (r ∷ rs) cells ls e f = go e.holds.1.front e.holds.1.cut e.holds.1.first
   where
-    go : (front : List Line) → e.tail ≡ front ++ e.holds.1.back → OneLine (IsRow r) front e.holds.1.front_comments → DiffersFromTable ls cells
+    go : (front : List Line) → e.tail ≡ front ++ e.holds.1.back → OneLine (IsRow r) front e.holds.1.front_comments → RowDiffers ls cells
     go [] c h = absurd h
     go (l ∷ gap) c h = record {
       earlier = e.earlier;
@@ -176,11 +199,11 @@ table_differs (r ∷ rs) cells ls e f = go e.holds.1.front e.holds.1.cut e.holds
 -- ---- the faults of the machine
 
 -- a fault of a line after these
-abbrev pub IsFaultOf : List Line → Line → PlacedFault → Type 0
-IsFaultOf before l b = (b.line ≡ number l) × IsFaultAt before l b.kind b.column
+abbrev pub IsKindOf : List Line → Line → PlacedFault → Type 0
+IsKindOf before l b = (b.line ≡ number l) × IsKindAt before l b.kind b.column
 
 abbrev Faults : List Line → Line → Result State PlacedFault → Type 0
-Faults before l r = IfErr r (IsFaultOf before l)
+Faults before l r = IfErr r (IsKindOf before l)
 
 cond_faults : (before : List Line) (l : Line) (b : Bool) (x y : Result State PlacedFault) → (b ≡ true → Faults before l x) → (b ≡ false → Faults before l y) → Faults before l (cond b x y)
 cond_faults before l true x y f g = f refl
@@ -354,8 +377,28 @@ at_phase_faults s (AfterStep c steps last) l ls h = stepping_faults ls s c steps
 at_phase_faults s (InDocString c steps last q inside) l ls h = cond_faults ls l (is_fence q.fence l) _ _ (λ _. tt) (λ _. tt)
 at_phase_faults s (InExamplesTable c rows) l ls h = listing_faults ls s c rows l (last_table s c rows ls h)
 
--- a line at which the machine stops has the fault that it reports
-pub stop_is_fault : (before : List Line) (l : Line) (s : State) (b : PlacedFault) → run initial before ≡ Ok s → next s l ≡ Err b → IsFaultOf before l b
-stop_is_fault before l s b e f =
+-- a line at which the machine stops has the kind and the column of the fault that it reports
+pub stop_has_kind : (before : List Line) (l : Line) (s : State) (b : PlacedFault) → run initial before ≡ Ok s → next s l ≡ Err b → IsKindOf before l b
+stop_has_kind before l s b e f =
     subst (λ (r : Result State PlacedFault). Faults before l r) f
     (at_phase_faults s s.phase l before (subst (λ (r : Result State PlacedFault). IfOk r (StateHolds before)) e (run_holds before initial [] starts)))
+
+-- the kind and the column of a fault at a line are settled
+pub one_kind : (before : List Line) (at : Line) (k l : FaultKind) (c d : ℕ) → IsKindAt before at k c → IsKindAt before at l d → (k ≡ l) × (c ≡ d)
+one_kind before (line n t i (Tags (Err column))) k l c d f g = (f.0 ∙ sym g.0, f.1 ∙ sym g.1)
+one_kind before (line n t i (Language w)) k l c d f g = (f.0 ∙ sym g.0, f.1 ∙ sym g.1)
+one_kind before (line n t i (Row cells)) k l c d f g = (go f.0 g.0, f.1 ∙ sym g.1)
+  where
+    go : (RowDiffers before cells × (k ≡ kind.CellCount)) ⊎ ((RowDiffers before cells → ⊥) × (k ≡ kind.Unexpected)) →
+        (RowDiffers before cells × (l ≡ kind.CellCount)) ⊎ ((RowDiffers before cells → ⊥) × (l ≡ kind.Unexpected)) → k ≡ l
+    go (inl x) (inl y) = x.1 ∙ sym y.1
+    go (inl x) (inr y) = absurd (y.0 x.0)
+    go (inr x) (inl y) = absurd (x.0 y.0)
+    go (inr x) (inr y) = x.1 ∙ sym y.1
+one_kind before (line n t i (Tags (Ok words))) k l c d f g = (f.0 ∙ sym g.0, f.1 ∙ sym g.1)
+one_kind before (line n t i Blank) k l c d f g = (f.0 ∙ sym g.0, f.1 ∙ sym g.1)
+one_kind before (line n t i Comment) k l c d f g = (f.0 ∙ sym g.0, f.1 ∙ sym g.1)
+one_kind before (line n t i (Title b w m)) k l c d f g = (f.0 ∙ sym g.0, f.1 ∙ sym g.1)
+one_kind before (line n t i (Step w y m)) k l c d f g = (f.0 ∙ sym g.0, f.1 ∙ sym g.1)
+one_kind before (line n t i (Fenced q m)) k l c d f g = (f.0 ∙ sym g.0, f.1 ∙ sym g.1)
+one_kind before (line n t i Other) k l c d f g = (f.0 ∙ sym g.0, f.1 ∙ sym g.1)

@@ -21,6 +21,7 @@ pub mod Accepted
 pub mod Reading
 pub mod Bytes
 pub mod Faults
+pub mod TableFaults
 pub mod Placed
 pub mod LawLemmas
 pub mod TextRows

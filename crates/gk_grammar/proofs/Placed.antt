@@ -9,7 +9,7 @@ use Rattle.gk_grammar.specs.Machine.{FlatBlock, State, PlacedFault, run, blocks_
 use Rattle.gk_grammar.specs.Place.{Completion, ByNothing, ByFeature, ByScenario, ByQuotes, ByBackticks, completing, IsText, IsFront, IsFirstBad, IsOpenAtEnd, IsFault, IsFaultAt, DiffersFromTable}
 use Rattle.gk_grammar.specs.declared.fault.FaultKind.{FaultKind}
 use Rattle.gk_grammar.specs.declared.fault.FaultKind.TheVariants as kind
-use Rattle.gk_grammar.proofs.Faults.{stop_is_fault}
+use Rattle.gk_grammar.proofs.TableFaults.{stop_is_fault}
 use Rattle.std.specs.Prelude.{◌⊎◌}
 use Rattle.gk_grammar.proofs.Live.{run-append}
 use Rattle.gk_grammar.proofs.Final.{live_completes, dead_stays}
@@ -101,7 +101,7 @@ stopped_is_no_front ls b a e f =
     let r = w.runs in
     cc
 
-fronts_read : (ls : List Line) (s : State) → AreLines 1 ls → run initial ls ≡ Ok s → (m : ℕ) → IsFront (take m ls)
+pub fronts_read : (ls : List Line) (s : State) → AreLines 1 ls → run initial ls ≡ Ok s → (m : ℕ) → IsFront (take m ls)
 fronts_read ls s a e m =
     let f = front_read (take m ls) (drop m ls) s (ap (λ (z : List Line). run initial z) (take-append-drop m ls) ∙ e) in
     read_is_front (take m ls) f.0 (are_first m ls a) f.1
@@ -154,7 +154,7 @@ pub open_has_fault : (ls : List Line) (s : State) → AreLines 1 ls → run init
 open_has_fault ls s a e c = inr (record { place = open_is_place ls s a e c; what = refl; first_column = refl })
 
 -- a text of the grammar is a front in each of its first lines
-text_is_front : (ls : List Line) → AreLines 1 ls → IsText ls → (m : ℕ) → IsFront (take m ls)
+pub text_is_front : (ls : List Line) → AreLines 1 ls → IsText ls → (m : ℕ) → IsFront (take m ls)
 text_is_front ls a t m = let w = complete ls a t in fronts_read ls w.end a w.runs m
 
 -- lines with a fault are no text
@@ -176,7 +176,7 @@ text_or_fault ls a = go (run initial ls) refl
 
 -- ---- one fault at most
 
-same_front : (xs ys : List Line) (x y : Line) (us vs : List Line) → length xs ≡ length ys → xs ++ x ∷ us ≡ ys ++ y ∷ vs → (xs ≡ ys) × (x ≡ y)
+pub same_front : (xs ys : List Line) (x y : Line) (us vs : List Line) → length xs ≡ length ys → xs ++ x ∷ us ≡ ys ++ y ∷ vs → (xs ≡ ys) × (x ≡ y)
 same_front [] [] x y us vs l e = (refl, cc)
 same_front [] (b ∷ bs) x y us vs l e = absurd (let z : 0 ≡ suc (length bs) = l in omega arith)
 same_front (a ∷ as1) [] x y us vs l e = absurd (let z : suc (length as1) ≡ 0 = l in omega arith)
@@ -190,7 +190,7 @@ same_front (a ∷ as1) (b ∷ bs) x y us vs l e =
 -- the kind and the column of a fault at a line are settled
 one_kind : (before : List Line) (at : Line) (k l : FaultKind) (c d : ℕ) → IsFaultAt before at k c → IsFaultAt before at l d → (k ≡ l) × (c ≡ d)
 one_kind before (line n t i (Tags (Err column))) k l c d f g = (f.0 ∙ sym g.0, f.1 ∙ sym g.1)
-one_kind before (line n t i (Language w)) k l c d f g = (f.0 ∙ sym g.0, f.1 ∙ sym g.1)
+one_kind before (line n t i (Language w)) k l c d f g = (f.1 ∙ sym g.1, f.2 ∙ sym g.2)
 one_kind before (line n t i (Row cells)) k l c d f g = (go f.0 g.0, f.1 ∙ sym g.1)
   where
     go : (DiffersFromTable before cells × (k ≡ kind.CellCount)) ⊎ ((DiffersFromTable before cells → ⊥) × (k ≡ kind.Unexpected)) →
@@ -208,7 +208,7 @@ one_kind before (line n t i (Fenced q m)) k l c d f g = (f.0 ∙ sym g.0, f.1 �
 one_kind before (line n t i Other) k l c d f g = (f.0 ∙ sym g.0, f.1 ∙ sym g.1)
 
 -- of two places the first one is no front, and where it isn't the other it is one
-one_place : (ls : List Line) (m n : ℕ) → IsFirstBad ls m → IsFirstBad ls n → m ≡ n
+pub one_place : (ls : List Line) (m n : ℕ) → IsFirstBad ls m → IsFirstBad ls n → m ≡ n
 one_place ls m n f g = go (ltb m n) refl (ltb n m) refl
   where
     go : (a : Bool) → ltb m n ≡ a → (b : Bool) → ltb n m ≡ b → m ≡ n

@@ -1,12 +1,12 @@
 -- Where a list of lines stops being the front of a text, and which fault is there.
-use Rattle.std.specs.Prelude.{◌≡◌, ◌≢◌, ℕ, ◌+◌, ◌≤◌, ◌<◌, Bool, true, List, [], ◌∷◌, ◌++◌, length, take, codes, Err, IsTrue, ◌⊎◌}
+use Rattle.std.specs.Prelude.{◌≡◌, ◌≢◌, ℕ, ◌+◌, ◌≤◌, ◌<◌, Bool, true, List, [], ◌∷◌, ◌++◌, length, take, codes, Err, IsTrue, IsFalse, ◌⊎◌}
 use Rattle.std.specs.List.{AllByRecursion}
 use Rattle.gk_document.specs.declared.tree.Cell.{Cell}
 use Rattle.gk_grammar.specs.declared.fault.FaultKind.{FaultKind}
 use Rattle.gk_grammar.specs.declared.fault.FaultKind.TheVariants as kind
 use Rattle.gk_grammar.specs.Token.{Language, Tags, Row, Line, line, line_of, is_gap}
 use Rattle.gk_grammar.specs.Tree.{Document}
-use Rattle.gk_grammar.specs.Grammar.{Doc}
+use Rattle.gk_grammar.specs.Grammar.{Doc, english}
 
 -- the lines are a text of the grammar
 abbrev pub IsText : List Line → Type 0
@@ -54,20 +54,25 @@ abbrev pub HasOtherCount : List Cell → Line → Type 0
 HasOtherCount cells (line n t i (Row others)) = length others ≢ length cells
 HasOtherCount cells _ = ⊥
 
--- a row with another count is before, with nothing but rows, comments and blank lines between
+-- The lines end in a table, whose first row has another count: it is the first row after a line that is neither a row nor a
+-- comment nor blank, and after it come rows, comments and blank lines alone.
 pub record DiffersFromTable (before : List Line) (cells : List Cell) : Type 0 where
   pub earlier : List Line
-  pub row : Line
-  pub between : List Line
-  pub cut : before ≡ earlier ++ row ∷ between
-  pub other : HasOtherCount cells row
-  pub one_table : AllByRecursion (λ l. IsTrue (is_row_or_gap l)) between
+  pub last : Line
+  pub gap : List Line
+  pub first : Line
+  pub others : List Line
+  pub cut : before ≡ earlier ++ last ∷ (gap ++ first ∷ others)
+  pub no_row : IsFalse (is_row_or_gap last)
+  pub only_gap : AllByRecursion (λ l. IsTrue (is_gap l)) gap
+  pub other : HasOtherCount cells first
+  pub one_table : AllByRecursion (λ l. IsTrue (is_row_or_gap l)) others
 
 -- the kind and the column of the fault at a line, by the line and those before it
 abbrev pub IsFaultAt : List Line → Line → FaultKind → ℕ → Type 0
 IsFaultAt before (line n t i (Tags (Err c))) k column = (k ≡ kind.TagSpace) × (column ≡ c)
 IsFaultAt before (line n t i (Language w)) k column =
-    (k ≡ kind.UnsupportedLanguage) × (column ≡ i + 1)
+    (w ≢ english) × (k ≡ kind.UnsupportedLanguage) × (column ≡ i + 1)
 IsFaultAt before (line n t i (Row cells)) k column =
     ((DiffersFromTable before cells × (k ≡ kind.CellCount))
     ⊎ ((DiffersFromTable before cells → ⊥) × (k ≡ kind.Unexpected)))

@@ -8,13 +8,10 @@ pub mod LineDocuments
 pub mod LineMarks
 pub mod MarkPlaces
 pub mod OneAnswer
-pub mod OtherCounts
-pub mod OtherLanguages
 pub mod OutsideLines
 pub mod PickleRows
 pub mod PickleScenarios
 pub mod RowCuts
-pub mod Stopped
 pub mod TagCuts
 pub mod TextParts
 pub mod TokenReadings

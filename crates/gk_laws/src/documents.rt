@@ -1,7 +1,7 @@
 //! What holds of every list of lines and its document, and of the places of faults.
 ghost use Rattle.gk_laws.specs.Comments.{CommentsAreOutside};
 ghost use Rattle.gk_laws.specs.Marks.{PartsComeInOrder, PartsStandAtTheirPlaces};
-ghost use Rattle.gk_laws.specs.Documents.{TextsAreLines, OneDocumentOfLines, DocumentOrFaultOfLines, NoDocumentWithFaultOfLines, OneFaultOfLines, OtherLanguageAtFault, OtherCountAtFault, FrontsAreShown, FaultsStay};
+ghost use Rattle.gk_laws.specs.Documents.{TextsAreLines, OneDocumentOfLines, DocumentOrFaultOfLines, NoDocumentWithFaultOfLines, OneFaultOfLines, FrontsAreShown, FaultsStay};
 
 /// The lines of a text are lines of characters, numbered from 1, of which the other laws speak.
 pub fn texts_are_lines()
@@ -26,18 +26,6 @@ pub fn no_document_with_fault_of_lines()
 /// Lines have one fault at most: one kind, at one line and column.
 pub fn one_fault_of_lines()
     ensures { OneFaultOfLines }
-{}
-
-/// Where the fault is an unsupported language, its line is the first language line, and names
-/// another language than English.
-pub fn other_language_at_fault()
-    ensures { OtherLanguageAtFault }
-{}
-
-/// Where the fault is a count of cells, its line is a row, and the first of its table with another
-/// count than the table's first row.
-pub fn other_count_at_fault()
-    ensures { OtherCountAtFault }
 {}
 
 /// The first lines of a text of the grammar are a front, by one of the five completions.

@@ -24,8 +24,7 @@ mod texts;
 pub use documents::{
     comments_stand_outside_doc_strings, document_or_fault_of_lines, faults_stay, fronts_are_shown,
     no_document_with_fault_of_lines, one_document_of_lines, one_fault_of_lines,
-    other_count_at_fault, other_language_at_fault, parts_come_in_order,
-    parts_stand_at_their_places, texts_are_lines,
+    parts_come_in_order, parts_stand_at_their_places, texts_are_lines,
 };
 pub use lines::{
     bars_cut_rows, escaped_fences_cut_lines, keyword_lines_have_parts, language_lines_have_parts,

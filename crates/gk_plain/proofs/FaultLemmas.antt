@@ -1,5 +1,5 @@
 -- The fault of a text, by the kinds and the first columns of its lines.
-use Rattle.std.proofs.Common.{◌≡◌, ◌<◌, ◌+◌, ◌⊎◌, inl, inr, ℕ, zero, suc, Bool, true, false, cond, List, [], ◌∷◌, ◌++◌, map, Ok, Err, length, take, get_or, refl, sym, ap, subst, ◌∙◌, arith}
+use Rattle.std.proofs.Common.{◌≡◌, Result, ◌<◌, ◌+◌, ◌⊎◌, inl, inr, ℕ, zero, suc, Bool, true, false, cond, List, [], ◌∷◌, ◌++◌, map, Ok, Err, length, take, get_or, refl, sym, ap, subst, ◌∙◌, arith}
 use Rattle.std.specs.Prelude.{IsTrue, not, ◌&&◌, ◌||◌, ◌==◌}
 use Rattle.std.proofs.lemmas.Bool.{eqb-true, eq-eqb}
 use Rattle.std.proofs.lemmas.List.{length-map}
@@ -8,10 +8,13 @@ use Rattle.gk_document.specs.declared.tree.Cell.{Cell}
 use Rattle.gk_grammar.specs.declared.fault.FaultKind.{FaultKind}
 use Rattle.gk_grammar.specs.declared.fault.FaultKind.TheVariants as fault
 use Rattle.gk_grammar.specs.Token.{Blank, Comment, Language, Tags, Title, Step, Row, Fenced, Other, Line, line}
-use Rattle.gk_grammar.specs.Machine.{same_text}
+use Rattle.gk_grammar.specs.Machine.{State, PlacedFault, run, initial, same_text}
 use Rattle.gk_grammar.specs.Grammar.{english}
 use Rattle.gk_grammar.specs.Place as place
-use Rattle.gk_grammar.specs.Place.{IsFirstBad, HasOtherCount, DiffersFromTable, IsFaultAt, IsFaultWithin}
+use Rattle.gk_grammar.specs.Place.{IsFirstBad, HasOtherCount, IsFault, IsFaultWithin}
+use Rattle.gk_grammar.proofs.Places.{AreLines}
+use Rattle.gk_grammar.proofs.Faults.{RowDiffers, IsKindAt, one_kind, stop_has_kind}
+use Rattle.gk_grammar.proofs.Placed.{Stops, fronts_read, one_place, same_front, stops_at, stop_is_place, stop_has_fault}
 use Rattle.gk_plain.specs.declared.kinds.Kind.{Kind}
 use Rattle.gk_plain.specs.declared.kinds.Kind.TheVariants as kind
 use Rattle.gk_plain.specs.Plain.{kind_of}
@@ -58,12 +61,12 @@ count_other cells (line n t i Other) h = absurd h
 count_other cells (line n t i (Language w)) h = absurd h
 
 -- the kinds say whether a row differs from the table before it
-differs_from : (cells : List Cell) (ls : List Line) → differs (length cells) (map kind_of ls) ≡ true → DiffersFromTable ls cells
+differs_from : (cells : List Cell) (ls : List Line) → differs (length cells) (map kind_of ls) ≡ true → RowDiffers ls cells
 differs_from cells [] e = absurd cc
 differs_from cells (l ∷ ls) e = go (is_other_row (length cells) (kind_of l) && list_all is_row_or_gap (map kind_of ls)) refl e (differs_from cells ls)
   where
     go : (b : Bool) → (is_other_row (length cells) (kind_of l) && list_all is_row_or_gap (map kind_of ls)) ≡ b → (b || differs (length cells) (map kind_of ls)) ≡ true →
-        (differs (length cells) (map kind_of ls) ≡ true → DiffersFromTable ls cells) → DiffersFromTable (l ∷ ls) cells
+        (differs (length cells) (map kind_of ls) ≡ true → RowDiffers ls cells) → RowDiffers (l ∷ ls) cells
     go true here e more =
         let both = and_apart (is_other_row (length cells) (kind_of l)) (list_all is_row_or_gap (map kind_of ls)) here in
         record {
@@ -97,11 +100,11 @@ differs_there cells (l ∷ ls) row between other table = go (is_other_row (lengt
     go true more = refl
     go false more = more
 
-differs_to : (cells : List Cell) (ls : List Line) → DiffersFromTable ls cells → differs (length cells) (map kind_of ls) ≡ true
+differs_to : (cells : List Cell) (ls : List Line) → RowDiffers ls cells → differs (length cells) (map kind_of ls) ≡ true
 differs_to cells ls d = ap (λ (z : List Line). differs (length cells) (map kind_of z)) d.cut ∙ differs_there cells d.earlier d.row d.between d.other d.one_table
 
--- the kinds say what the fault at a line is
-fault_here : (before : List Line) (l : Line) → IsFaultAt before l (fault_kind (map kind_of before) (kind_of l)) (fault_column (kind_of l) (first_column l))
+-- the kinds say what the fault at a line is, whichever language it names and whichever row it differs from
+fault_here : (before : List Line) (l : Line) → IsKindAt before l (fault_kind (map kind_of before) (kind_of l)) (fault_column (kind_of l) (first_column l))
 fault_here before (line n t i Blank) = (refl, refl)
 fault_here before (line n t i Comment) = (refl, refl)
 fault_here before (line n t i (Tags (Ok ws))) = (refl, refl)
@@ -118,7 +121,7 @@ fault_here before (line n t i (Language w)) = go (same_text w english)
 fault_here before (line n t i (Row cells)) = (go (differs (length cells) (map kind_of before)) refl, refl)
   where
     go : (b : Bool) → differs (length cells) (map kind_of before) ≡ b →
-        (DiffersFromTable before cells × (cond b fault.CellCount fault.Unexpected ≡ fault.CellCount)) ⊎ ((DiffersFromTable before cells → ⊥) × (cond b fault.CellCount fault.Unexpected ≡ fault.Unexpected))
+        (RowDiffers before cells × (cond b fault.CellCount fault.Unexpected ≡ fault.CellCount)) ⊎ ((RowDiffers before cells → ⊥) × (cond b fault.CellCount fault.Unexpected ≡ fault.Unexpected))
     go true e = inl (differs_from cells before e, refl)
     go false e = inr (λ d. let f = differs_to cells before d in cc, refl)
 
@@ -158,24 +161,49 @@ here (l ∷ ls) (suc n) within =
       column = rest.column;
     }
 
+-- where the lines up to this one are the first that are no front, the kinds say what the fault there is
+kind_at : (ls : List Line) (n : ℕ) → AreLines 1 ls → IsFirstBad ls (n + 1) → (r : Here ls n)
+    → IsFaultWithin ls (fault_kind (map kind_of r.before) (kind_of r.at)) (n + 1) (fault_column (kind_of r.at) (first_column r.at))
+kind_at ls n a bad r = go (run initial ls) refl
+  where
+    kind : FaultKind
+    kind = fault_kind (map kind_of r.before) (kind_of r.at)
+
+    column : ℕ
+    column = fault_column (kind_of r.at) (first_column r.at)
+
+    same : (b : PlacedFault) → Stops initial ls b → (b.kind ≡ kind) × (b.column ≡ column)
+    same b t =
+        let place : length t.before + 1 ≡ n + 1 = one_place ls (length t.before + 1) (n + 1) (stop_is_place ls b a t) bad in
+        let long : length r.before ≡ n = r.long in
+        let front = same_front t.before r.before t.at r.at t.later r.after (omega arith) (sym t.cut ∙ r.cut) in
+        let there : IsKindAt t.before t.at b.kind b.column = (stop_has_kind t.before t.at t.state b t.came t.stopped).1 in
+        one_kind r.before r.at b.kind kind b.column column
+        (subst (λ (z : Line). IsKindAt r.before z b.kind b.column) front.1
+        (subst (λ (z : List Line). IsKindAt z t.at b.kind b.column) front.0 there))
+        (fault_here r.before r.at)
+
+    within : (b : PlacedFault) → (b.kind ≡ kind) × (b.column ≡ column) → IsFault ls b.kind b.line b.column → IsFaultWithin ls kind (n + 1) column
+    within b e (inl f) =
+        subst (λ (z : FaultKind). IsFaultWithin ls z (n + 1) column) e.0
+        (subst (λ (z : ℕ). IsFaultWithin ls b.kind (n + 1) z) e.1
+        (subst (λ (z : ℕ). IsFaultWithin ls b.kind z b.column) (one_place ls b.line (n + 1) f.place bad) f))
+    within b e (inr f) = absurd (bad.bad (f.place.fronts (n + 1) bad.from_one bad.within))
+
+    go : (x : Result State PlacedFault) → run initial ls ≡ x → IsFaultWithin ls kind (n + 1) column
+    go (Ok s) e = absurd (bad.bad (fronts_read ls s a e (n + 1)))
+    go (Err b) e = within b (same b (stops_at initial ls b e)) (stop_has_fault ls b a e)
+
 -- what the kinds and the first columns give at a line is the fault there
-pub fault_within : (ls : List Line) (ks front : List Kind) (columns : List ℕ) (n : ℕ) (d : Kind) (e : ℕ) (k : FaultKind) (c : ℕ) → map kind_of ls ≡ ks → map first_column ls ≡ columns → front ≡ take n ks →
+pub fault_within : (ls : List Line) (ks front : List Kind) (columns : List ℕ) (n : ℕ) (d : Kind) (e : ℕ) (k : FaultKind) (c : ℕ) → AreLines 1 ls → map kind_of ls ≡ ks → map first_column ls ≡ columns → front ≡ take n ks →
     k ≡ fault_kind front (get_or ks n d) → c ≡ fault_column (get_or ks n d) (get_or columns n e) → n < length ks → IsFirstBad ls (n + 1) → IsFaultWithin ls k (n + 1) c
-fault_within ls ks front columns n d e k c kinds firsts cut kind_is column_is within bad =
+fault_within ls ks front columns n d e k c lines kinds firsts cut kind_is column_is within bad =
     let r = here ls n (let g = sym (length-map ls kind_of) ∙ ap (λ (z : List Kind). length z) kinds in omega arith) in
     let front_is : front ≡ map kind_of r.before = cut ∙ ap (λ (z : List Kind). take n z) (sym kinds) ∙ r.kinds in
     let at_is : get_or ks n d ≡ kind_of r.at = ap (λ (z : List Kind). get_or z n d) (sym kinds) ∙ r.kind d in
     let first_is : get_or columns n e ≡ first_column r.at = ap (λ (z : List ℕ). get_or z n e) (sym firsts) ∙ r.column e in
     let kind_there : fault_kind (map kind_of r.before) (kind_of r.at) ≡ k = let f = front_is in let a = at_is in cc in
     let column_there : fault_column (kind_of r.at) (first_column r.at) ≡ c = let a = at_is in let f = first_is in cc in
-    record {
-      place = bad;
-      before = r.before;
-      at = r.at;
-      later = r.after;
-      cut = r.cut;
-      here = let g = r.long in omega arith;
-      what =
-          subst (λ (z : FaultKind). IsFaultAt r.before r.at z c) kind_there
-          (subst (λ (z : ℕ). IsFaultAt r.before r.at (fault_kind (map kind_of r.before) (kind_of r.at)) z) column_there (fault_here r.before r.at));
-    }
+    subst (λ (z : FaultKind). IsFaultWithin ls z (n + 1) c) kind_there
+    (subst (λ (z : ℕ). IsFaultWithin ls (fault_kind (map kind_of r.before) (kind_of r.at)) (n + 1) z) column_there
+    (kind_at ls n lines bad r))

@@ -1,7 +1,6 @@
 //! The fault of a text, by the grammar's definition of its place, its kind and its column.
-ghost use Rattle.std.specs.Prelude.{◌≡◌, ◌≤◌, ◌<◌, ◌+◌, List, map, length, IfOk, IfSome, None};
+ghost use Rattle.std.specs.Prelude.{◌≡◌, ◌≤◌, ◌<◌, ◌+◌, ℕ, List, map, length, IfOk, IfSome, None};
 ghost use Rattle.std.specs.List.{list_all};
-ghost use Rattle.gk_grammar.specs.Token.{Line};
 ghost use Rattle.gk_grammar.specs.Place.{IsText, IsFirstBad, IsFaultWithin};
 ghost use Rattle.gk_grammar.specs.Documents.{lines_read, HasFault, max_bytes};
 ghost use Rattle.gk_plain.specs.Plain.{kind_of};
@@ -111,9 +110,10 @@ fn first_columns(alloc: Global, text: &str) -> Result<Vec<u32>, AllocError>
 fn fault_at(kinds: &[Kind], columns: &[u32], before: usize) -> PlainFault
     requires within { before < length kinds.now }
     requires columns { before < length columns.now }
-    ensures { (ls : List Line) → map kind_of ls ≡ kinds.now
-        → map first_column ls ≡ columns.now → IsFirstBad ls (before + 1)
-        → IsFaultWithin ls result.kind result.line result.column }
+    ensures { (text : List ℕ) → map kind_of (lines_read text) ≡ kinds.now
+        → map first_column (lines_read text) ≡ columns.now
+        → IsFirstBad (lines_read text) (before + 1)
+        → IsFaultWithin (lines_read text) result.kind result.line result.column }
 {
     let at = kinds[before];
     let (front, _) = kinds.split_at(before);

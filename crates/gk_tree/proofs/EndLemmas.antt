@@ -59,7 +59,7 @@ at_line : (before : List Line) (l : Line) (k : FaultKind) (column : ℕ) → IsF
 unfolding IsOfText
 at_line before (line n t i (Tags (Err c))) k column h = of_text k kind.TagSpace h.0 ((λ e. absurd cc), (λ e. absurd cc))
 at_line before (line n t i (Tags (Ok words))) k column h = of_text k kind.Unexpected h.0 unexpected
-at_line before (line n t i (Language w)) k column h = of_text k kind.UnsupportedLanguage h.0 ((λ e. absurd cc), (λ e. absurd cc))
+at_line before (line n t i (Language w)) k column h = of_text k kind.UnsupportedLanguage h.1 ((λ e. absurd cc), (λ e. absurd cc))
 at_line before (line n t i (Row cells)) k column (inl d, c) = of_text k kind.CellCount d.1 ((λ e. absurd cc), (λ e. absurd cc))
 at_line before (line n t i (Row cells)) k column (inr d, c) = of_text k kind.Unexpected d.1 unexpected
 at_line before (line n t i Blank) k column h = of_text k kind.Unexpected h.0 unexpected

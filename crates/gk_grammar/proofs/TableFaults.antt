@@ -1,48 +1,28 @@
--- A count of cells is at the first row of a table with another count than the table's first row.
+-- Where the machine stops at a language line, that names another language than English; and where it stops for a count of
+-- cells, the first row of the table has another count.
 use Rattle.std.proofs.Common.{◌≡◌, ℕ, Bool, true, false, List, [], ◌∷◌, ◌++◌, length, Option, Some, None, Result, Ok, Err, refl, sym, ap, subst, ◌∙◌, cond, append_assoc, append-nil, inl, inr}
 use Rattle.std.proofs.lemmas.Bool.{eq-eqb}
-use Rattle.std.specs.Prelude.{IsTrue, IsFalse, ◌≢◌, ◌==◌}
+use Rattle.std.specs.Prelude.{IfOk, IsTrue, IsFalse, ◌≢◌, ◌==◌, ◌⊎◌}
 use Rattle.std.specs.List.{AllByRecursion}
 use Rattle.gk_line.specs.declared.tokens.Block.{Block}
 use Rattle.gk_line.specs.declared.tokens.Block.TheVariants as block
 use Rattle.gk_document.specs.declared.tree.Cell.{Cell}
 use Rattle.gk_document.specs.declared.tree.Argument.TheVariants.{Table, Text as Quoted}
-use Rattle.gk_grammar.specs.Token.{Utf8, Blank, Comment, Language, Tags, Title, Step, Row, Fenced, Other, Line, line, is_gap}
+use Rattle.gk_grammar.specs.Token.{Utf8, Token, Blank, Comment, Language, Tags, Title, Step, Row, Fenced, Other, Line, line, number, is_gap}
 use Rattle.gk_grammar.specs.Tree as tree
 use Rattle.gk_grammar.specs.Tree.{Argument}
-use Rattle.gk_grammar.specs.Grammar.{Piece, Then, Each, AtMostOne, OneLine, IsRow, IsTable, IsTitle, Titled, IsArgument, IsStepLine, IsStep, stops, is_fence}
-use Rattle.gk_grammar.specs.Machine.{FlatBlock, Phase, Start, AfterLanguage, AfterTags, InDescription, AfterStep, InDocString, InExamplesTable, State, PlacedFault, at_phase, step_row, count_of}
-use Rattle.gk_grammar.specs.Place.{IsFaultAt, is_row_or_gap}
+use Rattle.gk_grammar.specs.Grammar.{Piece, Then, Each, AtMostOne, OneLine, IsRow, IsTable, IsTitle, Titled, IsArgument, IsStepLine, IsStep, stops, is_fence, english}
+use Rattle.gk_grammar.specs.Machine.{FlatBlock, Phase, Start, AfterLanguage, AfterTags, InDescription, AfterStep, InDocString, InExamplesTable, State, PlacedFault, next, at_phase, run, initial, step_row, count_of, same_text, after_description, with_description, pass_over}
+use Rattle.gk_grammar.specs.Place.{IsFaultAt, DiffersFromTable, HasOtherCount, is_row_or_gap}
 use Rattle.gk_grammar.specs.declared.fault.FaultKind.{FaultKind}
 use Rattle.gk_grammar.specs.declared.fault.FaultKind.TheVariants as kind
-use Rattle.gk_grammar.proofs.Open.{Holds, IsDone, IsOpen, IsHead}
-use Rattle.gk_laws.specs.Documents.{read_lines, HasCount, HasCountOrGap, OtherCountAtFault}
-use Rattle.gk_laws.proofs.LineDocuments.{are_lines}
-use Rattle.gk_laws.proofs.Stopped.{StopsAt, stops_there}
+use Rattle.gk_grammar.proofs.Faults.{Ends, ends_later, RowDiffers, IsKindAt, stop_has_kind, gaps_or_rows, rows_lines, all_join}
+use Rattle.gk_grammar.proofs.Open.{Holds, StateHolds, IsDone, IsOpen, IsHead}
+use Rattle.gk_grammar.proofs.Sound.{run_holds, starts}
 
--- ---- the lines at the end
-
--- the last lines are such a piece
-record Ends (P : Piece) (ls : List Line) : Type 0 where
-  earlier : List Line
-  tail : List Line
-  comments : List tree.Comment
-  cut : ls ≡ earlier ++ tail
-  holds : P tail comments
-
+-- what all lines are, they are
 ends_all : (P : Piece) (ls : List Line) (cs : List tree.Comment) → P ls cs → Ends P ls
 ends_all P ls cs h = record { earlier = []; tail = ls; comments = cs; cut = refl; holds = h }
-
-ends_later : (P Q : Piece) (ls : List Line) → Ends (Then P Q) ls → Ends Q ls
-ends_later P Q ls e =
-    let t = e.holds in
-    record {
-      earlier = e.earlier ++ t.front;
-      tail = t.back;
-      comments = t.back_comments;
-      cut = e.cut ∙ ap (λ (z : List Line). e.earlier ++ z) t.cut ∙ sym (append_assoc e.earlier t.front t.back);
-      holds = t.second;
-    }
 
 -- ---- a table at the end
 
@@ -152,49 +132,9 @@ after_title s c rows ls h =
 
 -- ---- the rows of a table
 
-gaps_or_rows : (k : ℕ) (ls : List Line) → AllByRecursion (λ l. IsTrue (is_gap l)) ls → AllByRecursion (HasCountOrGap k) ls
-gaps_or_rows k [] a = tt
-gaps_or_rows k (l ∷ ls) a = (inr a.0, gaps_or_rows k ls a.1)
-
-all_join : (P : Line → Type 0) (xs ys : List Line) → AllByRecursion P xs → AllByRecursion P ys → AllByRecursion P (xs ++ ys)
-all_join P [] ys a b = b
-all_join P (x ∷ xs) ys a b = (a.0, all_join P xs ys a.1 b)
-
-row_count : (k : ℕ) (r : tree.Row) (l : Line) → IsRow r l → length r.cells ≡ k → HasCount k l
-row_count k r (line n t i (Row cells)) h e = ap (λ (z : List Cell). length z) (sym h.1) ∙ e
-row_count k r (line n t i _) h e = absurd h
-
-one_row_counts : (k : ℕ) (r : tree.Row) (ls : List Line) (cs : List tree.Comment) → length r.cells ≡ k → OneLine (IsRow r) ls cs → AllByRecursion (HasCountOrGap k) ls
-one_row_counts k r [] cs e h = absurd h
-one_row_counts k r (l ∷ ls) cs e h = (inl (row_count k r l h.0 e), gaps_or_rows k ls h.1.0)
-
-rows_count : (k : ℕ) (rs : List tree.Row) (ls : List Line) (cs : List tree.Comment) → AllByRecursion (λ (x : tree.Row). length x.cells ≡ k) rs → Each (λ x. OneLine (IsRow x)) rs ls cs → AllByRecursion (HasCountOrGap k) ls
-rows_count k [] ls cs a h = subst (AllByRecursion (HasCountOrGap k)) (sym h.0) tt
-rows_count k (r ∷ rs) ls cs a h =
-    subst (AllByRecursion (HasCountOrGap k)) (sym h.cut)
-    (all_join (HasCountOrGap k) h.front h.back (one_row_counts k r h.front h.front_comments a.0 h.first) (rows_count k rs h.back h.back_comments a.1 h.second))
-
--- a table of lines: its first row, and lines with rows of the same count
-record FirstAndOthers (rows : List tree.Row) (table : List Line) : Type 0 where
-  first : Line
-  between : List Line
-  cut : table ≡ first ∷ between
-  first_row : HasCount (count_of rows) first
-  same_count : AllByRecursion (HasCountOrGap (count_of rows)) between
-
-first_and_others : (rows : List tree.Row) (table : List Line) (cs : List tree.Comment) → IsTable rows table cs → FirstAndOthers rows table
-first_and_others [] table cs h = absurd h
-first_and_others (r ∷ rs) table cs h = go h.1.front h.1.cut h.1.first
-  where
-    go : (front : List Line) → table ≡ front ++ h.1.back → OneLine (IsRow r) front h.1.front_comments → FirstAndOthers (r ∷ rs) table
-    go [] c f = absurd f
-    go (l ∷ gap) c f = record {
-      first = l;
-      between = gap ++ h.1.back;
-      cut = c;
-      first_row = row_count (length r.cells) r l f.0 refl;
-      same_count = all_join (HasCountOrGap (length r.cells)) gap h.1.back (gaps_or_rows (length r.cells) gap f.1.0) (rows_count (length r.cells) rs h.1.back h.1.back_comments h.0 h.1.second);
-    }
+row_of_others : (r : tree.Row) (cells : List Cell) (l : Line) → IsRow r l → length cells ≢ length r.cells → HasOtherCount cells l
+row_of_others r cells (line n t i (Row others)) h other = λ same. other (sym same ∙ ap (λ (z : List Cell). length z) (sym h.1))
+row_of_others r cells (line n t i _) h other = absurd h
 
 -- ---- where the pass stops
 
@@ -239,50 +179,95 @@ row_stop before s (AfterStep c steps last) n t i cells b h e f = step_row_stop b
 row_stop before s (InDocString c steps last q inside) n t i cells b h e f = absurd (either_passed (is_fence q.fence (line n t i (Row cells))) _ _ b e)
 row_stop before s (InExamplesTable c rows) n t i cells b h e f = (rows, after_title s c rows before h, other_count (length cells) (count_of rows) (differs (length cells == count_of rows) _ _ b e))
 
--- the line is a row after a table with another count
-abbrev IsRowAfterTable : List Line → Line → Type 0
-IsRowAfterTable before at = (cells : List Cell) × HasCount (length cells) at × AfterTable before cells
-
--- the fault is at a row
-at_row : (before : List Line) (at : Line) (s : State) (k : FaultKind) (column : ℕ) (b : PlacedFault) → IsFaultAt before at k column → k ≡ kind.CellCount → b.kind ≡ kind.CellCount
-    → Holds s.phase s.flat_blocks before s.comments → at_phase s s.phase at ≡ Err b → IsRowAfterTable before at
-at_row before (line n t i (Row cells)) s k column b f e g h stop = (cells, refl, row_stop before s s.phase n t i cells b h stop g)
-at_row before (line n t i (Language w)) s k column b f e g h stop = absurd (let x = f.0 in cc)
-at_row before (line n t i (Tags (Err c))) s k column b f e g h stop = absurd (let x = f.0 in cc)
-at_row before (line n t i (Tags (Ok words))) s k column b f e g h stop = absurd (let x = f.0 in cc)
-at_row before (line n t i Blank) s k column b f e g h stop = absurd (let x = f.0 in cc)
-at_row before (line n t i Comment) s k column b f e g h stop = absurd (let x = f.0 in cc)
-at_row before (line n t i (Title x y z)) s k column b f e g h stop = absurd (let x = f.0 in cc)
-at_row before (line n t i (Step x y z)) s k column b f e g h stop = absurd (let x = f.0 in cc)
-at_row before (line n t i (Fenced x y)) s k column b f e g h stop = absurd (let x = f.0 in cc)
-at_row before (line n t i Other) s k column b f e g h stop = absurd (let x = f.0 in cc)
-
-pub other_count_holds : OtherCountAtFault
-other_count_holds texts n column f =
-    let t : StopsAt (read_lines texts) kind.CellCount n = stops_there (read_lines texts) kind.CellCount n column (are_lines texts) f (λ (e : kind.CellCount ≡ kind.UnexpectedEnd). cc) in
-    let r = at_row t.before t.at t.state t.fault.kind t.fault.column t.fault t.what t.same_kind t.same_kind t.holds t.stopped in
-    let rows : List tree.Row = r.2.0 in
-    let e : EndsInTable t.before rows = r.2.1 in
-    let w : FirstAndOthers rows e.table = first_and_others rows e.table e.comments e.holds in
-    record {
-      before = e.earlier;
-      last_before = e.last;
+-- the first row of the table has another count
+table_differs : (before : List Line) (cells : List Cell) → AfterTable before cells → DiffersFromTable before cells
+table_differs before cells ([], e, other) = absurd e.holds
+table_differs before cells (r ∷ rs, e, other) = go e.holds.1.front e.holds.1.cut e.holds.1.first
+  where
+    go : (front : List Line) → e.table ≡ front ++ e.holds.1.back → OneLine (IsRow r) front e.holds.1.front_comments → DiffersFromTable before cells
+    go [] c f = absurd f
+    go (l ∷ between) c f = record {
+      earlier = e.earlier;
+      last = e.last;
       gap = e.gap;
-      first = w.first;
-      between = w.between;
-      at = t.at;
-      after = t.later;
-      cut = t.cut
-          ∙ ap (λ (z : List Line). z ++ t.at ∷ t.later) (e.cut ∙ ap (λ (z : List Line). e.earlier ++ e.last ∷ (e.gap ++ z)) w.cut)
-          ∙ append_assoc e.earlier (e.last ∷ (e.gap ++ w.first ∷ w.between)) (t.at ∷ t.later)
-          ∙ ap (λ (z : List Line). e.earlier ++ e.last ∷ z) (append_assoc e.gap (w.first ∷ w.between) (t.at ∷ t.later));
-      here = t.here;
+      first = l;
+      others = between ++ e.holds.1.back;
+      cut = e.cut ∙ ap (λ (z : List Line). e.earlier ++ e.last ∷ (e.gap ++ z)) c;
       no_row = e.no_row;
       only_gap = e.only_gap;
-      table_count = count_of rows;
-      count = length r.0;
-      first_row = w.first_row;
-      same_count = w.same_count;
-      row = r.1;
-      other = r.2.2;
+      other = row_of_others r cells l f.0 other;
+      one_table = all_join between e.holds.1.back (gaps_or_rows between f.1.0) (rows_lines rs e.holds.1.back e.holds.1.back_comments e.holds.1.second);
     }
+
+-- the first row is a row
+some_row : (before : List Line) (cells : List Cell) → DiffersFromTable before cells → RowDiffers before cells
+some_row before cells d = record {
+  earlier = d.earlier ++ d.last ∷ d.gap;
+  row = d.first;
+  between = d.others;
+  cut = d.cut ∙ sym (append_assoc d.earlier (d.last ∷ d.gap) (d.first ∷ d.others));
+  other = d.other;
+  one_table = d.one_table;
+}
+
+-- ---- language lines
+
+taken_true : (c : Bool) (x : State) (y : Result State PlacedFault) (b : PlacedFault) → c ≡ true → cond c (Ok x) y ≡ Err b → ⊥
+taken_true true x y b e f = cc
+taken_true false x y b e f = cc
+
+english_taken : (w : Utf8) → w ≡ english → same_text w english ≡ true
+english_taken w e = subst (λ (z : Utf8). same_text z english ≡ true) (sym e) refl
+
+language_stops_none : (c : Block) (n : ℕ) (t : List ℕ) (i : ℕ) (w : Utf8) → stops c (line n t i (Language w)) ≡ false
+language_stops_none block.Feature n t i w = refl
+language_stops_none block.Rule n t i w = refl
+language_stops_none block.Background n t i w = refl
+language_stops_none block.Scenario n t i w = refl
+language_stops_none block.Examples n t i w = refl
+
+passed : (c : Bool) (x : Result State PlacedFault) (y : State) (b : PlacedFault) → c ≡ false → cond c x (Ok y) ≡ Err b → ⊥
+passed true x y b e f = cc
+passed false x y b e f = cc
+
+-- of all phases only the first stops at a language line
+language_stop : (s : State) (p : Phase) (n : ℕ) (t : List ℕ) (i : ℕ) (w : Utf8) (b : PlacedFault)
+    → at_phase s p (line n t i (Language w)) ≡ Err b → w ≢ english
+language_stop s Start n t i w b e = λ same. taken_true (same_text w english) _ _ b (english_taken w same) e
+language_stop s AfterLanguage n t i w b e = absurd cc
+language_stop s (AfterTags o tags) n t i w b e = absurd cc
+language_stop s (InDescription c ls) n t i w b e = absurd (passed (stops c.block (line n t i (Language w))) (after_description s (with_description c ls) (line n t i (Language w))) (pass_over s (InDescription c (ls ++ line n t i (Language w) ∷ [])) (line n t i (Language w))) b (language_stops_none c.block n t i w) e)
+language_stop s (AfterStep c steps last) n t i w b e = absurd cc
+language_stop s (InDocString c steps last q inside) n t i w b e = absurd (either_passed (is_fence q.fence (line n t i (Language w))) _ _ b e)
+language_stop s (InExamplesTable c rows) n t i w b e = absurd cc
+
+-- ---- any line
+
+-- the line number of a fault, and what it is
+abbrev pub IsFaultOf : List Line → Line → PlacedFault → Type 0
+IsFaultOf before l b = (b.line ≡ number l) × IsFaultAt before l b.kind b.column
+
+row_fault : (before : List Line) (s : State) (n : ℕ) (t : List ℕ) (i : ℕ) (cells : List Cell) (b : PlacedFault) → Holds s.phase s.flat_blocks before s.comments → next s (line n t i (Row cells)) ≡ Err b
+    → (RowDiffers before cells × (b.kind ≡ kind.CellCount)) ⊎ ((RowDiffers before cells → ⊥) × (b.kind ≡ kind.Unexpected))
+    → (DiffersFromTable before cells × (b.kind ≡ kind.CellCount)) ⊎ ((DiffersFromTable before cells → ⊥) × (b.kind ≡ kind.Unexpected))
+row_fault before s n t i cells b h f (inl k) = inl (table_differs before cells (row_stop before s s.phase n t i cells b h f k.1), k.1)
+row_fault before s n t i cells b h f (inr k) = inr (λ d. k.0 (some_row before cells d), k.1)
+
+of_kind : (before : List Line) (l : Line) (s : State) (b : PlacedFault) → StateHolds before s → next s l ≡ Err b
+    → IsKindAt before l b.kind b.column → IsFaultAt before l b.kind b.column
+of_kind before (line n t i (Language w)) s b h f k = (language_stop s s.phase n t i w b f, k.0, k.1)
+of_kind before (line n t i (Row cells)) s b h f k = (row_fault before s n t i cells b h f k.0, k.1)
+of_kind before (line n t i (Tags (Err c))) s b h f k = k
+of_kind before (line n t i (Tags (Ok words))) s b h f k = k
+of_kind before (line n t i Blank) s b h f k = k
+of_kind before (line n t i Comment) s b h f k = k
+of_kind before (line n t i (Title x y z)) s b h f k = k
+of_kind before (line n t i (Step x y z)) s b h f k = k
+of_kind before (line n t i (Fenced x y)) s b h f k = k
+of_kind before (line n t i Other) s b h f k = k
+
+-- a line at which the machine stops has the fault that it reports
+pub stop_is_fault : (before : List Line) (l : Line) (s : State) (b : PlacedFault) → run initial before ≡ Ok s → next s l ≡ Err b → IsFaultOf before l b
+stop_is_fault before l s b e f =
+    let k = stop_has_kind before l s b e f in
+    (k.0, of_kind before l s b (subst (λ (r : Result State PlacedFault). IfOk r (StateHolds before)) e (run_holds before initial [] starts)) f k.1)
