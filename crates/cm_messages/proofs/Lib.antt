@@ -1,5 +1,2 @@
-pub mod Floats
-pub mod Layouts
-pub mod Plain
-pub mod Sent
-pub mod Texts
+pub mod Chains
+pub mod Optionals
