@@ -78,9 +78,9 @@ phase_of (phase.InDescription flat_block lines) =
     machine.InDescription (flat_block_of flat_block.value) (map kept_line lines.items)
 phase_of (phase.AfterStep s) =
     machine.AfterStep (flat_block_of s.value.flat_block) s.value.before s.value.last
-phase_of (phase.InDocString s quote lines) =
+phase_of (phase.InDocString s opening lines) =
     machine.InDocString (flat_block_of s.value.flat_block) s.value.before s.value.last
-    (open_doc_string_of quote) (map kept_line lines.items)
+    (open_doc_string_of opening) (map kept_line lines.items)
 phase_of (phase.InExamplesTable flat_block rows) =
     machine.InExamplesTable (flat_block_of flat_block.value) rows
 

@@ -5,12 +5,10 @@ ghost use Rattle.gk_grammar.specs.Machine as machine;
 ghost use Rattle.gk_tree.specs.Views.{text_of, line_at, phase_of, head_of, made, state_in, Gives};
 
 use crate::blocks::{follows, title_line};
-use crate::fault::ParseFault;
-use crate::headings::{
-    add_tags, fault, keep_comment_and_stay, location, open_block, spaced_tag, unexpected,
-};
+use crate::fault::{ParseFault, fault, spaced_tag, unexpected};
+use crate::headings::{add_tags, keep_comment_and_stay, open_block};
 use crate::state::{Phase, Progress};
-use crate::token::{IndentedLine, Token};
+use crate::token::{IndentedLine, Token, location};
 use gk_document::{Sequence, Tag};
 use gk_grammar::FaultKind;
 use gk_line::Block;
@@ -43,7 +41,7 @@ fn before_first_block<'a>(
     match token {
         Token::Blank => Ok(head(has_language)),
         Token::Comment => keep_comment_and_stay(alloc, progress, head(has_language), at),
-        Token::Tags(words) => add_tags(alloc, progress, None, Sequence::new(alloc), at, words),
+        Token::Tags(line) => add_tags(alloc, progress, None, Sequence::new(alloc), at, line),
         Token::SpacedTag(column) => Err(spaced_tag(at, column)),
         Token::Title(block, title) => title_line(alloc, progress, None, block, at, title),
         _ => Err(unexpected(at)),
@@ -111,7 +109,7 @@ pub(crate) fn after_tags<'a>(
         Token::Comment | Token::Language(_) => {
             keep_comment_and_stay(alloc, progress, Phase::AfterTags(before, tags), at)
         }
-        Token::Tags(words) => add_tags(alloc, progress, before, tags, at, words),
+        Token::Tags(line) => add_tags(alloc, progress, before, tags, at, line),
         Token::SpacedTag(column) => Err(spaced_tag(at, column)),
         Token::Title(block, title) => {
             if follows(before, block) && block != Block::Background {

@@ -1,7 +1,9 @@
-//! The fault of a text that is no feature file.
-ghost use Rattle.std.specs.Prelude.{◌≡◌};
-ghost use Rattle.gk_grammar.specs.declared.fault.FaultKind.TheVariants.{Memory};
+//! The fault of a text that is no feature file, and the faults of lines.
+ghost use Rattle.std.specs.Prelude.{◌≡◌, ◌+◌};
+ghost use Rattle.gk_grammar.specs.declared.fault.FaultKind.TheVariants as kinds;
 
+use crate::token::{IndentedLine, location};
+use gk_document::Location;
 use gk_grammar::FaultKind;
 use std::alloc::{AllocError, AllocFailed};
 use thiserror::Error;
@@ -17,7 +19,7 @@ pub struct ParseFault {
 }
 
 impl From<AllocError> for ParseFault {
-    ghost from_gives = { λ _ fault. fault ≡ record { kind = Memory; line = 0; column = 0 } };
+    ghost from_gives = { λ _ fault. fault ≡ record { kind = kinds.Memory; line = 0; column = 0 } };
 
     fn from(_: AllocError) -> ParseFault {
         ParseFault {
@@ -29,7 +31,7 @@ impl From<AllocError> for ParseFault {
 }
 
 impl<T: Drop> From<AllocFailed<T>> for ParseFault {
-    ghost from_gives = { λ _ fault. fault ≡ record { kind = Memory; line = 0; column = 0 } };
+    ghost from_gives = { λ _ fault. fault ≡ record { kind = kinds.Memory; line = 0; column = 0 } };
 
     fn from(_: AllocFailed<T>) -> ParseFault {
         ParseFault {
@@ -37,5 +39,42 @@ impl<T: Drop> From<AllocFailed<T>> for ParseFault {
             line: 0,
             column: 0,
         }
+    }
+}
+
+/// The fault of this kind there.
+pub(crate) fn fault(kind: FaultKind, location: Location) -> ParseFault
+    ensures { result ≡ record { kind = kind; line = location.line; column = location.column } }
+{
+    ParseFault {
+        kind,
+        line: location.line,
+        column: location.column,
+    }
+}
+
+/// The fault of a line that is not allowed where it is.
+pub(crate) fn unexpected(at: IndentedLine<'_>) -> ParseFault
+    ensures { result ≡ record {
+      kind = kinds.Unexpected;
+      line = at.entry.line.number;
+      column = at.entry.indent + 1;
+    } }
+{
+    fault(FaultKind::Unexpected, location(at))
+}
+
+/// The fault of a tag line with white space in the tag at this column.
+pub(crate) fn spaced_tag(at: IndentedLine<'_>, column: u32) -> ParseFault
+    ensures { result ≡ record {
+      kind = kinds.TagSpace;
+      line = at.entry.line.number;
+      column = column;
+    } }
+{
+    ParseFault {
+        kind: FaultKind::TagSpace,
+        line: at.line.number,
+        column,
     }
 }

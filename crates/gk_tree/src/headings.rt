@@ -1,6 +1,5 @@
 //! Comments, tag lines and title lines.
 ghost use Rattle.std.specs.Prelude.{◌≡◌, ◌<◌, ◌≤◌, ◌^◌, ◌+◌, ◌∷◌, ◌++◌, [], ℕ, List, map, length, Ok, IfOk, OnOk};
-ghost use Rattle.gk_grammar.specs.declared.fault.FaultKind.TheVariants as kinds;
 ghost use Rattle.gk_grammar.specs.Token as read;
 ghost use Rattle.gk_line.specs.Views.{line_chars};
 ghost use Rattle.gk_grammar.specs.Grammar.{comment_of, comments_of};
@@ -11,61 +10,13 @@ use crate::fault::ParseFault;
 use crate::flat_block::{Body, FlatBlock};
 use crate::state::{Phase, Progress};
 use crate::texts::{copied, tag_name};
-use crate::token::{IndentedLine, TagWords, Token};
+use crate::token::{IndentedLine, TagLine, Token, location};
 use gk_document::{Comment, Location, Sequence, Tag, Text};
-use gk_grammar::FaultKind;
 use gk_line::{Block, TagText, Title};
 use std::alloc::{AllocError, Global};
 
-/// The place of a line's first character after its indent.
-pub(crate) fn location(at: IndentedLine<'_>) -> Location
-    ensures { result ≡ record { line = at.entry.line.number; column = at.entry.indent + 1 } }
-{
-    Location {
-        line: at.line.number,
-        column: at.indent + 1,
-    }
-}
-
-/// The fault of this kind there.
-pub(crate) fn fault(kind: FaultKind, location: Location) -> ParseFault
-    ensures { result ≡ record { kind = kind; line = location.line; column = location.column } }
-{
-    ParseFault {
-        kind,
-        line: location.line,
-        column: location.column,
-    }
-}
-
-/// The fault of a line that is not allowed where it is.
-pub(crate) fn unexpected(at: IndentedLine<'_>) -> ParseFault
-    ensures { result ≡ record {
-      kind = kinds.Unexpected;
-      line = at.entry.line.number;
-      column = at.entry.indent + 1;
-    } }
-{
-    fault(FaultKind::Unexpected, location(at))
-}
-
-/// The fault of a tag line with white space in the tag at this column.
-pub(crate) fn spaced_tag(at: IndentedLine<'_>, column: u32) -> ParseFault
-    ensures { result ≡ record {
-      kind = kinds.TagSpace;
-      line = at.entry.line.number;
-      column = column;
-    } }
-{
-    ParseFault {
-        kind: FaultKind::TagSpace,
-        line: at.line.number,
-        column,
-    }
-}
-
 /// Keeps the line if it is a comment.
-pub(crate) fn pass(
+pub(crate) fn keep_if_comment(
     alloc: Global,
     progress: &mut Progress,
     at: IndentedLine<'_>,
@@ -173,15 +124,15 @@ pub(crate) fn add_tags<'a>(
     before: Option<Block>,
     tags: Sequence<Tag>,
     at: IndentedLine<'a>,
-    words: TagWords<'a>,
+    line: TagLine<'a>,
 ) -> Result<Phase<'a>, ParseFault>
     requires room { progress.old.nodes < 2 ^ 63 }
     ensures { Gives (state_in progress.new) result
         (Ok (machine.add_tags (made progress.old) before tags at.entry.line.number
-        (map word_of words.entry.words.items))) }
+        (map word_of line.entry.words.items))) }
 {
-    let tags = with_tags(alloc, tags, progress.nodes, at.line.number, &words.words)?;
-    progress.nodes += words.words.len() as u64;
+    let tags = with_tags(alloc, tags, progress.nodes, at.line.number, &line.words)?;
+    progress.nodes += line.words.len() as u64;
     Ok(Phase::AfterTags(before, tags))
 }
 

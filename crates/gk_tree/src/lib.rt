@@ -17,11 +17,13 @@
 mod assemble;
 mod before_blocks;
 mod blocks;
+mod descriptions;
 mod fault;
 mod flat_block;
 mod headings;
 mod line_tokens;
 mod parse_text;
+mod rows;
 mod state;
 mod steps;
 mod texts;

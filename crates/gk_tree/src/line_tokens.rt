@@ -13,7 +13,7 @@ ghost use Rattle.gk_grammar.specs.Token.{token_of, comment_token as comment_or_l
 ghost use Rattle.gk_tree.specs.Read.{first_character};
 ghost use Rattle.gk_tree.specs.Views.{token_view};
 
-use crate::token::{Head, TagWords, Token};
+use crate::token::{Head, TagLine, Token};
 use gk_document::{Cell, Sequence};
 use gk_line::{Line, TagFault, block_title, cells, fence, language, step, tags};
 use std::alloc::{AllocError, Global};
@@ -79,7 +79,7 @@ fn tag_token(alloc: Global, line: Line<'_>) -> Result<Token<'_>, AllocError>
         (tag_list (spaced_piece (line_chars line.entry)) (tags_of (line_chars line.entry)))) }
 {
     match tags(alloc, line) {
-        Ok(words) => Ok(Token::Tags(TagWords { words })),
+        Ok(words) => Ok(Token::Tags(TagLine { words })),
         Err(TagFault::TagSpace(column)) => Ok(Token::SpacedTag(column)),
         Err(TagFault::Memory) => Err(AllocError),
     }

@@ -15,10 +15,11 @@ ghost use Rattle.gk_tree.specs.EndViews.{last_of};
 
 use crate::assemble::build_feature;
 use crate::before_blocks::{after_language, after_tags, at_start};
-use crate::blocks::{in_description, in_examples_table, with_rows};
+use crate::descriptions::in_description;
 use crate::fault::ParseFault;
 use crate::flat_block::FlatBlock;
 use crate::line_tokens::{head, token};
+use crate::rows::{in_examples_table, with_rows};
 use crate::state::{Parser, Phase, Progress};
 use crate::steps::{after_step, in_doc_string, with_steps};
 use crate::texts::description;
@@ -131,8 +132,8 @@ fn read_line<'a>(
     let Head { indent, first } = head(line.text);
     let at = IndentedLine { line, indent };
     match phase {
-        Phase::InDocString(stepped, quote, lines) => {
-            in_doc_string(alloc, stepped, quote, lines, at)
+        Phase::InDocString(stepped, opening, lines) => {
+            in_doc_string(alloc, stepped, opening, lines, at)
         }
         phase => read_token(alloc, progress, phase, at, token(alloc, line, first)?),
     }
@@ -159,8 +160,8 @@ fn read_token<'a>(
             alloc, progress, flat_block, lines, at, token,
         ),
         Phase::AfterStep(stepped) => after_step(alloc, progress, stepped, at, token),
-        Phase::InDocString(stepped, quote, lines) => {
-            in_doc_string(alloc, stepped, quote, lines, at)
+        Phase::InDocString(stepped, opening, lines) => {
+            in_doc_string(alloc, stepped, opening, lines, at)
         }
         Phase::InExamplesTable(flat_block, rows) => in_examples_table(
             alloc, progress, flat_block, rows, at, token,

@@ -1,41 +1,26 @@
-//! Steps, the rows of tables, and doc strings.
+//! Steps with their tables and doc strings, and the lines after them.
 ghost use Rattle.std.specs.Prelude.{◌≡◌, ◌<◌, ◌^◌, ◌+◌, ◌∷◌, ◌++◌, [], ℕ, List, map, None, Some, Ok, IfOk};
 ghost use Rattle.gk_line.specs.Views.{line_chars, step_text};
 ghost use Rattle.gk_grammar.specs.Token as read;
 ghost use Rattle.gk_grammar.specs.Grammar as grammar;
 ghost use Rattle.gk_grammar.specs.Machine as machine;
 ghost use Rattle.gk_tree.specs.Views.{text_of, token_view, line_at, flat_block_of, open_doc_string_of, kept_line, made, state_in, Gives};
-ghost use Rattle.gk_tree.specs.Rows.{rows_with, row_after};
+ghost use Rattle.gk_tree.specs.Rows.{row_after};
 ghost use Rattle.gk_tree.specs.declared.state.Progress.{Progress};
 
 use crate::blocks::close_block;
-use crate::fault::ParseFault;
+use crate::fault::{ParseFault, fault, unexpected};
 use crate::flat_block::{Body, FlatBlock};
-use crate::headings::{fault, keep_comment_and_stay, location, unexpected};
+use crate::headings::keep_comment_and_stay;
+use crate::rows::{add_row, row_at, single_row};
 use crate::state::{BlockWithSteps, OpenDocString, Phase, Progress};
 use crate::texts::{content, copied, copied_media};
-use crate::token::{IndentedLine, Token};
+use crate::token::{IndentedLine, Token, location};
 use gk_document::{Argument, Cell, DocString, Fence, Row, Sequence, Step};
 use gk_grammar::FaultKind;
 use gk_line::{FenceLine, StepLine, fence};
 use std::alloc::{AllocError, Global};
 use std::mem::replace;
-
-/// The row that the line is.
-pub(crate) fn row_at(node: u64, at: IndentedLine<'_>, cells: Sequence<Cell>) -> Row
-    ensures { result ≡ record {
-      node = node;
-      location = grammar.at at.entry.line.number
-          (at.entry.indent + 1);
-      cells = cells;
-    } }
-{
-    Row {
-        node,
-        location: location(at),
-        cells,
-    }
-}
 
 /// The step that the line is.
 pub(crate) fn step_at(
@@ -61,36 +46,6 @@ pub(crate) fn step_at(
         text: copied(alloc, line.text)?,
         argument: None,
     })
-}
-
-/// The first row of a table.
-pub(crate) fn single_row(alloc: Global, row: Row) -> Result<Sequence<Row>, AllocError>
-    ensures { IfOk result (λ rows. rows ≡ row ∷ []) }
-{
-    let mut rows = Sequence::new(alloc);
-    rows.push(row)?;
-    Ok(rows)
-}
-
-/// Adds a row to a table.
-pub(crate) fn add_row(rows: &mut Sequence<Row>, row: Row) -> Result<(), ParseFault>
-    ensures { Gives (λ _. rows.new) result (rows_with rows.old row) }
-{
-    if row.cells.len() != cell_count(rows.as_slice()) {
-        return Err(fault(FaultKind::CellCount, row.location));
-    }
-    rows.push(row)?;
-    Ok(())
-}
-
-/// How many cells the first row has.
-fn cell_count(rows: &[Row]) -> usize
-    ensures { result ≡ machine.count_of rows.now }
-{
-    match rows {
-        [] => 0,
-        [first, ..] => first.cells.len(),
-    }
 }
 
 /// The block with its steps below it.
@@ -184,17 +139,17 @@ fn step_fence<'a>(
     if stepped.last.argument.is_some() {
         return Err(unexpected(at));
     }
-    let quote = OpenDocString {
+    let opening = OpenDocString {
         location: location(at),
         fence: line.fence,
         media: line.media,
         indent: at.indent,
     };
-    Ok(Phase::InDocString(stepped, quote, Vec::new(alloc)))
+    Ok(Phase::InDocString(stepped, opening, Vec::new(alloc)))
 }
 
 /// A line after a whole block with steps, which isn't part of it.
-fn leaving_steps<'a>(
+fn close_stepped_block<'a>(
     alloc: Global,
     progress: &mut Progress,
     stepped: Box<BlockWithSteps>,
@@ -232,24 +187,24 @@ pub(crate) fn after_step<'a>(
         Token::Comment | Token::Language(_) => {
             keep_comment_and_stay(alloc, progress, Phase::AfterStep(stepped), at)
         }
-        token => leaving_steps(alloc, progress, stepped, at, token),
+        token => close_stepped_block(alloc, progress, stepped, at, token),
     }
 }
 
 /// The doc string of these lines.
 fn doc_string(
     alloc: Global,
-    quote: OpenDocString<'_>,
+    opening: OpenDocString<'_>,
     lines: &[IndentedLine<'_>],
 ) -> Result<DocString, AllocError>
-    ensures { IfOk result (λ d. d ≡ machine.doc_string (open_doc_string_of quote.entry)
+    ensures { IfOk result (λ d. d ≡ machine.doc_string (open_doc_string_of opening.entry)
         (map kept_line lines.now)) }
 {
     Ok(DocString {
-        location: quote.location,
-        media: copied_media(alloc, quote.media)?,
-        content: content(alloc, lines, quote.fence, quote.indent)?,
-        fence: quote.fence,
+        location: opening.location,
+        media: copied_media(alloc, opening.media)?,
+        content: content(alloc, lines, opening.fence, opening.indent)?,
+        fence: opening.fence,
     })
 }
 
@@ -257,22 +212,22 @@ fn doc_string(
 pub(crate) fn in_doc_string<'a>(
     alloc: Global,
     mut stepped: Box<BlockWithSteps>,
-    quote: OpenDocString<'a>,
+    opening: OpenDocString<'a>,
     mut lines: Vec<IndentedLine<'a>>,
     at: IndentedLine<'a>,
 ) -> Result<Phase<'a>, ParseFault>
     ensures { (p : Progress) → Gives (state_in p) result (machine.at_phase (made p)
         (machine.InDocString (flat_block_of stepped.value.flat_block) stepped.value.before
-        stepped.value.last (open_doc_string_of quote.entry) (map kept_line lines.entry.items))
+        stepped.value.last (open_doc_string_of opening.entry) (map kept_line lines.entry.items))
         (kept_line at.entry)) }
 {
-    if closes(quote.fence, at) {
-        let text = doc_string(alloc, quote, &lines)?;
+    if closes(opening.fence, at) {
+        let text = doc_string(alloc, opening, &lines)?;
         stepped.last.argument = Some(Argument::Text(text));
         return Ok(Phase::AfterStep(stepped));
     }
     lines.push(at)?;
-    Ok(Phase::InDocString(stepped, quote, lines))
+    Ok(Phase::InDocString(stepped, opening, lines))
 }
 
 /// Whether the line closes a doc string that this fence opened.

@@ -1,8 +1,8 @@
 //! What the grammar asks of a line.
-ghost use Rattle.std.specs.Prelude.{◌≤◌, vec_len, length};
+ghost use Rattle.std.specs.Prelude.{◌≡◌, ◌≤◌, ◌+◌, vec_len, length};
 ghost use Rattle.gk_line.specs.declared.limit.TheConstants.{FEATURE_LIMIT};
 
-use gk_document::{Cell, Sequence};
+use gk_document::{Cell, Location, Sequence};
 use gk_line::{Block, FenceLine, Line, StepLine, TagText, Title};
 
 /// A line with its indent.
@@ -14,6 +14,16 @@ pub(crate) struct IndentedLine<'a> {
     ghost bound: { indent ≤ FEATURE_LIMIT },
 }
 
+/// The place of a line's first character after its indent.
+pub(crate) fn location(at: IndentedLine<'_>) -> Location
+    ensures { result ≡ record { line = at.entry.line.number; column = at.entry.indent + 1 } }
+{
+    Location {
+        line: at.line.number,
+        column: at.indent + 1,
+    }
+}
+
 /// The indent of a line, and the first character after it.
 #[derive(Clone, Copy)]
 pub(crate) struct Head {
@@ -23,7 +33,7 @@ pub(crate) struct Head {
 
 /// The tags of a tag line.
 #[derive(Drop)]
-pub(crate) struct TagWords<'a> {
+pub(crate) struct TagLine<'a> {
     pub words: Vec<TagText<'a>>,
     ghost few: { vec_len words ≤ FEATURE_LIMIT },
 }
@@ -35,7 +45,7 @@ pub(crate) enum Token<'a> {
     Comment,
     /// The word of a language line.
     Language(&'a str),
-    Tags(TagWords<'a>),
+    Tags(TagLine<'a>),
     /// A tag line with white space in the tag at this column.
     SpacedTag(u32),
     Title(Block, Title<'a>),

@@ -1,5 +1,5 @@
 use Rattle.std.proofs.Common.{rules}
-use Rattle.gk_tree.proofs.headings.spaced_tag.Goals as goal
+use Rattle.gk_tree.proofs.fault.unexpected.Goals as goal
 
 pub returns : goal.returns
 returns c = search rules

@@ -1,7 +1,7 @@
 use Rattle.std.proofs.Common.{subst}
 use Rattle.gk_grammar.specs.Machine as machine
 use Rattle.gk_tree.specs.Views.{Gives, state_in, state_at, line_at}
-use Rattle.gk_tree.proofs.steps.leaving_steps.Goals as goal
+use Rattle.gk_tree.proofs.steps.close_stepped_block.Goals as goal
 
 pub returns : goal.returns
 returns c =

@@ -5,7 +5,7 @@ use Rattle.gk_grammar.specs.Token.{Line, is_comment}
 use Rattle.gk_grammar.specs.Grammar.{comments_of, comment_of}
 use Rattle.gk_line.specs.Views.{line_chars}
 use Rattle.gk_tree.specs.Views.{line_at}
-use Rattle.gk_tree.proofs.headings.pass.Goals as goal
+use Rattle.gk_tree.proofs.headings.keep_if_comment.Goals as goal
 
 kept : (l : Line) → is_comment l ≡ true → comments_of (l ∷ []) ≡ comment_of l ∷ []
 kept l e = rw e refl
