@@ -98,6 +98,7 @@ fn after_backslash(fence: Fence) -> &'static str
     }
 }
 
+/// The three characters of a fence.
 fn plain_fence(fence: Fence) -> &'static str
     ensures { result.now ≡ fence_characters fence }
 {

@@ -22,6 +22,7 @@ impl<'a> Lines<'a> {
     ghost use Rattle.gk_line.specs.Lines.{lines_of};
     ghost use Rattle.gk_line.specs.LinesLeft.{lines_left};
 
+    /// All lines of the text.
     pub(crate) fn new(text: &'a str) -> Lines<'a>
         requires { length text.now ≤ FEATURE_LIMIT }
         ensures { lines_left result ≡ lines_of (chars text.now) }

@@ -73,6 +73,7 @@ fn add_piece<'a>(tags: &mut Vec<TagText<'a>>, piece: &'a str, column: u32) -> Re
     Ok(())
 }
 
+/// Adds the tag.
 fn push_tag<'a>(tags: &mut Vec<TagText<'a>>, tag: TagText<'a>) -> Result<(), AllocError>
     ensures { OnOk result (tags.new.items ≡ tags.old.items ++ tag.entry ∷ []) }
 {
@@ -80,6 +81,7 @@ fn push_tag<'a>(tags: &mut Vec<TagText<'a>>, tag: TagText<'a>) -> Result<(), All
     Ok(())
 }
 
+/// Whether there is white space in the word.
 fn has_white_space(word: &str) -> bool
     ensures { result ≡ list_any is_whitespace (chars word.now) }
 {
@@ -127,6 +129,7 @@ fn begins_comment(text: &str, next: &str) -> bool
     begins_with_space(text) && strip(next, "#").is_some()
 }
 
+/// Whether the text begins with white space.
 fn begins_with_space(text: &str) -> bool
     ensures { (c : ℕ) (rest : List ℕ)
         → chars text.now ≡ c ∷ rest → result ≡ is_whitespace c }

@@ -5,6 +5,7 @@ ghost use Rattle.gk_parts.specs.Parts.{seen, alone, FeaturePart, RulePart, Backg
 use crate::listing::Part;
 use gk_document::{Background, Bare, Examples, Feature, Rule, Scenario, are_like};
 
+/// Whether the features are alike, each alone.
 fn same_feature(a: &Feature, b: &Feature) -> bool
     ensures { IsTrue result ↔ (alone (FeaturePart a.now) ≡ alone (FeaturePart b.now)) }
 {
@@ -15,6 +16,7 @@ fn same_feature(a: &Feature, b: &Feature) -> bool
         && a.name == b.name
 }
 
+/// Whether the rules are alike, each alone.
 fn same_rule(a: &Rule, b: &Rule) -> bool
     ensures { IsTrue result ↔ (alone (RulePart a.now) ≡ alone (RulePart b.now)) }
 {
@@ -24,12 +26,14 @@ fn same_rule(a: &Rule, b: &Rule) -> bool
         && a.name == b.name
 }
 
+/// Whether the backgrounds are alike, each alone.
 fn same_background(a: &Background, b: &Background) -> bool
     ensures { IsTrue result ↔ (alone (BackgroundPart a.now) ≡ alone (BackgroundPart b.now)) }
 {
     a.location.line == b.location.line && a.keyword == b.keyword && a.name == b.name
 }
 
+/// Whether the scenarios are alike, each alone.
 fn same_scenario(a: &Scenario, b: &Scenario) -> bool
     ensures { IsTrue result ↔ (alone (ScenarioPart a.now) ≡ alone (ScenarioPart b.now)) }
 {
@@ -39,6 +43,7 @@ fn same_scenario(a: &Scenario, b: &Scenario) -> bool
         && a.name == b.name
 }
 
+/// Whether the examples blocks are alike, each alone.
 fn same_examples(a: &Examples, b: &Examples) -> bool
     ensures { IsTrue result ↔ (alone (ExamplesPart a.now) ≡ alone (ExamplesPart b.now)) }
 {

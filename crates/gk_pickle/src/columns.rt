@@ -100,6 +100,7 @@ impl<'a> Columns<'a> {
         })
     }
 
+    /// The header whose columns these are.
     pub(crate) fn header(&self) -> &'a [Cell]
         ensures { result.now ≡ self.now }
     {

@@ -54,6 +54,7 @@ fn raise(opens: &mut Vec<Open>, done: usize)
 }
 
 impl Reading {
+    /// Nothing is read yet.
     fn new(alloc: Global) -> Reading
         ensures { result ≡ nothing_read }
     {

@@ -136,6 +136,7 @@ fn rule(flat_block: FlatBlock, background: Option<Background>, scenarios: Vec<Sc
     }
 }
 
+/// Adds a background before the parts.
 fn add_background(alloc: Global, parts: &mut Parts, flat_block: FlatBlock)
     ensures { parts_view parts.new ≡ with_block block.Background (flat_block_of flat_block)
         (parts_view parts.old) }
@@ -176,6 +177,7 @@ fn scenario(alloc: Global, flat_block: FlatBlock, examples: Vec<Examples>) -> Sc
     }
 }
 
+/// The examples block.
 fn examples_block(flat_block: FlatBlock) -> Examples
     ensures { result ≡ examples_at (flat_block_of flat_block) }
 {
@@ -210,6 +212,7 @@ fn table(body: Body) -> Option<ExampleTable>
     header_and_body(rows)
 }
 
+/// The table whose header is the first of these rows, if there is a row.
 fn header_and_body(rows: Sequence<Row>) -> Option<ExampleTable>
     ensures { result ≡ table_of rows }
 {

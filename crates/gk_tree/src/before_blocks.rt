@@ -68,6 +68,7 @@ pub(crate) fn at_start<'a>(
     before_first_block(alloc, progress, false, at, token)
 }
 
+/// Whether the word of a language line is `en`.
 fn is_english(word: &str) -> bool
     ensures { result ≡ machine.same_text (text_of word.now) english }
 {

@@ -45,6 +45,7 @@ pub(crate) fn description(alloc: Global, lines: &[IndentedLine<'_>]) -> Result<T
     joined(alloc, without_last_blanks(without_first_blanks(&kept)))
 }
 
+/// The lines that are no comments.
 fn without_comments<'a>(
     alloc: Global,
     lines: &[IndentedLine<'a>],
@@ -61,6 +62,7 @@ fn without_comments<'a>(
     Ok(kept)
 }
 
+/// The lines from the first one on that is not blank.
 fn without_first_blanks<'a, 'l>(lines: &'l [IndentedLine<'a>]) -> &'l [IndentedLine<'a>]
     ensures { map kept_line result.now ≡ from_text (map kept_line lines.now) }
 {
@@ -72,6 +74,7 @@ fn without_first_blanks<'a, 'l>(lines: &'l [IndentedLine<'a>]) -> &'l [IndentedL
     &lines[lines.len()..]
 }
 
+/// The lines up to the last one that is not blank.
 fn without_last_blanks<'a, 'l>(lines: &'l [IndentedLine<'a>]) -> &'l [IndentedLine<'a>]
     ensures { map kept_line result.now ≡ reverse (from_text (reverse (map kept_line lines.now))) }
 {
