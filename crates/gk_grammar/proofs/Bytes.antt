@@ -2,7 +2,7 @@
 use Rattle.std.proofs.Common.{◌≡◌, ℕ, suc, ◌+◌, ◌≤◌, Bool, true, false, cond, List, [], ◌∷◌, length, Option, Some, None, Ok, refl, ap, arith, length-append}
 use Rattle.std.proofs.lemmas.List.Splits.{length-slice_split}
 use Rattle.std.proofs.lemmas.List.Sums.{count_by-le-length}
-use Rattle.std.proofs.lemmas.List.{length-take-le}
+use Rattle.std.proofs.lemmas.List.{length-take-le, length-map}
 use Rattle.std.proofs.lemmas.Str.{length-le-encodes, encodes-chars}
 use Rattle.std.specs.Prelude.{map, codes, filter, take, ◌==◌, ◌-◌, ◌&&◌, slice_index}
 use Rattle.std.specs.Char.{is_whitespace}
@@ -147,6 +147,36 @@ read_fewer text =
     let p = parts_total (λ b. b == 10) (without_mark (chars text)) in
     let l = lines_total (slice_split (λ b. b == 10) (without_mark (chars text))) in
     let r = places_fewer 1 (lines_of_parts (slice_split (λ b. b == 10) (without_mark (chars text)))) in
+    omega arith
+
+parts_fewer : (p : ℕ → Bool) (text : List ℕ) → length (slice_split p text) ≤ length text + 1
+parts_fewer p text = let s = length-slice_split p text in let c = count_by-le-length p text in omega arith
+
+kept_fewer : (parts : List (List ℕ)) → length (lines_of_parts parts) ≤ length parts
+kept_fewer [] = omega arith
+kept_fewer (x ∷ []) = go (length x == 0)
+  where
+    go : (b : Bool) → length (cond b [] (x ∷ [])) ≤ length (x ∷ [])
+    go true = omega arith
+    go false = omega arith
+kept_fewer (x ∷ y ∷ more) = let r = kept_fewer (y ∷ more) in omega arith
+
+numbered_alike : (n : ℕ) (texts : List (List ℕ)) → length (enumerate_from n texts) ≡ length texts
+numbered_alike n [] = refl
+numbered_alike n (t ∷ ts) = ap suc (numbered_alike (n + 1) ts)
+
+-- a text has at most one line more than bytes
+pub lines_fewer : (text : List ℕ) → IsUtf8 text → length (lines_read text) ≤ length text + 1
+unfolding lines_read lines.lines_of lines.numbered_lines
+lines_fewer text u =
+    let parts = slice_split (λ b. b == 10) (without_mark (chars text)) in
+    let a = length-map (enumerate_from 1 (lines_of_parts parts)) line_of in
+    let n = numbered_alike 1 (lines_of_parts parts) in
+    let k = kept_fewer parts in
+    let p = parts_fewer (λ b. b == 10) (without_mark (chars text)) in
+    let m = mark_shorter (chars text) in
+    let c = length-le-encodes (chars text) in
+    let e = ap length (encodes-chars text u) in
     omega arith
 
 pub nodes_fewer : (text : List ℕ) (d : Document) → IsUtf8 text → IsDocumentOf text d → d.nodes ≤ length text

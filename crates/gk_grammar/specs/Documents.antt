@@ -2,7 +2,6 @@
 use Rattle.std.specs.Prelude.{ℕ, ◌<◌, ◌⊎◌, List, map, length}
 use Rattle.std.specs.Str.{chars}
 use Rattle.gk_line.specs.Lines.{lines_of}
-use Rattle.gk_line.specs.declared.limit.TheConstants.{FEATURE_LIMIT}
 use Rattle.gk_grammar.specs.Token.{Line, line_of}
 use Rattle.gk_grammar.specs.Tree.{Document}
 use Rattle.gk_grammar.specs.Grammar.{Doc}
@@ -23,7 +22,7 @@ HasFault text kind line column = IsFault (lines_read text) kind line column
 
 -- the most bytes and lines that a feature file may have
 abbrev pub max_bytes : ℕ
-max_bytes = FEATURE_LIMIT
+max_bytes = 16_777_216
 
 abbrev pub max_lines : ℕ
 max_lines = 1_000_000

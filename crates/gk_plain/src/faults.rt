@@ -17,10 +17,11 @@ use std::alloc::{AllocError, Global};
 #[derive(Clone, Copy, Debug, PartialEq, Eq)]
 pub struct PlainFault {
     pub kind: FaultKind,
-    pub line: usize,
+    pub line: u32,
     pub column: u32,
 }
 
+/// Whether a line of the kind is a row, a comment or a blank line.
 fn is_row_or_gap(kind: Kind) -> bool
     ensures { result ≡ spec.is_row_or_gap kind }
 {
@@ -30,12 +31,14 @@ fn is_row_or_gap(kind: Kind) -> bool
     }
 }
 
+/// Whether the lines are rows, comments and blank lines alone.
 fn are_rows_and_gaps(lines: &[Kind]) -> bool
     ensures { result ≡ list_all spec.is_row_or_gap lines.now }
 {
     lines.iter().all(|kind| is_row_or_gap(*kind))
 }
 
+/// Whether a line of the kind is a row with another count of cells.
 fn is_other_row(count: usize, kind: Kind) -> bool
     ensures { result ≡ spec.is_other_row count kind }
 {
@@ -73,6 +76,7 @@ fn fault_kind(before: &[Kind], at: Kind) -> FaultKind
     }
 }
 
+/// The kind of the fault at a row with so many cells.
 fn row_fault(before: &[Kind], count: usize) -> FaultKind
     ensures { result ≡ spec.row_fault before.now count }
 {
@@ -110,6 +114,7 @@ fn first_columns(alloc: Global, text: &str) -> Result<Vec<u32>, AllocError>
 fn fault_at(kinds: &[Kind], columns: &[u32], before: usize) -> PlainFault
     requires within { before < length kinds.now }
     requires columns { before < length columns.now }
+    requires few { length kinds.now ≤ max_bytes + 1 }
     ensures { (text : List ℕ) → map kind_of (lines_read text) ≡ kinds.now
         → map first_column (lines_read text) ≡ columns.now
         → IsFirstBad (lines_read text) (before + 1)
@@ -119,7 +124,7 @@ fn fault_at(kinds: &[Kind], columns: &[u32], before: usize) -> PlainFault
     let (front, _) = kinds.split_at(before);
     PlainFault {
         kind: fault_kind(front, at),
-        line: before + 1,
+        line: before as u32 + 1,
         column: fault_column(at, columns[before]),
     }
 }
@@ -141,7 +146,7 @@ pub fn fault(alloc: Global, text: &str) -> Result<Option<PlainFault>, AllocError
     if place > kinds.len() {
         return Ok(Some(PlainFault {
             kind: FaultKind::UnexpectedEnd,
-            line: place,
+            line: place as u32,
             column: 1,
         }));
     }

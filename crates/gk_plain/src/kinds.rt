@@ -1,5 +1,5 @@
 //! What the grammar asks of the lines of a text, without their words.
-ghost use Rattle.std.specs.Prelude.{◌≡◌, ◌≤◌, map, length, codes, IfOk, IsTrue};
+ghost use Rattle.std.specs.Prelude.{◌≡◌, ◌≤◌, ◌+◌, map, length, codes, IfOk, IsTrue};
 ghost use Rattle.std.specs.Option.{option_map};
 ghost use Rattle.std.specs.Str.{chars, encode_utf8_all};
 ghost use Rattle.gk_line.specs.Cells.{cells_of};
@@ -40,6 +40,7 @@ pub(crate) enum Kind {
     Other,
 }
 
+/// Whether the word of a language line is `en`.
 fn is_english(word: &str) -> bool
     ensures { result ≡ same_text (encode_utf8_all (chars word.now)) english }
 {
@@ -62,6 +63,7 @@ fn comment_kind(line: Line<'_>) -> Kind
     }
 }
 
+/// The kind of a tag line.
 fn tag_kind(alloc: Global, line: Line<'_>) -> Result<Kind, AllocError>
     requires tags { IsTrue (begins_by (codes "@") (line_chars line)) }
     requires short { length line.text.now ≤ max_bytes }
@@ -75,6 +77,7 @@ fn tag_kind(alloc: Global, line: Line<'_>) -> Result<Kind, AllocError>
     }
 }
 
+/// The kind of a row.
 fn row_kind(alloc: Global, line: Line<'_>) -> Result<Kind, AllocError>
     requires row { IsTrue (begins_by (codes "|") (line_chars line)) }
     requires short { length line.text.now ≤ max_bytes }
@@ -127,6 +130,7 @@ fn word_kind(line: Line<'_>) -> Kind
 }
 
 #[tactic(auto, unfolding(gk_grammar::specs::Token::token_of))]
+/// The kind of the line.
 fn kind_of_line(alloc: Global, line: Line<'_>) -> Result<Kind, AllocError>
     requires { length line.text.now ≤ max_bytes }
     ensures { IfOk result (λ k. k ≡ kind_of (read.line_of (numbered_line line.entry))) }
@@ -150,7 +154,8 @@ fn kind_of_line(alloc: Global, line: Line<'_>) -> Result<Kind, AllocError>
 #[tactic(auto, unfolding(gk_grammar::specs::Documents::lines_read))]
 pub(crate) fn kinds(alloc: Global, text: &str) -> Result<Vec<Kind>, AllocError>
     requires short { length text.now ≤ max_bytes }
-    ensures { IfOk result (λ all. all.items ≡ map kind_of (lines_read text.now)) }
+    ensures value { IfOk result (λ all. all.items ≡ map kind_of (lines_read text.now)) }
+    ensures few { IfOk result (λ all. length all.items ≤ max_bytes + 1) }
 {
     let mut all = Vec::new(alloc);
     for line in lines(text) {

@@ -1,5 +1,5 @@
 //! Which lines are a text of the grammar, and the front of one, by all cuts.
-ghost use Rattle.std.specs.Prelude.{◌≡◌, ◌≤◌, ◌↔◌, ◌⊎◌, ◌++◌, ◌∷◌, [], List, map, length, IfOk, IfSome, IsTrue, None};
+ghost use Rattle.std.specs.Prelude.{◌≡◌, ◌≤◌, ◌+◌, ◌↔◌, ◌⊎◌, ◌++◌, ◌∷◌, [], List, map, length, IfOk, IfSome, IsTrue, None};
 ghost use Rattle.std.specs.List.{list_all};
 ghost use Rattle.gk_grammar.specs.Token.{Line};
 ghost use Rattle.gk_grammar.specs.Tree.{Document};
@@ -24,12 +24,14 @@ pub(crate) fn is_gap(kind: Kind) -> bool
     }
 }
 
+/// Whether the lines are comments and blank lines.
 fn are_gap(lines: &[Kind]) -> bool
     ensures { result ≡ list_all spec.is_gap lines.now }
 {
     lines.iter().all(|kind| is_gap(*kind))
 }
 
+/// Whether a line of the kind is a comment or a blank line, but no language line.
 fn is_plain(kind: Kind) -> bool
     ensures { result ≡ spec.is_plain kind }
 {
@@ -61,12 +63,14 @@ fn stops(block: Block, kind: Kind) -> bool
     }
 }
 
+/// Whether no line ends a description of the block.
 fn are_text(block: Block, lines: &[Kind]) -> bool
     ensures { result ≡ list_all (spec.is_text block) lines.now }
 {
     lines.iter().all(|kind| !stops(block, *kind))
 }
 
+/// Whether a line of the kind is a title line of the block.
 fn is_title(block: Block, kind: Kind) -> bool
     ensures { result ≡ spec.is_title block kind }
 {
@@ -99,6 +103,7 @@ fn begins(part: Part, kind: Kind) -> bool
     }
 }
 
+/// Whether the lines are the one line of the part, and the gap after it.
 fn is_line(part: Part, lines: &[Kind]) -> bool
     ensures { result ≡ spec.is_line part lines.now }
 {
@@ -108,6 +113,7 @@ fn is_line(part: Part, lines: &[Kind]) -> bool
     }
 }
 
+/// Whether a line of the kind begins with the fence.
 fn is_fence(fence: Fence, kind: Kind) -> bool
     ensures { result ≡ spec.is_fence fence kind }
 {
@@ -133,6 +139,7 @@ fn closes(fence: Fence, lines: &[Kind]) -> bool
     }
 }
 
+/// Whether the lines are an opening fence, content and the fence that closes it, and the gap after it.
 fn is_doc_string(lines: &[Kind]) -> bool
     ensures { result ≡ spec.is_doc_string lines.now }
 {
@@ -239,6 +246,7 @@ pub(crate) fn first_bad(alloc: Global, lines: &[Kind]) -> Result<Option<usize>, 
         → map kind_of ls ≡ lines.now → IsText ls) }
     ensures some { IfOk result (λ n. IfSome n (λ n. (ls : List Line)
         → map kind_of ls ≡ lines.now → IsFirstBad ls n ⊎ IsOpenAtEnd ls n)) }
+    ensures bound { IfOk result (λ n. IfSome n (λ n. n ≤ length lines.now + 1)) }
 {
     for before in 0..lines.len() {
         let (front, _) = lines.split_at(before + 1);

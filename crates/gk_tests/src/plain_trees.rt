@@ -49,7 +49,7 @@ fn fault_of(alloc: Global, text: &str) -> Option<ParseFault> {
 
 /// Whether the parser's fault and the plain program's are of one kind, at one line and column.
 fn is_same(fault: ParseFault, plain: PlainFault) -> bool {
-    fault.kind == plain.kind && fault.line as usize == plain.line && fault.column == plain.column
+    fault.kind == plain.kind && fault.line == plain.line && fault.column == plain.column
 }
 
 /// Whether the parser and the plain program say the same of the text: whether it has a document, and else which fault, and
