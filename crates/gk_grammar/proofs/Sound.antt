@@ -1,7 +1,8 @@
 -- What the machine takes is a text of the grammar.
-use Rattle.std.proofs.Common.{◌≡◌, ℕ, Bool, true, false, List, [], ◌∷◌, ◌++◌, Option, Some, None, Result, Ok, Err, refl, sym, ap, ◌∙◌, append_assoc, append-nil, inl, inr}
+use Rattle.std.proofs.Common.{◌≡◌, ℕ, Bool, true, false, eqb, List, [], ◌∷◌, ◌++◌, Option, Some, None, Result, Ok, Err, refl, sym, ap, ◌∙◌, append_assoc, append-nil, inl, inr}
 use Rattle.std.proofs.lemmas.Bool.{eqb-true}
-use Rattle.std.specs.Prelude.{IfOk, IsTrue, IsFalse, cond, ◌==◌}
+use Rattle.std.specs.Prelude.{IfOk, IsTrue, IsFalse, cond, ◌==◌, ◌&&◌}
+use Rattle.std.specs.Cmp.Lexicographic.{pointwise}
 use Rattle.gk_line.specs.declared.tokens.Block.{Block}
 use Rattle.gk_line.specs.declared.tokens.Block.TheVariants as block
 use Rattle.gk_grammar.specs.Token.{Utf8, Blank, Comment, Language, Tags, Title, Step, Row, Fenced, Other, Line, line, is_gap, is_language}
@@ -110,7 +111,18 @@ after_tags_holds s before tags (line n t i _) ls h = tt
 
 -- ---- before the feature
 
-same_text_is : (a b : Utf8) → same_text a b ≡ true → a ≡ b
+-- texts of the same bytes, as std compares lists
+pub same_text_pointwise : (a b : List ℕ) → pointwise eqb a b ≡ same_text a b
+same_text_pointwise [] [] = refl
+same_text_pointwise [] (y ∷ ys) = refl
+same_text_pointwise (x ∷ xs) [] = refl
+same_text_pointwise (x ∷ xs) (y ∷ ys) = go (eqb x y) (same_text_pointwise xs ys)
+  where
+    go : (b : Bool) → pointwise eqb xs ys ≡ same_text xs ys → (b && pointwise eqb xs ys) ≡ cond b (same_text xs ys) false
+    go true h = h
+    go false h = refl
+
+pub same_text_is : (a b : Utf8) → same_text a b ≡ true → a ≡ b
 same_text_is [] [] e = refl
 same_text_is [] (y ∷ ys) e = absurd cc
 same_text_is (x ∷ xs) [] e = absurd cc

@@ -142,7 +142,7 @@ scenario_from s ls cs t =
     unheaded (TagLines s.tags) (Titled block.Scenario s.location s.keyword s.name s.description) (Each IsStep s.steps) (Each IsExamples s.examples) ls cs
     (mapped (IsFlatBlock (scenario_flat_block s)) (Each IsFlatBlock (map examples_flat_block s.examples)) (Each IsExamples s.examples) (λ us vs r. each_unmap IsExamples IsFlatBlock examples_flat_block examples_from s.examples us vs r) ls cs t)
 
-both : (P P' Q Q' : Piece) → ((ls : List Line) (cs : List tree.Comment) → P ls cs → P' ls cs) → ((ls : List Line) (cs : List tree.Comment) → Q ls cs → Q' ls cs) →
+pub both : (P P' Q Q' : Piece) → ((ls : List Line) (cs : List tree.Comment) → P ls cs → P' ls cs) → ((ls : List Line) (cs : List tree.Comment) → Q ls cs → Q' ls cs) →
     (ls : List Line) (cs : List tree.Comment) → Then P Q ls cs → Then P' Q' ls cs
 both P P' Q Q' f g ls cs t = record {
   front = t.front;

@@ -16,6 +16,7 @@ use Rattle.gk_grammar.specs.Tree.{Location, Tag, DocString}
 use Rattle.gk_grammar.specs.Machine.{same_text, tags_from}
 use Rattle.gk_grammar.specs.Grammar as grammar
 use Rattle.gk_grammar.specs.Grammar.{OneLine, IsGap, IsPlainGap, IsEnglish, IsTagLine, IsTitle, IsRow, IsDocString, IsStepLine, Closes, at, tag_at, place_and_name, english, comments_of, description_of, content_line, line_feed}
+use Rattle.gk_grammar.proofs.Sound.{same_text_is}
 use Rattle.gk_plain.specs.declared.kinds.Kind.{Kind}
 use Rattle.gk_plain.specs.declared.kinds.Kind.TheVariants as kind
 use Rattle.gk_plain.specs.declared.parts.Part.{Part}
@@ -214,16 +215,6 @@ same_block_refl block.Rule = refl
 same_block_refl block.Background = refl
 same_block_refl block.Scenario = refl
 same_block_refl block.Examples = refl
-
-same_text_is : (a b : Utf8) → same_text a b ≡ true → a ≡ b
-same_text_is [] [] e = refl
-same_text_is [] (y ∷ ys) e = absurd cc
-same_text_is (x ∷ xs) [] e = absurd cc
-same_text_is (x ∷ xs) (y ∷ ys) e = go (x == y) refl e (same_text_is xs ys)
-  where
-    go : (t : Bool) → (x == y) ≡ t → cond t (same_text xs ys) false ≡ true → (same_text xs ys ≡ true → xs ≡ ys) → (x ∷ xs) ≡ (y ∷ ys)
-    go true p q h = let first : x ≡ y = eqb-true x y p in let others : xs ≡ ys = h q in cc
-    go false p q h = absurd cc
 
 tags_read : (n node : ℕ) (words : List TagText) → map place_and_name (tags_from n node words) ≡ map (tag_at n) words
 tags_read n node [] = refl

@@ -11,6 +11,7 @@ use Rattle.gk_grammar.specs.Tree.{Location, Tag, Argument, Background, ExampleTa
 use Rattle.gk_document.specs.declared.tree.Argument.TheVariants.{Table, Text as Quoted}
 use Rattle.gk_grammar.specs.Grammar.{Piece, Then, Each, AtMostOne, OneLine, place_and_name, IsTagLine, TagLines, IsRow, IsTable, IsArgument, IsStepLine, IsStep, IsBackground, IsExampleTable, IsExamples, IsScenario, IsRule, IsFeature, IsFeatureText, english, Node, tag_nodes, row_nodes, argument_nodes, step_nodes, background_nodes, table_rows, examples_nodes, scenario_nodes, rule_nodes, feature_nodes, stands_before, AreNumbered}
 use Rattle.gk_grammar.specs.Place.{IsText}
+use Rattle.gk_grammar.proofs.Trees.{both}
 use Rattle.gk_plain.specs.declared.parts.Part.TheVariants as part
 use Rattle.gk_plain.specs.Plain.{Is}
 
@@ -69,18 +70,6 @@ optional_by : {A : Type 0} (P : A → Piece) (h : A → A) → ((x : A) (ls : Li
 optional_by P h f None ls cs t = t
 optional_by P h f (Some x) ls cs t = f x ls cs t
 
-then_by : (P R Q S : Piece) → ((ls : List Line) (cs : List tree.Comment) → P ls cs → R ls cs) → ((ls : List Line) (cs : List tree.Comment) → Q ls cs → S ls cs) → (ls : List Line) (cs : List tree.Comment) → Then P Q ls cs → Then R S ls cs
-then_by P R Q S f g ls cs t = record {
-  front = t.front;
-  back = t.back;
-  front_comments = t.front_comments;
-  back_comments = t.back_comments;
-  cut = t.cut;
-  comments = t.comments;
-  first = f t.front t.front_comments t.first;
-  second = g t.back t.back_comments t.second;
-}
-
 names_by : (g : Numbers) (tags : List Tag) → map place_and_name (map (tag_by g) tags) ≡ map place_and_name tags
 names_by g [] = refl
 names_by g (t ∷ ts) = ap (λ (z : List (Location × Utf8)). place_and_name t ∷ z) (names_by g ts)
@@ -125,28 +114,28 @@ step_line_by g s (line n t i (Step k y m) ∷ gap) cs h = h
 step_line_by g s (line n t i _ ∷ gap) cs h = absurd h.0
 
 step_lines_by : (g : Numbers) (s : tree.Step) (ls : List Line) (cs : List tree.Comment) → IsStep s ls cs → IsStep (step_by g s) ls cs
-step_lines_by g s = then_by _ _ _ _ (step_line_by g s) (optional_by IsArgument (argument_by g) (argument_lines_by g) s.argument)
+step_lines_by g s = both _ _ _ _ (step_line_by g s) (optional_by IsArgument (argument_by g) (argument_lines_by g) s.argument)
 
 steps_lines_by : (g : Numbers) (steps : List tree.Step) (ls : List Line) (cs : List tree.Comment) → Each IsStep steps ls cs → Each IsStep (map (step_by g) steps) ls cs
 steps_lines_by g = each_by IsStep (step_by g) (step_lines_by g)
 
 background_lines_by : (g : Numbers) (b : Background) (ls : List Line) (cs : List tree.Comment) → IsBackground b ls cs → IsBackground (background_by g b) ls cs
-background_lines_by g b = then_by _ _ _ _ (λ us ds h. h) (steps_lines_by g b.steps)
+background_lines_by g b = both _ _ _ _ (λ us ds h. h) (steps_lines_by g b.steps)
 
 table_lines_by : (g : Numbers) (t : ExampleTable) (ls : List Line) (cs : List tree.Comment) → IsExampleTable t ls cs → IsExampleTable (table_by g t) ls cs
 table_lines_by g t ls cs h = rows_by g (t.header ∷ t.body) ls cs h
 
 examples_lines_by : (g : Numbers) (e : Examples) (ls : List Line) (cs : List tree.Comment) → IsExamples e ls cs → IsExamples (examples_by g e) ls cs
-examples_lines_by g e = then_by _ _ _ _ (tag_lines_by g e.tags) (then_by _ _ _ _ (λ us ds h. h) (optional_by IsExampleTable (table_by g) (table_lines_by g) e.table))
+examples_lines_by g e = both _ _ _ _ (tag_lines_by g e.tags) (both _ _ _ _ (λ us ds h. h) (optional_by IsExampleTable (table_by g) (table_lines_by g) e.table))
 
 scenario_lines_by : (g : Numbers) (s : Scenario) (ls : List Line) (cs : List tree.Comment) → IsScenario s ls cs → IsScenario (scenario_by g s) ls cs
-scenario_lines_by g s = then_by _ _ _ _ (tag_lines_by g s.tags) (then_by _ _ _ _ (λ us ds h. h) (then_by _ _ _ _ (steps_lines_by g s.steps) (each_by IsExamples (examples_by g) (examples_lines_by g) s.examples)))
+scenario_lines_by g s = both _ _ _ _ (tag_lines_by g s.tags) (both _ _ _ _ (λ us ds h. h) (both _ _ _ _ (steps_lines_by g s.steps) (each_by IsExamples (examples_by g) (examples_lines_by g) s.examples)))
 
 rule_lines_by : (g : Numbers) (r : Rule) (ls : List Line) (cs : List tree.Comment) → IsRule r ls cs → IsRule (rule_by g r) ls cs
-rule_lines_by g r = then_by _ _ _ _ (tag_lines_by g r.tags) (then_by _ _ _ _ (λ us ds h. h) (then_by _ _ _ _ (optional_by IsBackground (background_by g) (background_lines_by g) r.background) (each_by IsScenario (scenario_by g) (scenario_lines_by g) r.scenarios)))
+rule_lines_by g r = both _ _ _ _ (tag_lines_by g r.tags) (both _ _ _ _ (λ us ds h. h) (both _ _ _ _ (optional_by IsBackground (background_by g) (background_lines_by g) r.background) (each_by IsScenario (scenario_by g) (scenario_lines_by g) r.scenarios)))
 
 feature_lines_by : (g : Numbers) (f : Feature) (ls : List Line) (cs : List tree.Comment) → IsFeature f ls cs → IsFeature (feature_by g f) ls cs
-feature_lines_by g f = then_by _ _ _ _ (tag_lines_by g f.tags) (then_by _ _ _ _ (λ us ds h. h) (then_by _ _ _ _ (optional_by IsBackground (background_by g) (background_lines_by g) f.background) (then_by _ _ _ _ (each_by IsScenario (scenario_by g) (scenario_lines_by g) f.scenarios) (each_by IsRule (rule_by g) (rule_lines_by g) f.rules))))
+feature_lines_by g f = both _ _ _ _ (tag_lines_by g f.tags) (both _ _ _ _ (λ us ds h. h) (both _ _ _ _ (optional_by IsBackground (background_by g) (background_lines_by g) f.background) (both _ _ _ _ (each_by IsScenario (scenario_by g) (scenario_lines_by g) f.scenarios) (each_by IsRule (rule_by g) (rule_lines_by g) f.rules))))
 
 -- ---- the same places
 
@@ -219,7 +208,7 @@ with_numbers f ls cs t =
     let g : Numbers = count_before (feature_nodes (Some f)) in (
       record { feature = Some (feature_by g f); comments = cs; nodes = length (feature_nodes (Some (feature_by g f))) },
       record {
-        text = (refl, then_by _ _ _ _ (λ us ds h. h) (feature_lines_by g f) ls cs t.1);
+        text = (refl, both _ _ _ _ (λ us ds h. h) (feature_lines_by g f) ls cs t.1);
         numbers = subst AreNumbered (sym (feature_nodes_by g f)) (all_numbered (feature_nodes (Some f)) (feature_nodes (Some f)));
         count = refl;
       },

@@ -19,7 +19,8 @@ use Rattle.gk_grammar.specs.Grammar.{stops, is_fence, english}
 use Rattle.gk_grammar.specs.Tree as tree
 use Rattle.gk_grammar.specs.Token.{Utf8, TagText, Token, Blank, Comment, Language, Tags, Title, Step, Row, Fenced, Other, line, line_of, token_of, comment_token, title_token, step_token, fence_token, word_token, token_or_other, tag_list, tag_text, cell}
 use Rattle.gk_grammar.specs.Machine.{State, PlacedFault, Phase, Start, AfterLanguage, AfterTags, InDescription, AfterStep, InDocString, InExamplesTable, FlatBlock, next, at_phase, close_block, another_row, step_row, step_fence, own_node, after_step, in_examples_table, before_first_block, at_start, after_language, after_tags, after_description, with_description, with_steps, with_rows, follows, takes_tags, open_block, pass_over, with_doc_string, count_of, row_at, same_text}
-use Rattle.gk_tree.proofs.TokenLemmas.{tags_bound, chars_bound}
+use Rattle.gk_grammar.proofs.Bytes.{tags_fewer}
+use Rattle.gk_tree.proofs.TokenLemmas.{chars_bound}
 
 -- the tags of a tag line, and one node of any other line
 room : Token → ℕ
@@ -266,7 +267,7 @@ line_room : (cs : List ℕ) → room (token_of cs) ≤ suc (length cs)
 unfolding token_of
 line_room cs =
     all_room (length cs) (is_blank_line cs) (begins_by (codes "#") cs) (begins_by (codes "@") cs) (begins_by (codes "|") cs)
-    (language_of cs) (tag_list (spaced_piece cs) (tags_of cs)) (map cell (cells_of cs)) (word_token cs) (small_word cs) (words_few cs (spaced_piece cs) (tags_bound cs))
+    (language_of cs) (tag_list (spaced_piece cs) (tags_of cs)) (map cell (cells_of cs)) (word_token cs) (small_word cs) (words_few cs (spaced_piece cs) (tags_fewer cs))
 
 -- a line of this many bytes at most adds as many nodes at most, and one
 pub nodes_rise : (s x : State) (n m : ℕ) (bytes : List ℕ) → length bytes ≤ m → next s (line_of (n, chars bytes)) ≡ Ok x → x.nodes ≤ s.nodes + (m + 1)

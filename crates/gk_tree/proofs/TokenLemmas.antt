@@ -14,42 +14,8 @@ use Rattle.gk_line.specs.Cells.{without_first, CellText}
 use Rattle.gk_line.specs.Tags.{uncommented, TagWord, pieces_from, tag_pieces, tags_of, is_tag}
 use Rattle.gk_line.specs.Views.{cell_text, tag_word}
 use Rattle.gk_grammar.specs.Token.{cell, tag_text, tag_list}
+use Rattle.gk_grammar.proofs.Bytes.{tags_fewer}
 use Rattle.gk_tree.specs.Views.{word_of}
-
-count_bound : {X : Type 0} (p : X → Bool) (xs : List X) → length (filter p xs) ≤ length xs
-count_bound p [] = omega arith
-count_bound p (x ∷ xs) = go (p x) (count_bound p xs)
-  where
-    go : (b : Bool) → length (filter p xs) ≤ length xs → length (cond b (x ∷ filter p xs) (filter p xs)) ≤ suc (length xs)
-    go true h = omega arith
-    go false h = omega arith
-
-parts_bound : {X : Type 0} (p : X → Bool) (xs : List X) → length (slice_split p xs) ≤ length xs + 1
-parts_bound p xs = omega (arith, length-slice_split p xs, length-filter p xs, count_bound p xs)
-
-pieces_bound : (column : ℕ) (ps : List (List ℕ)) → length (pieces_from column ps) ≡ length ps
-pieces_bound column [] = refl
-pieces_bound column (p ∷ ps) = ap suc (pieces_bound (column + length p + 1) ps)
-
-first_bound : {X : Type 0} (n : ℕ) (xs : List X) → length xs ≤ n + 1 → length (without_first xs) ≤ n
-first_bound n [] h = omega arith
-first_bound n (x ∷ xs) h = omega arith
-
-uncommented_bound : (cs : List ℕ) → length (uncommented cs) ≤ length cs
-unfolding uncommented
-uncommented_bound [] = omega arith
-uncommented_bound (c ∷ cs) = grind (arith, common_steps, uncommented_bound cs)
-
--- a line has no more tags than characters
-pub tags_bound : (cs : List ℕ) → length (tags_of cs) ≤ length cs
-unfolding tags_of tag_pieces
-tags_bound cs =
-    let parts = parts_bound (λ c. c == 64) (uncommented cs) in
-    let pieces = pieces_bound 0 (slice_split (λ c. c == 64) (uncommented cs)) in
-    let rest = first_bound (length (uncommented cs)) (pieces_from 0 (slice_split (λ c. c == 64) (uncommented cs))) (omega arith) in
-    let least = uncommented_bound cs in
-    let few = count_bound is_tag (without_first (pieces_from 0 (slice_split (λ c. c == 64) (uncommented cs)))) in
-    omega arith
 
 after_bound : (bs : List ℕ) (n c : ℕ) → length (chars_after n c bs) ≤ length bs + 1
 after_bound [] zero c = omega arith
@@ -64,7 +30,7 @@ chars_bound [] = omega arith
 chars_bound (b ∷ bs) = omega (arith, after_bound bs (continuation_len b) (lead_bits b))
 
 pub words_bound : (bs : List ℕ) (ws : List TagText) → map tag_word ws ≡ tags_of (chars bs) → length ws ≤ length bs
-words_bound bs ws e = omega (arith, sym (length-map ws tag_word), ap length e, tags_bound (chars bs), chars_bound bs)
+words_bound bs ws e = omega (arith, sym (length-map ws tag_word), ap length e, tags_fewer (chars bs), chars_bound bs)
 
 pub no_space : (o : Option TagWord) (words : List TagWord) → o ≡ None → tag_list o words ≡ Ok (map tag_text words)
 no_space None words e = refl
