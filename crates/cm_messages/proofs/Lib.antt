@@ -1,2 +1,5 @@
-pub mod Chains
-pub mod Optionals
+pub mod Floats
+pub mod Layouts
+pub mod Plain
+pub mod Sent
+pub mod Texts

@@ -2,4 +2,4 @@ pub mod Layout
 pub mod SourceLayout
 pub mod DocumentLayout
 pub mod PickleLayout
-pub mod Writing
+pub mod Sending

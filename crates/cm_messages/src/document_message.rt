@@ -1,111 +1,129 @@
 //! The envelope of a document.
-ghost use Rattle.std.specs.Prelude.{◌≡◌, ◌++◌, map, codes, OnOk};
-ghost use Rattle.std.specs.Option.{option_to_list};
-ghost use Rattle.serde_json.specs.Data.{array, string};
+ghost use Rattle.std.specs.Prelude.{◌≡◌, ◌+◌, ◌++◌, [], map, codes, OnOk};
+ghost use Rattle.serde.specs.Event.{WritesEach};
+ghost use Rattle.serde_json.specs.Data.{array, number, string, unsigned};
 ghost use Rattle.serde_json.specs.View.{items_of};
+ghost use Rattle.serde_json.specs.Events.{SendsValue};
 ghost use Rattle.gk_document.specs.ExampleRows.{table_rows_of};
 ghost use Rattle.cm_messages.specs.Layout.{list_data};
-ghost use Rattle.cm_messages.specs.Writing.{AddsEach, AddsMember, AddsOptional, AddsValue};
-ghost use Rattle.cm_messages.specs.DocumentLayout.{location_data, cell_data, row_data, tag_data, comment_data, delimiter, doc_string_data, table_place, table_data, keyword_word, argument_table, argument_doc_string, step_data, background_data, examples_data, scenario_data, background_child, rule_child, children_data, rule_data, feature_data, document_data};
+ghost use Rattle.cm_messages.specs.DocumentLayout.{location_data, cell_data, row_data, tag_data, comment_data, delimiter, doc_string_data, table_place, table_data, keyword_word, argument_table, argument_doc_string, step_data, background_data, examples_data, scenario_data, rule_child, children_data, rule_data, feature_data, document_data};
+ghost use Rattle.cm_messages.specs.Sending.{SendsMember, SendsOptional};
 
-use crate::write::{
-    MessageLayout, WriteJson, write_each_only, write_list, write_list_member, write_media,
-    write_member, write_number, write_only, write_optional, write_str, write_text,
+use crate::send::{
+    SendJson, media_of, one_if, send_each_only, send_list, send_list_member, send_media,
+    send_member, send_only, send_optional, send_str, send_text,
 };
 use gk_document::{
     Argument, Background, Cell, Comment, DocString, Document, ExampleTable, Examples, Feature,
     Fence, KeywordType, Location, Row, Rule, Scenario, Sequence, Step, Tag,
 };
-use json::Writer;
-use std::alloc::AllocError;
+use serde::{Described, Serialize, Serializer};
 
-impl WriteJson<MessageLayout> for Location {
+/// A member that holds a number.
+fn send_number<S: Serializer>(name: &str, value: u32, out: &mut S) -> Result<(), S::Error>
+    ensures { OnOk result (SendsMember name.now (number (unsigned value))
+        (S.written out.old) (S.written out.new)) }
+{
+    out.key(name)?;
+    out.u64(u64::from(value))
+}
+
+impl SendJson for Location {
     ghost json = { location_data };
 
-    fn write(&self, out: &mut Writer) -> Result<(), AllocError> {
-        out.begin_object()?;
-        write_number("column", self.column, out)?;
-        write_number("line", self.line, out)?;
-        out.end_object()
+    fn send<S: Serializer>(&self, out: &mut S) -> Result<(), S::Error> {
+        out.begin_map(Some(2))?;
+        send_number("column", self.column, out)?;
+        send_number("line", self.line, out)?;
+        out.end_map()
     }
 }
 
 /// A cell of a row on this line.
-fn write_cell(cell: &Cell, line: u32, out: &mut Writer) -> Result<(), AllocError>
-    ensures { OnOk result (AddsValue (cell_data line cell.now) out.old out.new) }
+fn send_cell<S: Serializer>(cell: &Cell, line: u32, out: &mut S) -> Result<(), S::Error>
+    ensures { OnOk result (SendsValue (cell_data line cell.now)
+        (S.written out.old) (S.written out.new)) }
 {
     let column = cell.column;
     let place = Location { line, column };
-    out.begin_object()?;
-    write_member("location", &place, out)?;
-    write_text("value", &cell.value, out)?;
-    out.end_object()
+    out.begin_map(Some(2))?;
+    send_member("location", &place, out)?;
+    send_text("value", &cell.value, out)?;
+    out.end_map()
 }
 
 /// The cells of a row on this line, one after the other.
-fn write_cells(cells: &[Cell], line: u32, out: &mut Writer) -> Result<(), AllocError>
-    ensures { OnOk result (AddsEach (map (cell_data line) cells.now) out.old out.new) }
+fn send_cells<S: Serializer>(cells: &[Cell], line: u32, out: &mut S) -> Result<(), S::Error>
+    ensures { OnOk result (WritesEach SendsValue (map (cell_data line) cells.now)
+        (S.written out.old) (S.written out.new)) }
 {
-    for cell in cells {
-        write_cell(cell, line, out)?;
+    'cells: for cell in cells {
+        send_cell(cell, line, out)?;
     }
     Ok(())
 }
 
 /// The cells of a row on this line, as an array.
-fn write_cells_list(cells: &[Cell], line: u32, out: &mut Writer) -> Result<(), AllocError>
-    ensures { OnOk result (AddsValue (list_data (cell_data line) cells.now) out.old out.new) }
+fn send_cells_list<S: Serializer>(cells: &[Cell], line: u32, out: &mut S) -> Result<(), S::Error>
+    ensures { OnOk result (SendsValue (list_data (cell_data line) cells.now)
+        (S.written out.old) (S.written out.new)) }
 {
-    out.begin_array()?;
-    write_cells(cells, line, out)?;
-    out.end_array()
+    let count = cells.len();
+    out.begin_seq(Some(count))?;
+    send_cells(cells, line, out)?;
+    out.end_seq()
 }
 
 /// The member `cells` of a row on this line.
-fn write_cells_member(cells: &Sequence<Cell>, line: u32, out: &mut Writer) -> Result<(), AllocError>
-    ensures { OnOk result (AddsMember (codes "cells") (list_data (cell_data line) cells.now) out.old out.new) }
+fn send_cells_member<S: Serializer>(
+    cells: &Sequence<Cell>,
+    line: u32,
+    out: &mut S,
+) -> Result<(), S::Error>
+    ensures { OnOk result (SendsMember (codes "cells") (list_data (cell_data line) cells.now)
+        (S.written out.old) (S.written out.new)) }
 {
     out.key("cells")?;
-    write_cells_list(cells.as_slice(), line, out)
+    send_cells_list(cells.as_slice(), line, out)
 }
 
-impl WriteJson<MessageLayout> for Row {
+impl SendJson for Row {
     ghost json = { row_data };
 
-    fn write(&self, out: &mut Writer) -> Result<(), AllocError> {
-        out.begin_object()?;
-        write_cells_member(&self.cells, self.location.line, out)?;
-        write_member("id", &self.node, out)?;
-        write_member("location", &self.location, out)?;
-        out.end_object()
+    fn send<S: Serializer>(&self, out: &mut S) -> Result<(), S::Error> {
+        out.begin_map(Some(3))?;
+        send_cells_member(&self.cells, self.location.line, out)?;
+        send_member("id", &self.node, out)?;
+        send_member("location", &self.location, out)?;
+        out.end_map()
     }
 }
 
-impl WriteJson<MessageLayout> for Tag {
+impl SendJson for Tag {
     ghost json = { tag_data };
 
-    fn write(&self, out: &mut Writer) -> Result<(), AllocError> {
-        out.begin_object()?;
-        write_member("id", &self.node, out)?;
-        write_member("location", &self.location, out)?;
-        write_text("name", &self.name, out)?;
-        out.end_object()
+    fn send<S: Serializer>(&self, out: &mut S) -> Result<(), S::Error> {
+        out.begin_map(Some(3))?;
+        send_member("id", &self.node, out)?;
+        send_member("location", &self.location, out)?;
+        send_text("name", &self.name, out)?;
+        out.end_map()
     }
 }
 
-impl WriteJson<MessageLayout> for Comment {
+impl SendJson for Comment {
     ghost json = { comment_data };
 
-    fn write(&self, out: &mut Writer) -> Result<(), AllocError> {
-        out.begin_object()?;
-        write_member("location", &self.location, out)?;
-        write_text("text", &self.text, out)?;
-        out.end_object()
+    fn send<S: Serializer>(&self, out: &mut S) -> Result<(), S::Error> {
+        out.begin_map(Some(2))?;
+        send_member("location", &self.location, out)?;
+        send_text("text", &self.text, out)?;
+        out.end_map()
     }
 }
 
-/// The characters of a fence, as the member `delimiter` has them.
-pub fn fence_text(fence: Fence) -> &'static str
+/// The characters of a fence.
+fn fence_text(fence: Fence) -> &'static str
     ensures { result.now ≡ delimiter fence }
 {
     match fence {
@@ -115,27 +133,29 @@ pub fn fence_text(fence: Fence) -> &'static str
 }
 
 /// The member `delimiter` of a doc string.
-fn write_delimiter(fence: Fence, out: &mut Writer) -> Result<(), AllocError>
-    ensures { OnOk result (AddsMember (codes "delimiter") (string (delimiter fence)) out.old out.new) }
+fn send_delimiter<S: Serializer>(fence: Fence, out: &mut S) -> Result<(), S::Error>
+    ensures { OnOk result (SendsMember (codes "delimiter") (string (delimiter fence))
+        (S.written out.old) (S.written out.new)) }
 {
-    write_str("delimiter", fence_text(fence), out)
+    send_str("delimiter", fence_text(fence), out)
 }
 
-impl WriteJson<MessageLayout> for DocString {
+impl SendJson for DocString {
     ghost json = { doc_string_data };
 
-    fn write(&self, out: &mut Writer) -> Result<(), AllocError> {
-        out.begin_object()?;
-        write_text("content", &self.content, out)?;
-        write_delimiter(self.fence, out)?;
-        write_member("location", &self.location, out)?;
-        write_media(&self.media, out)?;
-        out.end_object()
+    fn send<S: Serializer>(&self, out: &mut S) -> Result<(), S::Error> {
+        let count = one_if(&media_of(&self.media));
+        out.begin_map(Some(3 + count))?;
+        send_text("content", &self.content, out)?;
+        send_delimiter(self.fence, out)?;
+        send_member("location", &self.location, out)?;
+        send_media(&self.media, out)?;
+        out.end_map()
     }
 }
 
-/// The place of a data table: its first row's, or else its step's.
-pub fn place_of_table(place: Location, rows: &[Row]) -> Location
+/// The place of a table: its first row's, or else its step's.
+fn place_of_table(place: Location, rows: &[Row]) -> Location
     ensures { result ≡ table_place place rows.now }
 {
     match rows {
@@ -145,16 +165,17 @@ pub fn place_of_table(place: Location, rows: &[Row]) -> Location
 }
 
 /// The member `location` of a table.
-fn write_table_place(
+fn send_table_place<S: Serializer>(
     place: Location,
     rows: &Sequence<Row>,
-    out: &mut Writer,
-) -> Result<(), AllocError>
+    out: &mut S,
+) -> Result<(), S::Error>
     ensures { OnOk result
-        (AddsMember (codes "location") (location_data (table_place place rows.now)) out.old out.new) }
+        (SendsMember (codes "location") (location_data (table_place place rows.now))
+        (S.written out.old) (S.written out.new)) }
 {
     let place = place_of_table(place, rows.as_slice());
-    write_member("location", &place, out)
+    send_member("location", &place, out)
 }
 
 /// The table of a step that is at this place.
@@ -164,19 +185,19 @@ struct DataTable<'a> {
     rows: &'a Sequence<Row>,
 }
 
-impl WriteJson<MessageLayout> for DataTable<'_> {
+impl SendJson for DataTable<'_> {
     ghost json = { λ t. table_data t.place t.rows.now };
 
-    fn write(&self, out: &mut Writer) -> Result<(), AllocError> {
-        out.begin_object()?;
-        write_table_place(self.place, self.rows, out)?;
-        write_list_member("rows", self.rows, out)?;
-        out.end_object()
+    fn send<S: Serializer>(&self, out: &mut S) -> Result<(), S::Error> {
+        out.begin_map(Some(2))?;
+        send_table_place(self.place, self.rows, out)?;
+        send_list_member("rows", self.rows, out)?;
+        out.end_map()
     }
 }
 
-/// How a keyword's type is written, as the member `keywordType` has it.
-pub fn keyword_type_name(kind: KeywordType) -> &'static str
+/// How a keyword's type is written.
+fn keyword_type_name(kind: KeywordType) -> &'static str
     ensures { result.now ≡ keyword_word kind }
 {
     match kind {
@@ -189,83 +210,88 @@ pub fn keyword_type_name(kind: KeywordType) -> &'static str
 }
 
 /// The member `keywordType` of a step.
-fn write_keyword_type(kind: KeywordType, out: &mut Writer) -> Result<(), AllocError>
-    ensures { OnOk result (AddsMember (codes "keywordType") (string (keyword_word kind)) out.old out.new) }
+fn send_keyword_type<S: Serializer>(kind: KeywordType, out: &mut S) -> Result<(), S::Error>
+    ensures { OnOk result (SendsMember (codes "keywordType") (string (keyword_word kind))
+        (S.written out.old) (S.written out.new)) }
 {
-    write_str("keywordType", keyword_type_name(kind), out)
+    send_str("keywordType", keyword_type_name(kind), out)
 }
 
 /// The member `dataTable`, where a table is below the step at this place.
-fn write_data_table(
+fn send_data_table<S: Serializer>(
     place: Location,
     argument: &Option<Argument>,
-    out: &mut Writer,
-) -> Result<(), AllocError>
-    ensures { OnOk result (AddsOptional (codes "dataTable") (argument_table place argument.now) out.old out.new) }
+    out: &mut S,
+) -> Result<(), S::Error>
+    ensures { OnOk result (SendsOptional (codes "dataTable") (argument_table place argument.now)
+        (S.written out.old) (S.written out.new)) }
 {
     match argument {
-        Some(Argument::Table(rows)) => write_member("dataTable", &DataTable { place, rows }, out),
+        Some(Argument::Table(rows)) => send_member("dataTable", &DataTable { place, rows }, out),
         Some(Argument::Text(_)) => Ok(()),
         None => Ok(()),
     }
 }
 
 /// The member `docString`, where a doc string is below the step.
-fn write_doc_string(argument: &Option<Argument>, out: &mut Writer) -> Result<(), AllocError>
-    ensures { OnOk result (AddsOptional (codes "docString") (argument_doc_string argument.now) out.old out.new) }
+fn send_doc_string<S: Serializer>(argument: &Option<Argument>, out: &mut S) -> Result<(), S::Error>
+    ensures { OnOk result (SendsOptional (codes "docString") (argument_doc_string argument.now)
+        (S.written out.old) (S.written out.new)) }
 {
     match argument {
-        Some(Argument::Text(doc_string)) => write_member("docString", doc_string, out),
+        Some(Argument::Text(doc_string)) => send_member("docString", doc_string, out),
         Some(Argument::Table(_)) => Ok(()),
         None => Ok(()),
     }
 }
 
-impl WriteJson<MessageLayout> for Step {
+impl SendJson for Step {
     ghost json = { step_data };
 
-    fn write(&self, out: &mut Writer) -> Result<(), AllocError> {
-        out.begin_object()?;
-        write_data_table(self.location, &self.argument, out)?;
-        write_doc_string(&self.argument, out)?;
-        write_member("id", &self.node, out)?;
-        write_text("keyword", &self.keyword, out)?;
-        write_keyword_type(self.kind, out)?;
-        write_member("location", &self.location, out)?;
-        write_text("text", &self.text, out)?;
-        out.end_object()
+    fn send<S: Serializer>(&self, out: &mut S) -> Result<(), S::Error> {
+        let count = one_if(&self.argument);
+        out.begin_map(Some(5 + count))?;
+        send_data_table(self.location, &self.argument, out)?;
+        send_doc_string(&self.argument, out)?;
+        send_member("id", &self.node, out)?;
+        send_text("keyword", &self.keyword, out)?;
+        send_keyword_type(self.kind, out)?;
+        send_member("location", &self.location, out)?;
+        send_text("text", &self.text, out)?;
+        out.end_map()
     }
 }
 
-impl WriteJson<MessageLayout> for Background {
+impl SendJson for Background {
     ghost json = { background_data };
 
-    fn write(&self, out: &mut Writer) -> Result<(), AllocError> {
-        out.begin_object()?;
-        write_text("description", &self.description, out)?;
-        write_member("id", &self.node, out)?;
-        write_text("keyword", &self.keyword, out)?;
-        write_member("location", &self.location, out)?;
-        write_text("name", &self.name, out)?;
-        write_list_member("steps", &self.steps, out)?;
-        out.end_object()
+    fn send<S: Serializer>(&self, out: &mut S) -> Result<(), S::Error> {
+        out.begin_map(Some(6))?;
+        send_text("description", &self.description, out)?;
+        send_member("id", &self.node, out)?;
+        send_text("keyword", &self.keyword, out)?;
+        send_member("location", &self.location, out)?;
+        send_text("name", &self.name, out)?;
+        send_list_member("steps", &self.steps, out)?;
+        out.end_map()
     }
 }
 
-impl WriteJson<MessageLayout> for ExampleTable {
+impl SendJson for ExampleTable {
     ghost json = { λ t. row_data t.header };
 
-    fn write(&self, out: &mut Writer) -> Result<(), AllocError> {
-        self.header.write(out)
+    fn send<S: Serializer>(&self, out: &mut S) -> Result<(), S::Error> {
+        self.header.send(out)
     }
 }
 
 /// The member `tableBody` of a block, which has no rows where it has no table.
-fn write_body(table: &Option<ExampleTable>, out: &mut Writer) -> Result<(), AllocError>
-    ensures { OnOk result (AddsMember (codes "tableBody") (list_data row_data (table_rows_of table.now)) out.old out.new) }
+fn send_body<S: Serializer>(table: &Option<ExampleTable>, out: &mut S) -> Result<(), S::Error>
+    ensures { OnOk result (SendsMember (codes "tableBody") (list_data row_data (table_rows_of table.now))
+        (S.written out.old) (S.written out.new)) }
 {
     out.key("tableBody")?;
-    write_list(body_rows(table), out)
+    send_list(body_rows(table), out)
 }
 
 /// The body rows of a block.
@@ -278,144 +304,144 @@ fn body_rows(table: &Option<ExampleTable>) -> &[Row]
     }
 }
 
-impl WriteJson<MessageLayout> for Examples {
+impl SendJson for Examples {
     ghost json = { examples_data };
 
-    fn write(&self, out: &mut Writer) -> Result<(), AllocError> {
-        out.begin_object()?;
-        write_text("description", &self.description, out)?;
-        write_member("id", &self.node, out)?;
-        write_text("keyword", &self.keyword, out)?;
-        write_member("location", &self.location, out)?;
-        write_text("name", &self.name, out)?;
-        write_body(&self.table, out)?;
-        write_optional("tableHeader", &self.table, out)?;
-        write_list_member("tags", &self.tags, out)?;
-        out.end_object()
+    fn send<S: Serializer>(&self, out: &mut S) -> Result<(), S::Error> {
+        let count = one_if(&self.table);
+        out.begin_map(Some(7 + count))?;
+        send_text("description", &self.description, out)?;
+        send_member("id", &self.node, out)?;
+        send_text("keyword", &self.keyword, out)?;
+        send_member("location", &self.location, out)?;
+        send_text("name", &self.name, out)?;
+        send_body(&self.table, out)?;
+        send_optional("tableHeader", &self.table, out)?;
+        send_list_member("tags", &self.tags, out)?;
+        out.end_map()
     }
 }
 
-impl WriteJson<MessageLayout> for Scenario {
+impl SendJson for Scenario {
     ghost json = { scenario_data };
 
-    fn write(&self, out: &mut Writer) -> Result<(), AllocError> {
-        out.begin_object()?;
-        write_text("description", &self.description, out)?;
-        write_list_member("examples", &self.examples, out)?;
-        write_member("id", &self.node, out)?;
-        write_text("keyword", &self.keyword, out)?;
-        write_member("location", &self.location, out)?;
-        write_text("name", &self.name, out)?;
-        write_list_member("steps", &self.steps, out)?;
-        write_list_member("tags", &self.tags, out)?;
-        out.end_object()
-    }
-}
-
-/// A background as a child, where there is one.
-fn write_background(background: &Option<Background>, out: &mut Writer) -> Result<(), AllocError>
-    ensures { OnOk result
-        (AddsEach (map background_child (option_to_list background.now)) out.old out.new) }
-{
-    match background {
-        Some(background) => write_only("background", background, out),
-        None => Ok(()),
+    fn send<S: Serializer>(&self, out: &mut S) -> Result<(), S::Error> {
+        out.begin_map(Some(8))?;
+        send_text("description", &self.description, out)?;
+        send_list_member("examples", &self.examples, out)?;
+        send_member("id", &self.node, out)?;
+        send_text("keyword", &self.keyword, out)?;
+        send_member("location", &self.location, out)?;
+        send_text("name", &self.name, out)?;
+        send_list_member("steps", &self.steps, out)?;
+        send_list_member("tags", &self.tags, out)?;
+        out.end_map()
     }
 }
 
 /// A background and the scenarios after it, one after the other.
-fn write_children(
+fn send_children<S: Serializer>(
     background: &Option<Background>,
     scenarios: &[Scenario],
-    out: &mut Writer,
-) -> Result<(), AllocError>
-    ensures { OnOk result
-        (AddsEach (children_data background.now scenarios.now) out.old out.new) }
+    out: &mut S,
+) -> Result<(), S::Error>
+    ensures { OnOk result (WritesEach SendsValue (children_data background.now scenarios.now)
+        (S.written out.old) (S.written out.new)) }
 {
-    write_background(background, out)?;
-    write_each_only("scenario", scenarios, out)
+    if let Some(background) = background {
+        send_only("background", background, out)?;
+    }
+    send_each_only("scenario", scenarios, out)
 }
 
 /// A background and the scenarios after it, as an array.
-fn write_children_list(
+fn send_children_list<S: Serializer>(
     background: &Option<Background>,
     scenarios: &[Scenario],
-    out: &mut Writer,
-) -> Result<(), AllocError>
+    out: &mut S,
+) -> Result<(), S::Error>
     ensures { OnOk result
-        (AddsValue (array (items_of (children_data background.now scenarios.now))) out.old out.new) }
+        (SendsValue (array (items_of (children_data background.now scenarios.now)))
+        (S.written out.old) (S.written out.new)) }
 {
-    out.begin_array()?;
-    write_children(background, scenarios, out)?;
-    out.end_array()
+    let backgrounds = one_if(background);
+    let count = scenarios.len();
+    out.begin_seq(Some(backgrounds + count))?;
+    send_children(background, scenarios, out)?;
+    out.end_seq()
 }
 
 /// The member `children` of a rule.
-fn write_rule_children(rule: &Rule, out: &mut Writer) -> Result<(), AllocError>
-    ensures { OnOk result (AddsMember (codes "children")
-        (array (items_of (children_data rule.now.background rule.now.scenarios))) out.old out.new) }
+fn send_rule_children<S: Serializer>(rule: &Rule, out: &mut S) -> Result<(), S::Error>
+    ensures { OnOk result (SendsMember (codes "children")
+        (array (items_of (children_data rule.now.background rule.now.scenarios)))
+        (S.written out.old) (S.written out.new)) }
 {
     out.key("children")?;
-    write_children_list(&rule.background, rule.scenarios.as_slice(), out)
+    send_children_list(&rule.background, rule.scenarios.as_slice(), out)
 }
 
-impl WriteJson<MessageLayout> for Rule {
+impl SendJson for Rule {
     ghost json = { rule_data };
 
-    fn write(&self, out: &mut Writer) -> Result<(), AllocError> {
-        out.begin_object()?;
-        write_rule_children(self, out)?;
-        write_text("description", &self.description, out)?;
-        write_member("id", &self.node, out)?;
-        write_text("keyword", &self.keyword, out)?;
-        write_member("location", &self.location, out)?;
-        write_text("name", &self.name, out)?;
-        write_list_member("tags", &self.tags, out)?;
-        out.end_object()
+    fn send<S: Serializer>(&self, out: &mut S) -> Result<(), S::Error> {
+        out.begin_map(Some(7))?;
+        send_rule_children(self, out)?;
+        send_text("description", &self.description, out)?;
+        send_member("id", &self.node, out)?;
+        send_text("keyword", &self.keyword, out)?;
+        send_member("location", &self.location, out)?;
+        send_text("name", &self.name, out)?;
+        send_list_member("tags", &self.tags, out)?;
+        out.end_map()
     }
 }
 
 /// A background, the scenarios and the rules after it, as an array.
-fn write_all_children(
+fn send_all_children<S: Serializer>(
     background: &Option<Background>,
     scenarios: &[Scenario],
     rules: &[Rule],
-    out: &mut Writer,
-) -> Result<(), AllocError>
-    ensures { OnOk result (AddsValue (array (items_of (children_data background.now scenarios.now
-        ++ map rule_child rules.now))) out.old out.new) }
+    out: &mut S,
+) -> Result<(), S::Error>
+    ensures { OnOk result (SendsValue (array (items_of (children_data background.now scenarios.now
+        ++ map rule_child rules.now))) (S.written out.old) (S.written out.new)) }
 {
-    out.begin_array()?;
-    write_children(background, scenarios, out)?;
-    write_each_only("rule", rules, out)?;
-    out.end_array()
+    let backgrounds = one_if(background);
+    let count = scenarios.len();
+    let rule_count = rules.len();
+    out.begin_seq(Some(backgrounds + count + rule_count))?;
+    send_children(background, scenarios, out)?;
+    send_each_only("rule", rules, out)?;
+    out.end_seq()
 }
 
 /// The member `children` of a feature.
-fn write_feature_children(feature: &Feature, out: &mut Writer) -> Result<(), AllocError>
-    ensures { OnOk result (AddsMember (codes "children")
+fn send_feature_children<S: Serializer>(feature: &Feature, out: &mut S) -> Result<(), S::Error>
+    ensures { OnOk result (SendsMember (codes "children")
         (array (items_of (children_data feature.now.background feature.now.scenarios
-        ++ map rule_child feature.now.rules))) out.old out.new) }
+        ++ map rule_child feature.now.rules)))
+        (S.written out.old) (S.written out.new)) }
 {
     let scenarios = feature.scenarios.as_slice();
     let rules = feature.rules.as_slice();
     out.key("children")?;
-    write_all_children(&feature.background, scenarios, rules, out)
+    send_all_children(&feature.background, scenarios, rules, out)
 }
 
-impl WriteJson<MessageLayout> for Feature {
+impl SendJson for Feature {
     ghost json = { feature_data };
 
-    fn write(&self, out: &mut Writer) -> Result<(), AllocError> {
-        out.begin_object()?;
-        write_feature_children(self, out)?;
-        write_text("description", &self.description, out)?;
-        write_text("keyword", &self.keyword, out)?;
-        write_text("language", &self.language, out)?;
-        write_member("location", &self.location, out)?;
-        write_text("name", &self.name, out)?;
-        write_list_member("tags", &self.tags, out)?;
-        out.end_object()
+    fn send<S: Serializer>(&self, out: &mut S) -> Result<(), S::Error> {
+        out.begin_map(Some(7))?;
+        send_feature_children(self, out)?;
+        send_text("description", &self.description, out)?;
+        send_text("keyword", &self.keyword, out)?;
+        send_text("language", &self.language, out)?;
+        send_member("location", &self.location, out)?;
+        send_text("name", &self.name, out)?;
+        send_list_member("tags", &self.tags, out)?;
+        out.end_map()
     }
 }
 
@@ -428,17 +454,20 @@ pub(crate) struct DocumentMessage<'a> {
     pub(crate) document: &'a Document,
 }
 
-impl WriteJson<MessageLayout> for DocumentMessage<'_> {
-    ghost json = { λ m. document_data m.uri.now m.document.now };
+impl Described for DocumentMessage<'_> {
+    ghost writes = { λ m. SendsValue (document_data m.uri.now m.document.now) };
+}
 
-    fn write(&self, out: &mut Writer) -> Result<(), AllocError> {
-        out.begin_object()?;
+impl Serialize for DocumentMessage<'_> {
+    fn serialize<S: Serializer>(&self, out: &mut S) -> Result<(), S::Error> {
+        let count = one_if(&self.document.feature);
+        out.begin_map(Some(1))?;
         out.key("gherkinDocument")?;
-        out.begin_object()?;
-        write_list_member("comments", &self.document.comments, out)?;
-        write_optional("feature", &self.document.feature, out)?;
-        write_str("uri", self.uri, out)?;
-        out.end_object()?;
-        out.end_object()
+        out.begin_map(Some(2 + count))?;
+        send_list_member("comments", &self.document.comments, out)?;
+        send_optional("feature", &self.document.feature, out)?;
+        send_str("uri", self.uri, out)?;
+        out.end_map()?;
+        out.end_map()
     }
 }

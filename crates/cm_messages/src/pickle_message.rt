@@ -1,61 +1,63 @@
 //! The envelope of a pickle.
 ghost use Rattle.std.specs.Prelude.{◌≡◌, ◌+◌, ◌<◌, ◌^◌, ◌∷◌, [], codes, length, OnOk};
+ghost use Rattle.serde.specs.Event.{WritesEach};
 ghost use Rattle.serde_json.specs.Data.{array, string};
 ghost use Rattle.serde_json.specs.View.{items_of};
+ghost use Rattle.serde_json.specs.Events.{SendsValue};
+ghost use Rattle.cm_messages.specs.Sending.{SendsMember};
 ghost use Rattle.cm_messages.specs.Layout.{object_of, list_data, id_data};
-ghost use Rattle.cm_messages.specs.Writing.{AddsEach, AddsMember, AddsValue};
 ghost use Rattle.cm_messages.specs.PickleLayout.{type_word, pickle_tag_data, pickle_cell_data, pickle_row_data, pickle_doc_string_data, argument_data, pickle_step_data, pickle_steps_data, pickle_data};
 
-use crate::write::{
-    MessageLayout, WriteJson, write_list_member, write_media, write_member, write_only,
-    write_optional, write_str, write_text,
+use crate::send::{
+    SendJson, media_of, one_if, send_list_member, send_media, send_member, send_only,
+    send_optional, send_str, send_text,
 };
 use gk_document::{Sequence, Text};
 use gk_pickle::{Pickle, PickleArgument, PickleDocString, PickleStep, PickleTag, StepType};
-use json::Writer;
-use std::alloc::AllocError;
+use serde::{Described, Serialize, Serializer};
 
-impl WriteJson<MessageLayout> for PickleTag {
+impl SendJson for PickleTag {
     ghost json = { pickle_tag_data };
 
-    fn write(&self, out: &mut Writer) -> Result<(), AllocError> {
-        out.begin_object()?;
-        write_member("astNodeId", &self.node, out)?;
-        write_text("name", &self.name, out)?;
-        out.end_object()
+    fn send<S: Serializer>(&self, out: &mut S) -> Result<(), S::Error> {
+        out.begin_map(Some(2))?;
+        send_member("astNodeId", &self.node, out)?;
+        send_text("name", &self.name, out)?;
+        out.end_map()
     }
 }
 
 /// A cell of a table.
-impl WriteJson<MessageLayout> for Text {
+impl SendJson for Text {
     ghost json = { pickle_cell_data };
 
-    fn write(&self, out: &mut Writer) -> Result<(), AllocError> {
-        out.begin_object()?;
-        write_text("value", self, out)?;
-        out.end_object()
+    fn send<S: Serializer>(&self, out: &mut S) -> Result<(), S::Error> {
+        out.begin_map(Some(1))?;
+        send_text("value", self, out)?;
+        out.end_map()
     }
 }
 
 /// A row of a table.
-impl WriteJson<MessageLayout> for Sequence<Text> {
+impl SendJson for Sequence<Text> {
     ghost json = { pickle_row_data };
 
-    fn write(&self, out: &mut Writer) -> Result<(), AllocError> {
-        out.begin_object()?;
-        write_list_member("cells", self, out)?;
-        out.end_object()
+    fn send<S: Serializer>(&self, out: &mut S) -> Result<(), S::Error> {
+        out.begin_map(Some(1))?;
+        send_list_member("cells", self, out)?;
+        out.end_map()
     }
 }
 
-impl WriteJson<MessageLayout> for PickleDocString {
+impl SendJson for PickleDocString {
     ghost json = { pickle_doc_string_data };
 
-    fn write(&self, out: &mut Writer) -> Result<(), AllocError> {
-        out.begin_object()?;
-        write_text("content", &self.content, out)?;
-        write_media(&self.media, out)?;
-        out.end_object()
+    fn send<S: Serializer>(&self, out: &mut S) -> Result<(), S::Error> {
+        let count = one_if(&media_of(&self.media));
+        out.begin_map(Some(1 + count))?;
+        send_text("content", &self.content, out)?;
+        send_media(&self.media, out)?;
+        out.end_map()
     }
 }
 
@@ -65,29 +67,29 @@ struct PickleTable<'a> {
     rows: &'a Sequence<Sequence<Text>>,
 }
 
-impl WriteJson<MessageLayout> for PickleTable<'_> {
+impl SendJson for PickleTable<'_> {
     ghost json = { λ t. object_of ((codes "rows", list_data pickle_row_data t.rows.now) ∷ []) };
 
-    fn write(&self, out: &mut Writer) -> Result<(), AllocError> {
-        out.begin_object()?;
-        write_list_member("rows", self.rows, out)?;
-        out.end_object()
+    fn send<S: Serializer>(&self, out: &mut S) -> Result<(), S::Error> {
+        out.begin_map(Some(1))?;
+        send_list_member("rows", self.rows, out)?;
+        out.end_map()
     }
 }
 
-impl WriteJson<MessageLayout> for PickleArgument {
+impl SendJson for PickleArgument {
     ghost json = { argument_data };
 
-    fn write(&self, out: &mut Writer) -> Result<(), AllocError> {
+    fn send<S: Serializer>(&self, out: &mut S) -> Result<(), S::Error> {
         match self {
-            PickleArgument::Table(rows) => write_only("dataTable", &PickleTable { rows }, out),
-            PickleArgument::Text(doc_string) => write_only("docString", doc_string, out),
+            PickleArgument::Table(rows) => send_only("dataTable", &PickleTable { rows }, out),
+            PickleArgument::Text(doc_string) => send_only("docString", doc_string, out),
         }
     }
 }
 
-/// How a step's type is written, as the member `type` has it.
-pub fn step_type_name(kind: StepType) -> &'static str
+/// How a step's type is written.
+fn step_type_name(kind: StepType) -> &'static str
     ensures { result.now ≡ type_word kind }
 {
     match kind {
@@ -99,74 +101,89 @@ pub fn step_type_name(kind: StepType) -> &'static str
 }
 
 /// The member `type` of a step.
-fn write_step_type(kind: StepType, out: &mut Writer) -> Result<(), AllocError>
-    ensures { OnOk result (AddsMember (codes "type") (string (type_word kind)) out.old out.new) }
+fn send_step_type<S: Serializer>(kind: StepType, out: &mut S) -> Result<(), S::Error>
+    ensures { OnOk result (SendsMember (codes "type") (string (type_word kind))
+        (S.written out.old) (S.written out.new)) }
 {
-    write_str("type", step_type_name(kind), out)
+    send_str("type", step_type_name(kind), out)
 }
 
 /// A step with its id.
-fn write_step(step: &PickleStep, id: u64, out: &mut Writer) -> Result<(), AllocError>
+fn send_step<S: Serializer>(step: &PickleStep, id: u64, out: &mut S) -> Result<(), S::Error>
     ensures { OnOk result
-        (AddsValue (pickle_step_data id step.now) out.old out.new) }
+        (SendsValue (pickle_step_data id step.now) (S.written out.old) (S.written out.new)) }
 {
-    out.begin_object()?;
-    write_optional("argument", &step.argument, out)?;
-    write_list_member("astNodeIds", &step.nodes, out)?;
-    write_member("id", &id, out)?;
-    write_text("text", &step.text, out)?;
-    write_step_type(step.kind, out)?;
-    out.end_object()
+    let count = one_if(&step.argument);
+    out.begin_map(Some(4 + count))?;
+    send_optional("argument", &step.argument, out)?;
+    send_list_member("astNodeIds", &step.nodes, out)?;
+    send_member("id", &id, out)?;
+    send_text("text", &step.text, out)?;
+    send_step_type(step.kind, out)?;
+    out.end_map()
 }
 
 /// Steps with the ids from the first one on, one after the other.
-fn write_steps(steps: &[PickleStep], first_id: u64, out: &mut Writer) -> Result<(), AllocError>
+fn send_steps<S: Serializer>(
+    steps: &[PickleStep],
+    first_id: u64,
+    out: &mut S,
+) -> Result<(), S::Error>
     requires { first_id + length steps.now < 2 ^ 64 }
-    ensures { OnOk result (AddsEach (pickle_steps_data first_id steps.now) out.old out.new) }
+    ensures { OnOk result (WritesEach SendsValue (pickle_steps_data first_id steps.now)
+        (S.written out.old) (S.written out.new)) }
 {
     let mut id = first_id;
-    for step in steps {
-        write_step(step, id, out)?;
+    'steps: for step in steps {
+        send_step(step, id, out)?;
         id += 1;
     }
     Ok(())
 }
 
 /// Steps with the ids from the first one on, as an array.
-fn write_steps_list(steps: &[PickleStep], first_id: u64, out: &mut Writer) -> Result<(), AllocError>
+fn send_steps_list<S: Serializer>(
+    steps: &[PickleStep],
+    first_id: u64,
+    out: &mut S,
+) -> Result<(), S::Error>
     requires { first_id + length steps.now < 2 ^ 64 }
-    ensures { OnOk result (AddsValue (array (items_of (pickle_steps_data first_id steps.now))) out.old out.new) }
+    ensures { OnOk result (SendsValue (array (items_of (pickle_steps_data first_id steps.now)))
+        (S.written out.old) (S.written out.new)) }
 {
-    out.begin_array()?;
-    write_steps(steps, first_id, out)?;
-    out.end_array()
+    let count = steps.len();
+    out.begin_seq(Some(count))?;
+    send_steps(steps, first_id, out)?;
+    out.end_seq()
 }
 
 /// The member `steps` of a pickle.
-fn write_steps_member(
+fn send_steps_member<S: Serializer>(
     steps: &Sequence<PickleStep>,
     first_id: u64,
-    out: &mut Writer,
-) -> Result<(), AllocError>
+    out: &mut S,
+) -> Result<(), S::Error>
     requires { first_id + length steps.now < 2 ^ 64 }
-    ensures { OnOk result (AddsMember (codes "steps")
-        (array (items_of (pickle_steps_data first_id steps.now))) out.old out.new) }
+    ensures { OnOk result (SendsMember (codes "steps")
+        (array (items_of (pickle_steps_data first_id steps.now)))
+        (S.written out.old) (S.written out.new)) }
 {
     out.key("steps")?;
-    write_steps_list(steps.as_slice(), first_id, out)
+    send_steps_list(steps.as_slice(), first_id, out)
 }
 
 /// The member `id` of a pickle: the id after those of its steps.
-fn write_pickle_id(
+fn send_pickle_id<S: Serializer>(
     steps: &Sequence<PickleStep>,
     first_id: u64,
-    out: &mut Writer,
-) -> Result<(), AllocError>
+    out: &mut S,
+) -> Result<(), S::Error>
     requires { first_id + length steps.now < 2 ^ 64 }
-    ensures { OnOk result (AddsMember (codes "id") (id_data (first_id + length steps.now)) out.old out.new) }
+    ensures { OnOk result (SendsMember (codes "id") (id_data (first_id + length steps.now))
+        (S.written out.old) (S.written out.new)) }
 {
     let id = first_id + steps.len() as u64;
-    write_member("id", &id, out)
+    send_member("id", &id, out)
 }
 
 /// A pickle, written as its envelope: its steps take the ids from `first_id` on, in order, and the pickle the one after
@@ -180,21 +197,23 @@ pub(crate) struct PickleMessage<'a> {
     ghost in_range: { first_id + length pickle.now.steps < 2 ^ 64 },
 }
 
-impl WriteJson<MessageLayout> for PickleMessage<'_> {
-    ghost json = { λ m. pickle_data m.uri.now m.first_id m.pickle.now };
+impl Described for PickleMessage<'_> {
+    ghost writes = { λ m. SendsValue (pickle_data m.uri.now m.first_id m.pickle.now) };
+}
 
-    fn write(&self, out: &mut Writer) -> Result<(), AllocError> {
-        out.begin_object()?;
+impl Serialize for PickleMessage<'_> {
+    fn serialize<S: Serializer>(&self, out: &mut S) -> Result<(), S::Error> {
+        out.begin_map(Some(1))?;
         out.key("pickle")?;
-        out.begin_object()?;
-        write_list_member("astNodeIds", &self.pickle.nodes, out)?;
-        write_pickle_id(&self.pickle.steps, self.first_id, out)?;
-        write_str("language", "en", out)?;
-        write_text("name", &self.pickle.name, out)?;
-        write_steps_member(&self.pickle.steps, self.first_id, out)?;
-        write_list_member("tags", &self.pickle.tags, out)?;
-        write_str("uri", self.uri, out)?;
-        out.end_object()?;
-        out.end_object()
+        out.begin_map(Some(7))?;
+        send_list_member("astNodeIds", &self.pickle.nodes, out)?;
+        send_pickle_id(&self.pickle.steps, self.first_id, out)?;
+        send_str("language", "en", out)?;
+        send_text("name", &self.pickle.name, out)?;
+        send_steps_member(&self.pickle.steps, self.first_id, out)?;
+        send_list_member("tags", &self.pickle.tags, out)?;
+        send_str("uri", self.uri, out)?;
+        out.end_map()?;
+        out.end_map()
     }
 }

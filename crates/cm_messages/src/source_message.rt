@@ -1,9 +1,9 @@
 //! The envelope of a source.
+ghost use Rattle.serde_json.specs.Events.{SendsValue};
 ghost use Rattle.cm_messages.specs.SourceLayout.{source_data};
 
-use crate::write::{MessageLayout, WriteJson, write_str};
-use json::Writer;
-use std::alloc::AllocError;
+use crate::send::send_str;
+use serde::{Described, Serialize, Serializer};
 
 /// A source, written as its envelope: its members are those of Cucumber Messages' `Source.json`, in the byte order of their
 /// names.
@@ -13,17 +13,19 @@ pub(crate) struct SourceMessage<'a> {
     pub(crate) text: &'a str,
 }
 
-impl WriteJson<MessageLayout> for SourceMessage<'_> {
-    ghost json = { λ m. source_data m.uri.now m.text.now };
+impl Described for SourceMessage<'_> {
+    ghost writes = { λ m. SendsValue (source_data m.uri.now m.text.now) };
+}
 
-    fn write(&self, out: &mut Writer) -> Result<(), AllocError> {
-        out.begin_object()?;
+impl Serialize for SourceMessage<'_> {
+    fn serialize<S: Serializer>(&self, out: &mut S) -> Result<(), S::Error> {
+        out.begin_map(Some(1))?;
         out.key("source")?;
-        out.begin_object()?;
-        write_str("data", self.text, out)?;
-        write_str("mediaType", "text/x.cucumber.gherkin+plain", out)?;
-        write_str("uri", self.uri, out)?;
-        out.end_object()?;
-        out.end_object()
+        out.begin_map(Some(3))?;
+        send_str("data", self.text, out)?;
+        send_str("mediaType", "text/x.cucumber.gherkin+plain", out)?;
+        send_str("uri", self.uri, out)?;
+        out.end_map()?;
+        out.end_map()
     }
 }

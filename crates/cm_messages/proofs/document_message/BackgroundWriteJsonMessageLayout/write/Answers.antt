@@ -1,5 +1,0 @@
-use Rattle.cm_messages.proofs.Chains.{last, then, token}
-use Rattle.cm_messages.proofs.document_message.BackgroundWriteJsonMessageLayout.write.Goals as goal
-
-pub returns : goal.returns
-returns c = last (λ ended. then (token c.in_ok-begin_object.ensures) (then c.in_ok-write_text.ensures (then c.in_ok-write_member.ensures (then c.in_ok-write_text-2.ensures (then c.in_ok-write_member-2.ensures (then c.in_ok-write_text-3.ensures (then c.in_ok-write_list_member.ensures ended))))))) c.end_object.ensures
