@@ -18,8 +18,9 @@ use Rattle.cm_stream.proofs.ByGrammar.{is_first}
 use Rattle.cm_stream.proofs.Streams.{read_is_told}
 use Rattle.cm_audit.specs.Audit.{AnswersTold, GoodAtEnd, GoodAtEndIn, ShowNoFault}
 use Rattle.cm_envelope.specs.Feeds.{is_failed_read}
-use Rattle.cm_audit.specs.Cases.{FollowsGood, IsCasesAuditOf, audited_in}
-use Rattle.cm_audit.specs.declared.listed_cases.AuditedCases.{AuditedCases}
+use Rattle.cm_audit.specs.Watched.{FollowsGood}
+use Rattle.cm_audit_cases.specs.CasesAudit.{IsCasesAuditOf, audited_in}
+use Rattle.cm_audit_cases.specs.declared.audited_cases.AuditedCases.{AuditedCases}
 use Rattle.ck_command_line.specs.CommandLine.{ask_cases}
 use Rattle.ck_commands.specs.Cases.{IsReport, ListsOrTells, ReportsCases, ReportsVerdict, cases_report}
 use Rattle.ck_commands.specs.Output.{Report, report_made, trouble_report}

@@ -13,8 +13,8 @@ use Rattle.cm_stream.specs.declared.verdict.Verdict.{Verdict}
 use Rattle.cm_stream.specs.declared.verdict.Verdict.TheVariants as verdict
 use Rattle.cm_audit.specs.Audit.{GoodAtEnd, GoodAtEndIn, ShowNoFault}
 use Rattle.cm_envelope.specs.Feeds.{is_failed_read}
-use Rattle.cm_audit.specs.Differs.{DiffersAt, DiffersBy, IsDiffersAuditOf, audited_of}
-use Rattle.cm_audit.specs.declared.differs.AuditedDifference.{AuditedDifference}
+use Rattle.cm_audit_differs.specs.DifferenceAudit.{DiffersAt, DiffersBy, IsDiffersAuditOf, audited_of}
+use Rattle.cm_audit_differs.specs.declared.audited_difference.AuditedDifference.{AuditedDifference}
 use Rattle.cm_differs.specs.declared.difference.Difference.{Difference}
 use Rattle.ck_command_line.specs.CommandLine.{ask_differs}
 use Rattle.ck_commands.specs.Differs.{IsDifferenceOf, ReportsDifference, differs_report}

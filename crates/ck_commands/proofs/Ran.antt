@@ -14,7 +14,7 @@ use Rattle.cm_stream.specs.declared.verdict.Hold.{Hold}
 use Rattle.cm_stream.specs.declared.verdict.Verdict.{Verdict}
 use Rattle.cm_stream.specs.declared.verdict.Verdict.TheVariants as verdict
 use Rattle.cm_stream.proofs.Released.{released_is_not_held}
-use Rattle.cm_audit.specs.Differs.{DiffersBy}
+use Rattle.cm_audit_differs.specs.DifferenceAudit.{DiffersBy}
 use Rattle.cm_differs.specs.declared.difference.Difference.{Difference}
 use Rattle.ck_command_line.specs.CommandLine.{Command, ask_audit, ask_cases, ask_compile, ask_differs, ask_gate, ask_parse, ask_results}
 use Rattle.ck_commands.specs.Cases.{ListsOrTells, PrintsListed}

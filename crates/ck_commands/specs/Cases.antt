@@ -18,7 +18,7 @@ use Rattle.cm_stream.specs.Texts.{Utf8}
 use Rattle.cm_stream.specs.declared.verdict.Audited.{Audited}
 use Rattle.cm_stream.specs.declared.verdict.Verdict.{Verdict}
 use Rattle.cm_stream.specs.declared.verdict.Verdict.TheVariants as verdict
-use Rattle.cm_audit.specs.declared.listed_cases.AuditedCases.{AuditedCases}
+use Rattle.cm_audit_cases.specs.declared.audited_cases.AuditedCases.{AuditedCases}
 use Rattle.ck_commands.specs.Output.{Report, trouble_report}
 use Rattle.ck_commands.specs.Statuses.{reported_word}
 use Rattle.ck_commands.specs.Verdicts.{finding_report, verdict_report}

@@ -3,8 +3,8 @@ use Rattle.std.specs.Prelude.{◌≡◌, ℕ, List, [], ◌∷◌, ◌++◌, Opt
 use Rattle.std.specs.Option.{option_map_or}
 use Rattle.cm_envelope.specs.Device.{Output, Writes}
 use Rattle.cm_attempt.specs.declared.settings.Settings.{Settings}
-use Rattle.cm_audit.specs.Differs.{DiffersAt, audited_of}
-use Rattle.cm_audit.specs.declared.differs.AuditedDifference.{AuditedDifference}
+use Rattle.cm_audit_differs.specs.DifferenceAudit.{DiffersAt, audited_of}
+use Rattle.cm_audit_differs.specs.declared.audited_difference.AuditedDifference.{AuditedDifference}
 use Rattle.cm_cases.specs.Shown.{shown_json, shown_text}
 use Rattle.cm_differs.specs.declared.difference.Difference.{Difference}
 use Rattle.cm_envelope.specs.Lines.{line_feed}

@@ -15,7 +15,7 @@ use Rattle.cm_stream.specs.Results.{first_results_fault, results_of}
 use Rattle.cm_stream.specs.Stream.{At, FirstFault, IsFirstFault, NoFault, answer_for, answer_of_audit}
 use Rattle.cm_stream.specs.declared.verdict.Audited.{Audited}
 use Rattle.cm_audit.specs.Audit.{IsAuditOf, ShowNoFault}
-use Rattle.cm_audit.specs.Differs.{DiffersBy}
+use Rattle.cm_audit_differs.specs.DifferenceAudit.{DiffersBy}
 use Rattle.cm_differs.specs.declared.difference.Difference.{Difference}
 use Rattle.ck_command_line.specs.CommandLine.{Command, CallsForHelp, ask_audit, ask_cases, ask_compile, ask_differs, ask_gate, ask_parse, ask_results}
 use Rattle.ck_command_line.specs.declared.command_line.Refusal.{Refusal}

@@ -14,7 +14,7 @@ use crate::output::{ExitStatus, Report, write_report};
 use crate::status_words::word_of;
 use crate::verdict_report::verdict_report;
 use cm_attempt::{CaseResult, Settings, Track};
-use cm_audit::{AuditedCases, audit_cases};
+use cm_audit_cases::{AuditedCases, audit_cases};
 use cm_cases::{Listing, Places};
 use cm_envelope::{ByteSink, ByteSource, Trouble};
 use cm_stream::Verdict;

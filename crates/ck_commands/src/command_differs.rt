@@ -7,7 +7,7 @@ ghost use Rattle.ck_commands.specs.Run.{Runs};
 use crate::output::{ExitStatus, Report, write_report};
 use crate::verdict_report::verdict_report;
 use cm_attempt::Settings;
-use cm_audit::{AuditedDifference, audit_differs};
+use cm_audit_differs::{AuditedDifference, audit_differs};
 use cm_cases::{add_shown, add_shown_json};
 use cm_differs::Difference;
 use cm_envelope::{ByteSink, ByteSource, Trouble};

@@ -19,9 +19,8 @@ use Rattle.cm_state.specs.Summary.{Summary, empty_summary}
 use Rattle.cm_state.specs.StateChecks.{finding_at_end}
 use Rattle.cm_state.specs.Laws.{answer_at_end}
 use Rattle.cm_audit.specs.Audit.{AnswersAs, ReadsNoFurther, ReadsUpTo, TakesLine, audited_at, unsuccessful}
-use Rattle.cm_audit.specs.Judging.{judged, HasJudged, HoldNoFault, JudgesAs}
+use Rattle.cm_audit.specs.Judging.{judged, HasJudged, HoldNoFault, JudgesAs, TellsLine}
 use Rattle.cm_audit.specs.Stops.{unread_line}
-use Rattle.cm_audit.specs.Told.{TellsLine}
 use Rattle.cm_audit.specs.State.{AreFewer, IsListed, summary_of}
 use Rattle.cm_audit.specs.declared.state.State.{State}
 use Rattle.cm_audit.specs.declared.stop.Stop.{Stop}

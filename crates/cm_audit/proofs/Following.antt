@@ -3,11 +3,12 @@ use Rattle.std.proofs.Common.{◌≡◌, ℕ, ◌+◌, refl, sym, ap, ◌∙◌,
 use Rattle.std.proofs.lemmas.List.{length-map, map-append}
 use Rattle.std.proofs.lemmas.List.Concat.{flat_map-append}
 use Rattle.cm_envelope.specs.Device.{Input, OfReads}
-use Rattle.cm_envelope.specs.Feeds.{Stored, EndsWithSource, GivesLine, IsNextLine, Leaves, given_line, feed_left, new_feed}
+use Rattle.cm_envelope.specs.Feeds.{Stored, EndsWithSource, GivesLine, IsNextLine, Leaves, given_line, feed_left, new_feed, is_failed_read}
 use Rattle.cm_envelope.specs.Lines.{Fed, Line, is_blank}
 use Rattle.cm_envelope.specs.Reading.{LineFault, envelope_of_line}
 use Rattle.cm_envelope.specs.declared.envelope.Envelope.{Envelope}
 use Rattle.cm_envelope.specs.declared.feed.Trouble.{Trouble}
+use Rattle.cm_envelope.specs.declared.feed.Trouble.TheVariants.{ReadFailed, LineTooLong, StreamTooLong, Memory}
 use Rattle.cm_envelope.proofs.Sources.{HasReadSo, read_so_far, reads_no_more, reads_then, reads_weaker}
 use Rattle.cm_attempt.specs.Results.{case_results}
 use Rattle.cm_attempt.specs.Table.{Table}
@@ -32,16 +33,17 @@ use Rattle.cm_state.specs.ByOnePass.{finding, summary_after_line, summary_of_lin
 use Rattle.cm_state.proofs.Checked.{findings_are_faults}
 use Rattle.cm_state.proofs.Judged.{judged_is_told, none_yet, one_more_line}
 use Rattle.cm_state.proofs.Steps.{summaries_step}
-use Rattle.cm_audit.specs.Audit.{AnswersAs, TakesLine, audited_at, contents, unsuccessful}
-use Rattle.cm_audit.specs.Cases.{FollowsAnswer, IsFollowed, JudgesWith}
-use Rattle.cm_audit.specs.Judging.{HasFollowed, HasJudged, JudgesAs, envelope_in, envelopes_in, judged}
-use Rattle.cm_audit.specs.Told.{IsToldAt, TellsAnswer, TellsLine, is_of_envelope}
+use Rattle.cm_audit.specs.Audit.{AnswersAs, GoodAtEnd, IsAuditOf, TakesLine, audited_at, contents, unsuccessful}
+use Rattle.cm_audit.specs.Judging.{FollowsAnswer, HasFollowed, HasJudged, JudgesAs, JudgesWith, TellsAnswer, TellsLine, judged}
+use Rattle.cm_audit.specs.Watched.{IsFollowed, IsToldAt, IsWatchedAuditOf, audit_in, envelope_in, envelopes_in, is_of_envelope, with_watch}
 use Rattle.cm_audit.specs.State.{summary_of}
+use Rattle.cm_audit.specs.declared.auditing.WatchedAudit.{WatchedAudit}
 use Rattle.cm_audit.specs.declared.state.State.{State}
 use Rattle.cm_audit.specs.declared.stop.Stop.{Stop}
 use Rattle.cm_audit.specs.declared.stop.Stop.TheVariants as stop
 use Rattle.cm_audit.proofs.Answering.{ends_early, stops_at, troubled}
 use Rattle.cm_audit.proofs.Reading.{at_the_end, next_judged, next_lines, nothing_judged, nothing_lines}
+use Rattle.cm_audit.proofs.Verdicts.{audit_of}
 
 -- ---- the envelopes of lines
 
@@ -222,7 +224,30 @@ module _ (settings : Settings) (follows : List Envelope → Type 0) where
       }))
       (leaves.source ends)
 
--- the judgement alone
-pub without_watch : (settings : Settings) (follows : List Envelope → Type 0) (tells : Summary → Envelope → Type 0) (table : Table) (answer : Result Audited Trouble) (a b : Input) → OfReads a b (JudgesWith settings follows tells table answer)
-    → OfReads a b (JudgesAs settings answer)
-without_watch settings follows tells table answer a b p = reads_weaker {P = JudgesWith settings follows tells table answer} {Q = JudgesAs settings answer} a b p (λ xs ys h. h.judges)
+-- ---- the audit
+
+module _ {W : Type 0} (settings : Settings) (follows : W → List Envelope → Type 0) (tells : W → Summary → Envelope → Type 0) where
+  watched : (watch : W) (table : Table) (answer : Result Audited Trouble) (xs ys : List ℕ) → JudgesWith settings (follows watch) (tells watch) table answer xs ys → IsWatchedAuditOf settings follows tells (with_watch watch table answer) xs ys
+  watched watch table (Ok audited) xs ys h = record { audit = audit_of settings (Ok audited) xs ys h.judges; followed = h.follows_it; told = h.told }
+  watched watch table (Err t) xs ys h = record { audit = audit_of settings (Err t) xs ys h.judges; followed = tt; told = tt }
+
+  -- what was judged line by line is an audit that was watched
+  pub watched_audit : (watch : W) (table : Table) (answer : Result Audited Trouble) (a b : Input) → OfReads a b (JudgesWith settings (follows watch) (tells watch) table answer) → OfReads a b (IsWatchedAuditOf settings follows tells (with_watch watch table answer))
+  watched_audit watch table answer a b p =
+      reads_weaker {P = JudgesWith settings (follows watch) (tells watch) table answer} {Q = IsWatchedAuditOf settings follows tells (with_watch watch table answer)} a b p (watched watch table answer)
+
+  -- the audit alone
+  pub audit_alone : (answer : Result (WatchedAudit W) Trouble) (a b : Input) → OfReads a b (IsWatchedAuditOf settings follows tells answer) → OfReads a b (IsAuditOf settings (audit_in answer))
+  audit_alone answer a b p = reads_weaker {P = IsWatchedAuditOf settings follows tells answer} {Q = IsAuditOf settings (audit_in answer)} a b p (λ xs ys h. h.audit)
+
+pub at_end_with : {W : Type 0} (after : Input) (answer : Result Audited Trouble) (watch : W) (table : Table) → GoodAtEnd after answer → GoodAtEnd after (audit_in (with_watch watch table answer))
+at_end_with after (Ok audited) watch table over = over
+at_end_with after (Err t) watch table over = tt
+
+-- a read failed in the audit alone where one failed in the watched one
+pub failed_alone : {W : Type 0} (answer : Result (WatchedAudit W) Trouble) → is_failed_read (audit_in answer) ≡ is_failed_read answer
+failed_alone (Ok w) = refl
+failed_alone (Err ReadFailed) = refl
+failed_alone (Err LineTooLong) = refl
+failed_alone (Err StreamTooLong) = refl
+failed_alone (Err Memory) = refl

@@ -28,8 +28,8 @@ use Rattle.cm_state.specs.ByOnePass.{new_source, plain_finding}
 use Rattle.cm_audit.specs.Kept.{ReadsAs, accepted_row, kept_row}
 use Rattle.cm_audit.specs.State.{Checks, Judges, Refuses, summary_of}
 use Rattle.cm_audit.specs.Stops.{StopsFor, refused_reference}
-use Rattle.cm_audit.specs.declared.source.Accepted.{Accepted as AcceptedSource}
-use Rattle.cm_audit.specs.declared.source.Kept.{Kept}
+use Rattle.cm_audit.specs.declared.source.AcceptedSource.{AcceptedSource}
+use Rattle.cm_audit.specs.declared.source.KeptSource.{KeptSource}
 use Rattle.cm_audit.specs.declared.state.State.{State}
 use Rattle.cm_audit.specs.declared.stop.Stop.{Stop}
 use Rattle.cm_audit.specs.declared.stop.Stop.TheVariants as stop
@@ -117,7 +117,7 @@ module _ (s : Summary) (x : Source) where
       unfolding of_reading
       source_unread why h = rw (new, media) (unread (reads x.content) why h)
 
-      pub source_fits : (k : Kept) → ReadsAs (reads x.content) (Ok k) → plain_finding s (envelope.Source x) ≡ None
+      pub source_fits : (k : KeptSource) → ReadsAs (reads x.content) (Ok k) → plain_finding s (envelope.Source x) ≡ None
       unfolding of_reading
       source_fits k h = rw (new, media) (fits (reads x.content) h)
         where
@@ -127,13 +127,13 @@ module _ (s : Summary) (x : Source) where
           fits TooLong h = absurd h
           fits OtherLanguage h = absurd h
 
-row_read : (r : Reading) (k : Kept) → ReadsAs r (Ok k) → kept_row [] k ≡ new_row [] r
+row_read : (r : Reading) (k : KeptSource) → ReadsAs r (Ok k) → kept_row [] k ≡ new_row [] r
 row_read (Accepted d) k h = h
 row_read Refused k h = h
 row_read TooLong k h = absurd h
 row_read OtherLanguage k h = absurd h
 
-pub kept_source : (x : Source) (uri : Utf8) (k : Kept) → uri ≡ x.uri → ReadsAs (reads x.content) (Ok k) → kept_row uri k ≡ new_source x
+pub kept_source : (x : Source) (uri : Utf8) (k : KeptSource) → uri ≡ x.uri → ReadsAs (reads x.content) (Ok k) → kept_row uri k ≡ new_source x
 kept_source x uri k e h = moved_row uri k ∙ (λ i. record (row_read (reads x.content) k h i) { uri = e i })
 
 -- ---- a parse error

@@ -8,18 +8,18 @@ use Rattle.cm_state.specs.Summary.{SourceRow}
 use Rattle.cm_envelope.specs.declared.pickle.Pickle.{Pickle}
 use Rattle.cm_state.specs.StateChecks.{is_next_of}
 use Rattle.cm_audit.specs.Kept.{kept_row}
-use Rattle.cm_audit.specs.declared.source.Kept.{Kept}
-use Rattle.cm_audit.specs.declared.source.Kept.TheVariants as kept
+use Rattle.cm_audit.specs.declared.source.KeptSource.{KeptSource}
+use Rattle.cm_audit.specs.declared.source.KeptSource.TheVariants as kept
 
-pub row_uri : (uri : Utf8) (k : Kept) → (kept_row uri k).uri ≡ uri
+pub row_uri : (uri : Utf8) (k : KeptSource) → (kept_row uri k).uri ≡ uri
 row_uri uri kept.Refused = refl
 row_uri uri (kept.Accepted a) = refl
 
 -- a row is found by its key
-pub row_says : (uri t : Utf8) (k : Kept) → bytes_eq uri (kept_row t k).uri ≡ bytes_eq uri t
+pub row_says : (uri t : Utf8) (k : KeptSource) → bytes_eq uri (kept_row t k).uri ≡ bytes_eq uri t
 row_says uri t k = ap (bytes_eq uri) (row_uri t k)
 
-pub moved_row : (uri : Utf8) (k : Kept) → kept_row uri k ≡ record (kept_row [] k) { uri = uri }
+pub moved_row : (uri : Utf8) (k : KeptSource) → kept_row uri k ≡ record (kept_row [] k) { uri = uri }
 moved_row uri kept.Refused = refl
 moved_row uri (kept.Accepted a) = refl
 
@@ -51,7 +51,7 @@ changed_uris p f keeps (r ∷ rows) = go (p r) refl (changed_uris p f keeps rows
     go false e rest = rw e (ap (λ ts. r.uri ∷ ts) rest)
 
 -- what is asked of a row doesn't ask for its key
-pub good_bare : (uri : Utf8) (k : Kept) → (kept_row uri k).is_accepted ≡ true → (kept_row [] k).is_accepted ≡ true
+pub good_bare : (uri : Utf8) (k : KeptSource) → (kept_row uri k).is_accepted ≡ true → (kept_row [] k).is_accepted ≡ true
 good_bare uri kept.Refused h = h
 good_bare uri (kept.Accepted a) h = h
 
@@ -61,19 +61,19 @@ pub listed_is : (uri : Utf8) (rows : List SourceRow) (names : List Utf8) (o : Op
 listed_is uri rows names o listed e = sym (ap (has_text uri) listed) ∙ sym (row_listed uri rows) ∙ sym (ap is_some e)
 
 -- what was found by an equal text
-pub found_by : (t uri : Utf8) (o : Option (Bor Kept)) (rows : List SourceRow) → t ≡ uri
-    → option_map (λ (k : Bor Kept). kept_row t k.now) o ≡ find (λ r. bytes_eq t r.uri) rows
-    → option_map (λ (k : Bor Kept). kept_row uri k.now) o ≡ find (λ r. bytes_eq uri r.uri) rows
-found_by t uri o rows e h = subst (λ t. option_map (λ (k : Bor Kept). kept_row t k.now) o ≡ find (λ r. bytes_eq t r.uri) rows) e h
+pub found_by : (t uri : Utf8) (o : Option (Bor KeptSource)) (rows : List SourceRow) → t ≡ uri
+    → option_map (λ (k : Bor KeptSource). kept_row t k.now) o ≡ find (λ r. bytes_eq t r.uri) rows
+    → option_map (λ (k : Bor KeptSource). kept_row uri k.now) o ≡ find (λ r. bytes_eq uri r.uri) rows
+found_by t uri o rows e h = subst (λ t. option_map (λ (k : Bor KeptSource). kept_row t k.now) o ≡ find (λ r. bytes_eq t r.uri) rows) e h
 
-pub found_kept : (uri : Utf8) (o : Option (Bor Kept)) (k : Bor Kept) (rows : List SourceRow) → o ≡ Some k
-    → option_map (λ (k : Bor Kept). kept_row uri k.now) o ≡ find (λ r. bytes_eq uri r.uri) rows → Some (kept_row uri k.now) ≡ find (λ r. bytes_eq uri r.uri) rows
-found_kept uri o k rows e h = sym (ap (option_map (λ (k : Bor Kept). kept_row uri k.now)) e) ∙ h
+pub found_kept : (uri : Utf8) (o : Option (Bor KeptSource)) (k : Bor KeptSource) (rows : List SourceRow) → o ≡ Some k
+    → option_map (λ (k : Bor KeptSource). kept_row uri k.now) o ≡ find (λ r. bytes_eq uri r.uri) rows → Some (kept_row uri k.now) ≡ find (λ r. bytes_eq uri r.uri) rows
+found_kept uri o k rows e h = sym (ap (option_map (λ (k : Bor KeptSource). kept_row uri k.now)) e) ∙ h
 
-pub found_none : (uri : Utf8) (o : Option (Bor Kept)) (rows : List SourceRow) → o ≡ None
-    → option_map (λ (k : Bor Kept). kept_row uri k.now) o ≡ find (λ r. bytes_eq uri r.uri) rows → None ≡ find (λ r. bytes_eq uri r.uri) rows
-found_none uri o rows e h = sym (ap (option_map (λ (k : Bor Kept). kept_row uri k.now)) e) ∙ h
+pub found_none : (uri : Utf8) (o : Option (Bor KeptSource)) (rows : List SourceRow) → o ≡ None
+    → option_map (λ (k : Bor KeptSource). kept_row uri k.now) o ≡ find (λ r. bytes_eq uri r.uri) rows → None ≡ find (λ r. bytes_eq uri r.uri) rows
+found_none uri o rows e h = sym (ap (option_map (λ (k : Bor KeptSource). kept_row uri k.now)) e) ∙ h
 
-pub next_bare : (uri : Utf8) (p : Pickle) (k : Kept) → is_next_of p (kept_row uri k) ≡ is_next_of p (kept_row [] k)
+pub next_bare : (uri : Utf8) (p : Pickle) (k : KeptSource) → is_next_of p (kept_row uri k) ≡ is_next_of p (kept_row [] k)
 next_bare uri p kept.Refused = refl
 next_bare uri p (kept.Accepted a) = refl

@@ -1,11 +1,7 @@
 pub mod Answering
 pub mod Cases
-pub mod CasesAudit
 pub mod Counted
 pub mod Deciding
-pub mod DiffersAudit
-pub mod DiffersFaults
-pub mod DiffersRows
 pub mod Following
 pub mod Judged
 pub mod KeptRows

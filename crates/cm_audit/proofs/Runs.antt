@@ -8,20 +8,20 @@ use Rattle.cm_refs.proofs.EntryLemmas.{Key}
 use Rattle.cm_attempt.proofs.EntryLemmas.{list_all-rows}
 use Rattle.cm_state.specs.StateChecks.{lacks_by}
 use Rattle.cm_audit.specs.Kept.{kept_row, kept_rows}
-use Rattle.cm_audit.specs.declared.source.Kept.{Kept}
-use Rattle.cm_audit.specs.declared.source.Kept.TheVariants as kept
+use Rattle.cm_audit.specs.declared.source.KeptSource.{KeptSource}
+use Rattle.cm_audit.specs.declared.source.KeptSource.TheVariants as kept
 
-lacks_anywhere : (uri : Utf8) (k : Kept) → lacks_by (kept_row uri k) ≡ lacks_by (kept_row [] k)
+lacks_anywhere : (uri : Utf8) (k : KeptSource) → lacks_by (kept_row uri k) ≡ lacks_by (kept_row [] k)
 lacks_anywhere uri kept.Refused = refl
 lacks_anywhere uri (kept.Accepted a) = refl
 
-accepted_anywhere : (uri : Utf8) (k : Kept) → (kept_row uri k).is_accepted ≡ (kept_row [] k).is_accepted
+accepted_anywhere : (uri : Utf8) (k : KeptSource) → (kept_row uri k).is_accepted ≡ (kept_row [] k).is_accepted
 accepted_anywhere uri kept.Refused = refl
 accepted_anywhere uri (kept.Accepted a) = refl
 
-pub rows_lack : (es : List (Key × Kept)) → list_any lacks_by (kept_rows es) ≡ list_any (λ k. lacks_by (kept_row [] k)) (values_of es)
+pub rows_lack : (es : List (Key × KeptSource)) → list_any lacks_by (kept_rows es) ≡ list_any (λ k. lacks_by (kept_row [] k)) (values_of es)
 rows_lack [] = refl
 rows_lack (e ∷ es) = λ i. lacks_anywhere (string_bytes e.0) e.1 i || rows_lack es i
 
-pub rows_accepted : (es : List (Key × Kept)) → list_all (λ r. r.is_accepted) (kept_rows es) ≡ list_all (λ k. (kept_row [] k).is_accepted) (values_of es)
+pub rows_accepted : (es : List (Key × KeptSource)) → list_all (λ r. r.is_accepted) (kept_rows es) ≡ list_all (λ k. (kept_row [] k).is_accepted) (values_of es)
 rows_accepted es = list_all-rows kept_row (λ r. r.is_accepted) accepted_anywhere es

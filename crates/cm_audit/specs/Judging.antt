@@ -1,19 +1,22 @@
 -- The answer line by line, and what was read of a stream.
-use Rattle.std.specs.Prelude.{◌≡◌, ◌+◌, ℕ, List, [], ◌∷◌, ◌++◌, Option, Some, Result, Ok, Err, length}
-use Rattle.std.specs.List.{flat_map}
+use Rattle.std.specs.Prelude.{◌≡◌, ◌+◌, ⊤, ℕ, List, ◌++◌, Option, Some, Result, Ok, Err, length}
 use Rattle.cm_envelope.specs.Lines.{Line, Fed, max_line_bytes, max_stream_bytes}
 use Rattle.cm_envelope.specs.Feeds.{Stored, ShowNothing, not_given, feed_left}
 use Rattle.cm_envelope.specs.Reading.{LineFault}
 use Rattle.cm_envelope.specs.declared.envelope.Envelope.{Envelope}
 use Rattle.cm_envelope.specs.declared.feed.Trouble.{Trouble}
 use Rattle.cm_envelope.specs.declared.feed.Trouble.TheVariants.{ReadFailed}
+use Rattle.cm_attempt.specs.Table.{Table}
 use Rattle.cm_attempt.specs.declared.settings.Settings.{Settings}
-use Rattle.cm_stream.specs.Stream.{Answer, Failed, feed_of, envelope_unless_blank, verdict_in}
+use Rattle.cm_stream.specs.Stream.{Answer, Failed, feed_of, verdict_in}
 use Rattle.cm_stream.specs.ByOnePass.{IsFaultless}
 use Rattle.cm_stream.specs.declared.verdict.Audited.{Audited}
 use Rattle.cm_state.specs.Summary.{Summary, empty_summary}
 use Rattle.cm_state.specs.ByOnePass.{summary_of_lines, answer_of_lines}
 use Rattle.cm_audit.specs.Audit.{AnswersAs, Begins, ReadsUpTo, all_written, contents}
+use Rattle.cm_audit.specs.Watched.{FollowsGood, TellsVerdict, envelopes_in}
+use Rattle.cm_audit.specs.declared.stop.Stop.{Stop}
+use Rattle.cm_audit.specs.declared.stop.Stop.TheVariants as stop
 
 -- the answer line by line, from the first line on, and then for the trouble or the end
 abbrev pub judged_from_first : Settings → List (List ℕ) → Option Trouble → Answer
@@ -22,15 +25,6 @@ judged_from_first settings lines trouble =
 
 abbrev pub judged : Settings → List ℕ → Answer
 judged settings bytes = judged_from_first settings (feed_of bytes).lines (feed_of bytes).trouble
-
--- the envelope of a line that is read so, if any
-abbrev pub envelope_in : Option (Result Envelope LineFault) → List Envelope
-envelope_in (Some (Ok e)) = e ∷ []
-envelope_in _ = []
-
--- the envelopes of lines
-abbrev pub envelopes_in : List (List ℕ) → List Envelope
-envelopes_in lines = flat_map (λ l. envelope_in (envelope_unless_blank l)) lines
 
 -- `ShowNoFault`, where the lines are judged one by one
 pub record HoldNoFault (settings : Settings) (before after : List ℕ) : Type 0 where
@@ -80,3 +74,32 @@ pub record JudgesAs (settings : Settings) (answer : Result Audited Trouble)
   pub told : AnswersAs (judged settings bytes) answer
   pub read_failed : answer ≡ Err ReadFailed → HoldNoFault settings bytes rest
   pub ahead : ReadsUpTo (verdict_in answer) bytes rest
+
+-- ---- with a watch
+
+-- `tells` holds of what the lines before leave and of the envelope that a line is read as, where that has a fault
+abbrev pub TellsLine : (tells : Summary → Envelope → Type 0) → Summary
+    → Option (Result Envelope LineFault) → Result ⊤ Stop → Type 0
+TellsLine tells s (Some (Ok e)) (Err (stop.Bad b)) = tells s e
+TellsLine tells s _ _ = ⊤
+
+-- what is told at a fault, where the answer is one
+abbrev pub TellsAnswer : Settings → (tells : Summary → Envelope → Type 0) → List ℕ
+    → Result Audited Trouble → Type 0
+TellsAnswer settings tells bytes (Ok a) = TellsVerdict settings tells bytes a.verdict
+TellsAnswer settings tells bytes (Err t) = ⊤
+
+-- `IsFollowed`, where the answer is Good
+abbrev pub FollowsAnswer : Settings → (List Envelope → Type 0) → Table → List ℕ
+    → Result Audited Trouble → Type 0
+FollowsAnswer settings follows table bytes (Ok a) =
+    FollowsGood settings follows table bytes a.verdict
+FollowsAnswer settings follows table bytes (Err t) = ⊤
+
+-- `IsWatchedAuditOf`, where the lines are judged one by one
+pub record JudgesWith (settings : Settings) (follows : List Envelope → Type 0)
+    (tells : Summary → Envelope → Type 0) (table : Table) (answer : Result Audited Trouble)
+    (bytes rest : List ℕ) : Type 0 where
+  pub judges : JudgesAs settings answer bytes rest
+  pub follows_it : FollowsAnswer settings follows table bytes answer
+  pub told : TellsAnswer settings tells bytes answer

@@ -7,9 +7,9 @@ use Rattle.cm_stream.specs.Texts.{Utf8}
 use Rattle.cm_stream.specs.Readings.{Reading, Accepted, Refused, OtherLanguage, TooLong}
 use Rattle.cm_stream.specs.declared.verdict.Reason.TheVariants as reason
 use Rattle.cm_state.specs.Summary.{SourceRow, new_row}
-use Rattle.cm_audit.specs.declared.source.Accepted.{Accepted as AcceptedSource}
-use Rattle.cm_audit.specs.declared.source.Kept.{Kept}
-use Rattle.cm_audit.specs.declared.source.Kept.TheVariants as kept
+use Rattle.cm_audit.specs.declared.source.AcceptedSource.{AcceptedSource}
+use Rattle.cm_audit.specs.declared.source.KeptSource.{KeptSource}
+use Rattle.cm_audit.specs.declared.source.KeptSource.TheVariants as kept
 use Rattle.cm_audit.specs.declared.stop.Stop.{Stop}
 use Rattle.cm_audit.specs.declared.stop.Stop.TheVariants as stop
 
@@ -23,11 +23,11 @@ accepted_row uri a = record {
 }
 
 -- of a refused source nothing comes
-abbrev pub kept_row : Utf8 → Kept → SourceRow
+abbrev pub kept_row : Utf8 → KeptSource → SourceRow
 kept_row uri kept.Refused = new_row uri Refused
 kept_row uri (kept.Accepted a) = accepted_row uri a
 
-abbrev pub kept_rows : List (String Global × Kept) → List SourceRow
+abbrev pub kept_rows : List (String Global × KeptSource) → List SourceRow
 kept_rows = map (λ e. kept_row (string_bytes e.0) e.1)
 
 -- the source of the uri, if there is one, is accepted
@@ -36,7 +36,7 @@ IsAcceptedAt uri rows =
     IfSome (find (λ r. bytes_eq uri r.uri) rows) (λ r. r.is_accepted ≡ true)
 
 -- a text that is accepted or refused is kept so, and another one isn't judged, unless memory was refused
-abbrev pub ReadsAs : Reading → Result Kept Stop → Type 0
+abbrev pub ReadsAs : Reading → Result KeptSource Stop → Type 0
 ReadsAs reading (Err stop.Memory) = Unit {0}
 ReadsAs (Accepted d) (Ok k) = kept_row [] k ≡ new_row [] (Accepted d)
 ReadsAs Refused (Ok k) = kept_row [] k ≡ new_row [] Refused

@@ -3,9 +3,6 @@ pub mod Stops
 pub mod Kept
 pub mod State
 pub mod Audit
+pub mod Watched
 pub mod Judging
-pub mod Told
-pub mod Cases
-pub mod Differing
-pub mod Differs
 pub mod Record

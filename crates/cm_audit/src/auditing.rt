@@ -9,9 +9,8 @@ ghost use Rattle.cm_audit.specs.Audit.{AnswersTold, Audits, DecidesGood, GoodAtE
 ghost use Rattle.cm_audit.specs.Audit.{ShowNoFault, ShowsUnsupported, TakesLine};
 ghost use Rattle.cm_audit.specs.Audit.{audited_at, unsuccessful};
 ghost use Rattle.cm_envelope.specs.Feeds.{is_failed_read};
-ghost use Rattle.cm_audit.specs.Cases.{JudgesWith};
-ghost use Rattle.cm_audit.specs.Told.{TellsLine};
-ghost use Rattle.cm_audit.specs.Judging.{envelope_in};
+ghost use Rattle.cm_audit.specs.Judging.{JudgesWith, TellsLine};
+ghost use Rattle.cm_audit.specs.Watched.{IsWatchedAuditOf, audit_in, envelope_in, with_watch};
 ghost use Rattle.cm_audit.specs.State.{AreFewer, IsListed, Takes, summary_of};
 ghost use Rattle.cm_state.specs.Summary.{empty_summary};
 
@@ -20,7 +19,7 @@ use crate::limits::MOST;
 use crate::state::State;
 use crate::stop::Stop;
 use crate::watch::{Unwatched, Watch};
-use cm_attempt::{Policy, Settings};
+use cm_attempt::{Policy, Settings, Track};
 use cm_envelope::{ByteSource, Envelope, Feed, Trouble, is_blank_line, read_envelope};
 use cm_stream::{Audited, StreamFault, Verdict};
 use std::alloc::Global;
@@ -97,7 +96,7 @@ pub fn audited_at(stop: Stop, line: u64) -> Result<Audited, Trouble>
 }
 
 /// Judges a stream line by line, from its start.
-pub(crate) fn judge_lines<R: ByteSource, W: Watch>(
+fn judge_lines<R: ByteSource, W: Watch>(
     alloc: Global,
     state: &mut State,
     watch: &mut W,
@@ -139,6 +138,70 @@ pub(crate) fn judge_lines<R: ByteSource, W: Watch>(
             }
             Err(trouble) => return Err(trouble),
         }
+    }
+}
+
+/// An audit, with what went along with it and the record of the attempts that it judged.
+#[derive(Drop)]
+pub struct WatchedAudit<W> {
+    /// What `audit_run` answers.
+    pub audited: Audited,
+    pub watch: W,
+    /// The attempts of a good stream. Of any other stream they say nothing.
+    pub attempts: Track,
+}
+
+/// The audit with its watch and its attempts, where the stream was read.
+fn with_watch<W: Drop>(
+    audited: Result<Audited, Trouble>,
+    watch: W,
+    attempts: Track,
+) -> Result<WatchedAudit<W>, Trouble>
+    ensures { result ≡ with_watch watch attempts audited }
+{
+    match audited {
+        Ok(audited) => Ok(WatchedAudit {
+            audited,
+            watch,
+            attempts,
+        }),
+        Err(trouble) => Err(trouble),
+    }
+}
+
+/// Audits a stream by the settings, as `audit_run` does, and tells the watch of each envelope before it is judged. What the
+/// watch is then: of a good stream what it has to be after all envelopes of the stream, and at the fault of an envelope what
+/// it tells of that envelope and of what is kept of the lines before it.
+///
+/// # Errors
+/// As those of `audit_run`, and want of memory for the watch.
+pub fn audit_watched<R: ByteSource, W: Watch + Drop>(
+    alloc: Global,
+    source: &mut R,
+    settings: Settings,
+    watch: W,
+) -> Result<WatchedAudit<W>, Trouble>
+    requires starts { W.follows watch [] }
+    // The audit, what the watch is, and for Good the results of the stream's cases, all of the same bytes.
+    ensures same_bytes { OfReads (R.input source.old) (R.input source.new)
+        (IsWatchedAuditOf settings W.follows W.tells result) }
+    ensures at_end { GoodAtEnd (R.input source.new) (audit_in result) }
+    ensures failures { CountsFailure (is_failed_read result) (R.input source.old).failed_calls
+        (R.input source.new).failed_calls }
+{
+    let mut state = State::new(alloc, settings.first_attempt);
+    let mut watch = watch;
+    let audited = judge_lines(alloc, &mut state, &mut watch, source, settings);
+    with_watch(audited, watch, state.into_track())
+}
+
+/// The audit alone.
+fn audit_in<W: Drop>(watched: Result<WatchedAudit<W>, Trouble>) -> Result<Audited, Trouble>
+    ensures { result ≡ audit_in watched }
+{
+    match watched {
+        Ok(watched) => Ok(watched.audited),
+        Err(trouble) => Err(trouble),
     }
 }
 
@@ -188,10 +251,8 @@ pub fn audit_run<R: ByteSource>(
     ensures ahead { OfReads (R.input source.old) (R.input source.new)
         (ReadsUpTo (verdict_in result)) }
 {
-    let mut state = State::new(alloc, settings.first_attempt);
-    let audited = judge_lines(alloc, &mut state, &mut Unwatched, source, settings);
-    drop(state);
-    audited
+    let watched = audit_watched(alloc, source, settings, Unwatched);
+    audit_in(watched)
 }
 
 /// The verdict alone.

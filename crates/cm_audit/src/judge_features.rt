@@ -11,7 +11,7 @@ ghost use Rattle.cm_audit.specs.Stops.{StopsFor};
 
 use crate::ids::step_ids;
 use crate::limits::MOST;
-use crate::source::{Kept, read_source};
+use crate::source::{KeptSource, read_source};
 use crate::state::{Sources, State, find_source};
 use crate::stop::Stop;
 use cm_envelope::{GherkinDocument, Hook, ParseError, Pickle, Source, StepDefinition};
@@ -105,8 +105,8 @@ fn check_document(state: &State, document: &GherkinDocument) -> Result<(), Stop>
         return Err(Stop::Bad(StreamFault::DuplicateUri));
     }
     let accepted = match kept {
-        Kept::Accepted(accepted) => accepted,
-        Kept::Refused => return Err(Stop::Bad(StreamFault::DocumentOfRefusedSource)),
+        KeptSource::Accepted(accepted) => accepted,
+        KeptSource::Refused => return Err(Stop::Bad(StreamFault::DocumentOfRefusedSource)),
     };
     if !accepted.is_awaited(&document.document) {
         return Err(Stop::Bad(StreamFault::TreeDiffers));
@@ -139,8 +139,8 @@ pub(crate) fn judge_parse_error(state: &State, error: &ParseError) -> Result<(),
 {
     match find_source(&state.sources, error.source.uri.as_str()) {
         None => Err(Stop::Bad(StreamFault::UnknownReference)),
-        Some(Kept::Accepted(_)) => Err(Stop::Bad(StreamFault::ParseErrorOfGoodSource)),
-        Some(Kept::Refused) => Ok(()),
+        Some(KeptSource::Accepted(_)) => Err(Stop::Bad(StreamFault::ParseErrorOfGoodSource)),
+        Some(KeptSource::Refused) => Ok(()),
     }
 }
 

@@ -11,7 +11,7 @@ ghost use Rattle.cm_audit.specs.State.{AreFewer, IsListed, Judges, JudgesBy, sum
 
 use crate::limits::MOST;
 use crate::record::{finish_attempt, finish_step, kept_status, start_attempt, start_step};
-use crate::source::Kept;
+use crate::source::KeptSource;
 use crate::state::{Sources, State, knows_run};
 use crate::stop::Stop;
 use cm_attempt::{Policy, Status, worst_with};
@@ -169,7 +169,7 @@ fn are_accepted(sources: &Sources) -> bool
 {
     sources
         .values()
-        .all(|kept| matches!(kept, Kept::Accepted(_)))
+        .all(|kept| matches!(kept, KeptSource::Accepted(_)))
 }
 
 /// Whether a document or a pickle of a source is still to come.

@@ -20,19 +20,19 @@ use std::collections::VecDeque;
 /// A source whose text is of the grammar: its document, until the stream's one came; the ids of that one, once it came; and
 /// the pickles that it compiles to and that haven't come.
 #[derive(Drop)]
-pub(crate) struct Accepted {
+pub struct AcceptedSource {
     awaited: Option<Document>,
     ids: Sequence<Text>,
     due: VecDeque<DuePickle>,
 }
 
-impl Accepted {
+impl AcceptedSource {
     /// A source of which nothing came yet.
-    fn new(alloc: Global, document: Document) -> Result<Accepted, AllocError>
+    fn new(alloc: Global, document: Document) -> Result<AcceptedSource, AllocError>
         ensures { IfOk result (λ a. accepted_row [] a ≡ new_row [] (accepted_text document)) }
     {
         let pickles = compile(alloc, &document)?;
-        Ok(Accepted {
+        Ok(AcceptedSource {
             awaited: Some(document),
             ids: Sequence::new(alloc),
             due: VecDeque::from_vec(pickles),
@@ -47,27 +47,6 @@ impl Accepted {
             Some(awaited) => same_skeleton(document, awaited),
             None => false,
         }
-    }
-
-    /// The document, until the stream's one came.
-    pub(crate) fn awaited(&self) -> Option<&Document>
-        ensures { option_map (λ d. d.now) result ≡ self.now.awaited }
-    {
-        self.awaited.as_ref()
-    }
-
-    /// The ids of the stream's document, once it came.
-    pub(crate) fn ids(&self) -> &[Text]
-        ensures { result.now ≡ self.now.ids }
-    {
-        self.ids.as_slice()
-    }
-
-    /// The first of its pickles that didn't come.
-    pub(crate) fn next_due(&self) -> Option<&DuePickle>
-        ensures { option_map (λ p. p.now) result ≡ slice_get self.now.due.items 0 }
-    {
-        self.due.front()
     }
 
     /// The stream's document came, with these ids, and the source's isn't kept any longer.
@@ -106,31 +85,73 @@ impl Accepted {
     }
 }
 
-/// A source, by what its text is read as.
+/// What is kept of a source, by what its text is read as.
 #[derive(Drop)]
-pub(crate) enum Kept {
+pub enum KeptSource {
+    /// Its text isn't of the grammar. Nothing comes of it.
     Refused,
-    Accepted(Accepted),
+    /// Its text is of the grammar.
+    Accepted(AcceptedSource),
 }
 
-impl Kept {
+impl KeptSource {
+    /// The document that its text is read as, until the stream's document came.
+    pub fn awaited(&self) -> Option<&Document>
+        ensures { option_map (λ d. d.now) result ≡ (kept_row [] self.now).awaited }
+    {
+        match self {
+            KeptSource::Refused => None,
+            KeptSource::Accepted(accepted) => accepted.awaited.as_ref(),
+        }
+    }
+
+    /// Whether the document that is awaited has the skeleton of this one.
+    pub fn is_awaited(&self, document: &Document) -> bool
+        ensures { result ≡ is_awaited_of document.now (kept_row [] self.now) }
+    {
+        match self {
+            KeptSource::Refused => false,
+            KeptSource::Accepted(accepted) => accepted.is_awaited(document),
+        }
+    }
+
+    /// The ids of the stream's document, once it came.
+    pub fn ids(&self) -> &[Text]
+        ensures { result.now ≡ (kept_row [] self.now).ids }
+    {
+        match self {
+            KeptSource::Refused => &[],
+            KeptSource::Accepted(accepted) => accepted.ids.as_slice(),
+        }
+    }
+
+    /// The first of the pickles that its text compiles to and that didn't come.
+    pub fn next_due(&self) -> Option<&DuePickle>
+        ensures { option_map (λ p. p.now) result ≡ slice_get (kept_row [] self.now).due 0 }
+    {
+        match self {
+            KeptSource::Refused => None,
+            KeptSource::Accepted(accepted) => accepted.due.front(),
+        }
+    }
+
     /// Whether its document or one of its pickles is lacking.
-    pub(crate) fn lacks_some(&self) -> bool
+    pub fn lacks_some(&self) -> bool
         ensures { result ≡ lacks_by (kept_row [] self.now) }
     {
         match self {
-            Kept::Refused => false,
-            Kept::Accepted(accepted) => accepted.lacks_some(),
+            KeptSource::Refused => false,
+            KeptSource::Accepted(accepted) => accepted.lacks_some(),
         }
     }
 
     /// Whether the pickle is the next one of the source.
-    pub(crate) fn is_next(&self, pickle: &Pickle) -> bool
+    pub fn is_next(&self, pickle: &Pickle) -> bool
         ensures { result ≡ is_next_of pickle.now (kept_row [] self.now) }
     {
         match self {
-            Kept::Refused => false,
-            Kept::Accepted(accepted) => accepted.is_next(pickle),
+            KeptSource::Refused => false,
+            KeptSource::Accepted(accepted) => accepted.is_next(pickle),
         }
     }
 
@@ -140,7 +161,7 @@ impl Kept {
         ensures { (uri : List ℕ)
             → kept_row uri self.new ≡ with_ids ids (kept_row uri self.old) }
     {
-        if let Kept::Accepted(accepted) = self {
+        if let KeptSource::Accepted(accepted) = self {
             accepted.set_ids(ids);
         }
     }
@@ -149,23 +170,23 @@ impl Kept {
     pub(crate) fn count_pickle(&mut self)
         ensures { (uri : List ℕ) → kept_row uri self.new ≡ one_more (kept_row uri self.old) }
     {
-        if let Kept::Accepted(accepted) = self {
+        if let KeptSource::Accepted(accepted) = self {
             accepted.count_pickle();
         }
     }
 }
 
 /// Reads the text of a source.
-pub(crate) fn read_source(alloc: Global, text: &str) -> Result<Kept, Stop>
+pub(crate) fn read_source(alloc: Global, text: &str) -> Result<KeptSource, Stop>
     ensures { ReadsAs (reads text.now) result }
 {
     match parse(alloc, text) {
-        Ok(document) => Ok(Kept::Accepted(Accepted::new(alloc, document)?)),
+        Ok(document) => Ok(KeptSource::Accepted(AcceptedSource::new(alloc, document)?)),
         Err(fault) => match fault.kind {
             FaultKind::TooLong => Err(Stop::Unsupported(Reason::SourceTooLong)),
             FaultKind::UnsupportedLanguage => Err(Stop::Unsupported(Reason::Language)),
             FaultKind::Memory => Err(Stop::Memory),
-            _ => Ok(Kept::Refused),
+            _ => Ok(KeptSource::Refused),
         },
     }
 }

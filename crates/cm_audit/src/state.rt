@@ -1,12 +1,13 @@
 //! What an audit keeps of the lines so far.
-ghost use Rattle.std.specs.Prelude.{◌≡◌, find, option_map};
+ghost use Rattle.std.specs.Prelude.{◌≡◌, find, map, option_map};
 ghost use Rattle.std.specs.Str.{bytes_eq};
-ghost use Rattle.cm_state.specs.StateChecks.{knows_run};
+ghost use Rattle.std.specs.String.{string_bytes};
+ghost use Rattle.cm_state.specs.StateChecks.{find_source, knows_run};
 ghost use Rattle.cm_state.specs.Summary.{empty_summary};
 ghost use Rattle.cm_audit.specs.Kept.{kept_row, kept_rows};
 ghost use Rattle.cm_audit.specs.State.{IsListed, summary_of};
 
-use crate::source::Kept;
+use crate::source::KeptSource;
 use cm_attempt::{Status, Track};
 use cm_envelope::TestRunStarted;
 use cm_refs::Declared;
@@ -15,14 +16,16 @@ use gk_document::Text;
 use indexmap::{IndexMap, IndexSet};
 use std::alloc::Global;
 
-pub(crate) type Sources = IndexMap<String, Kept>;
+/// The sources by their uris, in the order of the stream.
+pub type Sources = IndexMap<String, KeptSource>;
 
-pub(crate) type Names = IndexSet<String>;
+/// The ids of pickles that test cases name, each once.
+pub type Names = IndexSet<String>;
 
 /// What an audit keeps: what was declared, the record of attempts, each source by its uri, the pickles that cases name,
 /// what the run's envelopes said, its success among it, and the worst status of its hooks.
 #[derive(Drop)]
-pub(crate) struct State {
+pub struct State {
     pub(crate) declared: Declared,
     pub(crate) track: Track,
     pub(crate) sources: Sources,
@@ -61,6 +64,63 @@ impl State {
         }
     }
 
+    /// What was declared.
+    pub fn declared(&self) -> &Declared
+        ensures { result.now ≡ (summary_of self.now).declared }
+    {
+        &self.declared
+    }
+
+    /// The record of attempts.
+    pub fn attempts(&self) -> &Track
+        ensures { result.now ≡ (summary_of self.now).table }
+    {
+        &self.track
+    }
+
+    /// The sources, in the order of the stream.
+    pub fn sources(&self) -> &Sources
+        ensures { kept_rows result.now.entries ≡ (summary_of self.now).sources }
+    {
+        &self.sources
+    }
+
+    /// What is kept of the source of this uri, if there is one.
+    pub fn find_source(&self, uri: &str) -> Option<&KeptSource>
+        ensures { option_map (λ k. kept_row uri.now k.now) result
+            ≡ find_source (summary_of self.now) uri.now }
+    {
+        find_source(&self.sources, uri)
+    }
+
+    /// The pickles that test cases name.
+    pub fn named(&self) -> &Names
+        ensures { map string_bytes result.now.keys ≡ (summary_of self.now).named }
+    {
+        &self.named
+    }
+
+    /// The start of the run, once it came.
+    pub fn run(&self) -> Option<&TestRunStarted>
+        ensures { option_map (λ r. r.now) result ≡ (summary_of self.now).run }
+    {
+        self.run.as_ref()
+    }
+
+    /// The worst status of the run hooks that are finished.
+    pub fn hooks_worst(&self) -> Option<Status>
+        ensures { result ≡ (summary_of self.now).hooks_worst }
+    {
+        self.hooks_worst
+    }
+
+    /// What was counted.
+    pub fn counts(&self) -> Counts
+        ensures { result ≡ (summary_of self.now).counts }
+    {
+        self.counts
+    }
+
     /// The record of attempts alone.
     pub(crate) fn into_track(self) -> Track
         ensures { result ≡ self.track }
@@ -82,7 +142,7 @@ impl State {
 }
 
 /// What is kept of a source.
-pub(crate) fn find_source<'a>(sources: &'a Sources, uri: &str) -> Option<&'a Kept>
+pub(crate) fn find_source<'a>(sources: &'a Sources, uri: &str) -> Option<&'a KeptSource>
     ensures { option_map (λ k. kept_row uri.now k.now) result
         ≡ find (λ r. bytes_eq uri.now r.uri) (kept_rows sources.now.entries) }
 {

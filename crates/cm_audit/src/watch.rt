@@ -1,24 +1,23 @@
-//! What goes along with an audit.
-ghost use Rattle.std.specs.Prelude.{◌≡◌, ◌++◌, ◌∷◌, [], List, OnOk, ⊤};
+//! What goes along with an audit, and is told of each envelope.
+ghost use Rattle.std.specs.Prelude.{◌++◌, ◌∷◌, [], List, OnOk, ⊤};
 ghost use Rattle.cm_envelope.specs.declared.envelope.Envelope.{Envelope as SomeEnvelope};
-ghost use Rattle.cm_cases.specs.Listed.{listing_of};
 ghost use Rattle.cm_state.specs.Summary.{Summary};
 ghost use Rattle.cm_audit.specs.State.{summary_of};
 
 use crate::state::State;
-use cm_cases::Listing;
 use cm_envelope::Envelope;
 use std::alloc::{AllocError, Global};
 
-/// What is told of each envelope of a stream, in order, before the envelope is judged.
-pub(crate) trait Watch {
+/// What is told of each envelope of a stream, in order, before the envelope is judged. `audit_watched` says what it is then: for
+/// a good stream by `follows`, and at the line of a fault by `tells`.
+pub trait Watch {
     /// What it is after these envelopes.
     ghost follows: { Self → List SomeEnvelope → Type 0 };
 
     /// What it is once it was told of the envelope, where this is kept of the lines before.
     ghost tells: { Self → Summary → SomeEnvelope → Type 0 };
 
-    /// One envelope more, and what is kept of the lines before it.
+    /// One envelope more, and what the audit keeps of the lines before it.
     ///
     /// # Errors
     /// Only where there is no memory for it.
@@ -44,20 +43,5 @@ impl Watch for Unwatched {
         _envelope: &Envelope,
     ) -> Result<(), AllocError> {
         Ok(())
-    }
-}
-
-impl Watch for Listing {
-    ghost follows = { λ listing es. listing ≡ listing_of es };
-
-    ghost tells = { λ _ _ _. ⊤ };
-
-    fn note(
-        &mut self,
-        alloc: Global,
-        _state: &State,
-        envelope: &Envelope,
-    ) -> Result<(), AllocError> {
-        Listing::note(self, alloc, envelope)
     }
 }

@@ -4,8 +4,8 @@ use Rattle.std.specs.Str.{bytes_eq}
 use Rattle.cm_state.specs.StateChecks.{is_accepted_by}
 use Rattle.cm_audit.specs.Kept.{accepted_row, kept_row, kept_rows}
 use Rattle.cm_audit.specs.State.{summary_of}
-use Rattle.cm_audit.specs.declared.source.Kept.{Kept}
-use Rattle.cm_audit.specs.declared.source.Kept.TheVariants.{Refused}
+use Rattle.cm_audit.specs.declared.source.KeptSource.{KeptSource}
+use Rattle.cm_audit.specs.declared.source.KeptSource.TheVariants.{Refused}
 use Rattle.cm_audit.proofs.Judged.{error_fits, error_of_good, error_unknown}
 use Rattle.cm_audit.proofs.KeptRows.{found_by, listed_is}
 use Rattle.cm_audit.proofs.judge_features.judge_parse_error.Goals as goal
@@ -16,7 +16,7 @@ returns-in-None c =
     let uri = c.args.error.now.source.uri in
     let rows = kept_rows s.sources.entries in
     let found = found_by c.as_str.result.now uri c.find_source.result rows c.as_str.ensures c.find_source.ensures in
-    let row : None ≡ find (λ r. bytes_eq uri r.uri) rows = sym (ap (option_map (λ (k : Bor Kept). kept_row uri k.now)) c.in-None.is) ∙ found in
+    let row : None ≡ find (λ r. bytes_eq uri r.uri) rows = sym (ap (option_map (λ (k : Bor KeptSource). kept_row uri k.now)) c.in-None.is) ∙ found in
     error_unknown (summary_of s) c.args.error.now (listed_is uri rows s.declared.sources None c.requires.listed row)
 
 pub returns-in-Some-Accepted : goal.returns-in-Some-Accepted
@@ -27,7 +27,7 @@ returns-in-Some-Accepted c =
     let a = c.in-Some-Accepted.field-0-0 in
     let found = found_by c.as_str.result.now uri c.find_source.result rows c.as_str.ensures c.find_source.ensures in
     let row : Some (accepted_row uri a) ≡ find (λ r. bytes_eq uri r.uri) rows =
-    sym (ap (λ k. Some (kept_row uri k)) c.in-Some-Accepted.field-0-is) ∙ sym (ap (option_map (λ (k : Bor Kept). kept_row uri k.now)) c.in-Some-Accepted.is) ∙ found in
+    sym (ap (λ k. Some (kept_row uri k)) c.in-Some-Accepted.field-0-is) ∙ sym (ap (option_map (λ (k : Bor KeptSource). kept_row uri k.now)) c.in-Some-Accepted.is) ∙ found in
     let good : is_accepted_by (summary_of s) uri ≡ true = rw (← row) refl in
     error_of_good (summary_of s) c.args.error.now (listed_is uri rows s.declared.sources (Some (accepted_row uri a)) c.requires.listed row) good
 
@@ -38,7 +38,7 @@ returns-in-Some-Refused c =
     let rows = kept_rows s.sources.entries in
     let found = found_by c.as_str.result.now uri c.find_source.result rows c.as_str.ensures c.find_source.ensures in
     let row : Some (kept_row uri Refused) ≡ find (λ r. bytes_eq uri r.uri) rows =
-    sym (ap (λ k. Some (kept_row uri k)) c.in-Some-Refused.field-0-is) ∙ sym (ap (option_map (λ (k : Bor Kept). kept_row uri k.now)) c.in-Some-Refused.is) ∙ found in
+    sym (ap (λ k. Some (kept_row uri k)) c.in-Some-Refused.field-0-is) ∙ sym (ap (option_map (λ (k : Bor KeptSource). kept_row uri k.now)) c.in-Some-Refused.is) ∙ found in
     let good : is_accepted_by (summary_of s) uri ≡ false = rw (← row) refl in (
       error_fits (summary_of s) c.args.error.now (listed_is uri rows s.declared.sources (Some (kept_row uri Refused)) c.requires.listed row) good,
       refl,

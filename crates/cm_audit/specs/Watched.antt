@@ -1,0 +1,116 @@
+-- What a watch is after an audit: of a good stream, and at the line that has a fault.
+use Rattle.std.specs.Prelude.{◌≡◌, ◌+◌, ⊤, ℕ, Bool, true, false, List, [], ◌∷◌, ◌++◌, Option, Some, Result, Ok, Err, length}
+use Rattle.std.specs.List.{flat_map}
+use Rattle.cm_envelope.specs.Reading.{LineFault}
+use Rattle.cm_envelope.specs.declared.envelope.Envelope.{Envelope}
+use Rattle.cm_envelope.specs.declared.feed.Trouble.{Trouble}
+use Rattle.cm_attempt.specs.Results.{case_results}
+use Rattle.cm_attempt.specs.Table.{Table}
+use Rattle.cm_attempt.specs.declared.settings.Settings.{Settings}
+use Rattle.cm_stream.specs.ByOnePass.{fault, IsFaultless}
+use Rattle.cm_stream.specs.Findings.{IsBad, stream_fault_named}
+use Rattle.cm_stream.specs.Good.{Good}
+use Rattle.cm_stream.specs.Results.{results_of}
+use Rattle.cm_stream.specs.Stream.{IsRead, envelopes, feed_of, envelope_unless_blank}
+use Rattle.cm_stream.specs.declared.verdict.Audited.{Audited}
+use Rattle.cm_stream.specs.declared.verdict.StreamFault.{StreamFault}
+use Rattle.cm_stream.specs.declared.verdict.StreamFault.TheVariants as bad
+use Rattle.cm_stream.specs.declared.verdict.Verdict.{Verdict}
+use Rattle.cm_stream.specs.declared.verdict.Verdict.TheVariants as verdict
+use Rattle.cm_state.specs.Summary.{Summary}
+use Rattle.cm_state.specs.ByOnePass.{summary_of_lines}
+use Rattle.cm_audit.specs.Audit.{IsAuditOf}
+use Rattle.cm_audit.specs.declared.auditing.WatchedAudit.{WatchedAudit}
+
+-- the envelope of a line that is read so, if any
+abbrev pub envelope_in : Option (Result Envelope LineFault) → List Envelope
+envelope_in (Some (Ok e)) = e ∷ []
+envelope_in _ = []
+
+-- the envelopes of lines
+abbrev pub envelopes_in : List (List ℕ) → List Envelope
+envelopes_in lines = flat_map (λ l. envelope_in (envelope_unless_blank l)) lines
+
+-- ---- of a good stream
+
+-- The bytes are those of a good stream. `follows` holds of the stream's envelopes, and the table has the results of their cases.
+pub record IsFollowed (settings : Settings) (follows : List Envelope → Type 0) (table : Table)
+    (bytes : List ℕ) : Type 0 where
+  pub lines : List (ℕ × Envelope)
+  pub read : IsRead bytes lines
+  pub good : Good settings (envelopes lines)
+  pub followed : follows (envelopes lines)
+  pub results : case_results table ≡ results_of (envelopes lines)
+
+-- that, where the verdict is Good
+abbrev pub FollowsGood : Settings → (List Envelope → Type 0) → Table → List ℕ → Verdict → Type 0
+FollowsGood settings follows table bytes (verdict.Good counts) =
+    IsFollowed settings follows table bytes
+FollowsGood settings follows table bytes _ = ⊤
+
+-- that, of the watch and the record of attempts, where the answer is a verdict
+abbrev pub FollowsWatched : {W : Type 0} → Settings → (follows : W → List Envelope → Type 0)
+    → List ℕ → Result (WatchedAudit W) Trouble → Type 0
+FollowsWatched settings follows bytes (Ok w) =
+    FollowsGood settings (follows w.watch) w.attempts bytes w.audited.verdict
+FollowsWatched settings follows bytes (Err t) = ⊤
+
+-- ---- at a fault
+
+-- Line n of the bytes, counted from 1, is read as an envelope that has this fault, and no line before it has one. `tells`
+-- holds of what those lines leave and of the envelope.
+pub record IsToldAt (settings : Settings) (tells : Summary → Envelope → Type 0) (bytes : List ℕ)
+    (n : ℕ) (b : StreamFault) : Type 0 where
+  pub before : List (List ℕ)
+  pub line : List ℕ
+  pub after : List (List ℕ)
+  pub cut : (feed_of bytes).lines ≡ before ++ line ∷ after
+  pub count : n ≡ length before + 1
+  pub said : Envelope
+  pub read : envelope_unless_blank line ≡ Some (Ok said)
+  pub faultless : IsFaultless settings (envelopes_in before)
+  pub why : fault settings (envelopes_in before) said ≡ Some (IsBad (stream_fault_named b))
+  pub told : tells (summary_of_lines settings.first_attempt (envelopes_in before)) said
+
+-- a fault of an envelope, and not of a line that is none, or of the end
+abbrev pub is_of_envelope : StreamFault → Bool
+is_of_envelope (bad.NoEnvelope fault) = false
+is_of_envelope bad.NoRunFinished = false
+is_of_envelope _ = true
+
+-- that, where the verdict is such a fault
+abbrev pub TellsVerdict : Settings → (tells : Summary → Envelope → Type 0) → List ℕ → Verdict
+    → Type 0
+TellsVerdict settings tells bytes (verdict.Bad n b) =
+    is_of_envelope b ≡ true → IsToldAt settings tells bytes n b
+TellsVerdict settings tells bytes _ = ⊤
+
+-- that, of the watch, where the answer is a verdict
+abbrev pub TellsWatched : {W : Type 0} → Settings → (tells : W → Summary → Envelope → Type 0)
+    → List ℕ → Result (WatchedAudit W) Trouble → Type 0
+TellsWatched settings tells bytes (Ok w) =
+    TellsVerdict settings (tells w.watch) bytes w.audited.verdict
+TellsWatched settings tells bytes (Err t) = ⊤
+
+-- ---- both, of the same bytes
+
+-- an audit alone
+abbrev pub audit_in : {W : Type 0} → Result (WatchedAudit W) Trouble → Result Audited Trouble
+audit_in (Ok w) = Ok w.audited
+audit_in (Err t) = Err t
+
+-- What the answer says of all bytes of its stream, and of those that weren't read, where `follows` says what a watch is after
+-- envelopes, and `tells` what it is once it was told of one.
+pub record IsWatchedAuditOf {W : Type 0} (settings : Settings)
+    (follows : W → List Envelope → Type 0) (tells : W → Summary → Envelope → Type 0)
+    (answer : Result (WatchedAudit W) Trouble) (bytes rest : List ℕ) : Type 0 where
+  pub audit : IsAuditOf settings (audit_in answer) bytes rest
+  pub followed : FollowsWatched settings follows bytes answer
+  pub told : TellsWatched settings tells bytes answer
+
+-- an audit of a stream that was read, with its watch and its attempts
+abbrev pub with_watch : {W : Type 0} → W → Table → Result Audited Trouble
+    → Result (WatchedAudit W) Trouble
+with_watch watch table (Ok a) =
+    Ok (record { audited = a; watch = watch; attempts = table })
+with_watch watch table (Err t) = Err t

@@ -1,0 +1,3 @@
+mod DifferenceAudit
+mod DifferenceFaults
+mod DifferenceRows

@@ -1,0 +1,2 @@
+pub mod SourceDifference
+pub mod DifferenceAudit
