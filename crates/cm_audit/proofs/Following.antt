@@ -35,6 +35,8 @@ use Rattle.cm_state.proofs.Judged.{judged_is_told, none_yet, one_more_line}
 use Rattle.cm_state.proofs.Steps.{summaries_step}
 use Rattle.cm_audit.specs.Audit.{AnswersAs, GoodAtEnd, IsAuditOf, TakesLine, audited_at, contents, unsuccessful}
 use Rattle.cm_audit.specs.Judging.{FollowsAnswer, HasFollowed, HasJudged, JudgesAs, JudgesWith, TellsAnswer, TellsLine, judged}
+use Rattle.cm_stream.specs.OnePass.{reads}
+use Rattle.cm_stream.proofs.OnePass.{is_read as reads_by_the_grammar}
 use Rattle.cm_audit.specs.Watched.{IsFollowed, IsToldAt, IsWatchedAuditOf, audit_in, envelope_in, envelopes_in, is_of_envelope, with_watch}
 use Rattle.cm_audit.specs.State.{summary_of}
 use Rattle.cm_audit.specs.declared.auditing.WatchedAudit.{WatchedAudit}
@@ -153,13 +155,15 @@ module _ (settings : Settings) (follows : List Envelope → Type 0) where
       go None is k told some = absurd k
       go (Some (Err f)) is k told some = absurd (not_of_envelope b f k some)
       go (Some (Ok e)) is k told some = record {
+        read = reads;
+        by_the_grammar = reads_by_the_grammar;
         before = contents h.judged.read.lines;
         line = line;
         after = (feed_left later zs).lines;
         cut = ap (λ (f : Fed). f.lines) h.judged.read.fed ∙ ap (λ (f : Fed). contents h.judged.read.lines ++ f.lines) i.first;
         count = ap (λ m. m + 1) (sym h.judged.read.count ∙ sym (length-map h.judged.read.lines (λ (l : Line). l.bytes)));
         said = e;
-        read = is;
+        is_read = is;
         faultless = h.faultless;
         why = sym (findings_are_faults settings es e h.faultless) ∙ ap (λ (s : Summary). finding settings s e) (sym h.kept) ∙ k;
         told = subst (λ (s : Summary). tells s e) h.kept told;

@@ -7,7 +7,10 @@ use Rattle.cm_envelope.specs.declared.feed.Trouble.{Trouble}
 use Rattle.cm_attempt.specs.Results.{case_results}
 use Rattle.cm_attempt.specs.Table.{Table}
 use Rattle.cm_attempt.specs.declared.settings.Settings.{Settings}
-use Rattle.cm_stream.specs.ByOnePass.{fault, IsFaultless}
+use Rattle.cm_stream.specs.Checks.{fault_by}
+use Rattle.cm_stream.specs.FaultlessLines.{IsFaultlessBy}
+use Rattle.cm_stream.specs.Readings.{Reading, ReadsByTheGrammar}
+use Rattle.cm_stream.specs.Texts.{Utf8}
 use Rattle.cm_stream.specs.Findings.{IsBad, stream_fault_named}
 use Rattle.cm_stream.specs.Good.{Good}
 use Rattle.cm_stream.specs.Results.{results_of}
@@ -17,8 +20,7 @@ use Rattle.cm_stream.specs.declared.verdict.StreamFault.{StreamFault}
 use Rattle.cm_stream.specs.declared.verdict.StreamFault.TheVariants as bad
 use Rattle.cm_stream.specs.declared.verdict.Verdict.{Verdict}
 use Rattle.cm_stream.specs.declared.verdict.Verdict.TheVariants as verdict
-use Rattle.cm_state.specs.Summary.{Summary}
-use Rattle.cm_state.specs.ByOnePass.{summary_of_lines}
+use Rattle.cm_state.specs.Summary.{Summary, summary_of_lines_by}
 use Rattle.cm_audit.specs.Audit.{IsAuditOf}
 use Rattle.cm_audit.specs.declared.auditing.WatchedAudit.{WatchedAudit}
 
@@ -58,19 +60,22 @@ FollowsWatched settings follows bytes (Err t) = ⊤
 -- ---- at a fault
 
 -- Line n of the bytes, counted from 1, is read as an envelope that has this fault, and no line before it has one. `tells`
--- holds of what those lines leave and of the envelope.
+-- holds of what those lines leave and of the envelope. Texts are read by the grammar.
 pub record IsToldAt (settings : Settings) (tells : Summary → Envelope → Type 0) (bytes : List ℕ)
     (n : ℕ) (b : StreamFault) : Type 0 where
+  pub read : Utf8 → Reading
+  pub by_the_grammar : ReadsByTheGrammar read
   pub before : List (List ℕ)
   pub line : List ℕ
   pub after : List (List ℕ)
   pub cut : (feed_of bytes).lines ≡ before ++ line ∷ after
   pub count : n ≡ length before + 1
   pub said : Envelope
-  pub read : envelope_unless_blank line ≡ Some (Ok said)
-  pub faultless : IsFaultless settings (envelopes_in before)
-  pub why : fault settings (envelopes_in before) said ≡ Some (IsBad (stream_fault_named b))
-  pub told : tells (summary_of_lines settings.first_attempt (envelopes_in before)) said
+  pub is_read : envelope_unless_blank line ≡ Some (Ok said)
+  pub faultless : IsFaultlessBy read settings (envelopes_in before)
+  pub why : fault_by read settings (envelopes_in before) said
+      ≡ Some (IsBad (stream_fault_named b))
+  pub told : tells (summary_of_lines_by read settings.first_attempt (envelopes_in before)) said
 
 -- a fault of an envelope, and not of a line that is none, or of the end
 abbrev pub is_of_envelope : StreamFault → Bool

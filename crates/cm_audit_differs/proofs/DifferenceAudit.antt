@@ -1,18 +1,26 @@
 -- The audit with its difference, from the audit that was watched.
-use Rattle.std.proofs.Common.{ℕ, refl, List, Option, Some, None, Result, Ok, Err}
+use Rattle.std.proofs.Common.{◌≡◌, ℕ, refl, sym, subst, List, Option, Some, None, Result, Ok, Err}
 use Rattle.std.specs.Prelude.{IsSomeAnd}
 use Rattle.cm_attempt.specs.declared.settings.Settings.{Settings}
 use Rattle.cm_envelope.specs.Device.{Input, OfReads}
 use Rattle.cm_envelope.specs.declared.envelope.Envelope.{Envelope}
 use Rattle.cm_envelope.specs.declared.feed.Trouble.{Trouble}
 use Rattle.cm_envelope.proofs.Sources.{reads_weaker}
+use Rattle.cm_stream.specs.ByOnePass.{IsFaultless, fault}
+use Rattle.cm_stream.specs.Checks.{fault_by}
+use Rattle.cm_stream.specs.FaultlessLines.{IsFaultlessBy}
+use Rattle.cm_stream.specs.Findings.{IsBad, stream_fault_named}
 use Rattle.cm_stream.specs.OnePass.{reads}
+use Rattle.cm_stream.specs.Readings.{Reading}
+use Rattle.cm_stream.specs.Texts.{Utf8}
+use Rattle.cm_stream.proofs.ByGrammar.{same_reads}
 use Rattle.cm_stream.specs.declared.verdict.StreamFault.{StreamFault}
 use Rattle.cm_stream.specs.declared.verdict.StreamFault.TheVariants as bad
 use Rattle.cm_stream.specs.declared.verdict.Verdict.{Verdict}
 use Rattle.cm_stream.specs.declared.verdict.Verdict.TheVariants as verdict
 use Rattle.cm_stream.proofs.OnePass.{is_read}
-use Rattle.cm_state.specs.Summary.{Summary}
+use Rattle.cm_state.specs.Summary.{Summary, summary_of_lines_by}
+use Rattle.cm_state.specs.ByOnePass.{summary_of_lines}
 use Rattle.cm_differs.specs.declared.difference.Difference.{Difference}
 use Rattle.cm_audit.specs.Audit.{GoodAtEnd}
 use Rattle.cm_audit.specs.Watched.{IsToldAt, IsWatchedAuditOf, TellsVerdict, audit_in, envelopes_in}
@@ -26,10 +34,27 @@ use Rattle.cm_audit_differs.proofs.DifferenceFaults.{pickle_differs, source_lack
 abbrev Tells : Option Difference → Summary → Envelope → Type 0
 Tells o s e = Differs s e o
 
+-- what is told where texts are read by the grammar, is told where they are read in one pass
+record ToldInOnePass (settings : Settings) (o : Option Difference) (es : List Envelope) (e : Envelope) (b : StreamFault) : Type 0 where
+  faultless : IsFaultless settings es
+  why : fault settings es e ≡ Some (IsBad (stream_fault_named b))
+  told : Tells o (summary_of_lines settings.first_attempt es) e
+
+in_one_pass : (settings : Settings) (bytes : List ℕ) (n : ℕ) (b : StreamFault) (o : Option Difference) (h : IsToldAt settings (Tells o) bytes n b)
+    → ToldInOnePass settings o (envelopes_in h.before) h.said b
+in_one_pass settings bytes n b o h =
+    let es = envelopes_in h.before in
+    let same : h.read ≡ reads = sym (same_reads h.read h.by_the_grammar) in
+    record {
+      faultless = subst (λ (z : Utf8 → Reading). IsFaultlessBy z settings es) same h.faultless;
+      why = subst (λ (z : Utf8 → Reading). fault_by z settings es h.said ≡ Some (IsBad (stream_fault_named b))) same h.why;
+      told = subst (λ (z : Utf8 → Reading). Tells o (summary_of_lines_by z settings.first_attempt es) h.said) same h.told;
+    }
+
 module _ (settings : Settings) (bytes : List ℕ) (n : ℕ) where
-  placed : (b : StreamFault) (o held : Option Difference) (h : IsToldAt settings (Tells held) bytes n b) → IsSomeAnd o (IsDifferenceBy reads (envelopes_in h.before) h.said) → IsSomeAnd o (IsDifferenceAt settings bytes n b)
-  placed b None held h d = absurd d
-  placed b (Some x) held h d = record {
+  placed : (b : StreamFault) (o held : Option Difference) (h : IsToldAt settings (Tells held) bytes n b) → ToldInOnePass settings held (envelopes_in h.before) h.said b → IsSomeAnd o (IsDifferenceBy reads (envelopes_in h.before) h.said) → IsSomeAnd o (IsDifferenceAt settings bytes n b)
+  placed b None held h p d = absurd d
+  placed b (Some x) held h p d = record {
     read = reads;
     by_the_grammar = is_read;
     before = h.before;
@@ -38,21 +63,24 @@ module _ (settings : Settings) (bytes : List ℕ) (n : ℕ) where
     cut = h.cut;
     count = h.count;
     said = h.said;
-    is_read = h.read;
-    why = h.why;
+    is_read = h.is_read;
+    why = p.why;
     differs = d;
   }
 
   at_fault : (b : StreamFault) (o : Option Difference) → TellsVerdict settings (Tells o) bytes (verdict.Bad n b) → DiffersBy settings bytes (verdict.Bad n b) (reported (verdict.Bad n b) o)
   at_fault bad.TreeDiffers o told =
       let h = told refl in
-      placed bad.TreeDiffers o o h (tree_differs settings (envelopes_in h.before) h.faultless h.said o h.why h.told)
+      let p = in_one_pass settings bytes n bad.TreeDiffers o h in
+      placed bad.TreeDiffers o o h p (tree_differs settings (envelopes_in h.before) p.faultless h.said o p.why p.told)
   at_fault bad.PickleDiffers o told =
       let h = told refl in
-      placed bad.PickleDiffers o o h (pickle_differs settings (envelopes_in h.before) h.faultless h.said o h.why h.told)
+      let p = in_one_pass settings bytes n bad.PickleDiffers o h in
+      placed bad.PickleDiffers o o h p (pickle_differs settings (envelopes_in h.before) p.faultless h.said o p.why p.told)
   at_fault bad.SourceIncomplete o told =
       let h = told refl in
-      placed bad.SourceIncomplete o o h (source_lacks settings (envelopes_in h.before) h.faultless h.said o h.why h.told)
+      let p = in_one_pass settings bytes n bad.SourceIncomplete o h in
+      placed bad.SourceIncomplete o o h p (source_lacks settings (envelopes_in h.before) p.faultless h.said o p.why p.told)
   at_fault _ o told = refl
 
 differs_by : (settings : Settings) (bytes : List ℕ) (v : Verdict) (o : Option Difference) → TellsVerdict settings (Tells o) bytes v → DiffersBy settings bytes v (reported v o)

@@ -122,7 +122,7 @@ pub fn fronts_are_well_ordered()
 
 /// After accepted envelopes an envelope is refused exactly for the fault that it has by what those before it say, and that is
 /// the first failed of the checks which the audit leaves to the record of attempts.
-pub fn calls_are_refused_for_faults()
+pub fn lines_are_refused_for_faults()
     ensures refused { RefusedForFaults }
     ensures checks { FaultsAreChecks }
 {}
