@@ -16,7 +16,7 @@ use Rattle.gk_pickle.specs.declared.pickle.PickleStep.{PickleStep}
 use Rattle.gk_pickle.specs.declared.pickle.Pickle.{Pickle}
 use Rattle.gk_pickle.specs.Inherited.{Inherited}
 use Rattle.gk_pickle.specs.Pickles.{pickle_of, row_filling, table_pickles, examples_pickles, outline_pickles, scenario_pickles, background_steps, in_feature, in_rule, rule_pickles, pickles_in}
-use Rattle.gk_pickle.specs.Order.{rule_steps, document_steps, IsSubsequence, own_node, ComesFrom}
+use Rattle.gk_pickle.specs.Order.{rule_steps, document_steps, IsSubsequence, first_node, ComesFrom}
 
 -- ---- lists joined
 
@@ -91,7 +91,7 @@ fewer_in_order (x ∷ xs) all h = omega (arith, fewer_in_order xs h.1 h.3, lengt
 -- a pickle has as many steps as its document has nodes, at most
 pub few_steps : (o : Option Feature) (p : Pickle) → ComesFrom (document_steps o) p → length p.steps ≤ length (feature_nodes o)
 few_steps o p h =
-    let named : PickleStep → Option ℕ = λ s. own_node s.nodes in
+    let named : PickleStep → Option ℕ = λ s. first_node s.nodes in
     let node : Step → Option ℕ = λ s. Some s.node in
     let same : length p.steps ≡ length h.0 = sym (length-map p.steps named) ∙ ap length h.2 ∙ length-map h.0 node in
     omega (arith, fewer_in_order h.0 (document_steps o) h.1, document_steps_have_nodes o)

@@ -3,7 +3,7 @@ use Rattle.std.proofs.Common.{◌≡◌, ℕ, ◌+◌, ◌==◌, ◌&&◌, List,
 use Rattle.std.specs.Prelude.{⊤}
 use Rattle.std.specs.Char.{IsScalar}
 use Rattle.std.specs.List.{AllByRecursion}
-use Rattle.gk_line.specs.Cells.{CellUnit, CellText, plain, unit_or, escaped, units, is_bar, is_space, widths, skip_spaces, drop_spaces, cells_from, without_first, cells_of}
+use Rattle.gk_line.specs.Cells.{CellUnit, CellText, plain_unit, unit_or, escape_meaning, units, is_bar, is_space, widths, skip_spaces, drop_spaces, cells_from, without_first, cells_of}
 use Rattle.cm_compiled_good.proofs.Scalars.{Scalars, split_all}
 
 abbrev UnitFits : CellUnit → Type 0
@@ -13,7 +13,7 @@ abbrev OptionFits : Option ℕ → Type 0
 OptionFits None = ⊤
 OptionFits (Some c) = IsScalar c
 
-escaped_fits : (d : ℕ) (o : Option ℕ) → escaped d ≡ o → OptionFits o
+escaped_fits : (d : ℕ) (o : Option ℕ) → escape_meaning d ≡ o → OptionFits o
 escaped_fits d None e = tt
 escaped_fits d (Some c) e = go (d == 124) (d == 92) (d == 110) e
   where
@@ -27,16 +27,16 @@ units_fit : (cs : List ℕ) → Scalars cs → AllByRecursion UnitFits (units cs
 unfolding units
 units_fit [] h = tt
 units_fit (c ∷ []) h = (h.0, tt)
-units_fit (c ∷ d ∷ cs) h = go (c == 92) (escaped d) refl (units_fit (d ∷ cs) h.1) (units_fit cs h.1.1)
+units_fit (c ∷ d ∷ cs) h = go (c == 92) (escape_meaning d) refl (units_fit (d ∷ cs) h.1) (units_fit cs h.1.1)
   where
-    pairs : (o : Option ℕ) → OptionFits o → AllByRecursion UnitFits (units (d ∷ cs)) → AllByRecursion UnitFits (units cs) → AllByRecursion UnitFits (unit_or o (plain c ∷ units (d ∷ cs)) (units cs))
+    pairs : (o : Option ℕ) → OptionFits o → AllByRecursion UnitFits (units (d ∷ cs)) → AllByRecursion UnitFits (units cs) → AllByRecursion UnitFits (unit_or o (plain_unit c ∷ units (d ∷ cs)) (units cs))
     pairs None k one two = (h.0, one)
     pairs (Some x) k one two = (k, two)
 
-    go : (b : Bool) (o : Option ℕ) → escaped d ≡ o → AllByRecursion UnitFits (units (d ∷ cs)) → AllByRecursion UnitFits (units cs)
-        → AllByRecursion UnitFits (unit_or (cond b (escaped d) None) (plain c ∷ units (d ∷ cs)) (units cs))
+    go : (b : Bool) (o : Option ℕ) → escape_meaning d ≡ o → AllByRecursion UnitFits (units (d ∷ cs)) → AllByRecursion UnitFits (units cs)
+        → AllByRecursion UnitFits (unit_or (cond b (escape_meaning d) None) (plain_unit c ∷ units (d ∷ cs)) (units cs))
     go false o e one two = pairs None tt one two
-    go true o e one two = pairs (escaped d) (escaped_fits d (escaped d) refl) one two
+    go true o e one two = pairs (escape_meaning d) (escaped_fits d (escape_meaning d) refl) one two
 
 skipped_fit : (us : List CellUnit) → AllByRecursion UnitFits us → AllByRecursion UnitFits (skip_spaces us)
 skipped_fit [] h = tt

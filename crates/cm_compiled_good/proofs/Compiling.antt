@@ -16,10 +16,10 @@ use Rattle.gk_document.specs.declared.tree.Scenario.{Scenario}
 use Rattle.gk_document.specs.declared.tree.Rule.{Rule}
 use Rattle.gk_document.specs.declared.tree.Feature.{Feature}
 use Rattle.gk_document.specs.declared.tree.Document.{Document}
-use Rattle.gk_pickle.specs.Inherited.{Inherited, Filling, unfilled}
-use Rattle.gk_pickle.specs.Fill.{filled}
+use Rattle.gk_pickle.specs.Inherited.{Inherited, Filling, no_filling}
+use Rattle.gk_pickle.specs.Fill.{filled_text}
 use Rattle.gk_document.specs.MediaType.{unless_empty as media_type}
-use Rattle.gk_pickle.specs.Steps.{filled_by, filled_row, filled_argument, steps_after, keywords, pickle_steps}
+use Rattle.gk_pickle.specs.Steps.{filled_by, filled_row, filled_argument, steps_after, keyword_types, pickle_steps}
 use Rattle.gk_pickle.specs.Pickles.{pickle_tag, pickle_of, row_filling, table_pickles, examples_pickles, outline_pickles, scenario_pickles, background_steps, in_feature, in_rule, rule_pickles, pickles_in, pickles}
 use Rattle.cm_compiled_good.proofs.Fine.{Wanted, TagFine, MediaFine, ArgumentFine, StepFine, PickleFine, TagOf, CellOf, RowOf, MediaOf, ArgumentOf, StepOf, BackgroundOf, TableOf, ExamplesOf, ScenarioOf, RuleOf, FeatureOf}
 
@@ -44,14 +44,14 @@ ValueOf w c = w.text c.value
 
 -- a text that is filled is one that is asked for
 abbrev pub Fills : Wanted → Type 0
-Fills w = (text : List ℕ) (header cells : List Cell) → w.text text → AllByRecursion (ValueOf w) header → AllByRecursion (ValueOf w) cells → w.text (filled text header cells)
+Fills w = (text : List ℕ) (header cells : List Cell) → w.text text → AllByRecursion (ValueOf w) header → AllByRecursion (ValueOf w) cells → w.text (filled_text text header cells)
 
 pub record FillingOf (w : Wanted) (f : Filling) : Type 0 where
   pub header : AllByRecursion (ValueOf w) f.header
   pub cells : AllByRecursion (ValueOf w) f.cells
   pub rows : AllByRecursion w.node f.rows
 
-none_filled : (w : Wanted) → FillingOf w unfilled
+none_filled : (w : Wanted) → FillingOf w no_filling
 none_filled w = record { header = tt; cells = tt; rows = tt }
 
 text_filled : (w : Wanted) → Fills w → (f : Filling) → FillingOf w f → (text : List ℕ) → w.text text → w.text (filled_by f text)
@@ -89,8 +89,8 @@ all_steps : (w : Wanted) → Fills w → (background : List Step) (f : Filling) 
     → AllByRecursion (StepFine w) (pickle_steps background f ss)
 all_steps w fills background f g [] b h = tt
 all_steps w fills background f g (s ∷ ss) b h =
-    all_joined (StepFine w) (steps_after [] unfilled background) (steps_after (keywords background) f (s ∷ ss)) (steps_filled w fills [] unfilled (none_filled w) background b)
-    (steps_filled w fills (keywords background) f g (s ∷ ss) h)
+    all_joined (StepFine w) (steps_after [] no_filling background) (steps_after (keyword_types background) f (s ∷ ss)) (steps_filled w fills [] no_filling (none_filled w) background b)
+    (steps_filled w fills (keyword_types background) f g (s ∷ ss) h)
 
 -- ---- pickles
 
@@ -116,7 +116,7 @@ table_fine w fills a inherited s h tags t (Some table) k =
     (record { header = values w table.header.location.line table.header.cells k.0.2; cells = values w row.location.line row.cells r.2; rows = (r.0, tt) })) table.body k.1
 
 outline_fine : (w : Wanted) → Fills w → (a : Inherited) → InheritedOf w a → (s : Scenario) → ScenarioOf w s → (es : List Examples) → AllByRecursion (ExamplesOf w) es → AllByRecursion (PickleFine w) (outline_pickles a s es)
-outline_fine w fills a inherited s h [] k = (pickle_fine w fills a inherited s h [] tt unfilled (none_filled w), tt)
+outline_fine w fills a inherited s h [] k = (pickle_fine w fills a inherited s h [] tt no_filling (none_filled w), tt)
 outline_fine w fills a inherited s h (e ∷ es) k =
     all_flat (ExamplesOf w) (PickleFine w) (examples_pickles a s) (λ x g. table_fine w fills a inherited s h x.tags g.0 x.table g.6) (e ∷ es) k
 

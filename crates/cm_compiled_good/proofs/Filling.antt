@@ -3,8 +3,8 @@ use Rattle.std.proofs.Common.{◌≡◌, ℕ, suc, ◌+◌, ◌<◌, List, [], �
 use Rattle.std.specs.List.{AllByRecursion}
 use Rattle.std.proofs.lemmas.Str.{IsUtf8-append, IsUtf8-take, IsUtf8-drop, IsCharBoundary-before_ascii, IsCharBoundary-after_ascii}
 use Rattle.gk_document.specs.declared.tree.Cell.{Cell}
-use Rattle.gk_pickle.specs.Cut.{IsCut, joined}
-use Rattle.gk_pickle.specs.Fill.{placeholder, replaced, filled}
+use Rattle.gk_pickle.specs.Cut.{IsCut, joined_parts}
+use Rattle.gk_pickle.specs.Fill.{placeholder, replaced_text, filled_text}
 use Rattle.gk_pickle.proofs.Cutting.{replaced_is_joined}
 
 -- ---- a text cut at an ASCII character
@@ -39,18 +39,18 @@ cut_at_placeholder part name rest u =
     let closed : IsUtf8 (name ++ 62 ∷ rest) = subst IsUtf8 (append_assoc name (62 ∷ []) rest) opened.1 in
     (opened.0, (cut_utf8 name 62 rest (omega arith) closed).1)
 
-joined_utf8 : (name cell text part : List ℕ) (others : List (List ℕ)) → IsUtf8 cell → IsUtf8 text → IsCut (placeholder name) text part others → IsUtf8 (joined cell part others)
+joined_utf8 : (name cell text part : List ℕ) (others : List (List ℕ)) → IsUtf8 cell → IsUtf8 text → IsCut (placeholder name) text part others → IsUtf8 (joined_parts cell part others)
 joined_utf8 name cell text part [] c u h = subst IsUtf8 h.0 u
 joined_utf8 name cell text part (next ∷ others) c u h =
     let parts = cut_at_placeholder part name h.0 (subst IsUtf8 h.1 u) in
-    IsUtf8-append part (cell ++ joined cell next others) parts.0 (IsUtf8-append cell (joined cell next others) c (joined_utf8 name cell h.0 next others c parts.1 h.3))
+    IsUtf8-append part (cell ++ joined_parts cell next others) parts.0 (IsUtf8-append cell (joined_parts cell next others) c (joined_utf8 name cell h.0 next others c parts.1 h.3))
 
-replaced_utf8 : (name cell text : List ℕ) → IsUtf8 cell → IsUtf8 text → IsUtf8 (replaced (placeholder name) cell text)
+replaced_utf8 : (name cell text : List ℕ) → IsUtf8 cell → IsUtf8 text → IsUtf8 (replaced_text (placeholder name) cell text)
 replaced_utf8 name cell text c u =
     let w = replaced_is_joined (placeholder name) cell text (omega arith) in
     subst IsUtf8 (sym w.3) (joined_utf8 name cell text w.0 w.1 c u w.2)
 
-pub filled_utf8 : (text : List ℕ) (header cells : List Cell) → IsUtf8 text → AllByRecursion (λ (c : Cell). IsUtf8 c.value) cells → IsUtf8 (filled text header cells)
+pub filled_utf8 : (text : List ℕ) (header cells : List Cell) → IsUtf8 text → AllByRecursion (λ (c : Cell). IsUtf8 c.value) cells → IsUtf8 (filled_text text header cells)
 filled_utf8 text [] cells u h = u
 filled_utf8 text (name ∷ names) [] u h = u
-filled_utf8 text (name ∷ names) (cell ∷ cells) u h = filled_utf8 (replaced (placeholder name.value) cell.value text) names cells (replaced_utf8 name.value cell.value text h.0 u) h.1
+filled_utf8 text (name ∷ names) (cell ∷ cells) u h = filled_utf8 (replaced_text (placeholder name.value) cell.value text) names cells (replaced_utf8 name.value cell.value text h.0 u) h.1

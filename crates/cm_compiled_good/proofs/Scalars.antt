@@ -7,10 +7,10 @@ use Rattle.std.specs.Str.{encode_utf8_all, chars, skip_leading_whitespace}
 use Rattle.std.specs.Str.Lines.{lines, lines_of_parts, strip_carriage_return}
 use Rattle.std.proofs.Math.Utf8.{scalars}
 use Rattle.std.proofs.lemmas.Str.{scalars-chars, encodes-chars, length-le-encodes}
-use Rattle.gk_line.specs.Texts.{body_of, after}
+use Rattle.gk_line.specs.Texts.{text_after_indent, after}
 use Rattle.gk_line.specs.Lines.{without_mark}
 use Rattle.gk_line.specs.Characters.{byte_order_mark}
-use Rattle.gk_line.specs.DocStrings.{outdented, fences_unescaped, escaped_mark, fence_mark, doc_line_of}
+use Rattle.gk_line.specs.DocStrings.{outdented_line, fences_unescaped, escaped_mark, fence_mark, doc_line_of}
 use Rattle.gk_line.specs.Tokens.{indent_of}
 use Rattle.gk_document.specs.declared.tree.Fence.{Fence}
 use Rattle.gk_document.specs.declared.tree.Fence.TheVariants.{Quotes, Backticks}
@@ -57,8 +57,8 @@ take_shorter zero xs = omega arith
 take_shorter (suc n) [] = omega arith
 take_shorter (suc n) (x ∷ xs) = omega (arith, take_shorter n xs)
 
-body_scalars : (cs : List ℕ) → Scalars cs → Scalars (body_of cs)
-unfolding body_of
+body_scalars : (cs : List ℕ) → Scalars cs → Scalars (text_after_indent cs)
+unfolding text_after_indent
 body_scalars cs h = skipped cs h
   where
     skipped : (cs : List ℕ) → Scalars cs → Scalars (skip_leading_whitespace cs)
@@ -160,14 +160,14 @@ unescaped_fits mark zero (c ∷ cs) m h = go (is_some (after (escaped_mark mark)
     go true five none = (m, (m, (m, five)))
     go false five none = (h.0, none)
 
-outdented_fits : (n : ℕ) (cs : List ℕ) → Scalars cs → Scalars (outdented n cs)
-unfolding outdented
+outdented_fits : (n : ℕ) (cs : List ℕ) → Scalars cs → Scalars (outdented_line n cs)
+unfolding outdented_line
 outdented_fits n cs h = go (nat_lt (indent_of cs) n)
   where
-    go : (b : Bool) → Scalars (cond b (body_of cs) (drop n cs))
+    go : (b : Bool) → Scalars (cond b (text_after_indent cs) (drop n cs))
     go true = body_scalars cs h
     go false = dropped IsScalar n cs h
 
 pub doc_line_fits : (f : Fence) (n : ℕ) (cs : List ℕ) → Scalars cs → Scalars (doc_line_of f n cs)
 unfolding doc_line_of
-doc_line_fits f n cs h = unescaped_fits (fence_mark f) 0 (outdented n cs) (mark_fits f) (outdented_fits n cs h)
+doc_line_fits f n cs h = unescaped_fits (fence_mark f) 0 (outdented_line n cs) (mark_fits f) (outdented_fits n cs h)

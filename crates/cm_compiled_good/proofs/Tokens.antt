@@ -5,8 +5,8 @@ use Rattle.std.specs.Char.{IsScalar, is_whitespace}
 use Rattle.std.specs.List.{AllByRecursion, enumerate_from}
 use Rattle.std.specs.Option.{option_map}
 use Rattle.std.proofs.lemmas.List.Sums.{prefix_len-le-length}
-use Rattle.gk_line.specs.Texts.{body_of, trimmed, after, first_some, or_else}
-use Rattle.gk_line.specs.Tokens.{indent_of, is_blank_line, begins_by, language_of, title_of, step_of, fence_of, TitleText, StepText, FenceText, fences}
+use Rattle.gk_line.specs.Texts.{text_after_indent, trimmed_text, after, first_some, or_else}
+use Rattle.gk_line.specs.Tokens.{indent_of, is_blank_line, begins_by, language_of, title_of, step_of, fence_of, TitleText, StepText, FenceText, fences, blocks}
 use Rattle.gk_line.specs.Tags.{TagWord, tags_of, spaced_piece}
 use Rattle.gk_line.specs.Cells.{CellText, cells_of}
 use Rattle.gk_line.specs.Places.{IsAtColumn, RiseWithin}
@@ -15,7 +15,7 @@ use Rattle.gk_document.specs.declared.tree.Cell.{Cell}
 use Rattle.gk_document.specs.declared.tree.Fence.{Fence}
 use Rattle.gk_line.proofs.ColumnLemmas.{tags-placed, tag_columns_rise, cell_columns_rise}
 use Rattle.gk_line.proofs.PlaceLemmas.{placed-read, title-placed, step-placed}
-use Rattle.gk_grammar.specs.Token.{TagText, Token, Blank, Tags, Title, Step, Row, Fenced, Line, line, line_of, token_of, tag_text, tag_list, comment_token, word_token, token_or_other, title_token, step_token, fence_token, blocks, cell}
+use Rattle.gk_grammar.specs.Token.{TagText, Token, Blank, Tags, Title, Step, Row, Fenced, Line, line, line_of, token_of, tag_text, tag_list, comment_token, word_token, token_or_other, title_token, step_token, fence_token, cell}
 use Rattle.cm_compiled_good.proofs.Fine.{Fits64}
 use Rattle.cm_compiled_good.proofs.Cells.{CellFits, row_fits}
 use Rattle.cm_compiled_good.proofs.Scalars.{Scalars, encoded, parts_apart, Fits}
@@ -98,19 +98,19 @@ fence_ok : (cs : List ℕ) → Scalars cs → OptionOk (option_map fence_token (
 unfolding fence_of first_some
 fence_ok cs h = firsts fences
   where
-    one : (mark : List ℕ) (f : Fence) (o : Option (List ℕ)) → after mark (body_of cs) ≡ o
-        → OptionOk (option_map fence_token (option_map (λ rest. record { fence = f; media = trimmed rest; column = indent_of cs + 1 }) o))
+    one : (mark : List ℕ) (f : Fence) (o : Option (List ℕ)) → after mark (text_after_indent cs) ≡ o
+        → OptionOk (option_map fence_token (option_map (λ rest. record { fence = f; media = trimmed_text rest; column = indent_of cs + 1 }) o))
     one mark f None e = tt
     one mark f (Some rest) e =
-        encoded (trimmed rest) (stands cs mark (trimmed rest) (indent_of cs + 1) h (placed-read cs (body_of cs) mark rest (trimmed rest) (indent_of cs + 1) refl (sym e) refl refl)).1
+        encoded (trimmed_text rest) (stands cs mark (trimmed_text rest) (indent_of cs + 1) h (placed-read cs (text_after_indent cs) mark rest (trimmed_text rest) (indent_of cs + 1) refl (sym e) refl refl)).1
 
     join : (a b : Option FenceText) → OptionOk (option_map fence_token a) → OptionOk (option_map fence_token b) → OptionOk (option_map fence_token (or_else a b))
     join None b h k = k
     join (Some x) b h k = h
 
-    firsts : (fs : List (List ℕ × Fence)) → OptionOk (option_map fence_token (first_some (λ (z : List ℕ × Fence). option_map (λ rest. record { fence = z.1; media = trimmed rest; column = indent_of cs + 1 }) (after z.0 (body_of cs))) fs))
+    firsts : (fs : List (List ℕ × Fence)) → OptionOk (option_map fence_token (first_some (λ (z : List ℕ × Fence). option_map (λ rest. record { fence = z.1; media = trimmed_text rest; column = indent_of cs + 1 }) (after z.0 (text_after_indent cs))) fs))
     firsts [] = tt
-    firsts (x ∷ fs) = join _ _ (one x.0 x.1 (after x.0 (body_of cs)) refl) (firsts fs)
+    firsts (x ∷ fs) = join _ _ (one x.0 x.1 (after x.0 (text_after_indent cs)) refl) (firsts fs)
 
 -- ---- lines
 

@@ -7,7 +7,7 @@ use Rattle.json.specs.Print.{escape_byte}
 use Rattle.json.proofs.Printed.Utf8.{IsUtf8-are_ascii}
 use Rattle.gk_document.specs.declared.tree.Document.{Document}
 use Rattle.gk_line.specs.Lines.{lines_of, numbered_lines, without_mark}
-use Rattle.gk_line.specs.Texts.{after, body_of, first_some, trimmed}
+use Rattle.gk_line.specs.Texts.{after, text_after_indent, first_some, trimmed_text}
 use Rattle.gk_line.specs.Tokens.{begins_by, fence_of, indent_of, is_blank_line, language_of, step_of, title_of}
 use Rattle.gk_grammar.specs.Token.{token_of}
 use Rattle.gk_grammar.specs.Documents.{lines_read}
@@ -28,15 +28,15 @@ abbrev the_document : Document
 the_document = document_in (reads one_step)
 
 accepted : reads one_step ≡ Accepted the_document
-unfolding reads lines_read lines_of numbered_lines without_mark chars after body_of first_some trimmed begins_by fence_of indent_of is_blank_line language_of step_of title_of token_of encode
+unfolding reads lines_read lines_of numbered_lines without_mark chars after text_after_indent first_some trimmed_text begins_by fence_of indent_of is_blank_line language_of step_of title_of token_of encode
 accepted = refl
 
 fits : (feed_of (stream_of (codes "a") one_step the_document)).trouble ≡ None
-unfolding reads lines_read lines_of numbered_lines without_mark chars after body_of first_some trimmed begins_by fence_of indent_of is_blank_line language_of step_of title_of token_of encode pickles source_data document_data pickle_data escape_byte digits
+unfolding reads lines_read lines_of numbered_lines without_mark chars after text_after_indent first_some trimmed_text begins_by fence_of indent_of is_blank_line language_of step_of title_of token_of encode pickles source_data document_data pickle_data escape_byte digits
 fits = refl
 
 one_pickle : counts_for the_document ≡ record { sources = 1; pickles = 1; cases = 0; attempts = 0; unrun = 1 }
-unfolding reads lines_read lines_of numbered_lines without_mark chars after body_of first_some trimmed begins_by fence_of indent_of is_blank_line language_of step_of title_of token_of encode pickles
+unfolding reads lines_read lines_of numbered_lines without_mark chars after text_after_indent first_some trimmed_text begins_by fence_of indent_of is_blank_line language_of step_of title_of token_of encode pickles
 one_pickle = refl
 
 pub one_is_good : IsGoodStream (by Strict 0) (stream_of (codes "a") one_step the_document) (record { sources = 1; pickles = 1; cases = 0; attempts = 0; unrun = 1 })

@@ -15,7 +15,7 @@ use Rattle.gk_document.specs.declared.tree.Location.{Location}
 use Rattle.gk_document.specs.declared.tree.Row.{Row}
 use Rattle.gk_document.specs.declared.tree.Step.{Step}
 use Rattle.gk_document.specs.declared.tree.Tag.{Tag}
-use Rattle.gk_parts.specs.Parts.{Part, FeaturePart, RulePart, BackgroundPart, ScenarioPart, StepPart, ExamplesPart, HeaderPart, RowPart, alone, seen}
+use Rattle.gk_parts.specs.Parts.{Part, FeaturePart, RulePart, BackgroundPart, ScenarioPart, StepPart, ExamplesPart, HeaderPart, RowPart, part_alone, part_view}
 use Rattle.gk_parts.specs.declared.listing.Part.{Part as DeclaredPart}
 use Rattle.cm_differs.specs.PartData.{cell_data, doc_string_data, feature_data, location_data, part_data, part_text, row_data, step_data, table_data, tag_data, tagged_data, with_argument}
 
@@ -47,14 +47,14 @@ tagged_same : (keyword : List ℕ) (location : Location) (name : List ℕ) (tags
 tagged_same keyword location name tags =
     ap (λ d. object_of ((codes "keyword", string keyword) ∷ (codes "location", location_data location) ∷ (codes "name", string name) ∷ (codes "tags", d) ∷ [])) (list_same tag_data bare_tag (λ t. refl) tags)
 
-feature_same : (f : Feature) → part_data (alone (FeaturePart f)) ≡ part_data (FeaturePart f)
+feature_same : (f : Feature) → part_data (part_alone (FeaturePart f)) ≡ part_data (FeaturePart f)
 feature_same f =
     ap (λ d. object_of ((
       codes "feature",
       object_of ((codes "keyword", string f.keyword) ∷ (codes "language", string f.language) ∷ (codes "location", location_data f.location) ∷ (codes "name", string f.name) ∷ (codes "tags", d) ∷ []),
     ) ∷ [])) (list_same tag_data bare_tag (λ t. refl) f.tags)
 
-alone_same : (p : Part) → part_data (alone p) ≡ part_data p
+alone_same : (p : Part) → part_data (part_alone p) ≡ part_data p
 alone_same (FeaturePart f) = feature_same f
 alone_same (RulePart r) = ap (λ d. object_of ((codes "rule", d) ∷ [])) (tagged_same r.keyword r.location r.name r.tags)
 alone_same (BackgroundPart b) = refl
@@ -64,7 +64,7 @@ alone_same (ExamplesPart x) = ap (λ d. object_of ((codes "examples", d) ∷ [])
 alone_same (HeaderPart r) = ap (λ d. object_of ((codes "tableHeader", d) ∷ [])) (row_same r)
 alone_same (RowPart r) = ap (λ d. object_of ((codes "tableRow", d) ∷ [])) (row_same r)
 
-pub alone_text : (p : Part) → part_text (alone p) ≡ part_text p
+pub alone_text : (p : Part) → part_text (part_alone p) ≡ part_text p
 alone_text p = ap compact_text (alone_same p)
 
 -- ---- no floats
@@ -106,9 +106,9 @@ pub parts_plain : (ps : List Part) → has_float (list_data part_data ps) ≡ fa
 parts_plain ps = plain_list part_data part_plain ps
 
 -- parts as the code holds them
-pub list_of_seen : (ps : List DeclaredPart) → list_data (λ p. part_data (seen p)) ps ≡ list_data part_data (map seen ps)
+pub list_of_seen : (ps : List DeclaredPart) → list_data (λ p. part_data (part_view p)) ps ≡ list_data part_data (map part_view ps)
 list_of_seen ps = ap (λ ds. array (items_of ds)) (datas ps)
   where
-    datas : (ps : List DeclaredPart) → map (λ p. part_data (seen p)) ps ≡ map part_data (map seen ps)
+    datas : (ps : List DeclaredPart) → map (λ p. part_data (part_view p)) ps ≡ map part_data (map part_view ps)
     datas [] = refl
-    datas (p ∷ ps) = ap (λ ds. part_data (seen p) ∷ ds) (datas ps)
+    datas (p ∷ ps) = ap (λ ds. part_data (part_view p) ∷ ds) (datas ps)

@@ -1,7 +1,7 @@
 //! Parts of documents as JSON, each without the parts within it.
 ghost use Rattle.std.specs.Prelude.{◌≡◌, IfOk, OnOk, map, option_map};
 ghost use Rattle.serde_json.specs.View.{view, members_view};
-ghost use Rattle.gk_parts.specs.Parts.{seen, shown};
+ghost use Rattle.gk_parts.specs.Parts.{part_view, part_view_alone};
 ghost use Rattle.cm_differs.specs.PartData.{background_data, cell_data, doc_string_data, examples_data, feature_data, location_data, part_data, part_text, parts_text, row_data, rule_data, scenario_data, step_data, table_data, tag_data, tagged_data, with_argument};
 
 use crate::writing::{WriteJson, add, add_list, add_optional, list_value, only, text_of};
@@ -173,7 +173,7 @@ impl WriteJson for Feature {
 }
 
 impl WriteJson for Part<'_> {
-    ghost json = { λ p. part_data (seen p) };
+    ghost json = { λ p. part_data (part_view p) };
 
     fn to_json(&self, alloc: Global) -> Result<Value, AllocError> {
         match self {
@@ -191,7 +191,7 @@ impl WriteJson for Part<'_> {
 
 /// A part without the parts within it, as compact JSON.
 fn part_text(alloc: Global, part: &Part<'_>) -> Result<Text, AllocError>
-    ensures { IfOk result (λ t. t ≡ part_text (shown part.now)) }
+    ensures { IfOk result (λ t. t ≡ part_text (part_view_alone part.now)) }
 {
     let value = part.to_json(alloc)?;
     let text = text_of(alloc, &value)?;
@@ -203,7 +203,7 @@ pub(crate) fn text_of_some(
     alloc: Global,
     part: &Option<Part<'_>>,
 ) -> Result<Option<Text>, AllocError>
-    ensures { IfOk result (λ t. t ≡ option_map part_text (option_map shown part.now)) }
+    ensures { IfOk result (λ t. t ≡ option_map part_text (option_map part_view_alone part.now)) }
 {
     match part {
         Some(part) => Ok(Some(part_text(alloc, part)?)),
@@ -213,7 +213,7 @@ pub(crate) fn text_of_some(
 
 /// Parts, each without the parts within it, as a compact JSON array.
 pub(crate) fn parts_text(alloc: Global, parts: &[Part<'_>]) -> Result<Text, AllocError>
-    ensures { IfOk result (λ t. t ≡ parts_text (map seen parts.now)) }
+    ensures { IfOk result (λ t. t ≡ parts_text (map part_view parts.now)) }
 {
     let value = list_value(alloc, parts)?;
     let text = text_of(alloc, &value)?;

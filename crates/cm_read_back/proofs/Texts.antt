@@ -9,7 +9,7 @@ use Rattle.gk_grammar.specs.Tree as tree
 use Rattle.gk_grammar.specs.Tree.{Location, Tag, DocString, Argument, Background, ExampleTable, Examples, Scenario, Rule, Feature}
 use Rattle.gk_grammar.specs.Grammar.{Piece, Then, ◌⨾◌, Each, AtMostOne, OneLine, place_and_name, tag_at, IsTagLine, TagLines, Titled, IsRow, IsTable, IsDocString, IsArgument, IsStepLine, IsStep, IsBackground, IsExampleTable, IsExamples, IsScenario, IsRule, IsFeature, IsOpening, IsFeatureText}
 use Rattle.gk_grammar.specs.Documents.{lines_read, max_lines}
-use Rattle.gk_grammar.proofs.Places.{AreLines}
+use Rattle.gk_grammar.proofs.Places.{AreNumberedFrom}
 use Rattle.gk_grammar.proofs.Reading.{read_are_lines}
 use Rattle.gk_grammar.proofs.LawLemmas.{numbered_in_order_holds}
 use Rattle.cm_read_back.specs.Documents.{HasLine}
@@ -21,7 +21,7 @@ use Rattle.cm_read_back.specs.Laws.{ParsedAreReadable}
 abbrev Fits : Line → Type 0
 Fits l = (0 < number l) × (number l < 2 ^ 32)
 
-lines_fit : (n : ℕ) (ls : List Line) → AreLines n ls → 0 < n → n + length ls ≤ 2 ^ 32 → AllByRecursion Fits ls
+lines_fit : (n : ℕ) (ls : List Line) → AreNumberedFrom n ls → 0 < n → n + length ls ≤ 2 ^ 32 → AllByRecursion Fits ls
 lines_fit n [] a h k = tt
 lines_fit n (l ∷ ls) a h k = let e = a.0 in ((omega arith, omega arith), lines_fit (n + 1) ls a.2 (omega arith) (omega arith))
 

@@ -19,7 +19,7 @@ use Rattle.serde_json.specs.Written.{outline, items_outline, members_outline, co
 use Rattle.serde_json.proofs.Numbers.{number_of-decimal}
 use Rattle.serde_json.proofs.Texts.{print-outline}
 use Rattle.cm_read_back.specs.Laws.{PlainHaveLines}
-use Rattle.cm_read_back.specs.Values.{IsPlain, ItemsArePlain, MembersArePlain, stands_before, in_order, items_in_order, members_in_order}
+use Rattle.cm_read_back.specs.Values.{IsPlain, ItemsArePlain, MembersArePlain, sorts_before, in_order, items_in_order, members_in_order}
 
 -- ---- members that go in one after another, in order
 
@@ -30,7 +30,7 @@ joined (member k d ms) more = member k d (joined ms more)
 -- all of the first come before the second
 abbrev AllBefore : Members → Members → Type 0
 AllBefore no_members more = ⊤
-AllBefore (member k d ms) more = (stands_before k more ≡ true) × AllBefore ms more
+AllBefore (member k d ms) more = (sorts_before k more ≡ true) × AllBefore ms more
 
 joined_none : (ms : Members) → joined ms no_members ≡ ms
 joined_none no_members = refl
@@ -51,7 +51,7 @@ put_last (member l e found) ms k d h =
     let above : slice_cmp nat_cmp k l ≡ Greater = nat_list_cmp_total.antisymm k l ∙ ap ordering_reverse (is_less _ (and_parts _ _ h.0).0) in
     rw above (ap (member l e) (put_last found ms k d h.1))
 
-one_more : (found ms : Members) (k : List ℕ) (d : Data) → AllBefore found (member k d ms) → stands_before k ms ≡ true → AllBefore (joined found (member k d no_members)) ms
+one_more : (found ms : Members) (k : List ℕ) (d : Data) → AllBefore found (member k d ms) → sorts_before k ms ≡ true → AllBefore (joined found (member k d no_members)) ms
 one_more no_members ms k d h s = (s, tt)
 one_more (member l e found) ms k d h s = ((and_parts _ _ h.0).1, one_more found ms k d h.1 s)
 

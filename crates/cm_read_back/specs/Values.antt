@@ -29,9 +29,9 @@ abbrev mutual
   MembersArePlain (member k d ms) = IsUtf8 k × IsPlain d × MembersArePlain ms
 
 -- the name comes before those of the members
-abbrev pub stands_before : List ℕ → Members → Bool
-stands_before name no_members = true
-stands_before name (member k d ms) = is_lt (slice_cmp nat_cmp name k) && stands_before name ms
+abbrev pub sorts_before : List ℕ → Members → Bool
+sorts_before name no_members = true
+sorts_before name (member k d ms) = is_lt (slice_cmp nat_cmp name k) && sorts_before name ms
 
 -- the objects in the value have their members in the order of their names
 abbrev mutual
@@ -49,4 +49,4 @@ abbrev mutual
 
   pub members_in_order : Members → Bool
   members_in_order no_members = true
-  members_in_order (member k d ms) = stands_before k ms && (in_order d && members_in_order ms)
+  members_in_order (member k d ms) = sorts_before k ms && (in_order d && members_in_order ms)

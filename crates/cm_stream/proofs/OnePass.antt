@@ -5,7 +5,7 @@ use Rattle.std.proofs.lemmas.Bool.Decides.{nat_tests}
 use Rattle.gk_grammar.specs.declared.fault.FaultKind.{FaultKind}
 use Rattle.gk_grammar.specs.declared.fault.FaultKind.TheVariants as kind
 use Rattle.gk_grammar.specs.Documents.{lines_read, HasFault, IsTooLong, max_bytes, max_lines}
-use Rattle.gk_grammar.specs.Machine.{FlatBlock, State, PlacedFault, run, blocks_at_end, initial}
+use Rattle.gk_grammar.specs.Machine.{FlatBlock, State, PlacedFault, run, blocks_at_end, initial_state}
 use Rattle.gk_grammar.proofs.LawLemmas.{one_document_holds, no_document_with_fault_holds, one_fault_holds, whole_run, stopped_run, open_run}
 use Rattle.cm_stream.specs.Texts.{Utf8}
 use Rattle.cm_stream.specs.Readings.{Reading, Accepted, Refused, OtherLanguage, TooLong, IsReading, OneReading, ReadsByTheGrammar, SomeReading}
@@ -43,7 +43,7 @@ fault_read text fits kind.UnexpectedEnd n c h = (fits, record { kind = kind.Unex
 fault_read text fits kind.TooLong n c h = (fits, record { kind = kind.TooLong; line = n; column = c; fault = h; other = λ e. cc })
 fault_read text fits kind.Memory n c h = (fits, record { kind = kind.Memory; line = n; column = c; fault = h; other = λ e. cc })
 
-pass_read : (text : Utf8) → (IsTooLong text → ⊥) → (r : Result State PlacedFault) → run initial (lines_read text) ≡ r → IsReading text (reading_after r)
+pass_read : (text : Utf8) → (IsTooLong text → ⊥) → (r : Result State PlacedFault) → run initial_state (lines_read text) ≡ r → IsReading text (reading_after r)
 pass_read text fits (Err b) e = fault_read text fits b.kind b.line b.column (stopped_run text b e)
 pass_read text fits (Ok s) e = go (blocks_at_end s.phase) refl
   where
@@ -58,7 +58,7 @@ is_read text = go (passes_limits text) refl
   where
     go : (b : Bool) → passes_limits text ≡ b → IsReading text (reads text)
     go true e = rw e (too_many max_bytes (length text) max_lines (length (lines_read text)) e)
-    go false e = rw e (pass_read text (few_enough max_bytes (length text) max_lines (length (lines_read text)) e) (run initial (lines_read text)) refl)
+    go false e = rw e (pass_read text (few_enough max_bytes (length text) max_lines (length (lines_read text)) e) (run initial_state (lines_read text)) refl)
 
 -- ---- one reading
 

@@ -3,7 +3,7 @@ use Rattle.std.specs.Prelude.{◌||◌, nat_lt, Bool, List, length, Option, Some
 use Rattle.gk_grammar.specs.declared.fault.FaultKind.{FaultKind}
 use Rattle.gk_grammar.specs.declared.fault.FaultKind.TheVariants.{UnsupportedLanguage}
 use Rattle.gk_grammar.specs.Documents.{lines_read, max_bytes, max_lines}
-use Rattle.gk_grammar.specs.Machine.{FlatBlock, State, PlacedFault, run, blocks_at_end, initial}
+use Rattle.gk_grammar.specs.Machine.{FlatBlock, State, PlacedFault, run, blocks_at_end, initial_state}
 use Rattle.gk_grammar.specs.Assembly.{document_of}
 use Rattle.cm_stream.specs.Texts.{Utf8}
 use Rattle.cm_stream.specs.Readings.{Reading, Accepted, Refused, OtherLanguage, TooLong}
@@ -26,4 +26,4 @@ reading_after (Ok s) = reading_at_end s (blocks_at_end s.phase)
 
 -- what one pass over the lines of a text makes of it
 unfoldable pub reads : Utf8 → Reading
-reads text = if passes_limits text then TooLong else reading_after (run initial (lines_read text))
+reads text = if passes_limits text then TooLong else reading_after (run initial_state (lines_read text))

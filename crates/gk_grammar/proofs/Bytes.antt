@@ -13,7 +13,7 @@ use Rattle.std.specs.List.{enumerate_from, slice_split, onto_first}
 use Rattle.gk_line.specs.Texts.{after}
 use Rattle.gk_line.specs.Tokens as tokens
 use Rattle.gk_line.specs.Tokens.{indent_of}
-use Rattle.gk_line.specs.Tags.{TagWord, tags_of, tag_pieces, spaced_piece, pieces_from, is_tag, uncommented}
+use Rattle.gk_line.specs.Tags.{TagWord, tags_of, tag_pieces, spaced_piece, pieces_from, is_tag, uncommented_line}
 use Rattle.gk_line.specs.Cells.{without_first}
 use Rattle.gk_line.specs.Lines as lines
 use Rattle.gk_line.specs.Lines.{without_mark}
@@ -43,12 +43,12 @@ pieces_length : (c : ℕ) (ps : List (List ℕ)) → length (pieces_from c ps) �
 pieces_length c [] = refl
 pieces_length c (p ∷ ps) = ap suc (pieces_length (c + length p + 1) ps)
 
-uncommented_shorter : (text : List ℕ) → length (uncommented text) ≤ length text
-unfolding uncommented
+uncommented_shorter : (text : List ℕ) → length (uncommented_line text) ≤ length text
+unfolding uncommented_line
 uncommented_shorter [] = omega arith
 uncommented_shorter (c ∷ cs) = go (is_whitespace c && is_some (after (codes "#") cs)) (uncommented_shorter cs)
   where
-    go : (b : Bool) → length (uncommented cs) ≤ length cs → length (cond b [] (c ∷ uncommented cs)) ≤ length (c ∷ cs)
+    go : (b : Bool) → length (uncommented_line cs) ≤ length cs → length (cond b [] (c ∷ uncommented_line cs)) ≤ length (c ∷ cs)
     go true h = omega arith
     go false h = omega arith
 
@@ -56,11 +56,11 @@ pub tags_fewer : (text : List ℕ) → length (tags_of text) ≤ length text
 unfolding tags_of tag_pieces
 tags_fewer text =
     let f = filter_shorter is_tag (tag_pieces text) in
-    let p = pieces_length 0 (slice_split (λ c. c == 64) (uncommented text)) in
-    let s = length-slice_split (λ c. c == 64) (uncommented text) in
-    let c = count_by-le-length (λ c. c == 64) (uncommented text) in
+    let p = pieces_length 0 (slice_split (λ c. c == 64) (uncommented_line text)) in
+    let s = length-slice_split (λ c. c == 64) (uncommented_line text) in
+    let c = count_by-le-length (λ c. c == 64) (uncommented_line text) in
     let u = uncommented_shorter text in
-    let w = first_off (length (uncommented text)) (pieces_from 0 (slice_split (λ c. c == 64) (uncommented text))) (omega arith) in
+    let w = first_off (length (uncommented_line text)) (pieces_from 0 (slice_split (λ c. c == 64) (uncommented_line text))) (omega arith) in
     omega arith
 
 -- ---- the places of a line

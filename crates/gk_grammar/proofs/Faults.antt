@@ -14,7 +14,7 @@ use Rattle.gk_grammar.specs.Token.{Utf8, Token, Blank, Comment, Language, Tags, 
 use Rattle.gk_grammar.specs.Tree as tree
 use Rattle.gk_grammar.specs.Tree.{Tag, Argument, DocString}
 use Rattle.gk_grammar.specs.Grammar.{Piece, Then, Each, AtMostOne, OneLine, IsRow, IsTable, IsTagLine, IsArgument, IsStepLine, IsStep, IsDocString, IsPlainGap, IsEnglish, stops, is_fence, english}
-use Rattle.gk_grammar.specs.Machine.{FlatBlock, Phase, Start, AfterLanguage, AfterTags, InDescription, AfterStep, InDocString, InExamplesTable, State, PlacedFault, next, at_phase, run, initial, follows, takes_tags, close_block, after_description, with_description, after_step, step_row, step_fence, in_examples_table, another_row, count_of, before_first_block, at_start, after_language, after_tags, same_text, with_steps, with_rows}
+use Rattle.gk_grammar.specs.Machine.{FlatBlock, Phase, Start, AfterLanguage, AfterTags, InDescription, AfterStep, InDocString, InExamplesTable, State, PlacedFault, next, at_phase, run, initial_state, follows, takes_tags, close_block, after_description, with_description, after_step, step_row, step_fence, in_examples_table, another_row, count_of, before_first_block, at_start, after_language, after_tags, same_text, with_steps, with_rows}
 use Rattle.gk_grammar.specs.Place.{is_row_or_gap, HasOtherCount}
 use Rattle.gk_grammar.specs.declared.fault.FaultKind.{FaultKind}
 use Rattle.gk_grammar.specs.declared.fault.FaultKind.TheVariants as kind
@@ -378,10 +378,10 @@ at_phase_faults s (InDocString c steps last q inside) l ls h = cond_faults ls l 
 at_phase_faults s (InExamplesTable c rows) l ls h = listing_faults ls s c rows l (last_table s c rows ls h)
 
 -- a line at which the machine stops has the kind and the column of the fault that it reports
-pub stop_has_kind : (before : List Line) (l : Line) (s : State) (b : PlacedFault) → run initial before ≡ Ok s → next s l ≡ Err b → IsKindOf before l b
+pub stop_has_kind : (before : List Line) (l : Line) (s : State) (b : PlacedFault) → run initial_state before ≡ Ok s → next s l ≡ Err b → IsKindOf before l b
 stop_has_kind before l s b e f =
     subst (λ (r : Result State PlacedFault). Faults before l r) f
-    (at_phase_faults s s.phase l before (subst (λ (r : Result State PlacedFault). IfOk r (StateHolds before)) e (run_holds before initial [] starts)))
+    (at_phase_faults s s.phase l before (subst (λ (r : Result State PlacedFault). IfOk r (StateHolds before)) e (run_holds before initial_state [] starts)))
 
 -- the kind and the column of a fault at a line are settled
 pub one_kind : (before : List Line) (at : Line) (k l : FaultKind) (c d : ℕ) → IsKindAt before at k c → IsKindAt before at l d → (k ≡ l) × (c ≡ d)

@@ -5,8 +5,8 @@ use Rattle.gk_grammar.specs.Token.{Line}
 use Rattle.gk_grammar.specs.Tree as tree
 use Rattle.gk_grammar.specs.Tree.{Feature}
 use Rattle.gk_grammar.specs.Grammar.{Piece, Then, IsPlainGap, IsFeatureText}
-use Rattle.gk_grammar.specs.Machine.{FlatBlock, Phase, Start, AfterLanguage, AfterTags, InDescription, AfterStep, InDocString, InExamplesTable, State, PlacedFault, run, blocks_at_end, initial, with_description, with_steps, with_rows, ◌>>=◌}
-use Rattle.gk_grammar.specs.Place.{Completion, completing}
+use Rattle.gk_grammar.specs.Machine.{FlatBlock, Phase, Start, AfterLanguage, AfterTags, InDescription, AfterStep, InDocString, InExamplesTable, State, PlacedFault, run, blocks_at_end, initial_state, with_description, with_steps, with_rows, ◌>>=◌}
+use Rattle.gk_grammar.specs.Place.{Completion, completion_lines}
 use Rattle.gk_grammar.proofs.Open.{IsFlatBlock, IsDone, Holds, StateHolds, done_more, steps_close, rows_close}
 use Rattle.gk_grammar.proofs.Sound.{run_holds, starts, description_closes}
 use Rattle.gk_grammar.proofs.Complete.{state_of}
@@ -23,7 +23,7 @@ flat_blocks_of (Some f) = feature_flat_blocks f
 pub record Takes (ls : List Line) (flat_blocks : List FlatBlock) (cs : List tree.Comment) (n : ℕ) : Type 0 where
   pub end : State
   pub last : List FlatBlock
-  pub runs : run initial ls ≡ Ok end
+  pub runs : run initial_state ls ≡ Ok end
   pub ends : blocks_at_end end.phase ≡ Some last
   pub flat_blocks_are : end.flat_blocks ++ last ≡ flat_blocks
   pub comments_are : end.comments ≡ cs
@@ -34,7 +34,7 @@ pub text_taken : (f : Option Feature) (ls : List Line) (cs : List tree.Comment) 
 text_taken None ls cs k h = record {
   end = state_of cs 0 [] Start;
   last = [];
-  runs = ap (λ (z : List Line). run initial z) (sym (append-nil ls)) ∙ run_plain ls h.0 h.1.0 [] [] ∙ ap (λ (c : List tree.Comment). Ok (state_of c 0 [] Start)) (sym h.1.1);
+  runs = ap (λ (z : List Line). run initial_state z) (sym (append-nil ls)) ∙ run_plain ls h.0 h.1.0 [] [] ∙ ap (λ (c : List tree.Comment). Ok (state_of c 0 [] Start)) (sym h.1.1);
   ends = refl;
   flat_blocks_are = refl;
   comments_are = refl;
@@ -48,7 +48,7 @@ text_taken (Some f) ls cs k h =
       end = state_of cs (flat_blocks_count (feature_flat_blocks f)) q.flat_blocks q.phase;
       last = q.last;
       runs =
-          ap (λ (z : List Line). run initial z) (t.cut ∙ ap (λ (z : List Line). t.front ++ z) (sym (append-nil t.back))) ∙ o.runs ∙ q.runs
+          ap (λ (z : List Line). run initial_state z) (t.cut ∙ ap (λ (z : List Line). t.front ++ z) (sym (append-nil t.back))) ∙ o.runs ∙ q.runs
           ∙ ap (λ (c : List tree.Comment). Ok (state_of c (0 + flat_blocks_count (feature_flat_blocks f)) q.flat_blocks q.phase)) (sym t.comments)
           ∙ ap (λ (m : ℕ). Ok (state_of cs m q.flat_blocks q.phase)) (omega arith);
       ends = q.ends;
@@ -78,8 +78,8 @@ closes_whole s (InDescription c lines) last ls h e = let is : with_description c
 closes_whole s (AfterStep c before x) last ls h e = let is : with_steps c (before ++ x ∷ []) ∷ [] ≡ last = cc in read_more s.flat_blocks (with_steps c (before ++ x ∷ [])) last is ls s.comments (steps_close s c before x ls h)
 closes_whole s (InExamplesTable c rows) last ls h e = let is : with_rows c rows ∷ [] ≡ last = cc in read_more s.flat_blocks (with_rows c rows) last is ls s.comments (rows_close s c rows ls h)
 
-pub taken_text : (ls : List Line) (s : State) (last : List FlatBlock) → run initial ls ≡ Ok s → blocks_at_end s.phase ≡ Some last → IsRead (s.flat_blocks ++ last) ls s.comments
-taken_text ls s last e f = closes_whole s s.phase last ls (subst (λ (r : Result State PlacedFault). IfOk r (StateHolds ls)) e (run_holds ls initial [] starts)) f
+pub taken_text : (ls : List Line) (s : State) (last : List FlatBlock) → run initial_state ls ≡ Ok s → blocks_at_end s.phase ≡ Some last → IsRead (s.flat_blocks ++ last) ls s.comments
+taken_text ls s last e f = closes_whole s s.phase last ls (subst (λ (r : Result State PlacedFault). IfOk r (StateHolds ls)) e (run_holds ls initial_state [] starts)) f
 
 -- one list of lines has at most one list of flat blocks, comments and number of nodes
 pub one_taking : (ls : List Line) (a b : List FlatBlock) (cs ds : List tree.Comment) (m n : ℕ) → Takes ls a cs m → Takes ls b ds n → (a ≡ b) × (cs ≡ ds) × (m ≡ n)
@@ -93,12 +93,12 @@ one_taking ls a b cs ds m n x y =
     )
 
 -- where the machine has come to a state, the lines so far are completed by one of five ways to go on
-pub live_completes : (ls : List Line) (s : State) → run initial ls ≡ Ok s →
-    (how : Completion) × (end : State) × (last : List FlatBlock) × (run initial (ls ++ completing how (length ls + 1)) ≡ Ok end) × (blocks_at_end end.phase ≡ Some last)
+pub live_completes : (ls : List Line) (s : State) → run initial_state ls ≡ Ok s →
+    (how : Completion) × (end : State) × (last : List FlatBlock) × (run initial_state (ls ++ completion_lines how (length ls + 1)) ≡ Ok end) × (blocks_at_end end.phase ≡ Some last)
 live_completes ls s e =
     let c = completes s.phase s.comments s.nodes s.flat_blocks (length ls + 1) in
-    (c.how, c.end, c.last, run-append initial ls (completing c.how (length ls + 1)) ∙ ap (λ (r : Result State PlacedFault). r >>= λ x. run x (completing c.how (length ls + 1))) e ∙ c.runs, c.ends)
+    (c.how, c.end, c.last, run-append initial_state ls (completion_lines c.how (length ls + 1)) ∙ ap (λ (r : Result State PlacedFault). r >>= λ x. run x (completion_lines c.how (length ls + 1))) e ∙ c.runs, c.ends)
 
 -- where the machine has stopped, nothing that follows makes the lines a text
-pub dead_stays : (ls more : List Line) (b : PlacedFault) → run initial ls ≡ Err b → run initial (ls ++ more) ≡ Err b
-dead_stays ls more b e = run-append initial ls more ∙ ap (λ (r : Result State PlacedFault). r >>= λ x. run x more) e
+pub dead_stays : (ls more : List Line) (b : PlacedFault) → run initial_state ls ≡ Err b → run initial_state (ls ++ more) ≡ Err b
+dead_stays ls more b e = run-append initial_state ls more ∙ ap (λ (r : Result State PlacedFault). r >>= λ x. run x more) e

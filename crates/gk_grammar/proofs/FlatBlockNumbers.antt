@@ -7,7 +7,7 @@ use Rattle.gk_line.specs.declared.tokens.Block.{Block}
 use Rattle.gk_line.specs.declared.tokens.Block.TheVariants as block
 use Rattle.gk_grammar.specs.Tree.{Background, Examples, Scenario, Rule, Feature}
 use Rattle.gk_grammar.specs.Grammar.{Node, tag_nodes, step_nodes, background_nodes, examples_nodes, scenario_nodes, rule_nodes, feature_nodes}
-use Rattle.gk_grammar.specs.Machine.{FlatBlock, follows, own_node}
+use Rattle.gk_grammar.specs.Machine.{FlatBlock, follows, title_node_count}
 use Rattle.gk_grammar.proofs.Complete.{Counts, counts_apart}
 use Rattle.gk_grammar.proofs.Whole.{Linked, body_nodes, flat_block_count, flat_blocks_count, FlatBlockCounts, FlatBlocksCount}
 use Rattle.gk_grammar.proofs.Tidy.{counts_both, tags_nodes_length}
@@ -30,7 +30,7 @@ flat_block_nodes c = tag_nodes c.tags ++ (own_nodes c.block (c.place, c.node) ++
 abbrev flat_blocks_nodes : List FlatBlock → List Node
 flat_blocks_nodes cs = flat_map flat_block_nodes cs
 
-own_length : (b : Block) (x : Node) → length (own_nodes b x) ≡ own_node b
+own_length : (b : Block) (x : Node) → length (own_nodes b x) ≡ title_node_count b
 own_length block.Feature x = refl
 own_length block.Rule x = refl
 own_length block.Background x = refl
@@ -75,7 +75,7 @@ flat_block_counted n c h =
     counts_both n (tag_nodes c.tags) (own_nodes c.block (c.place, c.node) ++ body_nodes c.body) h.tags
     (counts_both (n + length (tag_nodes c.tags)) (own_nodes c.block (c.place, c.node)) (body_nodes c.body)
     (own_counts c.block (c.place, c.node) (n + length (tag_nodes c.tags)) (h.own ∙ omega arith))
-    (from (n + length c.tags + own_node c.block) (n + length (tag_nodes c.tags) + length (own_nodes c.block (c.place, c.node))) (body_nodes c.body) (omega arith) h.body))
+    (from (n + length c.tags + title_node_count c.block) (n + length (tag_nodes c.tags) + length (own_nodes c.block (c.place, c.node))) (body_nodes c.body) (omega arith) h.body))
 
 flat_block_counts : (n : ℕ) (c : FlatBlock) → (Counts (n + length c.tags) (own_nodes c.block (c.place, c.node)) → c.node ≡ n + length c.tags) → Counts n (flat_block_nodes c) → FlatBlockCounts n c
 flat_block_counts n c f h =
@@ -86,7 +86,7 @@ flat_block_counts n c f h =
     record {
       tags = k.0;
       own = f (from (n + length (tag_nodes c.tags)) (n + length c.tags) (own_nodes c.block (c.place, c.node)) (omega arith) j.0);
-      body = from (n + length (tag_nodes c.tags) + length (own_nodes c.block (c.place, c.node))) (n + length c.tags + own_node c.block) (body_nodes c.body) (omega arith) j.1;
+      body = from (n + length (tag_nodes c.tags) + length (own_nodes c.block (c.place, c.node))) (n + length c.tags + title_node_count c.block) (body_nodes c.body) (omega arith) j.1;
     }
 
 flat_blocks_counted : (n : ℕ) (cs : List FlatBlock) → FlatBlocksCount n cs → Counts n (flat_blocks_nodes cs)

@@ -6,7 +6,7 @@ use Rattle.gk_line.specs.declared.tokens.Block.{Block}
 use Rattle.gk_line.specs.declared.tokens.Block.TheVariants as block
 use Rattle.gk_grammar.specs.Tree.{Tag, Background, Examples, Scenario, Rule, Feature}
 use Rattle.gk_grammar.specs.Grammar.{english}
-use Rattle.gk_grammar.specs.Assembly.{table_of}
+use Rattle.gk_grammar.specs.Assembly.{example_table_of}
 use Rattle.gk_grammar.specs.Machine.{Body, Bare, Steps, Rows, FlatBlock, follows}
 use Rattle.gk_grammar.proofs.Whole.{Linked, flat_block_is}
 use Rattle.gk_grammar.proofs.Trees.{rows_table, background_flat_blocks, examples_flat_block, scenario_flat_block, scenario_flat_blocks, rule_flat_block, rule_flat_blocks, feature_flat_block, feature_flat_blocks}
@@ -45,7 +45,7 @@ no_feature block.Examples e = absurd cc
 
 more_parts : (before : Block) (c : FlatBlock) (cs : List FlatBlock) (b : Block) (y : Body) → c.block ≡ b → c.body ≡ y → follows (Some before) b ≡ true → IsShaped b c.node c.tags y → Parts b cs → Parts before (c ∷ cs)
 more_parts before c cs block.Examples (Rows rs) e w f h p =
-    let x : Examples = record { node = c.node; location = c.place; tags = c.tags; keyword = c.keyword; name = c.name; description = c.description; table = table_of rs } in
+    let x : Examples = record { node = c.node; location = c.place; tags = c.tags; keyword = c.keyword; name = c.name; description = c.description; table = example_table_of rs } in
     let is : c ≡ examples_flat_block x = flat_block_is c (examples_flat_block x) e refl refl refl refl refl refl (w ∙ ap Rows (sym (rows_table rs))) in
     let none : p.background ≡ None = p.no_background refl in
     record {

@@ -4,7 +4,7 @@ use Rattle.std.specs.Prelude.{map}
 use Rattle.std.specs.List.{range_with_len}
 use Rattle.gk_grammar.specs.Grammar.{Node, feature_nodes}
 use Rattle.gk_grammar.specs.declared.fault.FaultKind.TheVariants as kind
-use Rattle.gk_grammar.specs.Machine.{FlatBlock, State, PlacedFault, run, blocks_at_end, initial}
+use Rattle.gk_grammar.specs.Machine.{FlatBlock, State, PlacedFault, run, blocks_at_end, initial_state}
 use Rattle.gk_grammar.specs.Documents.{lines_read, HasFault}
 use Rattle.gk_grammar.specs.Laws.{OneDocument, DocumentOrFault, NoDocumentWithFault, OneFault, NumberedInOrder, NoMoreNodesThanBytes}
 use Rattle.gk_grammar.proofs.Complete.{Counts}
@@ -30,15 +30,15 @@ one_fault_holds text kind other_kind line other_line column other_column f g = o
 -- ---- what a run says of its text
 
 -- where it takes the lines whole, its document is that of the text
-pub whole_run : (text : List ℕ) (s : State) (last : List FlatBlock) → run initial (lines_read text) ≡ Ok s → blocks_at_end s.phase ≡ Some last → Accepted (lines_read text) s last
+pub whole_run : (text : List ℕ) (s : State) (last : List FlatBlock) → run initial_state (lines_read text) ≡ Ok s → blocks_at_end s.phase ≡ Some last → Accepted (lines_read text) s last
 whole_run text s last e f = accepted (lines_read text) s last (read_are_lines text) e f
 
 -- where it stops, the text has its fault
-pub stopped_run : (text : List ℕ) (b : PlacedFault) → run initial (lines_read text) ≡ Err b → HasFault text b.kind b.line b.column
+pub stopped_run : (text : List ℕ) (b : PlacedFault) → run initial_state (lines_read text) ≡ Err b → HasFault text b.kind b.line b.column
 stopped_run text b e = stop_has_fault (lines_read text) b (read_are_lines text) e
 
 -- where it ends at a phase that isn't closed, the text ends too early
-pub open_run : (text : List ℕ) (s : State) → run initial (lines_read text) ≡ Ok s → blocks_at_end s.phase ≡ None → HasFault text kind.UnexpectedEnd (length (lines_read text) + 1) 1
+pub open_run : (text : List ℕ) (s : State) → run initial_state (lines_read text) ≡ Ok s → blocks_at_end s.phase ≡ None → HasFault text kind.UnexpectedEnd (length (lines_read text) + 1) 1
 open_run text s e f = open_has_fault (lines_read text) s (read_are_lines text) e f
 
 -- ---- numbers

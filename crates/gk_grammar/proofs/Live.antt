@@ -9,8 +9,8 @@ use Rattle.gk_document.specs.declared.tree.Fence.TheVariants as fence
 use Rattle.gk_grammar.specs.Token.{Utf8, Blank, Comment, Language, Title, Fenced, Line, line, is_gap, is_language}
 use Rattle.gk_grammar.specs.Tree as tree
 use Rattle.gk_grammar.specs.Grammar.{OneLine, comments_of, IsOpening, IsEnglish, is_fence}
-use Rattle.gk_grammar.specs.Machine.{FlatBlock, OpenDocString, Phase, Start, AfterLanguage, AfterTags, InDescription, AfterStep, InDocString, InExamplesTable, State, PlacedFault, next, run, ◌>>=◌, blocks_at_end, follows, initial, open_block, with_doc_string, new_block}
-use Rattle.gk_grammar.specs.Place.{Completion, ByNothing, ByFeature, ByScenario, ByQuotes, ByBackticks, completing}
+use Rattle.gk_grammar.specs.Machine.{FlatBlock, OpenDocString, Phase, Start, AfterLanguage, AfterTags, InDescription, AfterStep, InDocString, InExamplesTable, State, PlacedFault, next, run, ◌>>=◌, blocks_at_end, follows, initial_state, open_block, with_doc_string, new_block}
+use Rattle.gk_grammar.specs.Place.{Completion, ByNothing, ByFeature, ByScenario, ByQuotes, ByBackticks, completion_lines}
 use Rattle.gk_grammar.proofs.Completing.{by_feature, by_scenario, by_quotes, by_backticks}
 use Rattle.gk_grammar.proofs.Pieces.{comments_of-append}
 use Rattle.gk_grammar.proofs.Complete.{state_of, Idle, run_gap}
@@ -22,7 +22,7 @@ pub record Completes (s : State) (n : ℕ) : Type 0 where
   pub how : Completion
   pub end : State
   pub last : List FlatBlock
-  pub runs : run s (completing how n) ≡ Ok end
+  pub runs : run s (completion_lines how n) ≡ Ok end
   pub ends : blocks_at_end end.phase ≡ Some last
 
 quoting_completes : (cs : List tree.Comment) (n : ℕ) (ch : List FlatBlock) (c : FlatBlock) (before : List tree.Step) (last : tree.Step) (q : OpenDocString) (inside : List Line) (m : ℕ) → Completes (state_of cs n ch (InDocString c before last q inside)) m
@@ -115,7 +115,7 @@ run_plain (l ∷ ls) f g cs rest =
 pub record Opened (cs : List tree.Comment) (ls rest : List Line) : Type 0 where
   pub phase : Phase
   pub ready : Ready phase [] [] None
-  pub runs : run initial (ls ++ rest) ≡ run (state_of cs 0 [] phase) rest
+  pub runs : run initial_state (ls ++ rest) ≡ run (state_of cs 0 [] phase) rest
 
 english_line : (cs : List tree.Comment) (l : Line) → IsEnglish l → next (state_of cs 0 [] Start) l ≡ Ok (state_of cs 0 [] AfterLanguage)
 english_line cs (line m t i (Language w)) e = rw e refl
@@ -133,7 +133,7 @@ opening_passes ls cs (inr h) rest = record {
   phase = AfterLanguage;
   ready = ready_spoken;
   runs =
-      ap (λ (z : List Line). run initial z) (ap (λ (z : List Line). z ++ rest) h.cut ∙ append_assoc h.front h.back rest)
+      ap (λ (z : List Line). run initial_state z) (ap (λ (z : List Line). z ++ rest) h.cut ∙ append_assoc h.front h.back rest)
       ∙ run_plain h.front h.first.0 h.first.1.0 [] (h.back ++ rest) ∙ ap (λ (c : List tree.Comment). run (state_of c 0 [] Start) (h.back ++ rest)) (sym h.first.1.1)
       ∙ spoken_runs h.back h.back_comments h.second h.front_comments rest
       ∙ ap (λ (c : List tree.Comment). run (state_of c 0 [] AfterLanguage) rest) (sym h.comments);

@@ -7,7 +7,7 @@ use Rattle.gk_line.specs.declared.tokens.Block.TheVariants as block
 use Rattle.gk_grammar.specs.Tree.{Background, ExampleTable, Examples, Scenario, Rule, Feature}
 use Rattle.gk_grammar.specs.Machine.{FlatBlock, follows}
 use Rattle.gk_grammar.specs.Grammar.{english}
-use Rattle.gk_grammar.specs.Assembly.{Parts, with_block, parts_of, assembled, IsFeatureFirst}
+use Rattle.gk_grammar.specs.Assembly.{Parts, with_block, parts_of, assembled_feature, IsFeatureFirst}
 use Rattle.gk_grammar.proofs.Whole.{Linked}
 use Rattle.gk_grammar.proofs.Trees.{table_again, background_flat_blocks, examples_flat_block, scenario_flat_block, scenario_flat_blocks, rule_flat_block, rule_flat_blocks, feature_flat_blocks}
 use Rattle.gk_grammar.proofs.Forest.{no_feature}
@@ -41,14 +41,14 @@ below_again : (f : Feature) → parts_of (background_flat_blocks f.background ++
 below_again f = background_again f.background (flat_map scenario_flat_blocks f.scenarios ++ flat_map rule_flat_blocks f.rules) f.scenarios f.rules (scenarios_again f.scenarios (flat_map rule_flat_blocks f.rules) f.rules (rules_again f.rules))
 
 -- the flat blocks of a tree make the tree
-pub tree_again : (f : Feature) → f.language ≡ english → assembled (feature_flat_blocks f) ≡ Some f
+pub tree_again : (f : Feature) → f.language ≡ english → assembled_feature (feature_flat_blocks f) ≡ Some f
 tree_again f l =
     ap (λ (p : Parts). Some (record f { language = english; background = p.background; scenarios = p.scenarios; rules = p.rules })) (below_again f)
     ∙ ap (λ (z : List _). Some (record f { language = z })) (sym l)
 
 -- the flat blocks determine the tree
 pub one_tree : (f g : Feature) → f.language ≡ english → g.language ≡ english → feature_flat_blocks f ≡ feature_flat_blocks g → f ≡ g
-one_tree f g l m e = let same : Some f ≡ Some g = sym (tree_again f l) ∙ ap assembled e ∙ tree_again g m in cc
+one_tree f g l m e = let same : Some f ≡ Some g = sym (tree_again f l) ∙ ap assembled_feature e ∙ tree_again g m in cc
 
 -- linked flat blocks begin with a feature, and have no other
 none_after : (b : Block) (cs : List FlatBlock) → Linked (Some b) cs → AllByRecursion (λ (x : FlatBlock). x.block ≡ block.Feature → ⊥) cs

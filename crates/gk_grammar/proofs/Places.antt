@@ -158,9 +158,9 @@ text_stands (Some f) ls cs h = nodes_then IsOpening (IsFeature f) [] (feature_no
 -- ---- lines in order
 
 -- the lines are numbered from n on, and the places of each rise
-abbrev pub AreLines : ℕ → List Line → Type 0
-AreLines n [] = Unit {0}
-AreLines n (l ∷ ls) = (number l ≡ n) × Rise (line_places l) × AreLines (n + 1) ls
+abbrev pub AreNumberedFrom : ℕ → List Line → Type 0
+AreNumberedFrom n [] = Unit {0}
+AreNumberedFrom n (l ∷ ls) = (number l ≡ n) × Rise (line_places l) × AreNumberedFrom (n + 1) ls
 
 words_on : (n : ℕ) (words : List TagText) → AllByRecursion (λ (p : Location). p.line ≡ n) (map (λ (w : TagText). at n w.column) words)
 words_on n [] = tt
@@ -174,14 +174,14 @@ places_on (line n t i (Step k y m)) = (refl, tt)
 places_on (line n t i (Row cells)) = (refl, tt)
 places_on (line n t i _) = tt
 
-places_from : (n : ℕ) (ls : List Line) → AreLines n ls → AllByRecursion (λ (p : Location). n ≤ p.line) (places ls)
+places_from : (n : ℕ) (ls : List Line) → AreNumberedFrom n ls → AllByRecursion (λ (p : Location). n ≤ p.line) (places ls)
 places_from n [] h = tt
 places_from n (l ∷ ls) h =
     all_both (λ (p : Location). n ≤ p.line) (line_places l) (places ls)
     (all_weaker (λ (p : Location). p.line ≡ number l) (λ (p : Location). n ≤ p.line) (λ p e. let f = h.0 in omega arith) (line_places l) (places_on l))
     (all_weaker (λ (p : Location). n + 1 ≤ p.line) (λ (p : Location). n ≤ p.line) (λ p e. omega arith) (places ls) (places_from (n + 1) ls h.2))
 
-pub places_rise : (n : ℕ) (ls : List Line) → AreLines n ls → Rise (places ls)
+pub places_rise : (n : ℕ) (ls : List Line) → AreNumberedFrom n ls → Rise (places ls)
 places_rise n [] h = tt
 places_rise n (l ∷ ls) h =
     rise_both (line_places l) (places ls) h.1 (places_rise (n + 1) ls h.2)
@@ -189,5 +189,5 @@ places_rise n (l ∷ ls) h =
     (λ p e. all_weaker (λ (q : Location). n + 1 ≤ q.line) _ (λ q f. before_by_line p q (let g = h.0 in omega arith)) (places ls) (places_from (n + 1) ls h.2)) (line_places l) (places_on l))
 
 -- the nodes of a text are in order
-pub text_in_order : (f : Option Feature) (n : ℕ) (ls : List Line) (cs : List tree.Comment) → AreLines n ls → IsFeatureText f ls cs → InOrder (feature_nodes f)
+pub text_in_order : (f : Option Feature) (n : ℕ) (ls : List Line) (cs : List tree.Comment) → AreNumberedFrom n ls → IsFeatureText f ls cs → InOrder (feature_nodes f)
 text_in_order f n ls cs a h = stand_in_order (feature_nodes f) (places ls) (places_rise n ls a) (text_stands f ls cs h)

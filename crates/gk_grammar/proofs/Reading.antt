@@ -4,17 +4,17 @@ use Rattle.std.specs.Prelude.{map, codes, filter}
 use Rattle.std.specs.Option.{option_map}
 use Rattle.std.specs.List.{AllByRecursion, enumerate_from, slice_split}
 use Rattle.gk_line.specs.Texts.{first_some, or_else}
-use Rattle.gk_line.specs.Tokens.{indent_of, is_blank_line, begins_by, language_of, title_of, step_of, fence_of, TitleText, StepText, FenceText}
-use Rattle.gk_line.specs.Tags.{TagWord, tags_of, tag_pieces, spaced_piece, pieces_from, is_tag, uncommented}
+use Rattle.gk_line.specs.Tokens.{indent_of, is_blank_line, begins_by, language_of, title_of, step_of, fence_of, TitleText, StepText, FenceText, blocks}
+use Rattle.gk_line.specs.Tags.{TagWord, tags_of, tag_pieces, spaced_piece, pieces_from, is_tag, uncommented_line}
 use Rattle.gk_line.specs.Cells.{without_first, cells_of}
 use Rattle.gk_line.specs.Lines as lines
 use Rattle.gk_line.specs.declared.tokens.Block.{Block}
-use Rattle.gk_grammar.specs.Token.{TagText, Token, Blank, Comment, Tags, Title, Step, Row, Other, line, line_of, token_of, tag_text, tag_list, comment_token, word_token, token_or_other, title_token, step_token, fence_token, blocks, cell}
+use Rattle.gk_grammar.specs.Token.{TagText, Token, Blank, Comment, Tags, Title, Step, Row, Other, line, line_of, token_of, tag_text, tag_list, comment_token, word_token, token_or_other, title_token, step_token, fence_token, cell}
 use Rattle.gk_grammar.specs.Tree.{Location}
 use Rattle.gk_grammar.specs.Grammar.{at, stands_before}
 use Rattle.gk_grammar.specs.Documents.{lines_read}
 use Rattle.gk_grammar.proofs.Order.{Rise, before_by_column}
-use Rattle.gk_grammar.proofs.Places.{line_places, AreLines}
+use Rattle.gk_grammar.proofs.Places.{line_places, AreNumberedFrom}
 
 -- ---- the tags of a line
 
@@ -45,7 +45,7 @@ rise_filter f c (w ∷ ws) r = go (f w) (rise_filter f (w.column + 1) ws r.1)
 
 pub tags_rise : (text : List ℕ) → WordsRise 0 (tags_of text)
 unfolding tags_of tag_pieces
-tags_rise text = rise_filter is_tag 0 _ (rise_without 0 _ (pieces_rise 0 (slice_split _ (uncommented text))))
+tags_rise text = rise_filter is_tag 0 _ (rise_without 0 _ (pieces_rise 0 (slice_split _ (uncommented_line text))))
 
 -- ---- the places of a line
 
@@ -124,10 +124,10 @@ line_rises n text = each_token (λ k. Rise (line_places (line n text (indent_of 
 
 -- ---- lines
 
-pub numbered_are_lines : (n : ℕ) (texts : List (List ℕ)) → AreLines n (map line_of (enumerate_from n texts))
+pub numbered_are_lines : (n : ℕ) (texts : List (List ℕ)) → AreNumberedFrom n (map line_of (enumerate_from n texts))
 numbered_are_lines n [] = tt
 numbered_are_lines n (t ∷ ts) = (refl, line_rises n t, numbered_are_lines (n + 1) ts)
 
-pub read_are_lines : (text : List ℕ) → AreLines 1 (lines_read text)
+pub read_are_lines : (text : List ℕ) → AreNumberedFrom 1 (lines_read text)
 unfolding lines_read lines.lines_of lines.numbered_lines
 read_are_lines text = numbered_are_lines 1 _

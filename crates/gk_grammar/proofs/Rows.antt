@@ -10,7 +10,7 @@ use Rattle.gk_grammar.specs.declared.fault.FaultKind.{FaultKind}
 use Rattle.gk_grammar.specs.declared.fault.FaultKind.TheVariants as kind
 use Rattle.gk_document.specs.declared.tree.KeywordType.TheVariants as keyword_type
 use Rattle.gk_grammar.specs.Token.{Utf8, TagText, Blank, Comment, Language, Tags, Title, Step, Row, Fenced, Line, line}
-use Rattle.gk_grammar.specs.Machine.{FlatBlock, State, PlacedFault, run, blocks_at_end, initial}
+use Rattle.gk_grammar.specs.Machine.{FlatBlock, State, PlacedFault, run, blocks_at_end, initial_state}
 
 abbrev title : ℕ → ℕ → Block → Line
 title n i b = line n [] i (Title b [] [])
@@ -42,7 +42,7 @@ seen (Ok s) = seen_end s (blocks_at_end s.phase)
 seen (Err b) = Fault b.kind b.line b.column
 
 abbrev of : List Line → Seen
-of ls = seen (run initial ls)
+of ls = seen (run initial_state ls)
 
 -- a tagged feature with a rule, its background, an outline with two tags and an examples table: twelve nodes
 outline : of (

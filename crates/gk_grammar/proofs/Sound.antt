@@ -9,7 +9,7 @@ use Rattle.gk_grammar.specs.Token.{Utf8, Blank, Comment, Language, Tags, Title, 
 use Rattle.gk_grammar.specs.Tree as tree
 use Rattle.gk_grammar.specs.Tree.{Tag}
 use Rattle.gk_grammar.specs.Grammar.{Then, Each, OneLine, comments_of, TagLines, Titled, stops, description_of, IsStep, IsTable, IsPlainGap, IsOpening, IsEnglish, english}
-use Rattle.gk_grammar.specs.Machine.{FlatBlock, Phase, Start, AfterLanguage, AfterTags, InDescription, AfterStep, InDocString, InExamplesTable, State, PlacedFault, next, at_phase, run, ◌>>=◌, initial, blocks_at_end, with_description, after_description, empty_body, step_at, row_at, same_text, before_first_block, at_start, after_language, after_tags, pass_over, follows, takes_tags}
+use Rattle.gk_grammar.specs.Machine.{FlatBlock, Phase, Start, AfterLanguage, AfterTags, InDescription, AfterStep, InDocString, InExamplesTable, State, PlacedFault, next, at_phase, run, ◌>>=◌, initial_state, blocks_at_end, with_description, after_description, empty_body, step_at, row_at, same_text, before_first_block, at_start, after_language, after_tags, pass_over, follows, takes_tags}
 use Rattle.gk_grammar.proofs.Pieces.{extended, mapped, joined, then_empty, with_line, lengthened, gap_takes, one_line_takes, all_more, comments_of-append}
 use Rattle.gk_grammar.proofs.Open.{IsBody, has_steps, IsHead, IsFlatBlock, TitledYet, IsOpen, IsDone, Holds, StateHolds, step_line, one_row, cond_ok, FlatBlockTags, flat_block_tags, SomeTagLines, some_are, tags_take, no_tags, title_opens, tags_open, leaving_holds, stepping_holds, quoting_holds, listing_holds}
 
@@ -184,7 +184,7 @@ run_holds (l ∷ ls) s read h = go (λ x q. run_holds ls x (read ++ l ∷ []) q)
     go f (Err e) q = tt
 
 -- at the start
-pub starts : StateHolds [] initial
+pub starts : StateHolds [] initial_state
 starts = (refl, (tt, (tt, refl)))
 
 -- ---- the end

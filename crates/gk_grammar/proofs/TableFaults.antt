@@ -12,7 +12,7 @@ use Rattle.gk_grammar.specs.Token.{Utf8, Token, Blank, Comment, Language, Tags, 
 use Rattle.gk_grammar.specs.Tree as tree
 use Rattle.gk_grammar.specs.Tree.{Argument}
 use Rattle.gk_grammar.specs.Grammar.{Piece, Then, Each, AtMostOne, OneLine, IsRow, IsTable, IsTitle, Titled, IsArgument, IsStepLine, IsStep, stops, is_fence, english}
-use Rattle.gk_grammar.specs.Machine.{FlatBlock, Phase, Start, AfterLanguage, AfterTags, InDescription, AfterStep, InDocString, InExamplesTable, State, PlacedFault, next, at_phase, run, initial, step_row, count_of, same_text, after_description, with_description, pass_over}
+use Rattle.gk_grammar.specs.Machine.{FlatBlock, Phase, Start, AfterLanguage, AfterTags, InDescription, AfterStep, InDocString, InExamplesTable, State, PlacedFault, next, at_phase, run, initial_state, step_row, count_of, same_text, after_description, with_description, pass_over}
 use Rattle.gk_grammar.specs.Place.{IsFaultAt, DiffersFromTable, HasOtherCount, is_row_or_gap}
 use Rattle.gk_grammar.specs.declared.fault.FaultKind.{FaultKind}
 use Rattle.gk_grammar.specs.declared.fault.FaultKind.TheVariants as kind
@@ -267,7 +267,7 @@ of_kind before (line n t i (Fenced x y)) s b h f k = k
 of_kind before (line n t i Other) s b h f k = k
 
 -- a line at which the machine stops has the fault that it reports
-pub stop_is_fault : (before : List Line) (l : Line) (s : State) (b : PlacedFault) → run initial before ≡ Ok s → next s l ≡ Err b → IsFaultOf before l b
+pub stop_is_fault : (before : List Line) (l : Line) (s : State) (b : PlacedFault) → run initial_state before ≡ Ok s → next s l ≡ Err b → IsFaultOf before l b
 stop_is_fault before l s b e f =
     let k = stop_has_kind before l s b e f in
-    (k.0, of_kind before l s b (subst (λ (r : Result State PlacedFault). IfOk r (StateHolds before)) e (run_holds before initial [] starts)) f k.1)
+    (k.0, of_kind before l s b (subst (λ (r : Result State PlacedFault). IfOk r (StateHolds before)) e (run_holds before initial_state [] starts)) f k.1)

@@ -8,7 +8,7 @@ use Rattle.gk_grammar.specs.Token.{Line}
 use Rattle.gk_grammar.specs.Tree as tree
 use Rattle.gk_grammar.specs.Tree.{Tag, Feature}
 use Rattle.gk_grammar.specs.Grammar.{Each, IsOpening, IsFeatureText}
-use Rattle.gk_grammar.specs.Machine.{Body, Bare, Steps, Rows, FlatBlock, Phase, Start, AfterLanguage, AfterTags, InDescription, AfterStep, InDocString, InExamplesTable, State, PlacedFault, follows, next, run, ◌>>=◌, blocks_at_end, initial, with_description, with_steps, with_rows}
+use Rattle.gk_grammar.specs.Machine.{Body, Bare, Steps, Rows, FlatBlock, Phase, Start, AfterLanguage, AfterTags, InDescription, AfterStep, InDocString, InExamplesTable, State, PlacedFault, follows, next, run, ◌>>=◌, blocks_at_end, initial_state, with_description, with_steps, with_rows}
 use Rattle.gk_grammar.proofs.Pieces.{mapped}
 use Rattle.gk_grammar.proofs.Open.{IsFlatBlock, IsBody, FlatBlockTags}
 use Rattle.gk_grammar.proofs.Whole.{Linked, FlatBlockCounts, FlatBlocksCount, flat_block_count, flat_blocks_count}
@@ -32,10 +32,10 @@ both_ok : (r : Result State PlacedFault) → IfOk r StateFollows → IfOk r Stat
 both_ok (Ok s) f g = (f, g)
 both_ok (Err e) f g = tt
 
-pub kept : (ls : List Line) (s : State) → run initial ls ≡ Ok s → StateFollows s × StateCounts s
+pub kept : (ls : List Line) (s : State) → run initial_state ls ≡ Ok s → StateFollows s × StateCounts s
 kept ls s e =
     subst (λ (r : Result State PlacedFault). IfOk r (λ s. StateFollows s × StateCounts s)) e
-    (run_keeps (λ s. StateFollows s × StateCounts s) (λ s l h. both_ok (next s l) (at_phase_follows s s.phase l h.0.0 h.0.1) (at_phase_counts s s.phase l h.1.0 h.1.1)) ls initial ((tt, refl), (tt, refl)))
+    (run_keeps (λ s. StateFollows s × StateCounts s) (λ s l h. both_ok (next s l) (at_phase_follows s s.phase l h.0.0 h.0.1) (at_phase_counts s s.phase l h.1.0 h.1.1)) ls initial_state ((tt, refl), (tt, refl)))
 
 -- the flat blocks follow one another, have their numbers, and have this many nodes
 abbrev pub AreFlatBlocks : List FlatBlock → ℕ → Type 0

@@ -11,7 +11,7 @@ use Rattle.gk_grammar.specs.Tree as tree
 use Rattle.gk_grammar.specs.Tree.{Tag, Argument}
 use Rattle.gk_document.specs.declared.tree.Argument.TheVariants.{Table, Text as Quoted}
 use Rattle.gk_grammar.specs.Grammar.{stops, Node, tag_nodes, row_nodes, step_nodes, argument_nodes, at, english, is_fence}
-use Rattle.gk_grammar.specs.Machine.{Body, Steps, Rows, FlatBlock, Phase, Start, AfterLanguage, AfterTags, InDescription, AfterStep, InDocString, InExamplesTable, State, own_node, tags_from, empty_body, step_row, row_at, count_of, close_block, with_steps, with_rows, follows, takes_tags, after_step, step_at, step_fence, in_examples_table, with_description, after_description, open_block, add_tags, after_tags, before_first_block, at_start, after_language, same_text, at_phase, OpenDocString, with_doc_string}
+use Rattle.gk_grammar.specs.Machine.{Body, Steps, Rows, FlatBlock, Phase, Start, AfterLanguage, AfterTags, InDescription, AfterStep, InDocString, InExamplesTable, State, title_node_count, tags_from, empty_body, step_row, row_at, count_of, close_block, with_steps, with_rows, follows, takes_tags, after_step, step_at, step_fence, in_examples_table, with_description, after_description, open_block, add_tags, after_tags, before_first_block, at_start, after_language, same_text, at_phase, OpenDocString, with_doc_string}
 use Rattle.gk_grammar.proofs.Open.{cond_ok}
 use Rattle.gk_grammar.proofs.Complete.{Counts}
 use Rattle.gk_grammar.proofs.Whole.{FlatBlockCounts, FlatBlocksCount, flat_block_count, flat_blocks_count, body_nodes}
@@ -44,8 +44,8 @@ count_more (x ∷ xs) c = let h = count_more xs c in omega arith
 pub record IsCounted (start : ℕ) (c : FlatBlock) (below : List Node) (nodes : ℕ) : Type 0 where
   pub tags : Counts start (tag_nodes c.tags)
   pub own : c.node ≡ start + length c.tags
-  pub below_counts : Counts (start + length c.tags + own_node c.block) below
-  pub total : nodes ≡ start + length c.tags + own_node c.block + length below
+  pub below_counts : Counts (start + length c.tags + title_node_count c.block) below
+  pub total : nodes ≡ start + length c.tags + title_node_count c.block + length below
 
 abbrev pub PhaseCounts : ℕ → ℕ → Phase → Type 0
 PhaseCounts start nodes Start = nodes ≡ start
@@ -64,7 +64,7 @@ counted_more : (start : ℕ) (c : FlatBlock) (below : List Node) (nodes : ℕ) (
 counted_more start c below nodes x h e = record {
   tags = h.tags;
   own = h.own;
-  below_counts = counts_more (start + length c.tags + own_node c.block) below x h.below_counts (e ∙ h.total);
+  below_counts = counts_more (start + length c.tags + title_node_count c.block) below x h.below_counts (e ∙ h.total);
   total = let k = h.total in let l = length-append below (x ∷ []) in omega arith;
 }
 
@@ -161,7 +161,7 @@ no_body_nodes block.Examples = refl
 pub bare_whole : (start : ℕ) (c : FlatBlock) (lines : List Line) (nodes : ℕ) → c.body ≡ empty_body c.block → IsCounted start c [] nodes → FlatBlockCounts start (with_description c lines) × (nodes ≡ start + flat_block_count (with_description c lines))
 bare_whole start c lines nodes e h =
     let none : body_nodes c.body ≡ [] = ap body_nodes e ∙ no_body_nodes c.block in (
-      record { tags = h.tags; own = h.own; body = subst (λ (z : List Node). Counts (start + length c.tags + own_node c.block) z) (sym none) tt },
+      record { tags = h.tags; own = h.own; body = subst (λ (z : List Node). Counts (start + length c.tags + title_node_count c.block) z) (sym none) tt },
       let k = h.total in let z = ap (λ (x : List Node). length x) none in omega arith,
     )
 

@@ -8,7 +8,7 @@ use Rattle.gk_grammar.specs.Token.{Line}
 use Rattle.gk_grammar.specs.Tree as tree
 use Rattle.gk_grammar.specs.Tree.{Background, ExampleTable, Examples, Scenario, Rule, Feature}
 use Rattle.gk_grammar.specs.Grammar.{Piece, Then, Each, AtMostOne, TagLines, Titled, IsStep, IsExampleTable, table_rows, IsBackground, IsExamples, IsScenario, IsRule, IsFeature}
-use Rattle.gk_grammar.specs.Assembly.{table_of}
+use Rattle.gk_grammar.specs.Assembly.{example_table_of}
 use Rattle.gk_grammar.specs.Machine.{Bare, Steps, Rows, FlatBlock, follows}
 use Rattle.gk_grammar.proofs.Pieces.{mapped, to_right, to_left, then_nothing, nothing_then, only_first, each_both, each_apart}
 use Rattle.gk_grammar.proofs.Open.{IsRows, IsHead, IsFlatBlock, FlatBlockTags}
@@ -21,11 +21,11 @@ background_flat_blocks (Some b) = record { block = block.Background; node = b.no
 abbrev pub examples_flat_block : Examples → FlatBlock
 examples_flat_block e = record { block = block.Examples; node = e.node; place = e.location; tags = e.tags; keyword = e.keyword; name = e.name; description = e.description; body = Rows (table_rows e.table) }
 
-pub rows_table : (rs : List tree.Row) → table_rows (table_of rs) ≡ rs
+pub rows_table : (rs : List tree.Row) → table_rows (example_table_of rs) ≡ rs
 rows_table [] = refl
 rows_table (r ∷ rs) = refl
 
-pub table_again : (t : Option ExampleTable) → table_of (table_rows t) ≡ t
+pub table_again : (t : Option ExampleTable) → example_table_of (table_rows t) ≡ t
 table_again None = refl
 table_again (Some t) = refl
 

@@ -11,7 +11,7 @@ use Rattle.gk_grammar.specs.Token.{Utf8, TagText, Blank, Tags, Title, Step, Row,
 use Rattle.gk_grammar.specs.Tree as tree
 use Rattle.gk_grammar.specs.Tree.{Tag, Location}
 use Rattle.gk_grammar.specs.Grammar.{Nothing, Each, OneLine, comments_of, IsTagLine, place_and_name, tag_at, Titled, stops, description_of, IsStep, IsTable, IsRow, at, Node, step_nodes, row_nodes, tag_nodes, node_of_row}
-use Rattle.gk_grammar.specs.Machine.{Body, Bare, Steps, Rows, FlatBlock, Phase, AfterTags, InDescription, AfterStep, InExamplesTable, State, PlacedFault, next, run, ◌>>=◌, add_tags, open_block, new_block, follows, takes_tags, own_node, with_steps, with_rows, with_description, blocks_at_end, tags_from, empty_body, after_description, pass_over}
+use Rattle.gk_grammar.specs.Machine.{Body, Bare, Steps, Rows, FlatBlock, Phase, AfterTags, InDescription, AfterStep, InExamplesTable, State, PlacedFault, next, run, ◌>>=◌, add_tags, open_block, new_block, follows, takes_tags, title_node_count, with_steps, with_rows, with_description, blocks_at_end, tags_from, empty_body, after_description, pass_over}
 use Rattle.gk_grammar.proofs.Pieces.{comments_of-append, only_first}
 use Rattle.gk_grammar.proofs.Open.{IsBody, IsFlatBlock, FlatBlockTags}
 use Rattle.gk_grammar.proofs.Complete.{state_of, Reads, reads_then, reads_nothing, reads_line, Counts, counts_apart, to_phase, idle_tagged, idle_listing, reads_table, reads_step, reads_more_steps, after_steps, TakesRows, Begins, row_is}
@@ -119,12 +119,12 @@ body_nodes (Steps ss) = flat_map step_nodes ss
 body_nodes (Rows rs) = row_nodes rs
 
 abbrev pub flat_block_count : FlatBlock → ℕ
-flat_block_count c = length c.tags + own_node c.block + length (body_nodes c.body)
+flat_block_count c = length c.tags + title_node_count c.block + length (body_nodes c.body)
 
 pub record FlatBlockCounts (n : ℕ) (c : FlatBlock) : Type 0 where
   pub tags : Counts n (tag_nodes c.tags)
   pub own : c.node ≡ n + length c.tags
-  pub body : Counts (n + length c.tags + own_node c.block) (body_nodes c.body)
+  pub body : Counts (n + length c.tags + title_node_count c.block) (body_nodes c.body)
 
 -- after the lines of a flat block
 pub record Passed (c : FlatBlock) (cs : List tree.Comment) (s : State) (dh : List FlatBlock) (n : ℕ) (before : List tree.Comment) (ls rest : List Line) : Type 0 where
@@ -140,16 +140,16 @@ flat_block_is a b p q r s t u v w = λ i. record { block = p i; node = q i; plac
 run_titled : (c : FlatBlock) (p : Phase) (n : ℕ) (ch dh : List FlatBlock) → c.node ≡ n →
     ((cs : List tree.Comment) (m i : ℕ) (t k x : Utf8) → next (state_of cs n ch p) (line m t i (Title c.block k x)) ≡ Ok (open_block (state_of cs n dh p) c.block c.tags m i k x)) →
     (ls : List Line) (cs : List tree.Comment) → Titled c.block c.place c.keyword c.name c.description ls cs → (before : List tree.Comment) (rest : List Line) →
-    (lines : List Line) × (description_of lines ≡ c.description) × (run (state_of before n ch p) (ls ++ rest) ≡ run (state_of (before ++ cs) (n + own_node c.block) dh (InDescription (fresh c) lines)) rest)
+    (lines : List Line) × (description_of lines ≡ c.description) × (run (state_of before n ch p) (ls ++ rest) ≡ run (state_of (before ++ cs) (n + title_node_count c.block) dh (InDescription (fresh c) lines)) rest)
 run_titled c p n ch dh e f [] cs h before rest = absurd h
 run_titled c p n ch dh e f (line m t i (Title b k x) ∷ ls) cs h before rest = (
   ls,
   sym h.2,
   ap (λ (r : Result State PlacedFault). r >>= λ y. run y (ls ++ rest))
       (ap (λ (z : Block). next (state_of before n ch p) (line m t i (Title z k x))) h.0.0 ∙ f before m i t k x
-      ∙ ap (λ (z : FlatBlock). Ok (state_of before (n + own_node c.block) dh (InDescription z []))) (flat_block_is (new_block n c.block c.tags m i k x) (fresh c) refl (sym e) (sym h.0.1) refl (sym h.0.2) (sym h.0.3) refl refl))
-      ∙ run_description (fresh c) ls [] h.1 before (n + own_node c.block) dh rest
-      ∙ ap (λ (z : List tree.Comment). run (state_of (before ++ z) (n + own_node c.block) dh (InDescription (fresh c) ls)) rest) (sym h.3),
+      ∙ ap (λ (z : FlatBlock). Ok (state_of before (n + title_node_count c.block) dh (InDescription z []))) (flat_block_is (new_block n c.block c.tags m i k x) (fresh c) refl (sym e) (sym h.0.1) refl (sym h.0.2) (sym h.0.3) refl refl))
+      ∙ run_description (fresh c) ls [] h.1 before (n + title_node_count c.block) dh rest
+      ∙ ap (λ (z : List tree.Comment). run (state_of (before ++ z) (n + title_node_count c.block) dh (InDescription (fresh c) ls)) rest) (sym h.3),
 )
 run_titled c p n ch dh e f (line m t i Blank ∷ ls) cs h before rest = absurd h.0
 run_titled c p n ch dh e f (line m t i _ ∷ ls) cs h before rest = absurd h.0
@@ -301,7 +301,7 @@ flat_block_passes c p n ch dh bef ready fits k ls cs h before rest =
     let u = h.first in
     let tags = flat_block_tags_pass p n ch dh bef ready c.block fits before (u.back ++ (h.back ++ rest)) c.tags k.tags u.front u.front_comments u.first in
     let titled = run_titled c tags.phase (n + length c.tags) tags.flat_blocks dh k.own tags.title u.back u.back_comments u.second (before ++ u.front_comments) (h.back ++ rest) in
-    let body = body_passes c titled.0 titled.1 (n + length c.tags + own_node c.block) dh (before ++ u.front_comments ++ u.back_comments) rest c.block c.body refl refl k.body h.back h.back_comments h.second in
+    let body = body_passes c titled.0 titled.1 (n + length c.tags + title_node_count c.block) dh (before ++ u.front_comments ++ u.back_comments) rest c.block c.body refl refl k.body h.back h.back_comments h.second in
     record {
       phase = body.phase;
       ready = body.ready;

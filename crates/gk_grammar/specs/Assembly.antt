@@ -18,9 +18,9 @@ rows_of (Rows rows) = rows
 rows_of _ = []
 
 -- rows as the table of an examples block, whose header is the first
-abbrev pub table_of : List tree.Row → Option ExampleTable
-table_of [] = None
-table_of (r ∷ rs) = Some (record { header = r; body = rs })
+abbrev pub example_table_of : List tree.Row → Option ExampleTable
+example_table_of [] = None
+example_table_of (r ∷ rs) = Some (record { header = r; body = rs })
 
 -- what comes after a block: the examples of a scenario, a background and scenarios of a feature or a rule, and further rules
 pub record Parts : Type 0 where
@@ -41,7 +41,7 @@ examples_at c = record {
   keyword = c.keyword;
   name = c.name;
   description = c.description;
-  table = table_of (rows_of c.body);
+  table = example_table_of (rows_of c.body);
 }
 
 abbrev pub scenario_at : FlatBlock → Parts → Scenario
@@ -106,14 +106,14 @@ parts_of [] = no_parts
 parts_of (c ∷ cs) = with_block c.block c (parts_of cs)
 
 -- the feature whose blocks these are, itself the first
-abbrev pub assembled : List FlatBlock → Option Feature
-assembled [] = None
-assembled (c ∷ cs) = Some (feature_at c (parts_of cs))
+abbrev pub assembled_feature : List FlatBlock → Option Feature
+assembled_feature [] = None
+assembled_feature (c ∷ cs) = Some (feature_at c (parts_of cs))
 
 -- the document of a state, where these are the last blocks
 abbrev pub document_of : State → List FlatBlock → Document
 document_of s last = record {
-  feature = assembled (s.flat_blocks ++ last);
+  feature = assembled_feature (s.flat_blocks ++ last);
   comments = s.comments;
   nodes = s.nodes;
 }

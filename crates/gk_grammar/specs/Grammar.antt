@@ -4,6 +4,7 @@
 use Rattle.std.specs.Prelude.{◌≡◌, ℕ, ◌+◌, Bool, true, false, not, ◌||◌, ◌&&◌, List, [], ◌∷◌, ◌++◌, map, reverse, length, Option, Some, None, Ok, ◌==◌, nat_lt, codes, if◌then◌else◌, IsTrue, IsFalse, ◌⊎◌}
 use Rattle.std.specs.List.{AllByRecursion, count_by, filter, flat_map, join_with_byte}
 use Rattle.std.specs.Str.{encode_utf8_all}
+use Rattle.gk_line.specs.Characters.{line_feed}
 use Rattle.gk_line.specs.DocStrings.{doc_line_of}
 use Rattle.gk_document.specs.MediaType.{unless_empty}
 use Rattle.gk_line.specs.declared.tokens.Block.{Block}
@@ -113,9 +114,6 @@ stops _ _ = false
 abbrev pub from_text : List Line → List Line
 from_text [] = []
 from_text (l ∷ ls) = if is_blank l then from_text ls else l ∷ ls
-
-abbrev pub line_feed : ℕ
-line_feed = 10
 
 -- The text of a description (`gherkin.berp`: Description), of which comments are no part, and which they don't end: its lines
 -- without comments, without blank lines at both ends

@@ -1,6 +1,7 @@
 -- How one pass over the lines goes: a state that is finite but for the tree under construction. The grammar needs none of
 -- this; a parser is proved to take these steps, and these steps to take exactly the texts of the grammar.
 use Rattle.std.specs.Prelude.{ℕ, ◌+◌, Bool, true, false, List, [], ◌∷◌, ◌++◌, map, length, Option, Some, None, Result, Ok, Err, ◌==◌, if◌then◌else◌, codes}
+use Rattle.gk_line.specs.Characters.{line_feed}
 use Rattle.gk_document.specs.declared.tree.Cell.{Cell}
 use Rattle.gk_line.specs.declared.tokens.Block.{Block}
 use Rattle.gk_line.specs.declared.tokens.Block.TheVariants as block
@@ -13,7 +14,7 @@ use Rattle.gk_grammar.specs.Token.{Utf8, TagText, Blank, Comment, Language, Tags
 use Rattle.gk_grammar.specs.Tree as tree
 use Rattle.gk_grammar.specs.Tree.{Location, Tag, DocString, Argument}
 use Rattle.gk_document.specs.declared.tree.Argument.TheVariants.{Table, Text as Quoted}
-use Rattle.gk_grammar.specs.Grammar.{at, comments_of, stops, description_of, is_fence, content_line, line_feed, english}
+use Rattle.gk_grammar.specs.Grammar.{at, comments_of, stops, description_of, is_fence, content_line, english}
 use Rattle.std.specs.List.{join_with_byte}
 
 -- what is below the description of a block
@@ -86,9 +87,9 @@ takes_tags block.Background = false
 takes_tags _ = true
 
 -- the number of nodes of a block's own line
-abbrev pub own_node : Block → ℕ
-own_node block.Feature = 0
-own_node _ = 1
+abbrev pub title_node_count : Block → ℕ
+title_node_count block.Feature = 0
+title_node_count _ = 1
 
 -- the tags of these words in line n, numbered from this node on
 abbrev pub tags_from : ℕ → ℕ → List TagText → List Tag
@@ -133,7 +134,7 @@ new_block node b tags n i k m = record {
 -- a title line
 abbrev pub open_block : State → Block → List Tag → ℕ → ℕ → (k m : Utf8) → State
 open_block s b tags n i k m = record s {
-  nodes = s.nodes + own_node b;
+  nodes = s.nodes + title_node_count b;
   phase = InDescription (new_block s.nodes b tags n i k m) [];
 }
 
@@ -354,5 +355,5 @@ abbrev pub run : State → List Line → Result State PlacedFault
 run s [] = Ok s
 run s (l ∷ ls) = next s l >>= λ x. run x ls
 
-abbrev pub initial : State
-initial = record { comments = []; nodes = 0; flat_blocks = []; phase = Start }
+abbrev pub initial_state : State
+initial_state = record { comments = []; nodes = 0; flat_blocks = []; phase = Start }

@@ -21,16 +21,16 @@ pub data Completion : Type 0 where
   ByBackticks : Completion
 
 -- the line `Feature:`, `Scenario:`, three quotes or three backticks, at this number
-abbrev pub completing : Completion → ℕ → List Line
-completing ByNothing n = []
-completing ByFeature n = line_of (n, codes "Feature:") ∷ []
-completing ByScenario n = line_of (n, codes "Scenario:") ∷ []
-completing ByQuotes n = line_of (n, codes "\"\"\"") ∷ []
-completing ByBackticks n = line_of (n, codes "```") ∷ []
+abbrev pub completion_lines : Completion → ℕ → List Line
+completion_lines ByNothing n = []
+completion_lines ByFeature n = line_of (n, codes "Feature:") ∷ []
+completion_lines ByScenario n = line_of (n, codes "Scenario:") ∷ []
+completion_lines ByQuotes n = line_of (n, codes "\"\"\"") ∷ []
+completion_lines ByBackticks n = line_of (n, codes "```") ∷ []
 
 -- the lines are the front of a text, as one of the five completions shows
 abbrev pub IsFront : List Line → Type 0
-IsFront ls = (c : Completion) × IsText (ls ++ completing c (length ls + 1))
+IsFront ls = (c : Completion) × IsText (ls ++ completion_lines c (length ls + 1))
 
 -- The first n lines are the first that are no front. There is a line number n.
 pub record IsFirstBad (ls : List Line) (n : ℕ) : Type 0 where

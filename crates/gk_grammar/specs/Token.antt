@@ -4,11 +4,10 @@ use Rattle.std.specs.Prelude.{ℕ, Bool, true, false, List, [], ◌∷◌, map, 
 use Rattle.std.specs.Option.{option_map}
 use Rattle.std.specs.Str.{encode_utf8_all}
 use Rattle.gk_line.specs.Texts.{first_some, or_else}
-use Rattle.gk_line.specs.Tokens.{indent_of, is_blank_line, begins_by, language_of, TitleText, title_of, StepText, step_of, FenceText, fence_of}
+use Rattle.gk_line.specs.Tokens.{indent_of, is_blank_line, begins_by, language_of, TitleText, title_of, StepText, step_of, FenceText, fence_of, blocks}
 use Rattle.gk_line.specs.Tags.{TagWord, tags_of, spaced_piece}
 use Rattle.gk_line.specs.Cells.{CellText, cells_of}
 use Rattle.gk_line.specs.declared.tokens.Block.{Block}
-use Rattle.gk_line.specs.declared.tokens.Block.TheVariants as block
 use Rattle.gk_document.specs.declared.tree.Cell.{Cell}
 use Rattle.gk_document.specs.declared.tree.KeywordType.{KeywordType}
 use Rattle.gk_document.specs.declared.tree.Fence.{Fence}
@@ -52,9 +51,6 @@ tag_list (Some spaced) words = Err spaced.column
 
 abbrev pub cell : CellText → Cell
 cell c = record { value = encode_utf8_all c.value; column = c.column }
-
-abbrev pub blocks : List Block
-blocks = block.Feature ∷ block.Rule ∷ block.Background ∷ block.Scenario ∷ block.Examples ∷ []
 
 abbrev pub title_token : Block → TitleText → Token
 title_token b t = Title b (encode_utf8_all t.keyword) (encode_utf8_all t.name)

@@ -7,13 +7,13 @@ use Rattle.std.specs.Str.{skip_leading_whitespace}
 use Rattle.std.proofs.lemmas.Bool.{ltb-true, ltb-false}
 use Rattle.std.proofs.Math.Seq.{drop-append_seam}
 use Rattle.gk_line.specs.Characters.{backslash}
-use Rattle.gk_line.specs.DocStrings.{doc_line_of, escaped_mark, fence_mark, fences_unescaped, outdented}
-use Rattle.gk_line.specs.Texts.{after, body_of}
+use Rattle.gk_line.specs.DocStrings.{doc_line_of, escaped_mark, fence_mark, fences_unescaped, outdented_line}
+use Rattle.gk_line.specs.Texts.{after, text_after_indent}
 use Rattle.gk_line.specs.Tokens.{indent_of}
 use Rattle.gk_line.proofs.PlaceLemmas.{skip-split}
 use Rattle.gk_line.proofs.TagLemmas.{test_cases}
 use Rattle.gk_line.proofs.TextLemmas.{and_true, after-some}
-use Rattle.gk_pickle.specs.Cut.{Lacks, IsFirst, IsCut, joined}
+use Rattle.gk_pickle.specs.Cut.{Lacks, IsFirst, IsCut, joined_parts}
 use Rattle.gk_pickle.proofs.Cutting.{cut_exists}
 use Rattle.gk_laws.specs.Fences.{escaped_fence, IsOutdented, FencesCutTexts, IndentIsLost, DocLinesAreRead}
 use Rattle.gk_laws.proofs.TextParts.{after_front}
@@ -55,7 +55,7 @@ module _ (mark : ℕ) where
       ∙ ap (λ q. c ∷ q) (up_to front back (λ before past e. let less = first (c ∷ before) past (ap (λ q. c ∷ q) e) in omega arith))
 
   -- what the parts are joined to
-  pub read_parts : (text part : List ℕ) (others : List (List ℕ)) → IsCut escaped text part others → unescaped text ≡ joined fence part others
+  pub read_parts : (text part : List ℕ) (others : List (List ℕ)) → IsCut escaped text part others → unescaped text ≡ joined_parts fence part others
   read_parts text part [] cut = lacking text cut.1 ∙ cut.0
   read_parts text part (next ∷ others) cut =
       ap unescaped cut.1 ∙ up_to part cut.0 (subst (λ t. IsFirst escaped t part) cut.1 cut.2)
@@ -157,7 +157,7 @@ outdented_is indent line kept false less o =
       by_end (inr e) enough long parts most = omega arith
 
 pub indent_is_lost : IndentIsLost
-unfolding outdented body_of indent_of
+unfolding outdented_line text_after_indent indent_of
 indent_is_lost indent line kept = (
   (λ e. is_outdented indent line kept (nat_lt (prefix_len is_whitespace line) indent) refl (sym e)),
   (λ o. sym (outdented_is indent line kept (nat_lt (prefix_len is_whitespace line) indent) refl o)),
@@ -166,6 +166,6 @@ indent_is_lost indent line kept = (
 pub doc_lines_are_read : DocLinesAreRead
 unfolding doc_line_of
 doc_lines_are_read fence indent line said = (
-  (λ e. (outdented indent line, (indent_is_lost indent line (outdented indent line)).0 refl, (fences_cut_texts fence (outdented indent line) said).0 e)),
+  (λ e. (outdented_line indent line, (indent_is_lost indent line (outdented_line indent line)).0 refl, (fences_cut_texts fence (outdented_line indent line) said).0 e)),
   (λ read. ap (fences_unescaped (fence_mark fence) 0) ((indent_is_lost indent line read.0).1 read.1) ∙ (fences_cut_texts fence read.0 said).1 read.2),
 )

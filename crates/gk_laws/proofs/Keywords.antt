@@ -10,8 +10,8 @@ use Rattle.gk_document.specs.declared.tree.Fence.{Fence}
 use Rattle.gk_document.specs.declared.tree.Fence.TheVariants.{Quotes, Backticks}
 use Rattle.gk_document.specs.declared.tree.KeywordType.{KeywordType}
 use Rattle.gk_line.specs.DocStrings.{fence_characters}
-use Rattle.gk_line.specs.Texts.{after, body_of, first_some, or_else, trimmed}
-use Rattle.gk_line.specs.Tokens.{TitleText, StepText, FenceText, fence_of, fences, indent_of, keywords, step_of, step_words, title_of}
+use Rattle.gk_line.specs.Texts.{after, text_after_indent, first_some, or_else, trimmed_text}
+use Rattle.gk_line.specs.Tokens.{TitleText, StepText, FenceText, fence_of, fences, indent_of, title_keywords, step_of, step_words, title_of}
 use Rattle.gk_line.specs.declared.tokens.Block.{Block}
 use Rattle.gk_line.specs.declared.tokens.Block.TheVariants.{Feature, Rule, Background, Scenario, Examples}
 use Rattle.gk_line.proofs.PlaceLemmas.{skip-split}
@@ -22,8 +22,8 @@ use Rattle.gk_laws.proofs.TextParts.{after_front, skip_gap, trimmed_ends}
 use Rattle.gk_laws.proofs.Trims.{front_split, front_length, is_trimmed, trimmed_is}
 
 -- what a line reads as after its indent and a mark
-pub marked : (line mark rest : List ℕ) → after mark (body_of line) ≡ Some rest → IsMarkedLine line mark (trimmed rest) (indent_of line + 1)
-unfolding body_of indent_of
+pub marked : (line mark rest : List ℕ) → after mark (text_after_indent line) ≡ Some rest → IsMarkedLine line mark (trimmed_text rest) (indent_of line + 1)
+unfolding text_after_indent indent_of
 marked line mark rest e =
     let front = skip-split line in
     record {
@@ -45,8 +45,8 @@ black : (b : Bool) → not b ≡ true → b ≡ false
 black true h = absurd (false≢true h)
 black false h = refl
 
-read_mark : (line mark text : List ℕ) (column : ℕ) → begins_black mark ≡ true → (m : IsMarkedLine line mark text column) → (after mark (body_of line) ≡ Some m.rest) × (trimmed m.rest ≡ text) × (indent_of line + 1 ≡ column)
-unfolding body_of indent_of
+read_mark : (line mark text : List ℕ) (column : ℕ) → begins_black mark ≡ true → (m : IsMarkedLine line mark text column) → (after mark (text_after_indent line) ≡ Some m.rest) × (trimmed_text m.rest ≡ text) × (indent_of line + 1 ≡ column)
+unfolding text_after_indent indent_of
 read_mark line [] text column h m = absurd (false≢true h)
 read_mark line (c ∷ mark) text column h m =
     let plain = black (is_whitespace c) h in
@@ -140,16 +140,16 @@ abbrev pub title_key : List ℕ → List ℕ
 title_key keyword = keyword ++ codes ":"
 
 abbrev pub title_at : List ℕ → List ℕ → List ℕ → TitleText
-title_at line keyword rest = record { keyword = keyword; name = trimmed rest; column = indent_of line + 1 }
+title_at line keyword rest = record { keyword = keyword; name = trimmed_text rest; column = indent_of line + 1 }
 
-keywords_apart : (block : Block) → apart title_key (title_at []) (keywords block) ≡ true
+keywords_apart : (block : Block) → apart title_key (title_at []) (title_keywords block) ≡ true
 keywords_apart Feature = refl
 keywords_apart Rule = refl
 keywords_apart Background = refl
 keywords_apart Scenario = refl
 keywords_apart Examples = refl
 
-keywords_black : (block : Block) → list_all (λ k. begins_black (title_key k)) (keywords block) ≡ true
+keywords_black : (block : Block) → list_all (λ k. begins_black (title_key k)) (title_keywords block) ≡ true
 keywords_black Feature = refl
 keywords_black Rule = refl
 keywords_black Background = refl
@@ -163,14 +163,14 @@ pub titles_are_marked : TitlesAreMarked
 unfolding title_of
 titles_are_marked block line t = (
   (λ e.
-      let f = is_found title_key (title_at line) (body_of line) (keywords block) t e in
-      subst (λ (t : TitleText). Contains (keywords block) t.keyword × IsMarkedLine line (t.keyword ++ codes ":") t.name t.column) (sym f.4)
+      let f = is_found title_key (title_at line) (text_after_indent line) (title_keywords block) t e in
+      subst (λ (t : TitleText). Contains (title_keywords block) t.keyword × IsMarkedLine line (t.keyword ++ codes ":") t.name t.column) (sym f.4)
       (f.1, marked line (title_key f.0) f.2 f.3)),
   (λ (among, m).
-      let black_mark = each_passes (λ k. begins_black (title_key k)) (keywords block) t.keyword (keywords_black block) among in
+      let black_mark = each_passes (λ k. begins_black (title_key k)) (title_keywords block) t.keyword (keywords_black block) among in
       let read = read_mark line (title_key t.keyword) t.name t.column black_mark m in
-      finds title_key (title_at line) (body_of line) (keywords block) t.keyword m.rest (keywords_apart block) among read.0
-      ∙ ap (λ t. Some t) (same_title t.keyword (trimmed m.rest) t.name (indent_of line + 1) t.column read.1 read.2)),
+      finds title_key (title_at line) (text_after_indent line) (title_keywords block) t.keyword m.rest (keywords_apart block) among read.0
+      ∙ ap (λ t. Some t) (same_title t.keyword (trimmed_text m.rest) t.name (indent_of line + 1) t.column read.1 read.2)),
 )
 
 -- ---- steps
@@ -179,7 +179,7 @@ abbrev pub step_key : List ℕ × KeywordType → List ℕ
 step_key entry = entry.0 ++ codes " "
 
 abbrev pub step_at : List ℕ → List ℕ × KeywordType → List ℕ → StepText
-step_at line entry rest = record { keyword = step_key entry; kind = entry.1; text = trimmed rest; column = indent_of line + 1 }
+step_at line entry rest = record { keyword = step_key entry; kind = entry.1; text = trimmed_text rest; column = indent_of line + 1 }
 
 same_step : (k l n m : List ℕ) (t : KeywordType) (c d : ℕ) → k ≡ l → n ≡ m → c ≡ d → ◌≡◌ {A = StepText} (record { keyword = k; kind = t; text = n; column = c }) (record { keyword = l; kind = t; text = m; column = d })
 same_step k l n m t c d g e f =
@@ -190,14 +190,14 @@ pub steps_are_marked : StepsAreMarked
 unfolding step_of
 steps_are_marked line s = (
   (λ e.
-      let f = is_found step_key (step_at line) (body_of line) step_words s e in
+      let f = is_found step_key (step_at line) (text_after_indent line) step_words s e in
       subst (λ (s : StepText). (word : List ℕ) × Contains step_words (word, s.kind) × (s.keyword ≡ word ++ codes " ") × IsMarkedLine line s.keyword s.text s.column) (sym f.4)
       (f.0.0, f.1, refl, marked line (step_key f.0) f.2 f.3)),
   (λ (word, among, is, m).
       let black_mark : begins_black s.keyword ≡ true = ap begins_black is ∙ each_passes (λ w. begins_black (step_key w)) step_words (word, s.kind) refl among in
       let read = read_mark line s.keyword s.text s.column black_mark m in
-      finds step_key (step_at line) (body_of line) step_words (word, s.kind) m.rest refl among (ap (λ k. after k (body_of line)) (sym is) ∙ read.0)
-      ∙ ap (λ s. Some s) (same_step (word ++ codes " ") s.keyword (trimmed m.rest) s.text s.kind (indent_of line + 1) s.column (sym is) read.1 read.2)),
+      finds step_key (step_at line) (text_after_indent line) step_words (word, s.kind) m.rest refl among (ap (λ k. after k (text_after_indent line)) (sym is) ∙ read.0)
+      ∙ ap (λ s. Some s) (same_step (word ++ codes " ") s.keyword (trimmed_text m.rest) s.text s.kind (indent_of line + 1) s.column (sym is) read.1 read.2)),
 )
 
 -- ---- fences
@@ -206,7 +206,7 @@ abbrev pub fence_key : List ℕ × Fence → List ℕ
 fence_key entry = entry.0
 
 abbrev pub fence_at : List ℕ → List ℕ × Fence → List ℕ → FenceText
-fence_at line entry rest = record { fence = entry.1; media = trimmed rest; column = indent_of line + 1 }
+fence_at line entry rest = record { fence = entry.1; media = trimmed_text rest; column = indent_of line + 1 }
 
 -- each fence is listed with its characters
 pub listed : (x : List ℕ × Fence) → Contains fences x → x.0 ≡ fence_characters x.1
@@ -234,11 +234,11 @@ pub fences_are_marked : FencesAreMarked
 unfolding fence_of
 fences_are_marked line f = (
   (λ e.
-      let found = is_found fence_key (fence_at line) (body_of line) fences f e in
+      let found = is_found fence_key (fence_at line) (text_after_indent line) fences f e in
       subst (λ (f : FenceText). IsMarkedLine line (fence_characters f.fence) f.media f.column) (sym found.4)
-      (subst (λ mark. IsMarkedLine line mark (trimmed found.2) (indent_of line + 1)) (listed found.0 found.1) (marked line found.0.0 found.2 found.3))),
+      (subst (λ mark. IsMarkedLine line mark (trimmed_text found.2) (indent_of line + 1)) (listed found.0 found.1) (marked line found.0.0 found.2 found.3))),
   (λ m.
       let read = read_mark line (fence_characters f.fence) f.media f.column (fence_black f.fence) m in
-      finds fence_key (fence_at line) (body_of line) fences (fence_characters f.fence, f.fence) m.rest refl (is_listed f.fence) read.0
-      ∙ ap (λ f. Some f) (same_fence f.fence (trimmed m.rest) f.media (indent_of line + 1) f.column read.1 read.2)),
+      finds fence_key (fence_at line) (text_after_indent line) fences (fence_characters f.fence, f.fence) m.rest refl (is_listed f.fence) read.0
+      ∙ ap (λ f. Some f) (same_fence f.fence (trimmed_text m.rest) f.media (indent_of line + 1) f.column read.1 read.2)),
 )

@@ -7,7 +7,7 @@ use Rattle.std.specs.Option.{option_and_then}
 use Rattle.std.specs.Str.{skip_leading_whitespace, drop_trailing_whitespace}
 use Rattle.std.proofs.lemmas.Bool.{false≢true}
 use Rattle.std.proofs.lemmas.Grind.{common_steps}
-use Rattle.gk_line.specs.Texts.{after, body_of, trimmed}
+use Rattle.gk_line.specs.Texts.{after, text_after_indent, trimmed_text}
 use Rattle.gk_line.specs.Tokens.{is_language_word, is_word_character, language_of}
 use Rattle.gk_line.proofs.PlaceLemmas.{skip-split}
 use Rattle.gk_line.proofs.TextLemmas.{and_true, after-some}
@@ -29,15 +29,15 @@ the_word t word h = by_test (is_language_word t) refl h where
   by_test false is e = absurd (cc)
 
 -- the text is white space, a text without any at its ends, and white space
-trimmed_split : (text : List ℕ) → (gap : List ℕ) × (back : List ℕ) × (text ≡ gap ++ (trimmed text ++ back)) × IsSpace gap × IsSpace back
+trimmed_split : (text : List ℕ) → (gap : List ℕ) × (back : List ℕ) × (text ≡ gap ++ (trimmed_text text ++ back)) × IsSpace gap × IsSpace back
 trimmed_split text =
     let t = is_trimmed is_whitespace text in
     let gap = (front_split is_whitespace text).0 in
     (gap, t.back, t.parts ∙ ap (λ q. gap ++ (q ++ t.back)) (sym (trimmed_ends text)), t.spaces.0, t.spaces.1)
 
 -- white space and a mark come first in the text
-mark_split : (text mark rest : List ℕ) → after mark (body_of text) ≡ Some rest → (gap : List ℕ) × (text ≡ gap ++ (mark ++ rest)) × IsSpace gap
-unfolding body_of
+mark_split : (text mark rest : List ℕ) → after mark (text_after_indent text) ≡ Some rest → (gap : List ℕ) × (text ≡ gap ++ (mark ++ rest)) × IsSpace gap
+unfolding text_after_indent
 mark_split text mark rest e =
     let front = skip-split text in
     (front.0, front.1 ∙ ap (λ q. front.0 ++ q) (after-some mark (skip_leading_whitespace text) rest e), front.2)
@@ -52,7 +52,7 @@ has_parts line word h =
     let name = mark_split second.0 (codes "language") third.0 second.2 in
     let colon = mark_split third.0 (codes ":") last.0 third.2 in
     let end = trimmed_split last.0 in
-    let is = the_word (trimmed last.0) word last.2 in
+    let is = the_word (trimmed_text last.0) word last.2 in
     record {
       indent = first.0;
       after_mark = name.0;
@@ -71,8 +71,8 @@ has_parts line word h =
 -- ---- a line with the parts is a language line
 
 -- past white space and a mark, whose first character is none
-past_mark : (gap : List ℕ) (c : ℕ) (mark rest : List ℕ) → IsSpace gap → is_whitespace c ≡ false → after (c ∷ mark) (body_of (gap ++ ((c ∷ mark) ++ rest))) ≡ Some rest
-unfolding body_of
+past_mark : (gap : List ℕ) (c : ℕ) (mark rest : List ℕ) → IsSpace gap → is_whitespace c ≡ false → after (c ∷ mark) (text_after_indent (gap ++ ((c ∷ mark) ++ rest))) ≡ Some rest
+unfolding text_after_indent
 past_mark gap c mark rest h e = ap (after (c ∷ mark)) (skip_gap gap c (mark ++ rest) h e) ∙ after_front (c ∷ mark) rest
 
 no_space : (c : ℕ) → is_word_character c ≡ true → is_whitespace c ≡ false
@@ -90,8 +90,8 @@ drop_after_word (c ∷ word) back h e =
     let both = and_true (is_word_character c) (list_all is_word_character word) h in
     rw (no_space c both.0) (ap (λ q. c ∷ q) (drop_after_word word back both.1 e))
 
-trimmed_word : (gap word back : List ℕ) → IsSpace gap → IsSpace back → is_language_word word ≡ true → trimmed (gap ++ (word ++ back)) ≡ word
-unfolding trimmed
+trimmed_word : (gap word back : List ℕ) → IsSpace gap → IsSpace back → is_language_word word ≡ true → trimmed_text (gap ++ (word ++ back)) ≡ word
+unfolding trimmed_text
 trimmed_word gap [] back hg hb h = absurd (false≢true h)
 trimmed_word gap (c ∷ word) back hg hb h =
     let word_all = (and_true _ _ h).1 in
@@ -103,9 +103,9 @@ is_language line word l =
     let end = l.after_colon ++ (word ++ l.after_word) in
     let colon = l.after_name ++ (codes ":" ++ end) in
     let name = l.after_mark ++ (codes "language" ++ colon) in
-    let to_word = λ (rest : List ℕ). if is_language_word (trimmed rest) then Some (trimmed rest) else None in
-    let to_colon = λ (rest : List ℕ). after (codes ":") (body_of rest) in
-    let to_name = λ (rest : List ℕ). after (codes "language") (body_of rest) in
+    let to_word = λ (rest : List ℕ). if is_language_word (trimmed_text rest) then Some (trimmed_text rest) else None in
+    let to_colon = λ (rest : List ℕ). after (codes ":") (text_after_indent rest) in
+    let to_name = λ (rest : List ℕ). after (codes "language") (text_after_indent rest) in
     ap language_of l.whole
     ∙ ap (λ o. option_and_then to_word (option_and_then to_colon (option_and_then to_name o))) (past_mark l.indent 35 [] name l.spaces.0 refl)
     ∙ ap (λ o. option_and_then to_word (option_and_then to_colon o)) (past_mark l.after_mark 108 (codes "anguage") colon l.spaces.1 refl)

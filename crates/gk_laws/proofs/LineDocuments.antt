@@ -5,12 +5,12 @@ use Rattle.std.specs.Str.Lines.{lines}
 use Rattle.gk_line.specs.Lines.{lines_of, numbered_lines, without_mark}
 use Rattle.gk_grammar.specs.Documents.{lines_read}
 use Rattle.gk_laws.specs.Documents.{read_lines, TextsAreLines, OneDocumentOfLines, DocumentOrFaultOfLines, NoDocumentWithFaultOfLines, OneFaultOfLines}
-use Rattle.gk_grammar.proofs.Places.{AreLines}
+use Rattle.gk_grammar.proofs.Places.{AreNumberedFrom}
 use Rattle.gk_grammar.proofs.Reading.{numbered_are_lines}
 use Rattle.gk_grammar.proofs.Accepted.{one_doc}
 use Rattle.gk_grammar.proofs.Placed.{text_or_fault, fault_is_no_text, one_fault}
 
-pub are_lines : (texts : List (List ℕ)) → AreLines 1 (read_lines texts)
+pub are_lines : (texts : List (List ℕ)) → AreNumberedFrom 1 (read_lines texts)
 are_lines texts = numbered_are_lines 1 texts
 
 pub texts_are_lines_holds : TextsAreLines

@@ -9,8 +9,8 @@ use Rattle.gk_document.specs.declared.tree.Fence.{Fence}
 use Rattle.gk_document.specs.declared.tree.KeywordType.{KeywordType}
 use Rattle.gk_line.specs.DocStrings.{fence_characters}
 use Rattle.gk_line.specs.Tags.{TagWord, spaced_piece, tags_of, tag_pieces, is_tag}
-use Rattle.gk_line.specs.Texts.{after, body_of, trimmed}
-use Rattle.gk_line.specs.Tokens.{TitleText, StepText, FenceText, begins_by, fences, fence_of, indent_of, keywords, step_of, step_words, title_of}
+use Rattle.gk_line.specs.Texts.{after, text_after_indent, trimmed_text}
+use Rattle.gk_line.specs.Tokens.{TitleText, StepText, FenceText, begins_by, fences, fence_of, indent_of, title_keywords, step_of, step_words, title_of}
 use Rattle.gk_line.specs.declared.tokens.Block.{Block}
 use Rattle.gk_grammar.specs.Token.{Utf8, TagText, Token, Tags, Title, Step, Row, Fenced, Line, line, line_of, token_of, tag_list, tag_text, title_token, step_token, fence_token}
 use Rattle.gk_grammar.specs.Grammar.{at}
@@ -46,7 +46,7 @@ title_stands t b k m e = go (title_of b t) refl e
         → option_map (title_token b) o ≡ Some (Title b k m) → StandsIn t (indent_of t + 1) (Exactly k)
     go None is e = absurd cc
     go (Some x) is e =
-        let f = is_found title_key (title_at t) (body_of t) (keywords b) x is in
+        let f = is_found title_key (title_at t) (text_after_indent t) (title_keywords b) x is in
         let m = marked t (title_key f.0) f.2 f.3 in
         let same : encode_utf8_all x.keyword ≡ k = cc in
         record {
@@ -67,7 +67,7 @@ step_stands t k y m e = go (step_of t) refl e
         → StandsIn t (indent_of t + 1) (Exactly k)
     go None is e = absurd cc
     go (Some x) is e =
-        let f = is_found step_key (step_at t) (body_of t) step_words x is in
+        let f = is_found step_key (step_at t) (text_after_indent t) step_words x is in
         let m = marked t (step_key f.0) f.2 f.3 in
         let same : encode_utf8_all x.keyword ≡ k = cc in
         record {
@@ -94,7 +94,7 @@ fence_stands t f m e = go (fence_of t) refl e
         → StandsIn t (indent_of t + 1) (Exactly (fence_characters f))
     go None is e = absurd cc
     go (Some x) is e =
-        let found = is_found fence_key (fence_at t) (body_of t) fences x is in
+        let found = is_found fence_key (fence_at t) (text_after_indent t) fences x is in
         let m = marked t found.0.0 found.2 found.3 in
         let same : x.fence ≡ f = cc in
         let by_entry : x.fence ≡ found.0.1 = ap (λ (z : FenceText). z.fence) found.4 in
@@ -112,9 +112,9 @@ fence_stands t f m e = go (fence_of t) refl e
 row_stands : (t : List ℕ) → begins_by (codes "|") t ≡ true
     → StandsIn t (indent_of t + 1) (Exactly (codes "|"))
 unfolding begins_by lib.Utf8.encode
-row_stands t e = go (after (codes "|") (body_of t)) refl e
+row_stands t e = go (after (codes "|") (text_after_indent t)) refl e
   where
-    go : (o : Option (List ℕ)) → after (codes "|") (body_of t) ≡ o → is_some o ≡ true
+    go : (o : Option (List ℕ)) → after (codes "|") (text_after_indent t) ≡ o → is_some o ≡ true
         → StandsIn t (indent_of t + 1) (Exactly (codes "|"))
     go None is e = absurd cc
     go (Some rest) is e =
@@ -133,7 +133,7 @@ row_stands t e = go (after (codes "|") (body_of t)) refl e
 abbrev StandsAsTag : List ℕ → TagWord → Type 0
 StandsAsTag t w = StandsIn t w.column (AsTag (codes "@" ++ encode_utf8_all w.word))
 
-trimmed_piece : (p : List ℕ) → (front : List ℕ) × IsTrimmed is_whitespace p front (trimmed p)
+trimmed_piece : (p : List ℕ) → (front : List ℕ) × IsTrimmed is_whitespace p front (trimmed_text p)
 trimmed_piece p =
     let front = (front_split is_whitespace p).0 in
     (front, subst (IsTrimmed is_whitespace p front) (sym (trimmed_ends p)) (is_trimmed is_whitespace p))
@@ -149,7 +149,7 @@ words_stand t before (p ∷ ps) tail e =
     let piece = trimmed_piece p in
     let space : List ℕ = piece.0 in
     let back : List ℕ = piece.1.back in
-    let word : List ℕ = trimmed p in
+    let word : List ℕ = trimmed_text p in
     let parts : p ++ more ≡ (space ++ word) ++ (back ++ more) =
     ap (λ (z : List ℕ). z ++ more) (piece.1.parts ∙ sym (append_assoc space word back))
     ∙ append_assoc (space ++ word) back more in (

@@ -7,7 +7,7 @@ use Rattle.gk_grammar.specs.Token.{TagText, Tags, Title, Step, Row, Fenced, Line
 use Rattle.gk_grammar.specs.Tree.{Location}
 use Rattle.gk_grammar.specs.Grammar.{at, stands_before}
 use Rattle.gk_grammar.proofs.Order.{Rise, all_both, all_weaker, before_by_line}
-use Rattle.gk_grammar.proofs.Places.{AreLines, line_places}
+use Rattle.gk_grammar.proofs.Places.{AreNumberedFrom, line_places}
 use Rattle.gk_laws.specs.Documents.{read_lines}
 use Rattle.gk_laws.specs.Marks.{AsTag, Mark, StandsAt, feature_marks, ComeInOrder, PartsStandAtTheirPlaces, PartsComeInOrder}
 use Rattle.gk_laws.proofs.LineDocuments.{are_lines}
@@ -100,7 +100,7 @@ marks_on (line n t i (Row cells)) = (refl, tt)
 marks_on (line n t i (Fenced f m)) = (refl, tt)
 marks_on (line n t i _) = tt
 
-marks_from : (n : ℕ) (ls : List Line) → AreLines n ls
+marks_from : (n : ℕ) (ls : List Line) → AreNumberedFrom n ls
     → AllByRecursion (λ (x : Mark). n ≤ x.0.line) (marks_in ls)
 marks_from n [] h = tt
 marks_from n (l ∷ ls) h =
@@ -117,7 +117,7 @@ both_rise [] ys a b h = b
 both_rise (x ∷ xs) ys a b h =
     (all_both (λ (y : Mark). stands_before x.0 y.0 ≡ true) xs ys a.0 h.0, both_rise xs ys a.1 b h.1)
 
-marks_rise : (n : ℕ) (ls : List Line) → AreLines n ls → MarksRise (marks_in ls)
+marks_rise : (n : ℕ) (ls : List Line) → AreNumberedFrom n ls → MarksRise (marks_in ls)
 marks_rise n [] h = tt
 marks_rise n (l ∷ ls) h =
     both_rise (line_marks l) (marks_in ls) (line_rises l h.1) (marks_rise (n + 1) ls h.2)

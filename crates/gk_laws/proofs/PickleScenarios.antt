@@ -18,8 +18,8 @@ use Rattle.gk_document.specs.declared.tree.Document.{Document}
 use Rattle.gk_pickle.specs.declared.pickle.StepType.{StepType}
 use Rattle.gk_pickle.specs.declared.pickle.StepType.TheVariants.{Unknown}
 use Rattle.gk_pickle.specs.declared.pickle.PickleStep.{PickleStep}
-use Rattle.gk_pickle.specs.Inherited.{Inherited, Filling, unfilled}
-use Rattle.gk_pickle.specs.Steps.{own_type, last_or, type_of, keywords, filled_by, filled_step, steps_after, pickle_steps}
+use Rattle.gk_pickle.specs.Inherited.{Inherited, Filling, no_filling}
+use Rattle.gk_pickle.specs.Steps.{own_type, last_or, type_of, keyword_types, filled_by, filled_step, steps_after, pickle_steps}
 use Rattle.gk_pickle.specs.Pickles.{pickle_of, row_filling, table_pickles, examples_pickles, outline_pickles, scenario_pickles, background_steps, in_feature, in_rule, rule_pickles, pickles_in, pickles}
 use Rattle.gk_pickle.specs.Order.{rule_steps, feature_steps, document_steps, IsSubsequence}
 use Rattle.gk_pickle.proofs.Ordering.{front, same, later, through, kept, of_parts}
@@ -45,22 +45,22 @@ type_more earlier k = ap (last_or Unknown) (filter_map-append own_type earlier (
 abbrev kind_in : PickleStep → StepType
 kind_in p = p.kind
 
-kinds_of : (k : List KeywordType) (f : Filling) (ss : List Step) → map kind_in (steps_after k f ss) ≡ types_after (type_of k) (keywords ss)
+kinds_of : (k : List KeywordType) (f : Filling) (ss : List Step) → map kind_in (steps_after k f ss) ≡ types_after (type_of k) (keyword_types ss)
 kinds_of k f [] = refl
 kinds_of k f (s ∷ ss) =
     let next : List KeywordType = k ++ s.kind ∷ [] in
     ap (λ (t : StepType). t ∷ map kind_in (steps_after next f ss)) (type_more k s.kind)
     ∙ ap (λ (l : List StepType). unwrap_or (own_type s.kind) (type_of k) ∷ l)
-    (kinds_of next f ss ∙ ap (λ (t : StepType). types_after t (keywords ss)) (type_more k s.kind))
+    (kinds_of next f ss ∙ ap (λ (t : StepType). types_after t (keyword_types ss)) (type_more k s.kind))
 
-kinds_both : (k : List KeywordType) (f : Filling) (bs ss : List Step) → map kind_in (steps_after k unfilled bs ++ steps_after (k ++ keywords bs) f ss) ≡ types_after (type_of k) (keywords (bs ++ ss))
+kinds_both : (k : List KeywordType) (f : Filling) (bs ss : List Step) → map kind_in (steps_after k no_filling bs ++ steps_after (k ++ keyword_types bs) f ss) ≡ types_after (type_of k) (keyword_types (bs ++ ss))
 kinds_both k f [] ss = ap (λ (z : List KeywordType). map kind_in (steps_after z f ss)) (append-nil k) ∙ kinds_of k f ss
 kinds_both k f (b ∷ bs) ss =
     let next : List KeywordType = k ++ b.kind ∷ [] in
-    ap (λ (z : List KeywordType). type_of next ∷ map kind_in (steps_after next unfilled bs ++ steps_after z f ss)) (sym (append_assoc k (b.kind ∷ []) (keywords bs)))
-    ∙ ap (λ (t : StepType). t ∷ map kind_in (steps_after next unfilled bs ++ steps_after (next ++ keywords bs) f ss)) (type_more k b.kind)
+    ap (λ (z : List KeywordType). type_of next ∷ map kind_in (steps_after next no_filling bs ++ steps_after z f ss)) (sym (append_assoc k (b.kind ∷ []) (keyword_types bs)))
+    ∙ ap (λ (t : StepType). t ∷ map kind_in (steps_after next no_filling bs ++ steps_after (next ++ keyword_types bs) f ss)) (type_more k b.kind)
     ∙ ap (λ (l : List StepType). unwrap_or (own_type b.kind) (type_of k) ∷ l)
-    (kinds_both next f bs ss ∙ ap (λ (t : StepType). types_after t (keywords (bs ++ ss))) (type_more k b.kind))
+    (kinds_both next f bs ss ∙ ap (λ (t : StepType). types_after t (keyword_types (bs ++ ss))) (type_more k b.kind))
 
 -- ---- texts, nodes and arguments
 
@@ -71,19 +71,19 @@ module _ {A : Type 0} (g : PickleStep → A) where
       let next : List KeywordType = k ++ s.kind ∷ [] in
       ap (λ (x : A). x ∷ map g (steps_after next f ss)) (same (type_of next) s) ∙ ap (λ (l : List A). h s ∷ l) (each_made f h same next ss)
 
-  both_made : (f : Filling) (h : Step → A) (other : Step → A) → ((t : StepType) (s : Step) → g (filled_step unfilled t s) ≡ other s) → ((t : StepType) (s : Step) → g (filled_step f t s) ≡ h s)
-      → (k : List KeywordType) (bs ss : List Step) → map g (steps_after [] unfilled bs ++ steps_after k f ss) ≡ map other bs ++ map h ss
+  both_made : (f : Filling) (h : Step → A) (other : Step → A) → ((t : StepType) (s : Step) → g (filled_step no_filling t s) ≡ other s) → ((t : StepType) (s : Step) → g (filled_step f t s) ≡ h s)
+      → (k : List KeywordType) (bs ss : List Step) → map g (steps_after [] no_filling bs ++ steps_after k f ss) ≡ map other bs ++ map h ss
   both_made f h other first second k bs ss =
-      map-append g (steps_after [] unfilled bs) (steps_after k f ss)
-      ∙ ap (λ (l : List A). l ++ map g (steps_after k f ss)) (each_made unfilled other first [] bs)
+      map-append g (steps_after [] no_filling bs) (steps_after k f ss)
+      ∙ ap (λ (l : List A). l ++ map g (steps_after k f ss)) (each_made no_filling other first [] bs)
       ∙ ap (λ (l : List A). map other bs ++ l) (each_made f h second k ss)
 
-made : (bs own : List Step) (f : Filling) → AreMadeOf bs own f (steps_after [] unfilled bs ++ steps_after (keywords bs) f own)
+made : (bs own : List Step) (f : Filling) → AreMadeOf bs own f (steps_after [] no_filling bs ++ steps_after (keyword_types bs) f own)
 made bs own f = record {
-  texts = both_made (λ p. p.text) f (λ s. filled_by f s.text) (λ s. s.text) (λ t s. refl) (λ t s. refl) (keywords bs) bs own;
+  texts = both_made (λ p. p.text) f (λ s. filled_by f s.text) (λ s. s.text) (λ t s. refl) (λ t s. refl) (keyword_types bs) bs own;
   kinds = kinds_both [] f bs own;
-  nodes = both_made (λ p. p.nodes) f (λ s. s.node ∷ f.rows) (λ s. s.node ∷ []) (λ t s. refl) (λ t s. refl) (keywords bs) bs own;
-  arguments = both_made (λ p. p.argument) f (argument_by f) (argument_by unfilled) (λ t s. refl) (λ t s. refl) (keywords bs) bs own;
+  nodes = both_made (λ p. p.nodes) f (λ s. s.node ∷ f.rows) (λ s. s.node ∷ []) (λ t s. refl) (λ t s. refl) (keyword_types bs) bs own;
+  arguments = both_made (λ p. p.argument) f (argument_by f) (argument_by no_filling) (λ t s. refl) (λ t s. refl) (keyword_types bs) bs own;
 }
 
 steps_made : (bs own : List Step) (f : Filling) → AreStepsOf bs own f (pickle_steps bs f own)
@@ -175,7 +175,7 @@ module _ (d : Document) (f : Feature) (is : d.feature ≡ Some f) where
       (λ row k. of_pickle inherited s e.tags (row_filling table.header row) h (inr (e, table, row, c, same, k, refl, refl))))
 
   of_outline : (inherited : Inherited) (s : Scenario) (blocks : List Examples) → IsScenarioOf f inherited.tags inherited.steps s → s.examples ≡ blocks → AllByRecursion (IsOfScenario d) (outline_pickles inherited s blocks)
-  of_outline inherited s [] h same = (of_pickle inherited s [] unfilled h (inl (same, refl, refl)), tt)
+  of_outline inherited s [] h same = (of_pickle inherited s [] no_filling h (inl (same, refl, refl)), tt)
   of_outline inherited s (e ∷ es) h same =
       of_each_flat_map (IsOfScenario d) (examples_pickles inherited s) (e ∷ es)
       (all_elements (λ (b : Examples). AllByRecursion (IsOfScenario d) (examples_pickles inherited s b)) (e ∷ es)

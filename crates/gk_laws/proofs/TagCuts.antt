@@ -7,7 +7,7 @@ use Rattle.std.proofs.Math.Seq.{take-append_seam}
 use Rattle.std.proofs.lemmas.Bool.{eqb-true, false≢true}
 use Rattle.gk_line.specs.Cells.{without_first}
 use Rattle.gk_line.specs.Characters.{at_sign, number_sign}
-use Rattle.gk_line.specs.Tags.{TagWord, piece_at, pieces_from, tag_pieces, uncommented}
+use Rattle.gk_line.specs.Tags.{TagWord, piece_at, pieces_from, tag_pieces, uncommented_line}
 use Rattle.gk_line.specs.Texts.{after}
 use Rattle.gk_line.proofs.TagLemmas.{pieces-cut, pieces-none, test_cases}
 use Rattle.gk_line.proofs.TextLemmas.{and_true, after-some}
@@ -32,11 +32,11 @@ begins_not c cs h (d, more, is, space) =
     let test : begins_comment c cs ≡ true = ap (begins_comment c) later ∙ ap (λ b. b && true) (ap is_whitespace first ∙ space) in
     false≢true (sym h ∙ test)
 
-is_uncommented : (line : List ℕ) → IsUncommented line (uncommented line)
-unfolding uncommented
+is_uncommented : (line : List ℕ) → IsUncommented line (uncommented_line line)
+unfolding uncommented_line
 is_uncommented [] = record { comment = []; whole = refl; is_comment = inl refl; first = λ before after e b. omega arith }
 is_uncommented (c ∷ cs) = by_test (begins_comment c cs) refl (is_uncommented cs) where
-  by_test : (b : Bool) → begins_comment c cs ≡ b → IsUncommented cs (uncommented cs) → IsUncommented (c ∷ cs) (if b then [] else c ∷ uncommented cs)
+  by_test : (b : Bool) → begins_comment c cs ≡ b → IsUncommented cs (uncommented_line cs) → IsUncommented (c ∷ cs) (if b then [] else c ∷ uncommented_line cs)
   by_test true e later = record { comment = c ∷ cs; whole = refl; is_comment = inr (begins c cs e); first = λ before after is b. omega arith }
   by_test false e later = record {
     comment = later.comment;
@@ -44,7 +44,7 @@ is_uncommented (c ∷ cs) = by_test (begins_comment c cs) refl (is_uncommented c
     is_comment = later.is_comment;
     first = first;
   } where
-    first : (before after : List ℕ) → c ∷ cs ≡ before ++ after → BeginsComment after → length (c ∷ uncommented cs) ≤ length before
+    first : (before after : List ℕ) → c ∷ cs ≡ before ++ after → BeginsComment after → length (c ∷ uncommented_line cs) ≤ length before
     first [] after is b = absurd (begins_not c cs e (subst BeginsComment (sym is) b))
     first (d ∷ before) after is b =
         let rest : cs ≡ before ++ after = cc in
@@ -66,9 +66,9 @@ comments_are_cut line kept = (
   (λ e. subst (IsUncommented line) e (is_uncommented line)),
   (λ u.
       let own = is_uncommented line in
-      let most = no_longer line (uncommented line) kept own u in
-      let least = no_longer line kept (uncommented line) u own in
-      same_front line (uncommented line) kept own.comment u.comment own.whole u.whole (omega arith)),
+      let most = no_longer line (uncommented_line line) kept own u in
+      let least = no_longer line kept (uncommented_line line) u own in
+      same_front line (uncommented_line line) kept own.comment u.comment own.whole u.whole (omega arith)),
 )
 
 -- ---- the pieces
@@ -121,7 +121,7 @@ words_after_at before (piece ∷ pieces) =
     let next : length (before ++ after_mark piece) + 1 ≡ length before + 1 + length piece + 1 = omega (arith, length-append before (after_mark piece)) in
     ap (λ q. piece_at (length before + 1) piece ∷ q) (words_after_at (before ++ after_mark piece) pieces ∙ ap (λ n. words_at n pieces) next)
 
-words_cut : (line kept before : List ℕ) (pieces : List (List ℕ)) → uncommented line ≡ kept → IsTagged kept before pieces → tag_pieces line ≡ words_after before pieces
+words_cut : (line kept before : List ℕ) (pieces : List (List ℕ)) → uncommented_line line ≡ kept → IsTagged kept before pieces → tag_pieces line ≡ words_after before pieces
 unfolding tag_pieces
 words_cut line kept before pieces is t =
     let start : 0 + length before + 1 ≡ length before + 1 = omega arith in
@@ -132,7 +132,7 @@ words_cut line kept before pieces is t =
 pub pieces_are_cut : PiecesAreCut
 pieces_are_cut line words = (
   (λ e.
-      let cut = has_pieces (uncommented line) in
-      (uncommented line, cut.0, cut.1, is_uncommented line, cut.2, sym e ∙ words_cut line (uncommented line) cut.0 cut.1 refl cut.2)),
+      let cut = has_pieces (uncommented_line line) in
+      (uncommented_line line, cut.0, cut.1, is_uncommented line, cut.2, sym e ∙ words_cut line (uncommented_line line) cut.0 cut.1 refl cut.2)),
   (λ (kept, before, pieces, u, t, is). words_cut line kept before pieces ((comments_are_cut line kept).1 u) t ∙ sym is),
 )

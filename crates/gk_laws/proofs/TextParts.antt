@@ -4,7 +4,7 @@ use Rattle.std.specs.Prelude.{◌==◌, ◌&&◌}
 use Rattle.std.specs.Char.{is_whitespace}
 use Rattle.std.specs.Str.{skip_leading_whitespace, drop_trailing_whitespace}
 use Rattle.std.proofs.lemmas.Grind.{common_steps}
-use Rattle.gk_line.specs.Texts.{after, trimmed}
+use Rattle.gk_line.specs.Texts.{after, trimmed_text}
 use Rattle.gk_line.proofs.TextLemmas.{and_true}
 use Rattle.gk_laws.specs.Trimming.{IsSpace}
 use Rattle.gk_laws.proofs.Trims.{skip, drop_end}
@@ -29,6 +29,6 @@ dropped : (text : List ℕ) → drop_trailing_whitespace text ≡ drop_end is_wh
 dropped [] = refl
 dropped (c ∷ cs) = ap (λ q. cond (is_whitespace c && length q == 0) [] (c ∷ q)) (dropped cs)
 
-pub trimmed_ends : (text : List ℕ) → trimmed text ≡ drop_end is_whitespace (skip is_whitespace text)
-unfolding trimmed
+pub trimmed_ends : (text : List ℕ) → trimmed_text text ≡ drop_end is_whitespace (skip is_whitespace text)
+unfolding trimmed_text
 trimmed_ends text = dropped (skip_leading_whitespace text) ∙ ap (drop_end is_whitespace) (skipped text)

@@ -13,7 +13,7 @@ use Rattle.gk_line.specs.declared.tokens.Block.TheVariants as block
 use Rattle.gk_line.proofs.KindLemmas.{kinds_exclude, language_is_comment}
 use Rattle.gk_grammar.specs.Token.{Token, token_of, comment_token, tag_list, cell, title_token, step_token, fence_token, word_token, token_or_other}
 use Rattle.gk_grammar.specs.Token.Token.{Blank, Comment, Language, Tags, Title, Step, Row, Fenced, Other}
-use Rattle.gk_laws.specs.TokenKinds.{kind_of, ReadsAs, TokensAreOfKinds, OthersAreOfNone, TokensAreRead}
+use Rattle.gk_laws.specs.TokenKinds.{token_kind, ReadsAs, TokensAreOfKinds, OthersAreOfNone, TokensAreRead}
 
 -- ---- a line reads as its token
 
@@ -99,7 +99,7 @@ mapped : {A B : Type 0} (g : A → B) (o : Option A) (y : B) → option_map g o 
 mapped g None y e = absurd (cc)
 mapped g (Some x) y e = refl
 
-found : (line : List ℕ) (token : Token) → ReadsAs line token → IsFound line token (kind_of token)
+found : (line : List ℕ) (token : Token) → ReadsAs line token → IsFound line token (token_kind token)
 found line Blank h = (h, refl)
 found line Comment h = (h.0, ap (λ o. Some (comment_token o)) h.1)
 found line (Language word) h = (language_is_comment line (mapped encode_utf8_all (language_of line) word h), by_language (language_of line) h) where
@@ -124,14 +124,14 @@ same_kind line s t (Some k) (Some l) a b =
 pub tokens_are_read : TokensAreRead
 tokens_are_read line token = (
   (λ e. subst (ReadsAs line) e (reads line)),
-  (λ h. same_kind line (token_of line) token (kind_of (token_of line)) (kind_of token) (found line (token_of line) (reads line)) (found line token h)),
+  (λ h. same_kind line (token_of line) token (token_kind (token_of line)) (token_kind token) (found line (token_of line) (reads line)) (found line token h)),
 )
 
 pub others_are_of_none : OthersAreOfNone
 others_are_of_none line = tokens_are_read line Other
 
 pub tokens_are_of_kinds : TokensAreOfKinds
-tokens_are_of_kinds line k = by_kind (kind_of (token_of line)) (found line (token_of line) (reads line)) where
+tokens_are_of_kinds line k = by_kind (token_kind (token_of line)) (found line (token_of line) (reads line)) where
   by_kind : (o : Option Kind) → IsFound line (token_of line) o → (o ≡ Some k) ↔ (is_of_kind k line ≡ true)
   by_kind None f = ((λ e. absurd (cc)), (λ h. absurd (false≢true (sym (f.1 k) ∙ h))))
   by_kind (Some l) f = (

@@ -1,9 +1,9 @@
 -- A line inside a doc string as escaped fences cut it.
 use Rattle.std.specs.Prelude.{◌≡◌, ◌≤◌, ◌⊎◌, ◌↔◌, ℕ, List, ◌++◌, length}
 use Rattle.gk_document.specs.declared.tree.Fence.{Fence}
-use Rattle.gk_line.specs.DocStrings.{doc_line_of, escaped_mark, fence_characters, fence_mark, fences_unescaped, outdented}
+use Rattle.gk_line.specs.DocStrings.{doc_line_of, escaped_mark, fence_characters, fence_mark, fences_unescaped, outdented_line}
 use Rattle.gk_line.specs.Tokens.{indent_of}
-use Rattle.gk_pickle.specs.Cut.{IsCut, joined}
+use Rattle.gk_pickle.specs.Cut.{IsCut, joined_parts}
 use Rattle.gk_laws.specs.Trimming.{IsSpace}
 
 -- the fence with a backslash before each character
@@ -16,7 +16,7 @@ pub record IsUnescaped (fence : Fence) (text said : List ℕ) : Type 0 where
   pub part : List ℕ
   pub others : List (List ℕ)
   pub is_cut : IsCut (escaped_fence fence) text part others
-  pub is_joined : said ≡ joined (fence_characters fence) part others
+  pub is_joined : said ≡ joined_parts (fence_characters fence) part others
 
 -- the line has lost white space at its start: as much as the indent, or all where that is less
 pub record IsOutdented (indent : ℕ) (line kept : List ℕ) : Type 0 where
@@ -36,7 +36,7 @@ FencesCutTexts =
 abbrev pub IndentIsLost : Type 0
 IndentIsLost =
     (indent : ℕ) (line kept : List ℕ)
-    → (outdented indent line ≡ kept) ↔ IsOutdented indent line kept
+    → (outdented_line indent line ≡ kept) ↔ IsOutdented indent line kept
 
 -- a line of a doc string says what is left of it without the indent, with its fences unescaped
 abbrev pub DocLinesAreRead : Type 0

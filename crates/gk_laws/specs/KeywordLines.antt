@@ -3,7 +3,7 @@ use Rattle.std.specs.Prelude.{◌≡◌, ◌+◌, ◌↔◌, ℕ, List, ◌++◌
 use Rattle.std.specs.Char.{is_whitespace}
 use Rattle.std.specs.List.{Contains}
 use Rattle.gk_line.specs.DocStrings.{fence_characters}
-use Rattle.gk_line.specs.Tokens.{TitleText, StepText, FenceText, fence_of, keywords, step_of, step_words, title_of}
+use Rattle.gk_line.specs.Tokens.{TitleText, StepText, FenceText, fence_of, title_keywords, step_of, step_words, title_of}
 use Rattle.gk_line.specs.declared.tokens.Block.{Block}
 use Rattle.gk_laws.specs.Trimming.{IsSpace, IsTrimmed}
 
@@ -22,7 +22,7 @@ pub record IsMarkedLine (line mark text : List ℕ) (column : ℕ) : Type 0 wher
 abbrev pub TitlesAreMarked : Type 0
 TitlesAreMarked =
     (block : Block) (line : List ℕ) (t : TitleText) → (title_of block line ≡ Some t)
-    ↔ (Contains (keywords block) t.keyword
+    ↔ (Contains (title_keywords block) t.keyword
     × IsMarkedLine line (t.keyword ++ codes ":") t.name t.column)
 
 -- a line reads as a step exactly where it is an indent, one of the words of steps and a space, and

@@ -16,8 +16,8 @@ use Rattle.gk_pickle.specs.declared.pickle.StepType.TheVariants.{Unknown}
 use Rattle.gk_pickle.specs.declared.pickle.PickleArgument.{PickleArgument}
 use Rattle.gk_pickle.specs.declared.pickle.PickleStep.{PickleStep}
 use Rattle.gk_pickle.specs.declared.pickle.Pickle.{Pickle}
-use Rattle.gk_pickle.specs.Inherited.{Filling, unfilled}
-use Rattle.gk_pickle.specs.Steps.{own_type, keywords, filled_by, filled_argument}
+use Rattle.gk_pickle.specs.Inherited.{Filling, no_filling}
+use Rattle.gk_pickle.specs.Steps.{own_type, keyword_types, filled_by, filled_argument}
 use Rattle.gk_pickle.specs.Pickles.{background_steps, pickle_tag, row_filling, pickles}
 use Rattle.gk_pickle.specs.InFeature.{ScenarioInFeature}
 use Rattle.gk_pickle.specs.Scenarios.{scenarios_of}
@@ -37,7 +37,7 @@ IsScenarioOf f inherited background s =
 -- header of one of its tables, and the tags of that examples block.
 abbrev pub IsFillingOf : Scenario → (added : List Tag) → Filling → Type 0
 IsFillingOf s added f =
-    ((s.examples ≡ []) × (added ≡ []) × (f ≡ unfilled))
+    ((s.examples ≡ []) × (added ≡ []) × (f ≡ no_filling))
     ⊎ ((e : Examples) × (table : ExampleTable) × (row : Row) × Contains s.examples e
     × (e.table ≡ Some table) × Contains table.body row × (added ≡ e.tags)
     × (f ≡ row_filling table.header row))
@@ -60,11 +60,11 @@ pub record AreMadeOf (background own : List Step) (f : Filling) (made : List Pic
     : Type 0 where
   pub texts : map (λ p. p.text) made
       ≡ map (λ s. s.text) background ++ map (λ s. filled_by f s.text) own
-  pub kinds : map (λ p. p.kind) made ≡ types_after Unknown (keywords (background ++ own))
+  pub kinds : map (λ p. p.kind) made ≡ types_after Unknown (keyword_types (background ++ own))
   pub nodes : map (λ p. p.nodes) made
       ≡ map (λ s. s.node ∷ []) background ++ map (λ s. s.node ∷ f.rows) own
   pub arguments : map (λ p. p.argument) made
-      ≡ map (argument_by unfilled) background ++ map (argument_by f) own
+      ≡ map (argument_by no_filling) background ++ map (argument_by f) own
 
 -- a scenario without steps of its own gives none
 abbrev pub AreStepsOf : (background own : List Step) → Filling → List PickleStep → Type 0

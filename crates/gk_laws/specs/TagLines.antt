@@ -4,7 +4,7 @@ use Rattle.std.specs.Char.{is_whitespace}
 use Rattle.std.specs.List.{AllByRecursion, flat_map}
 use Rattle.std.specs.Str.{NonePass}
 use Rattle.gk_line.specs.Characters.{at_sign, number_sign}
-use Rattle.gk_line.specs.Tags.{TagWord, piece_at, tag_pieces, uncommented}
+use Rattle.gk_line.specs.Tags.{TagWord, piece_at, tag_pieces, uncommented_line}
 
 -- white space that `#` follows at once, and any text
 abbrev pub BeginsComment : List ℕ → Type 0
@@ -40,7 +40,7 @@ words_after before (piece ∷ pieces) =
 
 -- a line without its comment is the one text that this holds of
 abbrev pub CommentsAreCut : Type 0
-CommentsAreCut = (line kept : List ℕ) → (uncommented line ≡ kept) ↔ IsUncommented line kept
+CommentsAreCut = (line kept : List ℕ) → (uncommented_line line ≡ kept) ↔ IsUncommented line kept
 
 -- the pieces of a line are what `@` cuts of it without its comment
 abbrev pub PiecesAreCut : Type 0

@@ -10,16 +10,16 @@ use Rattle.gk_grammar.specs.Token.{Token, token_of, tag_list, cell, title_token,
 use Rattle.gk_grammar.specs.Token.Token.{Blank, Comment, Language, Tags, Title, Step, Row, Fenced, Other}
 
 -- the kind of the lines that a token is read from; text is of none
-abbrev pub kind_of : Token → Option Kind
-kind_of Blank = Some Kind.Blank
-kind_of Comment = Some Kind.Comment
-kind_of (Language word) = Some Kind.Comment
-kind_of (Tags tags) = Some Kind.TagLine
-kind_of (Title block keyword name) = Some (Kind.TitleLine block)
-kind_of (Step keyword type text) = Some Kind.Step
-kind_of (Row cells) = Some Kind.Row
-kind_of (Fenced fence media) = Some Kind.DocStringFence
-kind_of Other = None
+abbrev pub token_kind : Token → Option Kind
+token_kind Blank = Some Kind.Blank
+token_kind Comment = Some Kind.Comment
+token_kind (Language word) = Some Kind.Comment
+token_kind (Tags tags) = Some Kind.TagLine
+token_kind (Title block keyword name) = Some (Kind.TitleLine block)
+token_kind (Step keyword type text) = Some Kind.Step
+token_kind (Row cells) = Some Kind.Row
+token_kind (Fenced fence media) = Some Kind.DocStringFence
+token_kind Other = None
 
 -- the line reads as the token, whatever else it may read as
 abbrev pub ReadsAs : List ℕ → Token → Type 0
@@ -40,7 +40,7 @@ ReadsAs line Other = (k : Kind) → is_of_kind k line ≡ false
 -- a line's token is of a kind exactly where the line is of that kind
 abbrev pub TokensAreOfKinds : Type 0
 TokensAreOfKinds =
-    (line : List ℕ) (k : Kind) → (kind_of (token_of line) ≡ Some k) ↔ (is_of_kind k line ≡ true)
+    (line : List ℕ) (k : Kind) → (token_kind (token_of line) ≡ Some k) ↔ (is_of_kind k line ≡ true)
 
 -- and text exactly where it is of no kind
 abbrev pub OthersAreOfNone : Type 0

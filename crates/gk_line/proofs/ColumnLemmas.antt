@@ -8,9 +8,9 @@ use Rattle.std.proofs.lemmas.List.{append_assoc}
 use Rattle.std.proofs.lemmas.List.Splits.{length-slice_split}
 use Rattle.std.proofs.lemmas.Bool.{eqb-true, false≢true}
 use Rattle.gk_line.specs.Characters.{at_sign, vertical_bar}
-use Rattle.gk_line.specs.Texts.{after, trimmed}
+use Rattle.gk_line.specs.Texts.{after, trimmed_text}
 use Rattle.gk_line.specs.Cells.{CellUnit, CellText, units, width, widths, is_bar, is_space, cells_from, cells_of, without_first}
-use Rattle.gk_line.specs.Tags.{uncommented, pieces_from, tag_pieces, tags_of, is_tag}
+use Rattle.gk_line.specs.Tags.{uncommented_line, pieces_from, tag_pieces, tags_of, is_tag}
 use Rattle.gk_line.specs.Places.{IsAtColumn, RiseWithin}
 use Rattle.gk_line.specs.Columns.{TagColumnsRise, CellColumnsRise}
 use Rattle.gk_line.specs.Views.{tag_word}
@@ -41,8 +41,8 @@ pieces-placed line front back [] e = tt
 pieces-placed line front back (piece ∷ pieces) e =
     let text = trimmed-split piece in
     let rest = joined at_sign pieces ++ back in
-    let inner : (piece ++ joined at_sign pieces) ++ back ≡ text.0 ++ (trimmed piece ++ (text.1 ++ rest)) =
-    append_assoc piece (joined at_sign pieces) back ∙ ap (λ q. q ++ rest) text.2 ∙ append_assoc text.0 (trimmed piece ++ text.1) rest ∙ ap (λ q. text.0 ++ q) (append_assoc (trimmed piece) text.1 rest) in
+    let inner : (piece ++ joined at_sign pieces) ++ back ≡ text.0 ++ (trimmed_text piece ++ (text.1 ++ rest)) =
+    append_assoc piece (joined at_sign pieces) back ∙ ap (λ q. q ++ rest) text.2 ∙ append_assoc text.0 (trimmed_text piece ++ text.1) rest ∙ ap (λ q. text.0 ++ q) (append_assoc (trimmed_text piece) text.1 rest) in
     let next : line ≡ (front ++ at_sign ∷ piece) ++ rest =
     e ∙ ap (λ q. front ++ at_sign ∷ q) (append_assoc piece (joined at_sign pieces) back) ∙ sym (append_assoc front (at_sign ∷ piece) rest) in
     let column : length (front ++ at_sign ∷ piece) + 1 ≡ length front + 1 + length piece + 1 = omega (arith, length-append front (at_sign ∷ piece)) in (
@@ -57,20 +57,20 @@ pieces-placed line front back (piece ∷ pieces) e =
       subst (λ n. AllByRecursion (λ tag. IsAtColumn line (codes "@") tag.word tag.column) (pieces_from n pieces)) column (pieces-placed line (front ++ at_sign ∷ piece) back pieces next),
     )
 
-uncommented-split : (line : List ℕ) → (back : List ℕ) × (line ≡ uncommented line ++ back)
-unfolding uncommented
+uncommented-split : (line : List ℕ) → (back : List ℕ) × (line ≡ uncommented_line line ++ back)
+unfolding uncommented_line
 uncommented-split [] = ([], refl)
 uncommented-split (c ∷ cs) =
     test_cases (is_whitespace c && is_some (after (codes "#") cs))
-    (λ e. (c ∷ cs, ap (λ b. cond b [] (c ∷ uncommented cs) ++ (c ∷ cs)) (sym e)))
+    (λ e. (c ∷ cs, ap (λ b. cond b [] (c ∷ uncommented_line cs) ++ (c ∷ cs)) (sym e)))
     (λ e. let more = uncommented-split cs in
-    (more.0, ap (λ q. c ∷ q) more.1 ∙ ap (λ b. cond b [] (c ∷ uncommented cs) ++ more.0) (sym e)))
+    (more.0, ap (λ q. c ∷ q) more.1 ∙ ap (λ b. cond b [] (c ∷ uncommented_line cs) ++ more.0) (sym e)))
 
 -- the pieces of a tag line, cut
 tag_pieces-cut : (line : List ℕ) → (front : List ℕ) × (pieces : List (List ℕ)) × (back : List ℕ) × (tag_pieces line ≡ pieces_from (length front + 1) pieces) × (line ≡ front ++ (joined at_sign pieces ++ back))
 unfolding tag_pieces
 tag_pieces-cut line =
-    let cut = split-joined at_sign (uncommented line) in
+    let cut = split-joined at_sign (uncommented_line line) in
     let whole = uncommented-split line in (
       cut.0,
       cut.1,

@@ -9,7 +9,7 @@ use Rattle.std.proofs.lemmas.List.{append_assoc, append-nil}
 use Rattle.std.proofs.lemmas.Bool.{eqb-true}
 use Rattle.gk_line.specs.Characters.{line_feed, carriage_return}
 use Rattle.gk_line.specs.Lines.{without_mark, lines_of, numbered_lines}
-use Rattle.gk_line.specs.LineEnds.{LineEnd, written, EndsFit, AreLines, line_texts, LinesAreCut, CutIsOne}
+use Rattle.gk_line.specs.LineEnds.{LineEnd, joined_lines, EndsFit, AreLines, line_texts, LinesAreCut, CutIsOne}
 use Rattle.gk_line.specs.LineEnds.LineEnd.{EndOfText, LineFeed, ReturnAndFeed}
 use Rattle.gk_line.proofs.LineLemmas.{lines-first, lines-last, stripped-append, stripped-other}
 use Rattle.gk_line.proofs.TagLemmas.{test_cases}
@@ -23,17 +23,17 @@ none-append [] back h k = k
 none-append (c ∷ front) back h k = (h.0, none-append front back h.1 k)
 
 -- the lines that are written are the lines of the text
-lines-written : (cuts : List (List ℕ × LineEnd)) → AllByRecursion (λ cut. NonePass (λ c. c == line_feed) cut.0) cuts → EndsFit cuts → lines (written cuts) ≡ line_texts cuts
+lines-written : (cuts : List (List ℕ × LineEnd)) → AllByRecursion (λ cut. NonePass (λ c. c == line_feed) cut.0) cuts → EndsFit cuts → lines (joined_lines cuts) ≡ line_texts cuts
 lines-written [] none fit = refl
 lines-written ((line, EndOfText) ∷ rest) none fit =
-    let text : written ((line, EndOfText) ∷ rest) ≡ line = ap (λ q. line ++ written q) fit.0.1 ∙ append-nil line in
+    let text : joined_lines ((line, EndOfText) ∷ rest) ≡ line = ap (λ q. line ++ joined_lines q) fit.0.1 ∙ append-nil line in
     ap lines text ∙ lines-last line (nonempty line fit.0.0) none.0 ∙ ap (λ q. line ∷ line_texts q) (sym fit.0.1)
 lines-written ((line, LineFeed) ∷ rest) none fit =
-    lines-first line (written rest) none.0 ∙ ap (λ q. q ∷ lines (written rest)) (stripped-other line fit.0) ∙ ap (λ q. line ∷ q) (lines-written rest none.1 fit.1)
+    lines-first line (joined_lines rest) none.0 ∙ ap (λ q. q ∷ lines (joined_lines rest)) (stripped-other line fit.0) ∙ ap (λ q. line ∷ q) (lines-written rest none.1 fit.1)
 lines-written ((line, ReturnAndFeed) ∷ rest) none fit =
-    let text : written ((line, ReturnAndFeed) ∷ rest) ≡ (line ++ carriage_return ∷ []) ++ line_feed ∷ written rest = sym (append_assoc line (carriage_return ∷ []) (line_feed ∷ written rest)) in
-    ap lines text ∙ lines-first (line ++ carriage_return ∷ []) (written rest) (none-append line (carriage_return ∷ []) none.0 (refl, tt))
-    ∙ ap (λ q. q ∷ lines (written rest)) (stripped-append line) ∙ ap (λ q. line ∷ q) (lines-written rest none.1 fit.1)
+    let text : joined_lines ((line, ReturnAndFeed) ∷ rest) ≡ (line ++ carriage_return ∷ []) ++ line_feed ∷ joined_lines rest = sym (append_assoc line (carriage_return ∷ []) (line_feed ∷ joined_lines rest)) in
+    ap lines text ∙ lines-first (line ++ carriage_return ∷ []) (joined_lines rest) (none-append line (carriage_return ∷ []) none.0 (refl, tt))
+    ∙ ap (λ q. q ∷ lines (joined_lines rest)) (stripped-append line) ∙ ap (λ q. line ∷ q) (lines-written rest none.1 fit.1)
 
 pub cut_is_one : CutIsOne
 unfolding lines_of numbered_lines

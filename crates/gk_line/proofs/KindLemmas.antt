@@ -6,8 +6,8 @@ use Rattle.std.specs.List.{list_all, list_any, AllByRecursion}
 use Rattle.std.specs.Option.{option_map, option_and_then}
 use Rattle.std.specs.Str.{skip_leading_whitespace}
 use Rattle.std.proofs.lemmas.Bool.{eqb-true, eq-eqb, false≢true}
-use Rattle.gk_line.specs.Texts.{after, body_of, first_some, or_else}
-use Rattle.gk_line.specs.Tokens.{keywords, step_words, fences, begins_by, is_blank_line, title_of, step_of, fence_of, language_of}
+use Rattle.gk_line.specs.Texts.{after, text_after_indent, first_some, or_else}
+use Rattle.gk_line.specs.Tokens.{title_keywords, step_words, fences, begins_by, is_blank_line, title_of, step_of, fence_of, language_of}
 use Rattle.gk_line.specs.Kinds.{Kind, is_of_kind, KindsExclude, LanguageIsComment}
 use Rattle.gk_line.specs.Kinds.Kind.{Blank, Comment, TagLine, Row, TitleLine, Step, DocStringFence}
 use Rattle.gk_line.specs.declared.tokens.Block.TheVariants.{Feature, Rule, Background, Scenario, Examples}
@@ -20,7 +20,7 @@ fronts Blank = []
 fronts Comment = codes "#" ∷ []
 fronts TagLine = codes "@" ∷ []
 fronts Row = codes "|" ∷ []
-fronts (TitleLine block) = map (λ k. k ++ codes ":") (keywords block)
+fronts (TitleLine block) = map (λ k. k ++ codes ":") (title_keywords block)
 fronts Step = map (λ w. w.0 ++ codes " ") step_words
 fronts DocStringFence = map (λ w. w.0) fences
 
@@ -156,15 +156,15 @@ blank_body [] h = refl
 blank_body (c ∷ cs) h = ap (λ b. cond b (skip_leading_whitespace cs) (c ∷ cs)) (and_left _ _ h) ∙ blank_body cs (and_right _ _ h)
 
 -- a line of a kind that isn't blank begins with a front of that kind
-kind_begins : (k : Kind) (line : List ℕ) → is_of_kind k line ≡ true → (k ≡ Blank) ⊎ (begins (fronts k) (body_of line) ≡ true)
+kind_begins : (k : Kind) (line : List ℕ) → is_of_kind k line ≡ true → (k ≡ Blank) ⊎ (begins (fronts k) (text_after_indent line) ≡ true)
 unfolding begins_by title_of step_of fence_of
 kind_begins Blank line h = inl refl
-kind_begins Comment line h = inr (sym (one_front (codes "#") (body_of line)) ∙ h)
-kind_begins TagLine line h = inr (sym (one_front (codes "@") (body_of line)) ∙ h)
-kind_begins Row line h = inr (sym (one_front (codes "|") (body_of line)) ∙ h)
-kind_begins (TitleLine block) line h = inr (sym (first_some-begins (λ k. k ++ codes ":") _ (body_of line) (keywords block)) ∙ h)
-kind_begins Step line h = inr (sym (first_some-begins (λ w. w.0 ++ codes " ") _ (body_of line) step_words) ∙ h)
-kind_begins DocStringFence line h = inr (sym (first_some-begins (λ w. w.0) _ (body_of line) fences) ∙ h)
+kind_begins Comment line h = inr (sym (one_front (codes "#") (text_after_indent line)) ∙ h)
+kind_begins TagLine line h = inr (sym (one_front (codes "@") (text_after_indent line)) ∙ h)
+kind_begins Row line h = inr (sym (one_front (codes "|") (text_after_indent line)) ∙ h)
+kind_begins (TitleLine block) line h = inr (sym (first_some-begins (λ k. k ++ codes ":") _ (text_after_indent line) (title_keywords block)) ∙ h)
+kind_begins Step line h = inr (sym (first_some-begins (λ w. w.0 ++ codes " ") _ (text_after_indent line) step_words) ∙ h)
+kind_begins DocStringFence line h = inr (sym (first_some-begins (λ w. w.0) _ (text_after_indent line) fences) ∙ h)
 
 -- no front is in an empty text
 nothing_begins : (k : Kind) → begins (fronts k) [] ≡ false
@@ -182,7 +182,7 @@ nothing_begins Step = refl
 nothing_begins DocStringFence = refl
 
 blank_alone : (k : Kind) (line : List ℕ) → is_of_kind Blank line ≡ true → is_of_kind k line ≡ true → k ≡ Blank
-unfolding is_blank_line body_of
+unfolding is_blank_line text_after_indent
 blank_alone k line b h =
     ⊎_elim (λ e. e) (λ is. absurd (false≢true (sym (nothing_begins k) ∙ ap (begins (fronts k)) (sym (blank_body line b)) ∙ is))) (kind_begins k line h)
 
@@ -192,7 +192,7 @@ kinds_exclude line k l h m =
     (λ left. ⊎_elim (λ e. blank_alone k line (subst (λ l. is_of_kind l line ≡ true) e m) h ∙ sym e)
     (λ right. test_cases (number k == number l)
     (λ same. sym (kind_at-number k) ∙ ap (kind_at kinds) (eqb-true (number k) (number l) same) ∙ kind_at-number l)
-    (λ other. absurd (begins-both (fronts k) (fronts l) (body_of line) (ap (λ b. b || differ (fronts k) (fronts l)) (sym other) ∙ kinds_apart k l) left right)))
+    (λ other. absurd (begins-both (fronts k) (fronts l) (text_after_indent line) (ap (λ b. b || differ (fronts k) (fronts l)) (sym other) ∙ kinds_apart k l) left right)))
     (kind_begins l line m))
     (kind_begins k line h)
 

@@ -6,8 +6,8 @@ use Rattle.std.specs.List.{list_all, prefix_len}
 use Rattle.std.specs.Option.{option_map}
 use Rattle.std.specs.Str.{skip_leading_whitespace, drop_trailing_whitespace}
 use Rattle.std.proofs.lemmas.List.{append_assoc}
-use Rattle.gk_line.specs.Texts.{after, body_of, trimmed, first_some, or_else}
-use Rattle.gk_line.specs.Tokens.{TitleText, StepText, title_of, step_of, keywords, step_words, indent_of}
+use Rattle.gk_line.specs.Texts.{after, text_after_indent, trimmed_text, first_some, or_else}
+use Rattle.gk_line.specs.Tokens.{TitleText, StepText, title_of, step_of, title_keywords, step_words, indent_of}
 use Rattle.gk_line.specs.Places.{IsAtColumn}
 use Rattle.gk_line.specs.declared.tokens.Block.{Block}
 use Rattle.gk_line.proofs.TextLemmas.{after-some}
@@ -41,16 +41,16 @@ drop-split (c ∷ cs) =
     (more.0, ap (λ q. c ∷ q) more.1 ∙ ap (λ b. cond b [] (c ∷ drop_trailing_whitespace cs) ++ more.0) (sym e)))
 
 -- a text is white space, what is left of it without that at its ends, and more
-pub trimmed-split : (text : List ℕ) → (gap : List ℕ) × (back : List ℕ) × (text ≡ gap ++ (trimmed text ++ back)) × (list_all is_whitespace gap ≡ true)
-unfolding trimmed
+pub trimmed-split : (text : List ℕ) → (gap : List ℕ) × (back : List ℕ) × (text ≡ gap ++ (trimmed_text text ++ back)) × (list_all is_whitespace gap ≡ true)
+unfolding trimmed_text
 trimmed-split text =
     let front = skip-split text in
     let end = drop-split (skip_leading_whitespace text) in
     (front.0, end.0, front.1 ∙ ap (λ q. front.0 ++ q) end.1, front.2)
 
 -- the mark that a line begins with, and the text after it
-pub placed-body : (line mark rest : List ℕ) → after mark (body_of line) ≡ Some rest → IsAtColumn line mark (trimmed rest) (indent_of line + 1)
-unfolding body_of indent_of
+pub placed-body : (line mark rest : List ℕ) → after mark (text_after_indent line) ≡ Some rest → IsAtColumn line mark (trimmed_text rest) (indent_of line + 1)
+unfolding text_after_indent indent_of
 placed-body line mark rest e =
     let front = skip-split line in
     let text = trimmed-split rest in
@@ -64,7 +64,7 @@ placed-body line mark rest e =
     }
 
 -- the same of what was read
-pub placed-read : (line body mark rest text : List ℕ) (column : ℕ) → body ≡ body_of line → Some rest ≡ after mark body → text ≡ trimmed rest → column ≡ indent_of line + 1 → IsAtColumn line mark text column
+pub placed-read : (line body mark rest text : List ℕ) (column : ℕ) → body ≡ text_after_indent line → Some rest ≡ after mark body → text ≡ trimmed_text rest → column ≡ indent_of line + 1 → IsAtColumn line mark text column
 placed-read line body mark rest text column is_body is_rest is_text is_column =
     rw (is_text, is_column) (placed-body line mark rest (ap (after mark) (sym is_body) ∙ sym is_rest))
 
@@ -80,14 +80,14 @@ placed-after line front part mark text column e s = record {
 }
 
 -- what follows the mark that a text begins with, after its indent
-after-split : (text body mark rest : List ℕ) → body ≡ body_of text → Some rest ≡ after mark body → (front : List ℕ) × (text ≡ front ++ rest)
-unfolding body_of
+after-split : (text body mark rest : List ℕ) → body ≡ text_after_indent text → Some rest ≡ after mark body → (front : List ℕ) × (text ≡ front ++ rest)
+unfolding text_after_indent
 after-split text body mark rest is e =
     let front = skip-split text in
     (front.0 ++ mark, front.1 ∙ ap (λ q. front.0 ++ q) (sym is ∙ after-some mark body rest (sym e)) ∙ sym (append_assoc front.0 mark rest))
 
 -- the word of a language line, after its colon
-pub language-placed : (line line_body mark mark_body name name_body rest word : List ℕ) → line_body ≡ body_of line → Some mark ≡ after (codes "#") line_body → mark_body ≡ body_of mark → Some name ≡ after (codes "language") mark_body → name_body ≡ body_of name → Some rest ≡ after (codes ":") name_body → word ≡ trimmed rest → (column : ℕ) × IsAtColumn line (codes ":") word column
+pub language-placed : (line line_body mark mark_body name name_body rest word : List ℕ) → line_body ≡ text_after_indent line → Some mark ≡ after (codes "#") line_body → mark_body ≡ text_after_indent mark → Some name ≡ after (codes "language") mark_body → name_body ≡ text_after_indent name → Some rest ≡ after (codes ":") name_body → word ≡ trimmed_text rest → (column : ℕ) × IsAtColumn line (codes ":") word column
 language-placed line line_body mark mark_body name name_body rest word is_line is_mark is_mark_body is_name is_name_body is_rest is_word =
     let first = after-split line line_body (codes "#") mark is_line is_mark in
     let second = after-split mark mark_body (codes "language") name is_mark_body is_name in
@@ -116,13 +116,13 @@ option_map-found P g (Some a) h y e = subst P (some-same e) (h a refl)
 pub title-placed : (block : Block) (line : List ℕ) (t : TitleText) → title_of block line ≡ Some t → IsAtColumn line (t.keyword ++ codes ":") t.name t.column
 unfolding title_of
 title-placed block line t e =
-    first_some-found (λ (t : TitleText). IsAtColumn line (t.keyword ++ codes ":") t.name t.column) _ (keywords block)
-    (λ k y h. option_map-found (λ (t : TitleText). IsAtColumn line (t.keyword ++ codes ":") t.name t.column) _ (after (k ++ codes ":") (body_of line)) (λ rest is. placed-body line (k ++ codes ":") rest is) y h)
+    first_some-found (λ (t : TitleText). IsAtColumn line (t.keyword ++ codes ":") t.name t.column) _ (title_keywords block)
+    (λ k y h. option_map-found (λ (t : TitleText). IsAtColumn line (t.keyword ++ codes ":") t.name t.column) _ (after (k ++ codes ":") (text_after_indent line)) (λ rest is. placed-body line (k ++ codes ":") rest is) y h)
     t e
 
 pub step-placed : (line : List ℕ) (s : StepText) → step_of line ≡ Some s → IsAtColumn line s.keyword s.text s.column
 unfolding step_of
 step-placed line s e =
     first_some-found (λ (s : StepText). IsAtColumn line s.keyword s.text s.column) _ step_words
-    (λ w y h. option_map-found (λ (s : StepText). IsAtColumn line s.keyword s.text s.column) _ (after (w.0 ++ codes " ") (body_of line)) (λ rest is. placed-body line (w.0 ++ codes " ") rest is) y h)
+    (λ w y h. option_map-found (λ (s : StepText). IsAtColumn line s.keyword s.text s.column) _ (after (w.0 ++ codes " ") (text_after_indent line)) (λ rest is. placed-body line (w.0 ++ codes " ") rest is) y h)
     s e

@@ -10,9 +10,9 @@ use Rattle.std.proofs.lemmas.Str.{chars-append, chars-nil, IsUtf8-append, IsUtf8
 use Rattle.std.proofs.lemmas.Grind.{common_steps}
 use Rattle.memchr.specs.Find.{IsFirstByte, is_byte2}
 use native.Mathlib.Nat.{sub-zero}
-use Rattle.gk_line.specs.Texts.{TakesFirst, trimmed}
+use Rattle.gk_line.specs.Texts.{TakesFirst, trimmed_text}
 use Rattle.gk_line.proofs.PlaceLemmas.{trimmed-split}
-use Rattle.gk_line.specs.Cells.{CellUnit, plain, units, IsCutAtBar, NoBar}
+use Rattle.gk_line.specs.Cells.{CellUnit, plain_unit, units, IsCutAtBar, NoBar}
 use Rattle.gk_line.proofs.TextLemmas.{ascii_bytes}
 use Rattle.gk_line.proofs.LineLemmas.{none_from_text, chars-cut}
 use Rattle.gk_line.proofs.UnitLemmas.{after_backslash, Reads, Reads-nil, Reads-bar, Reads-end, Reads-last, Reads-pair}
@@ -97,11 +97,11 @@ none-append at [] ys h = (tt, h)
 none-append at (x ∷ xs) ys h = let more = none-append at xs ys h.1 in ((h.0, more.0), more.1)
 
 -- a part of a text without backslashes has none
-pub trimmed-plain : (text : List ℕ) → NonePass (λ c. c == backslash) text → NonePass (λ c. c == backslash) (trimmed text)
+pub trimmed-plain : (text : List ℕ) → NonePass (λ c. c == backslash) text → NonePass (λ c. c == backslash) (trimmed_text text)
 trimmed-plain text h =
     let split = trimmed-split text in
     let whole = subst (NonePass (λ c. c == backslash)) split.2 h in
-    (none-append backslash (trimmed text) split.1 (none-append backslash split.0 (trimmed text ++ split.1) whole).1).0
+    (none-append backslash (trimmed_text text) split.1 (none-append backslash split.0 (trimmed_text text ++ split.1) whole).1).0
 
 pub State-end : (text rest : List ℕ) → State text rest → IsFirstByte (is_byte2 vertical_bar backslash) rest None → NoBar (units (chars text))
 State-end text rest (front, us, whole, uf, ur, reads) none =
@@ -128,7 +128,7 @@ State-pair text rest next place (front, us, whole, uf, ur, reads) found taken =
     let front_chars : chars (front ++ (pre ++ backslash ∷ taken.first)) ≡ chars front ++ (chars pre ++ backslash ∷ taken.character ∷ []) =
     chars-append front (pre ++ backslash ∷ taken.first) uf ∙ ap (λ q. chars front ++ q) (chars-append pre (backslash ∷ taken.first) found.front ∙ ap (λ q. chars pre ++ q) pair_chars) in (
       front ++ (pre ++ backslash ∷ taken.first),
-      us ++ (map plain (chars pre) ++ after_backslash taken.character),
+      us ++ (map plain_unit (chars pre) ++ after_backslash taken.character),
       parts,
       IsUtf8-append front (pre ++ backslash ∷ taken.first) uf (IsUtf8-append pre (backslash ∷ taken.first) found.front pair_text),
       taken.rest_is_text,

@@ -8,9 +8,9 @@ use Rattle.std.proofs.lemmas.Grind.{common_steps}
 use Rattle.std.proofs.lemmas.List.Sums.{prefix_len-le-length}
 use Rattle.std.proofs.lemmas.Bool.{eqb-true, eq-eqb, ne_eqb, false≢true}
 use Rattle.std.proofs.lemmas.Str.{chars-nil, encode_ascii, encodes-chars, byte_from_char, char_from_byte, IsUtf8-past_char, IsCharBoundary-from_drop}
-use Rattle.gk_line.specs.Texts.{is_ascii_space, is_visible_ascii, body_of, after}
+use Rattle.gk_line.specs.Texts.{is_ascii_space, is_visible_ascii, text_after_indent, after}
 use Rattle.gk_line.specs.Tokens.{is_blank_line, indent_of}
-use Rattle.gk_line.specs.DocStrings.{outdented}
+use Rattle.gk_line.specs.DocStrings.{outdented_line}
 use Rattle.gk_line.proofs.TextLemmas.{and_true}
 use Rattle.gk_line.proofs.TagLemmas.{test_cases}
 
@@ -87,8 +87,8 @@ settled (b ∷ bs) s a = by_tests (is_ascii b) (is_whitespace b) refl refl s a w
   by_tests true true h k s a = absurd (omega (arith, s))
   by_tests true false h k s a = rw (chars-ascii b bs h, k) (refl, refl)
 
-pub settled_body : (bs rest : List ℕ) → rest ≡ past bs → is_ascii (slice_index rest 0) ≡ true → chars rest ≡ body_of (chars bs)
-unfolding body_of
+pub settled_body : (bs rest : List ℕ) → rest ≡ past bs → is_ascii (slice_index rest 0) ≡ true → chars rest ≡ text_after_indent (chars bs)
+unfolding text_after_indent
 settled_body bs rest e a =
     let alone = settled rest (ap (prefix_len is_ascii_space) e ∙ past-stops bs) a in
     sym alone.0 ∙ ap (λ q. skip_leading_whitespace (chars q)) e ∙ sym (past-skip bs)
@@ -99,8 +99,8 @@ settled_leading bs rest e a =
     let none : prefix_len is_whitespace (chars (past bs)) ≡ 0 = ap (λ q. prefix_len is_whitespace (chars q)) (sym e) ∙ alone.1 in
     past-leading bs ∙ omega (arith, none)
 
-pub body-past : (bs : List ℕ) → body_of (chars bs) ≡ body_of (chars (past bs))
-unfolding body_of
+pub body-past : (bs : List ℕ) → text_after_indent (chars bs) ≡ text_after_indent (chars (past bs))
+unfolding text_after_indent
 body-past bs = past-skip bs
 
 found_test : (n : ℕ) (x : Bool) (cs : List ℕ) → is_some (if x then Some cs else None) ≡ (not (suc n == 0) && x)
@@ -127,8 +127,8 @@ blank-body (c ∷ cs) = test_cases (is_whitespace c)
     (λ e. rw e (blank-body cs))
     (λ e. rw e (grind (arith, common_steps)))
 
-pub blank-line : (line : List ℕ) → is_blank_line line ≡ (length (body_of line) == 0)
-unfolding is_blank_line body_of
+pub blank-line : (line : List ℕ) → is_blank_line line ≡ (length (text_after_indent line) == 0)
+unfolding is_blank_line text_after_indent
 blank-line line = blank-body line
 
 -- the first n bytes, where they are ASCII white space, are the first n characters
@@ -143,8 +143,8 @@ spaces-dropped (suc n) (b ∷ bs) l u =
     (below.0 ∙ ap (λ q. drop (suc n) q) (sym (chars-ascii b bs both.0)), omega (arith, below.1, more.1), below.2))
     (λ e. absurd (omega (arith, l, ap (λ t. cond t (1 + prefix_len is_ascii_space bs) 0) e)))
 
-pub outdented-spaces : (n : ℕ) (bs : List ℕ) → n ≤ prefix_len is_ascii_space bs → IsUtf8 bs → chars (drop n bs) ≡ outdented n (chars bs)
-unfolding outdented indent_of
+pub outdented-spaces : (n : ℕ) (bs : List ℕ) → n ≤ prefix_len is_ascii_space bs → IsUtf8 bs → chars (drop n bs) ≡ outdented_line n (chars bs)
+unfolding outdented_line indent_of
 outdented-spaces n bs l u =
     let all = spaces-dropped n bs l u in
     let none : nat_lt (prefix_len is_whitespace (chars bs)) n ≡ false = grind (arith, common_steps, all.1) in

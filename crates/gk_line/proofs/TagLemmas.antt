@@ -7,10 +7,10 @@ use Rattle.std.specs.Option.{option_map}
 use Rattle.std.specs.Str.{chars, IsUtf8, NonePass, skip_leading_whitespace}
 use Rattle.std.proofs.lemmas.Bool.{ne_eqb, eqb-true, false≢true}
 use Rattle.std.proofs.lemmas.List.{append_assoc, append-nil}
-use Rattle.gk_line.specs.Texts.{after, body_of, trimmed, IsCutAt}
+use Rattle.gk_line.specs.Texts.{after, text_after_indent, trimmed_text, IsCutAt}
 use Rattle.gk_line.specs.Tokens.{indent_of, begins_by}
 use Rattle.gk_line.specs.Cells.{without_first}
-use Rattle.gk_line.specs.Tags.{uncommented, TagWord, piece_at, pieces_from, tag_pieces, is_tag, has_space}
+use Rattle.gk_line.specs.Tags.{uncommented_line, TagWord, piece_at, pieces_from, tag_pieces, is_tag, has_space}
 use Rattle.gk_line.specs.Views.{tag_word, IsTagFault}
 use Rattle.gk_line.specs.declared.tokens.TagText.{TagText}
 use Rattle.gk_line.specs.declared.tokens.TagFault.{TagFault}
@@ -30,7 +30,7 @@ pushed_tag old new tag piece is same grown =
 pub skipped_tag : (old : List TagText) (piece : TagWord) → is_tag piece ≡ false → map tag_word old ≡ map tag_word old ++ filter is_tag (piece ∷ [])
 skipped_tag old piece is = sym (append-nil (map tag_word old)) ∙ ap (λ q. map tag_word old ++ q) (sym (ap (λ b. cond b (piece ∷ []) []) is))
 
-pub is_tag-trim : (t piece : List ℕ) (column : ℕ) (b : Bool) → IsUtf8 t → chars t ≡ trimmed piece → b ≡ (length t == 0) → is_tag (piece_at column piece) ≡ not b
+pub is_tag-trim : (t piece : List ℕ) (column : ℕ) (b : Bool) → IsUtf8 t → chars t ≡ trimmed_text piece → b ≡ (length t == 0) → is_tag (piece_at column piece) ≡ not b
 is_tag-trim t piece column b u same is = ap (λ q. not (length q == 0)) (sym same) ∙ ap not (is_empty_chars t u ∙ sym is)
 
 pub test_cases : {A : Type 0} (b : Bool) → (b ≡ true → A) → (b ≡ false → A) → A
@@ -78,30 +78,30 @@ no_mark (d ∷ ds) rest h =
     (λ e. ap (λ q. is_some (if q then Some ds else None)) e)
 
 -- the comment of a tag line begins after its first `@`
-uncommented_body : (line rest : List ℕ) → skip_leading_whitespace line ≡ at_sign ∷ rest → (more : List ℕ) × (skip_leading_whitespace (uncommented line) ≡ at_sign ∷ more)
-unfolding uncommented
+uncommented_body : (line rest : List ℕ) → skip_leading_whitespace line ≡ at_sign ∷ rest → (more : List ℕ) × (skip_leading_whitespace (uncommented_line line) ≡ at_sign ∷ more)
+unfolding uncommented_line
 uncommented_body [] rest h = absurd (cc)
 uncommented_body (c ∷ cs) rest h =
-    let kept : (is_whitespace c && is_some (after (codes "#") cs)) ≡ false → uncommented (c ∷ cs) ≡ c ∷ uncommented cs = λ e. ap (λ q. if q then [] else c ∷ uncommented cs) e in
+    let kept : (is_whitespace c && is_some (after (codes "#") cs)) ≡ false → uncommented_line (c ∷ cs) ≡ c ∷ uncommented_line cs = λ e. ap (λ q. if q then [] else c ∷ uncommented_line cs) e in
     test_cases (is_whitespace c)
     (λ e. let below = ap (λ q. cond q (skip_leading_whitespace cs) (c ∷ cs)) (sym e) ∙ h in
     let more = uncommented_body cs rest below in
-    (more.0, ap skip_leading_whitespace (kept (and_no (is_whitespace c) _ (no_mark cs rest below))) ∙ ap (λ q. cond q (skip_leading_whitespace (uncommented cs)) (c ∷ uncommented cs)) e ∙ more.1))
+    (more.0, ap skip_leading_whitespace (kept (and_no (is_whitespace c) _ (no_mark cs rest below))) ∙ ap (λ q. cond q (skip_leading_whitespace (uncommented_line cs)) (c ∷ uncommented_line cs)) e ∙ more.1))
     (λ e. let first : c ∷ cs ≡ at_sign ∷ rest = ap (λ q. cond q (skip_leading_whitespace cs) (c ∷ cs)) (sym e) ∙ h in
     let same : c ≡ at_sign = cc in
-    (uncommented cs, ap skip_leading_whitespace (kept (no_and (is_whitespace c) _ e)) ∙ ap (λ q. cond q (skip_leading_whitespace (uncommented cs)) (c ∷ uncommented cs)) e ∙ ap (λ q. q ∷ uncommented cs) same))
+    (uncommented_line cs, ap skip_leading_whitespace (kept (no_and (is_whitespace c) _ e)) ∙ ap (λ q. cond q (skip_leading_whitespace (uncommented_line cs)) (c ∷ uncommented_line cs)) e ∙ ap (λ q. q ∷ uncommented_line cs) same))
 
-pub tags_start : (line rest : List ℕ) → body_of (uncommented line) ≡ at_sign ∷ rest → tag_pieces line ≡ pieces_from (indent_of (uncommented line) + 1) (slice_split (λ c. c == at_sign) rest)
-unfolding tag_pieces body_of indent_of
+pub tags_start : (line rest : List ℕ) → text_after_indent (uncommented_line line) ≡ at_sign ∷ rest → tag_pieces line ≡ pieces_from (indent_of (uncommented_line line) + 1) (slice_split (λ c. c == at_sign) rest)
+unfolding tag_pieces text_after_indent indent_of
 tags_start line rest h =
-    let parts = indent_split at_sign (uncommented line) rest refl h in
-    let cut : IsCutAt at_sign (uncommented line) parts.0 rest = record { parts = parts.1; first = parts.3 } in
-    let column : 0 + length parts.0 + 1 ≡ prefix_len is_whitespace (uncommented line) + 1 = omega (arith, parts.2) in
-    ap without_first (pieces-cut 0 (uncommented line) parts.0 rest cut) ∙ ap (λ n. pieces_from n (slice_split (λ c. c == at_sign) rest)) column
+    let parts = indent_split at_sign (uncommented_line line) rest refl h in
+    let cut : IsCutAt at_sign (uncommented_line line) parts.0 rest = record { parts = parts.1; first = parts.3 } in
+    let column : 0 + length parts.0 + 1 ≡ prefix_len is_whitespace (uncommented_line line) + 1 = omega (arith, parts.2) in
+    ap without_first (pieces-cut 0 (uncommented_line line) parts.0 rest cut) ∙ ap (λ n. pieces_from n (slice_split (λ c. c == at_sign) rest)) column
 
 -- a tag line without its comment begins with `@` too
-pub tags_begin : (line trim : List ℕ) → begins_by (codes "@") line ≡ true → trim ≡ body_of (uncommented line) → None ≡ after (codes "@") trim → ⊥
-unfolding begins_by body_of after
+pub tags_begin : (line trim : List ℕ) → begins_by (codes "@") line ≡ true → trim ≡ text_after_indent (uncommented_line line) → None ≡ after (codes "@") trim → ⊥
+unfolding begins_by text_after_indent after
 tags_begin line trim tagged is none = by_option (after (codes "@") (skip_leading_whitespace line)) refl tagged where
   by_option : (o : Option (List ℕ)) → after (codes "@") (skip_leading_whitespace line) ≡ o → is_some o ≡ true → ⊥
   by_option None e t = false≢true t
@@ -109,10 +109,10 @@ tags_begin line trim tagged is none = by_option (after (codes "@") (skip_leading
       let begun = uncommented_body line rest (after-some (codes "@") (skip_leading_whitespace line) rest e) in
       none-some (none ∙ ap (after (codes "@")) (is ∙ begun.1))
 
-pub tags_init : (line text trim rest : List ℕ) (column : ℕ) → text ≡ uncommented line → trim ≡ body_of text → Some rest ≡ after (codes "@") trim → column ≡ prefix_len is_whitespace text → pieces_from (column + 1) (slice_split (λ c. c == at_sign) rest) ≡ tag_pieces line
+pub tags_init : (line text trim rest : List ℕ) (column : ℕ) → text ≡ uncommented_line line → trim ≡ text_after_indent text → Some rest ≡ after (codes "@") trim → column ≡ prefix_len is_whitespace text → pieces_from (column + 1) (slice_split (λ c. c == at_sign) rest) ≡ tag_pieces line
 unfolding indent_of
 tags_init line text trim rest column is body some indent =
-    let begun = sym (body ∙ ap body_of is) ∙ after-some (codes "@") trim rest (sym some) in
+    let begun = sym (body ∙ ap text_after_indent is) ∙ after-some (codes "@") trim rest (sym some) in
     ap (λ n. pieces_from (n + 1) (slice_split (λ c. c == at_sign) rest)) (indent ∙ ap (prefix_len is_whitespace) is) ∙ sym (tags_start line rest begun)
 
 filter-cons : (p : TagWord) (ps : List TagWord) → filter is_tag (p ∷ ps) ≡ filter is_tag (p ∷ []) ++ filter is_tag ps

@@ -13,7 +13,7 @@ use Rattle.std.proofs.lemmas.List.{append-nil, append_assoc}
 use Rattle.std.specs.Str.{chars, IsUtf8, all_scalars, encode_utf8_all, skip_leading_whitespace, trim_start, IsAscii, IsCharBoundary, bytes_eq}
 use Rattle.std.proofs.lemmas.Str.{chars_from_encodes, encodes-chars, chars-nil, scalars-chars, chars-append, chars-IsAscii, encodes-append, encodes-IsAscii, IsUtf8-from_ascii}
 use Rattle.std.proofs.lemmas.Grind.{common_steps}
-use Rattle.gk_line.specs.Texts.{body_of, after, TakesFirst}
+use Rattle.gk_line.specs.Texts.{text_after_indent, after, TakesFirst}
 
 pub and_true : (a b : Bool) → (a && b) ≡ true → (a ≡ true) × (b ≡ true)
 and_true true b h = (refl, h)
@@ -24,8 +24,8 @@ scalars-skip [] h = refl
 scalars-skip (c ∷ cs) h = grind (arith, common_steps, scalars-skip cs)
 
 -- the characters of what `trim_start` gives
-pub chars-trim_start : (bs t : List ℕ) → IsUtf8 t → t ≡ trim_start bs → chars t ≡ body_of (chars bs)
-unfolding trim_start body_of
+pub chars-trim_start : (bs t : List ℕ) → IsUtf8 t → t ≡ trim_start bs → chars t ≡ text_after_indent (chars bs)
+unfolding trim_start text_after_indent
 chars-trim_start bs t u e = sym (chars_from_encodes (skip_leading_whitespace (chars bs)) t u (sym e))
 
 -- a text of ASCII alone

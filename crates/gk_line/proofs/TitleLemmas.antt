@@ -5,8 +5,8 @@ use Rattle.std.specs.Char.{is_ascii}
 use Rattle.std.specs.List.{list_all, list_any, AllByRecursion}
 use Rattle.std.specs.Option.{option_map}
 use Rattle.std.specs.Str.{chars, bytes_eq, NonePass, IsUtf8}
-use Rattle.gk_line.specs.Texts.{body_of, trimmed, first_some, or_else, IsCutAt}
-use Rattle.gk_line.specs.Tokens.{TitleText, StepText, fence_of, title_of, block_title_of, blocks, step_of, keywords, step_words, indent_of}
+use Rattle.gk_line.specs.Texts.{text_after_indent, trimmed_text, first_some, or_else, IsCutAt}
+use Rattle.gk_line.specs.Tokens.{TitleText, StepText, fence_of, title_of, block_title_of, blocks, step_of, title_keywords, step_words, indent_of}
 use Rattle.gk_line.specs.declared.tokens.Block.{Block}
 use Rattle.gk_line.specs.declared.tokens.Block.TheVariants.{Feature, Rule, Background, Scenario, Examples}
 use Rattle.gk_document.specs.declared.tree.KeywordType.{KeywordType}
@@ -26,14 +26,14 @@ use Rattle.gk_line.specs.Kinds.Kind.{TitleLine}
 use Rattle.gk_line.proofs.KindLemmas.{kinds_exclude}
 use Rattle.gk_line.specs.Characters.{colon, plain_space, quotation_mark, backtick}
 
-keywords_plain : (block : Block) → list_all (λ k. lacks colon k) (keywords block) ≡ true
+keywords_plain : (block : Block) → list_all (λ k. lacks colon k) (title_keywords block) ≡ true
 keywords_plain Feature = refl
 keywords_plain Rule = refl
 keywords_plain Background = refl
 keywords_plain Scenario = refl
 keywords_plain Examples = refl
 
-keywords_ascii : (block : Block) → list_all (λ k. list_all is_ascii k) (keywords block) ≡ true
+keywords_ascii : (block : Block) → list_all (λ k. list_all is_ascii k) (title_keywords block) ≡ true
 keywords_ascii Feature = refl
 keywords_ascii Rule = refl
 keywords_ascii Background = refl
@@ -41,19 +41,19 @@ keywords_ascii Scenario = refl
 keywords_ascii Examples = refl
 
 abbrev pub title_at : List ℕ → List ℕ → List ℕ → TitleText
-title_at line keyword rest = record { keyword = keyword; name = trimmed rest; column = indent_of line + 1 }
+title_at line keyword rest = record { keyword = keyword; name = trimmed_text rest; column = indent_of line + 1 }
 
-pub title-none : (block : Block) (line : List ℕ) → NonePass (λ d. d == colon) (body_of line) → title_of block line ≡ None
+pub title-none : (block : Block) (line : List ℕ) → NonePass (λ d. d == colon) (text_after_indent line) → title_of block line ≡ None
 unfolding title_of
-title-none block line h = keyed_none colon (λ k. k) (title_at line) (body_of line) (keywords block) h
+title-none block line h = keyed_none colon (λ k. k) (title_at line) (text_after_indent line) (title_keywords block) h
 
-pub title-cut : (block : Block) (line w rest : List ℕ) → IsUtf8 w → IsCutAt colon (body_of line) (chars w) rest → title_of block line ≡ (if list_any (bytes_eq w) (keywords block) then Some (title_at line (chars w) rest) else None)
+pub title-cut : (block : Block) (line w rest : List ℕ) → IsUtf8 w → IsCutAt colon (text_after_indent line) (chars w) rest → title_of block line ≡ (if list_any (bytes_eq w) (title_keywords block) then Some (title_at line (chars w) rest) else None)
 unfolding title_of
 title-cut block line w rest u cut =
-    rw (cut.parts, list_any-chars (keywords block) w u (keywords_ascii block))
-    (keyed_cut colon (λ k. k) (title_at line) (chars w) rest (keywords block) (keywords_plain block) cut.first ∙ find_same (λ k. title_at line k rest) (chars w) (keywords block))
+    rw (cut.parts, list_any-chars (title_keywords block) w u (keywords_ascii block))
+    (keyed_cut colon (λ k. k) (title_at line) (chars w) rest (title_keywords block) (keywords_plain block) cut.first ∙ find_same (λ k. title_at line k rest) (chars w) (title_keywords block))
 
-title_letters : (block : Block) → list_all (begins_in (codes "ABEFRS")) (keywords block) ≡ true
+title_letters : (block : Block) → list_all (begins_in (codes "ABEFRS")) (title_keywords block) ≡ true
 title_letters Feature = refl
 title_letters Rule = refl
 title_letters Background = refl
@@ -61,10 +61,10 @@ title_letters Scenario = refl
 title_letters Examples = refl
 
 -- a line whose body begins with no letter of a block's keyword
-pub title-letter : (block : Block) (line body : List ℕ) → IsUtf8 body → chars body ≡ body_of line → list_any (nat_eq (slice_index body 0)) (codes "ABEFRS") ≡ false → title_of block line ≡ None
+pub title-letter : (block : Block) (line body : List ℕ) → IsUtf8 body → chars body ≡ text_after_indent line → list_any (nat_eq (slice_index body 0)) (codes "ABEFRS") ≡ false → title_of block line ≡ None
 unfolding title_of
 title-letter block line body u is h =
-    rw (sym is) (keyed_letter colon (λ k. k) (title_at line) (codes "ABEFRS") body (keywords block) u h (title_letters block))
+    rw (sym is) (keyed_letter colon (λ k. k) (title_at line) (codes "ABEFRS") body (title_keywords block) u h (title_letters block))
 
 -- the line is the title of no block
 pub block_title-none : (line : List ℕ) → ((block : Block) → title_of block line ≡ None) → block_title_of line ≡ None
@@ -75,31 +75,31 @@ abbrev titled : Block → TitleText → Block × TitleText
 titled block title = (block, title)
 
 -- a line with a colon is the title of the block that the word before it is a keyword of
-pub block_title-cut : (line w rest : List ℕ) → IsUtf8 w → IsCutAt colon (body_of line) (chars w) rest → block_title_of line ≡ option_map (λ block. titled block (title_at line (chars w) rest)) (find (λ block. list_any (bytes_eq w) (keywords block)) blocks)
+pub block_title-cut : (line w rest : List ℕ) → IsUtf8 w → IsCutAt colon (text_after_indent line) (chars w) rest → block_title_of line ≡ option_map (λ block. titled block (title_at line (chars w) rest)) (find (λ block. list_any (bytes_eq w) (title_keywords block)) blocks)
 unfolding first_some
 block_title-cut line w rest u cut = of_blocks blocks where
   by_test : (t : Bool) (b : Block) (o : Option (Block × TitleText)) (found : Option Block) → o ≡ option_map (λ block. titled block (title_at line (chars w) rest)) found → or_else (option_map (titled b) (if t then Some (title_at line (chars w) rest) else None)) o ≡ option_map (λ block. titled block (title_at line (chars w) rest)) (cond t (Some b) found)
   by_test true b o found e = refl
   by_test false b o found e = e
 
-  of_blocks : (bs : List Block) → first_some (λ block. option_map (titled block) (title_of block line)) bs ≡ option_map (λ block. titled block (title_at line (chars w) rest)) (find (λ block. list_any (bytes_eq w) (keywords block)) bs)
+  of_blocks : (bs : List Block) → first_some (λ block. option_map (titled block) (title_of block line)) bs ≡ option_map (λ block. titled block (title_at line (chars w) rest)) (find (λ block. list_any (bytes_eq w) (title_keywords block)) bs)
   of_blocks [] = refl
-  of_blocks (b ∷ bs) = rw (title-cut b line w rest u cut) (by_test (list_any (bytes_eq w) (keywords b)) b _ _ (of_blocks bs))
+  of_blocks (b ∷ bs) = rw (title-cut b line w rest u cut) (by_test (list_any (bytes_eq w) (title_keywords b)) b _ _ (of_blocks bs))
 
 abbrev pub step_at : List ℕ → (List ℕ × KeywordType) → List ℕ → StepText
-step_at line entry rest = record { keyword = entry.0 ++ codes " "; kind = entry.1; text = trimmed rest; column = indent_of line + 1 }
+step_at line entry rest = record { keyword = entry.0 ++ codes " "; kind = entry.1; text = trimmed_text rest; column = indent_of line + 1 }
 
-pub step-none : (line : List ℕ) → NonePass (λ d. d == plain_space) (body_of line) → step_of line ≡ None
+pub step-none : (line : List ℕ) → NonePass (λ d. d == plain_space) (text_after_indent line) → step_of line ≡ None
 unfolding step_of
-step-none line h = keyed_none plain_space (λ entry. entry.0) (step_at line) (body_of line) step_words h
+step-none line h = keyed_none plain_space (λ entry. entry.0) (step_at line) (text_after_indent line) step_words h
 
 -- a line whose body begins with no letter of a step's keyword
-pub step-letter : (line body : List ℕ) → IsUtf8 body → chars body ≡ body_of line → list_any (nat_eq (slice_index body 0)) (codes "*ABGTW") ≡ false → step_of line ≡ None
+pub step-letter : (line body : List ℕ) → IsUtf8 body → chars body ≡ text_after_indent line → list_any (nat_eq (slice_index body 0)) (codes "*ABGTW") ≡ false → step_of line ≡ None
 unfolding step_of
 step-letter line body u is h =
     rw (sym is) (keyed_letter plain_space (λ entry. entry.0) (step_at line) (codes "*ABGTW") body step_words u h refl)
 
-pub step-cut : (line w rest : List ℕ) → IsUtf8 w → IsCutAt plain_space (body_of line) (chars w) rest → step_of line ≡ option_map (λ entry. step_at line entry rest) (find (λ entry. bytes_eq w entry.0) step_words)
+pub step-cut : (line w rest : List ℕ) → IsUtf8 w → IsCutAt plain_space (text_after_indent line) (chars w) rest → step_of line ≡ option_map (λ entry. step_at line entry rest) (find (λ entry. bytes_eq w entry.0) step_words)
 unfolding step_of
 step-cut line w rest u cut =
     rw (cut.parts, find-chars (λ entry. entry.0) step_words w u refl)
@@ -121,11 +121,11 @@ missed_entry w xs h = by_option (find (λ e. bytes_eq w e.0) xs) h where
   by_option None e = refl
   by_option (Some x) e = absurd (cc)
 
-pub step-found : (line w rest : List ℕ) (kind : KeywordType) → IsUtf8 w → IsCutAt plain_space (body_of line) (chars w) rest → Some kind ≡ option_map (λ (e : List ℕ × KeywordType). e.1) (find (λ e. bytes_eq w e.0) step_words) → step_of line ≡ Some (step_at line (w, kind) rest)
+pub step-found : (line w rest : List ℕ) (kind : KeywordType) → IsUtf8 w → IsCutAt plain_space (text_after_indent line) (chars w) rest → Some kind ≡ option_map (λ (e : List ℕ × KeywordType). e.1) (find (λ e. bytes_eq w e.0) step_words) → step_of line ≡ Some (step_at line (w, kind) rest)
 step-found line w rest kind u cut h =
     step-cut line w rest u cut ∙ ap (option_map (λ entry. step_at line entry rest)) (found_entry w kind step_words (sym h))
 
-pub step-missed : (line w rest : List ℕ) → IsUtf8 w → IsCutAt plain_space (body_of line) (chars w) rest → None ≡ option_map (λ (e : List ℕ × KeywordType). e.1) (find (λ e. bytes_eq w e.0) step_words) → step_of line ≡ None
+pub step-missed : (line w rest : List ℕ) → IsUtf8 w → IsCutAt plain_space (text_after_indent line) (chars w) rest → None ≡ option_map (λ (e : List ℕ × KeywordType). e.1) (find (λ e. bytes_eq w e.0) step_words) → step_of line ≡ None
 step-missed line w rest u cut h =
     step-cut line w rest u cut ∙ ap (option_map (λ entry. step_at line entry rest)) (missed_entry w step_words (sym h))
 
@@ -199,7 +199,7 @@ block_title-other line found block e other = by_option (title_of block line) ref
   by_option (Some t) is = absurd (other (same_block (kinds_exclude line (TitleLine found.0) (TitleLine block) (ap is_some (block_title-is line found e)) (ap is_some is))))
 
 -- a line whose body begins with no character of a fence
-pub fence-letter : (line body : List ℕ) → IsUtf8 body → chars body ≡ body_of line → list_any (nat_eq (slice_index body 0)) (quotation_mark ∷ backtick ∷ []) ≡ false → fence_of line ≡ None
+pub fence-letter : (line body : List ℕ) → IsUtf8 body → chars body ≡ text_after_indent line → list_any (nat_eq (slice_index body 0)) (quotation_mark ∷ backtick ∷ []) ≡ false → fence_of line ≡ None
 unfolding fence_of first_some
 fence-letter line body u is h =
     let marks : List ℕ = quotation_mark ∷ backtick ∷ [] in

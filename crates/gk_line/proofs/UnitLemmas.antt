@@ -7,7 +7,7 @@ use Rattle.std.specs.List.{prefix_len, slice_split, AllByRecursion}
 use Rattle.std.specs.Str.{skip_leading_whitespace, drop_trailing_whitespace, NonePass, IsUtf8}
 use Rattle.std.proofs.lemmas.Bool.{ne_eqb, eqb-true, eq-eqb, false≢true}
 use Rattle.std.proofs.lemmas.Grind.{common_steps}
-use Rattle.gk_line.specs.Texts.{trimmed, after, body_of}
+use Rattle.gk_line.specs.Texts.{trimmed_text, after, text_after_indent}
 use Rattle.gk_line.specs.Tokens.{indent_of}
 use Rattle.std.specs.Prelude.{codes}
 use Rattle.std.proofs.lemmas.List.Splits.{length-slice_split}
@@ -16,29 +16,29 @@ use Rattle.gk_document.specs.declared.tree.Cell.{Cell}
 use Rattle.gk_line.specs.Tokens.{begins_by}
 use Rattle.std.specs.Prelude.{is_some}
 use Rattle.gk_line.proofs.TextLemmas.{after-some}
-use Rattle.gk_line.specs.Cells.{CellText, CellUnit, plain, pair, escaped, unit_or, units, is_bar, is_space, skip_spaces, drop_spaces, widths, meanings, NoBar, IsCutAtBar, cell_at, cells_from, cells_of, without_first}
+use Rattle.gk_line.specs.Cells.{CellText, CellUnit, plain_unit, pair_unit, escape_meaning, unit_or, units, is_bar, is_space, skip_spaces, drop_spaces, widths, meanings, NoBar, IsCutAtBar, cell_at, cells_from, cells_of, without_first}
 use Rattle.gk_line.specs.Characters.{backslash, letter_n, line_feed, vertical_bar}
 
 -- the units that begin here, where a backslash is just before or not
 abbrev pub run : List ℕ → Bool → List CellUnit
 run [] false = []
-run [] true = plain backslash ∷ []
-run (c ∷ cs) false = if c == backslash then run cs true else plain c ∷ run cs false
-run (c ∷ cs) true = unit_or (escaped c) (plain backslash ∷ plain c ∷ run cs false) (run cs false)
+run [] true = plain_unit backslash ∷ []
+run (c ∷ cs) false = if c == backslash then run cs true else plain_unit c ∷ run cs false
+run (c ∷ cs) true = unit_or (escape_meaning c) (plain_unit backslash ∷ plain_unit c ∷ run cs false) (run cs false)
 
-pub units-other : (c : ℕ) (cs : List ℕ) → (c == backslash) ≡ false → units (c ∷ cs) ≡ plain c ∷ units cs
+pub units-other : (c : ℕ) (cs : List ℕ) → (c == backslash) ≡ false → units (c ∷ cs) ≡ plain_unit c ∷ units cs
 unfolding units
 units-other c [] h = refl
 units-other c (d ∷ cs) h = rw h refl
 
 unit_or_same : (o : Option ℕ) (a b r s : List CellUnit) → (o ≡ None → a ≡ b) → r ≡ s → unit_or o a r ≡ unit_or o b s
 unit_or_same None a b r s alone rest = alone refl
-unit_or_same (Some c) a b r s alone rest = ap (λ q. pair c ∷ q) rest
+unit_or_same (Some c) a b r s alone rest = ap (λ q. pair_unit c ∷ q) rest
 
-not_escaped : (c : ℕ) → escaped c ≡ None → (c == backslash) ≡ false
+not_escaped : (c : ℕ) → escape_meaning c ≡ None → (c == backslash) ≡ false
 not_escaped c h = grind (arith, common_steps)
 
-escaped_other : (c e : ℕ) → escaped c ≡ Some e → is_whitespace c ≡ false
+escaped_other : (c e : ℕ) → escape_meaning c ≡ Some e → is_whitespace c ≡ false
 escaped_other c e h = grind (arith, common_steps)
 
 test_cases : {A : Type 0} (b : Bool) → (b ≡ true → A) → (b ≡ false → A) → A
@@ -52,8 +52,8 @@ both_run (d ∷ cs) =
     let below = both_run cs in (
       test_cases (d == backslash)
           (λ e. rw e (ap (λ c. units (c ∷ cs)) (eqb-true d backslash e) ∙ below.1))
-          (λ e. rw e (units-other d cs e ∙ ap (λ q. plain d ∷ q) below.0)),
-      unit_or_same (escaped d) _ _ _ _ (λ none. ap (λ q. plain backslash ∷ q) (units-other d cs (not_escaped d none) ∙ ap (λ q. plain d ∷ q) below.0)) below.0,
+          (λ e. rw e (units-other d cs e ∙ ap (λ q. plain_unit d ∷ q) below.0)),
+      unit_or_same (escape_meaning d) _ _ _ _ (λ none. ap (λ q. plain_unit backslash ∷ q) (units-other d cs (not_escaped d none) ∙ ap (λ q. plain_unit d ∷ q) below.0)) below.0,
     )
 
 pub units-run : (cs : List ℕ) → units cs ≡ run cs false
@@ -67,13 +67,13 @@ not_space_unit : (c : ℕ) (cs : List ℕ) → is_whitespace c ≡ false → (u 
 not_space_unit c cs h =
     test_cases (c == backslash)
     (λ e. let first = after_backslash cs in (first.0, first.1, rw e first.2, first.3))
-    (λ e. (plain c, run cs false, rw e refl, h)) where
+    (λ e. (plain_unit c, run cs false, rw e refl, h)) where
       after_backslash : (cs : List ℕ) → (u : CellUnit) × (us : List CellUnit) × (run cs true ≡ u ∷ us) × (is_space u ≡ false)
-      after_backslash [] = (plain backslash, [], refl, refl)
-      after_backslash (d ∷ ds) = by_option (escaped d) where
-        by_option : (o : Option ℕ) → (u : CellUnit) × (us : List CellUnit) × (unit_or o (plain backslash ∷ plain d ∷ run ds false) (run ds false) ≡ u ∷ us) × (is_space u ≡ false)
-        by_option None = (plain backslash, plain d ∷ run ds false, refl, refl)
-        by_option (Some e) = (pair e, run ds false, refl, refl)
+      after_backslash [] = (plain_unit backslash, [], refl, refl)
+      after_backslash (d ∷ ds) = by_option (escape_meaning d) where
+        by_option : (o : Option ℕ) → (u : CellUnit) × (us : List CellUnit) × (unit_or o (plain_unit backslash ∷ plain_unit d ∷ run ds false) (run ds false) ≡ u ∷ us) × (is_space u ≡ false)
+        by_option None = (plain_unit backslash, plain_unit d ∷ run ds false, refl, refl)
+        by_option (Some e) = (pair_unit e, run ds false, refl, refl)
 
 run-skip : (cs : List ℕ) → run (skip_leading_whitespace cs) false ≡ skip_spaces (run cs false)
 run-skip [] = refl
@@ -93,8 +93,8 @@ run-widths : (cs : List ℕ) → (widths (run cs false) ≡ length cs) × (width
 run-widths [] = (refl, refl)
 run-widths (c ∷ cs) =
     let below = run-widths cs in
-    (test_cases (c == backslash) (λ e. rw e (omega (arith, below.1))) (λ e. rw e (omega (arith, below.0))), by_option (escaped c) below.0) where
-      by_option : (o : Option ℕ) → widths (run cs false) ≡ length cs → widths (unit_or o (plain backslash ∷ plain c ∷ run cs false) (run cs false)) ≡ length (c ∷ cs) + 1
+    (test_cases (c == backslash) (λ e. rw e (omega (arith, below.1))) (λ e. rw e (omega (arith, below.0))), by_option (escape_meaning c) below.0) where
+      by_option : (o : Option ℕ) → widths (run cs false) ≡ length cs → widths (unit_or o (plain_unit backslash ∷ plain_unit c ∷ run cs false) (run cs false)) ≡ length (c ∷ cs) + 1
       by_option None e = omega (arith, e)
       by_option (Some d) e = omega (arith, e)
 
@@ -117,15 +117,15 @@ run-drop (c ∷ cs) =
       test_cases (c == backslash)
           (λ e. let other : is_whitespace c ≡ false = ap is_whitespace (eqb-true c backslash e) in rw (other, e) ih.1)
           (λ e. rw (e, ← ih.0, empty_run kept) (alone (is_whitespace c && length kept == 0) kept e)),
-      option_cases (escaped c)
+      option_cases (escape_meaning c)
           (λ e. rw (e, ← ih.0, empty_run kept) (after_one (is_whitespace c && length kept == 0) kept e))
-          (λ d e. rw (escaped_other c d e, e) (ap (λ q. pair d ∷ q) ih.0)),
+          (λ d e. rw (escaped_other c d e, e) (ap (λ q. pair_unit d ∷ q) ih.0)),
     ) where
-      alone : (b : Bool) (kept : List ℕ) → (c == backslash) ≡ false → run (cond b [] (c ∷ kept)) false ≡ (if b then [] else plain c ∷ run kept false)
+      alone : (b : Bool) (kept : List ℕ) → (c == backslash) ≡ false → run (cond b [] (c ∷ kept)) false ≡ (if b then [] else plain_unit c ∷ run kept false)
       alone true kept e = refl
       alone false kept e = rw e refl
 
-      after_one : (b : Bool) (kept : List ℕ) → escaped c ≡ None → run (cond b [] (c ∷ kept)) true ≡ plain backslash ∷ (if b then [] else plain c ∷ run kept false)
+      after_one : (b : Bool) (kept : List ℕ) → escape_meaning c ≡ None → run (cond b [] (c ∷ kept)) true ≡ plain_unit backslash ∷ (if b then [] else plain_unit c ∷ run kept false)
       after_one true kept e = refl
       after_one false kept e = rw e refl
 
@@ -137,11 +137,11 @@ pub record Reads (front : List ℕ) (us : List CellUnit) : Type 0 where
 pub Reads-nil : Reads [] []
 Reads-nil = record { on = λ rest. refl; open_row = tt }
 
-run-plain : (p rest : List ℕ) → NonePass (λ c. c == backslash) p → run (p ++ rest) false ≡ map plain p ++ run rest false
+run-plain : (p rest : List ℕ) → NonePass (λ c. c == backslash) p → run (p ++ rest) false ≡ map plain_unit p ++ run rest false
 run-plain [] rest h = refl
-run-plain (c ∷ p) rest h = rw h.0 (ap (λ q. plain c ∷ q) (run-plain p rest h.1))
+run-plain (c ∷ p) rest h = rw h.0 (ap (λ q. plain_unit c ∷ q) (run-plain p rest h.1))
 
-NoBar-plain : (p : List ℕ) → NonePass (λ c. c == vertical_bar) p → NoBar (map plain p)
+NoBar-plain : (p : List ℕ) → NonePass (λ c. c == vertical_bar) p → NoBar (map plain_unit p)
 NoBar-plain [] h = tt
 NoBar-plain (c ∷ p) h = (h.0, NoBar-plain p h.1)
 
@@ -149,59 +149,59 @@ NoBar-append : (us vs : List CellUnit) → NoBar us → NoBar vs → NoBar (us +
 NoBar-append [] vs h k = k
 NoBar-append (u ∷ us) vs h k = (h.0, NoBar-append us vs h.1 k)
 
-reads_part : (front p : List ℕ) (us : List CellUnit) → Reads front us → NonePass (λ c. c == backslash) p → units (front ++ p) ≡ us ++ map plain p
+reads_part : (front p : List ℕ) (us : List CellUnit) → Reads front us → NonePass (λ c. c == backslash) p → units (front ++ p) ≡ us ++ map plain_unit p
 reads_part front p us r back =
-    units-run (front ++ p) ∙ ap (λ q. run (front ++ q) false) (sym (append-nil p)) ∙ r.on (p ++ []) ∙ ap (λ q. us ++ q) (run-plain p [] back ∙ append-nil (map plain p))
+    units-run (front ++ p) ∙ ap (λ q. run (front ++ q) false) (sym (append-nil p)) ∙ r.on (p ++ []) ∙ ap (λ q. us ++ q) (run-plain p [] back ∙ append-nil (map plain_unit p))
 
 -- up to a bar that no backslash precedes
 pub Reads-bar : (front p more : List ℕ) (us : List CellUnit) → Reads front us → NonePass (λ c. c == backslash) p → NonePass (λ c. c == vertical_bar) p → IsCutAtBar (units (front ++ (p ++ vertical_bar ∷ more))) (units (front ++ p)) (units more)
 Reads-bar front p more us r back bar =
     let part = reads_part front p us r back in
-    let row : units (front ++ (p ++ vertical_bar ∷ more)) ≡ us ++ (map plain p ++ plain vertical_bar ∷ run more false) = units-run _ ∙ r.on (p ++ vertical_bar ∷ more) ∙ ap (λ q. us ++ q) (run-plain p (vertical_bar ∷ more) back) in
+    let row : units (front ++ (p ++ vertical_bar ∷ more)) ≡ us ++ (map plain_unit p ++ plain_unit vertical_bar ∷ run more false) = units-run _ ∙ r.on (p ++ vertical_bar ∷ more) ∙ ap (λ q. us ++ q) (run-plain p (vertical_bar ∷ more) back) in
     record {
-      parts = row ∙ rw part (rw (units-run more) (sym (append_assoc us (map plain p) (plain vertical_bar ∷ run more false))));
-      first = rw part (NoBar-append us (map plain p) r.open_row (NoBar-plain p bar));
+      parts = row ∙ rw part (rw (units-run more) (sym (append_assoc us (map plain_unit p) (plain_unit vertical_bar ∷ run more false))));
+      first = rw part (NoBar-append us (map plain_unit p) r.open_row (NoBar-plain p bar));
     }
 
 -- to the end, where there is no more bar or backslash
 pub Reads-end : (front p : List ℕ) (us : List CellUnit) → Reads front us → NonePass (λ c. c == backslash) p → NonePass (λ c. c == vertical_bar) p → NoBar (units (front ++ p))
-Reads-end front p us r back bar = rw (reads_part front p us r back) (NoBar-append us (map plain p) r.open_row (NoBar-plain p bar))
+Reads-end front p us r back bar = rw (reads_part front p us r back) (NoBar-append us (map plain_unit p) r.open_row (NoBar-plain p bar))
 
 -- to the end, where that is a backslash
 pub Reads-last : (front p : List ℕ) (us : List CellUnit) → Reads front us → NonePass (λ c. c == backslash) p → NonePass (λ c. c == vertical_bar) p → NoBar (units (front ++ (p ++ backslash ∷ [])))
 Reads-last front p us r back bar =
-    let row : units (front ++ (p ++ backslash ∷ [])) ≡ us ++ (map plain p ++ plain backslash ∷ []) = units-run _ ∙ r.on (p ++ backslash ∷ []) ∙ ap (λ q. us ++ q) (run-plain p (backslash ∷ []) back) in
-    rw row (NoBar-append us (map plain p ++ plain backslash ∷ []) r.open_row (NoBar-append (map plain p) (plain backslash ∷ []) (NoBar-plain p bar) (refl, tt)))
+    let row : units (front ++ (p ++ backslash ∷ [])) ≡ us ++ (map plain_unit p ++ plain_unit backslash ∷ []) = units-run _ ∙ r.on (p ++ backslash ∷ []) ∙ ap (λ q. us ++ q) (run-plain p (backslash ∷ []) back) in
+    rw row (NoBar-append us (map plain_unit p ++ plain_unit backslash ∷ []) r.open_row (NoBar-append (map plain_unit p) (plain_unit backslash ∷ []) (NoBar-plain p bar) (refl, tt)))
 
-not_bar : (c : ℕ) → escaped c ≡ None → (c == vertical_bar) ≡ false
+not_bar : (c : ℕ) → escape_meaning c ≡ None → (c == vertical_bar) ≡ false
 not_bar c h = grind (arith, common_steps)
 
 abbrev pub after_backslash : ℕ → List CellUnit
-after_backslash c = unit_or (escaped c) (plain backslash ∷ plain c ∷ []) []
+after_backslash c = unit_or (escape_meaning c) (plain_unit backslash ∷ plain_unit c ∷ []) []
 
 NoBar-after : (c : ℕ) → NoBar (after_backslash c)
-NoBar-after c = option_cases (escaped c) (λ e. rw e (refl, (not_bar c e, tt))) (λ d e. rw e (refl, tt))
+NoBar-after c = option_cases (escape_meaning c) (λ e. rw e (refl, (not_bar c e, tt))) (λ d e. rw e (refl, tt))
 
-unit_or-append : (o : Option ℕ) (c : ℕ) (r : List CellUnit) → unit_or o (plain backslash ∷ plain c ∷ r) r ≡ unit_or o (plain backslash ∷ plain c ∷ []) [] ++ r
+unit_or-append : (o : Option ℕ) (c : ℕ) (r : List CellUnit) → unit_or o (plain_unit backslash ∷ plain_unit c ∷ r) r ≡ unit_or o (plain_unit backslash ∷ plain_unit c ∷ []) [] ++ r
 unit_or-append None c r = refl
 unit_or-append (Some d) c r = refl
 
 -- past a backslash and the character after it
-pub Reads-pair : (front p : List ℕ) (c : ℕ) (us : List CellUnit) → Reads front us → NonePass (λ c. c == backslash) p → NonePass (λ c. c == vertical_bar) p → Reads (front ++ (p ++ backslash ∷ c ∷ [])) (us ++ (map plain p ++ after_backslash c))
+pub Reads-pair : (front p : List ℕ) (c : ℕ) (us : List CellUnit) → Reads front us → NonePass (λ c. c == backslash) p → NonePass (λ c. c == vertical_bar) p → Reads (front ++ (p ++ backslash ∷ c ∷ [])) (us ++ (map plain_unit p ++ after_backslash c))
 Reads-pair front p c us r back bar = record {
   on = λ rest.
       let whole : (front ++ (p ++ backslash ∷ c ∷ [])) ++ rest ≡ front ++ (p ++ backslash ∷ c ∷ rest) =
       append_assoc front (p ++ backslash ∷ c ∷ []) rest ∙ ap (λ q. front ++ q) (append_assoc p (backslash ∷ c ∷ []) rest) in
-      let joined : (us ++ (map plain p ++ after_backslash c)) ++ run rest false ≡ us ++ (map plain p ++ (after_backslash c ++ run rest false)) =
-      append_assoc us (map plain p ++ after_backslash c) (run rest false) ∙ ap (λ q. us ++ q) (append_assoc (map plain p) (after_backslash c) (run rest false)) in
+      let joined : (us ++ (map plain_unit p ++ after_backslash c)) ++ run rest false ≡ us ++ (map plain_unit p ++ (after_backslash c ++ run rest false)) =
+      append_assoc us (map plain_unit p ++ after_backslash c) (run rest false) ∙ ap (λ q. us ++ q) (append_assoc (map plain_unit p) (after_backslash c) (run rest false)) in
       ap (λ q. run q false) whole ∙ r.on (p ++ backslash ∷ c ∷ rest)
-      ∙ ap (λ q. us ++ q) (run-plain p (backslash ∷ c ∷ rest) back ∙ ap (λ q. map plain p ++ q) (unit_or-append (escaped c) c (run rest false)))
+      ∙ ap (λ q. us ++ q) (run-plain p (backslash ∷ c ∷ rest) back ∙ ap (λ q. map plain_unit p ++ q) (unit_or-append (escape_meaning c) c (run rest false)))
       ∙ sym joined;
-  open_row = NoBar-append us (map plain p ++ after_backslash c) r.open_row (NoBar-append (map plain p) (after_backslash c) (NoBar-plain p bar) (NoBar-after c));
+  open_row = NoBar-append us (map plain_unit p ++ after_backslash c) r.open_row (NoBar-append (map plain_unit p) (after_backslash c) (NoBar-plain p bar) (NoBar-after c));
 }
 
-pub units-trimmed : (cs : List ℕ) → units (trimmed cs) ≡ drop_spaces (skip_spaces (units cs))
-unfolding trimmed
+pub units-trimmed : (cs : List ℕ) → units (trimmed_text cs) ≡ drop_spaces (skip_spaces (units cs))
+unfolding trimmed_text
 units-trimmed cs =
     units-run _ ∙ (run-drop (skip_leading_whitespace cs)).0 ∙ ap drop_spaces (run-skip cs ∙ ap skip_spaces (sym (units-run cs)))
 
@@ -214,7 +214,7 @@ widths-units cs = ap widths (units-run cs) ∙ (run-widths cs).0
 -- the units of one character, by itself or after a backslash, and those after it
 pub run-step : (c : ℕ) (cs : List ℕ) (b : Bool) → (b ≡ true ⊎ (c == backslash) ≡ false) → run (c ∷ cs) b ≡ units (if b then backslash ∷ c ∷ [] else c ∷ []) ++ run cs false
 unfolding units
-run-step c cs true h = unit_or-append (escaped c) c (run cs false)
+run-step c cs true h = unit_or-append (escape_meaning c) c (run cs false)
 run-step c cs false (inl e) = absurd (cc)
 run-step c cs false (inr e) = rw e refl
 
@@ -224,8 +224,8 @@ meanings-append (u ∷ us) vs = ap (λ q. u.meaning ∷ q) (meanings-append us v
 
 -- without a backslash each character means itself
 pub plain_means : (cs : List ℕ) → NonePass (λ c. c == backslash) cs → meanings (units cs) ≡ cs
-plain_means cs h = ap (λ q. meanings (units q)) (sym (append-nil cs)) ∙ ap meanings (units-run (cs ++ []) ∙ run-plain cs [] h ∙ append-nil (map plain cs)) ∙ own cs where
-  own : (cs : List ℕ) → meanings (map plain cs) ≡ cs
+plain_means cs h = ap (λ q. meanings (units q)) (sym (append-nil cs)) ∙ ap meanings (units-run (cs ++ []) ∙ run-plain cs [] h ∙ append-nil (map plain_unit cs)) ∙ own cs where
+  own : (cs : List ℕ) → meanings (map plain_unit cs) ≡ cs
   own [] = refl
   own (c ∷ cs) = ap (λ q. c ∷ q) (own cs)
 
@@ -233,15 +233,15 @@ pub alone_means : (c : ℕ) → meanings (units (c ∷ [])) ≡ c ∷ []
 unfolding units
 alone_means c = refl
 
-pub pair_means : (c m : ℕ) → Some m ≡ escaped c → meanings (units (backslash ∷ c ∷ [])) ≡ m ∷ []
+pub pair_means : (c m : ℕ) → Some m ≡ escape_meaning c → meanings (units (backslash ∷ c ∷ [])) ≡ m ∷ []
 unfolding units
-pair_means c m h = ap (λ o. meanings (unit_or o (plain backslash ∷ plain c ∷ []) [])) (sym h)
+pair_means c m h = ap (λ o. meanings (unit_or o (plain_unit backslash ∷ plain_unit c ∷ []) [])) (sym h)
 
-pub two_mean : (c : ℕ) → None ≡ escaped c → meanings (units (backslash ∷ c ∷ [])) ≡ backslash ∷ c ∷ []
+pub two_mean : (c : ℕ) → None ≡ escape_meaning c → meanings (units (backslash ∷ c ∷ [])) ≡ backslash ∷ c ∷ []
 unfolding units
-two_mean c h = ap (λ o. meanings (unit_or o (plain backslash ∷ plain c ∷ []) [])) (sym h)
+two_mean c h = ap (λ o. meanings (unit_or o (plain_unit backslash ∷ plain_unit c ∷ []) [])) (sym h)
 
-pub escaped_scalar : (c m : ℕ) → Some m ≡ escaped c → IsScalar m
+pub escaped_scalar : (c m : ℕ) → Some m ≡ escape_meaning c → IsScalar m
 escaped_scalar c m h = by_test (c == vertical_bar) (c == backslash) (c == letter_n) h where
   by_test : (x y z : Bool) → Some m ≡ cond x (Some vertical_bar) (cond y (Some backslash) (cond z (Some line_feed) None)) → IsScalar m
   by_test true y z e = let is : m ≡ vertical_bar = cc in subst IsScalar (sym is) refl
@@ -278,7 +278,7 @@ turn_end value cs whole n e end inv = ap (λ q. value ++ meanings (run q e)) (sy
 
 -- ---- a row cut at its bars
 
-split-bar : (part rest : List CellUnit) → NoBar part → slice_split is_bar (part ++ plain vertical_bar ∷ rest) ≡ part ∷ slice_split is_bar rest
+split-bar : (part rest : List CellUnit) → NoBar part → slice_split is_bar (part ++ plain_unit vertical_bar ∷ rest) ≡ part ∷ slice_split is_bar rest
 split-bar [] rest h = refl
 split-bar (u ∷ part) rest h = rw (h.0, split-bar part rest h.1) refl
 
@@ -310,8 +310,8 @@ indent_parts (c ∷ cs) rest h =
     (λ e. ([], ap (λ b. cond b (skip_leading_whitespace cs) (c ∷ cs)) (sym e) ∙ h, sym (ap (λ b. cond b (1 + prefix_len is_whitespace cs) 0) e), tt, tt))
 
 -- the row after its indent and first bar
-pub cells-body : (line rest : List ℕ) → body_of line ≡ vertical_bar ∷ rest → cells_of line ≡ cells_from (indent_of line + 1 + 1) (slice_split is_bar (units rest))
-unfolding cells_of body_of indent_of
+pub cells-body : (line rest : List ℕ) → text_after_indent line ≡ vertical_bar ∷ rest → cells_of line ≡ cells_from (indent_of line + 1 + 1) (slice_split is_bar (units rest))
+unfolding cells_of text_after_indent indent_of
 cells-body line rest h =
     let parts = indent_parts line rest h in
     let cut = Reads-bar [] parts.0 rest [] Reads-nil parts.3 parts.4 in
@@ -342,9 +342,9 @@ cells-end old column row whole none inv =
     sym (append-nil (map cell_text old)) ∙ ap (λ q. map cell_text old ++ q) (sym (cells-none column row none)) ∙ inv
 
 -- a row begins with a bar
-pub no_row : (line body : List ℕ) → begins_by (codes "|") line ≡ true → body ≡ body_of line → None ≡ after (codes "|") body → ⊥
+pub no_row : (line body : List ℕ) → begins_by (codes "|") line ≡ true → body ≡ text_after_indent line → None ≡ after (codes "|") body → ⊥
 unfolding begins_by
 no_row line body row is none = false≢true (ap is_some (none ∙ ap (after (codes "|")) is) ∙ row)
 
-pub row_start : (line body rest : List ℕ) → body ≡ body_of line → Some rest ≡ after (codes "|") body → cells_of line ≡ cells_from (indent_of line + 1 + 1) (slice_split is_bar (units rest))
+pub row_start : (line body rest : List ℕ) → body ≡ text_after_indent line → Some rest ≡ after (codes "|") body → cells_of line ≡ cells_from (indent_of line + 1 + 1) (slice_split is_bar (units rest))
 row_start line body rest is some = cells-body line rest (sym is ∙ after-some (codes "|") body rest (sym some))

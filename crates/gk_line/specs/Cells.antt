@@ -9,15 +9,15 @@ pub record CellUnit : Type 0 where
   pub meaning : ℕ
   pub is_pair : Bool
 
-abbrev pub plain : ℕ → CellUnit
-plain c = record { meaning = c; is_pair = false }
+abbrev pub plain_unit : ℕ → CellUnit
+plain_unit c = record { meaning = c; is_pair = false }
 
-abbrev pub pair : ℕ → CellUnit
-pair c = record { meaning = c; is_pair = true }
+abbrev pub pair_unit : ℕ → CellUnit
+pair_unit c = record { meaning = c; is_pair = true }
 
 -- what a backslash and c mean: `\|` a bar, `\\` a backslash, `\n` a line feed
-abbrev pub escaped : ℕ → Option ℕ
-escaped c =
+abbrev pub escape_meaning : ℕ → Option ℕ
+escape_meaning c =
     if c == vertical_bar then Some vertical_bar
     else if c == backslash then Some backslash
     else if c == letter_n then Some line_feed
@@ -26,13 +26,14 @@ escaped c =
 -- the units of a row, where a backslash before any other character is by itself
 abbrev pub unit_or : Option ℕ → List CellUnit → List CellUnit → List CellUnit
 unit_or None alone rest = alone
-unit_or (Some c) alone rest = pair c ∷ rest
+unit_or (Some c) alone rest = pair_unit c ∷ rest
 
 unfoldable pub units : List ℕ → List CellUnit
 units [] = []
-units (c ∷ []) = plain c ∷ []
+units (c ∷ []) = plain_unit c ∷ []
 units (c ∷ d ∷ cs) =
-    unit_or (if c == backslash then escaped d else None) (plain c ∷ units (d ∷ cs)) (units cs)
+    unit_or (if c == backslash then escape_meaning d else None)
+    (plain_unit c ∷ units (d ∷ cs)) (units cs)
 
 -- the characters that the units mean
 abbrev pub meanings : List CellUnit → List ℕ
@@ -94,5 +95,5 @@ NoBar us = AllByRecursion (λ u. is_bar u ≡ false) us
 
 -- part and rest are what is before and after the first bar
 pub record IsCutAtBar (row part rest : List CellUnit) : Type 0 where
-  pub parts : row ≡ part ++ plain vertical_bar ∷ rest
+  pub parts : row ≡ part ++ plain_unit vertical_bar ∷ rest
   pub first : NoBar part

@@ -1,14 +1,15 @@
 -- The text of a line inside a doc string.
 use Rattle.std.specs.Prelude.{ℕ, List, [], ◌∷◌, drop, if◌then◌else◌, nat_lt, zero, suc, is_some}
-use Rattle.gk_line.specs.Texts.{body_of, after}
+use Rattle.gk_line.specs.Texts.{text_after_indent, after}
 use Rattle.gk_line.specs.Tokens.{indent_of}
 use Rattle.gk_document.specs.declared.tree.Fence.{Fence}
 use Rattle.gk_document.specs.declared.tree.Fence.TheVariants.{Quotes, Backticks}
 use Rattle.gk_line.specs.Characters.{backslash, backtick, quotation_mark}
 
 -- the line without as many leading characters as the opening line's indent has, or without its own indent where that is less
-unfoldable pub outdented : ℕ → List ℕ → List ℕ
-outdented indent line = if nat_lt (indent_of line) indent then body_of line else drop indent line
+unfoldable pub outdented_line : ℕ → List ℕ → List ℕ
+outdented_line indent line =
+    if nat_lt (indent_of line) indent then text_after_indent line else drop indent line
 
 abbrev pub fence_mark : Fence → ℕ
 fence_mark Quotes = quotation_mark
@@ -32,4 +33,4 @@ fences_unescaped mark zero (c ∷ cs) =
     else c ∷ fences_unescaped mark 0 cs
 
 unfoldable pub doc_line_of : Fence → ℕ → List ℕ → List ℕ
-doc_line_of fence indent line = fences_unescaped (fence_mark fence) 0 (outdented indent line)
+doc_line_of fence indent line = fences_unescaped (fence_mark fence) 0 (outdented_line indent line)

@@ -17,9 +17,9 @@ end_text LineFeed = line_feed ∷ []
 end_text ReturnAndFeed = carriage_return ∷ line_feed ∷ []
 
 -- lines with their ends, one after another
-abbrev pub written : List (List ℕ × LineEnd) → List ℕ
-written [] = []
-written (cut ∷ rest) = cut.0 ++ (end_text cut.1 ++ written rest)
+abbrev pub joined_lines : List (List ℕ × LineEnd) → List ℕ
+joined_lines [] = []
+joined_lines (cut ∷ rest) = cut.0 ++ (end_text cut.1 ++ joined_lines rest)
 
 -- Whether a line with this end may come before the rest. Only the last line may end with the text, and then it is not
 -- empty. A line that a line feed alone ends does not end in a carriage return, since that would be of the end.
@@ -34,7 +34,7 @@ EndsFit (cut ∷ rest) = EndFits cut.1 cut.0 rest × EndsFit rest
 
 -- these are the lines of the text, with their ends
 pub record AreLines (text : List ℕ) (cuts : List (List ℕ × LineEnd)) : Type 0 where
-  pub whole : text ≡ written cuts
+  pub whole : text ≡ joined_lines cuts
   pub no_line_feed : AllByRecursion (λ cut. NonePass (λ c. c == line_feed) cut.0) cuts
   pub ends : EndsFit cuts
 

@@ -3,7 +3,7 @@ use Rattle.std.specs.Prelude.{ℕ, ◌+◌, ◌==◌, Bool, ◌&&◌, ◌||◌, 
 use Rattle.std.specs.Char.{is_whitespace, is_ascii_alphabetic}
 use Rattle.std.specs.List.{prefix_len, list_all}
 use Rattle.std.specs.Option.{option_map, option_and_then, is_some}
-use Rattle.gk_line.specs.Texts.{body_of, trimmed, after, first_some}
+use Rattle.gk_line.specs.Texts.{text_after_indent, trimmed_text, after, first_some}
 use Rattle.gk_line.specs.declared.tokens.Block.{Block}
 use Rattle.gk_line.specs.declared.tokens.Block.TheVariants.{Feature, Rule, Background, Scenario, Examples}
 use Rattle.gk_document.specs.declared.tree.KeywordType.{KeywordType}
@@ -22,7 +22,7 @@ is_blank_line line = list_all is_whitespace line
 
 -- the line begins with this text, after its indent
 unfoldable pub begins_by : List ℕ → List ℕ → Bool
-begins_by front line = is_some (after front (body_of line))
+begins_by front line = is_some (after front (text_after_indent line))
 
 -- the titles of a block: after the indent one of its keywords, a colon, and the name
 pub record TitleText : Type 0 where
@@ -30,21 +30,21 @@ pub record TitleText : Type 0 where
   pub name : List ℕ
   pub column : ℕ
 
-abbrev pub keywords : Block → List (List ℕ)
-keywords Feature = codes "Feature" ∷ codes "Business Need" ∷ codes "Ability" ∷ []
-keywords Rule = codes "Rule" ∷ []
-keywords Background = codes "Background" ∷ []
-keywords Scenario =
+abbrev pub title_keywords : Block → List (List ℕ)
+title_keywords Feature = codes "Feature" ∷ codes "Business Need" ∷ codes "Ability" ∷ []
+title_keywords Rule = codes "Rule" ∷ []
+title_keywords Background = codes "Background" ∷ []
+title_keywords Scenario =
     codes "Example" ∷ codes "Scenario" ∷ codes "Scenario Outline" ∷ codes "Scenario Template" ∷ []
-keywords Examples = codes "Examples" ∷ codes "Scenarios" ∷ []
+title_keywords Examples = codes "Examples" ∷ codes "Scenarios" ∷ []
 
 unfoldable pub title_of : Block → List ℕ → Option TitleText
 title_of block line =
     first_some
     (λ keyword. option_map
-    (λ rest. record { keyword = keyword; name = trimmed rest; column = indent_of line + 1 })
-    (after (keyword ++ codes ":") (body_of line)))
-    (keywords block)
+    (λ rest. record { keyword = keyword; name = trimmed_text rest; column = indent_of line + 1 })
+    (after (keyword ++ codes ":") (text_after_indent line)))
+    (title_keywords block)
 
 -- the blocks, in the order of their declaration
 abbrev pub blocks : List Block
@@ -74,10 +74,10 @@ step_of line =
     (λ rest. record {
       keyword = word ++ codes " ";
       kind = kind;
-      text = trimmed rest;
+      text = trimmed_text rest;
       column = indent_of line + 1;
     })
-    (after (word ++ codes " ") (body_of line)))
+    (after (word ++ codes " ") (text_after_indent line)))
     step_words
 
 -- lines that open or close a doc string: after the indent three quotes or three backticks, and the media type
@@ -95,8 +95,8 @@ unfoldable pub fence_of : List ℕ → Option FenceText
 fence_of line =
     first_some
     (λ (mark, fence). option_map
-    (λ rest. record { fence = fence; media = trimmed rest; column = indent_of line + 1 })
-    (after mark (body_of line)))
+    (λ rest. record { fence = fence; media = trimmed_text rest; column = indent_of line + 1 })
+    (after mark (text_after_indent line)))
     fences
 
 -- language lines: `#`, `language`, `:` and a word, with any white space before, between and after them
@@ -108,7 +108,8 @@ is_language_word word = not (length word == 0) && list_all is_word_character wor
 
 unfoldable pub language_of : List ℕ → Option (List ℕ)
 language_of line =
-    option_and_then (λ rest. if is_language_word (trimmed rest) then Some (trimmed rest) else None)
-    (option_and_then (λ rest. after (codes ":") (body_of rest))
-    (option_and_then (λ rest. after (codes "language") (body_of rest))
-    (after (codes "#") (body_of line))))
+    option_and_then
+    (λ rest. if is_language_word (trimmed_text rest) then Some (trimmed_text rest) else None)
+    (option_and_then (λ rest. after (codes ":") (text_after_indent rest))
+    (option_and_then (λ rest. after (codes "language") (text_after_indent rest))
+    (after (codes "#") (text_after_indent line))))

@@ -5,7 +5,7 @@ ghost use Rattle.std.specs.List.{list_all};
 ghost use Rattle.std.specs.Str.{chars, IsUtf8};
 ghost use Rattle.std.specs.String.{string_bytes, string_capacity, string_len};
 ghost use Rattle.gk_line.specs.declared.limit.TheConstants.{FEATURE_LIMIT};
-ghost use Rattle.gk_line.specs.DocStrings.{doc_line_of, outdented, fences_unescaped, fence_characters, fence_mark, escaped_mark};
+ghost use Rattle.gk_line.specs.DocStrings.{doc_line_of, outdented_line, fences_unescaped, fence_characters, fence_mark, escaped_mark};
 ghost use Rattle.gk_line.specs.Characters.{backslash};
 ghost use Rattle.gk_line.specs.Views.{line_chars};
 
@@ -109,10 +109,10 @@ fn plain_fence(fence: Fence) -> &'static str
 }
 
 /// The text without as many leading characters, or without its indent where that is shorter.
-#[tactic(auto, unfolding(crate::specs::DocStrings::outdented, crate::specs::Tokens::indent_of))]
+#[tactic(auto, unfolding(crate::specs::DocStrings::outdented_line, crate::specs::Tokens::indent_of))]
 fn outdent(text: &str, indent: u32) -> &str
     requires { length text.now ≤ FEATURE_LIMIT }
-    ensures { chars result.now ≡ outdented indent (chars text.now) }
+    ensures { chars result.now ≡ outdented_line indent (chars text.now) }
 {
     if indent as usize <= ascii_spaces(text) {
         &text[indent as usize..]

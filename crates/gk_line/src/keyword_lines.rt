@@ -6,7 +6,7 @@ ghost use Rattle.std.specs.Option.{option_map};
 ghost use Rattle.gk_line.specs.declared.limit.TheConstants.{FEATURE_LIMIT};
 ghost use Rattle.gk_line.specs.DocStrings.{fence_characters};
 ghost use Rattle.gk_line.specs.Places.{IsAtColumn};
-ghost use Rattle.gk_line.specs.Tokens.{title_of, block_title_of, blocks, step_of, fence_of, language_of, keywords, step_words, is_language_word, is_word_character};
+ghost use Rattle.gk_line.specs.Tokens.{title_of, block_title_of, blocks, step_of, fence_of, language_of, title_keywords, step_words, is_language_word, is_word_character};
 ghost use Rattle.gk_line.specs.Views.{line_chars, title_text, step_text, fence_text};
 
 use crate::kinds::column;
@@ -65,7 +65,7 @@ fn begins_title(byte: u8) -> bool
 
 /// The block that the word is a keyword of.
 fn block_of(word: &str) -> Option<Block>
-    ensures { result ≡ find (λ block. list_any (bytes_eq word.now) (keywords block)) blocks }
+    ensures { result ≡ find (λ block. list_any (bytes_eq word.now) (title_keywords block)) blocks }
 {
     if is_keyword(Block::Feature, word) {
         Some(Block::Feature)
@@ -84,7 +84,7 @@ fn block_of(word: &str) -> Option<Block>
 
 /// Whether the word is one of the keywords of the block.
 fn is_keyword(block: Block, word: &str) -> bool
-    ensures { result ≡ list_any (bytes_eq word.now) (keywords block) }
+    ensures { result ≡ list_any (bytes_eq word.now) (title_keywords block) }
 {
     match block {
         Block::Feature => word == "Feature" || word == "Business Need" || word == "Ability",

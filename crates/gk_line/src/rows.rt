@@ -5,7 +5,7 @@ ghost use Rattle.std.specs.Str.{chars, IsAscii, IsUtf8, NonePass};
 ghost use Rattle.std.specs.String.{string_bytes};
 ghost use Rattle.gk_line.specs.declared.limit.TheConstants.{FEATURE_LIMIT};
 ghost use Rattle.gk_line.specs.Characters.{backslash, vertical_bar};
-ghost use Rattle.gk_line.specs.Cells.{units, escaped, cells_of, cell_at, meanings, IsCutAtBar, NoBar};
+ghost use Rattle.gk_line.specs.Cells.{units, escape_meaning, cells_of, cell_at, meanings, IsCutAtBar, NoBar};
 ghost use Rattle.gk_line.specs.Tokens.{begins_by};
 ghost use Rattle.gk_line.specs.Views.{line_chars, cell_text};
 
@@ -129,7 +129,7 @@ fn push_unit(value: &mut String, escaped: bool, c: char) -> Result<(), AllocErro
 
 /// What a backslash and this character mean, where they are a pair.
 fn unescaped(c: char) -> Option<char>
-    ensures { result ≡ escaped c }
+    ensures { result ≡ escape_meaning c }
 {
     match c {
         '|' | '\\' => Some(c),

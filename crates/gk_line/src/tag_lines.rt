@@ -5,7 +5,7 @@ ghost use Rattle.std.specs.List.{list_any, list_all, AllByRecursion};
 ghost use Rattle.std.specs.Str.{chars, IsUtf8};
 ghost use Rattle.gk_line.specs.declared.limit.TheConstants.{FEATURE_LIMIT};
 ghost use Rattle.gk_line.specs.Places.{IsAtColumn};
-ghost use Rattle.gk_line.specs.Tags.{uncommented, tags_of, spaced_piece, is_tag, has_space, piece_at};
+ghost use Rattle.gk_line.specs.Tags.{uncommented_line, tags_of, spaced_piece, is_tag, has_space, piece_at};
 ghost use Rattle.gk_line.specs.Texts.{after, is_visible_ascii};
 ghost use Rattle.gk_line.specs.Tokens.{begins_by};
 ghost use Rattle.gk_line.specs.Views.{line_chars, tag_word, IsTagFault};
@@ -97,7 +97,7 @@ fn is_visible_ascii(word: &str) -> bool
 
 /// The text up to the first white space that `#` follows.
 fn without_comment(text: &str) -> &str
-    ensures value { chars result.now ≡ uncommented (chars text.now) }
+    ensures value { chars result.now ≡ uncommented_line (chars text.now) }
     ensures bound { length result.now ≤ length text.now }
 {
     match cut(text, b'#') {
@@ -108,7 +108,7 @@ fn without_comment(text: &str) -> &str
 
 /// The same, one character after another.
 fn before_comment(text: &str) -> &str
-    ensures value { chars result.now ≡ uncommented (chars text.now) }
+    ensures value { chars result.now ≡ uncommented_line (chars text.now) }
     ensures bound { length result.now ≤ length text.now }
 {
     let mut rest = text;

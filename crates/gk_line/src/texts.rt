@@ -4,14 +4,14 @@ ghost use Rattle.std.specs.Char.{is_ascii, is_whitespace};
 ghost use Rattle.std.specs.List.{list_all, prefix_len};
 ghost use Rattle.std.specs.Option.{option_map};
 ghost use Rattle.std.specs.Str.{chars, drop_trailing_whitespace, NonePass, IsUtf8};
-ghost use Rattle.gk_line.specs.Texts.{body_of, trimmed, after, is_ascii_space, TakesFirst, IsCutAt};
+ghost use Rattle.gk_line.specs.Texts.{text_after_indent, trimmed_text, after, is_ascii_space, TakesFirst, IsCutAt};
 
 use memchr::memchr;
 
 /// The text without the white space at its start.
 #[inline(always)]
 pub(crate) fn trim_start(text: &str) -> &str
-    ensures value { chars result.now ≡ body_of (chars text.now) }
+    ensures value { chars result.now ≡ text_after_indent (chars text.now) }
     ensures bound { length result.now ≤ length text.now }
 {
     let rest = past_ascii_spaces(text);
@@ -25,7 +25,7 @@ pub(crate) fn trim_start(text: &str) -> &str
 #[cold]
 #[inline(never)]
 fn trim_start_by_characters(text: &str) -> &str
-    ensures value { chars result.now ≡ body_of (chars text.now) }
+    ensures value { chars result.now ≡ text_after_indent (chars text.now) }
     ensures bound { length result.now ≤ length text.now }
 {
     text.trim_start()
@@ -68,7 +68,7 @@ fn begins_in_ascii(text: &str) -> bool
 /// The text without the white space at both its ends.
 #[inline(always)]
 pub(crate) fn trim(text: &str) -> &str
-    ensures { chars result.now ≡ trimmed (chars text.now) }
+    ensures { chars result.now ≡ trimmed_text (chars text.now) }
 {
     trim_end(trim_start(text))
 }

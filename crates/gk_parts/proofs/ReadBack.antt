@@ -12,7 +12,7 @@ use Rattle.gk_document.specs.declared.tree.Rule.{Rule}
 use Rattle.gk_document.specs.declared.tree.Feature.{Feature}
 use Rattle.gk_document.specs.declared.tree.Document.{Document}
 use Rattle.gk_parts.specs.Parts.{Part, FeaturePart, RulePart, BackgroundPart, ScenarioPart, StepPart, ExamplesPart, HeaderPart, RowPart}
-use Rattle.gk_parts.specs.Parts.{background_parts, table_parts, examples_parts, scenario_parts, children_parts, rule_parts, feature_parts, parts, outer}
+use Rattle.gk_parts.specs.Parts.{background_parts, table_parts, examples_parts, scenario_parts, children_parts, rule_parts, feature_parts, parts, outer_part}
 
 -- what has been read, and is inside a part that is still to come
 record Read : Type 0 where
@@ -132,7 +132,7 @@ parts_back : (d : Document) → read_back nothing (parts d) ≡ record nothing {
 parts_back d = option_back feature_parts (λ f. record nothing { feature = f }) feature_back d.feature
 
 -- a part takes what is inside it in the place of what it had
-outer_taken : (p : Part) (r : Read) → with_part (outer p) r ≡ with_part p r
+outer_taken : (p : Part) (r : Read) → with_part (outer_part p) r ≡ with_part p r
 outer_taken (FeaturePart x) r = refl
 outer_taken (RulePart x) r = refl
 outer_taken (BackgroundPart x) r = refl
@@ -142,12 +142,12 @@ outer_taken (ExamplesPart x) r = refl
 outer_taken (HeaderPart x) r = refl
 outer_taken (RowPart x) r = refl
 
-outer_back : (r : Read) (ps : List Part) → read_back r (map outer ps) ≡ read_back r ps
+outer_back : (r : Read) (ps : List Part) → read_back r (map outer_part ps) ≡ read_back r ps
 outer_back r [] = refl
-outer_back r (p ∷ ps) = outer_taken p (read_back r (map outer ps)) ∙ ap (with_part p) (outer_back r ps)
+outer_back r (p ∷ ps) = outer_taken p (read_back r (map outer_part ps)) ∙ ap (with_part p) (outer_back r ps)
 
 -- so documents whose parts are equal, but for what is inside them, have one feature
-pub one_feature : (a b : Document) → map outer (parts a) ≡ map outer (parts b) → a.feature ≡ b.feature
+pub one_feature : (a b : Document) → map outer_part (parts a) ≡ map outer_part (parts b) → a.feature ≡ b.feature
 one_feature a b same =
     ap (λ (r : Read). r.feature)
     (sym (outer_back nothing (parts a) ∙ parts_back a) ∙ ap (read_back nothing) same ∙ outer_back nothing (parts b) ∙ parts_back b)

@@ -29,15 +29,15 @@ pub data Part : Type 0 where
   RowPart : Row → Part
 
 -- the part, as the code holds it
-abbrev pub seen : DeclaredPart → Part
-seen (declared.Feature f) = FeaturePart f.now
-seen (declared.Rule r) = RulePart r.now
-seen (declared.Background b) = BackgroundPart b.now
-seen (declared.Scenario s) = ScenarioPart s.now
-seen (declared.Step s) = StepPart s.now
-seen (declared.Examples e) = ExamplesPart e.now
-seen (declared.Header r) = HeaderPart r.now
-seen (declared.Row r) = RowPart r.now
+abbrev pub part_view : DeclaredPart → Part
+part_view (declared.Feature f) = FeaturePart f.now
+part_view (declared.Rule r) = RulePart r.now
+part_view (declared.Background b) = BackgroundPart b.now
+part_view (declared.Scenario s) = ScenarioPart s.now
+part_view (declared.Step s) = StepPart s.now
+part_view (declared.Examples e) = ExamplesPart e.now
+part_view (declared.Header r) = HeaderPart r.now
+part_view (declared.Row r) = RowPart r.now
 
 -- ---- the parts in the order of the tree, each before what is inside it
 
@@ -71,36 +71,36 @@ parts d = flat_map feature_parts (option_to_list d.feature)
 -- ---- what is compared of a part
 
 -- what the skeleton has of the part
-abbrev pub bare : Part → Part
-bare (FeaturePart f) = FeaturePart (bare_feature f)
-bare (RulePart r) = RulePart (bare_rule r)
-bare (BackgroundPart b) = BackgroundPart (bare_background b)
-bare (ScenarioPart s) = ScenarioPart (bare_scenario s)
-bare (StepPart s) = StepPart (bare_step s)
-bare (ExamplesPart e) = ExamplesPart (bare_examples e)
-bare (HeaderPart r) = HeaderPart (bare_row r)
-bare (RowPart r) = RowPart (bare_row r)
+abbrev pub bare_part : Part → Part
+bare_part (FeaturePart f) = FeaturePart (bare_feature f)
+bare_part (RulePart r) = RulePart (bare_rule r)
+bare_part (BackgroundPart b) = BackgroundPart (bare_background b)
+bare_part (ScenarioPart s) = ScenarioPart (bare_scenario s)
+bare_part (StepPart s) = StepPart (bare_step s)
+bare_part (ExamplesPart e) = ExamplesPart (bare_examples e)
+bare_part (HeaderPart r) = HeaderPart (bare_row r)
+bare_part (RowPart r) = RowPart (bare_row r)
 
 -- the part without the parts inside it
-abbrev pub outer : Part → Part
-outer (FeaturePart f) =
+abbrev pub outer_part : Part → Part
+outer_part (FeaturePart f) =
     FeaturePart (record f { background = None; scenarios = []; rules = [] })
-outer (RulePart r) = RulePart (record r { background = None; scenarios = [] })
-outer (BackgroundPart b) = BackgroundPart (record b { steps = [] })
-outer (ScenarioPart s) = ScenarioPart (record s { steps = []; examples = [] })
-outer (StepPart s) = StepPart s
-outer (ExamplesPart e) = ExamplesPart (record e { table = None })
-outer (HeaderPart r) = HeaderPart r
-outer (RowPart r) = RowPart r
+outer_part (RulePart r) = RulePart (record r { background = None; scenarios = [] })
+outer_part (BackgroundPart b) = BackgroundPart (record b { steps = [] })
+outer_part (ScenarioPart s) = ScenarioPart (record s { steps = []; examples = [] })
+outer_part (StepPart s) = StepPart s
+outer_part (ExamplesPart e) = ExamplesPart (record e { table = None })
+outer_part (HeaderPart r) = HeaderPart r
+outer_part (RowPart r) = RowPart r
 
 -- the part alone: without the parts inside it, and without what the skeleton drops
-abbrev pub alone : Part → Part
-alone p = outer (bare p)
+abbrev pub part_alone : Part → Part
+part_alone p = outer_part (bare_part p)
 
 -- the part alone, as the code holds it
-abbrev pub shown : DeclaredPart → Part
-shown p = alone (seen p)
+abbrev pub part_view_alone : DeclaredPart → Part
+part_view_alone p = part_alone (part_view p)
 
 -- the parts of a document, each alone
 abbrev pub parts_alone : Document → List Part
-parts_alone d = map alone (parts d)
+parts_alone d = map part_alone (parts d)

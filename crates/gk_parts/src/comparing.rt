@@ -1,13 +1,13 @@
 //! Whether two parts are alike, each alone.
 ghost use Rattle.std.specs.Prelude.{◌≡◌, ◌↔◌, IsTrue};
-ghost use Rattle.gk_parts.specs.Parts.{seen, alone, FeaturePart, RulePart, BackgroundPart, ScenarioPart, ExamplesPart};
+ghost use Rattle.gk_parts.specs.Parts.{part_view, part_alone, FeaturePart, RulePart, BackgroundPart, ScenarioPart, ExamplesPart};
 
 use crate::listing::Part;
 use gk_document::{Background, Bare, Examples, Feature, Rule, Scenario, are_like};
 
 /// Whether the features are alike, each alone.
 fn same_feature(a: &Feature, b: &Feature) -> bool
-    ensures { IsTrue result ↔ (alone (FeaturePart a.now) ≡ alone (FeaturePart b.now)) }
+    ensures { IsTrue result ↔ (part_alone (FeaturePart a.now) ≡ part_alone (FeaturePart b.now)) }
 {
     a.location.line == b.location.line
         && are_like(a.tags.as_slice(), b.tags.as_slice())
@@ -18,7 +18,7 @@ fn same_feature(a: &Feature, b: &Feature) -> bool
 
 /// Whether the rules are alike, each alone.
 fn same_rule(a: &Rule, b: &Rule) -> bool
-    ensures { IsTrue result ↔ (alone (RulePart a.now) ≡ alone (RulePart b.now)) }
+    ensures { IsTrue result ↔ (part_alone (RulePart a.now) ≡ part_alone (RulePart b.now)) }
 {
     a.location.line == b.location.line
         && are_like(a.tags.as_slice(), b.tags.as_slice())
@@ -28,14 +28,15 @@ fn same_rule(a: &Rule, b: &Rule) -> bool
 
 /// Whether the backgrounds are alike, each alone.
 fn same_background(a: &Background, b: &Background) -> bool
-    ensures { IsTrue result ↔ (alone (BackgroundPart a.now) ≡ alone (BackgroundPart b.now)) }
+    ensures { IsTrue result
+        ↔ (part_alone (BackgroundPart a.now) ≡ part_alone (BackgroundPart b.now)) }
 {
     a.location.line == b.location.line && a.keyword == b.keyword && a.name == b.name
 }
 
 /// Whether the scenarios are alike, each alone.
 fn same_scenario(a: &Scenario, b: &Scenario) -> bool
-    ensures { IsTrue result ↔ (alone (ScenarioPart a.now) ≡ alone (ScenarioPart b.now)) }
+    ensures { IsTrue result ↔ (part_alone (ScenarioPart a.now) ≡ part_alone (ScenarioPart b.now)) }
 {
     a.location.line == b.location.line
         && are_like(a.tags.as_slice(), b.tags.as_slice())
@@ -45,7 +46,7 @@ fn same_scenario(a: &Scenario, b: &Scenario) -> bool
 
 /// Whether the examples blocks are alike, each alone.
 fn same_examples(a: &Examples, b: &Examples) -> bool
-    ensures { IsTrue result ↔ (alone (ExamplesPart a.now) ≡ alone (ExamplesPart b.now)) }
+    ensures { IsTrue result ↔ (part_alone (ExamplesPart a.now) ≡ part_alone (ExamplesPart b.now)) }
 {
     a.location.line == b.location.line
         && are_like(a.tags.as_slice(), b.tags.as_slice())
@@ -60,7 +61,8 @@ impl<'a> Part<'a> {
     /// The parts inside a part are not compared, nor are node numbers, columns, descriptions,
     /// fences and keyword types.
     pub fn is_like(&self, other: &Part<'_>) -> bool
-        ensures { IsTrue result ↔ (alone (seen self.now) ≡ alone (seen other.now)) }
+        ensures { IsTrue result
+            ↔ (part_alone (part_view self.now) ≡ part_alone (part_view other.now)) }
     {
         match (self, other) {
             (Part::Feature(a), Part::Feature(b)) => same_feature(a, b),

@@ -2,7 +2,7 @@
 ghost use Rattle.std.specs.Prelude.{◌≡◌, ◌↔◌, ◌≤◌, Some, IfOk, IfSome, IsTrue, MatchOption, length, map, option_map, take};
 ghost use Rattle.std.specs.Option.{IsNone};
 ghost use Rattle.gk_document.specs.Skeleton.{skeleton};
-ghost use Rattle.gk_parts.specs.Parts.{alone, seen, shown, parts_alone};
+ghost use Rattle.gk_parts.specs.Parts.{part_alone, part_view, part_view_alone, parts_alone};
 ghost use Rattle.gk_parts.specs.FirstDifference.{HasNext, IsFirstDifference};
 
 use crate::listing::{Part, parts};
@@ -19,8 +19,8 @@ pub struct FirstDifference<'a> {
 /// The part at a place, or none at the end.
 fn part_at<'a>(listed: &[Part<'a>], place: usize) -> Option<Part<'a>>
     requires { place ≤ length listed.now }
-    ensures { HasNext (map shown (take place listed.now)) (map shown listed.now)
-        (option_map shown result) }
+    ensures { HasNext (map part_view_alone (take place listed.now)) (map part_view_alone listed.now)
+        (option_map part_view_alone result) }
 {
     if place < listed.len() {
         Some(listed[place])
@@ -31,7 +31,8 @@ fn part_at<'a>(listed: &[Part<'a>], place: usize) -> Option<Part<'a>>
 
 /// Whether there is a part like this one.
 fn is_like(part: &Part<'_>, other: &Option<Part<'_>>) -> bool
-    ensures { IsTrue result ↔ (Some (shown part.now) ≡ option_map shown other.now) }
+    ensures { IsTrue result
+        ↔ (Some (part_view_alone part.now) ≡ option_map part_view_alone other.now) }
 {
     match other {
         Some(other) => part.is_like(other),
@@ -41,9 +42,9 @@ fn is_like(part: &Part<'_>, other: &Option<Part<'_>>) -> bool
 
 /// Where two lists of parts first differ.
 fn first_unlike<'a>(expected: &[Part<'a>], found: &[Part<'a>]) -> Option<FirstDifference<'a>>
-    ensures { MatchOption result (map shown expected.now ≡ map shown found.now)
-        (λ d. IsFirstDifference (map shown expected.now) (map shown found.now)
-        (option_map shown d.expected) (option_map shown d.found)) }
+    ensures { MatchOption result (map part_view_alone expected.now ≡ map part_view_alone found.now)
+        (λ d. IsFirstDifference (map part_view_alone expected.now) (map part_view_alone found.now)
+        (option_map part_view_alone d.expected) (option_map part_view_alone d.found)) }
 {
     for (i, part) in expected.iter().enumerate() {
         let other = part_at(found, i);
@@ -77,7 +78,7 @@ pub fn first_difference<'a>(
         (λ d. IsNone d ↔ (skeleton expected.now ≡ skeleton found.now)) }
     ensures first { IfOk result
         (λ d. IfSome d (λ d. IsFirstDifference (parts_alone expected.now) (parts_alone found.now)
-        (option_map shown d.expected) (option_map shown d.found))) }
+        (option_map part_view_alone d.expected) (option_map part_view_alone d.found))) }
 {
     let expected = parts(alloc, expected)?;
     let found = parts(alloc, found)?;

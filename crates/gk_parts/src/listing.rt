@@ -2,7 +2,7 @@
 ghost use Rattle.std.specs.Prelude.{◌≡◌, ◌++◌, ◌∷◌, [], map, IfOk, OnOk};
 ghost use Rattle.std.specs.List.{flat_map};
 ghost use Rattle.std.specs.Option.{option_to_list};
-ghost use Rattle.gk_parts.specs.Parts.{Part as PartSeen, StepPart, RowPart, seen, background_parts, table_parts};
+ghost use Rattle.gk_parts.specs.Parts.{Part as PartSeen, StepPart, RowPart, part_view, background_parts, table_parts};
 ghost use Rattle.gk_parts.specs.Parts.{examples_parts, scenario_parts, children_parts, rule_parts, feature_parts};
 ghost use Rattle.gk_parts.specs.Parts.{parts as all_parts};
 
@@ -29,7 +29,7 @@ pub enum Part<'a> {
 /// Adds one part.
 fn add<'a>(part: Part<'a>, made: &mut Vec<Part<'a>>) -> Result<(), AllocError>
     ensures { OnOk result
-        (map seen made.new.items ≡ map seen made.old.items ++ seen part.entry ∷ []) }
+        (map part_view made.new.items ≡ map part_view made.old.items ++ part_view part.entry ∷ []) }
 {
     Ok(made.push(part)?)
 }
@@ -37,7 +37,7 @@ fn add<'a>(part: Part<'a>, made: &mut Vec<Part<'a>>) -> Result<(), AllocError>
 /// Adds steps.
 fn add_steps<'a>(steps: &'a [Step], made: &mut Vec<Part<'a>>) -> Result<(), AllocError>
     ensures { OnOk result
-        (map seen made.new.items ≡ map seen made.old.items ++ map StepPart steps.now) }
+        (map part_view made.new.items ≡ map part_view made.old.items ++ map StepPart steps.now) }
 {
     for step in steps {
         add(Part::Step(step), made)?;
@@ -48,7 +48,7 @@ fn add_steps<'a>(steps: &'a [Step], made: &mut Vec<Part<'a>>) -> Result<(), Allo
 /// Adds the rows below a header.
 fn add_rows<'a>(rows: &'a [Row], made: &mut Vec<Part<'a>>) -> Result<(), AllocError>
     ensures { OnOk result
-        (map seen made.new.items ≡ map seen made.old.items ++ map RowPart rows.now) }
+        (map part_view made.new.items ≡ map part_view made.old.items ++ map RowPart rows.now) }
 {
     for row in rows {
         add(Part::Row(row), made)?;
@@ -62,8 +62,9 @@ fn add_background<'a>(
     made: &mut Vec<Part<'a>>,
 ) -> Result<(), AllocError>
     ensures { OnOk result
-        (map seen made.new.items
-        ≡ map seen made.old.items ++ flat_map background_parts (option_to_list background.now)) }
+        (map part_view made.new.items
+        ≡ map part_view made.old.items
+        ++ flat_map background_parts (option_to_list background.now)) }
 {
     if let Some(background) = background {
         add(Part::Background(background), made)?;
@@ -78,8 +79,8 @@ fn add_table<'a>(
     made: &mut Vec<Part<'a>>,
 ) -> Result<(), AllocError>
     ensures { OnOk result
-        (map seen made.new.items
-        ≡ map seen made.old.items ++ flat_map table_parts (option_to_list table.now)) }
+        (map part_view made.new.items
+        ≡ map part_view made.old.items ++ flat_map table_parts (option_to_list table.now)) }
 {
     if let Some(table) = table {
         add(Part::Header(&table.header), made)?;
@@ -91,7 +92,8 @@ fn add_table<'a>(
 /// Adds an examples block and its table.
 fn add_examples<'a>(examples: &'a Examples, made: &mut Vec<Part<'a>>) -> Result<(), AllocError>
     ensures { OnOk result
-        (map seen made.new.items ≡ map seen made.old.items ++ examples_parts examples.now) }
+        (map part_view made.new.items
+        ≡ map part_view made.old.items ++ examples_parts examples.now) }
 {
     add(Part::Examples(examples), made)?;
     add_table(&examples.table, made)
@@ -100,8 +102,8 @@ fn add_examples<'a>(examples: &'a Examples, made: &mut Vec<Part<'a>>) -> Result<
 /// Adds examples blocks.
 fn add_blocks<'a>(blocks: &'a [Examples], made: &mut Vec<Part<'a>>) -> Result<(), AllocError>
     ensures { OnOk result
-        (map seen made.new.items
-        ≡ map seen made.old.items ++ flat_map examples_parts blocks.now) }
+        (map part_view made.new.items
+        ≡ map part_view made.old.items ++ flat_map examples_parts blocks.now) }
 {
     for block in blocks {
         add_examples(block, made)?;
@@ -112,7 +114,8 @@ fn add_blocks<'a>(blocks: &'a [Examples], made: &mut Vec<Part<'a>>) -> Result<()
 /// Adds a scenario, its steps and its examples blocks.
 fn add_scenario<'a>(scenario: &'a Scenario, made: &mut Vec<Part<'a>>) -> Result<(), AllocError>
     ensures { OnOk result
-        (map seen made.new.items ≡ map seen made.old.items ++ scenario_parts scenario.now) }
+        (map part_view made.new.items
+        ≡ map part_view made.old.items ++ scenario_parts scenario.now) }
 {
     add(Part::Scenario(scenario), made)?;
     add_steps(scenario.steps.as_slice(), made)?;
@@ -122,8 +125,8 @@ fn add_scenario<'a>(scenario: &'a Scenario, made: &mut Vec<Part<'a>>) -> Result<
 /// Adds scenarios.
 fn add_scenarios<'a>(scenarios: &'a [Scenario], made: &mut Vec<Part<'a>>) -> Result<(), AllocError>
     ensures { OnOk result
-        (map seen made.new.items
-        ≡ map seen made.old.items ++ flat_map scenario_parts scenarios.now) }
+        (map part_view made.new.items
+        ≡ map part_view made.old.items ++ flat_map scenario_parts scenarios.now) }
 {
     for scenario in scenarios {
         add_scenario(scenario, made)?;
@@ -134,7 +137,7 @@ fn add_scenarios<'a>(scenarios: &'a [Scenario], made: &mut Vec<Part<'a>>) -> Res
 /// Adds a rule, its background and its scenarios.
 fn add_rule<'a>(rule: &'a Rule, made: &mut Vec<Part<'a>>) -> Result<(), AllocError>
     ensures { OnOk result
-        (map seen made.new.items ≡ map seen made.old.items ++ rule_parts rule.now) }
+        (map part_view made.new.items ≡ map part_view made.old.items ++ rule_parts rule.now) }
 {
     add(Part::Rule(rule), made)?;
     add_background(&rule.background, made)?;
@@ -144,7 +147,8 @@ fn add_rule<'a>(rule: &'a Rule, made: &mut Vec<Part<'a>>) -> Result<(), AllocErr
 /// Adds rules.
 fn add_rules<'a>(rules: &'a [Rule], made: &mut Vec<Part<'a>>) -> Result<(), AllocError>
     ensures { OnOk result
-        (map seen made.new.items ≡ map seen made.old.items ++ flat_map rule_parts rules.now) }
+        (map part_view made.new.items
+        ≡ map part_view made.old.items ++ flat_map rule_parts rules.now) }
 {
     for rule in rules {
         add_rule(rule, made)?;
@@ -155,7 +159,7 @@ fn add_rules<'a>(rules: &'a [Rule], made: &mut Vec<Part<'a>>) -> Result<(), Allo
 /// Adds a feature, its background, its scenarios and its rules.
 fn add_feature<'a>(feature: &'a Feature, made: &mut Vec<Part<'a>>) -> Result<(), AllocError>
     ensures { OnOk result
-        (map seen made.new.items ≡ map seen made.old.items ++ feature_parts feature.now) }
+        (map part_view made.new.items ≡ map part_view made.old.items ++ feature_parts feature.now) }
 {
     add(Part::Feature(feature), made)?;
     add_background(&feature.background, made)?;
@@ -169,7 +173,7 @@ fn add_feature<'a>(feature: &'a Feature, made: &mut Vec<Part<'a>>) -> Result<(),
 /// # Errors
 /// Only where there is no memory for the list.
 pub fn parts(alloc: Global, document: &Document) -> Result<Vec<Part<'_>>, AllocError>
-    ensures { IfOk result (λ made. map seen made.items ≡ all_parts document.now) }
+    ensures { IfOk result (λ made. map part_view made.items ≡ all_parts document.now) }
 {
     let mut made = Vec::new(alloc);
     if let Some(feature) = &document.feature {

@@ -6,8 +6,8 @@ use Rattle.std.proofs.lemmas.Bool.{cases_lt}
 use Rattle.std.proofs.lemmas.List.{get_or_at, take_at, drop_at, take-take}
 use Rattle.std.proofs.lemmas.Str.{IsUtf8-append, IsUtf8-take, IsUtf8-drop, IsCharBoundary-before_ascii, IsCharBoundary-from_take, encodes-append, encodes-chars, chars-append, length-le-encodes}
 use lib.Utf8.{encode, encodes}
-use Rattle.gk_pickle.specs.Fill.{placeholder, replaced, filled}
-use Rattle.gk_pickle.specs.Cut.{Lacks, IsFirst, IsCut, joined}
+use Rattle.gk_pickle.specs.Fill.{placeholder, replaced_text, filled_text}
+use Rattle.gk_pickle.specs.Cut.{Lacks, IsFirst, IsCut, joined_parts}
 use Rattle.gk_pickle.specs.Characters.{by_characters, FillsCharacters}
 use Rattle.gk_pickle.proofs.Cutting.{replaced_is_joined, joined_is_replaced}
 
@@ -120,18 +120,18 @@ cut_chars name text part (next ∷ others) n u cut =
       others_utf8 = (more.part_utf8, more.others_utf8);
     }
 
-joined_utf8 : (cell part : List ℕ) (others : List (List ℕ)) → IsUtf8 cell → IsUtf8 part → AllByRecursion IsUtf8 others → IsUtf8 (joined cell part others)
+joined_utf8 : (cell part : List ℕ) (others : List (List ℕ)) → IsUtf8 cell → IsUtf8 part → AllByRecursion IsUtf8 others → IsUtf8 (joined_parts cell part others)
 joined_utf8 cell part [] c p o = p
-joined_utf8 cell part (next ∷ others) c p o = IsUtf8-append part (cell ++ joined cell next others) p (IsUtf8-append cell (joined cell next others) c (joined_utf8 cell next others c o.0 o.1))
+joined_utf8 cell part (next ∷ others) c p o = IsUtf8-append part (cell ++ joined_parts cell next others) p (IsUtf8-append cell (joined_parts cell next others) c (joined_utf8 cell next others c o.0 o.1))
 
 joined_chars : (cell part : List ℕ) (others : List (List ℕ)) → IsUtf8 cell → IsUtf8 part → AllByRecursion IsUtf8 others
-    → chars (joined cell part others) ≡ joined (chars cell) (chars part) (map chars others)
+    → chars (joined_parts cell part others) ≡ joined_parts (chars cell) (chars part) (map chars others)
 joined_chars cell part [] c p o = refl
 joined_chars cell part (next ∷ others) c p o =
-    chars-append part (cell ++ joined cell next others) p
-    ∙ ap (λ x. chars part ++ x) (chars-append cell (joined cell next others) c ∙ ap (λ x. chars cell ++ x) (joined_chars cell next others c o.0 o.1))
+    chars-append part (cell ++ joined_parts cell next others) p
+    ∙ ap (λ x. chars part ++ x) (chars-append cell (joined_parts cell next others) c ∙ ap (λ x. chars cell ++ x) (joined_chars cell next others c o.0 o.1))
 
-pub replaced_utf8 : (name cell text : List ℕ) → IsUtf8 name → IsUtf8 cell → IsUtf8 text → IsUtf8 (replaced (placeholder name) cell text)
+pub replaced_utf8 : (name cell text : List ℕ) → IsUtf8 name → IsUtf8 cell → IsUtf8 text → IsUtf8 (replaced_text (placeholder name) cell text)
 replaced_utf8 name cell text n c u =
     let cut = replaced_is_joined (placeholder name) cell text (omega arith) in
     let parts = cut_chars name text cut.0 cut.1 n u cut.2 in
@@ -139,7 +139,7 @@ replaced_utf8 name cell text n c u =
     subst P (sym cut.3) (joined_utf8 cell cut.0 cut.1 c parts.part_utf8 parts.others_utf8)
 
 pub replaced_chars : (name cell text : List ℕ) → IsUtf8 name → IsUtf8 cell → IsUtf8 text
-    → chars (replaced (placeholder name) cell text) ≡ replaced (placeholder (chars name)) (chars cell) (chars text)
+    → chars (replaced_text (placeholder name) cell text) ≡ replaced_text (placeholder (chars name)) (chars cell) (chars text)
 replaced_chars name cell text n c u =
     let cut = replaced_is_joined (placeholder name) cell text (omega arith) in
     let parts = cut_chars name text cut.0 cut.1 n u cut.2 in
@@ -150,5 +150,5 @@ pub fills_characters : FillsCharacters
 fills_characters text [] row u h r = refl
 fills_characters text (name ∷ names) [] u h r = refl
 fills_characters text (name ∷ names) (cell ∷ cells) u h r =
-    fills_characters (replaced (placeholder name.value) cell.value text) names cells (replaced_utf8 name.value cell.value text h.0 r.0 u) h.1 r.1
-    ∙ ap (λ t. filled t (map by_characters names) (map by_characters cells)) (replaced_chars name.value cell.value text h.0 r.0 u)
+    fills_characters (replaced_text (placeholder name.value) cell.value text) names cells (replaced_utf8 name.value cell.value text h.0 r.0 u) h.1 r.1
+    ∙ ap (λ t. filled_text t (map by_characters names) (map by_characters cells)) (replaced_chars name.value cell.value text h.0 r.0 u)

@@ -6,7 +6,7 @@ use Rattle.std.specs.List.{starts_with}
 use Rattle.std.specs.Prelude.{nat_eq}
 use Rattle.memchr.specs.Find.{OccursAt}
 use Rattle.memchr.proofs.lemmas.MatchLemmas.{OccursAt-split, OccursAt-from_part}
-use Rattle.gk_pickle.specs.Fill.{replaced}
+use Rattle.gk_pickle.specs.Fill.{replaced_text}
 use Rattle.gk_pickle.specs.Cut.{IsFirst, IsCut, ReplacedIsJoined, JoinedIsReplaced}
 use Rattle.gk_pickle.proofs.Replacing.{nowhere, first, later, earlier, starts, occurs, fits_of}
 
@@ -79,8 +79,8 @@ joined_is_replaced p cell t part (next ∷ others) some cut =
     let long = before_at p t j o in
     let low = cut.2 (take j t) (drop (j + length p) t) (split_at p t j o) in
     omega arith)
-    ∙ ap (λ x. x ++ (cell ++ replaced p cell (drop (length part + length p) t))) front
-    ∙ ap (λ x. part ++ (cell ++ replaced p cell x)) (after_of p t part rest e)
+    ∙ ap (λ x. x ++ (cell ++ replaced_text p cell (drop (length part + length p) t))) front
+    ∙ ap (λ x. part ++ (cell ++ replaced_text p cell x)) (after_of p t part rest e)
     ∙ ap (λ x. part ++ (cell ++ x)) (joined_is_replaced p cell rest next others some cut.3)
 
 pub replaced_is_joined : ReplacedIsJoined

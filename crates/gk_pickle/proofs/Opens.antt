@@ -6,11 +6,11 @@ use Rattle.std.proofs.Math.Seq.{get_or-append_seam}
 use Rattle.std.proofs.lemmas.Str.{IsCharBoundary-after_ascii}
 use Rattle.std.specs.Str.{IsUtf8, IsCharBoundary}
 use Rattle.gk_pickle.specs.declared.fill_single_pass.Open.{Open}
-use Rattle.gk_pickle.specs.SinglePass.{raised, AreOpenIn}
+use Rattle.gk_pickle.specs.SinglePass.{raised_opens, AreOpenIn}
 
 -- the last one, set
 pub last_raised : (xs : List Open) (o : Open) (n m done : ℕ) → n ≡ length xs → 0 < n → o ≡ get_or xs (n - 1) o → m ≡ max o.done done
-    → reverse (set xs (n - 1) (record { start = o.start; done = m })) ≡ raised done (reverse xs)
+    → reverse (set xs (n - 1) (record { start = o.start; done = m })) ≡ raised_opens done (reverse xs)
 last_raised xs o n m done same some at e =
     let front : List Open = take (n - 1) xs in
     let new : Open = record { start = o.start; done = m } in
@@ -20,7 +20,7 @@ last_raised xs o n m done same some at e =
     sym (take_all (length xs) xs (omega arith)) ∙ ap (λ k. take k xs) (sym all) ∙ take_more xs (n - 1) o (omega arith) ∙ ap (λ x. front ++ x ∷ []) (sym at) in
     ap (λ ys. reverse (set ys (n - 1) new)) whole ∙ ap reverse (set_at front o [] new (n - 1) long) ∙ reverse-append front (new ∷ [])
     ∙ ap (λ k. record { start = o.start; done = k } ∷ reverse front) e
-    ∙ ap (raised done) (sym (ap reverse whole ∙ reverse-append front (o ∷ [])))
+    ∙ ap (raised_opens done) (sym (ap reverse whole ∙ reverse-append front (o ∷ [])))
 
 -- more is written after it
 pub stand_more : (out more : List ℕ) (os : List Open) → AreOpenIn out os → AreOpenIn (out ++ more) os

@@ -12,10 +12,10 @@ use Rattle.gk_document.specs.declared.tree.Scenario.{Scenario}
 use Rattle.gk_document.specs.declared.tree.Rule.{Rule}
 use Rattle.gk_document.specs.declared.tree.Feature.{Feature}
 use Rattle.gk_pickle.specs.declared.pickle.PickleStep.{PickleStep}
-use Rattle.gk_pickle.specs.Inherited.{Inherited, Filling, unfilled}
-use Rattle.gk_pickle.specs.Steps.{steps_after, keywords, pickle_steps}
+use Rattle.gk_pickle.specs.Inherited.{Inherited, Filling, no_filling}
+use Rattle.gk_pickle.specs.Steps.{steps_after, keyword_types, pickle_steps}
 use Rattle.gk_pickle.specs.Pickles.{pickle_of, row_filling, table_pickles, examples_pickles, outline_pickles, scenario_pickles, background_steps, in_feature, in_rule, rule_pickles, pickles_in, pickles}
-use Rattle.gk_pickle.specs.Order.{rule_steps, document_steps, IsSubsequence, own_node, ComesFrom, StepsInDocumentOrder}
+use Rattle.gk_pickle.specs.Order.{rule_steps, document_steps, IsSubsequence, first_node, ComesFrom, StepsInDocumentOrder}
 
 pub front : (xs ys all : List Step) → IsSubsequence (xs ++ ys) all → IsSubsequence xs all
 front [] ys all h = tt
@@ -60,7 +60,7 @@ module _ {A : Type 0} (P : A → Type 0) where
   of_flat_map f (x ∷ xs) h = of_parts (f x) (flat_map f xs) (h x) (of_flat_map f xs h)
 
 abbrev named : PickleStep → Option ℕ
-named s = own_node s.nodes
+named s = first_node s.nodes
 
 abbrev node : Step → Option ℕ
 node s = Some s.node
@@ -78,9 +78,9 @@ from_steps background [] all f h = ([], tt, refl)
 from_steps background (s ∷ ss) all f h = (
   background ++ s ∷ ss,
   h,
-  map-append named (steps_after [] unfilled background) (steps_after (keywords background) f (s ∷ ss))
-      ∙ ap (λ l. l ++ map named (steps_after (keywords background) f (s ∷ ss))) (nodes_of [] unfilled background)
-      ∙ ap (λ l. map node background ++ l) (nodes_of (keywords background) f (s ∷ ss))
+  map-append named (steps_after [] no_filling background) (steps_after (keyword_types background) f (s ∷ ss))
+      ∙ ap (λ l. l ++ map named (steps_after (keyword_types background) f (s ∷ ss))) (nodes_of [] no_filling background)
+      ∙ ap (λ l. map node background ++ l) (nodes_of (keyword_types background) f (s ∷ ss))
       ∙ sym (map-append node background (s ∷ ss)),
 )
 
@@ -93,7 +93,7 @@ module _ (inherited : Inherited) (s : Scenario) (all : List Step) (h : IsSubsequ
   from_table tags (Some table) = of_map (ComesFrom all) (λ (row : Row). pickle_of inherited s tags (row_filling table.header row)) table.body (λ row. from_pickle tags (row_filling table.header row))
 
   from_outline : (blocks : List Examples) → AllByRecursion (ComesFrom all) (outline_pickles inherited s blocks)
-  from_outline [] = (from_pickle [] unfilled, tt)
+  from_outline [] = (from_pickle [] no_filling, tt)
   from_outline (e ∷ es) = of_flat_map (ComesFrom all) (examples_pickles inherited s) (e ∷ es) (λ block. from_table block.tags block.table)
 
 from_scenarios : (inherited : Inherited) (ss : List Scenario) (all : List Step) → IsSubsequence (inherited.steps ++ flat_map own_steps ss) all

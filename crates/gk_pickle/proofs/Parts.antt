@@ -8,7 +8,7 @@ use Rattle.std.specs.Str.{IsUtf8}
 use Rattle.gk_document.specs.declared.tree.Cell.{Cell}
 use Rattle.gk_pickle.specs.declared.fill_single_pass.Open.{Open}
 use Rattle.gk_pickle.specs.declared.fill_single_pass.Part.{Part}
-use Rattle.gk_pickle.specs.SinglePass.{is_bracket, HasNoBracket, columns_named, Reading, added, opened, closed, closed_in, brought, step, read_to, read, read_parts, AreWithin, replacement, closed_by, weight, byte_weight, work}
+use Rattle.gk_pickle.specs.SinglePass.{is_bracket, HasNoBracket, columns_named, Reading, with_bytes, with_open, closed_placeholder, closed_in, with_cell_read, step, read_to, read, read_parts, AreWithin, replacement, closed_by, weight, byte_weight, work}
 use Rattle.gk_pickle.proofs.Reading.{Found, Reads, at_column, From, find_from, read_plain, deeper}
 
 pub ok_then : {T E : Type 0} (r : Result T E) {P Q : Type 0} → (P → Q) → OnOk r P → OnOk r Q
@@ -33,8 +33,8 @@ none_is given found is e = sym (ap found_of is) ∙ e
 -- the innermost `<` is closed
 pub closes : (header row : List Cell) (done : ℕ) (out : List ℕ) (items rest : List Open) (o : Open) (m : ℕ) (name : List ℕ) (found : Option Found)
     → items ≡ rest ++ o ∷ [] → m ≡ max o.done done → name ≡ drop (o.start + 1) out → found ≡ replacement header row m name
-    → (found ≡ (closed header row done (record { out = out; opens = reverse items })).0)
-    × (closed_by found out o.start (reverse rest) ≡ (closed header row done (record { out = out; opens = reverse items })).1)
+    → (found ≡ (closed_placeholder header row done (record { out = out; opens = reverse items })).0)
+    × (closed_by found out o.start (reverse rest) ≡ (closed_placeholder header row done (record { out = out; opens = reverse items })).1)
 closes header row done out items rest o m name found e em en ef =
     let all : reverse items ≡ o ∷ reverse rest = ap reverse e ∙ reverse-append rest (o ∷ []) in
     rw (all, ef, em, en) (refl, refl)
@@ -43,21 +43,21 @@ module _ (header row : List Cell) where
   abbrev reads : Reads
   reads = read_to (length row) header row
 
-  plain_read : (done : ℕ) (text : List ℕ) (r : Reading) → HasNoBracket text → read header row done text r ≡ added text r
+  plain_read : (done : ℕ) (text : List ℕ) (r : Reading) → HasNoBracket text → read header row done text r ≡ with_bytes text r
   plain_read done text r h = ap (λ t. read header row done t r) (sym (append-nil text)) ∙ read_plain reads header row done text [] r h
 
   cut_read : (done : ℕ) (text before after : List ℕ) (b : ℕ) (r : Reading) → text ≡ before ++ b ∷ after → HasNoBracket before
-      → read header row done text r ≡ read header row done after (step reads header row done b (added before r))
+      → read header row done text r ≡ read header row done after (step reads header row done b (with_bytes before r))
   cut_read done text before after b r e h = ap (λ t. read header row done t r) e ∙ read_plain reads header row done before (b ∷ after) r h
 
   -- a part without brackets
-  pub part_read : (part : Part) (ps : List Part) (r new : Reading) → HasNoBracket part.text.now → new ≡ added part.text.now r
+  pub part_read : (part : Part) (ps : List Part) (r new : Reading) → HasNoBracket part.text.now → new ≡ with_bytes part.text.now r
       → read_parts header row ps new ≡ read_parts header row (part ∷ ps) r
   part_read part ps r new h n = ap (read_parts header row ps) (n ∙ sym (plain_read part.done part.text.now r h))
 
   -- what is left of a part
   module _ (part : Part) (before : List ℕ) (b : ℕ) (after : Bor (List ℕ)) (items all : List Part) (r more new : Reading)
-      (cut : part.text.now ≡ before ++ b ∷ after.now) (plain : HasNoBracket before) (m : more ≡ added before r) where
+      (cut : part.text.now ≡ before ++ b ∷ after.now) (plain : HasNoBracket before) (m : more ≡ with_bytes before r) where
     abbrev left : Part
     left = record { text = after; done = part.done }
 
@@ -68,19 +68,19 @@ module _ (header row : List Cell) where
         ∙ ap (λ s. read_parts header row (reverse items) (read header row part.done after.now s)) (n ∙ ap (step reads header row part.done b) m)
         ∙ ap (read_parts header row (reverse items)) (sym (cut_read part.done part.text.now before after.now b r cut plain))
 
-    pub open_read : all ≡ items ++ left ∷ [] → b ≡ 60 → new ≡ opened part.done more
+    pub open_read : all ≡ items ++ left ∷ [] → b ≡ 60 → new ≡ with_open part.done more
         → read_parts header row (reverse all) new ≡ read_parts header row (part ∷ reverse items) r
     open_read a is n = left_read a (n ∙ sym (cond-true _ _ _ (eq-eqb b 60 is)))
 
-    closing : is_bracket b ≡ true → (b ≡ 60 → ⊥) → step reads header row part.done b more ≡ brought reads (closed header row part.done more).0 (closed header row part.done more).1
+    closing : is_bracket b ≡ true → (b ≡ 60 → ⊥) → step reads header row part.done b more ≡ with_cell_read reads (closed_placeholder header row part.done more).0 (closed_placeholder header row part.done more).1
     closing bracket other =
         let is : b == 62 ≡ true = ⊎_elim (λ y. absurd (other (eqb-true b 60 y))) (λ y. y) (or_cases (b == 60) (b == 62) bracket) in
         cond-false _ _ _ (false_from_ne_true _ (λ t. other (eqb-true b 60 t))) ∙ cond-true _ _ _ is
 
-    pub close_read : all ≡ items ++ left ∷ [] → is_bracket b ≡ true → (b ≡ 60 → ⊥) → None ≡ (closed header row part.done more).0 → new ≡ (closed header row part.done more).1
+    pub close_read : all ≡ items ++ left ∷ [] → is_bracket b ≡ true → (b ≡ 60 → ⊥) → None ≡ (closed_placeholder header row part.done more).0 → new ≡ (closed_placeholder header row part.done more).1
         → read_parts header row (reverse all) new ≡ read_parts header row (part ∷ reverse items) r
     close_read a bracket other none n =
-        left_read a (n ∙ ap (λ f. brought reads f (closed header row part.done more).1) none ∙ sym (closing bracket other))
+        left_read a (n ∙ ap (λ f. with_cell_read reads f (closed_placeholder header row part.done more).1) none ∙ sym (closing bracket other))
 
     left_read_of : (push : List Part) → push ≡ items ++ left ∷ []
         → read_parts header row (reverse push) (step reads header row part.done b more) ≡ read_parts header row (part ∷ reverse items) r
@@ -92,13 +92,13 @@ module _ (header row : List Cell) where
 
     -- and what a cell brings
     pub bring_read : (column : ℕ) (cell : Bor (List ℕ)) (push : List Part) → push ≡ items ++ left ∷ [] → all ≡ push ++ record { text = cell; done = column + 1 } ∷ []
-        → is_bracket b ≡ true → (b ≡ 60 → ⊥) → Some (column, cell.now) ≡ (closed header row part.done more).0 → new ≡ (closed header row part.done more).1 → column < length row
+        → is_bracket b ≡ true → (b ≡ 60 → ⊥) → Some (column, cell.now) ≡ (closed_placeholder header row part.done more).0 → new ≡ (closed_placeholder header row part.done more).1 → column < length row
         → read_parts header row (reverse all) new ≡ read_parts header row (part ∷ reverse items) r
     bring_read column cell push u a bracket other found n l =
         let whole : read header row (column + 1) cell.now new ≡ step reads header row part.done b more =
         deeper header row (suc (length row)) (length row) (column + 1) (omega arith) (omega arith) (omega arith) cell.now new
         ∙ ap (reads (column + 1) cell.now) n
-        ∙ ap (λ f. brought reads f (closed header row part.done more).1) found ∙ sym (closing bracket other) in
+        ∙ ap (λ f. with_cell_read reads f (closed_placeholder header row part.done more).1) found ∙ sym (closing bracket other) in
         ap (λ ps. read_parts header row (reverse ps) new) a ∙ ap (λ ps. read_parts header row ps new) (reverse-append push (record { text = cell; done = column + 1 } ∷ []))
         ∙ ap (read_parts header row (reverse push)) whole
         ∙ left_read_of push u
@@ -181,7 +181,7 @@ module _ (row : List Cell) (part : Part) (before : List ℕ) (b : ℕ) (after : 
       omega arith
 
   pub less_brought : (header : List Cell) (more : Reading) (column : ℕ) (cell : Bor (List ℕ)) (all : List Part) → all ≡ push ++ record { text = cell; done = column + 1 } ∷ []
-      → Some (column, cell.now) ≡ (closed header row part.done more).0 → work row all < work row (part ∷ items)
+      → Some (column, cell.now) ≡ (closed_placeholder header row part.done more).0 → work row all < work row (part ∷ items)
   less_brought header more column cell all a found =
       let P : Option Found → Type 0 = Lighter row part.done in
       let light : weight (byte_weight (drop (column + 1) row)) cell.now < byte = subst P (sym found) (lighter header row part.done more.out more.opens) in

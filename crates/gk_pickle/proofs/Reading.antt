@@ -7,8 +7,8 @@ use Rattle.std.proofs.lemmas.List.{drop_at, take_at, drop-append-le}
 use Rattle.std.proofs.lemmas.Slice.Eq.{bytes_eq-Decides}
 use Rattle.gk_document.specs.declared.tree.Cell.{Cell}
 use Rattle.gk_pickle.specs.declared.fill_single_pass.Open.{Open}
-use Rattle.gk_pickle.specs.Fill.{placeholder, replaced, filled}
-use Rattle.gk_pickle.specs.SinglePass.{is_bracket, HasNoBracket, HaveNoBracket, columns_named, replacement, Reading, nothing_read, added, opened, raised, closed_by, closed_in, brought, step, read_by, read_to, read}
+use Rattle.gk_pickle.specs.Fill.{placeholder, replaced_text, filled_text}
+use Rattle.gk_pickle.specs.SinglePass.{is_bracket, HasNoBracket, HaveNoBracket, columns_named, replacement, Reading, nothing_read, with_bytes, with_open, raised_opens, closed_by, closed_in, with_cell_read, step, read_by, read_to, read}
 use Rattle.std.proofs.lemmas.Option.{slice_get_cases}
 use Rattle.gk_pickle.proofs.Replacing.{nowhere, starts, occurs, fits_of, first, not_at_front, length-placeholder}
 use Rattle.gk_pickle.proofs.Cutting.{split_at, place_of}
@@ -21,14 +21,14 @@ module _ (reads : Reads) (header row : List Cell) (done : ℕ) where
   abbrev go : List ℕ → Reading → Reading
   go text r = read_by reads header row done text r
 
-  step_plain : (b : ℕ) (r : Reading) → is_bracket b ≡ false → step reads header row done b r ≡ added (b ∷ []) r
+  step_plain : (b : ℕ) (r : Reading) → is_bracket b ≡ false → step reads header row done b r ≡ with_bytes (b ∷ []) r
   step_plain b r h = let parts = or_parts (b == 60) (b == 62) h in cond-false _ _ _ parts.0 ∙ cond-false _ _ _ parts.1
 
   -- bytes that are no brackets are only added
-  pub read_plain : (before rest : List ℕ) (r : Reading) → HasNoBracket before → go (before ++ rest) r ≡ go rest (added before r)
+  pub read_plain : (before rest : List ℕ) (r : Reading) → HasNoBracket before → go (before ++ rest) r ≡ go rest (with_bytes before r)
   read_plain [] rest r h = ap (λ o. go rest (record r { out = o })) (sym (append-nil r.out))
   read_plain (b ∷ bs) rest r h =
-      ap (go (bs ++ rest)) (step_plain b r h.0) ∙ read_plain bs rest (added (b ∷ []) r) h.1
+      ap (go (bs ++ rest)) (step_plain b r h.0) ∙ read_plain bs rest (with_bytes (b ∷ []) r) h.1
       ∙ ap (λ o. go rest (record r { out = o })) (append_assoc r.out (b ∷ []) bs)
 
   read_both : (front back : List ℕ) (r : Reading) → go (front ++ back) r ≡ go back (go front r)
@@ -38,7 +38,7 @@ module _ (reads : Reads) (header row : List Cell) (done : ℕ) where
   -- where no name is replaced, the text stays
   module _ (none : (from : ℕ) (name : List ℕ) → replacement header row from name ≡ None) where
     abbrev after_close : (Option (ℕ × List ℕ) × Reading) → Reading
-    after_close c = brought reads c.0 c.1
+    after_close c = with_cell_read reads c.0 c.1
 
     out_closed : (out : List ℕ) (opens : List Open) → (after_close (closed_in header row done out opens)).out ≡ out ++ 62 ∷ []
     out_closed out [] = refl
@@ -106,13 +106,13 @@ replaced_within header row m from name le = later_from row m from _ le (cell_wit
 module _ (header row : List Cell) where
   module _ (reads others : Reads) (done : ℕ)
       (alike : (column : ℕ) (text : List ℕ) (r : Reading) → done ≤ column → column < length row → reads (column + 1) text r ≡ others (column + 1) text r) where
-    brought_alike : (found : Option Found) (r : Reading) → Within row done found → brought reads found r ≡ brought others found r
+    brought_alike : (found : Option Found) (r : Reading) → Within row done found → with_cell_read reads found r ≡ with_cell_read others found r
     brought_alike None r h = refl
     brought_alike (Some f) r h = alike f.0 f.1 r h.0 h.1
 
     closed_alike : (out : List ℕ) (opens : List Open)
-        → brought reads (closed_in header row done out opens).0 (closed_in header row done out opens).1
-        ≡ brought others (closed_in header row done out opens).0 (closed_in header row done out opens).1
+        → with_cell_read reads (closed_in header row done out opens).0 (closed_in header row done out opens).1
+        ≡ with_cell_read others (closed_in header row done out opens).0 (closed_in header row done out opens).1
     closed_alike out [] = refl
     closed_alike out (o ∷ os) = brought_alike _ _ (replaced_within header row done (max o.done done) (drop (o.start + 1) out) (omega arith))
 
@@ -188,13 +188,13 @@ module _ (n : Cell) (ns : List Cell) (c : Cell) (cs : List Cell) where
   abbrev shifted : Reading → Reading
   shifted r = record { out = r.out; opens = map less r.opens }
 
-  raised_less : (k : ℕ) (os : List Open) → map less (raised (suc k + 1) os) ≡ raised (k + 1) (map less os)
+  raised_less : (k : ℕ) (os : List Open) → map less (raised_opens (suc k + 1) os) ≡ raised_opens (k + 1) (map less os)
   raised_less k [] = refl
   raised_less k (o ∷ os) =
       let same : max o.done (suc k + 1) - 1 ≡ max (o.done - 1) (k + 1) = omega arith in
       ap (λ d. record { start = o.start; done = d } ∷ map less os) same
 
-  raised_first : (os : List Open) → map less (raised 1 os) ≡ map less os
+  raised_first : (os : List Open) → map less (raised_opens 1 os) ≡ map less os
   raised_first [] = refl
   raised_first (o ∷ os) =
       let same : max o.done 1 - 1 ≡ o.done - 1 = omega arith in
@@ -213,22 +213,22 @@ module _ (n : Cell) (ns : List Cell) (c : Cell) (cs : List Cell) where
   -- One step is the same by the columns after the first, where reading what a later cell brings is.
   module _ (reads others : Reads) (done less_done : ℕ) (one : done - 1 ≡ less_done)
       (agree : (k : ℕ) (text : List ℕ) (r : Reading) → k < length cs → shifted (reads (suc k + 1) text r) ≡ others (k + 1) text (shifted r)) where
-    brought_less : (found : Option Found) (r : Reading) → Within cs 0 found → shifted (brought reads (option_map later found) r) ≡ brought others found (shifted r)
+    brought_less : (found : Option Found) (r : Reading) → Within cs 0 found → shifted (with_cell_read reads (option_map later found) r) ≡ with_cell_read others found (shifted r)
     brought_less None r h = refl
     brought_less (Some f) r h = agree f.0 f.1 r h.1
 
     close_less : (out : List ℕ) (opens : List Open) → Other done out opens
-        → shifted (brought reads (closed_in (n ∷ ns) (c ∷ cs) done out opens).0 (closed_in (n ∷ ns) (c ∷ cs) done out opens).1)
-        ≡ brought others (closed_in ns cs less_done out (map less opens)).0 (closed_in ns cs less_done out (map less opens)).1
+        → shifted (with_cell_read reads (closed_in (n ∷ ns) (c ∷ cs) done out opens).0 (closed_in (n ∷ ns) (c ∷ cs) done out opens).1)
+        ≡ with_cell_read others (closed_in ns cs less_done out (map less opens)).0 (closed_in ns cs less_done out (map less opens)).1
     close_less out [] h = refl
     close_less out (o ∷ os) h =
         let name : List ℕ = drop (o.start + 1) out in
         let from : max o.done done - 1 ≡ max (o.done - 1) less_done = omega (arith, one) in
         let found : Option Found = replacement ns cs (max (o.done - 1) less_done) name in
-        ap (λ f. shifted (brought reads f (closed_by f out o.start os)))
+        ap (λ f. shifted (with_cell_read reads f (closed_by f out o.start os)))
         (replaced_later (max o.done done) name h ∙ ap (λ m. option_map later (replacement ns cs m name)) from)
         ∙ brought_less found (closed_by (option_map later found) out o.start os) (replaced_within ns cs 0 (max (o.done - 1) less_done) name (omega arith))
-        ∙ ap (brought others found) (closed_less found out o.start os)
+        ∙ ap (with_cell_read others found) (closed_less found out o.start os)
 
     step_less : (b : ℕ) (r : Reading) → (b ≡ 62 → Other done r.out r.opens)
         → shifted (step reads (n ∷ ns) (c ∷ cs) done b r) ≡ step others ns cs less_done b (shifted r)
@@ -273,17 +273,17 @@ module _ (n : Cell) (ns : List Cell) (c : Cell) (cs : List Cell) where
   Done [] = ⊤
   Done (o ∷ os) = 1 ≤ o.done
 
-  done_raised : (k : ℕ) (os : List Open) → Done (raised (k + 1) os)
+  done_raised : (k : ℕ) (os : List Open) → Done (raised_opens (k + 1) os)
   done_raised k [] = tt
   done_raised k (o ∷ os) = omega arith
 
   module _ (reads : Reads) (kept : (k : ℕ) (text : List ℕ) (r : Reading) → Done r.opens → Done (reads (k + 1) text r).opens) where
-    done_brought : (found : Option Found) (out : List ℕ) (start : ℕ) (os : List Open) → Done (brought reads found (closed_by found out start os)).opens
+    done_brought : (found : Option Found) (out : List ℕ) (start : ℕ) (os : List Open) → Done (with_cell_read reads found (closed_by found out start os)).opens
     done_brought None out start os = tt
     done_brought (Some f) out start os = kept f.0 f.1 _ (done_raised f.0 os)
 
     done_closed : (done : ℕ) (out : List ℕ) (opens : List Open)
-        → Done (brought reads (closed_in (n ∷ ns) (c ∷ cs) done out opens).0 (closed_in (n ∷ ns) (c ∷ cs) done out opens).1).opens
+        → Done (with_cell_read reads (closed_in (n ∷ ns) (c ∷ cs) done out opens).0 (closed_in (n ∷ ns) (c ∷ cs) done out opens).1).opens
     done_closed done out [] = tt
     done_closed done out (o ∷ os) = done_brought (replacement (n ∷ ns) (c ∷ cs) (max o.done done) (drop (o.start + 1) out)) out o.start os
 
@@ -381,7 +381,7 @@ module _ (n : Cell) (ns : List Cell) (c : Cell) (cs : List Cell) where
 
   -- a placeholder of the first column
   abbrev first_done : Reading → Reading
-  first_done r = record { out = r.out; opens = raised 1 r.opens }
+  first_done r = record { out = r.out; opens = raised_opens 1 r.opens }
 
   one_filled : (rest : List ℕ) (r : Reading) → HasNoBracket n.value
       → read_by by_all (n ∷ ns) (c ∷ cs) 0 (60 ∷ (n.value ++ 62 ∷ rest)) r ≡ read_by by_all (n ∷ ns) (c ∷ cs) 0 rest (by_all 1 c.value (first_done r))
@@ -392,9 +392,9 @@ module _ (n : Cell) (ns : List Cell) (c : Cell) (cs : List Cell) where
       let name : drop (length r.out + 1) out ≡ n.value = drop_at (r.out ++ 60 ∷ []) n.value (length r.out + 1) (omega arith) in
       let front : take (length r.out) out ≡ r.out =
       ap (take (length r.out)) (append_assoc r.out (60 ∷ []) n.value) ∙ take_at r.out (60 ∷ n.value) (length r.out) refl in
-      read_plain by_all (n ∷ ns) (c ∷ cs) 0 n.value (62 ∷ rest) (opened 0 r) plain
-      ∙ ap (λ f. go (brought by_all f (closed_by f out (length r.out) r.opens))) (ap (replacement (n ∷ ns) (c ∷ cs) 0) name ∙ replaced_first)
-      ∙ ap (λ o. go (by_all 1 c.value (record { out = o; opens = raised 1 r.opens }))) front
+      read_plain by_all (n ∷ ns) (c ∷ cs) 0 n.value (62 ∷ rest) (with_open 0 r) plain
+      ∙ ap (λ f. go (with_cell_read by_all f (closed_by f out (length r.out) r.opens))) (ap (replacement (n ∷ ns) (c ∷ cs) 0) name ∙ replaced_first)
+      ∙ ap (λ o. go (by_all 1 c.value (record { out = o; opens = raised_opens 1 r.opens }))) front
 
   first_read : (r : Reading) → shifted (by_all 1 c.value (first_done r)) ≡ read_by by_others ns cs 0 c.value (shifted r)
   first_read r =
@@ -406,7 +406,7 @@ module _ (n : Cell) (ns : List Cell) (c : Cell) (cs : List Cell) where
     p = placeholder n.value
 
     without_first : (size : ℕ) (text : List ℕ) (r : Reading) → length text ≤ size → NotFirstIn r text
-        → (read_by by_all (n ∷ ns) (c ∷ cs) 0 text r).out ≡ (read_by by_others ns cs 0 (replaced p c.value text) (shifted r)).out
+        → (read_by by_all (n ∷ ns) (c ∷ cs) 0 text r).out ≡ (read_by by_others ns cs 0 (replaced_text p c.value text) (shifted r)).out
     without_first size [] r le h =
         let long = length-placeholder n.value in
         ap (λ t. (read_by by_others ns cs 0 t (shifted r)).out) (sym (nowhere p c.value [] (λ k o. let fits = o.fits in absurd (omega arith))))
@@ -422,18 +422,18 @@ module _ (n : Cell) (ns : List Cell) (c : Cell) (cs : List Cell) where
         let done : Done after.opens = done_kept (suc (length cs)) 0 c.value (first_done r) (done_raised 0 r.opens) in
         ap (λ t. (read_by by_all (n ∷ ns) (c ∷ cs) 0 t r).out) text ∙ ap (λ (s : Reading). s.out) (one_filled rest r name_plain)
         ∙ without_first size rest after (omega (arith, length-drop (0 + length p) (b ∷ bs))) (done_not_first after.out after.opens rest done)
-        ∙ ap (λ s. (read_by by_others ns cs 0 (replaced p c.value rest) s).out) (first_read r)
-        ∙ ap (λ (s : Reading). s.out) (sym (read_both by_others ns cs 0 c.value (replaced p c.value rest) (shifted r)))
+        ∙ ap (λ s. (read_by by_others ns cs 0 (replaced_text p c.value rest) s).out) (first_read r)
+        ∙ ap (λ (s : Reading). s.out) (sym (read_both by_others ns cs 0 c.value (replaced_text p c.value rest) (shifted r)))
         ∙ ap (λ t. (read_by by_others ns cs 0 t (shifted r)).out) (sym (first p c.value (b ∷ bs) 0 (omega arith) here (λ j l o. absurd (omega arith)))))
         (λ miss.
         without_first size bs (step by_all (n ∷ ns) (c ∷ cs) 0 b r) (omega arith) (not_first_step b bs r miss h)
-        ∙ ap (λ s. (read_by by_others ns cs 0 (replaced p c.value bs) s).out) (shifted_step b bs r h)
+        ∙ ap (λ s. (read_by by_others ns cs 0 (replaced_text p c.value bs) s).out) (shifted_step b bs r h)
         ∙ ap (λ t. (read_by by_others ns cs 0 t (shifted r)).out) (sym (not_at_front p c.value b bs (λ o. both_ways _ miss (starts (b ∷ bs) p o)))))
         (cases_Bool (starts_with nat_eq (b ∷ bs) p))
 
-pub one_reading_fills : (text : List ℕ) (header row : List Cell) → HaveNoBracket header → (read header row zero text nothing_read).out ≡ filled text header row
+pub one_reading_fills : (text : List ℕ) (header row : List Cell) → HaveNoBracket header → (read header row zero text nothing_read).out ≡ filled_text text header row
 one_reading_fills text [] row h = out_read (read_to (length row) [] row) [] row zero (no_header row) text nothing_read
 one_reading_fills text (n ∷ ns) [] h = out_read (read_to zero (n ∷ ns) []) (n ∷ ns) [] zero (no_row (n ∷ ns)) text nothing_read
 one_reading_fills text (n ∷ ns) (c ∷ cs) h =
     without_first n ns c cs h.0 (length text) text nothing_read (le_refl (length text)) tt
-    ∙ one_reading_fills (replaced (placeholder n.value) c.value text) ns cs h.1
+    ∙ one_reading_fills (replaced_text (placeholder n.value) c.value text) ns cs h.1

@@ -17,13 +17,13 @@ replaced_after zero pattern cell (b ∷ bs) =
     then cell ++ replaced_after (length pattern - 1) pattern cell bs
     else b ∷ replaced_after 0 pattern cell bs
 
-abbrev pub replaced : List ℕ → List ℕ → List ℕ → List ℕ
-replaced pattern cell text = replaced_after 0 pattern cell text
+abbrev pub replaced_text : List ℕ → List ℕ → List ℕ → List ℕ
+replaced_text pattern cell text = replaced_after 0 pattern cell text
 
 -- Column by column, each `<header>` in the text so far is replaced by the row's cell (Cucumber's Gherkin reference,
 -- "Scenario Outline"). Columns that only the header or only the row has fill nothing.
-abbrev pub filled : List ℕ → List Cell → List Cell → List ℕ
-filled text [] row = text
-filled text (name ∷ names) [] = text
-filled text (name ∷ names) (cell ∷ cells) =
-    filled (replaced (placeholder name.value) cell.value text) names cells
+abbrev pub filled_text : List ℕ → List Cell → List Cell → List ℕ
+filled_text text [] row = text
+filled_text text (name ∷ names) [] = text
+filled_text text (name ∷ names) (cell ∷ cells) =
+    filled_text (replaced_text (placeholder name.value) cell.value text) names cells

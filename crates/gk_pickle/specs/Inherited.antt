@@ -16,5 +16,5 @@ pub record Filling : Type 0 where
   pub rows : List ℕ
 
 -- without examples nothing is filled, and no row is named
-abbrev pub unfilled : Filling
-unfilled = record { header = []; cells = []; rows = [] }
+abbrev pub no_filling : Filling
+no_filling = record { header = []; cells = []; rows = [] }

@@ -32,15 +32,15 @@ IsSubsequence (s ∷ ss) all =
     (before rest : List Step) × (all ≡ before ++ s ∷ rest) × IsSubsequence ss rest
 
 -- the node that a step of a pickle names first
-abbrev pub own_node : List ℕ → Option ℕ
-own_node [] = None
-own_node (node ∷ others) = Some node
+abbrev pub first_node : List ℕ → Option ℕ
+first_node [] = None
+first_node (node ∷ others) = Some node
 
 -- the steps of a pickle name, one by one, steps that are in these in order
 abbrev pub ComesFrom : List Step → Pickle → Type 0
 ComesFrom all p =
     (steps : List Step) × IsSubsequence steps all
-    × (map (λ s. own_node s.nodes) p.steps ≡ map (λ s. Some s.node) steps)
+    × (map (λ s. first_node s.nodes) p.steps ≡ map (λ s. Some s.node) steps)
 
 abbrev pub StepsInDocumentOrder : Type 0
 StepsInDocumentOrder =

@@ -14,7 +14,7 @@ use Rattle.gk_document.specs.declared.tree.Feature.{Feature}
 use Rattle.gk_document.specs.declared.tree.Document.{Document}
 use Rattle.gk_pickle.specs.declared.pickle.PickleTag.{PickleTag}
 use Rattle.gk_pickle.specs.declared.pickle.Pickle.{Pickle}
-use Rattle.gk_pickle.specs.Inherited.{Inherited, Filling, unfilled}
+use Rattle.gk_pickle.specs.Inherited.{Inherited, Filling, no_filling}
 use Rattle.gk_pickle.specs.Steps.{filled_by, pickle_steps}
 
 abbrev pub pickle_tag : Tag → PickleTag
@@ -43,7 +43,7 @@ examples_pickles inherited s e = table_pickles inherited s e.tags e.table
 
 -- one without examples blocks, else those of each block
 abbrev pub outline_pickles : Inherited → Scenario → List Examples → List Pickle
-outline_pickles inherited s [] = pickle_of inherited s [] unfilled ∷ []
+outline_pickles inherited s [] = pickle_of inherited s [] no_filling ∷ []
 outline_pickles inherited s (e ∷ es) = flat_map (examples_pickles inherited s) (e ∷ es)
 
 abbrev pub scenario_pickles : Inherited → Scenario → List Pickle

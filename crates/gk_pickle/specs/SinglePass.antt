@@ -39,27 +39,27 @@ pub record Reading : Type 0 where
 abbrev pub nothing_read : Reading
 nothing_read = record { out = []; opens = [] }
 
-abbrev pub added : List ℕ → Reading → Reading
-added bytes r = record r { out = r.out ++ bytes }
+abbrev pub with_bytes : List ℕ → Reading → Reading
+with_bytes bytes r = record r { out = r.out ++ bytes }
 
 -- a `<`, in whose place `done` columns are done
-abbrev pub opened : ℕ → Reading → Reading
-opened done r = record {
+abbrev pub with_open : ℕ → Reading → Reading
+with_open done r = record {
   out = r.out ++ 60 ∷ [];
   opens = record { start = length r.out; done = done } ∷ r.opens;
 }
 
 -- around a placeholder that is filled, the columns before `done` are done
-abbrev pub raised : ℕ → List Open → List Open
-raised done [] = []
-raised done (o ∷ os) = record o { done = max o.done done } ∷ os
+abbrev pub raised_opens : ℕ → List Open → List Open
+raised_opens done [] = []
+raised_opens done (o ∷ os) = record o { done = max o.done done } ∷ os
 
 -- a `>` that closes no placeholder is written, and no `<` before it opens one; else the placeholder goes
 abbrev pub closed_by : Option (ℕ × List ℕ) → List ℕ → ℕ → List Open → Reading
 closed_by None out start around = record { out = out ++ 62 ∷ []; opens = [] }
 closed_by (Some found) out start around = record {
   out = take start out;
-  opens = raised (found.0 + 1) around;
+  opens = raised_opens (found.0 + 1) around;
 }
 
 -- the column and the cell of the placeholder that a `>` closes, in whose place `done` columns are done, and what then is written
@@ -70,20 +70,23 @@ closed_in header row done out (o ∷ os) =
     let found = replacement header row (max o.done done) (drop (o.start + 1) out) in
     (found, closed_by found out o.start os)
 
-abbrev pub closed : List Cell → List Cell → ℕ → Reading → Option (ℕ × List ℕ) × Reading
-closed header row done r = closed_in header row done r.out r.opens
+abbrev pub closed_placeholder : List Cell → List Cell → ℕ → Reading → Option (ℕ × List ℕ) × Reading
+closed_placeholder header row done r = closed_in header row done r.out r.opens
 
 -- what a cell brings is read where its column and those before it are done
-abbrev pub brought : (ℕ → List ℕ → Reading → Reading) → Option (ℕ × List ℕ) → Reading → Reading
-brought reads None r = r
-brought reads (Some found) r = reads (found.0 + 1) found.1 r
+abbrev pub with_cell_read : (ℕ → List ℕ → Reading → Reading) → Option (ℕ × List ℕ) → Reading
+    → Reading
+with_cell_read reads None r = r
+with_cell_read reads (Some found) r = reads (found.0 + 1) found.1 r
 
 abbrev pub step : (ℕ → List ℕ → Reading → Reading) → List Cell → List Cell → ℕ → ℕ → Reading
     → Reading
 step reads header row done b r =
-    if b == 60 then opened done r
-    else if b == 62 then brought reads (closed header row done r).0 (closed header row done r).1
-    else added (b ∷ []) r
+    if b == 60 then with_open done r
+    else if b == 62
+    then with_cell_read reads (closed_placeholder header row done r).0
+    (closed_placeholder header row done r).1
+    else with_bytes (b ∷ []) r
 
 abbrev pub read_by : (ℕ → List ℕ → Reading → Reading) → List Cell → List Cell → ℕ → List ℕ → Reading
     → Reading

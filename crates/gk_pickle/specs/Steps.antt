@@ -13,8 +13,8 @@ use Rattle.gk_pickle.specs.declared.pickle.StepType.TheVariants as kind
 use Rattle.gk_pickle.specs.declared.pickle.PickleArgument.{PickleArgument}
 use Rattle.gk_pickle.specs.declared.pickle.PickleArgument.TheVariants as value
 use Rattle.gk_pickle.specs.declared.pickle.PickleStep.{PickleStep}
-use Rattle.gk_pickle.specs.Inherited.{Filling, unfilled}
-use Rattle.gk_pickle.specs.Fill.{filled}
+use Rattle.gk_pickle.specs.Inherited.{Filling, no_filling}
+use Rattle.gk_pickle.specs.Fill.{filled_text}
 
 -- a keyword's own type, which a conjunction (`And`, `But`) has not
 abbrev pub own_type : KeywordType → Option StepType
@@ -31,10 +31,10 @@ last_or other (x ∷ xs) = last_or x xs
 
 -- the type of the last of these keywords that is no conjunction, Unknown if there is none
 abbrev pub type_of : List KeywordType → StepType
-type_of keywords = last_or kind.Unknown (filter_map own_type keywords)
+type_of keyword_types = last_or kind.Unknown (filter_map own_type keyword_types)
 
 abbrev pub filled_by : Filling → List ℕ → List ℕ
-filled_by f text = filled text f.header f.cells
+filled_by f text = filled_text text f.header f.cells
 
 abbrev pub filled_row : Filling → Row → List (List ℕ)
 filled_row f row = map (λ c. filled_by f c.value) row.cells
@@ -63,11 +63,11 @@ steps_after earlier f (s ∷ ss) =
     filled_step f (type_of (earlier ++ s.kind ∷ [])) s ∷ steps_after (earlier ++ s.kind ∷ []) f ss
 
 -- the keyword types of steps
-abbrev pub keywords : List Step → List KeywordType
-keywords steps = map (λ s. s.kind) steps
+abbrev pub keyword_types : List Step → List KeywordType
+keyword_types steps = map (λ s. s.kind) steps
 
 -- the backgrounds' steps, which nothing fills, and then the scenario's own; a scenario with no steps of its own has none
 abbrev pub pickle_steps : List Step → Filling → List Step → List PickleStep
 pickle_steps background f [] = []
 pickle_steps background f (s ∷ ss) =
-    steps_after [] unfilled background ++ steps_after (keywords background) f (s ∷ ss)
+    steps_after [] no_filling background ++ steps_after (keyword_types background) f (s ∷ ss)

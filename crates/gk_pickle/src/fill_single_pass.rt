@@ -1,7 +1,7 @@
 //! Filling a text in a single pass over it.
 ghost use Rattle.std.specs.Prelude.{◌≡◌, ◌++◌, ◌∷◌, ◌<◌, length, reverse, string_bytes, true, IfNone, IfOk, IfSome, OnOk, option_map};
-ghost use Rattle.gk_pickle.specs.Fill.{filled};
-ghost use Rattle.gk_pickle.specs.SinglePass.{AreWithin, HasNoBracket, HaveNoBracket, added, closed, is_bracket, nothing_read, opened, raised, read_parts, work};
+ghost use Rattle.gk_pickle.specs.Fill.{filled_text};
+ghost use Rattle.gk_pickle.specs.SinglePass.{AreWithin, HasNoBracket, HaveNoBracket, with_bytes, closed_placeholder, is_bracket, nothing_read, with_open, raised_opens, read_parts, work};
 
 use crate::columns::Columns;
 use gk_document::Cell;
@@ -46,7 +46,7 @@ impl Model for Reading {
 
 /// Around a placeholder that is filled, the columns before `done` are done.
 fn raise(opens: &mut Vec<Open>, done: usize)
-    ensures { reverse opens.new.items ≡ raised done (reverse opens.old.items) }
+    ensures { reverse opens.new.items ≡ raised_opens done (reverse opens.old.items) }
 {
     if let Some(around) = opens.last_mut() {
         around.done = around.done.max(done);
@@ -66,7 +66,7 @@ impl Reading {
 
     /// Adds a text without brackets.
     fn add(&mut self, text: &str) -> Result<(), AllocError>
-        ensures { OnOk result (self.new ≡ added text.now self.old) }
+        ensures { OnOk result (self.new ≡ with_bytes text.now self.old) }
     {
         self.out.push_str(text)?;
         Ok(())
@@ -74,7 +74,7 @@ impl Reading {
 
     /// Adds a `<`, in whose place `done` columns are done.
     fn open(&mut self, done: usize) -> Result<(), AllocError>
-        ensures { OnOk result (self.new ≡ opened done self.old) }
+        ensures { OnOk result (self.new ≡ with_open done self.old) }
     {
         let start = self.out.len();
         self.out.push_str("<")?;
@@ -91,9 +91,9 @@ impl Reading {
     ) -> Result<Option<(usize, &'r str)>, AllocError>
         ensures found { IfOk result
             (λ found. option_map (λ f. (f.0, f.1.now)) found
-            ≡ (closed columns.now row.now done self.old).0) }
+            ≡ (closed_placeholder columns.now row.now done self.old).0) }
         ensures left { IfOk result
-            (λ _. self.new ≡ (closed columns.now row.now done self.old).1) }
+            (λ _. self.new ≡ (closed_placeholder columns.now row.now done self.old).1) }
         ensures within { IfOk result (λ found. IfSome found (λ f. f.0 < length row.now)) }
     {
         if let Some(open) = self.opens.pop() {
@@ -165,7 +165,7 @@ pub(crate) fn fill_in_one_pass(
     row: &[Cell],
 ) -> Result<String, AllocError>
     requires { HaveNoBracket columns.now }
-    ensures { IfOk result (λ s. string_bytes s ≡ filled text.now columns.now row.now) }
+    ensures { IfOk result (λ s. string_bytes s ≡ filled_text text.now columns.now row.now) }
 {
     let mut reading = Reading::new(alloc);
     let mut parts = Vec::new(alloc);

@@ -2,7 +2,7 @@
 ghost use Rattle.std.specs.Prelude.{◌≡◌, ◌<◌, ◌++◌, List, ℕ, length, IfOk, IfSome, IfNone, string_bytes};
 ghost use Rattle.std.specs.Bool.{OnTrue};
 ghost use Rattle.gk_document.specs.declared.tree.Cell.{Cell};
-ghost use Rattle.gk_pickle.specs.Fill.{placeholder, replaced, filled};
+ghost use Rattle.gk_pickle.specs.Fill.{placeholder, replaced_text, filled_text};
 
 use crate::columns::Columns;
 use crate::fill_single_pass::fill_in_one_pass;
@@ -15,10 +15,10 @@ use std::alloc::{AllocError, Global};
 fn cut_at_first<'t>(finder: &Finder<'_>, name: &str, text: &'t str) -> Option<(&'t str, &'t str)>
     requires { finder.now ≡ placeholder name.now }
     ensures none { IfNone result
-        ((cell : List ℕ) → replaced (placeholder name.now) cell text.now ≡ text.now) }
+        ((cell : List ℕ) → replaced_text (placeholder name.now) cell text.now ≡ text.now) }
     ensures some { IfSome result
-        (λ parts. (cell : List ℕ) → replaced (placeholder name.now) cell text.now
-        ≡ parts.0.now ++ (cell ++ replaced (placeholder name.now) cell parts.1.now)) }
+        (λ parts. (cell : List ℕ) → replaced_text (placeholder name.now) cell text.now
+        ≡ parts.0.now ++ (cell ++ replaced_text (placeholder name.now) cell parts.1.now)) }
     ensures shorter { IfSome result (λ parts. length parts.1.now < length text.now) }
 {
     let start = finder.find(text.as_bytes())?;
@@ -29,7 +29,7 @@ fn cut_at_first<'t>(finder: &Finder<'_>, name: &str, text: &'t str) -> Option<(&
 /// The text with each `<name>` replaced by a cell.
 fn replace(alloc: Global, text: &str, name: &str, cell: &str) -> Result<String, AllocError>
     ensures { IfOk result
-        (λ s. string_bytes s ≡ replaced (placeholder name.now) cell.now text.now) }
+        (λ s. string_bytes s ≡ replaced_text (placeholder name.now) cell.now text.now) }
 {
     let pattern = format!(in alloc; "<{name}>")?;
     let finder = Finder::new(pattern.as_bytes());
@@ -46,7 +46,8 @@ fn replace(alloc: Global, text: &str, name: &str, cell: &str) -> Result<String, 
 
 /// Whether the text has no `<`, and so nothing to fill.
 fn has_no_placeholder(text: &str) -> bool
-    ensures { OnTrue result ((header row : List Cell) → filled text.now header row ≡ text.now) }
+    ensures { OnTrue result
+        ((header row : List Cell) → filled_text text.now header row ≡ text.now) }
 {
     memchr(b'<', text.as_bytes()).is_none()
 }
@@ -58,7 +59,7 @@ fn fill_columns(
     header: &[Cell],
     row: &[Cell],
 ) -> Result<String, AllocError>
-    ensures { IfOk result (λ s. string_bytes s ≡ filled text.now header.now row.now) }
+    ensures { IfOk result (λ s. string_bytes s ≡ filled_text text.now header.now row.now) }
 {
     let mut filled = String::from_str(alloc, text)?;
     for (name, cell) in header.iter().zip(row) {
@@ -82,7 +83,7 @@ pub(crate) fn fill_from(
     columns: &Columns<'_>,
     row: &[Cell],
 ) -> Result<String, AllocError>
-    ensures { IfOk result (λ s. string_bytes s ≡ filled text.now columns.now row.now) }
+    ensures { IfOk result (λ s. string_bytes s ≡ filled_text text.now columns.now row.now) }
 {
     if has_no_placeholder(text) {
         return Ok(String::from_str(alloc, text)?);
@@ -106,7 +107,7 @@ pub(crate) fn fill_from(
 /// # Errors
 /// Only where there is no memory for the text.
 pub fn fill(alloc: Global, text: &str, header: &[Cell], row: &[Cell]) -> Result<String, AllocError>
-    ensures { IfOk result (λ s. string_bytes s ≡ filled text.now header.now row.now) }
+    ensures { IfOk result (λ s. string_bytes s ≡ filled_text text.now header.now row.now) }
 {
     let columns = Columns::of(alloc, header)?;
     fill_from(alloc, text, &columns, row)

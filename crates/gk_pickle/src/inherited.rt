@@ -1,6 +1,6 @@
 //! What a scenario's pickles inherit of its feature and its rule, and what fills their texts.
 ghost use Rattle.std.specs.Prelude.{◌≡◌, ◌∷◌, [], IfOk};
-ghost use Rattle.gk_pickle.specs.Inherited.{unfilled};
+ghost use Rattle.gk_pickle.specs.Inherited.{no_filling};
 ghost use Rattle.gk_pickle.specs.Pickles.{background_steps, in_feature, in_rule};
 ghost use Rattle.gk_pickle.specs.Scenarios.{inherited_in};
 ghost use Rattle.gk_pickle.specs.Steps.{filled_by};
@@ -103,7 +103,7 @@ impl<'c, 'h, 'r> Model for Filling<'c, 'h, 'r> {
 impl<'c, 'h, 'r> Filling<'c, 'h, 'r> {
     /// Where there are no examples.
     pub(crate) fn none() -> Filling<'static, 'static, 'static>
-        ensures { result ≡ unfilled }
+        ensures { result ≡ no_filling }
     {
         Filling {
             row: None,

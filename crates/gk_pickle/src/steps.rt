@@ -2,7 +2,7 @@
 ghost use Rattle.std.specs.Prelude.{◌≡◌, ◌++◌, ◌∷◌, [], List, map, option_map, option_and_then, IfOk, OnOk};
 ghost use Rattle.gk_document.specs.MediaType.{unless_empty};
 ghost use Rattle.gk_document.specs.declared.tree.KeywordType.{KeywordType};
-ghost use Rattle.gk_pickle.specs.Steps.{type_of, filled_by, filled_row, filled_argument, filled_step, steps_after, keywords, pickle_steps};
+ghost use Rattle.gk_pickle.specs.Steps.{type_of, filled_by, filled_row, filled_argument, filled_step, steps_after, keyword_types, pickle_steps};
 
 use crate::inherited::Filling;
 use crate::pickle::{PickleArgument, PickleDocString, PickleStep, StepType};
@@ -137,7 +137,7 @@ fn add_steps(
     ensures made { OnOk result ((earlier : List KeywordType) → before ≡ type_of earlier
         → made.new.items ≡ made.old.items ++ steps_after earlier filling.now steps.now) }
     ensures last { IfOk result (λ t. (earlier : List KeywordType) → before ≡ type_of earlier
-        → t ≡ type_of (earlier ++ keywords steps.now)) }
+        → t ≡ type_of (earlier ++ keyword_types steps.now)) }
 {
     let mut last = before;
     for step in steps {

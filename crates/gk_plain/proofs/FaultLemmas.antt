@@ -8,20 +8,20 @@ use Rattle.gk_document.specs.declared.tree.Cell.{Cell}
 use Rattle.gk_grammar.specs.declared.fault.FaultKind.{FaultKind}
 use Rattle.gk_grammar.specs.declared.fault.FaultKind.TheVariants as fault
 use Rattle.gk_grammar.specs.Token.{Blank, Comment, Language, Tags, Title, Step, Row, Fenced, Other, Line, line}
-use Rattle.gk_grammar.specs.Machine.{State, PlacedFault, run, initial, same_text}
+use Rattle.gk_grammar.specs.Machine.{State, PlacedFault, run, initial_state, same_text}
 use Rattle.gk_grammar.specs.Grammar.{english}
 use Rattle.gk_grammar.specs.Place as place
 use Rattle.gk_grammar.specs.Place.{IsFirstBad, HasOtherCount, IsFault, IsFaultWithin}
-use Rattle.gk_grammar.proofs.Places.{AreLines}
+use Rattle.gk_grammar.proofs.Places.{AreNumberedFrom}
 use Rattle.gk_grammar.proofs.Faults.{RowDiffers, IsKindAt, one_kind, stop_has_kind}
 use Rattle.gk_grammar.proofs.Placed.{Stops, fronts_read, one_place, same_front, stops_at, stop_is_place, stop_has_fault}
 use Rattle.gk_plain.specs.declared.kinds.Kind.{Kind}
 use Rattle.gk_plain.specs.declared.kinds.Kind.TheVariants as kind
 use Rattle.gk_plain.specs.Plain.{kind_of}
-use Rattle.gk_plain.specs.PlainFaults.{is_row_or_gap, is_other_row, differs, fault_kind, first_column, fault_column}
+use Rattle.gk_plain.specs.PlainFaults.{is_row_or_gap_kind, is_other_row, differs, fault_kind, first_column, fault_column}
 use Rattle.gk_plain.proofs.PlainKinds.{and_apart, and_together, not_true, all_from, all_to, language_test}
 
-row_or_gap_same : (l : Line) → is_row_or_gap (kind_of l) ≡ place.is_row_or_gap l
+row_or_gap_same : (l : Line) → is_row_or_gap_kind (kind_of l) ≡ place.is_row_or_gap l
 row_or_gap_same (line n t i Blank) = refl
 row_or_gap_same (line n t i Comment) = refl
 row_or_gap_same (line n t i (Tags (Ok ws))) = refl
@@ -31,7 +31,7 @@ row_or_gap_same (line n t i (Step k y m)) = refl
 row_or_gap_same (line n t i (Row cells)) = refl
 row_or_gap_same (line n t i (Fenced f media)) = refl
 row_or_gap_same (line n t i Other) = refl
-row_or_gap_same (line n t i (Language w)) = language_test is_row_or_gap true w refl refl
+row_or_gap_same (line n t i (Language w)) = language_test is_row_or_gap_kind true w refl refl
 
 other_count : (cells : List Cell) (l : Line) → is_other_row (length cells) (kind_of l) ≡ true → HasOtherCount cells l
 other_count cells (line n t i (Row others)) e = λ same. let f = not_true (length others == length cells) e in let g = eq-eqb (length others) (length cells) same in cc
@@ -63,19 +63,19 @@ count_other cells (line n t i (Language w)) h = absurd h
 -- the kinds say whether a row differs from the table before it
 differs_from : (cells : List Cell) (ls : List Line) → differs (length cells) (map kind_of ls) ≡ true → RowDiffers ls cells
 differs_from cells [] e = absurd cc
-differs_from cells (l ∷ ls) e = go (is_other_row (length cells) (kind_of l) && list_all is_row_or_gap (map kind_of ls)) refl e (differs_from cells ls)
+differs_from cells (l ∷ ls) e = go (is_other_row (length cells) (kind_of l) && list_all is_row_or_gap_kind (map kind_of ls)) refl e (differs_from cells ls)
   where
-    go : (b : Bool) → (is_other_row (length cells) (kind_of l) && list_all is_row_or_gap (map kind_of ls)) ≡ b → (b || differs (length cells) (map kind_of ls)) ≡ true →
+    go : (b : Bool) → (is_other_row (length cells) (kind_of l) && list_all is_row_or_gap_kind (map kind_of ls)) ≡ b → (b || differs (length cells) (map kind_of ls)) ≡ true →
         (differs (length cells) (map kind_of ls) ≡ true → RowDiffers ls cells) → RowDiffers (l ∷ ls) cells
     go true here e more =
-        let both = and_apart (is_other_row (length cells) (kind_of l)) (list_all is_row_or_gap (map kind_of ls)) here in
+        let both = and_apart (is_other_row (length cells) (kind_of l)) (list_all is_row_or_gap_kind (map kind_of ls)) here in
         record {
           earlier = [];
           row = l;
           between = ls;
           cut = refl;
           other = other_count cells l both.0;
-          one_table = all_from (λ l. IsTrue (place.is_row_or_gap l)) is_row_or_gap (λ l h. sym (row_or_gap_same l) ∙ h) ls both.1;
+          one_table = all_from (λ l. IsTrue (place.is_row_or_gap l)) is_row_or_gap_kind (λ l h. sym (row_or_gap_same l) ∙ h) ls both.1;
         }
     go false here e more =
         let rest = more e in
@@ -92,9 +92,9 @@ differs_there : (cells : List Cell) (earlier : List Line) (row : Line) (between 
     differs (length cells) (map kind_of (earlier ++ row ∷ between)) ≡ true
 differs_there cells [] row between other table =
     ap (λ (b : Bool). b || differs (length cells) (map kind_of between))
-    (and_together (is_other_row (length cells) (kind_of row)) (list_all is_row_or_gap (map kind_of between)) (count_other cells row other)
-    (all_to (λ l. IsTrue (place.is_row_or_gap l)) is_row_or_gap (λ l h. row_or_gap_same l ∙ h) between table))
-differs_there cells (l ∷ ls) row between other table = go (is_other_row (length cells) (kind_of l) && list_all is_row_or_gap (map kind_of (ls ++ row ∷ between))) (differs_there cells ls row between other table)
+    (and_together (is_other_row (length cells) (kind_of row)) (list_all is_row_or_gap_kind (map kind_of between)) (count_other cells row other)
+    (all_to (λ l. IsTrue (place.is_row_or_gap l)) is_row_or_gap_kind (λ l h. row_or_gap_same l ∙ h) between table))
+differs_there cells (l ∷ ls) row between other table = go (is_other_row (length cells) (kind_of l) && list_all is_row_or_gap_kind (map kind_of (ls ++ row ∷ between))) (differs_there cells ls row between other table)
   where
     go : (b : Bool) → differs (length cells) (map kind_of (ls ++ row ∷ between)) ≡ true → (b || differs (length cells) (map kind_of (ls ++ row ∷ between))) ≡ true
     go true more = refl
@@ -162,9 +162,9 @@ here (l ∷ ls) (suc n) within =
     }
 
 -- where the lines up to this one are the first that are no front, the kinds say what the fault there is
-kind_at : (ls : List Line) (n : ℕ) → AreLines 1 ls → IsFirstBad ls (n + 1) → (r : Here ls n)
+kind_at : (ls : List Line) (n : ℕ) → AreNumberedFrom 1 ls → IsFirstBad ls (n + 1) → (r : Here ls n)
     → IsFaultWithin ls (fault_kind (map kind_of r.before) (kind_of r.at)) (n + 1) (fault_column (kind_of r.at) (first_column r.at))
-kind_at ls n a bad r = go (run initial ls) refl
+kind_at ls n a bad r = go (run initial_state ls) refl
   where
     kind : FaultKind
     kind = fault_kind (map kind_of r.before) (kind_of r.at)
@@ -172,7 +172,7 @@ kind_at ls n a bad r = go (run initial ls) refl
     column : ℕ
     column = fault_column (kind_of r.at) (first_column r.at)
 
-    same : (b : PlacedFault) → Stops initial ls b → (b.kind ≡ kind) × (b.column ≡ column)
+    same : (b : PlacedFault) → Stops initial_state ls b → (b.kind ≡ kind) × (b.column ≡ column)
     same b t =
         let place : length t.before + 1 ≡ n + 1 = one_place ls (length t.before + 1) (n + 1) (stop_is_place ls b a t) bad in
         let long : length r.before ≡ n = r.long in
@@ -190,12 +190,12 @@ kind_at ls n a bad r = go (run initial ls) refl
         (subst (λ (z : ℕ). IsFaultWithin ls b.kind z b.column) (one_place ls b.line (n + 1) f.place bad) f))
     within b e (inr f) = absurd (bad.bad (f.place.fronts (n + 1) bad.from_one bad.within))
 
-    go : (x : Result State PlacedFault) → run initial ls ≡ x → IsFaultWithin ls kind (n + 1) column
+    go : (x : Result State PlacedFault) → run initial_state ls ≡ x → IsFaultWithin ls kind (n + 1) column
     go (Ok s) e = absurd (bad.bad (fronts_read ls s a e (n + 1)))
-    go (Err b) e = within b (same b (stops_at initial ls b e)) (stop_has_fault ls b a e)
+    go (Err b) e = within b (same b (stops_at initial_state ls b e)) (stop_has_fault ls b a e)
 
 -- what the kinds and the first columns give at a line is the fault there
-pub fault_within : (ls : List Line) (ks front : List Kind) (columns : List ℕ) (n : ℕ) (d : Kind) (e : ℕ) (k : FaultKind) (c : ℕ) → AreLines 1 ls → map kind_of ls ≡ ks → map first_column ls ≡ columns → front ≡ take n ks →
+pub fault_within : (ls : List Line) (ks front : List Kind) (columns : List ℕ) (n : ℕ) (d : Kind) (e : ℕ) (k : FaultKind) (c : ℕ) → AreNumberedFrom 1 ls → map kind_of ls ≡ ks → map first_column ls ≡ columns → front ≡ take n ks →
     k ≡ fault_kind front (get_or ks n d) → c ≡ fault_column (get_or ks n d) (get_or columns n e) → n < length ks → IsFirstBad ls (n + 1) → IsFaultWithin ls k (n + 1) c
 fault_within ls ks front columns n d e k c lines kinds firsts cut kind_is column_is within bad =
     let r = here ls n (let g = sym (length-map ls kind_of) ∙ ap (λ (z : List Kind). length z) kinds in omega arith) in

@@ -3,6 +3,7 @@ use Rattle.std.proofs.Common.{◌≡◌, ◌↔◌, ℕ, Bool, true, false, cond
 use Rattle.std.specs.Prelude.{IsTrue, IsFalse, not, ◌&&◌, ◌==◌}
 use Rattle.std.proofs.lemmas.Bool.{eqb-true, eq-eqb}
 use Rattle.std.specs.List.{AllByRecursion, list_all, join_with_byte}
+use Rattle.gk_line.specs.Characters.{line_feed}
 use Rattle.gk_line.specs.declared.tokens.Block.{Block}
 use Rattle.gk_line.specs.declared.tokens.Block.TheVariants as block
 use Rattle.gk_document.specs.declared.tree.Cell.{Cell}
@@ -15,7 +16,7 @@ use Rattle.gk_grammar.specs.Tree as tree
 use Rattle.gk_grammar.specs.Tree.{Location, Tag, DocString}
 use Rattle.gk_grammar.specs.Machine.{same_text, tags_from}
 use Rattle.gk_grammar.specs.Grammar as grammar
-use Rattle.gk_grammar.specs.Grammar.{OneLine, IsGap, IsPlainGap, IsEnglish, IsTagLine, IsTitle, IsRow, IsDocString, IsStepLine, Closes, at, tag_at, place_and_name, english, comments_of, description_of, content_line, line_feed}
+use Rattle.gk_grammar.specs.Grammar.{OneLine, IsGap, IsPlainGap, IsEnglish, IsTagLine, IsTitle, IsRow, IsDocString, IsStepLine, Closes, at, tag_at, place_and_name, english, comments_of, description_of, content_line}
 use Rattle.gk_grammar.proofs.Sound.{same_text_is}
 use Rattle.gk_plain.specs.declared.kinds.Kind.{Kind}
 use Rattle.gk_plain.specs.declared.kinds.Kind.TheVariants as kind
@@ -62,7 +63,7 @@ language_test t b word e f = go (same_text word english)
     go true = e
     go false = f
 
-gap_same : (l : Line) → spec.is_gap (kind_of l) ≡ read.is_gap l
+gap_same : (l : Line) → spec.is_gap_kind (kind_of l) ≡ read.is_gap l
 gap_same (line n t i Blank) = refl
 gap_same (line n t i Comment) = refl
 gap_same (line n t i (Tags (Ok ws))) = refl
@@ -72,7 +73,7 @@ gap_same (line n t i (Step k y m)) = refl
 gap_same (line n t i (Row cells)) = refl
 gap_same (line n t i (Fenced f media)) = refl
 gap_same (line n t i Other) = refl
-gap_same (line n t i (Language w)) = language_test spec.is_gap true w refl refl
+gap_same (line n t i (Language w)) = language_test spec.is_gap_kind true w refl refl
 
 plain_same : (l : Line) → spec.is_plain (kind_of l) ≡ (not (read.is_language l) && read.is_gap l)
 plain_same (line n t i Blank) = refl
@@ -86,7 +87,7 @@ plain_same (line n t i (Fenced f media)) = refl
 plain_same (line n t i Other) = refl
 plain_same (line n t i (Language w)) = language_test spec.is_plain false w refl refl
 
-stops_same : (b : Block) (l : Line) → spec.stops b (kind_of l) ≡ grammar.stops b l
+stops_same : (b : Block) (l : Line) → spec.kind_stops b (kind_of l) ≡ grammar.stops b l
 stops_same block.Feature (line n t i Blank) = refl
 stops_same block.Feature (line n t i Comment) = refl
 stops_same block.Feature (line n t i (Tags (Ok ws))) = refl
@@ -100,7 +101,7 @@ stops_same block.Feature (line n t i (Step k y m)) = refl
 stops_same block.Feature (line n t i (Row cells)) = refl
 stops_same block.Feature (line n t i (Fenced f media)) = refl
 stops_same block.Feature (line n t i Other) = refl
-stops_same block.Feature (line n t i (Language w)) = language_test (spec.stops block.Feature) false w refl refl
+stops_same block.Feature (line n t i (Language w)) = language_test (spec.kind_stops block.Feature) false w refl refl
 stops_same block.Rule (line n t i Blank) = refl
 stops_same block.Rule (line n t i Comment) = refl
 stops_same block.Rule (line n t i (Tags (Ok ws))) = refl
@@ -114,7 +115,7 @@ stops_same block.Rule (line n t i (Step k y m)) = refl
 stops_same block.Rule (line n t i (Row cells)) = refl
 stops_same block.Rule (line n t i (Fenced f media)) = refl
 stops_same block.Rule (line n t i Other) = refl
-stops_same block.Rule (line n t i (Language w)) = language_test (spec.stops block.Rule) false w refl refl
+stops_same block.Rule (line n t i (Language w)) = language_test (spec.kind_stops block.Rule) false w refl refl
 stops_same block.Background (line n t i Blank) = refl
 stops_same block.Background (line n t i Comment) = refl
 stops_same block.Background (line n t i (Tags (Ok ws))) = refl
@@ -128,7 +129,7 @@ stops_same block.Background (line n t i (Step k y m)) = refl
 stops_same block.Background (line n t i (Row cells)) = refl
 stops_same block.Background (line n t i (Fenced f media)) = refl
 stops_same block.Background (line n t i Other) = refl
-stops_same block.Background (line n t i (Language w)) = language_test (spec.stops block.Background) false w refl refl
+stops_same block.Background (line n t i (Language w)) = language_test (spec.kind_stops block.Background) false w refl refl
 stops_same block.Scenario (line n t i Blank) = refl
 stops_same block.Scenario (line n t i Comment) = refl
 stops_same block.Scenario (line n t i (Tags (Ok ws))) = refl
@@ -142,7 +143,7 @@ stops_same block.Scenario (line n t i (Step k y m)) = refl
 stops_same block.Scenario (line n t i (Row cells)) = refl
 stops_same block.Scenario (line n t i (Fenced f media)) = refl
 stops_same block.Scenario (line n t i Other) = refl
-stops_same block.Scenario (line n t i (Language w)) = language_test (spec.stops block.Scenario) false w refl refl
+stops_same block.Scenario (line n t i (Language w)) = language_test (spec.kind_stops block.Scenario) false w refl refl
 stops_same block.Examples (line n t i Blank) = refl
 stops_same block.Examples (line n t i Comment) = refl
 stops_same block.Examples (line n t i (Tags (Ok ws))) = refl
@@ -156,9 +157,9 @@ stops_same block.Examples (line n t i (Step k y m)) = refl
 stops_same block.Examples (line n t i (Row cells)) = refl
 stops_same block.Examples (line n t i (Fenced f media)) = refl
 stops_same block.Examples (line n t i Other) = refl
-stops_same block.Examples (line n t i (Language w)) = language_test (spec.stops block.Examples) false w refl refl
+stops_same block.Examples (line n t i (Language w)) = language_test (spec.kind_stops block.Examples) false w refl refl
 
-fence_same : (f : Fence) (l : Line) → spec.is_fence f (kind_of l) ≡ grammar.is_fence f l
+fence_same : (f : Fence) (l : Line) → spec.is_fence_kind f (kind_of l) ≡ grammar.is_fence f l
 fence_same fence.Quotes (line n t i Blank) = refl
 fence_same fence.Quotes (line n t i Comment) = refl
 fence_same fence.Quotes (line n t i (Tags (Ok ws))) = refl
@@ -169,7 +170,7 @@ fence_same fence.Quotes (line n t i (Row cells)) = refl
 fence_same fence.Quotes (line n t i (Fenced fence.Quotes media)) = refl
 fence_same fence.Quotes (line n t i (Fenced fence.Backticks media)) = refl
 fence_same fence.Quotes (line n t i Other) = refl
-fence_same fence.Quotes (line n t i (Language w)) = language_test (spec.is_fence fence.Quotes) false w refl refl
+fence_same fence.Quotes (line n t i (Language w)) = language_test (spec.is_fence_kind fence.Quotes) false w refl refl
 fence_same fence.Backticks (line n t i Blank) = refl
 fence_same fence.Backticks (line n t i Comment) = refl
 fence_same fence.Backticks (line n t i (Tags (Ok ws))) = refl
@@ -180,7 +181,7 @@ fence_same fence.Backticks (line n t i (Row cells)) = refl
 fence_same fence.Backticks (line n t i (Fenced fence.Quotes media)) = refl
 fence_same fence.Backticks (line n t i (Fenced fence.Backticks media)) = refl
 fence_same fence.Backticks (line n t i Other) = refl
-fence_same fence.Backticks (line n t i (Language w)) = language_test (spec.is_fence fence.Backticks) false w refl refl
+fence_same fence.Backticks (line n t i (Language w)) = language_test (spec.is_fence_kind fence.Backticks) false w refl refl
 
 same_block_is : (b c : Block) → same_block b c ≡ true → b ≡ c
 same_block_is block.Feature block.Feature e = refl
@@ -226,11 +227,11 @@ same_text_refl (x ∷ xs) = ap (λ (b : Bool). cond b (same_text xs xs) false) (
 
 -- ---- gaps
 
-gap_from : (ls : List Line) → list_all spec.is_gap (map kind_of ls) ≡ true → IsGap ls (comments_of ls)
-gap_from ls e = (all_from (λ l. IsTrue (read.is_gap l)) spec.is_gap (λ l h. sym (gap_same l) ∙ h) ls e, refl)
+gap_from : (ls : List Line) → list_all spec.is_gap_kind (map kind_of ls) ≡ true → IsGap ls (comments_of ls)
+gap_from ls e = (all_from (λ l. IsTrue (read.is_gap l)) spec.is_gap_kind (λ l h. sym (gap_same l) ∙ h) ls e, refl)
 
-gap_to : (ls : List Line) (cs : List tree.Comment) → IsGap ls cs → list_all spec.is_gap (map kind_of ls) ≡ true
-gap_to ls cs h = all_to (λ l. IsTrue (read.is_gap l)) spec.is_gap (λ l g. gap_same l ∙ g) ls h.0
+gap_to : (ls : List Line) (cs : List tree.Comment) → IsGap ls cs → list_all spec.is_gap_kind (map kind_of ls) ≡ true
+gap_to ls cs h = all_to (λ l. IsTrue (read.is_gap l)) spec.is_gap_kind (λ l g. gap_same l ∙ g) ls h.0
 
 plain_from : (ls : List Line) → list_all spec.is_plain (map kind_of ls) ≡ true → IsPlainGap ls (comments_of ls)
 plain_from ls e = (
@@ -247,13 +248,13 @@ plain_to (l ∷ ls) a b = and_together (spec.is_plain (kind_of l)) (list_all spe
 line_from : {A : Type 0} (P : A → Line → Type 0) (p : Part) → ((l : Line) → begins p (kind_of l) ≡ true → (x : A) × P x l) → (ls : List Line) → is_line p (map kind_of ls) ≡ true → Has (λ (x : A). OneLine (P x)) ls
 line_from P p f [] e = absurd cc
 line_from P p f (l ∷ ls) e =
-    let b = and_apart (begins p (kind_of l)) (list_all spec.is_gap (map kind_of ls)) e in
+    let b = and_apart (begins p (kind_of l)) (list_all spec.is_gap_kind (map kind_of ls)) e in
     let x = f l b.0 in
     (x.0, comments_of ls, (x.1, gap_from ls b.1))
 
 line_to : {A : Type 0} (P : A → Line → Type 0) (p : Part) → ((x : A) (l : Line) → P x l → begins p (kind_of l) ≡ true) → (ls : List Line) (x : A) (cs : List tree.Comment) → OneLine (P x) ls cs → is_line p (map kind_of ls) ≡ true
 line_to P p f [] x cs h = absurd h
-line_to P p f (l ∷ ls) x cs h = and_together (begins p (kind_of l)) (list_all spec.is_gap (map kind_of ls)) (f x l h.0) (gap_to ls cs h.1)
+line_to P p f (l ∷ ls) x cs h = and_together (begins p (kind_of l)) (list_all spec.is_gap_kind (map kind_of ls)) (f x l h.0) (gap_to ls cs h.1)
 
 english_from : (l : Line) → begins part.EnglishLine (kind_of l) ≡ true → (u : Unit {0}) × IsEnglish l
 english_from (line n t i (Language w)) e = go (same_text w english) refl e
@@ -323,18 +324,18 @@ heading_from b [] e = absurd cc
 heading_from b (l ∷ ls) e =
     let a = and_apart (spec.is_title b (kind_of l)) (list_all (spec.is_text b) (map kind_of ls)) e in
     let x = title_from b l a.0 in
-    ((x.0.0, x.0.1, x.0.2, description_of ls), comments_of ls, (x.1, all_from (λ y. IsFalse (grammar.stops b y)) (spec.is_text b) (λ y h. sym (stops_same b y) ∙ not_true (spec.stops b (kind_of y)) h) ls a.1, refl, refl))
+    ((x.0.0, x.0.1, x.0.2, description_of ls), comments_of ls, (x.1, all_from (λ y. IsFalse (grammar.stops b y)) (spec.is_text b) (λ y h. sym (stops_same b y) ∙ not_true (spec.kind_stops b (kind_of y)) h) ls a.1, refl, refl))
 
 heading_to : (b : Block) (ls : List Line) → Has (IsHeading b) ls → is_heading b (map kind_of ls) ≡ true
 heading_to b [] h = absurd h.2
-heading_to b (l ∷ ls) h = and_together (spec.is_title b (kind_of l)) (list_all (spec.is_text b) (map kind_of ls)) (title_to b h.0.0 h.0.1 h.0.2 l h.2.0) (all_to (λ y. IsFalse (grammar.stops b y)) (spec.is_text b) (λ y f. not_false (spec.stops b (kind_of y)) (stops_same b y ∙ f)) ls h.2.1)
+heading_to b (l ∷ ls) h = and_together (spec.is_title b (kind_of l)) (list_all (spec.is_text b) (map kind_of ls)) (title_to b h.0.0 h.0.1 h.0.2 l h.2.0) (all_to (λ y. IsFalse (grammar.stops b y)) (spec.is_text b) (λ y f. not_false (spec.kind_stops b (kind_of y)) (stops_same b y ∙ f)) ls h.2.1)
 
 -- ---- doc strings
 
 abbrev IsClosed : Fence → ℕ → List Line → Type 0
 IsClosed f n ls = (content : Utf8) × (cs : List tree.Comment) × Closes f n content ls cs
 
-closes_later : (f : Fence) (n : ℕ) (l : Line) (ls : List Line) → spec.is_fence f (kind_of l) ≡ false → IsClosed f n ls → IsClosed f n (l ∷ ls)
+closes_later : (f : Fence) (n : ℕ) (l : Line) (ls : List Line) → spec.is_fence_kind f (kind_of l) ≡ false → IsClosed f n ls → IsClosed f n (l ∷ ls)
 closes_later f n l ls h c = (
   join_with_byte line_feed (map (content_line f n) (l ∷ c.2.inside)),
   c.1,
@@ -352,9 +353,9 @@ closes_later f n l ls h c = (
 
 closes_from : (f : Fence) (n : ℕ) (ls : List Line) → closes f (map kind_of ls) ≡ true → IsClosed f n ls
 closes_from f n [] e = absurd cc
-closes_from f n (l ∷ ls) e = go (spec.is_fence f (kind_of l)) refl (closes_from f n ls) e
+closes_from f n (l ∷ ls) e = go (spec.is_fence_kind f (kind_of l)) refl (closes_from f n ls) e
   where
-    go : (b : Bool) → spec.is_fence f (kind_of l) ≡ b → (closes f (map kind_of ls) ≡ true → IsClosed f n ls) → cond b (list_all spec.is_gap (map kind_of ls)) (closes f (map kind_of ls)) ≡ true → IsClosed f n (l ∷ ls)
+    go : (b : Bool) → spec.is_fence_kind f (kind_of l) ≡ b → (closes f (map kind_of ls) ≡ true → IsClosed f n ls) → cond b (list_all spec.is_gap_kind (map kind_of ls)) (closes f (map kind_of ls)) ≡ true → IsClosed f n (l ∷ ls)
     go true h more e = (
       join_with_byte line_feed [],
       comments_of ls,
@@ -373,8 +374,8 @@ closes_from f n (l ∷ ls) e = go (spec.is_fence f (kind_of l)) refl (closes_fro
 
 closes_to : (f : Fence) (inside : List Line) (close : Line) (gap : List Line) (cs : List tree.Comment) → AllByRecursion (λ l. IsFalse (grammar.is_fence f l)) inside → IsTrue (grammar.is_fence f close) → IsGap gap cs →
     closes f (map kind_of (inside ++ close ∷ gap)) ≡ true
-closes_to f [] close gap cs a h g = ap (λ (b : Bool). cond b (list_all spec.is_gap (map kind_of gap)) (closes f (map kind_of gap))) (fence_same f close ∙ h) ∙ gap_to gap cs g
-closes_to f (l ∷ ls) close gap cs a h g = ap (λ (b : Bool). cond b (list_all spec.is_gap (map kind_of (ls ++ close ∷ gap))) (closes f (map kind_of (ls ++ close ∷ gap)))) (fence_same f l ∙ a.0) ∙ closes_to f ls close gap cs a.1 h g
+closes_to f [] close gap cs a h g = ap (λ (b : Bool). cond b (list_all spec.is_gap_kind (map kind_of gap)) (closes f (map kind_of gap))) (fence_same f close ∙ h) ∙ gap_to gap cs g
+closes_to f (l ∷ ls) close gap cs a h g = ap (λ (b : Bool). cond b (list_all spec.is_gap_kind (map kind_of (ls ++ close ∷ gap))) (closes f (map kind_of (ls ++ close ∷ gap)))) (fence_same f l ∙ a.0) ∙ closes_to f ls close gap cs a.1 h g
 
 doc_string_from : (ls : List Line) → is_doc_string (map kind_of ls) ≡ true → Has IsDocString ls
 doc_string_from [] e = absurd cc

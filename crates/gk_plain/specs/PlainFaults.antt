@@ -6,12 +6,12 @@ use Rattle.gk_grammar.specs.declared.fault.FaultKind.{FaultKind}
 use Rattle.gk_grammar.specs.declared.fault.FaultKind.TheVariants as fault
 use Rattle.gk_plain.specs.declared.kinds.Kind.{Kind}
 use Rattle.gk_plain.specs.declared.kinds.Kind.TheVariants as kind
-use Rattle.gk_plain.specs.PlainLines.{is_gap}
+use Rattle.gk_plain.specs.PlainLines.{is_gap_kind}
 
 -- a row or what may be between rows
-abbrev pub is_row_or_gap : Kind → Bool
-is_row_or_gap (kind.Row count) = true
-is_row_or_gap k = is_gap k
+abbrev pub is_row_or_gap_kind : Kind → Bool
+is_row_or_gap_kind (kind.Row count) = true
+is_row_or_gap_kind k = is_gap_kind k
 
 -- a row with another count of cells
 abbrev pub is_other_row : ℕ → Kind → Bool
@@ -21,7 +21,8 @@ is_other_row count _ = false
 -- a row with another count is among the lines, with nothing but rows, comments and blank lines after it
 abbrev pub differs : ℕ → List Kind → Bool
 differs count [] = false
-differs count (k ∷ ks) = (is_other_row count k && list_all is_row_or_gap ks) || differs count ks
+differs count (k ∷ ks) =
+    (is_other_row count k && list_all is_row_or_gap_kind ks) || differs count ks
 
 abbrev pub row_fault : List Kind → ℕ → FaultKind
 row_fault before count = if differs count before then fault.CellCount else fault.Unexpected

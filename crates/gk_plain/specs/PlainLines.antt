@@ -11,12 +11,12 @@ use Rattle.gk_plain.specs.declared.parts.Part.{Part}
 use Rattle.gk_plain.specs.declared.parts.Part.TheVariants as part
 
 -- a comment or a blank line
-abbrev pub is_gap : Kind → Bool
-is_gap kind.Blank = true
-is_gap kind.Comment = true
-is_gap kind.English = true
-is_gap kind.OtherLanguage = true
-is_gap _ = false
+abbrev pub is_gap_kind : Kind → Bool
+is_gap_kind kind.Blank = true
+is_gap_kind kind.Comment = true
+is_gap_kind kind.English = true
+is_gap_kind kind.OtherLanguage = true
+is_gap_kind _ = false
 
 -- the same, but no language line
 abbrev pub is_plain : Kind → Bool
@@ -25,23 +25,23 @@ is_plain kind.Comment = true
 is_plain _ = false
 
 -- the line ends a description of the block
-abbrev pub stops : Block → Kind → Bool
-stops b kind.Tags = true
-stops b (kind.SpacedTag column) = true
-stops b (kind.Title block.Feature) = false
-stops b (kind.Title block.Rule) = true
-stops b (kind.Title block.Scenario) = true
-stops block.Feature (kind.Title block.Background) = true
-stops block.Rule (kind.Title block.Background) = true
-stops block.Scenario (kind.Title block.Examples) = true
-stops block.Examples (kind.Title block.Examples) = true
-stops block.Background kind.Step = true
-stops block.Scenario kind.Step = true
-stops block.Examples (kind.Row count) = true
-stops _ _ = false
+abbrev pub kind_stops : Block → Kind → Bool
+kind_stops b kind.Tags = true
+kind_stops b (kind.SpacedTag column) = true
+kind_stops b (kind.Title block.Feature) = false
+kind_stops b (kind.Title block.Rule) = true
+kind_stops b (kind.Title block.Scenario) = true
+kind_stops block.Feature (kind.Title block.Background) = true
+kind_stops block.Rule (kind.Title block.Background) = true
+kind_stops block.Scenario (kind.Title block.Examples) = true
+kind_stops block.Examples (kind.Title block.Examples) = true
+kind_stops block.Background kind.Step = true
+kind_stops block.Scenario kind.Step = true
+kind_stops block.Examples (kind.Row count) = true
+kind_stops _ _ = false
 
 abbrev pub is_text : Block → Kind → Bool
-is_text b k = not (stops b k)
+is_text b k = not (kind_stops b k)
 
 abbrev pub same_block : Block → Block → Bool
 same_block block.Feature block.Feature = true
@@ -55,10 +55,10 @@ abbrev pub is_title : Block → Kind → Bool
 is_title b (kind.Title c) = same_block c b
 is_title b _ = false
 
-abbrev pub is_fence : Fence → Kind → Bool
-is_fence fence.Quotes (kind.Fenced fence.Quotes) = true
-is_fence fence.Backticks (kind.Fenced fence.Backticks) = true
-is_fence _ _ = false
+abbrev pub is_fence_kind : Fence → Kind → Bool
+is_fence_kind fence.Quotes (kind.Fenced fence.Quotes) = true
+is_fence_kind fence.Backticks (kind.Fenced fence.Backticks) = true
+is_fence_kind _ _ = false
 
 -- the line that a part of one line begins with
 abbrev pub begins : Part → Kind → Bool
@@ -71,7 +71,7 @@ begins _ _ = false
 -- a line, and the gap after it
 abbrev pub is_line : Part → List Kind → Bool
 is_line p [] = false
-is_line p (k ∷ ks) = begins p k && list_all is_gap ks
+is_line p (k ∷ ks) = begins p k && list_all is_gap_kind ks
 
 -- a title line, and the text after it
 abbrev pub is_heading : Block → List Kind → Bool
@@ -81,7 +81,7 @@ is_heading b (k ∷ ks) = is_title b k && list_all (is_text b) ks
 -- up to the first line that begins with the fence, and the gap after it
 abbrev pub closes : Fence → List Kind → Bool
 closes f [] = false
-closes f (k ∷ ks) = if is_fence f k then list_all is_gap ks else closes f ks
+closes f (k ∷ ks) = if is_fence_kind f k then list_all is_gap_kind ks else closes f ks
 
 abbrev pub is_doc_string : List Kind → Bool
 is_doc_string (kind.Fenced f ∷ ks) = closes f ks

@@ -23,7 +23,7 @@ pub struct PlainFault {
 
 /// Whether a line of the kind is a row, a comment or a blank line.
 fn is_row_or_gap(kind: Kind) -> bool
-    ensures { result ≡ spec.is_row_or_gap kind }
+    ensures { result ≡ spec.is_row_or_gap_kind kind }
 {
     match kind {
         Kind::Row(_) => true,
@@ -33,7 +33,7 @@ fn is_row_or_gap(kind: Kind) -> bool
 
 /// Whether the lines are rows, comments and blank lines alone.
 fn are_rows_and_gaps(lines: &[Kind]) -> bool
-    ensures { result ≡ list_all spec.is_row_or_gap lines.now }
+    ensures { result ≡ list_all spec.is_row_or_gap_kind lines.now }
 {
     lines.iter().all(|kind| is_row_or_gap(*kind))
 }

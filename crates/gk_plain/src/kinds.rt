@@ -5,7 +5,7 @@ ghost use Rattle.std.specs.Str.{chars, encode_utf8_all};
 ghost use Rattle.gk_line.specs.Cells.{cells_of};
 ghost use Rattle.gk_line.specs.Tags.{spaced_piece, tags_of};
 ghost use Rattle.gk_line.specs.Texts.{first_some};
-ghost use Rattle.gk_line.specs.Tokens.{begins_by, language_of, title_of};
+ghost use Rattle.gk_line.specs.Tokens.{begins_by, language_of, title_of, blocks};
 ghost use Rattle.gk_line.specs.Views.{line_chars, numbered_line};
 ghost use Rattle.gk_grammar.specs.Grammar.{english};
 ghost use Rattle.gk_grammar.specs.Machine.{same_text};
@@ -93,7 +93,7 @@ fn row_kind(alloc: Global, line: Line<'_>) -> Result<Kind, AllocError>
 fn titled(line: Line<'_>) -> Option<Block>
     requires { length line.text.now ≤ max_bytes }
     ensures { option_map kind.Title result ≡ option_map kind_of_token (first_some
-        (λ b. option_map (read.title_token b) (title_of b (line_chars line.entry))) read.blocks) }
+        (λ b. option_map (read.title_token b) (title_of b (line_chars line.entry))) blocks) }
 {
     if title(line, Block::Feature).is_some() {
         return Some(Block::Feature);

@@ -16,7 +16,7 @@ use std::alloc::{AllocError, Global};
 
 /// Whether the line is a comment or blank.
 pub(crate) fn is_gap(kind: Kind) -> bool
-    ensures { result ≡ spec.is_gap kind }
+    ensures { result ≡ spec.is_gap_kind kind }
 {
     match kind {
         Kind::Blank | Kind::Comment | Kind::English | Kind::OtherLanguage => true,
@@ -26,7 +26,7 @@ pub(crate) fn is_gap(kind: Kind) -> bool
 
 /// Whether the lines are comments and blank lines.
 fn are_gap(lines: &[Kind]) -> bool
-    ensures { result ≡ list_all spec.is_gap lines.now }
+    ensures { result ≡ list_all spec.is_gap_kind lines.now }
 {
     lines.iter().all(|kind| is_gap(*kind))
 }
@@ -50,7 +50,7 @@ fn are_plain(lines: &[Kind]) -> bool
 
 /// Whether the line ends a description of the block.
 fn stops(block: Block, kind: Kind) -> bool
-    ensures { result ≡ spec.stops block kind }
+    ensures { result ≡ spec.kind_stops block kind }
 {
     match kind {
         Kind::Tags | Kind::SpacedTag(_) => true,
@@ -115,7 +115,7 @@ fn is_line(part: Part, lines: &[Kind]) -> bool
 
 /// Whether a line of the kind begins with the fence.
 fn is_fence(fence: Fence, kind: Kind) -> bool
-    ensures { result ≡ spec.is_fence fence kind }
+    ensures { result ≡ spec.is_fence_kind fence kind }
 {
     match kind {
         Kind::Fenced(other) => other == fence,

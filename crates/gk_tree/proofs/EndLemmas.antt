@@ -6,13 +6,13 @@ use Rattle.gk_grammar.specs.Token.{Line, line, line_of, Blank, Comment, Language
 use Rattle.gk_grammar.specs.Tree.{Document}
 use Rattle.gk_grammar.specs.Place.{IsFaultAt}
 use Rattle.gk_grammar.specs.Machine as machine
-use Rattle.gk_grammar.specs.Machine.{State, PlacedFault, run, next, initial, blocks_at_end, ◌>>=◌}
+use Rattle.gk_grammar.specs.Machine.{State, PlacedFault, run, next, initial_state, blocks_at_end, ◌>>=◌}
 use Rattle.gk_grammar.specs.Assembly.{document_of}
 use Rattle.gk_grammar.specs.Documents.{lines_read, IsDocumentOf, HasFault, IsTooLong}
 use Rattle.gk_grammar.proofs.LawLemmas.{whole_run, stopped_run, open_run}
 use Rattle.gk_tree.specs.declared.fault.ParseFault.{ParseFault}
 use Rattle.gk_tree.specs.Views.{Gives, placed_fault, out_of_memory, too_long}
-use Rattle.gk_tree.specs.Ends.{ended, document_at, Answers}
+use Rattle.gk_tree.specs.Ends.{last_blocks, document_at, Answers}
 
 -- ---- a line of a run
 
@@ -26,10 +26,10 @@ stop_run all s b ls rest x e h k =
 
 -- ---- the answer
 
-pub whole_answer : (text : List ℕ) (later : ℕ) (s : State) (r : Result Document ParseFault) → run initial (lines_read text) ≡ Ok s → later ≡ length (lines_read text) + 1 → Gives (λ (d : Document). d) r (document_at later s) → Answers text r
+pub whole_answer : (text : List ℕ) (later : ℕ) (s : State) (r : Result Document ParseFault) → run initial_state (lines_read text) ≡ Ok s → later ≡ length (lines_read text) + 1 → Gives (λ (d : Document). d) r (document_at later s) → Answers text r
 whole_answer text later s r e b h = go r (blocks_at_end s.phase) refl h
   where
-    go : (r : Result Document ParseFault) (o : Option (List machine.FlatBlock)) → blocks_at_end s.phase ≡ o → Gives (λ (d : Document). d) r (ended later o >>= λ last. Ok (document_of s last)) → Answers text r
+    go : (r : Result Document ParseFault) (o : Option (List machine.FlatBlock)) → blocks_at_end s.phase ≡ o → Gives (λ (d : Document). d) r (last_blocks later o >>= λ last. Ok (document_of s last)) → Answers text r
     go (Ok d) (Some last) f h = let same : document_of s last ≡ d = cc in subst (λ (z : Document). IsDocumentOf text z) same (whole_run text s last e f).doc
     go (Ok d) None f h = absurd cc
     go (Err g) (Some last) f (inl m) = inl m
@@ -39,7 +39,7 @@ whole_answer text later s r e b h = go r (blocks_at_end s.phase) refl h
         let same : record { kind = kind.UnexpectedEnd; line = later; column = 1 } ≡ placed_fault g = cc in
         inr (subst (λ (z : PlacedFault). HasFault text z.kind z.line z.column) same (subst (λ (n : ℕ). HasFault text kind.UnexpectedEnd n 1) (sym b) (open_run text s e f)))
 
-pub stop_answer : (text : List ℕ) (f : ParseFault) → Gives {X = State} (λ s. s) (Err f) (run initial (lines_read text)) → Answers text (Err f)
+pub stop_answer : (text : List ℕ) (f : ParseFault) → Gives {X = State} (λ s. s) (Err f) (run initial_state (lines_read text)) → Answers text (Err f)
 stop_answer text f (inl m) = inl m
 stop_answer text f (inr h) = inr (stopped_run text (placed_fault f) h)
 

@@ -8,8 +8,8 @@ use Rattle.std.specs.Char.{is_whitespace}
 use Rattle.std.specs.List.{list_all, prefix_len}
 use Rattle.std.specs.Option.{option_map}
 use Rattle.std.specs.Str.{skip_leading_whitespace}
-use Rattle.gk_line.specs.Texts.{after, body_of, first_some, or_else}
-use Rattle.gk_line.specs.Tokens.{is_blank_line, begins_by, language_of, TitleText, title_of, block_title_of, step_of, fence_of, indent_of}
+use Rattle.gk_line.specs.Texts.{after, text_after_indent, first_some, or_else}
+use Rattle.gk_line.specs.Tokens.{is_blank_line, begins_by, language_of, TitleText, title_of, block_title_of, step_of, fence_of, indent_of, blocks}
 use Rattle.gk_line.specs.Tags.{spaced_piece, tags_of}
 use Rattle.gk_line.specs.Cells.{cells_of}
 use Rattle.gk_line.specs.Kinds.{Kind, is_of_kind}
@@ -18,7 +18,7 @@ use Rattle.gk_line.specs.declared.tokens.Block.{Block}
 use Rattle.gk_line.specs.declared.tokens.Block.TheVariants as block
 use Rattle.gk_line.proofs.KindLemmas.{kinds_exclude}
 use Rattle.gk_grammar.specs.Token as read
-use Rattle.gk_grammar.specs.Token.{Token, token_of, comment_token, title_token, step_token, fence_token, word_token, token_or_other, tag_list, cell, blocks}
+use Rattle.gk_grammar.specs.Token.{Token, token_of, comment_token, title_token, step_token, fence_token, word_token, token_or_other, tag_list, cell}
 use Rattle.gk_tree.specs.Read.{first_character}
 
 -- what follows the first character
@@ -44,28 +44,28 @@ no_first : (text : List ℕ) → first_character text ≡ None → text ≡ []
 no_first [] e = refl
 no_first (c ∷ cs) e = absurd cc
 
-pub blank_token : (cs : List ℕ) → first_character (body_of cs) ≡ None → token_of cs ≡ read.Blank
-unfolding body_of is_blank_line token_of
-blank_token cs h = rw (skipped cs (no_first (body_of cs) h)) refl
+pub blank_token : (cs : List ℕ) → first_character (text_after_indent cs) ≡ None → token_of cs ≡ read.Blank
+unfolding text_after_indent is_blank_line token_of
+blank_token cs h = rw (skipped cs (no_first (text_after_indent cs) h)) refl
 
 -- ---- lines that their first character decides
 
-pub first_begins : (x c : ℕ) (cs : List ℕ) → first_character (body_of cs) ≡ Some c → begins_by (x ∷ []) cs ≡ (c == x)
+pub first_begins : (x c : ℕ) (cs : List ℕ) → first_character (text_after_indent cs) ≡ Some c → begins_by (x ∷ []) cs ≡ (c == x)
 unfolding begins_by after
-first_begins x c cs e = let split = after_first c (body_of cs) e in rw split.1 (go split.0 (c == x))
+first_begins x c cs e = let split = after_first c (text_after_indent cs) e in rw split.1 (go split.0 (c == x))
   where
     go : (rest : List ℕ) (b : Bool) → is_some (cond b (Some rest) None) ≡ b
     go rest true = refl
     go rest false = refl
 
-pub first_token : (c : ℕ) (cs : List ℕ) → first_character (body_of cs) ≡ Some c → token_of cs
+pub first_token : (c : ℕ) (cs : List ℕ) → first_character (text_after_indent cs) ≡ Some c → token_of cs
     ≡ (if c == 35 then comment_token (language_of cs)
     else if c == 64 then read.Tags (tag_list (spaced_piece cs) (tags_of cs))
     else if c == 124 then read.Row (map cell (cells_of cs))
     else token_or_other (word_token cs))
-unfolding token_of is_blank_line body_of
+unfolding token_of is_blank_line text_after_indent
 first_token c cs h =
-    let split = after_first c (body_of cs) h in
+    let split = after_first c (text_after_indent cs) h in
     rw (not_skipped cs split.0 c split.1, first_begins 35 c cs h, first_begins 64 c cs h, first_begins 124 c cs h) refl
 
 differ : (c x : ℕ) → (c ≡ x → ⊥) → (c == x) ≡ false
@@ -75,7 +75,7 @@ differ c x h = go (c == x) refl
     go true e = absurd (h (eqb-true c x e))
     go false e = e
 
-pub other_first : (c : ℕ) (cs : List ℕ) → first_character (body_of cs) ≡ Some c → (c ≡ 35 → ⊥) → (c ≡ 64 → ⊥) → (c ≡ 124 → ⊥) → token_of cs ≡ token_or_other (word_token cs)
+pub other_first : (c : ℕ) (cs : List ℕ) → first_character (text_after_indent cs) ≡ Some c → (c ≡ 35 → ⊥) → (c ≡ 64 → ⊥) → (c ≡ 124 → ⊥) → token_of cs ≡ token_or_other (word_token cs)
 other_first c cs h no_comment no_tags no_row =
     rw (first_token c cs h, differ c 35 no_comment, differ c 64 no_tags, differ c 124 no_row) refl
 
@@ -143,8 +143,8 @@ module _ (cs : List ℕ) (n c : ℕ) (at : (n < length cs) × (c ≡ get_or cs n
       ∙ ap (λ (b : Bool). n + cond b (1 + prefix_len is_whitespace (drop (n + 1) cs)) 0) white
       ∙ omega arith
 
-  pub turn_body : is_whitespace c ≡ true → body_of cs ≡ body_of (drop n cs) → body_of cs ≡ body_of (drop (n + 1) cs)
-  unfolding body_of
+  pub turn_body : is_whitespace c ≡ true → text_after_indent cs ≡ text_after_indent (drop n cs) → text_after_indent cs ≡ text_after_indent (drop (n + 1) cs)
+  unfolding text_after_indent
   turn_body white so_far =
       so_far
       ∙ ap (λ (z : List ℕ). skip_leading_whitespace z) cut
@@ -158,8 +158,8 @@ module _ (cs : List ℕ) (n c : ℕ) (at : (n < length cs) × (c ≡ get_or cs n
       ∙ ap (λ (b : Bool). n + cond b (1 + prefix_len is_whitespace (drop (n + 1) cs)) 0) black
       ∙ omega arith
 
-  pub end_body : is_whitespace c ≡ false → body_of cs ≡ body_of (drop n cs) → Some c ≡ first_character (body_of cs)
-  unfolding body_of
+  pub end_body : is_whitespace c ≡ false → text_after_indent cs ≡ text_after_indent (drop n cs) → Some c ≡ first_character (text_after_indent cs)
+  unfolding text_after_indent
   end_body black so_far =
       sym (ap first_character
       (so_far
@@ -171,6 +171,6 @@ unfolding indent_of
 all_indent cs n e so_far =
     so_far ∙ ap (λ (z : List ℕ). n + prefix_len is_whitespace z) (drop_all n cs (omega (arith, e))) ∙ omega arith
 
-pub all_body : (cs : List ℕ) (n : ℕ) → n ≡ length cs → body_of cs ≡ body_of (drop n cs) → None ≡ first_character (body_of cs)
-unfolding body_of
+pub all_body : (cs : List ℕ) (n : ℕ) → n ≡ length cs → text_after_indent cs ≡ text_after_indent (drop n cs) → None ≡ first_character (text_after_indent cs)
+unfolding text_after_indent
 all_body cs n e so_far = sym (ap first_character (so_far ∙ ap (λ (z : List ℕ). skip_leading_whitespace z) (drop_all n cs (omega (arith, e)))))

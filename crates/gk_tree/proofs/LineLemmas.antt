@@ -11,7 +11,7 @@ use Rattle.std.specs.Option.{option_map}
 use Rattle.std.specs.List.{list_all}
 use Rattle.std.specs.Char.{is_whitespace}
 use Rattle.std.specs.Str.{skip_leading_whitespace}
-use Rattle.gk_line.specs.Texts.{or_else, first_some, body_of, after}
+use Rattle.gk_line.specs.Texts.{or_else, first_some, text_after_indent, after}
 use Rattle.gk_line.specs.Tokens.{is_blank_line, begins_by, language_of, title_of, TitleText, step_of, StepText, fence_of, FenceText, indent_of}
 use Rattle.gk_line.specs.Tags.{spaced_piece, tags_of}
 use Rattle.gk_line.specs.Cells.{cells_of}
@@ -25,7 +25,7 @@ skip_blank [] h = refl
 skip_blank (c ∷ cs) h = grind (arith, common_steps, skip_blank cs)
 
 blank_begins : (cs : List ℕ) → is_blank_line cs ≡ true → begins_by (codes "#") cs ≡ false
-unfolding is_blank_line begins_by body_of after
+unfolding is_blank_line begins_by text_after_indent after
 blank_begins cs h = rw (skip_blank cs h) refl
 
 -- neither blank nor a comment

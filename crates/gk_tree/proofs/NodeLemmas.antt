@@ -18,7 +18,7 @@ use Rattle.gk_grammar.specs.declared.fault.FaultKind.TheVariants as kind
 use Rattle.gk_grammar.specs.Grammar.{stops, is_fence, english}
 use Rattle.gk_grammar.specs.Tree as tree
 use Rattle.gk_grammar.specs.Token.{Utf8, TagText, Token, Blank, Comment, Language, Tags, Title, Step, Row, Fenced, Other, line, line_of, token_of, comment_token, title_token, step_token, fence_token, word_token, token_or_other, tag_list, tag_text, cell}
-use Rattle.gk_grammar.specs.Machine.{State, PlacedFault, Phase, Start, AfterLanguage, AfterTags, InDescription, AfterStep, InDocString, InExamplesTable, FlatBlock, next, at_phase, close_block, another_row, step_row, step_fence, own_node, after_step, in_examples_table, before_first_block, at_start, after_language, after_tags, after_description, with_description, with_steps, with_rows, follows, takes_tags, open_block, pass_over, with_doc_string, count_of, row_at, same_text}
+use Rattle.gk_grammar.specs.Machine.{State, PlacedFault, Phase, Start, AfterLanguage, AfterTags, InDescription, AfterStep, InDocString, InExamplesTable, FlatBlock, next, at_phase, close_block, another_row, step_row, step_fence, title_node_count, after_step, in_examples_table, before_first_block, at_start, after_language, after_tags, after_description, with_description, with_steps, with_rows, follows, takes_tags, open_block, pass_over, with_doc_string, count_of, row_at, same_text}
 use Rattle.gk_grammar.proofs.Bytes.{tags_fewer}
 use Rattle.gk_tree.proofs.TokenLemmas.{chars_bound}
 
@@ -31,7 +31,7 @@ IsAtMost : ℕ → Result State PlacedFault → Type 0
 IsAtMost n (Ok s) = s.nodes ≤ n
 IsAtMost n (Err b) = Unit {0}
 
-own_at_most : (b : Block) → own_node b ≤ 1
+own_at_most : (b : Block) → title_node_count b ≤ 1
 own_at_most block.Feature = omega arith
 own_at_most block.Rule = omega arith
 own_at_most block.Background = omega arith

@@ -11,7 +11,7 @@ use Rattle.std.proofs.lemmas.Str.{encodes-chars}
 use Rattle.gk_document.specs.declared.tree.Cell.{Cell}
 use Rattle.gk_line.specs.declared.tokens.TagText.{TagText}
 use Rattle.gk_line.specs.Cells.{without_first, CellText}
-use Rattle.gk_line.specs.Tags.{uncommented, TagWord, pieces_from, tag_pieces, tags_of, is_tag}
+use Rattle.gk_line.specs.Tags.{uncommented_line, TagWord, pieces_from, tag_pieces, tags_of, is_tag}
 use Rattle.gk_line.specs.Views.{cell_text, tag_word}
 use Rattle.gk_grammar.specs.Token.{cell, tag_text, tag_list}
 use Rattle.gk_grammar.proofs.Bytes.{tags_fewer}

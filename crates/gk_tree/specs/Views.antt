@@ -99,8 +99,8 @@ state_at p phase =
     }
 
 -- what was made so far, where the phase doesn't matter
-abbrev pub made : Progress → State
-made p = state_at p machine.Start
+abbrev pub state_so_far : Progress → State
+state_so_far p = state_at p machine.Start
 
 abbrev pub state_in : Progress → Phase → State
 state_in p phase = state_at p (phase_of phase)

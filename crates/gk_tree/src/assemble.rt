@@ -2,7 +2,7 @@
 ghost use Rattle.std.specs.Prelude.{◌≡◌, ◌∷◌, map, reverse, IfOk, OnOk};
 ghost use Rattle.gk_line.specs.declared.tokens.Block.TheVariants as block;
 ghost use Rattle.gk_grammar.specs.Assembly as assembly;
-ghost use Rattle.gk_grammar.specs.Assembly.{no_parts, with_block, feature_at, rule_at, scenario_at, examples_at, steps_of, rows_of, table_of};
+ghost use Rattle.gk_grammar.specs.Assembly.{no_parts, with_block, feature_at, rule_at, scenario_at, examples_at, steps_of, rows_of, example_table_of};
 ghost use Rattle.gk_tree.specs.Views.{flat_block_of, body_of};
 ghost use Rattle.gk_tree.specs.Assembling.{parts_view};
 
@@ -44,7 +44,7 @@ pub(crate) fn build_feature(
     alloc: Global,
     flat_blocks: Sequence<FlatBlock>,
 ) -> Result<Option<Feature>, AllocError>
-    ensures { IfOk result (λ f. f ≡ assembly.assembled (map flat_block_of flat_blocks)) }
+    ensures { IfOk result (λ f. f ≡ assembly.assembled_feature (map flat_block_of flat_blocks)) }
 {
     let mut flat_blocks = flat_blocks.into_vec();
     if flat_blocks.is_empty() {
@@ -204,7 +204,7 @@ fn steps(alloc: Global, body: Body) -> Sequence<Step>
 
 /// The rows of an examples block as its table, the first one its header.
 fn table(body: Body) -> Option<ExampleTable>
-    ensures { result ≡ table_of (rows_of (body_of body)) }
+    ensures { result ≡ example_table_of (rows_of (body_of body)) }
 {
     let Body::Rows(rows) = body else {
         return None;
@@ -214,7 +214,7 @@ fn table(body: Body) -> Option<ExampleTable>
 
 /// The table whose header is the first of these rows, if there is a row.
 fn header_and_body(rows: Sequence<Row>) -> Option<ExampleTable>
-    ensures { result ≡ table_of rows }
+    ensures { result ≡ example_table_of rows }
 {
     let mut rows = rows.into_vec();
     if rows.is_empty() {

@@ -2,7 +2,7 @@
 ghost use Rattle.std.specs.Prelude.{◌≡◌, ◌<◌, ◌^◌};
 ghost use Rattle.gk_grammar.specs.Grammar.{english};
 ghost use Rattle.gk_grammar.specs.Machine as machine;
-ghost use Rattle.gk_tree.specs.Views.{text_of, line_at, phase_of, head_of, made, state_in, Gives};
+ghost use Rattle.gk_tree.specs.Views.{text_of, line_at, phase_of, head_of, state_so_far, state_in, Gives};
 
 use crate::blocks::{follows, title_line};
 use crate::fault::{ParseFault, fault, spaced_tag, unexpected};
@@ -35,7 +35,7 @@ fn before_first_block<'a>(
 ) -> Result<Phase<'a>, ParseFault>
     requires room { progress.old.nodes < 2 ^ 63 }
     ensures { Gives (state_in progress.new) result
-        (machine.before_first_block (made progress.old) (head_of has_language)
+        (machine.before_first_block (state_so_far progress.old) (head_of has_language)
         (line_at at.entry token.entry)) }
 {
     match token {
@@ -57,7 +57,7 @@ pub(crate) fn at_start<'a>(
 ) -> Result<Phase<'a>, ParseFault>
     requires room { progress.old.nodes < 2 ^ 63 }
     ensures { Gives (state_in progress.new) result
-        (machine.at_start (made progress.old) (line_at at.entry token.entry)) }
+        (machine.at_start (state_so_far progress.old) (line_at at.entry token.entry)) }
 {
     if let Token::Language(word) = token {
         if !is_english(word) {
@@ -84,7 +84,7 @@ pub(crate) fn after_language<'a>(
 ) -> Result<Phase<'a>, ParseFault>
     requires room { progress.old.nodes < 2 ^ 63 }
     ensures { Gives (state_in progress.new) result
-        (machine.after_language (made progress.old) (line_at at.entry token.entry)) }
+        (machine.after_language (state_so_far progress.old) (line_at at.entry token.entry)) }
 {
     if let Token::Language(_) = token {
         return keep_comment_and_stay(alloc, progress, Phase::AfterLanguage, at);
@@ -103,7 +103,8 @@ pub(crate) fn after_tags<'a>(
 ) -> Result<Phase<'a>, ParseFault>
     requires room { progress.old.nodes < 2 ^ 63 }
     ensures { Gives (state_in progress.new) result
-        (machine.after_tags (made progress.old) before tags (line_at at.entry token.entry)) }
+        (machine.after_tags (state_so_far progress.old) before tags
+        (line_at at.entry token.entry)) }
 {
     match token {
         Token::Blank => Ok(Phase::AfterTags(before, tags)),

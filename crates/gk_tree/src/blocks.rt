@@ -2,7 +2,7 @@
 ghost use Rattle.std.specs.Prelude.{◌≡◌, ◌<◌, ◌+◌, ◌^◌, [], if◌then◌else◌, Ok, Err};
 ghost use Rattle.gk_grammar.specs.declared.fault.FaultKind.TheVariants as kinds;
 ghost use Rattle.gk_grammar.specs.Machine as machine;
-ghost use Rattle.gk_tree.specs.Views.{text_of, line_at, flat_block_of, made, state_in, Gives};
+ghost use Rattle.gk_tree.specs.Views.{text_of, line_at, flat_block_of, state_so_far, state_in, Gives};
 
 use crate::fault::{ParseFault, spaced_tag, unexpected};
 use crate::flat_block::FlatBlock;
@@ -38,7 +38,7 @@ pub(crate) fn close_block<'a>(
 ) -> Result<Phase<'a>, ParseFault>
     requires room { progress.old.nodes < 2 ^ 63 }
     ensures { Gives (state_in progress.new) result
-        (machine.close_block (made progress.old) (flat_block_of flat_block)
+        (machine.close_block (state_so_far progress.old) (flat_block_of flat_block)
         (line_at at.entry token.entry)) }
 {
     let block = flat_block.block;
@@ -64,7 +64,7 @@ pub(crate) fn title_line<'a>(
 ) -> Result<Phase<'a>, ParseFault>
     requires room { progress.old.nodes < 2 ^ 63 }
     ensures { Gives (state_in progress.new) result (if machine.follows before next
-        then Ok (machine.open_block (made progress.old) next [] at.entry.line.number
+        then Ok (machine.open_block (state_so_far progress.old) next [] at.entry.line.number
         at.entry.indent (text_of title.entry.keyword.now) (text_of title.entry.name.now))
         else Err (record {
           kind = kinds.Unexpected;

@@ -4,7 +4,7 @@ ghost use Rattle.gk_line.specs.Views.{line_chars, step_text};
 ghost use Rattle.gk_grammar.specs.Token as read;
 ghost use Rattle.gk_grammar.specs.Grammar as grammar;
 ghost use Rattle.gk_grammar.specs.Machine as machine;
-ghost use Rattle.gk_tree.specs.Views.{token_view, line_at, flat_block_of, kept_line, made, state_in, Gives};
+ghost use Rattle.gk_tree.specs.Views.{token_view, line_at, flat_block_of, kept_line, state_so_far, state_in, Gives};
 ghost use Rattle.gk_tree.specs.Read.{IsRead};
 
 use crate::blocks::{close_block, follows};
@@ -31,7 +31,7 @@ pub(crate) fn in_description<'a>(
 ) -> Result<Phase<'a>, ParseFault>
     requires room { progress.old.nodes < 2 ^ 63 }
     requires read { IsRead at token }
-    ensures { Gives (state_in progress.new) result (machine.at_phase (made progress.old)
+    ensures { Gives (state_in progress.new) result (machine.at_phase (state_so_far progress.old)
         (machine.InDescription (flat_block_of flat_block.value) (map kept_line lines.entry.items))
         (line_at at.entry token.entry)) }
 {
@@ -68,7 +68,7 @@ fn after_description<'a>(
 ) -> Result<Phase<'a>, ParseFault>
     requires room { progress.old.nodes < 2 ^ 63 }
     ensures { Gives (state_in progress.new) result
-        (machine.after_description (made progress.old) (flat_block_of flat_block.value)
+        (machine.after_description (state_so_far progress.old) (flat_block_of flat_block.value)
         (line_at at.entry token.entry)) }
 {
     match token {
@@ -88,7 +88,7 @@ fn first_step<'a>(
 ) -> Result<Phase<'a>, ParseFault>
     requires room { progress.old.nodes < 2 ^ 63 }
     ensures { Gives (state_in progress.new) result
-        (machine.after_description (made progress.old) (flat_block_of flat_block.value)
+        (machine.after_description (state_so_far progress.old) (flat_block_of flat_block.value)
         (read.line at.entry.line.number (line_chars at.entry.line) at.entry.indent
         (read.step_token (step_text line.entry)))) }
 {
@@ -112,7 +112,7 @@ fn first_row<'a>(
 ) -> Result<Phase<'a>, ParseFault>
     requires room { progress.old.nodes < 2 ^ 63 }
     ensures { Gives (state_in progress.new) result
-        (machine.after_description (made progress.old) (flat_block_of flat_block.value)
+        (machine.after_description (state_so_far progress.old) (flat_block_of flat_block.value)
         (read.line at.entry.line.number (line_chars at.entry.line) at.entry.indent
         (read.Row cells))) }
 {

@@ -4,7 +4,7 @@ ghost use Rattle.gk_grammar.specs.Token as read;
 ghost use Rattle.gk_line.specs.Views.{line_chars};
 ghost use Rattle.gk_grammar.specs.Grammar.{comment_of, comments_of};
 ghost use Rattle.gk_grammar.specs.Machine as machine;
-ghost use Rattle.gk_tree.specs.Views.{text_of, word_of, token_view, line_at, body_of, flat_block_of, phase_of, made, state_in, Gives};
+ghost use Rattle.gk_tree.specs.Views.{text_of, word_of, token_view, line_at, body_of, flat_block_of, phase_of, state_so_far, state_in, Gives};
 
 use crate::fault::ParseFault;
 use crate::flat_block::{Body, FlatBlock};
@@ -64,7 +64,7 @@ pub(crate) fn keep_comment_and_stay<'a>(
     at: IndentedLine<'a>,
 ) -> Result<Phase<'a>, ParseFault>
     ensures { Gives (state_in progress.new) result
-        (Ok (machine.pass_over (made progress.old) (phase_of phase.entry)
+        (Ok (machine.pass_over (state_so_far progress.old) (phase_of phase.entry)
         (read.line at.entry.line.number (line_chars at.entry.line) at.entry.indent read.Comment))) }
 {
     keep_comment(alloc, progress, at)?;
@@ -128,7 +128,7 @@ pub(crate) fn add_tags<'a>(
 ) -> Result<Phase<'a>, ParseFault>
     requires room { progress.old.nodes < 2 ^ 63 }
     ensures { Gives (state_in progress.new) result
-        (Ok (machine.add_tags (made progress.old) before tags at.entry.line.number
+        (Ok (machine.add_tags (state_so_far progress.old) before tags at.entry.line.number
         (map word_of line.entry.words.items))) }
 {
     let tags = with_tags(alloc, tags, progress.nodes, at.line.number, &line.words)?;
@@ -147,11 +147,12 @@ pub(crate) fn open_block<'a>(
 ) -> Result<Phase<'a>, ParseFault>
     requires room { progress.old.nodes < 2 ^ 63 }
     ensures { Gives (state_in progress.new) result
-        (Ok (machine.open_block (made progress.old) block tags at.entry.line.number at.entry.indent
+        (Ok (machine.open_block (state_so_far progress.old) block tags
+        at.entry.line.number at.entry.indent
         (text_of title.entry.keyword.now) (text_of title.entry.name.now))) }
 {
     let flat_block = new_block(alloc, progress.nodes, block, tags, at, title)?;
-    progress.nodes += own_node(block);
+    progress.nodes += title_node_count(block);
     Ok(Phase::InDescription(Box::new(alloc, flat_block)?, Vec::new(alloc)))
 }
 
@@ -183,8 +184,8 @@ fn new_block(
 }
 
 /// How many nodes the title line of a block is.
-fn own_node(block: Block) -> u64
-    ensures value { result ≡ machine.own_node block }
+fn title_node_count(block: Block) -> u64
+    ensures value { result ≡ machine.title_node_count block }
     ensures bound { result ≤ 1 }
 {
     match block {

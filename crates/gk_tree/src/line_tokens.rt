@@ -4,12 +4,12 @@ ghost use Rattle.std.specs.Str.{chars};
 ghost use Rattle.std.specs.Option.{option_map};
 ghost use Rattle.gk_line.specs.declared.limit.TheConstants.{FEATURE_LIMIT};
 ghost use Rattle.gk_line.specs.Cells.{cells_of};
-ghost use Rattle.gk_line.specs.Texts.{body_of, first_some};
-ghost use Rattle.gk_line.specs.Tokens.{indent_of, title_of, step_of, fence_of, begins_by, language_of};
+ghost use Rattle.gk_line.specs.Texts.{text_after_indent, first_some};
+ghost use Rattle.gk_line.specs.Tokens.{indent_of, title_of, step_of, fence_of, begins_by, language_of, blocks};
 ghost use Rattle.gk_line.specs.Tags.{spaced_piece, tags_of};
 ghost use Rattle.gk_line.specs.Views.{line_chars};
 ghost use Rattle.gk_grammar.specs.Token as read;
-ghost use Rattle.gk_grammar.specs.Token.{token_of, comment_token as comment_or_language, title_token as titled, step_token as stepped, fence_token as fenced, tag_list, word_token as by_word, token_or_other, blocks, cell};
+ghost use Rattle.gk_grammar.specs.Token.{token_of, comment_token as comment_or_language, title_token as titled, step_token as stepped, fence_token as fenced, tag_list, word_token as by_word, token_or_other, cell};
 ghost use Rattle.gk_tree.specs.Read.{first_character};
 ghost use Rattle.gk_tree.specs.Views.{token_view};
 
@@ -23,7 +23,7 @@ pub(crate) fn head(text: &str) -> Head
     requires { length text.now ≤ FEATURE_LIMIT }
     ensures indent { result.indent ≡ indent_of (chars text.now) }
     ensures bound { result.indent ≤ FEATURE_LIMIT }
-    ensures first { result.first ≡ first_character (body_of (chars text.now)) }
+    ensures first { result.first ≡ first_character (text_after_indent (chars text.now)) }
 {
     let mut indent = 0;
     for c in text.chars() {
@@ -49,7 +49,7 @@ pub(crate) fn token(
     first: Option<char>,
 ) -> Result<Token<'_>, AllocError>
     requires short { length line.text.now ≤ FEATURE_LIMIT }
-    requires first { first ≡ first_character (body_of (line_chars line)) }
+    requires first { first ≡ first_character (text_after_indent (line_chars line)) }
     ensures { IfOk result (λ t. token_view t ≡ token_of (line_chars line.entry)) }
 {
     match first {

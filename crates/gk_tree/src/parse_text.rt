@@ -10,7 +10,7 @@ ghost use Rattle.gk_grammar.specs.Token.{line_of};
 ghost use Rattle.gk_grammar.specs.Machine as machine;
 ghost use Rattle.gk_tree.specs.Views.{line_at, state_of, state_in, phase_of, Gives, out_of_memory, too_long};
 ghost use Rattle.gk_tree.specs.Read.{IsRead};
-ghost use Rattle.gk_tree.specs.Ends.{ended, document_at, Answers};
+ghost use Rattle.gk_tree.specs.Ends.{last_blocks, document_at, Answers};
 ghost use Rattle.gk_tree.specs.EndViews.{last_of};
 
 use crate::assemble::build_feature;
@@ -103,7 +103,7 @@ fn within_limits(alloc: Global, text: &str, end_line: u32) -> Result<Document, P
 fn read_lines<'a>(alloc: Global, text: &'a str) -> Result<Parser<'a>, ParseFault>
     requires short { length text.now ≤ max_bytes }
     requires few { length (lines_read text.now) ≤ max_lines }
-    ensures { Gives state_of result (machine.run machine.initial (lines_read text.now)) }
+    ensures { Gives state_of result (machine.run machine.initial_state (lines_read text.now)) }
 {
     let mut progress = Progress {
         comments: Sequence::new(alloc),
@@ -175,7 +175,7 @@ fn last_block(
     phase: Phase<'_>,
     end_line: u32,
 ) -> Result<Option<FlatBlock>, ParseFault>
-    ensures { Gives last_of result (ended end_line (machine.blocks_at_end (phase_of phase.entry))) }
+    ensures { Gives last_of result (last_blocks end_line (machine.blocks_at_end (phase_of phase.entry))) }
 {
     match phase {
         Phase::Start => Ok(None),

@@ -2,7 +2,7 @@
 ghost use Rattle.std.specs.Prelude.{◌≡◌, ◌<◌, ◌^◌, ◌+◌, ◌∷◌, [], IfOk};
 ghost use Rattle.gk_grammar.specs.Grammar as grammar;
 ghost use Rattle.gk_grammar.specs.Machine as machine;
-ghost use Rattle.gk_tree.specs.Views.{line_at, flat_block_of, made, state_in, Gives};
+ghost use Rattle.gk_tree.specs.Views.{line_at, flat_block_of, state_so_far, state_in, Gives};
 ghost use Rattle.gk_tree.specs.Rows.{rows_with};
 
 use crate::blocks::close_block;
@@ -72,7 +72,7 @@ pub(crate) fn in_examples_table<'a>(
 ) -> Result<Phase<'a>, ParseFault>
     requires room { progress.old.nodes < 2 ^ 63 }
     ensures { Gives (state_in progress.new) result
-        (machine.in_examples_table (made progress.old) (flat_block_of flat_block.value) rows
+        (machine.in_examples_table (state_so_far progress.old) (flat_block_of flat_block.value) rows
         (line_at at.entry token.entry)) }
 {
     match token {

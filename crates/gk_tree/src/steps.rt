@@ -4,7 +4,7 @@ ghost use Rattle.gk_line.specs.Views.{line_chars, step_text};
 ghost use Rattle.gk_grammar.specs.Token as read;
 ghost use Rattle.gk_grammar.specs.Grammar as grammar;
 ghost use Rattle.gk_grammar.specs.Machine as machine;
-ghost use Rattle.gk_tree.specs.Views.{text_of, token_view, line_at, flat_block_of, open_doc_string_of, kept_line, made, state_in, Gives};
+ghost use Rattle.gk_tree.specs.Views.{text_of, token_view, line_at, flat_block_of, open_doc_string_of, kept_line, state_so_far, state_in, Gives};
 ghost use Rattle.gk_tree.specs.Rows.{row_after};
 ghost use Rattle.gk_tree.specs.declared.state.Progress.{Progress};
 
@@ -74,7 +74,7 @@ fn step_line<'a>(
 ) -> Result<Phase<'a>, ParseFault>
     requires room { progress.old.nodes < 2 ^ 63 }
     ensures { Gives (state_in progress.new) result
-        (machine.after_step (made progress.old)
+        (machine.after_step (state_so_far progress.old)
         (flat_block_of stepped.value.flat_block) stepped.value.before stepped.value.last
         (read.line at.entry.line.number (line_chars at.entry.line) at.entry.indent
         (read.step_token (step_text line.entry)))) }
@@ -112,7 +112,7 @@ fn row_line<'a>(
 ) -> Result<Phase<'a>, ParseFault>
     requires room { progress.old.nodes < 2 ^ 63 }
     ensures { Gives (state_in progress.new) result
-        (machine.after_step (made progress.old)
+        (machine.after_step (state_so_far progress.old)
         (flat_block_of stepped.value.flat_block) stepped.value.before stepped.value.last
         (read.line at.entry.line.number (line_chars at.entry.line) at.entry.indent
         (read.Row cells))) }
@@ -131,7 +131,7 @@ fn step_fence<'a>(
     line: FenceLine<'a>,
 ) -> Result<Phase<'a>, ParseFault>
     ensures { (p : Progress) → Gives (state_in p) result
-        (machine.step_fence (made p) (flat_block_of stepped.value.flat_block)
+        (machine.step_fence (state_so_far p) (flat_block_of stepped.value.flat_block)
         stepped.value.before stepped.value.last stepped.value.last.argument
         at.entry.line.number at.entry.indent line.entry.fence
         (text_of line.entry.media.now)) }
@@ -157,7 +157,7 @@ fn close_stepped_block<'a>(
     token: Token<'a>,
 ) -> Result<Phase<'a>, ParseFault>
     requires room { progress.old.nodes < 2 ^ 63 }
-    ensures { Gives (state_in progress.new) result (machine.close_block (made progress.old)
+    ensures { Gives (state_in progress.new) result (machine.close_block (state_so_far progress.old)
         (machine.with_steps (flat_block_of stepped.value.flat_block)
         (stepped.value.before ++ stepped.value.last ∷ [])) (line_at at.entry token.entry)) }
 {
@@ -175,7 +175,7 @@ pub(crate) fn after_step<'a>(
 ) -> Result<Phase<'a>, ParseFault>
     requires room { progress.old.nodes < 2 ^ 63 }
     ensures { Gives (state_in progress.new) result
-        (machine.after_step (made progress.old)
+        (machine.after_step (state_so_far progress.old)
         (flat_block_of stepped.value.flat_block) stepped.value.before stepped.value.last
         (line_at at.entry token.entry)) }
 {
@@ -216,7 +216,7 @@ pub(crate) fn in_doc_string<'a>(
     mut lines: Vec<IndentedLine<'a>>,
     at: IndentedLine<'a>,
 ) -> Result<Phase<'a>, ParseFault>
-    ensures { (p : Progress) → Gives (state_in p) result (machine.at_phase (made p)
+    ensures { (p : Progress) → Gives (state_in p) result (machine.at_phase (state_so_far p)
         (machine.InDocString (flat_block_of stepped.value.flat_block) stepped.value.before
         stepped.value.last (open_doc_string_of opening.entry) (map kept_line lines.entry.items))
         (kept_line at.entry)) }

@@ -2,10 +2,11 @@
 ghost use Rattle.std.specs.Prelude.{◌≡◌, ◌++◌, map, reverse, filter, not, codes, IfOk, OnOk, if◌then◌else◌, [], ◌∷◌};
 ghost use Rattle.std.specs.String.{string_bytes};
 ghost use Rattle.std.specs.List.{join_with_byte};
+ghost use Rattle.gk_line.specs.Characters.{line_feed};
 ghost use Rattle.gk_document.specs.MediaType.{unless_empty};
 ghost use Rattle.gk_grammar.specs.Token.{bytes};
 ghost use Rattle.gk_grammar.specs.Token as read;
-ghost use Rattle.gk_grammar.specs.Grammar.{description_of, from_text, line_feed, content_line};
+ghost use Rattle.gk_grammar.specs.Grammar.{description_of, from_text, content_line};
 ghost use Rattle.gk_tree.specs.Views.{text_of, kept_line};
 
 use crate::token::IndentedLine;

@@ -1,10 +1,10 @@
 use Rattle.std.proofs.Common.{ap, ◌∙◌, map}
 use Rattle.serde_json.specs.Written.{compact_text, has_float}
-use Rattle.gk_parts.specs.Parts.{seen}
+use Rattle.gk_parts.specs.Parts.{part_view}
 use Rattle.cm_differs.proofs.PartTexts.{list_of_seen, parts_plain}
 use Rattle.cm_differs.proofs.part_json.parts_text.Goals as goal
 
 pub returns : goal.returns
 returns c =
     let value = c.in_ok-value.ensures ∙ list_of_seen c.args.parts.now in
-    c.in_ok-text.ensures (ap has_float value ∙ parts_plain (map seen c.args.parts.now)) ∙ ap compact_text value
+    c.in_ok-text.ensures (ap has_float value ∙ parts_plain (map part_view c.args.parts.now)) ∙ ap compact_text value

@@ -4,7 +4,7 @@ use Rattle.std.specs.List.{slice_split}
 use Rattle.std.specs.Str.{chars}
 use Rattle.gk_line.specs.Tags.{pieces_from, piece_at, is_tag, has_space, tags_of, spaced_piece}
 use Rattle.gk_line.specs.Views.{tag_word}
-use Rattle.gk_line.specs.Texts.{body_of}
+use Rattle.gk_line.specs.Texts.{text_after_indent}
 use Rattle.gk_line.proofs.ColumnLemmas.{tags-place}
 use Rattle.gk_line.proofs.TagLemmas.{tags_begin, tags_init, turn_tags, turn_spaced, fault_first, pieces-cut, pieces-none, carried}
 use Rattle.gk_line.proofs.tag_lines.tags.Goals as goal
@@ -12,11 +12,11 @@ use Rattle.gk_line.specs.Characters.{at_sign}
 
 pub returns-in_default-clause-value : goal.returns-in_default-clause-value
 returns-in_default-clause-value c =
-    absurd (tags_begin (chars c.args.line.text.now) (chars c.trim_start.result.now) c.requires.tags (c.trim_start.ensures.value ∙ ap body_of c.without_comment-text.ensures.value) c.in_default.ensures.value)
+    absurd (tags_begin (chars c.args.line.text.now) (chars c.trim_start.result.now) c.requires.tags (c.trim_start.ensures.value ∙ ap text_after_indent c.without_comment-text.ensures.value) c.in_default.ensures.value)
 
 pub returns-in_default-clause-plain : goal.returns-in_default-clause-plain
 returns-in_default-clause-plain c =
-    absurd (tags_begin (chars c.args.line.text.now) (chars c.trim_start.result.now) c.requires.tags (c.trim_start.ensures.value ∙ ap body_of c.without_comment-text.ensures.value) c.in_default.ensures.value)
+    absurd (tags_begin (chars c.args.line.text.now) (chars c.trim_start.result.now) c.requires.tags (c.trim_start.ensures.value ∙ ap text_after_indent c.without_comment-text.ensures.value) c.in_default.ensures.value)
 
 pub loop-piece-init : goal.loop-piece-init
 unfolding tags_of spaced_piece

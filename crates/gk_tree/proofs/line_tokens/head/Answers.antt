@@ -1,7 +1,7 @@
 use Rattle.std.proofs.Common.{◌≡◌, ◌∙◌, ◌+◌, ◌++◌, ◌∷◌, [], ℕ, length, length-append, drop, sym, ap, subst}
 use Rattle.std.proofs.lemmas.Iterator.{YieldsList-from_chars}
 use Rattle.std.proofs.lemmas.Iterator.Consumers.{YieldsList-turn, YieldsList-end}
-use Rattle.gk_line.specs.Texts.{body_of}
+use Rattle.gk_line.specs.Texts.{text_after_indent}
 use Rattle.gk_line.specs.Tokens.{indent_of}
 use Rattle.std.specs.Str.{chars}
 use Rattle.gk_tree.proofs.HeadLemmas.{turn_indent, turn_body, end_indent, end_body, all_indent, all_body}
@@ -17,7 +17,7 @@ loop-c-preserved c =
     record {
       counted = ap (λ (n : ℕ). n + 1) c.loop-c.invariant.counted ∙ next;
       passed = subst (λ (n : ℕ). indent_of cs ≡ n + indent_of (drop n cs)) next (turn_indent cs (length yielded) c.in-Some.c at white c.loop-c.invariant.passed);
-      left = subst (λ (n : ℕ). body_of cs ≡ body_of (drop n cs)) next (turn_body cs (length yielded) c.in-Some.c at white c.loop-c.invariant.left);
+      left = subst (λ (n : ℕ). text_after_indent cs ≡ text_after_indent (drop n cs)) next (turn_body cs (length yielded) c.in-Some.c at white c.loop-c.invariant.left);
     }
 
 pub returns-then-not-is_whitespace-clause-indent : goal.returns-then-not-is_whitespace-clause-indent

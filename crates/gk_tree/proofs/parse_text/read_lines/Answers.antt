@@ -17,6 +17,6 @@ loop-line-preserved c =
     let rise = nodes_rise before later x.number 16_777_216 x.text.now steps.1.0 c.in_ok-phase.ensures in
     let fewer = ap (λ (z : List (ℕ × List ℕ)). length z) steps.0 in
     record {
-      rest = turn_run (machine.run machine.initial (lines_read c.args.text.now)) before later (lines_left c.loop-line.line-iterator) (lines_left c.next.new.self) (numbered_line x) c.loop-line.invariant.rest steps.0 c.in_ok-phase.ensures;
+      rest = turn_run (machine.run machine.initial_state (lines_read c.args.text.now)) before later (lines_left c.loop-line.line-iterator) (lines_left c.next.new.self) (numbered_line x) c.loop-line.invariant.rest steps.0 c.in_ok-phase.ensures;
       room = omega arith;
     }
