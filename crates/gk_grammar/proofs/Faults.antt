@@ -209,10 +209,6 @@ cond_faults : (before : List Line) (l : Line) (b : Bool) (x y : Result State Pla
 cond_faults before l true x y f g = f refl
 cond_faults before l false x y f g = g refl
 
-is_row_line : Line → Bool
-is_row_line (line n t i (Row cells)) = true
-is_row_line l = false
-
 leaving_faults : (before : List Line) (s : State) (c : FlatBlock) (n : ℕ) (t : List ℕ) (i : ℕ) (k : Token) → ((cells : List Cell) → k ≡ Row cells → ⊥) → ((w : Utf8) → k ≡ Language w → ⊥) → Faults before (line n t i k) (close_block s c (line n t i k))
 leaving_faults before s c n t i (Tags (Ok words)) h g = tt
 leaving_faults before s c n t i (Tags (Err column)) h g = (refl, (refl, refl))

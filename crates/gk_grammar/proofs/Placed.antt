@@ -106,11 +106,7 @@ fronts_read ls s a e m =
     let f = front_read (take m ls) (drop m ls) s (ap (λ (z : List Line). run initial_state z) (take-append-drop m ls) ∙ e) in
     read_is_front (take m ls) f.0 (are_first m ls a) f.1
 
--- where the machine stops, the lines are no text
-pub stopped_is_no_text : (ls : List Line) (b : PlacedFault) → AreNumberedFrom 1 ls → run initial_state ls ≡ Err b → IsText ls → ⊥
-stopped_is_no_text ls b a e t = let w = complete ls a t in let r = w.runs in cc
-
--- nor where it is at a phase that isn't closed
+-- where the machine ends at a phase that isn't closed, the lines are no text
 pub open_is_no_text : (ls : List Line) (s : State) → AreNumberedFrom 1 ls → run initial_state ls ≡ Ok s → blocks_at_end s.phase ≡ None → IsText ls → ⊥
 open_is_no_text ls s a e c t = let w = complete ls a t in let r = w.runs in let same : s ≡ w.end = cc in let k : blocks_at_end s.phase ≡ Some w.last = ap (λ (z : State). blocks_at_end z.phase) same ∙ w.ends in cc
 

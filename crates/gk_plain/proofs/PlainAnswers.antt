@@ -67,12 +67,6 @@ rows_begin p e n b ls ks m r k = (λ i. (by_rule p _ e ls).1 (n, begins_so n ls 
     go : Means p rule.EqualRows ls → Is (part.Rows n) ls
     go h = let same : h.0 ≡ n = let f = so_begins h.0 ls h.1 in let g = ap row_count m in cc in subst (λ (z : ℕ). Is (part.Rows z) ls) same h.2
 
-pub rows_begin_not : (p : Part) → rule_of p ≡ rule.EqualRows → (ls : List Line) (ks : List Kind) → map kind_of ls ≡ ks → row_count ks ≡ None → Is p ls → ⊥
-rows_begin_not p e ls ks m r i = go ((by_rule p _ e ls).0 i)
-  where
-    go : Means p rule.EqualRows ls → ⊥
-    go h = let f = so_begins h.0 ls h.1 in let g = ap row_count m in cc
-
 -- ---- cuts
 
 pub cut_here : (least : ℕ) (P Q : List Line → Type 0) (ls : List Line) (k : ℕ) → least ≤ length (take k ls) → P (take k ls) → Q (drop k ls) → Cut least P Q ls

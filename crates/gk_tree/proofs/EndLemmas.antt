@@ -20,10 +20,6 @@ pub turn_run : (all : Result State PlacedFault) (s t : State) (ls rest : List (�
 turn_run all s t ls rest x e h k =
     e ∙ ap (λ (z : List (ℕ × List ℕ)). run s (map line_of z)) h ∙ ap (λ (z : Result State PlacedFault). z >>= λ (y : State). run y (map line_of rest)) k
 
-pub stop_run : (all : Result State PlacedFault) (s : State) (b : PlacedFault) (ls rest : List (ℕ × List ℕ)) (x : ℕ × List ℕ) → all ≡ run s (map line_of ls) → ls ≡ x ∷ rest → next s (line_of x) ≡ Err b → all ≡ Err b
-stop_run all s b ls rest x e h k =
-    e ∙ ap (λ (z : List (ℕ × List ℕ)). run s (map line_of z)) h ∙ ap (λ (z : Result State PlacedFault). z >>= λ (y : State). run y (map line_of rest)) k
-
 -- ---- the answer
 
 pub whole_answer : (text : List ℕ) (later : ℕ) (s : State) (r : Result Document ParseFault) → run initial_state (lines_read text) ≡ Ok s → later ≡ length (lines_read text) + 1 → Gives (λ (d : Document). d) r (document_at later s) → Answers text r

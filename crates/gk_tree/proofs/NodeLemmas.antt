@@ -167,19 +167,6 @@ entering_adds s c n i cs (Title b k m) = leaving_adds s c n i cs (Title b k m)
 entering_adds s c n i cs (Fenced f media) = tt
 entering_adds s c n i cs Other = tt
 
-some_room : (t : Token) → 1 ≤ room t
-unfolding room
-some_room (Tags (Ok words)) = omega arith
-some_room (Tags (Err column)) = omega arith
-some_room (Title b k m) = omega arith
-some_room Blank = omega arith
-some_room Comment = omega arith
-some_room (Language w) = omega arith
-some_room (Step k y m) = omega arith
-some_room (Row cells) = omega arith
-some_room (Fenced f media) = omega arith
-some_room Other = omega arith
-
 line_adds : (s : State) (p : Phase) (n i : ℕ) (cs : List ℕ) (t : Token) → IsAtMost (s.nodes + room t) (at_phase s p (line n cs i t))
 unfolding IsAtMost
 line_adds s Start n i cs t = before_adds s n i cs t
