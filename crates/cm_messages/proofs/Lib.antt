@@ -2,4 +2,3 @@ pub mod Floats
 pub mod Layouts
 pub mod Plain
 pub mod Sent
-pub mod Texts

@@ -1,10 +1,9 @@
 -- What a value sends to a serializer.
-use Rattle.std.specs.Prelude.{◌≡◌, ℕ, List, [], Option, Some, None}
+use Rattle.std.specs.Prelude.{◌≡◌, ℕ, List, Option, Some, None}
 use Rattle.serde.specs.Event.{Log, Logs, field_key}
 use Rattle.serde.specs.declared.name.Case.TheVariants.{AsIs}
 use Rattle.serde_json.specs.Data.{Data}
 use Rattle.serde_json.specs.Events.{SendsValue}
-use Rattle.serde_json.specs.Sent.{IsTextOf}
 
 -- a member of an object: its name, and then its value
 abbrev pub SendsMember : List ℕ → Data → Log → Log → Type 0
@@ -20,7 +19,3 @@ SendsOptional name (Some d) old new = SendsMember name d old new
 abbrev pub present : {A : Type 0} → Option A → ℕ
 present None = 0
 present (Some x) = 1
-
--- the text of events that may be sent
-abbrev pub IsWrittenFor : (Log → Log → Type 0) → List ℕ → Type 0
-IsWrittenFor sends text = (log : Log) × sends (Some []) log × IsTextOf log text

@@ -1,7 +1,7 @@
 //! The envelope of a document.
 ghost use Rattle.std.specs.Prelude.{◌≡◌, ◌+◌, ◌++◌, [], map, codes, OnOk};
 ghost use Rattle.serde.specs.Event.{WritesEach};
-ghost use Rattle.serde_json.specs.Data.{array, number, string, unsigned};
+ghost use Rattle.serde_json.specs.Data.{array, string};
 ghost use Rattle.serde_json.specs.View.{items_of};
 ghost use Rattle.serde_json.specs.Events.{SendsValue};
 ghost use Rattle.gk_document.specs.ExampleRows.{table_rows_of};
@@ -10,25 +10,16 @@ ghost use Rattle.cm_messages.specs.DocumentLayout.{location_data, cell_data, row
 ghost use Rattle.cm_messages.specs.Sending.{SendsMember, SendsOptional};
 
 use crate::send::{
-    SendJson, media_of, one_if, send_each_only, send_list, send_list_member, send_media,
-    send_member, send_only, send_optional, send_str, send_text,
+    MessageLayout, SendJson, media_of, one_if, send_each_only, send_list, send_list_member,
+    send_media, send_member, send_number, send_only, send_optional, send_str, send_text,
 };
 use gk_document::{
     Argument, Background, Cell, Comment, DocString, Document, ExampleTable, Examples, Feature,
     Fence, KeywordType, Location, Row, Rule, Scenario, Sequence, Step, Tag,
 };
-use serde::{Described, Serialize, Serializer};
+use serde::Serializer;
 
-/// A member that holds a number.
-fn send_number<S: Serializer>(name: &str, value: u32, out: &mut S) -> Result<(), S::Error>
-    ensures { OnOk result (SendsMember name.now (number (unsigned value))
-        (S.written out.old) (S.written out.new)) }
-{
-    out.key(name)?;
-    out.u64(u64::from(value))
-}
-
-impl SendJson for Location {
+impl SendJson<MessageLayout> for Location {
     ghost json = { location_data };
 
     fn send<S: Serializer>(&self, out: &mut S) -> Result<(), S::Error> {
@@ -87,7 +78,7 @@ fn send_cells_member<S: Serializer>(
     send_cells_list(cells.as_slice(), line, out)
 }
 
-impl SendJson for Row {
+impl SendJson<MessageLayout> for Row {
     ghost json = { row_data };
 
     fn send<S: Serializer>(&self, out: &mut S) -> Result<(), S::Error> {
@@ -99,7 +90,7 @@ impl SendJson for Row {
     }
 }
 
-impl SendJson for Tag {
+impl SendJson<MessageLayout> for Tag {
     ghost json = { tag_data };
 
     fn send<S: Serializer>(&self, out: &mut S) -> Result<(), S::Error> {
@@ -111,7 +102,7 @@ impl SendJson for Tag {
     }
 }
 
-impl SendJson for Comment {
+impl SendJson<MessageLayout> for Comment {
     ghost json = { comment_data };
 
     fn send<S: Serializer>(&self, out: &mut S) -> Result<(), S::Error> {
@@ -122,8 +113,8 @@ impl SendJson for Comment {
     }
 }
 
-/// The characters of a fence.
-fn fence_text(fence: Fence) -> &'static str
+/// The characters of a fence, as the member `delimiter` has them.
+pub fn fence_text(fence: Fence) -> &'static str
     ensures { result.now ≡ delimiter fence }
 {
     match fence {
@@ -140,7 +131,7 @@ fn send_delimiter<S: Serializer>(fence: Fence, out: &mut S) -> Result<(), S::Err
     send_str("delimiter", fence_text(fence), out)
 }
 
-impl SendJson for DocString {
+impl SendJson<MessageLayout> for DocString {
     ghost json = { doc_string_data };
 
     fn send<S: Serializer>(&self, out: &mut S) -> Result<(), S::Error> {
@@ -154,8 +145,8 @@ impl SendJson for DocString {
     }
 }
 
-/// The place of a table: its first row's, or else its step's.
-fn place_of_table(place: Location, rows: &[Row]) -> Location
+/// The place of a data table: its first row's, or else its step's.
+pub fn place_of_table(place: Location, rows: &[Row]) -> Location
     ensures { result ≡ table_place place rows.now }
 {
     match rows {
@@ -185,7 +176,7 @@ struct DataTable<'a> {
     rows: &'a Sequence<Row>,
 }
 
-impl SendJson for DataTable<'_> {
+impl SendJson<MessageLayout> for DataTable<'_> {
     ghost json = { λ t. table_data t.place t.rows.now };
 
     fn send<S: Serializer>(&self, out: &mut S) -> Result<(), S::Error> {
@@ -196,8 +187,8 @@ impl SendJson for DataTable<'_> {
     }
 }
 
-/// How a keyword's type is written.
-fn keyword_type_name(kind: KeywordType) -> &'static str
+/// How a keyword's type is written, as the member `keywordType` has it.
+pub fn keyword_type_name(kind: KeywordType) -> &'static str
     ensures { result.now ≡ keyword_word kind }
 {
     match kind {
@@ -245,7 +236,7 @@ fn send_doc_string<S: Serializer>(argument: &Option<Argument>, out: &mut S) -> R
     }
 }
 
-impl SendJson for Step {
+impl SendJson<MessageLayout> for Step {
     ghost json = { step_data };
 
     fn send<S: Serializer>(&self, out: &mut S) -> Result<(), S::Error> {
@@ -262,7 +253,7 @@ impl SendJson for Step {
     }
 }
 
-impl SendJson for Background {
+impl SendJson<MessageLayout> for Background {
     ghost json = { background_data };
 
     fn send<S: Serializer>(&self, out: &mut S) -> Result<(), S::Error> {
@@ -277,7 +268,7 @@ impl SendJson for Background {
     }
 }
 
-impl SendJson for ExampleTable {
+impl SendJson<MessageLayout> for ExampleTable {
     ghost json = { λ t. row_data t.header };
 
     fn send<S: Serializer>(&self, out: &mut S) -> Result<(), S::Error> {
@@ -304,7 +295,7 @@ fn body_rows(table: &Option<ExampleTable>) -> &[Row]
     }
 }
 
-impl SendJson for Examples {
+impl SendJson<MessageLayout> for Examples {
     ghost json = { examples_data };
 
     fn send<S: Serializer>(&self, out: &mut S) -> Result<(), S::Error> {
@@ -322,7 +313,7 @@ impl SendJson for Examples {
     }
 }
 
-impl SendJson for Scenario {
+impl SendJson<MessageLayout> for Scenario {
     ghost json = { scenario_data };
 
     fn send<S: Serializer>(&self, out: &mut S) -> Result<(), S::Error> {
@@ -381,7 +372,7 @@ fn send_rule_children<S: Serializer>(rule: &Rule, out: &mut S) -> Result<(), S::
     send_children_list(&rule.background, rule.scenarios.as_slice(), out)
 }
 
-impl SendJson for Rule {
+impl SendJson<MessageLayout> for Rule {
     ghost json = { rule_data };
 
     fn send<S: Serializer>(&self, out: &mut S) -> Result<(), S::Error> {
@@ -429,7 +420,7 @@ fn send_feature_children<S: Serializer>(feature: &Feature, out: &mut S) -> Resul
     send_all_children(&feature.background, scenarios, rules, out)
 }
 
-impl SendJson for Feature {
+impl SendJson<MessageLayout> for Feature {
     ghost json = { feature_data };
 
     fn send<S: Serializer>(&self, out: &mut S) -> Result<(), S::Error> {
@@ -454,12 +445,10 @@ pub(crate) struct DocumentMessage<'a> {
     pub(crate) document: &'a Document,
 }
 
-impl Described for DocumentMessage<'_> {
-    ghost writes = { λ m. SendsValue (document_data m.uri.now m.document.now) };
-}
+impl SendJson<MessageLayout> for DocumentMessage<'_> {
+    ghost json = { λ m. document_data m.uri.now m.document.now };
 
-impl Serialize for DocumentMessage<'_> {
-    fn serialize<S: Serializer>(&self, out: &mut S) -> Result<(), S::Error> {
+    fn send<S: Serializer>(&self, out: &mut S) -> Result<(), S::Error> {
         let count = one_if(&self.document.feature);
         out.begin_map(Some(1))?;
         out.key("gherkinDocument")?;

@@ -4,38 +4,24 @@ ghost use Rattle.serde_json.specs.Written.{compact_text};
 ghost use Rattle.cm_messages.specs.SourceLayout.{source_data};
 ghost use Rattle.cm_messages.specs.DocumentLayout.{document_data};
 ghost use Rattle.cm_messages.specs.PickleLayout.{pickle_data};
-ghost use Rattle.cm_messages.specs.Sending.{IsWrittenFor};
 
 use crate::document_message::DocumentMessage;
 use crate::pickle_message::PickleMessage;
 use crate::source_message::SourceMessage;
+use crate::value_text::json_text;
 use gk_document::Document;
 use gk_pickle::Pickle;
-use serde::Serialize;
-use serde_json::to_vec;
 use std::alloc::{AllocError, Global};
-
-/// The compact text of a message. Each error of the serializer is given as want of memory: no part of a message is one that
-/// it refuses otherwise.
-fn text_of<T: Serialize>(alloc: Global, message: &T) -> Result<Vec<u8>, AllocError>
-    ensures { IfOk result (λ bytes. IsWrittenFor (T.writes message.now) bytes.items) }
-{
-    match to_vec(alloc, message) {
-        Ok(bytes) => Ok(bytes),
-        Err(_) => Err(AllocError),
-    }
-}
 
 /// The envelope of a source as compact JSON, with the text as given. Its members are those of Cucumber Messages'
 /// `Source.json`, in the byte order of their names.
 ///
 /// # Errors
 /// Where there is no memory for it, as `serde_json` says.
-#[tactic(auto, using(crate::proofs::Texts::source_written))]
 pub fn source_text(alloc: Global, uri: &str, text: &str) -> Result<Vec<u8>, AllocError>
     ensures { IfOk result (λ bytes. bytes.items ≡ compact_text (source_data uri.now text.now)) }
 {
-    let bytes = text_of(alloc, &SourceMessage { uri, text })?;
+    let bytes = json_text(alloc, &SourceMessage { uri, text })?;
     Ok(bytes)
 }
 
@@ -45,12 +31,11 @@ pub fn source_text(alloc: Global, uri: &str, text: &str) -> Result<Vec<u8>, Allo
 ///
 /// # Errors
 /// Where there is no memory for it, as `serde_json` says.
-#[tactic(auto, using(crate::proofs::Texts::document_written))]
 pub fn document_text(alloc: Global, uri: &str, document: &Document) -> Result<Vec<u8>, AllocError>
     ensures { IfOk result
         (λ bytes. bytes.items ≡ compact_text (document_data uri.now document.now)) }
 {
-    let bytes = text_of(alloc, &DocumentMessage { uri, document })?;
+    let bytes = json_text(alloc, &DocumentMessage { uri, document })?;
     Ok(bytes)
 }
 
@@ -60,7 +45,6 @@ pub fn document_text(alloc: Global, uri: &str, document: &Document) -> Result<Ve
 ///
 /// # Errors
 /// Where there is no memory for it, as `serde_json` says.
-#[tactic(auto, using(crate::proofs::Texts::pickle_written))]
 pub fn pickle_text(
     alloc: Global,
     uri: &str,
@@ -76,6 +60,6 @@ pub fn pickle_text(
         pickle,
         first_id,
     };
-    let bytes = text_of(alloc, &message)?;
+    let bytes = json_text(alloc, &message)?;
     Ok(bytes)
 }

@@ -9,14 +9,14 @@ ghost use Rattle.cm_messages.specs.Layout.{object_of, list_data, id_data};
 ghost use Rattle.cm_messages.specs.PickleLayout.{type_word, pickle_tag_data, pickle_cell_data, pickle_row_data, pickle_doc_string_data, argument_data, pickle_step_data, pickle_steps_data, pickle_data};
 
 use crate::send::{
-    SendJson, media_of, one_if, send_list_member, send_media, send_member, send_only,
-    send_optional, send_str, send_text,
+    MessageLayout, SendJson, media_of, one_if, send_list_member, send_media, send_member,
+    send_only, send_only_list, send_optional, send_str, send_text,
 };
 use gk_document::{Sequence, Text};
 use gk_pickle::{Pickle, PickleArgument, PickleDocString, PickleStep, PickleTag, StepType};
-use serde::{Described, Serialize, Serializer};
+use serde::Serializer;
 
-impl SendJson for PickleTag {
+impl SendJson<MessageLayout> for PickleTag {
     ghost json = { pickle_tag_data };
 
     fn send<S: Serializer>(&self, out: &mut S) -> Result<(), S::Error> {
@@ -28,7 +28,7 @@ impl SendJson for PickleTag {
 }
 
 /// A cell of a table.
-impl SendJson for Text {
+impl SendJson<MessageLayout> for Text {
     ghost json = { pickle_cell_data };
 
     fn send<S: Serializer>(&self, out: &mut S) -> Result<(), S::Error> {
@@ -39,17 +39,15 @@ impl SendJson for Text {
 }
 
 /// A row of a table.
-impl SendJson for Sequence<Text> {
+impl SendJson<MessageLayout> for Sequence<Text> {
     ghost json = { pickle_row_data };
 
     fn send<S: Serializer>(&self, out: &mut S) -> Result<(), S::Error> {
-        out.begin_map(Some(1))?;
-        send_list_member("cells", self, out)?;
-        out.end_map()
+        send_only_list("cells", self, out)
     }
 }
 
-impl SendJson for PickleDocString {
+impl SendJson<MessageLayout> for PickleDocString {
     ghost json = { pickle_doc_string_data };
 
     fn send<S: Serializer>(&self, out: &mut S) -> Result<(), S::Error> {
@@ -67,17 +65,15 @@ struct PickleTable<'a> {
     rows: &'a Sequence<Sequence<Text>>,
 }
 
-impl SendJson for PickleTable<'_> {
+impl SendJson<MessageLayout> for PickleTable<'_> {
     ghost json = { λ t. object_of ((codes "rows", list_data pickle_row_data t.rows.now) ∷ []) };
 
     fn send<S: Serializer>(&self, out: &mut S) -> Result<(), S::Error> {
-        out.begin_map(Some(1))?;
-        send_list_member("rows", self.rows, out)?;
-        out.end_map()
+        send_only_list("rows", self.rows, out)
     }
 }
 
-impl SendJson for PickleArgument {
+impl SendJson<MessageLayout> for PickleArgument {
     ghost json = { argument_data };
 
     fn send<S: Serializer>(&self, out: &mut S) -> Result<(), S::Error> {
@@ -88,8 +84,8 @@ impl SendJson for PickleArgument {
     }
 }
 
-/// How a step's type is written.
-fn step_type_name(kind: StepType) -> &'static str
+/// How a step's type is written, as the member `type` has it.
+pub fn step_type_name(kind: StepType) -> &'static str
     ensures { result.now ≡ type_word kind }
 {
     match kind {
@@ -197,12 +193,10 @@ pub(crate) struct PickleMessage<'a> {
     ghost in_range: { first_id + length pickle.now.steps < 2 ^ 64 },
 }
 
-impl Described for PickleMessage<'_> {
-    ghost writes = { λ m. SendsValue (pickle_data m.uri.now m.first_id m.pickle.now) };
-}
+impl SendJson<MessageLayout> for PickleMessage<'_> {
+    ghost json = { λ m. pickle_data m.uri.now m.first_id m.pickle.now };
 
-impl Serialize for PickleMessage<'_> {
-    fn serialize<S: Serializer>(&self, out: &mut S) -> Result<(), S::Error> {
+    fn send<S: Serializer>(&self, out: &mut S) -> Result<(), S::Error> {
         out.begin_map(Some(1))?;
         out.key("pickle")?;
         out.begin_map(Some(7))?;

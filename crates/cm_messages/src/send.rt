@@ -1,7 +1,7 @@
 //! Values sent to a serializer as JSON, with no value in between.
 ghost use Rattle.std.specs.Prelude.{◌≡◌, ◌≤◌, [], ◌∷◌, map, codes, OnOk, option_map};
 ghost use Rattle.serde.specs.Event.{WritesEach};
-ghost use Rattle.serde_json.specs.Data.{Data, string};
+ghost use Rattle.serde_json.specs.Data.{Data, number, string, unsigned};
 ghost use Rattle.serde_json.specs.Events.{SendsValue};
 ghost use Rattle.cm_messages.specs.Layout.{object_of, id_data, list_data, media_data};
 ghost use Rattle.cm_messages.specs.Sending.{SendsMember, SendsOptional, present};
@@ -10,17 +10,26 @@ use gk_document::{Sequence, Text};
 use itoa::Buffer;
 use serde::Serializer;
 
-/// What is sent for a value.
-pub(crate) trait SendJson {
+/// A value that is sent to a serializer as JSON in a layout: which members it has, and what they hold.
+pub trait SendJson<Layout> {
+    // the value in that layout
     ghost json: { Self → Data };
 
+    /// Sends the value.
+    ///
+    /// # Errors
+    /// Those of the serializer.
     fn send<S: Serializer>(&self, out: &mut S) -> Result<(), S::Error>
         ensures { OnOk result
             (SendsValue (json self.now) (S.written out.old) (S.written out.new)) };
 }
 
+/// The layout of Cucumber Messages.
+#[derive(Clone, Copy)]
+pub struct MessageLayout;
+
 /// An id, as the text of its number.
-pub(crate) fn send_id<S: Serializer>(id: u64, out: &mut S) -> Result<(), S::Error>
+fn send_id<S: Serializer>(id: u64, out: &mut S) -> Result<(), S::Error>
     ensures { OnOk result (SendsValue (id_data id) (S.written out.old) (S.written out.new)) }
 {
     let mut digits = Buffer::new();
@@ -28,7 +37,7 @@ pub(crate) fn send_id<S: Serializer>(id: u64, out: &mut S) -> Result<(), S::Erro
 }
 
 /// An id.
-impl SendJson for u64 {
+impl SendJson<MessageLayout> for u64 {
     ghost json = { id_data };
 
     fn send<S: Serializer>(&self, out: &mut S) -> Result<(), S::Error> {
@@ -36,8 +45,8 @@ impl SendJson for u64 {
     }
 }
 
-/// The values, one after the other.
-pub(crate) fn send_each<T: SendJson, S: Serializer>(
+/// Sends the values, one after the other.
+fn send_each<Layout, T: SendJson<Layout>, S: Serializer>(
     items: &[T],
     out: &mut S,
 ) -> Result<(), S::Error>
@@ -50,8 +59,11 @@ pub(crate) fn send_each<T: SendJson, S: Serializer>(
     Ok(())
 }
 
-/// The values as an array.
-pub(crate) fn send_list<T: SendJson, S: Serializer>(
+/// Sends the values as an array.
+///
+/// # Errors
+/// Those of the serializer.
+pub fn send_list<Layout, T: SendJson<Layout>, S: Serializer>(
     items: &[T],
     out: &mut S,
 ) -> Result<(), S::Error>
@@ -64,8 +76,11 @@ pub(crate) fn send_list<T: SendJson, S: Serializer>(
     out.end_seq()
 }
 
-/// A member that holds a value.
-pub(crate) fn send_member<T: SendJson, S: Serializer>(
+/// Sends a member that holds a value.
+///
+/// # Errors
+/// Those of the serializer.
+pub fn send_member<Layout, T: SendJson<Layout>, S: Serializer>(
     name: &str,
     value: &T,
     out: &mut S,
@@ -77,8 +92,11 @@ pub(crate) fn send_member<T: SendJson, S: Serializer>(
     value.send(out)
 }
 
-/// A member that holds a text.
-pub(crate) fn send_str<S: Serializer>(name: &str, text: &str, out: &mut S) -> Result<(), S::Error>
+/// Sends a member that holds characters.
+///
+/// # Errors
+/// Those of the serializer.
+pub fn send_str<S: Serializer>(name: &str, text: &str, out: &mut S) -> Result<(), S::Error>
     ensures { OnOk result
         (SendsMember name.now (string text.now) (S.written out.old) (S.written out.new)) }
 {
@@ -86,16 +104,34 @@ pub(crate) fn send_str<S: Serializer>(name: &str, text: &str, out: &mut S) -> Re
     out.str(text)
 }
 
-/// A member that holds a text of the tree.
-pub(crate) fn send_text<S: Serializer>(name: &str, text: &Text, out: &mut S) -> Result<(), S::Error>
+/// Sends a member that holds a text.
+///
+/// # Errors
+/// Those of the serializer.
+pub fn send_text<S: Serializer>(name: &str, text: &Text, out: &mut S) -> Result<(), S::Error>
     ensures { OnOk result
         (SendsMember name.now (string text.now) (S.written out.old) (S.written out.new)) }
 {
     send_str(name, text.as_str(), out)
 }
 
-/// A member that holds a list.
-pub(crate) fn send_list_member<T: SendJson, S: Serializer>(
+/// Sends a member that holds a number.
+///
+/// # Errors
+/// Those of the serializer.
+pub fn send_number<S: Serializer>(name: &str, value: u32, out: &mut S) -> Result<(), S::Error>
+    ensures { OnOk result (SendsMember name.now (number (unsigned value))
+        (S.written out.old) (S.written out.new)) }
+{
+    out.key(name)?;
+    out.u64(u64::from(value))
+}
+
+/// Sends a member that holds a list.
+///
+/// # Errors
+/// Those of the serializer.
+pub fn send_list_member<Layout, T: SendJson<Layout>, S: Serializer>(
     name: &str,
     items: &Sequence<T>,
     out: &mut S,
@@ -107,8 +143,8 @@ pub(crate) fn send_list_member<T: SendJson, S: Serializer>(
     send_list(items.as_slice(), out)
 }
 
-/// 1 where there is a value, and else 0.
-pub(crate) fn one_if<T>(value: &Option<T>) -> usize
+/// 1 where there is a value, and else 0: how many members it comes to.
+pub fn one_if<T>(value: &Option<T>) -> usize
     ensures is { result ≡ present value.now }
     ensures few { result ≤ 1 }
 {
@@ -118,8 +154,11 @@ pub(crate) fn one_if<T>(value: &Option<T>) -> usize
     }
 }
 
-/// A member, where there is a value for it.
-pub(crate) fn send_optional<T: SendJson, S: Serializer>(
+/// Sends a member, where there is a value for it.
+///
+/// # Errors
+/// Those of the serializer.
+pub fn send_optional<Layout, T: SendJson<Layout>, S: Serializer>(
     name: &str,
     value: &Option<T>,
     out: &mut S,
@@ -143,7 +182,7 @@ pub(crate) fn media_of(media: &Option<Text>) -> Option<&str>
     }
 }
 
-/// The member `mediaType`, where there is a media type.
+/// Sends the member `mediaType`, where there is a media type.
 pub(crate) fn send_media<S: Serializer>(media: &Option<Text>, out: &mut S) -> Result<(), S::Error>
     ensures { OnOk result (SendsOptional (codes "mediaType") (media_data media.now)
         (S.written out.old) (S.written out.new)) }
@@ -154,8 +193,11 @@ pub(crate) fn send_media<S: Serializer>(media: &Option<Text>, out: &mut S) -> Re
     }
 }
 
-/// The one member of an envelope or of a child.
-pub(crate) fn send_only<T: SendJson, S: Serializer>(
+/// Sends an object of one member.
+///
+/// # Errors
+/// Those of the serializer.
+pub fn send_only<Layout, T: SendJson<Layout>, S: Serializer>(
     name: &str,
     value: &T,
     out: &mut S,
@@ -168,8 +210,25 @@ pub(crate) fn send_only<T: SendJson, S: Serializer>(
     out.end_map()
 }
 
-/// Objects with one member each, one after the other.
-pub(crate) fn send_each_only<T: SendJson, S: Serializer>(
+/// Sends an object of one member, which holds a list.
+///
+/// # Errors
+/// Those of the serializer.
+pub fn send_only_list<Layout, T: SendJson<Layout>, S: Serializer>(
+    name: &str,
+    items: &Sequence<T>,
+    out: &mut S,
+) -> Result<(), S::Error>
+    ensures { OnOk result (SendsValue (object_of ((name.now, list_data T.json items.now) ∷ []))
+        (S.written out.old) (S.written out.new)) }
+{
+    out.begin_map(Some(1))?;
+    send_list_member(name, items, out)?;
+    out.end_map()
+}
+
+/// Sends objects of one member each, one after the other.
+pub(crate) fn send_each_only<Layout, T: SendJson<Layout>, S: Serializer>(
     name: &str,
     items: &[T],
     out: &mut S,

@@ -1,9 +1,8 @@
 //! The envelope of a source.
-ghost use Rattle.serde_json.specs.Events.{SendsValue};
 ghost use Rattle.cm_messages.specs.SourceLayout.{source_data};
 
-use crate::send::send_str;
-use serde::{Described, Serialize, Serializer};
+use crate::send::{MessageLayout, SendJson, send_str};
+use serde::Serializer;
 
 /// A source, written as its envelope: its members are those of Cucumber Messages' `Source.json`, in the byte order of their
 /// names.
@@ -13,12 +12,10 @@ pub(crate) struct SourceMessage<'a> {
     pub(crate) text: &'a str,
 }
 
-impl Described for SourceMessage<'_> {
-    ghost writes = { λ m. SendsValue (source_data m.uri.now m.text.now) };
-}
+impl SendJson<MessageLayout> for SourceMessage<'_> {
+    ghost json = { λ m. source_data m.uri.now m.text.now };
 
-impl Serialize for SourceMessage<'_> {
-    fn serialize<S: Serializer>(&self, out: &mut S) -> Result<(), S::Error> {
+    fn send<S: Serializer>(&self, out: &mut S) -> Result<(), S::Error> {
         out.begin_map(Some(1))?;
         out.key("source")?;
         out.begin_map(Some(3))?;

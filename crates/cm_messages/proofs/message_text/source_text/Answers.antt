@@ -1,5 +1,5 @@
-use Rattle.cm_messages.proofs.Texts.{source_written}
+use Rattle.cm_messages.proofs.Floats.{source_plain}
 use Rattle.cm_messages.proofs.message_text.source_text.Goals as goal
 
 pub returns : goal.returns
-returns c = source_written c.args.uri.now c.args.text.now c.in_ok-bytes.bytes.items c.in_ok-bytes.ensures
+returns c = c.in_ok-bytes.ensures (source_plain c.args.uri.now c.args.text.now)
