@@ -9,8 +9,9 @@ ghost use Rattle.ck_commands.specs.Results.{ResultsShowNoFault};
 ghost use Rattle.ck_commands.specs.declared.output.ExitStatus.TheVariants.{Done};
 
 use cm_attempt::Track;
-use cm_audit::{Audited, Stop, audited_at, track};
+use cm_audit::{Stop, audited_at, track};
 use cm_envelope::{ByteSource, Feed, Trouble, is_blank_line, read_envelope};
+use cm_stream::Audited;
 use std::alloc::Global;
 
 // Takes a line: the call of the record that its envelope makes, if it makes one.

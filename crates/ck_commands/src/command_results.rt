@@ -10,8 +10,8 @@ use crate::output::{ExitStatus, Report, write_report};
 use crate::status_words::word_of;
 use crate::verdict_report::verdict_report;
 use cm_attempt::Track;
-use cm_audit::Audited;
 use cm_envelope::{ByteSink, ByteSource, Trouble};
+use cm_stream::Audited;
 use std::alloc::{AllocError, Global};
 
 // One line for each case, in order of declaration.
