@@ -1,4 +1,5 @@
 pub mod DueEqual
 pub mod PartTexts
 pub mod Plain
+pub mod Sent
 pub mod Steps

@@ -1,4 +1,5 @@
 pub mod DuePickles
 pub mod PickleData
 pub mod PartData
+pub mod Sending
 pub mod Differences

@@ -26,9 +26,9 @@
 mod difference;
 mod due_pickle;
 mod laws;
+mod layout;
 mod part_json;
 mod pickle_json;
-mod writing;
 
 pub use difference::{
     Difference, missing_document, missing_pickle, pickle_difference, tree_difference,

@@ -1,191 +1,237 @@
 //! Parts of documents as JSON, each without the parts within it.
-ghost use Rattle.std.specs.Prelude.{◌≡◌, IfOk, OnOk, map, option_map};
-ghost use Rattle.serde_json.specs.View.{view, members_view};
+ghost use Rattle.std.specs.Prelude.{◌≡◌, IfOk, OnOk, codes, map, option_map};
+ghost use Rattle.serde_json.specs.Events.{SendsValue};
 ghost use Rattle.gk_parts.specs.Parts.{part_view, part_view_alone};
-ghost use Rattle.cm_differs.specs.PartData.{background_data, cell_data, doc_string_data, examples_data, feature_data, location_data, part_data, part_text, parts_text, row_data, rule_data, scenario_data, step_data, table_data, tag_data, tagged_data, with_argument};
+ghost use Rattle.cm_messages.specs.Layout.{list_data};
+ghost use Rattle.cm_messages.specs.Sending.{SendsMember};
+ghost use Rattle.cm_differs.specs.PartData.{background_data, cell_data, doc_string_data, examples_data, feature_data, location_data, part_data, part_text, parts_text, row_data, rule_data, scenario_data, step_data, table_data, tag_data, tagged_data};
+ghost use Rattle.cm_differs.specs.Sending.{SendsArgument};
 
-use crate::writing::{WriteJson, add, add_list, add_optional, list_value, only, text_of};
+use crate::layout::{DifferenceLayout, text_of};
+use cm_messages::{
+    SendJson, one_if, send_list, send_list_member, send_member, send_number, send_only,
+    send_only_list, send_optional, send_text,
+};
 use gk_document::{
     Argument, Background, Cell, DocString, Examples, Feature, Location, Row, Rule, Scenario,
     Sequence, Step, Tag, Text,
 };
 use gk_parts::Part;
-use serde_json::{Map, Value, json};
+use serde::Serializer;
 use std::alloc::{AllocError, Global};
 
-impl WriteJson for Location {
+impl SendJson<DifferenceLayout> for Location {
     ghost json = { location_data };
 
-    fn to_json(&self, alloc: Global) -> Result<Value, AllocError> {
-        json!(in alloc; {"line": self.line})
+    fn send<S: Serializer>(&self, out: &mut S) -> Result<(), S::Error> {
+        out.begin_map(Some(1))?;
+        send_number("line", self.line, out)?;
+        out.end_map()
     }
 }
 
-impl WriteJson for Tag {
+/// Sends the member `location`.
+fn send_location<S: Serializer>(location: &Location, out: &mut S) -> Result<(), S::Error>
+    ensures { OnOk result (SendsMember (codes "location") (location_data location.now)
+        (S.written out.old) (S.written out.new)) }
+{
+    send_member::<DifferenceLayout, _, _>("location", location, out)
+}
+
+impl SendJson<DifferenceLayout> for Tag {
     ghost json = { tag_data };
 
-    fn to_json(&self, alloc: Global) -> Result<Value, AllocError> {
-        let mut members = Map::new(alloc);
-        add(&mut members, alloc, "location", &self.location)?;
-        add(&mut members, alloc, "name", &self.name)?;
-        Ok(Value::Object(members))
+    fn send<S: Serializer>(&self, out: &mut S) -> Result<(), S::Error> {
+        out.begin_map(Some(2))?;
+        send_location(&self.location, out)?;
+        send_text("name", &self.name, out)?;
+        out.end_map()
     }
 }
 
-impl WriteJson for Cell {
+/// Sends the member `tags`.
+fn send_tags<S: Serializer>(tags: &Sequence<Tag>, out: &mut S) -> Result<(), S::Error>
+    ensures { OnOk result (SendsMember (codes "tags") (list_data tag_data tags.now)
+        (S.written out.old) (S.written out.new)) }
+{
+    send_list_member::<DifferenceLayout, _, _>("tags", tags, out)
+}
+
+impl SendJson<DifferenceLayout> for Cell {
     ghost json = { cell_data };
 
-    fn to_json(&self, alloc: Global) -> Result<Value, AllocError> {
-        only(alloc, "value", &self.value)
+    fn send<S: Serializer>(&self, out: &mut S) -> Result<(), S::Error> {
+        send_only::<DifferenceLayout, _, _>("value", &self.value, out)
     }
 }
 
-impl WriteJson for Row {
+impl SendJson<DifferenceLayout> for Row {
     ghost json = { row_data };
 
-    fn to_json(&self, alloc: Global) -> Result<Value, AllocError> {
-        let mut members = Map::new(alloc);
-        add_list(&mut members, alloc, "cells", &self.cells)?;
-        add(&mut members, alloc, "location", &self.location)?;
-        Ok(Value::Object(members))
+    fn send<S: Serializer>(&self, out: &mut S) -> Result<(), S::Error> {
+        out.begin_map(Some(2))?;
+        send_list_member("cells", &self.cells, out)?;
+        send_location(&self.location, out)?;
+        out.end_map()
     }
 }
 
 /// A data table.
-impl WriteJson for Sequence<Row> {
+impl SendJson<DifferenceLayout> for Sequence<Row> {
     ghost json = { table_data };
 
-    fn to_json(&self, alloc: Global) -> Result<Value, AllocError> {
-        let mut members = Map::new(alloc);
-        add_list(&mut members, alloc, "rows", self)?;
-        Ok(Value::Object(members))
+    fn send<S: Serializer>(&self, out: &mut S) -> Result<(), S::Error> {
+        send_only_list::<DifferenceLayout, _, _>("rows", self, out)
     }
 }
 
-impl WriteJson for DocString {
+impl SendJson<DifferenceLayout> for DocString {
     ghost json = { doc_string_data };
 
-    fn to_json(&self, alloc: Global) -> Result<Value, AllocError> {
-        let mut members = Map::new(alloc);
-        add(&mut members, alloc, "content", &self.content)?;
-        add(&mut members, alloc, "location", &self.location)?;
-        add_optional(&mut members, alloc, "mediaType", &self.media)?;
-        Ok(Value::Object(members))
+    fn send<S: Serializer>(&self, out: &mut S) -> Result<(), S::Error> {
+        let count = one_if(&self.media);
+        out.begin_map(Some(2 + count))?;
+        send_text("content", &self.content, out)?;
+        send_location(&self.location, out)?;
+        send_optional::<DifferenceLayout, _, _>("mediaType", &self.media, out)?;
+        out.end_map()
     }
 }
 
-/// Adds the data table or doc string of a step, where it has one.
-fn add_argument(
-    members: &mut Map<String, Value>,
-    alloc: Global,
-    argument: &Option<Argument>,
-) -> Result<(), AllocError>
-    ensures { OnOk result (members_view members.new.entries
-        ≡ with_argument argument.now (members_view members.old.entries)) }
+/// Sends the data table or doc string of a step, where it has one.
+fn send_argument<S: Serializer>(argument: &Option<Argument>, out: &mut S) -> Result<(), S::Error>
+    ensures { OnOk result
+        (SendsArgument argument.now (S.written out.old) (S.written out.new)) }
 {
     match argument {
-        Some(Argument::Table(rows)) => add(members, alloc, "dataTable", rows),
-        Some(Argument::Text(text)) => add(members, alloc, "docString", text),
+        Some(Argument::Table(rows)) => send_member("dataTable", rows, out),
+        Some(Argument::Text(text)) => {
+            send_member::<DifferenceLayout, _, _>("docString", text, out)
+        }
         None => Ok(()),
     }
 }
 
-impl WriteJson for Step {
+impl SendJson<DifferenceLayout> for Step {
     ghost json = { step_data };
 
-    fn to_json(&self, alloc: Global) -> Result<Value, AllocError> {
-        let mut members = Map::new(alloc);
-        add(&mut members, alloc, "keyword", &self.keyword)?;
-        add(&mut members, alloc, "location", &self.location)?;
-        add(&mut members, alloc, "text", &self.text)?;
-        add_argument(&mut members, alloc, &self.argument)?;
-        Ok(Value::Object(members))
+    fn send<S: Serializer>(&self, out: &mut S) -> Result<(), S::Error> {
+        let count = one_if(&self.argument);
+        out.begin_map(Some(3 + count))?;
+        send_argument(&self.argument, out)?;
+        send_text("keyword", &self.keyword, out)?;
+        send_location(&self.location, out)?;
+        send_text("text", &self.text, out)?;
+        out.end_map()
     }
 }
 
-impl WriteJson for Background {
+impl SendJson<DifferenceLayout> for Background {
     ghost json = { background_data };
 
-    fn to_json(&self, alloc: Global) -> Result<Value, AllocError> {
-        let mut members = Map::new(alloc);
-        add(&mut members, alloc, "keyword", &self.keyword)?;
-        add(&mut members, alloc, "location", &self.location)?;
-        add(&mut members, alloc, "name", &self.name)?;
-        Ok(Value::Object(members))
+    fn send<S: Serializer>(&self, out: &mut S) -> Result<(), S::Error> {
+        out.begin_map(Some(3))?;
+        send_text("keyword", &self.keyword, out)?;
+        send_location(&self.location, out)?;
+        send_text("name", &self.name, out)?;
+        out.end_map()
     }
 }
 
-/// A node that has tags.
-fn tagged_value(
-    alloc: Global,
+/// Sends a node that has tags.
+fn send_tagged<S: Serializer>(
     keyword: &Text,
     location: &Location,
     name: &Text,
     tags: &Sequence<Tag>,
-) -> Result<Value, AllocError>
-    ensures { IfOk result (λ v. view v
-        ≡ tagged_data keyword.now location.now name.now tags.now) }
+    out: &mut S,
+) -> Result<(), S::Error>
+    ensures { OnOk result
+        (SendsValue (tagged_data keyword.now location.now name.now tags.now)
+        (S.written out.old) (S.written out.new)) }
 {
-    let mut members = Map::new(alloc);
-    add(&mut members, alloc, "keyword", keyword)?;
-    add(&mut members, alloc, "location", location)?;
-    add(&mut members, alloc, "name", name)?;
-    add_list(&mut members, alloc, "tags", tags)?;
-    Ok(Value::Object(members))
+    out.begin_map(Some(4))?;
+    send_text("keyword", keyword, out)?;
+    send_location(location, out)?;
+    send_text("name", name, out)?;
+    send_tags(tags, out)?;
+    out.end_map()
 }
 
-impl WriteJson for Rule {
+impl SendJson<DifferenceLayout> for Rule {
     ghost json = { rule_data };
 
-    fn to_json(&self, alloc: Global) -> Result<Value, AllocError> {
-        tagged_value(alloc, &self.keyword, &self.location, &self.name, &self.tags)
+    fn send<S: Serializer>(&self, out: &mut S) -> Result<(), S::Error> {
+        send_tagged(&self.keyword, &self.location, &self.name, &self.tags, out)
     }
 }
 
-impl WriteJson for Scenario {
+impl SendJson<DifferenceLayout> for Scenario {
     ghost json = { scenario_data };
 
-    fn to_json(&self, alloc: Global) -> Result<Value, AllocError> {
-        tagged_value(alloc, &self.keyword, &self.location, &self.name, &self.tags)
+    fn send<S: Serializer>(&self, out: &mut S) -> Result<(), S::Error> {
+        send_tagged(&self.keyword, &self.location, &self.name, &self.tags, out)
     }
 }
 
-impl WriteJson for Examples {
+impl SendJson<DifferenceLayout> for Examples {
     ghost json = { examples_data };
 
-    fn to_json(&self, alloc: Global) -> Result<Value, AllocError> {
-        tagged_value(alloc, &self.keyword, &self.location, &self.name, &self.tags)
+    fn send<S: Serializer>(&self, out: &mut S) -> Result<(), S::Error> {
+        send_tagged(&self.keyword, &self.location, &self.name, &self.tags, out)
     }
 }
 
-impl WriteJson for Feature {
+impl SendJson<DifferenceLayout> for Feature {
     ghost json = { feature_data };
 
-    fn to_json(&self, alloc: Global) -> Result<Value, AllocError> {
-        let mut members = Map::new(alloc);
-        add(&mut members, alloc, "keyword", &self.keyword)?;
-        add(&mut members, alloc, "language", &self.language)?;
-        add(&mut members, alloc, "location", &self.location)?;
-        add(&mut members, alloc, "name", &self.name)?;
-        add_list(&mut members, alloc, "tags", &self.tags)?;
-        Ok(Value::Object(members))
+    fn send<S: Serializer>(&self, out: &mut S) -> Result<(), S::Error> {
+        out.begin_map(Some(5))?;
+        send_text("keyword", &self.keyword, out)?;
+        send_text("language", &self.language, out)?;
+        send_location(&self.location, out)?;
+        send_text("name", &self.name, out)?;
+        send_tags(&self.tags, out)?;
+        out.end_map()
     }
 }
 
-impl WriteJson for Part<'_> {
+impl SendJson<DifferenceLayout> for Part<'_> {
     ghost json = { λ p. part_data (part_view p) };
 
-    fn to_json(&self, alloc: Global) -> Result<Value, AllocError> {
+    fn send<S: Serializer>(&self, out: &mut S) -> Result<(), S::Error> {
         match self {
-            Part::Feature(feature) => only(alloc, "feature", *feature),
-            Part::Rule(rule) => only(alloc, "rule", *rule),
-            Part::Background(background) => only(alloc, "background", *background),
-            Part::Scenario(scenario) => only(alloc, "scenario", *scenario),
-            Part::Step(step) => only(alloc, "step", *step),
-            Part::Examples(examples) => only(alloc, "examples", *examples),
-            Part::Header(row) => only(alloc, "tableHeader", *row),
-            Part::Row(row) => only(alloc, "tableRow", *row),
+            Part::Feature(feature) => send_only::<DifferenceLayout, _, _>("feature", *feature, out),
+            Part::Rule(rule) => send_only::<DifferenceLayout, _, _>("rule", *rule, out),
+            Part::Background(background) => send_only::<DifferenceLayout, _, _>(
+                "background",
+                *background,
+                out,
+            ),
+            Part::Scenario(scenario) => send_only::<DifferenceLayout, _, _>(
+                "scenario", *scenario, out,
+            ),
+            Part::Step(step) => send_only::<DifferenceLayout, _, _>("step", *step, out),
+            Part::Examples(examples) => send_only::<DifferenceLayout, _, _>(
+                "examples", *examples, out,
+            ),
+            Part::Header(row) => send_only::<DifferenceLayout, _, _>("tableHeader", *row, out),
+            Part::Row(row) => send_only::<DifferenceLayout, _, _>("tableRow", *row, out),
         }
+    }
+}
+
+/// Parts, as an array.
+#[derive(Clone, Copy)]
+struct PartList<'a, 'b> {
+    parts: &'a [Part<'b>],
+}
+
+impl SendJson<DifferenceLayout> for PartList<'_, '_> {
+    ghost json = { λ l. list_data (λ p. part_data (part_view p)) l.parts.now };
+
+    fn send<S: Serializer>(&self, out: &mut S) -> Result<(), S::Error> {
+        send_list(self.parts, out)
     }
 }
 
@@ -193,8 +239,7 @@ impl WriteJson for Part<'_> {
 fn part_text(alloc: Global, part: &Part<'_>) -> Result<Text, AllocError>
     ensures { IfOk result (λ t. t ≡ part_text (part_view_alone part.now)) }
 {
-    let value = part.to_json(alloc)?;
-    let text = text_of(alloc, &value)?;
+    let text = text_of(alloc, part)?;
     Ok(text)
 }
 
@@ -215,7 +260,6 @@ pub(crate) fn text_of_some(
 pub(crate) fn parts_text(alloc: Global, parts: &[Part<'_>]) -> Result<Text, AllocError>
     ensures { IfOk result (λ t. t ≡ parts_text (map part_view parts.now)) }
 {
-    let value = list_value(alloc, parts)?;
-    let text = text_of(alloc, &value)?;
+    let text = text_of(alloc, &PartList { parts })?;
     Ok(text)
 }

@@ -1,14 +1,17 @@
 //! Pickles without their ids as JSON.
 ghost use Rattle.std.specs.Prelude.{◌≡◌, IfOk};
-ghost use Rattle.cm_differs.specs.PickleData.{argument_data, cell_data, doc_string_data, kind_data, kind_word, pickle_members, pickle_text, row_data, step_data, table_data, tag_data};
+ghost use Rattle.cm_differs.specs.PickleData.{argument_data, bare_pickle_data, cell_data, doc_string_data, kind_data, kind_word, pickle_members, pickle_text, row_data, step_data, table_data, tag_data};
 
-use crate::writing::{WriteJson, add, add_list, add_optional, only, text_of};
+use crate::layout::{DifferenceLayout, text_of};
 use cm_envelope::{
     Pickle, PickleArgument, PickleCell, PickleDocString, PickleRow, PickleStep, PickleTable,
     PickleTag, StepKind,
 };
+use cm_messages::{
+    SendJson, one_if, send_list_member, send_only, send_only_list, send_optional, send_text,
+};
 use gk_document::Text;
-use serde_json::{Map, Value};
+use serde::Serializer;
 use std::alloc::{AllocError, Global};
 
 /// How a step's type is written.
@@ -23,100 +26,113 @@ fn kind_name(kind: StepKind) -> &'static str
     }
 }
 
-impl WriteJson for StepKind {
+impl SendJson<DifferenceLayout> for StepKind {
     ghost json = { kind_data };
 
-    fn to_json(&self, alloc: Global) -> Result<Value, AllocError> {
-        Value::try_from_str(alloc, kind_name(*self))
+    fn send<S: Serializer>(&self, out: &mut S) -> Result<(), S::Error> {
+        out.str(kind_name(*self))
     }
 }
 
-impl WriteJson for PickleCell {
+impl SendJson<DifferenceLayout> for PickleCell {
     ghost json = { cell_data };
 
-    fn to_json(&self, alloc: Global) -> Result<Value, AllocError> {
-        only(alloc, "value", &self.value)
+    fn send<S: Serializer>(&self, out: &mut S) -> Result<(), S::Error> {
+        send_only::<DifferenceLayout, _, _>("value", &self.value, out)
     }
 }
 
-impl WriteJson for PickleRow {
+impl SendJson<DifferenceLayout> for PickleRow {
     ghost json = { row_data };
 
-    fn to_json(&self, alloc: Global) -> Result<Value, AllocError> {
-        let mut members = Map::new(alloc);
-        add_list(&mut members, alloc, "cells", &self.cells)?;
-        Ok(Value::Object(members))
+    fn send<S: Serializer>(&self, out: &mut S) -> Result<(), S::Error> {
+        send_only_list("cells", &self.cells, out)
     }
 }
 
-impl WriteJson for PickleTable {
+impl SendJson<DifferenceLayout> for PickleTable {
     ghost json = { table_data };
 
-    fn to_json(&self, alloc: Global) -> Result<Value, AllocError> {
-        let mut members = Map::new(alloc);
-        add_list(&mut members, alloc, "rows", &self.rows)?;
-        Ok(Value::Object(members))
+    fn send<S: Serializer>(&self, out: &mut S) -> Result<(), S::Error> {
+        send_only_list("rows", &self.rows, out)
     }
 }
 
-impl WriteJson for PickleDocString {
+impl SendJson<DifferenceLayout> for PickleDocString {
     ghost json = { doc_string_data };
 
-    fn to_json(&self, alloc: Global) -> Result<Value, AllocError> {
-        let mut members = Map::new(alloc);
-        add(&mut members, alloc, "content", &self.content)?;
-        add_optional(&mut members, alloc, "mediaType", &self.media_type)?;
-        Ok(Value::Object(members))
+    fn send<S: Serializer>(&self, out: &mut S) -> Result<(), S::Error> {
+        let count = one_if(&self.media_type);
+        out.begin_map(Some(1 + count))?;
+        send_text("content", &self.content, out)?;
+        send_optional::<DifferenceLayout, _, _>("mediaType", &self.media_type, out)?;
+        out.end_map()
     }
 }
 
-impl WriteJson for PickleArgument {
+impl SendJson<DifferenceLayout> for PickleArgument {
     ghost json = { argument_data };
 
-    fn to_json(&self, alloc: Global) -> Result<Value, AllocError> {
+    fn send<S: Serializer>(&self, out: &mut S) -> Result<(), S::Error> {
         match self {
-            PickleArgument::Table(table) => only(alloc, "dataTable", table),
-            PickleArgument::Text(text) => only(alloc, "docString", text),
+            PickleArgument::Table(table) => send_only("dataTable", table, out),
+            PickleArgument::Text(text) => send_only("docString", text, out),
         }
     }
 }
 
-impl WriteJson for PickleStep {
+impl SendJson<DifferenceLayout> for PickleStep {
     ghost json = { step_data };
 
-    fn to_json(&self, alloc: Global) -> Result<Value, AllocError> {
-        let mut members = Map::new(alloc);
-        add_list(&mut members, alloc, "astNodeIds", &self.ast_node_ids)?;
-        add(&mut members, alloc, "text", &self.text)?;
-        add_optional(&mut members, alloc, "argument", &self.argument)?;
-        add_optional(&mut members, alloc, "type", &self.kind)?;
-        Ok(Value::Object(members))
+    fn send<S: Serializer>(&self, out: &mut S) -> Result<(), S::Error> {
+        let arguments = one_if(&self.argument);
+        let kinds = one_if(&self.kind);
+        out.begin_map(Some(2 + arguments + kinds))?;
+        send_optional("argument", &self.argument, out)?;
+        send_list_member::<DifferenceLayout, _, _>("astNodeIds", &self.ast_node_ids, out)?;
+        send_text("text", &self.text, out)?;
+        send_optional("type", &self.kind, out)?;
+        out.end_map()
     }
 }
 
-impl WriteJson for PickleTag {
+impl SendJson<DifferenceLayout> for PickleTag {
     ghost json = { tag_data };
 
-    fn to_json(&self, alloc: Global) -> Result<Value, AllocError> {
-        let mut members = Map::new(alloc);
-        add(&mut members, alloc, "astNodeId", &self.ast_node_id)?;
-        add(&mut members, alloc, "name", &self.name)?;
-        Ok(Value::Object(members))
+    fn send<S: Serializer>(&self, out: &mut S) -> Result<(), S::Error> {
+        out.begin_map(Some(2))?;
+        send_text("astNodeId", &self.ast_node_id, out)?;
+        send_text("name", &self.name, out)?;
+        out.end_map()
     }
 }
 
-impl WriteJson for Pickle {
+impl SendJson<DifferenceLayout> for Pickle {
     ghost json = { pickle_members };
 
-    fn to_json(&self, alloc: Global) -> Result<Value, AllocError> {
-        let mut members = Map::new(alloc);
-        add_list(&mut members, alloc, "astNodeIds", &self.ast_node_ids)?;
-        add(&mut members, alloc, "language", &self.language)?;
-        add(&mut members, alloc, "name", &self.name)?;
-        add_list(&mut members, alloc, "steps", &self.steps)?;
-        add_list(&mut members, alloc, "tags", &self.tags)?;
-        add(&mut members, alloc, "uri", &self.uri)?;
-        Ok(Value::Object(members))
+    fn send<S: Serializer>(&self, out: &mut S) -> Result<(), S::Error> {
+        out.begin_map(Some(6))?;
+        send_list_member::<DifferenceLayout, _, _>("astNodeIds", &self.ast_node_ids, out)?;
+        send_text("language", &self.language, out)?;
+        send_text("name", &self.name, out)?;
+        send_list_member("steps", &self.steps, out)?;
+        send_list_member("tags", &self.tags, out)?;
+        send_text("uri", &self.uri, out)?;
+        out.end_map()
+    }
+}
+
+/// A pickle in an envelope.
+#[derive(Clone, Copy)]
+struct PickleMessage<'a> {
+    pickle: &'a Pickle,
+}
+
+impl SendJson<DifferenceLayout> for PickleMessage<'_> {
+    ghost json = { λ m. bare_pickle_data m.pickle.now };
+
+    fn send<S: Serializer>(&self, out: &mut S) -> Result<(), S::Error> {
+        send_only("pickle", self.pickle, out)
     }
 }
 
@@ -124,7 +140,6 @@ impl WriteJson for Pickle {
 pub(crate) fn pickle_text(alloc: Global, pickle: &Pickle) -> Result<Text, AllocError>
     ensures { IfOk result (λ t. t ≡ pickle_text pickle.now) }
 {
-    let value = only(alloc, "pickle", pickle)?;
-    let text = text_of(alloc, &value)?;
+    let text = text_of(alloc, &PickleMessage { pickle })?;
     Ok(text)
 }

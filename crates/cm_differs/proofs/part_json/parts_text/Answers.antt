@@ -6,5 +6,5 @@ use Rattle.cm_differs.proofs.part_json.parts_text.Goals as goal
 
 pub returns : goal.returns
 returns c =
-    let value = c.in_ok-value.ensures ∙ list_of_seen c.args.parts.now in
-    c.in_ok-text.ensures (ap has_float value ∙ parts_plain (map part_view c.args.parts.now)) ∙ ap compact_text value
+    let list = list_of_seen c.args.parts.now in
+    c.in_ok-text.ensures (ap has_float list ∙ parts_plain (map part_view c.args.parts.now)) ∙ ap compact_text list
