@@ -1,5 +1,5 @@
 //! Whether a pickle of a stream is the one that its source compiles to.
-ghost use Rattle.std.specs.Prelude.{◌≡◌, ◌&&◌, ℕ, List, [], Bool, slice_get, unwrap_or, bytes_eq};
+ghost use Rattle.std.specs.Prelude.{◌≡◌, ◌&&◌, ℕ, List, Bool, bytes_eq};
 ghost use Rattle.cm_stream.specs.Texts.{same_list, same_option, same_texts};
 ghost use Rattle.cm_stream.specs.Sources.{fits_type, has_cells, ids_at, is_argument, is_due, is_due_step, is_due_tag};
 ghost use Rattle.cm_audit.specs.Matching.{has_value, is_id};
@@ -7,7 +7,7 @@ ghost use Rattle.cm_audit.specs.Matching.{has_value, is_id};
 use cm_envelope::{
     Pickle, PickleArgument, PickleCell, PickleDocString, PickleRow, PickleStep, PickleTag, StepKind,
 };
-use gk_document::{Sequence, Text};
+use gk_document::{Sequence, Text, id_of};
 use gk_pickle::{
     Pickle as DuePickle, PickleArgument as DueArgument, PickleDocString as DueDocString,
     PickleStep as DueStep, PickleTag as DueTag, StepType,
@@ -38,16 +38,6 @@ fn all_fit<Part: Fits<Due>, Due>(ids: &[Text], parts: &[Part], due: &[Due]) -> b
         }
     }
     true
-}
-
-/// The id of a node.
-fn id_of<'a>(ids: &'a [Text], node: u64) -> &'a str
-    ensures { result.now ≡ unwrap_or (slice_get ids.now node) [] }
-{
-    match ids.get(node as usize) {
-        Some(id) => id.as_str(),
-        None => "",
-    }
 }
 
 impl Fits<u64> for Text {

@@ -1,12 +1,12 @@
 //! What is kept of a stream's envelopes for the lines of its cases.
-ghost use Rattle.std.specs.Prelude.{◌≡◌, ◌++◌, ◌∷◌, [], List, IfOk, OnErr, OnOk, map, option_map, slice_get, unwrap_or};
+ghost use Rattle.std.specs.Prelude.{◌≡◌, ◌++◌, ◌∷◌, [], List, IfOk, OnErr, OnOk, map, option_map};
 ghost use Rattle.std.specs.List.{flat_map};
 ghost use Rattle.cm_envelope.specs.declared.envelope.Envelope.{Envelope as SomeEnvelope};
 ghost use Rattle.cm_cases.specs.Listed.{case_entry, document_entry, listing_of, pickle_entry};
 ghost use Rattle.cm_cases.specs.Places.{example_rows, last_node, place, places_of, rows_of, scenario_places};
 
 use cm_envelope::{Envelope, GherkinDocument, Pickle, TestCase};
-use gk_document::{Examples, Location, Row, Rule, Scenario, Sequence, Text};
+use gk_document::{Examples, Location, Row, Rule, Scenario, Sequence, Text, id_of};
 use std::alloc::{AllocError, Global};
 
 /// A test case, by the pickle that it names.
@@ -53,20 +53,10 @@ fn copy(alloc: Global, text: &Text) -> Result<Text, AllocError>
     Text::copy_of(alloc, text.as_str())
 }
 
-// The text at an index, and none past the end.
-fn text_at(texts: &[Text], index: usize) -> &str
-    ensures { result.now ≡ unwrap_or (slice_get texts.now index) [] }
-{
-    match texts.get(index) {
-        Some(text) => text.as_str(),
-        None => "",
-    }
-}
-
 fn place_of(alloc: Global, ids: &[Text], node: u64, at: Location) -> Result<Place, AllocError>
     ensures { IfOk result (λ p. p ≡ place ids.now node at) }
 {
-    let id = Text::copy_of(alloc, text_at(ids, node as usize))?;
+    let id = Text::copy_of(alloc, id_of(ids, node))?;
     Ok(Place { id, line: at.line })
 }
 
