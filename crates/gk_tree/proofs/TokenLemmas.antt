@@ -1,17 +1,14 @@
 -- What the code's tokens have to do with those of the grammar.
-use Rattle.std.proofs.Common.{◌≡◌, ℕ, zero, suc, ◌+◌, ◌-◌, ◌*◌, ◌≤◌, Bool, true, false, cond, List, [], ◌∷◌, length, Option, Some, None, Ok, refl, sym, ap, ◌∙◌, arith}
-use Rattle.std.proofs.lemmas.Grind.{common_steps}
-use Rattle.std.specs.Prelude.{map, filter, ◌==◌}
-use Rattle.std.specs.List.{slice_split, AllByRecursion}
+use Rattle.std.proofs.Common.{◌≡◌, ℕ, zero, suc, ◌+◌, ◌-◌, ◌*◌, ◌≤◌, List, [], ◌∷◌, length, Option, Some, None, Ok, refl, sym, ap, ◌∙◌, arith}
+use Rattle.std.specs.Prelude.{map}
+use Rattle.std.specs.List.{AllByRecursion}
 use Rattle.std.specs.Str.{chars, chars_after, continuation_len, lead_bits, IsUtf8}
-use Rattle.std.proofs.lemmas.List.Splits.{length-slice_split}
-use Rattle.std.proofs.lemmas.List.Sums.{length-filter}
 use Rattle.std.proofs.lemmas.List.{length-map}
 use Rattle.std.proofs.lemmas.Str.{encodes-chars}
 use Rattle.gk_document.specs.declared.tree.Cell.{Cell}
 use Rattle.gk_line.specs.declared.tokens.TagText.{TagText}
-use Rattle.gk_line.specs.Cells.{without_first, CellText}
-use Rattle.gk_line.specs.Tags.{uncommented_line, TagWord, pieces_from, tag_pieces, tags_of, is_tag}
+use Rattle.gk_line.specs.Cells.{CellText}
+use Rattle.gk_line.specs.Tags.{TagWord, tags_of}
 use Rattle.gk_line.specs.Views.{cell_text, tag_word}
 use Rattle.gk_grammar.specs.Token.{cell, tag_text, tag_list}
 use Rattle.gk_grammar.proofs.Bytes.{tags_fewer}
