@@ -1,6 +1,6 @@
 -- Lines, and what the grammar asks of each. A line's text is the list of its characters; the texts of a token are
 -- bytes of UTF-8, as the tree keeps them.
-use Rattle.std.specs.Prelude.{ℕ, Bool, true, false, List, [], ◌∷◌, map, Result, Ok, Err, Option, Some, None, if◌then◌else◌, codes}
+use Rattle.std.specs.Prelude.{ℕ, Bool, true, false, List, map, Result, Ok, Err, Option, Some, None, if◌then◌else◌, codes}
 use Rattle.std.specs.Option.{option_map}
 use Rattle.std.specs.Str.{encode_utf8_all}
 use Rattle.gk_line.specs.Texts.{first_some, or_else}

@@ -1,6 +1,6 @@
 -- The kinds of the lines say what the grammar says of the lines.
 use Rattle.std.proofs.Common.{◌≡◌, ◌↔◌, ℕ, Bool, true, false, cond, List, [], ◌∷◌, ◌++◌, ◌+◌, map, None, Ok, Err, length, refl, sym, ap, subst, ◌∙◌}
-use Rattle.std.specs.Prelude.{IsTrue, IsFalse, not, ◌&&◌, ◌==◌}
+use Rattle.std.specs.Prelude.{IsTrue, IsFalse, not, ◌&&◌}
 use Rattle.std.proofs.lemmas.Bool.{eqb-true, eq-eqb}
 use Rattle.std.specs.List.{AllByRecursion, list_all, join_with_byte}
 use Rattle.gk_line.specs.Characters.{line_feed}

@@ -9,7 +9,7 @@ use Rattle.gk_grammar.specs.Token.{Utf8, Tags, Step, Row, Line, line}
 use Rattle.gk_grammar.specs.Tree as tree
 use Rattle.gk_grammar.specs.Tree.{Location, Tag, Argument, Background, ExampleTable, Examples, Scenario, Rule, Feature}
 use Rattle.gk_document.specs.declared.tree.Argument.TheVariants.{Table, Text as Quoted}
-use Rattle.gk_grammar.specs.Grammar.{Piece, Then, Each, AtMostOne, OneLine, place_and_name, IsTagLine, TagLines, IsRow, IsTable, IsArgument, IsStepLine, IsStep, IsBackground, IsExampleTable, IsExamples, IsScenario, IsRule, IsFeature, IsFeatureText, english, Node, tag_nodes, row_nodes, argument_nodes, step_nodes, background_nodes, table_rows, examples_nodes, scenario_nodes, rule_nodes, feature_nodes, stands_before, AreNumbered}
+use Rattle.gk_grammar.specs.Grammar.{Piece, Each, AtMostOne, OneLine, place_and_name, IsTagLine, TagLines, IsRow, IsTable, IsArgument, IsStepLine, IsStep, IsBackground, IsExampleTable, IsExamples, IsScenario, IsRule, IsFeature, IsFeatureText, english, Node, tag_nodes, row_nodes, argument_nodes, step_nodes, background_nodes, table_rows, examples_nodes, scenario_nodes, rule_nodes, feature_nodes, stands_before, AreNumbered}
 use Rattle.gk_grammar.specs.Place.{IsText}
 use Rattle.gk_grammar.proofs.Trees.{both}
 use Rattle.gk_plain.specs.declared.parts.Part.TheVariants as part
