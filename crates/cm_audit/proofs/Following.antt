@@ -16,7 +16,7 @@ use Rattle.cm_attempt.specs.declared.settings.Settings.{Settings}
 use Rattle.cm_stream.specs.ByOnePass.{fault, IsFaultless}
 use Rattle.cm_stream.specs.Findings.{IsBad, NoEnvelope, stream_fault_named}
 use Rattle.cm_stream.specs.Record.{table_of_envelopes}
-use Rattle.cm_stream.specs.Stream.{IsGoodRun, as_read, envelopes, feed_of, filled_lines, read_line, envelope_unless_blank}
+use Rattle.cm_stream.specs.Stream.{IsGoodRun, as_read, envelopes, feed_of, nonblank_lines, read_line, envelope_unless_blank}
 use Rattle.cm_stream.specs.declared.verdict.Audited.{Audited}
 use Rattle.cm_stream.specs.declared.verdict.Counts.{Counts}
 use Rattle.cm_stream.specs.declared.verdict.StreamFault.{StreamFault}
@@ -56,21 +56,21 @@ one_more ls l =
     ∙ ap (λ es. envelopes_in (contents ls) ++ es) (append-nil (envelope_in (envelope_unless_blank l.bytes)))
 
 -- lines that are read as envelopes are read as these
-read_all : (n : ℕ) (ls : List (List ℕ)) (lines : List (ℕ × Envelope)) → map read_line (filled_lines n ls) ≡ map as_read lines → envelopes lines ≡ envelopes_in ls
+read_all : (n : ℕ) (ls : List (List ℕ)) (lines : List (ℕ × Envelope)) → map read_line (nonblank_lines n ls) ≡ map as_read lines → envelopes lines ≡ envelopes_in ls
 read_all n [] [] read = refl
 read_all n [] (x ∷ lines) read = cc
 read_all n (l ∷ ls) lines read = go (is_blank l) refl (read_all (n + 1) ls)
   where
-    filled : is_blank l ≡ false → (lines : List (ℕ × Envelope)) → (n, envelope_of_line l) ∷ map read_line (filled_lines (n + 1) ls) ≡ map as_read lines
-        → ((more : List (ℕ × Envelope)) → map read_line (filled_lines (n + 1) ls) ≡ map as_read more → envelopes more ≡ envelopes_in ls) → envelopes lines ≡ envelopes_in (l ∷ ls)
+    filled : is_blank l ≡ false → (lines : List (ℕ × Envelope)) → (n, envelope_of_line l) ∷ map read_line (nonblank_lines (n + 1) ls) ≡ map as_read lines
+        → ((more : List (ℕ × Envelope)) → map read_line (nonblank_lines (n + 1) ls) ≡ map as_read more → envelopes more ≡ envelopes_in ls) → envelopes lines ≡ envelopes_in (l ∷ ls)
     filled is [] read rec = cc
     filled is (x ∷ lines) read rec =
         let first : ◌≡◌ {A = ℕ × Result Envelope LineFault} (n, envelope_of_line l) (as_read x) = cc in
-        let more : map read_line (filled_lines (n + 1) ls) ≡ map as_read lines = cc in
+        let more : map read_line (nonblank_lines (n + 1) ls) ≡ map as_read lines = cc in
         let here : envelope_of_line l ≡ Ok x.1 = ap (λ (r : ℕ × Result Envelope LineFault). r.1) first in
         rw (is, here) (ap (λ es. x.1 ∷ es) (rec lines more))
 
-    go : (b : Bool) → is_blank l ≡ b → ((more : List (ℕ × Envelope)) → map read_line (filled_lines (n + 1) ls) ≡ map as_read more → envelopes more ≡ envelopes_in ls) → envelopes lines ≡ envelopes_in (l ∷ ls)
+    go : (b : Bool) → is_blank l ≡ b → ((more : List (ℕ × Envelope)) → map read_line (nonblank_lines (n + 1) ls) ≡ map as_read more → envelopes more ≡ envelopes_in ls) → envelopes lines ≡ envelopes_in (l ∷ ls)
     go true e rec = rw e (rec lines (rw e at read))
     go false e rec = filled e lines (rw e at read) rec
 

@@ -8,7 +8,7 @@ use Rattle.cm_envelope.specs.Feeds.{has_line_feed}
 use Rattle.cm_envelope.specs.Lines.{Line, is_blank, lines_of, trouble_of, size, feed_lines, unless_trouble, max_line_bytes, max_stream_bytes}
 use Rattle.cm_envelope.specs.Reading.{envelope_of_line}
 use Rattle.cm_envelope.proofs.Lines.{lines_of-whole}
-use Rattle.cm_stream.specs.Stream.{feed_of, filled_lines, read_line, as_read, IsRead, envelopes}
+use Rattle.cm_stream.specs.Stream.{feed_of, nonblank_lines, read_line, as_read, IsRead, envelopes}
 
 -- a text is a line that is read as the envelope, and a LF
 pub record IsLineWith (text : List ℕ) (e : Envelope) : Type 0 where
@@ -58,7 +58,7 @@ numbers_off n (e ∷ es) = ap (λ z. e ∷ z) (numbers_off (n + 1) es)
 first_line : (t : List ℕ) (e : Envelope) (rest : List ℕ) (h : IsLineWith t e) → lines_of (t ++ rest) ≡ record { bytes = h.line; has_end = true } ∷ lines_of rest
 first_line t e rest h = ap lines_of (ap (λ z. z ++ rest) h.cut ∙ append_assoc h.line (codes "\n") rest) ∙ lines_of-whole h.line rest h.one
 
-all_read : (n : ℕ) (ts : List (List ℕ)) (es : List Envelope) → AreLinesWith ts es → map read_line (filled_lines n (bytes_of (lines_of (concat ts)))) ≡ map as_read (with_numbers n es)
+all_read : (n : ℕ) (ts : List (List ℕ)) (es : List Envelope) → AreLinesWith ts es → map read_line (nonblank_lines n (bytes_of (lines_of (concat ts)))) ≡ map as_read (with_numbers n es)
 all_read n [] [] h = refl
 all_read n [] (e ∷ es) h = absurd h
 all_read n (t ∷ ts) [] h = absurd h
@@ -67,5 +67,5 @@ all_read n (t ∷ ts) (e ∷ es) h = rw (first_line t e (concat ts) h.0, h.0.fil
 pub they_are_read : (ts : List (List ℕ)) (es : List Envelope) → AreLinesWith ts es → (feed_of (concat ts)).trouble ≡ None → IsRead (concat ts) (with_numbers 1 es)
 they_are_read ts es h fits = record {
   no_trouble = fits;
-  read = ap (λ ls. map read_line (filled_lines 1 ls)) (all_fed max_line_bytes max_stream_bytes 0 (lines_of (concat ts)) fits) ∙ all_read 1 ts es h;
+  read = ap (λ ls. map read_line (nonblank_lines 1 ls)) (all_fed max_line_bytes max_stream_bytes 0 (lines_of (concat ts)) fits) ∙ all_read 1 ts es h;
 }

@@ -11,7 +11,7 @@ use Rattle.json.specs.Word.{word, after_number}
 use Rattle.serde_json.specs.Read.{number_of}
 use Rattle.cm_envelope.specs.declared.envelope.Envelope.{Envelope}
 use Rattle.cm_stream.specs.Texts.{Utf8}
-use Rattle.cm_stream.specs.Stream.{IsGoodRun, feed_of, filled_lines, read_line, as_read}
+use Rattle.cm_stream.specs.Stream.{IsGoodRun, feed_of, nonblank_lines, read_line, as_read}
 use Rattle.cm_stream.specs.Release.{hold_of}
 use Rattle.cm_stream.proofs.Released.{released_is_not_held, released_exactly}
 use Rattle.cm_stream.proofs.Streams.{run_is_told}
@@ -22,7 +22,7 @@ use Rattle.cm_good_streams.proofs.SomeGood.{retried_are_good, interleaved_are_go
 
 -- the lines are read as these envelopes, with their numbers
 abbrev AreReadAs : List Utf8 → List Envelope → Type 0
-AreReadAs lines es = map read_line (filled_lines 1 (feed_of (bytes_of lines)).lines) ≡ map as_read (enumerate_from 1 es)
+AreReadAs lines es = map read_line (nonblank_lines 1 (feed_of (bytes_of lines)).lines) ≡ map as_read (enumerate_from 1 es)
 
 retried_read : AreReadAs retried_lines retried
 unfolding lex punctuate items members value content code_unit short_escape word after_number number_of scan_numeral chars is_utf8 encode

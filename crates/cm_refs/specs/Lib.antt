@@ -1,3 +1,7 @@
+-- What is in which file.
+-- Declarations: what a stream has declared, and what each declaration makes of it
+-- Rows: the rows of pickles and of run hooks, as the entries of their maps have them
+-- Due: how a call answers by the fault that is due, the first in order
 pub mod Declarations
 pub mod Rows
 pub mod Due

@@ -6,7 +6,7 @@ use Rattle.cm_envelope.specs.Reading.{LineFault, envelope_of_line}
 use Rattle.cm_envelope.specs.declared.envelope.Envelope.{Envelope}
 use Rattle.cm_envelope.specs.declared.feed.Trouble.{Trouble}
 use Rattle.cm_stream.specs.Findings.{Finding, IsBad, NoEnvelope}
-use Rattle.cm_stream.specs.Stream.{At, Troubled, NoFault, at_line, feed_of, filled_lines, read_line, as_read, envelopes}
+use Rattle.cm_stream.specs.Stream.{At, Troubled, NoFault, at_line, feed_of, nonblank_lines, read_line, as_read, envelopes}
 use Rattle.cm_stream.specs.Results.{AreWellOrdered, results_fault, first_results_fault_line, first_results_fault_of, first_results_fault, IsWell, FaultOf, NoFaultIsExact, FaultsAreFirst, TroublesAreLast}
 use Rattle.cm_stream.proofs.Tables.{tables_have_results, fronts_are_well_ordered, faults_are_exact}
 
@@ -18,7 +18,7 @@ none_well first = (tables_have_results first [] (table_from first) refl).0
 record Clean (first : ℕ) (before : List Envelope) (n : ℕ) (ls : List (List ℕ)) (t : Option Trouble) (es : List Envelope) : Type 0 where
   lines : List (ℕ × Envelope)
   no_trouble : t ≡ None
-  read : map read_line (filled_lines n ls) ≡ map as_read lines
+  read : map read_line (nonblank_lines n ls) ≡ map as_read lines
   all : es ≡ before ++ envelopes lines
   well : AreWellOrdered first es
 
@@ -55,26 +55,26 @@ is_well first bytes es h =
 
 -- ---- the other direction
 
-told_well : (first : ℕ) (before : List Envelope) (n : ℕ) (ls : List (List ℕ)) (lines : List (ℕ × Envelope)) → map read_line (filled_lines n ls) ≡ map as_read lines → AreWellOrdered first (before ++ envelopes lines) → first_results_fault_of first before n ls None ≡ NoFault (before ++ envelopes lines)
+told_well : (first : ℕ) (before : List Envelope) (n : ℕ) (ls : List (List ℕ)) (lines : List (ℕ × Envelope)) → map read_line (nonblank_lines n ls) ≡ map as_read lines → AreWellOrdered first (before ++ envelopes lines) → first_results_fault_of first before n ls None ≡ NoFault (before ++ envelopes lines)
 told_well first before n [] [] read well = ap NoFault (sym (append-nil before))
 told_well first before n [] (x ∷ lines) read well = cc
 told_well first before n (l ∷ ls) lines read well = go (is_blank l) refl (told_well first before (n + 1) ls lines) (λ e more. told_well first (before ++ e ∷ []) (n + 1) ls more)
   where
-    filled : is_blank l ≡ false → (lines : List (ℕ × Envelope)) → (n, envelope_of_line l) ∷ map read_line (filled_lines (n + 1) ls) ≡ map as_read lines → AreWellOrdered first (before ++ envelopes lines)
-        → ((e : Envelope) (more : List (ℕ × Envelope)) → map read_line (filled_lines (n + 1) ls) ≡ map as_read more → AreWellOrdered first ((before ++ e ∷ []) ++ envelopes more) → first_results_fault_of first (before ++ e ∷ []) (n + 1) ls None ≡ NoFault ((before ++ e ∷ []) ++ envelopes more))
+    filled : is_blank l ≡ false → (lines : List (ℕ × Envelope)) → (n, envelope_of_line l) ∷ map read_line (nonblank_lines (n + 1) ls) ≡ map as_read lines → AreWellOrdered first (before ++ envelopes lines)
+        → ((e : Envelope) (more : List (ℕ × Envelope)) → map read_line (nonblank_lines (n + 1) ls) ≡ map as_read more → AreWellOrdered first ((before ++ e ∷ []) ++ envelopes more) → first_results_fault_of first (before ++ e ∷ []) (n + 1) ls None ≡ NoFault ((before ++ e ∷ []) ++ envelopes more))
         → first_results_fault_of first before n (l ∷ ls) None ≡ NoFault (before ++ envelopes lines)
     filled is [] read well rec = cc
     filled is (x ∷ lines) read well rec =
         let here_read : ◌≡◌ {A = ℕ × Result Envelope LineFault} (n, envelope_of_line l) (as_read x) = cc in
-        let more : map read_line (filled_lines (n + 1) ls) ≡ map as_read lines = cc in
+        let more : map read_line (nonblank_lines (n + 1) ls) ≡ map as_read lines = cc in
         let here : envelope_of_line l ≡ Ok x.1 = ap (λ (r : ℕ × Result Envelope LineFault). r.1) here_read in
         let again : AreWellOrdered first ((before ++ x.1 ∷ []) ++ envelopes lines) = subst (AreWellOrdered first) (sym (append_assoc before (x.1 ∷ []) (envelopes lines))) well in
         let passes : results_fault first before x.1 ≡ None = (faults_are_exact first before (fronts_are_well_ordered first before (x.1 ∷ envelopes lines) well) x.1).1 (fronts_are_well_ordered first (before ++ x.1 ∷ []) (envelopes lines) again) in
         rw (is, here, passes) (rec x.1 lines more again ∙ ap NoFault (append_assoc before (x.1 ∷ []) (envelopes lines)))
 
     go : (b : Bool) → is_blank l ≡ b
-        → (map read_line (filled_lines (n + 1) ls) ≡ map as_read lines → AreWellOrdered first (before ++ envelopes lines) → first_results_fault_of first before (n + 1) ls None ≡ NoFault (before ++ envelopes lines))
-        → ((e : Envelope) (more : List (ℕ × Envelope)) → map read_line (filled_lines (n + 1) ls) ≡ map as_read more → AreWellOrdered first ((before ++ e ∷ []) ++ envelopes more) → first_results_fault_of first (before ++ e ∷ []) (n + 1) ls None ≡ NoFault ((before ++ e ∷ []) ++ envelopes more))
+        → (map read_line (nonblank_lines (n + 1) ls) ≡ map as_read lines → AreWellOrdered first (before ++ envelopes lines) → first_results_fault_of first before (n + 1) ls None ≡ NoFault (before ++ envelopes lines))
+        → ((e : Envelope) (more : List (ℕ × Envelope)) → map read_line (nonblank_lines (n + 1) ls) ≡ map as_read more → AreWellOrdered first ((before ++ e ∷ []) ++ envelopes more) → first_results_fault_of first (before ++ e ∷ []) (n + 1) ls None ≡ NoFault ((before ++ e ∷ []) ++ envelopes more))
         → first_results_fault_of first before n (l ∷ ls) None ≡ NoFault (before ++ envelopes lines)
     go true e skip rec = rw e (skip (rw e at read) well)
     go false e skip rec = filled e lines (rw e at read) well rec
@@ -93,7 +93,7 @@ record First (first : ℕ) (before : List Envelope) (n : ℕ) (ls : List (List �
   line : List ℕ
   rest : List (ℕ × List ℕ)
   read_as : List (ℕ × Envelope)
-  cut : filled_lines n ls ≡ front ++ (m, line) ∷ rest
+  cut : nonblank_lines n ls ≡ front ++ (m, line) ∷ rest
   read : map read_line front ≡ map as_read read_as
   well : AreWellOrdered first (before ++ envelopes read_as)
   why : FaultOf first (before ++ envelopes read_as) (envelope_of_line line) f
@@ -107,9 +107,9 @@ first_of first before n (l ∷ ls) t m f well h = go (is_blank l) refl (first_of
     here filled same why = record {
       front = [];
       line = l;
-      rest = filled_lines (n + 1) ls;
+      rest = nonblank_lines (n + 1) ls;
       read_as = [];
-      cut = rw filled (ap (λ k. (k, l) ∷ filled_lines (n + 1) ls) same);
+      cut = rw filled (ap (λ k. (k, l) ∷ nonblank_lines (n + 1) ls) same);
       read = refl;
       well = subst (AreWellOrdered first) (sym (append-nil before)) well;
       why = subst (λ es. FaultOf first es (envelope_of_line l) f) (sym (append-nil before)) why;
@@ -160,7 +160,7 @@ faults_are_first first bytes n f h =
 
 record Cut (first : ℕ) (before : List Envelope) (n : ℕ) (ls : List (List ℕ)) (t : Option Trouble) (u : Trouble) : Type 0 where
   lines : List (ℕ × Envelope)
-  read : map read_line (filled_lines n ls) ≡ map as_read lines
+  read : map read_line (nonblank_lines n ls) ≡ map as_read lines
   well : AreWellOrdered first (before ++ envelopes lines)
   end : t ≡ Some u
 

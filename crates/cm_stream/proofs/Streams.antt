@@ -9,7 +9,7 @@ use Rattle.cm_stream.specs.Findings.{Finding}
 use Rattle.cm_stream.specs.StreamLaws.{IsRightAnswer}
 use Rattle.cm_stream.specs.Good.{Good}
 use Rattle.cm_stream.specs.References.{run_succeeded}
-use Rattle.cm_stream.specs.Stream.{FirstFault, Troubled, GoodWith, answer_in, answer_of_audit, answer_for, GoodRunIn, NoneIsGood, feed_of, filled_lines, read_line, as_read, envelopes, counts_of, IsRead, IsGoodStream, IsGoodRun, At, NoFault, at_end, at_line, envelope_unless_blank, HaveFirstLines}
+use Rattle.cm_stream.specs.Stream.{FirstFault, Troubled, GoodWith, answer_in, answer_of_audit, answer_for, GoodRunIn, NoneIsGood, feed_of, nonblank_lines, read_line, as_read, envelopes, counts_of, IsRead, IsGoodStream, IsGoodRun, At, NoFault, at_end, at_line, envelope_unless_blank, HaveFirstLines}
 use Rattle.cm_stream.specs.ByOnePass.{fault, HasNoFault, first_fault_line, first_fault_of, first_fault}
 use Rattle.cm_envelope.specs.declared.envelope.Envelope.{Envelope}
 use Rattle.cm_envelope.specs.Lines.{is_blank}
@@ -24,7 +24,7 @@ module _ (settings : Settings) where
   record Clean (before : List Envelope) (n : ℕ) (ls : List (List ℕ)) (t : Option Trouble) (es : List Envelope) : Type 0 where
     lines : List (ℕ × Envelope)
     no_trouble : t ≡ None
-    read : map read_line (filled_lines n ls) ≡ map as_read lines
+    read : map read_line (nonblank_lines n ls) ≡ map as_read lines
     all : es ≡ before ++ envelopes lines
     none : (b : List Envelope) (e : Envelope) (a : List Envelope) → envelopes lines ≡ b ++ e ∷ a → fault settings (before ++ b) e ≡ None
     end : fault_at_end es ≡ None
@@ -112,7 +112,7 @@ module _ (settings : Settings) where
 
   -- ---- the other direction
 
-  told_good : (before : List Envelope) (n : ℕ) (ls : List (List ℕ)) (lines : List (ℕ × Envelope)) → map read_line (filled_lines n ls) ≡ map as_read lines
+  told_good : (before : List Envelope) (n : ℕ) (ls : List (List ℕ)) (lines : List (ℕ × Envelope)) → map read_line (nonblank_lines n ls) ≡ map as_read lines
       → ((b : List Envelope) (e : Envelope) (a : List Envelope) → envelopes lines ≡ b ++ e ∷ a → fault settings (before ++ b) e ≡ None) → fault_at_end (before ++ envelopes lines) ≡ None
       → first_fault_of settings before n ls None ≡ NoFault (before ++ envelopes lines)
   told_good before n [] [] read none end =
@@ -121,16 +121,16 @@ module _ (settings : Settings) where
   told_good before n [] (x ∷ lines) read none end = cc
   told_good before n (l ∷ ls) lines read none end = go (is_blank l) refl (told_good before (n + 1) ls lines) (λ e more. told_good (before ++ e ∷ []) (n + 1) ls more)
     where
-      filled : is_blank l ≡ false → (lines : List (ℕ × Envelope)) → (n, envelope_of_line l) ∷ map read_line (filled_lines (n + 1) ls) ≡ map as_read lines
+      filled : is_blank l ≡ false → (lines : List (ℕ × Envelope)) → (n, envelope_of_line l) ∷ map read_line (nonblank_lines (n + 1) ls) ≡ map as_read lines
           → ((b : List Envelope) (e : Envelope) (a : List Envelope) → envelopes lines ≡ b ++ e ∷ a → fault settings (before ++ b) e ≡ None) → fault_at_end (before ++ envelopes lines) ≡ None
-          → ((e : Envelope) (more : List (ℕ × Envelope)) → map read_line (filled_lines (n + 1) ls) ≡ map as_read more
+          → ((e : Envelope) (more : List (ℕ × Envelope)) → map read_line (nonblank_lines (n + 1) ls) ≡ map as_read more
           → ((b : List Envelope) (x : Envelope) (a : List Envelope) → envelopes more ≡ b ++ x ∷ a → fault settings ((before ++ e ∷ []) ++ b) x ≡ None) → fault_at_end ((before ++ e ∷ []) ++ envelopes more) ≡ None
           → first_fault_of settings (before ++ e ∷ []) (n + 1) ls None ≡ NoFault ((before ++ e ∷ []) ++ envelopes more))
           → first_fault_of settings before n (l ∷ ls) None ≡ NoFault (before ++ envelopes lines)
       filled is [] read none end rec = cc
       filled is (x ∷ lines) read none end rec =
           let first : ◌≡◌ {A = ℕ × Result Envelope LineFault} (n, envelope_of_line l) (as_read x) = cc in
-          let more : map read_line (filled_lines (n + 1) ls) ≡ map as_read lines = cc in
+          let more : map read_line (nonblank_lines (n + 1) ls) ≡ map as_read lines = cc in
           let here : envelope_of_line l ≡ Ok x.1 = ap (λ (r : ℕ × Result Envelope LineFault). r.1) first in
           let passes : fault settings before x.1 ≡ None = ap (λ bs. fault settings bs x.1) (sym (append-nil before)) ∙ none [] x.1 (envelopes lines) refl in
           let rest = rec x.1 lines more (λ b e a c. ap (λ bs. fault settings bs e) (append_assoc before (x.1 ∷ []) b) ∙ none (x.1 ∷ b) e a (ap (λ ys. x.1 ∷ ys) c))
@@ -138,9 +138,9 @@ module _ (settings : Settings) where
           rw (is, here, passes) (rest ∙ ap NoFault (append_assoc before (x.1 ∷ []) (envelopes lines)))
 
       go : (b : Bool) → is_blank l ≡ b
-          → (map read_line (filled_lines (n + 1) ls) ≡ map as_read lines → ((b : List Envelope) (e : Envelope) (a : List Envelope) → envelopes lines ≡ b ++ e ∷ a → fault settings (before ++ b) e ≡ None)
+          → (map read_line (nonblank_lines (n + 1) ls) ≡ map as_read lines → ((b : List Envelope) (e : Envelope) (a : List Envelope) → envelopes lines ≡ b ++ e ∷ a → fault settings (before ++ b) e ≡ None)
           → fault_at_end (before ++ envelopes lines) ≡ None → first_fault_of settings before (n + 1) ls None ≡ NoFault (before ++ envelopes lines))
-          → ((e : Envelope) (more : List (ℕ × Envelope)) → map read_line (filled_lines (n + 1) ls) ≡ map as_read more
+          → ((e : Envelope) (more : List (ℕ × Envelope)) → map read_line (nonblank_lines (n + 1) ls) ≡ map as_read more
           → ((b : List Envelope) (x : Envelope) (a : List Envelope) → envelopes more ≡ b ++ x ∷ a → fault settings ((before ++ e ∷ []) ++ b) x ≡ None) → fault_at_end ((before ++ e ∷ []) ++ envelopes more) ≡ None
           → first_fault_of settings (before ++ e ∷ []) (n + 1) ls None ≡ NoFault ((before ++ e ∷ []) ++ envelopes more))
           → first_fault_of settings before n (l ∷ ls) None ≡ NoFault (before ++ envelopes lines)

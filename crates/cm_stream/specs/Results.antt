@@ -16,7 +16,7 @@ use Rattle.cm_stream.specs.Checks.{first_failed}
 use Rattle.cm_stream.specs.Findings.{Finding, IsBad, NoEnvelope}
 use Rattle.cm_stream.specs.CallFaults.{call_fault_finding, call_fault_of_envelope, own_checks}
 use Rattle.cm_stream.specs.Record.{table_after_envelope}
-use Rattle.cm_stream.specs.Stream.{FirstFault, At, Troubled, NoFault, at_line, envelope_unless_blank, feed_of, filled_lines, read_line, as_read, envelopes, IsRead}
+use Rattle.cm_stream.specs.Stream.{FirstFault, At, Troubled, NoFault, at_line, envelope_unless_blank, feed_of, nonblank_lines, read_line, as_read, envelopes, IsRead}
 
 -- ---- the results
 
@@ -78,7 +78,7 @@ pub record IsFirstResultsFault (first : ℕ) (bytes : List ℕ) (n : ℕ) (f : F
   pub line : List ℕ
   pub rest : List (ℕ × List ℕ)
   pub before : List (ℕ × Envelope)
-  pub cut : filled_lines 1 (feed_of bytes).lines ≡ front ++ (n, line) ∷ rest
+  pub cut : nonblank_lines 1 (feed_of bytes).lines ≡ front ++ (n, line) ∷ rest
   pub read : map read_line front ≡ map as_read before
   pub well : AreWellOrdered first (envelopes before)
   pub why : FaultOf first (envelopes before) (envelope_of_line line) f
@@ -86,7 +86,7 @@ pub record IsFirstResultsFault (first : ℕ) (bytes : List ℕ) (n : ℕ) (f : F
 -- every line is read as envelopes whose attempts are well ordered, and then comes this trouble
 pub record IsTroubled (first : ℕ) (bytes : List ℕ) (t : Trouble) : Type 0 where
   pub lines : List (ℕ × Envelope)
-  pub read : map read_line (filled_lines 1 (feed_of bytes).lines) ≡ map as_read lines
+  pub read : map read_line (nonblank_lines 1 (feed_of bytes).lines) ≡ map as_read lines
   pub well : AreWellOrdered first (envelopes lines)
   pub end : (feed_of bytes).trouble ≡ Some t
 

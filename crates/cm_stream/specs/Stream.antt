@@ -24,10 +24,10 @@ abbrev pub feed_of : List ℕ → Fed
 feed_of bytes = feed bytes max_line_bytes max_stream_bytes
 
 -- the lines that aren't blank, each with its number
-abbrev pub filled_lines : ℕ → List (List ℕ) → List (ℕ × List ℕ)
-filled_lines n [] = []
-filled_lines n (l ∷ ls) =
-    if is_blank l then filled_lines (n + 1) ls else (n, l) ∷ filled_lines (n + 1) ls
+abbrev pub nonblank_lines : ℕ → List (List ℕ) → List (ℕ × List ℕ)
+nonblank_lines n [] = []
+nonblank_lines n (l ∷ ls) =
+    if is_blank l then nonblank_lines (n + 1) ls else (n, l) ∷ nonblank_lines (n + 1) ls
 
 abbrev pub read_line : ℕ × List ℕ → ℕ × Result Envelope LineFault
 read_line l = (l.0, envelope_of_line l.1)
@@ -38,7 +38,7 @@ as_read l = (l.0, Ok l.1)
 -- The stream has no trouble, and its lines that aren't blank are read as these envelopes, each with its line number.
 pub record IsRead (bytes : List ℕ) (es : List (ℕ × Envelope)) : Type 0 where
   pub no_trouble : (feed_of bytes).trouble ≡ None
-  pub read : map read_line (filled_lines 1 (feed_of bytes).lines) ≡ map as_read es
+  pub read : map read_line (nonblank_lines 1 (feed_of bytes).lines) ≡ map as_read es
 
 abbrev pub envelopes : List (ℕ × Envelope) → List Envelope
 envelopes es = map (λ (l : ℕ × Envelope). l.1) es

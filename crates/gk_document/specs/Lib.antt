@@ -1,3 +1,7 @@
+-- What is in which file.
+-- ExampleRows: the rows of a table of examples
+-- MediaType: the media type of a doc string
+-- Skeleton: what of a document two readings of one text agree in
 pub mod ExampleRows
 pub mod MediaType
 pub mod Skeleton
