@@ -278,8 +278,8 @@ impl SendJson<MessageLayout> for ExampleTable {
 
 /// The member `tableBody` of a block, which has no rows where it has no table.
 fn send_body<S: Serializer>(table: &Option<ExampleTable>, out: &mut S) -> Result<(), S::Error>
-    ensures { OnOk result (SendsMember (codes "tableBody") (list_data row_data (table_rows_of table.now))
-        (S.written out.old) (S.written out.new)) }
+    ensures { OnOk result (SendsMember (codes "tableBody")
+        (list_data row_data (table_rows_of table.now)) (S.written out.old) (S.written out.new)) }
 {
     out.key("tableBody")?;
     send_list(body_rows(table), out)

@@ -175,7 +175,8 @@ fn last_block(
     phase: Phase<'_>,
     end_line: u32,
 ) -> Result<Option<FlatBlock>, ParseFault>
-    ensures { Gives last_of result (last_blocks end_line (machine.blocks_at_end (phase_of phase.entry))) }
+    ensures { Gives last_of result
+        (last_blocks end_line (machine.blocks_at_end (phase_of phase.entry))) }
 {
     match phase {
         Phase::Start => Ok(None),
