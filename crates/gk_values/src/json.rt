@@ -3,11 +3,12 @@ ghost use Rattle.std.specs.Prelude.{◌≡◌, ◌+◌, ◌<◌, ◌^◌, ◌∷
 ghost use Rattle.serde_json.specs.Data.{Data, array, string, put as with_member};
 ghost use Rattle.serde_json.specs.View.{view, members_view, items_of};
 ghost use Rattle.cm_messages.specs.Layout.{object_of, put_some, media_data, id_data, list_data};
-ghost use Rattle.cm_messages.specs.PickleLayout.{type_word, pickle_tag_data, pickle_cell_data, pickle_row_data, pickle_doc_string_data, argument_data, pickle_step_data, pickle_steps_data, pickle_data};
+ghost use Rattle.cm_messages.specs.PickleLayout.{pickle_tag_data, pickle_cell_data, pickle_row_data, pickle_doc_string_data, argument_data, pickle_step_data, pickle_steps_data, pickle_data};
 ghost use Rattle.gk_values.specs.Optional.{with_some};
 
+use cm_messages::step_type_name;
 use gk_document::{Sequence, Text, media_type};
-use gk_pickle::{Pickle, PickleArgument, PickleDocString, PickleStep, PickleTag, StepType};
+use gk_pickle::{Pickle, PickleArgument, PickleDocString, PickleStep, PickleTag};
 use serde_json::{Map, Value, put};
 use std::alloc::{AllocError, Global};
 
@@ -212,18 +213,6 @@ impl WriteJson for PickleArgument {
                 one_member(alloc, "docString", doc_string)
             }
         }
-    }
-}
-
-/// How a step's type is written.
-fn step_type_name(kind: StepType) -> &'static str
-    ensures { result.now ≡ type_word kind }
-{
-    match kind {
-        StepType::Unknown => "Unknown",
-        StepType::Context => "Context",
-        StepType::Action => "Action",
-        StepType::Outcome => "Outcome",
     }
 }
 

@@ -4,15 +4,16 @@ ghost use Rattle.serde_json.specs.View.{view, members_view};
 ghost use Rattle.gk_document.specs.ExampleRows.{table_rows_of};
 ghost use Rattle.cm_messages.specs.Layout.{object_of, list_data, put_some};
 ghost use Rattle.cm_messages.specs.SourceLayout.{source_data};
-ghost use Rattle.cm_messages.specs.DocumentLayout.{location_data, cell_data, row_data, tag_data, comment_data, delimiter, doc_string_data, table_place, table_data, keyword_word, argument_table, argument_doc_string, step_data, background_data, block_members, examples_data, scenario_data, background_child as background_child_data, scenario_child as scenario_child_data, rule_child as rule_child_data, children_data, rule_data, feature_data, document_data};
+ghost use Rattle.cm_messages.specs.DocumentLayout.{location_data, cell_data, row_data, tag_data, comment_data, doc_string_data, table_data, argument_table, argument_doc_string, step_data, background_data, block_members, examples_data, scenario_data, background_child as background_child_data, scenario_child as scenario_child_data, rule_child as rule_child_data, children_data, rule_data, feature_data, document_data};
 
 use crate::json::{
     WriteJson, add, add_list, add_media, add_optional, add_text, list_value, one_member,
     with_optional,
 };
+use cm_messages::{fence_text, keyword_type_name, place_of_table};
 use gk_document::{
     Argument, Background, Cell, Comment, DocString, Document, ExampleTable, Examples, Feature,
-    Fence, KeywordType, Location, Row, Rule, Scenario, Step, Tag,
+    Location, Row, Rule, Scenario, Step, Tag,
 };
 use serde_json::{Map, Value, put};
 use std::alloc::{AllocError, Global};
@@ -90,16 +91,6 @@ impl WriteJson for Comment {
     }
 }
 
-/// The characters of a fence.
-fn fence_text(fence: Fence) -> &'static str
-    ensures { result.now ≡ delimiter fence }
-{
-    match fence {
-        Fence::Quotes => "\"\"\"",
-        Fence::Backticks => "```",
-    }
-}
-
 impl WriteJson for DocString {
     ghost json = { doc_string_data };
 
@@ -113,16 +104,6 @@ impl WriteJson for DocString {
     }
 }
 
-/// The place of a table: its first row's, or else its step's.
-fn place_of_table(place: Location, rows: &[Row]) -> Location
-    ensures { result ≡ table_place place rows.now }
-{
-    match rows {
-        [first, ..] => first.location,
-        [] => place,
-    }
-}
-
 /// The table of a step.
 fn table_value(alloc: Global, place: Location, rows: &[Row]) -> Result<Value, AllocError>
     ensures { IfOk result (λ v. view v ≡ table_data place rows.now) }
@@ -132,19 +113,6 @@ fn table_value(alloc: Global, place: Location, rows: &[Row]) -> Result<Value, Al
     add(&mut members, alloc, "location", &location)?;
     add_list(&mut members, alloc, "rows", rows)?;
     Ok(Value::Object(members))
-}
-
-/// How a keyword's type is written.
-fn keyword_type_name(kind: KeywordType) -> &'static str
-    ensures { result.now ≡ keyword_word kind }
-{
-    match kind {
-        KeywordType::Unknown => "Unknown",
-        KeywordType::Context => "Context",
-        KeywordType::Action => "Action",
-        KeywordType::Outcome => "Outcome",
-        KeywordType::Conjunction => "Conjunction",
-    }
 }
 
 /// Adds what is below a step.
