@@ -29,7 +29,7 @@ pub struct Difference {
 /// `None` where both have one skeleton, as [`same_skeleton`](gk_document::same_skeleton) compares them.
 ///
 /// # Errors
-/// Only where there is no memory for the parts or their texts.
+/// Where there is no memory for the parts or their texts, as `serde_json` says of these.
 pub fn tree_difference(
     alloc: Global,
     uri: &str,
@@ -53,7 +53,7 @@ pub fn tree_difference(
 /// A document that is due, and that the stream doesn't have: an array of its parts, in the order of its tree.
 ///
 /// # Errors
-/// Only where there is no memory for the parts or their texts.
+/// Where there is no memory for the parts or their texts, as `serde_json` says of these.
 pub fn missing_document(alloc: Global, uri: &str, due: &Document) -> Result<Difference, AllocError>
     ensures { IfOk result (λ d. d ≡ missing_document uri.now due.now) }
 {
@@ -101,7 +101,7 @@ fn due_text_of_some(
 /// nodes, by their numbers. The steps that are due have no type where the stream's steps beside them have none.
 ///
 /// # Errors
-/// Only where there is no memory for the texts.
+/// Where there is no memory for the texts, as `serde_json` says.
 pub fn pickle_difference(
     alloc: Global,
     ids: &[Text],
@@ -123,7 +123,7 @@ pub fn pickle_difference(
 /// numbers.
 ///
 /// # Errors
-/// Only where there is no memory for the texts.
+/// Where there is no memory for the texts, as `serde_json` says.
 pub fn missing_pickle(
     alloc: Global,
     uri: &str,

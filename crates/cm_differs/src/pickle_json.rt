@@ -1,6 +1,6 @@
 //! Pickles without their ids as JSON.
 ghost use Rattle.std.specs.Prelude.{◌≡◌, IfOk};
-ghost use Rattle.cm_differs.specs.PickleData.{argument_data, bare_pickle_data, cell_data, doc_string_data, kind_data, kind_word, pickle_members, pickle_text, row_data, step_data, table_data, tag_data};
+ghost use Rattle.cm_differs.specs.PickleData.{argument_data, bare_pickle_data, cell_data, doc_string_data, kind_data, pickle_members, pickle_text, row_data, step_data, table_data, tag_data};
 
 use crate::layout::{DifferenceLayout, text_of};
 use cm_envelope::{
@@ -14,23 +14,16 @@ use gk_document::Text;
 use serde::Serializer;
 use std::alloc::{AllocError, Global};
 
-/// How a step's type is written.
-fn kind_name(kind: StepKind) -> &'static str
-    ensures { result.now ≡ kind_word kind }
-{
-    match kind {
-        StepKind::Unknown => "Unknown",
-        StepKind::Context => "Context",
-        StepKind::Action => "Action",
-        StepKind::Outcome => "Outcome",
-    }
-}
-
 impl SendJson<DifferenceLayout> for StepKind {
     ghost json = { kind_data };
 
     fn send<S: Serializer>(&self, out: &mut S) -> Result<(), S::Error> {
-        out.str(kind_name(*self))
+        match self {
+            StepKind::Unknown => out.str("Unknown"),
+            StepKind::Context => out.str("Context"),
+            StepKind::Action => out.str("Action"),
+            StepKind::Outcome => out.str("Outcome"),
+        }
     }
 }
 
