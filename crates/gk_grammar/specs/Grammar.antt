@@ -59,7 +59,8 @@ at n c = record { line = n; column = c }
 
 -- a comment is the whole line (`gherkin.berp`: Comment)
 abbrev pub comment_of : Line → tree.Comment
-comment_of (line n t i k) = record { location = at n 1; text = encode_utf8_all t }
+comment_of (line number characters _ _) =
+    record { location = at number 1; text = encode_utf8_all characters }
 
 -- the comments among the lines
 abbrev pub comments_of : List Line → List tree.Comment
@@ -80,13 +81,14 @@ OneLine P (l ∷ gap) cs = P l × IsGap gap cs
 abbrev pub place_and_name : Tag → Location × Utf8
 place_and_name g = (g.location, g.name)
 
--- the tag of a word in line n: its name has the `@`
+-- the tag of a word in the line of this number: its name has the `@`
 abbrev pub tag_at : ℕ → TagText → Location × Utf8
-tag_at n w = (at n w.column, codes "@" ++ w.word)
+tag_at number w = (at number w.column, codes "@" ++ w.word)
 
 -- the tags of a tag line, in order
 abbrev pub IsTagLine : List Tag → Line → Type 0
-IsTagLine tags (line n t i (Tags (Ok words))) = map place_and_name tags ≡ map (tag_at n) words
+IsTagLine tags (line number _ _ (Tags (Ok words))) =
+    map place_and_name tags ≡ map (tag_at number) words
 IsTagLine tags _ = ⊥
 
 -- tag lines, whose tags together are these (`gherkin.berp`: Tags)
@@ -97,17 +99,17 @@ TagLines tags ls cs =
 
 -- The lines that end a block's description. All others are text, even where they look like steps or rows.
 abbrev pub stops : Block → Line → Bool
-stops b (line n t i (Tags r)) = true
-stops b (line n t i (Title block.Feature k m)) = false
-stops b (line n t i (Title block.Rule k m)) = true
-stops b (line n t i (Title block.Scenario k m)) = true
-stops block.Feature (line n t i (Title block.Background k m)) = true
-stops block.Rule (line n t i (Title block.Background k m)) = true
-stops block.Scenario (line n t i (Title block.Examples k m)) = true
-stops block.Examples (line n t i (Title block.Examples k m)) = true
-stops block.Background (line n t i (Step k y m)) = true
-stops block.Scenario (line n t i (Step k y m)) = true
-stops block.Examples (line n t i (Row cs)) = true
+stops b (line _ _ _ (Tags _)) = true
+stops b (line _ _ _ (Title block.Feature _ _)) = false
+stops b (line _ _ _ (Title block.Rule _ _)) = true
+stops b (line _ _ _ (Title block.Scenario _ _)) = true
+stops block.Feature (line _ _ _ (Title block.Background _ _)) = true
+stops block.Rule (line _ _ _ (Title block.Background _ _)) = true
+stops block.Scenario (line _ _ _ (Title block.Examples _ _)) = true
+stops block.Examples (line _ _ _ (Title block.Examples _ _)) = true
+stops block.Background (line _ _ _ (Step _ _ _)) = true
+stops block.Scenario (line _ _ _ (Step _ _ _)) = true
+stops block.Examples (line _ _ _ (Row _)) = true
 stops _ _ = false
 
 -- blank lines at the front dropped
@@ -124,8 +126,8 @@ description_of ls =
 
 -- the title line of a block
 abbrev pub IsTitle : Block → Location → (keyword name : Utf8) → Line → Type 0
-IsTitle b place keyword name (line n t i (Title c k m)) =
-    (c ≡ b) × (place ≡ at n (i + 1)) × (keyword ≡ k) × (name ≡ m)
+IsTitle b place keyword name (line number _ indent (Title other its_keyword its_name)) =
+    (other ≡ b) × (place ≡ at number (indent + 1)) × (keyword ≡ its_keyword) × (name ≡ its_name)
 IsTitle b place keyword name _ = ⊥
 
 -- a title line and the description after it
@@ -139,7 +141,8 @@ Titled b place keyword name description (l ∷ ls) cs =
 
 -- a row of a table (`gherkin.berp`: TableRow)
 abbrev pub IsRow : tree.Row → Line → Type 0
-IsRow r (line n t i (Row cells)) = (r.location ≡ at n (i + 1)) × (r.cells ≡ cells)
+IsRow r (line number _ indent (Row cells)) =
+    (r.location ≡ at number (indent + 1)) × (r.cells ≡ cells)
 IsRow r _ = ⊥
 
 -- all with the cell count of the first
@@ -154,8 +157,8 @@ IsTable (r ∷ rs) ls cs = HaveEqualCounts (r ∷ rs) × Each (λ x. OneLine (Is
 
 -- a line that begins with the fence
 abbrev pub is_fence : Fence → Line → Bool
-is_fence fence.Quotes (line n t i (Fenced fence.Quotes m)) = true
-is_fence fence.Backticks (line n t i (Fenced fence.Backticks m)) = true
+is_fence fence.Quotes (line _ _ _ (Fenced fence.Quotes _)) = true
+is_fence fence.Backticks (line _ _ _ (Fenced fence.Backticks _)) = true
 is_fence _ _ = false
 
 -- what a line says inside a doc string whose opening line has this indent
@@ -177,9 +180,9 @@ pub record Closes (f : Fence) (n : ℕ) (content : Utf8)
 -- an opening line, and what closes it (`gherkin.berp`: DocString)
 abbrev pub IsDocString : DocString → Piece
 IsDocString d [] cs = ⊥
-IsDocString d (line n t i (Fenced f media) ∷ ls) cs =
-    (d.location ≡ at n (i + 1)) × (d.fence ≡ f) × (d.media ≡ unless_empty media)
-    × Closes f i d.content ls cs
+IsDocString d (line number _ indent (Fenced f media) ∷ ls) cs =
+    (d.location ≡ at number (indent + 1)) × (d.fence ≡ f) × (d.media ≡ unless_empty media)
+    × Closes f indent d.content ls cs
 IsDocString d _ cs = ⊥
 
 -- what may be below a step line
@@ -189,8 +192,9 @@ IsArgument (Quoted d) = IsDocString d
 
 -- the line of a step
 abbrev pub IsStepLine : tree.Step → Line → Type 0
-IsStepLine s (line n t i (Step k y m)) =
-    (s.location ≡ at n (i + 1)) × (s.keyword ≡ k) × (s.kind ≡ y) × (s.text ≡ m)
+IsStepLine s (line number _ indent (Step its_keyword type its_text)) =
+    (s.location ≡ at number (indent + 1)) × (s.keyword ≡ its_keyword) × (s.kind ≡ type)
+    × (s.text ≡ its_text)
 IsStepLine s _ = ⊥
 
 -- a step line, and a table or a doc string or neither (`gherkin.berp`: Step)
@@ -244,7 +248,7 @@ english = codes "en"
 
 -- a language line, whose word is `en`
 abbrev pub IsEnglish : Line → Type 0
-IsEnglish (line n t i (Language word)) = word ≡ english
+IsEnglish (line _ _ _ (Language word)) = word ≡ english
 IsEnglish _ = ⊥
 
 -- The lines before the first tag line or feature line. The first language line counts, and those after it are comments.

@@ -91,20 +91,21 @@ abbrev pub title_node_count : Block → ℕ
 title_node_count block.Feature = 0
 title_node_count _ = 1
 
--- the tags of these words in line n, numbered from this node on
+-- the tags of these words in the line of this number, numbered from this node on
 abbrev pub tags_from : ℕ → ℕ → List TagText → List Tag
-tags_from n node [] = []
-tags_from n node (w ∷ ws) =
-    record { node = node; location = at n w.column; name = codes "@" ++ w.word }
-    ∷ tags_from n (node + 1) ws
+tags_from number node [] = []
+tags_from number node (w ∷ ws) =
+    record { node = node; location = at number w.column; name = codes "@" ++ w.word }
+    ∷ tags_from number (node + 1) ws
 
 -- line n, whose indent is i, is not allowed here
 abbrev unexpected : ℕ → ℕ → Result State PlacedFault
-unexpected n i = Err (record { kind = kind.Unexpected; line = n; column = i + 1 })
+unexpected number indent =
+    Err (record { kind = kind.Unexpected; line = number; column = indent + 1 })
 
 -- a tag line with white space in the tag at this column
 abbrev spaced_tag : ℕ → ℕ → Result State PlacedFault
-spaced_tag n column = Err (record { kind = kind.TagSpace; line = n; column = column })
+spaced_tag number column = Err (record { kind = kind.TagSpace; line = number; column = column })
 
 -- a comment or a blank line
 abbrev pub pass_over : State → Phase → Line → State
@@ -119,30 +120,30 @@ empty_body block.Scenario = Steps []
 empty_body block.Examples = Rows []
 
 -- the block of a title line, without its description and what is below it
-abbrev pub new_block : ℕ → Block → List Tag → ℕ → ℕ → (k m : Utf8) → FlatBlock
-new_block node b tags n i k m = record {
+abbrev pub new_block : ℕ → Block → List Tag → ℕ → ℕ → (keyword name : Utf8) → FlatBlock
+new_block node b tags number indent keyword name = record {
   block = b;
   node = node;
-  place = at n (i + 1);
+  place = at number (indent + 1);
   tags = tags;
-  keyword = k;
-  name = m;
+  keyword = keyword;
+  name = name;
   description = [];
   body = empty_body b;
 }
 
 -- a title line
-abbrev pub open_block : State → Block → List Tag → ℕ → ℕ → (k m : Utf8) → State
-open_block s b tags n i k m = record s {
+abbrev pub open_block : State → Block → List Tag → ℕ → ℕ → (keyword name : Utf8) → State
+open_block s b tags number indent keyword name = record s {
   nodes = s.nodes + title_node_count b;
-  phase = InDescription (new_block s.nodes b tags n i k m) [];
+  phase = InDescription (new_block s.nodes b tags number indent keyword name) [];
 }
 
 -- a tag line
 abbrev pub add_tags : State → Option Block → List Tag → ℕ → List TagText → State
-add_tags s before tags n words = record s {
+add_tags s before tags number words = record s {
   nodes = s.nodes + length words;
-  phase = AfterTags before (tags ++ tags_from n s.nodes words);
+  phase = AfterTags before (tags ++ tags_from number s.nodes words);
 }
 
 -- a block that is whole
@@ -155,28 +156,29 @@ add_node s phase = record s { nodes = s.nodes + 1; phase = phase }
 
 -- a line after a whole block, which isn't part of it
 abbrev pub close_block : State → FlatBlock → Line → Result State PlacedFault
-close_block s c (line n t i (Tags (Ok words))) =
-    Ok (add_tags (add_block s c) (Some c.block) [] n words)
-close_block s c (line n t i (Tags (Err column))) = spaced_tag n column
-close_block s c (line n t i (Title b k m)) =
-    if follows (Some c.block) b then Ok (open_block (add_block s c) b [] n i k m)
-    else unexpected n i
-close_block s c (line n t i _) = unexpected n i
+close_block s c (line number characters indent (Tags (Ok words))) =
+    Ok (add_tags (add_block s c) (Some c.block) [] number words)
+close_block s c (line number characters indent (Tags (Err column))) = spaced_tag number column
+close_block s c (line number characters indent (Title b keyword name)) =
+    if follows (Some c.block) b then Ok (open_block (add_block s c) b [] number indent keyword name)
+    else unexpected number indent
+close_block s c (line number characters indent _) = unexpected number indent
 
 -- the step of a step line
-abbrev pub step_at : State → ℕ → ℕ → (k : Utf8) → KeywordType → (m : Utf8) → tree.Step
-step_at s n i k y m = record {
+abbrev pub step_at : State → ℕ → ℕ → (keyword : Utf8) → KeywordType → (text : Utf8) → tree.Step
+step_at s number indent keyword type text = record {
   node = s.nodes;
-  location = at n (i + 1);
-  keyword = k;
-  kind = y;
-  text = m;
+  location = at number (indent + 1);
+  keyword = keyword;
+  kind = type;
+  text = text;
   argument = None;
 }
 
 -- the row of a table line
 abbrev pub row_at : State → ℕ → ℕ → List Cell → tree.Row
-row_at s n i cells = record { node = s.nodes; location = at n (i + 1); cells = cells }
+row_at s number indent cells =
+    record { node = s.nodes; location = at number (indent + 1); cells = cells }
 
 -- the block with its description, and with what is below it
 abbrev pub with_description : FlatBlock → List Line → FlatBlock
@@ -184,10 +186,10 @@ with_description c ls = record c { description = description_of ls }
 
 -- the first line after a description
 abbrev pub after_description : State → FlatBlock → Line → Result State PlacedFault
-after_description s c (line n t i (Step k y m)) =
-    Ok (add_node s (AfterStep c [] (step_at s n i k y m)))
-after_description s c (line n t i (Row cells)) =
-    Ok (add_node s (InExamplesTable c (row_at s n i cells ∷ [])))
+after_description s c (line number characters indent (Step keyword type text)) =
+    Ok (add_node s (AfterStep c [] (step_at s number indent keyword type text)))
+after_description s c (line number characters indent (Row cells)) =
+    Ok (add_node s (InExamplesTable c (row_at s number indent cells ∷ [])))
 after_description s c l = close_block s c l
 
 abbrev pub with_steps : FlatBlock → List tree.Step → FlatBlock
@@ -204,10 +206,10 @@ count_of (r ∷ rs) = length r.cells
 -- a row after rows
 abbrev pub another_row : State → (List tree.Row → Phase) → List tree.Row
     → ℕ → ℕ → List Cell → Result State PlacedFault
-another_row s phase rows n i cells =
+another_row s phase rows number indent cells =
     if length cells == count_of rows
-    then Ok (add_node s (phase (rows ++ row_at s n i cells ∷ [])))
-    else Err (record { kind = kind.CellCount; line = n; column = i + 1 })
+    then Ok (add_node s (phase (rows ++ row_at s number indent cells ∷ [])))
+    else Err (record { kind = kind.CellCount; line = number; column = indent + 1 })
 
 abbrev pub with_table : tree.Step → List tree.Row → tree.Step
 with_table last rows = record last { argument = Some (Table rows) }
@@ -215,21 +217,22 @@ with_table last rows = record last { argument = Some (Table rows) }
 -- a row after a step
 abbrev pub step_row : State → FlatBlock → List tree.Step → tree.Step → Option Argument
     → ℕ → ℕ → List Cell → Result State PlacedFault
-step_row s c before last None n i cells =
-    Ok (add_node s (AfterStep c before (with_table last (row_at s n i cells ∷ []))))
-step_row s c before last (Some (Table rows)) n i cells =
-    another_row s (λ rs. AfterStep c before (with_table last rs)) rows n i cells
-step_row s c before last (Some (Quoted d)) n i cells = unexpected n i
+step_row s c before last None number indent cells =
+    Ok (add_node s (AfterStep c before (with_table last (row_at s number indent cells ∷ []))))
+step_row s c before last (Some (Table rows)) number indent cells =
+    another_row s (λ rs. AfterStep c before (with_table last rs)) rows number indent cells
+step_row s c before last (Some (Quoted d)) number indent cells = unexpected number indent
 
 abbrev pub open_doc_string : ℕ → ℕ → Fence → Utf8 → OpenDocString
-open_doc_string n i f media = record { place = at n (i + 1); fence = f; media = media; indent = i }
+open_doc_string number indent f media =
+    record { place = at number (indent + 1); fence = f; media = media; indent = indent }
 
 -- a fence after a step
 abbrev pub step_fence : State → FlatBlock → List tree.Step → tree.Step → Option Argument
     → ℕ → ℕ → Fence → Utf8 → Result State PlacedFault
-step_fence s c before last None n i f media =
-    Ok (record s { phase = InDocString c before last (open_doc_string n i f media) [] })
-step_fence s c before last (Some a) n i f media = unexpected n i
+step_fence s c before last None number indent f media =
+    Ok (record s { phase = InDocString c before last (open_doc_string number indent f media) [] })
+step_fence s c before last (Some a) number indent f media = unexpected number indent
 
 -- the doc string with these lines inside
 abbrev pub doc_string : OpenDocString → List Line → DocString
@@ -246,41 +249,45 @@ with_doc_string last q inside = record last { argument = Some (Quoted (doc_strin
 -- a line after steps
 abbrev pub after_step : State → FlatBlock → List tree.Step → tree.Step → Line
     → Result State PlacedFault
-after_step s c before last (line n t i (Step k y m)) =
-    Ok (add_node s (AfterStep c (before ++ last ∷ []) (step_at s n i k y m)))
-after_step s c before last (line n t i (Row cells)) =
-    step_row s c before last last.argument n i cells
-after_step s c before last (line n t i (Fenced f media)) =
-    step_fence s c before last last.argument n i f media
-after_step s c before last (line n t i Blank) =
-    Ok (pass_over s (AfterStep c before last) (line n t i Blank))
-after_step s c before last (line n t i Comment) =
-    Ok (pass_over s (AfterStep c before last) (line n t i Comment))
-after_step s c before last (line n t i (Language w)) =
-    Ok (pass_over s (AfterStep c before last) (line n t i (Language w)))
+after_step s c before last (line number characters indent (Step keyword type text)) =
+    Ok (add_node s (AfterStep c (before ++ last ∷ []) (step_at s number indent keyword type text)))
+after_step s c before last (line number characters indent (Row cells)) =
+    step_row s c before last last.argument number indent cells
+after_step s c before last (line number characters indent (Fenced f media)) =
+    step_fence s c before last last.argument number indent f media
+after_step s c before last (line number characters indent Blank) =
+    Ok (pass_over s (AfterStep c before last) (line number characters indent Blank))
+after_step s c before last (line number characters indent Comment) =
+    Ok (pass_over s (AfterStep c before last) (line number characters indent Comment))
+after_step s c before last (line number characters indent (Language w)) =
+    Ok (pass_over s (AfterStep c before last) (line number characters indent (Language w)))
 after_step s c before last l = close_block s (with_steps c (before ++ last ∷ [])) l
 
 -- a line after rows of an examples table
 abbrev pub in_examples_table : State → FlatBlock → List tree.Row → Line → Result State PlacedFault
-in_examples_table s c rows (line n t i (Row cells)) =
-    another_row s (λ rs. InExamplesTable c rs) rows n i cells
-in_examples_table s c rows (line n t i Blank) =
-    Ok (pass_over s (InExamplesTable c rows) (line n t i Blank))
-in_examples_table s c rows (line n t i Comment) =
-    Ok (pass_over s (InExamplesTable c rows) (line n t i Comment))
-in_examples_table s c rows (line n t i (Language w)) =
-    Ok (pass_over s (InExamplesTable c rows) (line n t i (Language w)))
+in_examples_table s c rows (line number characters indent (Row cells)) =
+    another_row s (λ rs. InExamplesTable c rs) rows number indent cells
+in_examples_table s c rows (line number characters indent Blank) =
+    Ok (pass_over s (InExamplesTable c rows) (line number characters indent Blank))
+in_examples_table s c rows (line number characters indent Comment) =
+    Ok (pass_over s (InExamplesTable c rows) (line number characters indent Comment))
+in_examples_table s c rows (line number characters indent (Language w)) =
+    Ok (pass_over s (InExamplesTable c rows) (line number characters indent (Language w)))
 in_examples_table s c rows l = close_block s (with_rows c rows) l
 
 -- before the first tag line or feature line
 abbrev pub before_first_block : State → Phase → Line → Result State PlacedFault
-before_first_block s p (line n t i Blank) = Ok (pass_over s p (line n t i Blank))
-before_first_block s p (line n t i Comment) = Ok (pass_over s p (line n t i Comment))
-before_first_block s p (line n t i (Tags (Ok words))) = Ok (add_tags s None [] n words)
-before_first_block s p (line n t i (Tags (Err column))) = spaced_tag n column
-before_first_block s p (line n t i (Title block.Feature k m)) =
-    Ok (open_block s block.Feature [] n i k m)
-before_first_block s p (line n t i _) = unexpected n i
+before_first_block s p (line number characters indent Blank) =
+    Ok (pass_over s p (line number characters indent Blank))
+before_first_block s p (line number characters indent Comment) =
+    Ok (pass_over s p (line number characters indent Comment))
+before_first_block s p (line number characters indent (Tags (Ok words))) =
+    Ok (add_tags s None [] number words)
+before_first_block s p (line number characters indent (Tags (Err column))) =
+    spaced_tag number column
+before_first_block s p (line number characters indent (Title block.Feature keyword name)) =
+    Ok (open_block s block.Feature [] number indent keyword name)
+before_first_block s p (line number characters indent _) = unexpected number indent
 
 abbrev pub same_text : Utf8 → Utf8 → Bool
 same_text [] [] = true
@@ -289,32 +296,35 @@ same_text _ _ = false
 
 -- where a language line still counts
 abbrev pub at_start : State → Line → Result State PlacedFault
-at_start s (line n t i (Language w)) =
+at_start s (line number characters indent (Language w)) =
     if same_text w english then Ok (record s { phase = AfterLanguage })
-    else Err (record { kind = kind.UnsupportedLanguage; line = n; column = i + 1 })
+    else Err (record { kind = kind.UnsupportedLanguage; line = number; column = indent + 1 })
 at_start s l = before_first_block s Start l
 
 -- after the language line
 abbrev pub after_language : State → Line → Result State PlacedFault
-after_language s (line n t i (Language w)) =
-    Ok (pass_over s AfterLanguage (line n t i (Language w)))
+after_language s (line number characters indent (Language w)) =
+    Ok (pass_over s AfterLanguage (line number characters indent (Language w)))
 after_language s l = before_first_block s AfterLanguage l
 
 -- a line after tag lines
 abbrev pub after_tags : State → Option Block → List Tag → Line → Result State PlacedFault
-after_tags s before tags (line n t i Blank) =
-    Ok (pass_over s (AfterTags before tags) (line n t i Blank))
-after_tags s before tags (line n t i Comment) =
-    Ok (pass_over s (AfterTags before tags) (line n t i Comment))
-after_tags s before tags (line n t i (Language w)) =
-    Ok (pass_over s (AfterTags before tags) (line n t i (Language w)))
-after_tags s before tags (line n t i (Tags (Ok words))) = Ok (add_tags s before tags n words)
-after_tags s before tags (line n t i (Tags (Err column))) = spaced_tag n column
-after_tags s before tags (line n t i (Title b k m)) =
+after_tags s before tags (line number characters indent Blank) =
+    Ok (pass_over s (AfterTags before tags) (line number characters indent Blank))
+after_tags s before tags (line number characters indent Comment) =
+    Ok (pass_over s (AfterTags before tags) (line number characters indent Comment))
+after_tags s before tags (line number characters indent (Language w)) =
+    Ok (pass_over s (AfterTags before tags) (line number characters indent (Language w)))
+after_tags s before tags (line number characters indent (Tags (Ok words))) =
+    Ok (add_tags s before tags number words)
+after_tags s before tags (line number characters indent (Tags (Err column))) =
+    spaced_tag number column
+after_tags s before tags (line number characters indent (Title b keyword name)) =
     if follows before b
-    then (if takes_tags b then Ok (open_block s b tags n i k m) else unexpected n i)
-    else unexpected n i
-after_tags s before tags (line n t i _) = unexpected n i
+    then (if takes_tags b then Ok (open_block s b tags number indent keyword name)
+    else unexpected number indent)
+    else unexpected number indent
+after_tags s before tags (line number characters indent _) = unexpected number indent
 
 -- one line
 abbrev pub at_phase : State → Phase → Line → Result State PlacedFault

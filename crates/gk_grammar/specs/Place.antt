@@ -22,11 +22,11 @@ pub data Completion : Type 0 where
 
 -- the line `Feature:`, `Scenario:`, three quotes or three backticks, at this number
 abbrev pub completion_lines : Completion → ℕ → List Line
-completion_lines ByNothing n = []
-completion_lines ByFeature n = line_of (n, codes "Feature:") ∷ []
-completion_lines ByScenario n = line_of (n, codes "Scenario:") ∷ []
-completion_lines ByQuotes n = line_of (n, codes "\"\"\"") ∷ []
-completion_lines ByBackticks n = line_of (n, codes "```") ∷ []
+completion_lines ByNothing number = []
+completion_lines ByFeature number = line_of (number, codes "Feature:") ∷ []
+completion_lines ByScenario number = line_of (number, codes "Scenario:") ∷ []
+completion_lines ByQuotes number = line_of (number, codes "\"\"\"") ∷ []
+completion_lines ByBackticks number = line_of (number, codes "```") ∷ []
 
 -- the lines are the front of a text, as one of the five completions shows
 abbrev pub IsFront : List Line → Type 0
@@ -47,11 +47,11 @@ pub record IsOpenAtEnd (ls : List Line) (n : ℕ) : Type 0 where
 
 -- a row or what may be between rows
 abbrev pub is_row_or_gap : Line → Bool
-is_row_or_gap (line n t i (Row cells)) = true
+is_row_or_gap (line _ _ _ (Row _)) = true
 is_row_or_gap l = is_gap l
 
 abbrev pub HasOtherCount : List Cell → Line → Type 0
-HasOtherCount cells (line n t i (Row others)) = length others ≢ length cells
+HasOtherCount cells (line _ _ _ (Row others)) = length others ≢ length cells
 HasOtherCount cells _ = ⊥
 
 -- The lines end in a table, whose first row has another count: it is the first row after a line that is neither a row nor a
@@ -70,14 +70,16 @@ pub record DiffersFromTable (before : List Line) (cells : List Cell) : Type 0 wh
 
 -- the kind and the column of the fault at a line, by the line and those before it
 abbrev pub IsFaultAt : List Line → Line → FaultKind → ℕ → Type 0
-IsFaultAt before (line n t i (Tags (Err c))) k column = (k ≡ kind.TagSpace) × (column ≡ c)
-IsFaultAt before (line n t i (Language w)) k column =
-    (w ≢ english) × (k ≡ kind.UnsupportedLanguage) × (column ≡ i + 1)
-IsFaultAt before (line n t i (Row cells)) k column =
-    ((DiffersFromTable before cells × (k ≡ kind.CellCount))
-    ⊎ ((DiffersFromTable before cells → ⊥) × (k ≡ kind.Unexpected)))
-    × (column ≡ i + 1)
-IsFaultAt before (line n t i _) k column = (k ≡ kind.Unexpected) × (column ≡ i + 1)
+IsFaultAt before (line _ _ _ (Tags (Err c))) found column =
+    (found ≡ kind.TagSpace) × (column ≡ c)
+IsFaultAt before (line _ _ indent (Language word)) found column =
+    (word ≢ english) × (found ≡ kind.UnsupportedLanguage) × (column ≡ indent + 1)
+IsFaultAt before (line _ _ indent (Row cells)) found column =
+    ((DiffersFromTable before cells × (found ≡ kind.CellCount))
+    ⊎ ((DiffersFromTable before cells → ⊥) × (found ≡ kind.Unexpected)))
+    × (column ≡ indent + 1)
+IsFaultAt before (line _ _ indent _) found column =
+    (found ≡ kind.Unexpected) × (column ≡ indent + 1)
 
 -- a fault at one of the lines: the line is cut out of the list
 pub record IsFaultWithin (ls : List Line) (k : FaultKind) (n column : ℕ) : Type 0 where
