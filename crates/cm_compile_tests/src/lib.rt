@@ -7,4 +7,6 @@ mod compiled;
 #[cfg(test)]
 mod differences;
 #[cfg(test)]
+mod messages;
+#[cfg(test)]
 mod skeletons;
