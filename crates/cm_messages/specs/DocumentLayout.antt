@@ -16,7 +16,6 @@ use Rattle.gk_document.specs.declared.tree.Argument.{Argument}
 use Rattle.gk_document.specs.declared.tree.Argument.TheVariants as argument
 use Rattle.gk_document.specs.declared.tree.Step.{Step}
 use Rattle.gk_document.specs.declared.tree.Background.{Background}
-use Rattle.gk_document.specs.declared.tree.ExampleTable.{ExampleTable}
 use Rattle.gk_document.specs.declared.tree.Examples.{Examples}
 use Rattle.gk_document.specs.declared.tree.Scenario.{Scenario}
 use Rattle.gk_document.specs.declared.tree.Rule.{Rule}
