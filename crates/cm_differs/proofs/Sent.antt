@@ -1,5 +1,5 @@
 -- Objects with members that may be absent, from what is sent for their parts.
-use Rattle.std.proofs.Common.{◌≡◌, ℕ, ◌+◌, [], ◌∷◌, Option, Some, None, codes, subst, arith}
+use Rattle.std.proofs.Common.{◌≡◌, ℕ, ◌+◌, [], ◌∷◌, Option, Some, None, codes, subst}
 use Rattle.serde.specs.Event.{Log, Logs, map_begins, map_ends}
 use Rattle.serde_json.specs.Data.{Data, object}
 use Rattle.serde_json.specs.Events.{SendsValue}

@@ -1,4 +1,4 @@
-use Rattle.std.proofs.Common.{◌+◌, ◌∙◌, ap, sym, option_map}
+use Rattle.std.proofs.Common.{◌+◌, ◌∙◌, sym, option_map}
 use Rattle.serde_json.specs.Data.{string}
 use Rattle.cm_messages.specs.Layout.{list_data}
 use Rattle.cm_messages.proofs.Layouts.{present-option_map}
