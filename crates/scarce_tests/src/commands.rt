@@ -95,6 +95,16 @@ fn run_cases(alloc: Global) -> Came {
     came_of_words(alloc, &["cases"], INTERLEAVED, told, ExitStatus::Done)
 }
 
+fn run_gate(alloc: Global) -> Came {
+    let good = "good sources=1 pickles=1 cases=2 attempts=2\n";
+    came_of_words(alloc, &["gate"], INTERLEAVED, good, ExitStatus::Done)
+}
+
+fn run_parse(alloc: Global) -> Came {
+    let told = "ok nodes=2 comments=0\n";
+    came_of_words(alloc, &["parse"], PLAIN_TEXT, told, ExitStatus::Done)
+}
+
 fn run_differs(alloc: Global) -> Came {
     let words = ["differs"];
     came_of_words(alloc, &words, INCOMPLETE, DIFFERENCE, ExitStatus::Refused)
@@ -113,6 +123,16 @@ fn runs_of_audit(rt: HostRuntime) -> Result<(), Fail> {
 #[test]
 fn runs_of_compile(rt: HostRuntime) -> Result<(), Fail> {
     meet_alone(rt.alloc(), RUNS, run_compile)
+}
+
+#[test]
+fn runs_of_gate(rt: HostRuntime) -> Result<(), Fail> {
+    meet_alone(rt.alloc(), RUNS, run_gate)
+}
+
+#[test]
+fn runs_of_parse(rt: HostRuntime) -> Result<(), Fail> {
+    meet_alone(rt.alloc(), RUNS, run_parse)
 }
 
 #[test]

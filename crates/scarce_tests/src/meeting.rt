@@ -46,8 +46,8 @@ pub(crate) const PIECES: Rooms = Rooms {
 // For texts, which take a piece and room for twice as much, and for commands, whose words take small blocks before that.
 pub(crate) const RUNS: Rooms = Rooms {
     first: 0,
-    count: 1024,
-    step: 512,
+    count: 8192,
+    step: 64,
 };
 
 // Fails by the words where something doesn't hold.
