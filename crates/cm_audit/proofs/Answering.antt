@@ -1,5 +1,5 @@
 -- What the steps of an audit leave, and what it answers.
-use Rattle.std.proofs.Common.{◌≡◌, ℕ, ◌+◌, refl, sym, ap, ◌∙◌, subst, List, [], Option, Some, None, Result, Ok, Err, true, false, inl, inr, arith}
+use Rattle.std.proofs.Common.{◌≡◌, ℕ, ◌+◌, refl, sym, ap, ◌∙◌, subst, List, [], Some, None, Result, Ok, Err, true, false, inl, inr, arith}
 use Rattle.cm_envelope.specs.Lines.{is_blank}
 use Rattle.cm_envelope.specs.Reading.{LineFault, FailsAtLine, envelope_of_line}
 use Rattle.cm_envelope.specs.declared.fault.EnvelopeFault.{EnvelopeFault}
@@ -21,7 +21,7 @@ use Rattle.cm_state.specs.Laws.{answer_at_end}
 use Rattle.cm_audit.specs.Audit.{AnswersAs, ReadsNoFurther, ReadsUpTo, TakesLine, audited_at, unsuccessful}
 use Rattle.cm_audit.specs.Judging.{judged, HasJudged, HoldNoFault, JudgesAs, TellsLine}
 use Rattle.cm_audit.specs.Stops.{unread_line}
-use Rattle.cm_audit.specs.State.{AreFewer, IsListed, summary_of}
+use Rattle.cm_audit.specs.State.{AreFewer, summary_of}
 use Rattle.cm_audit.specs.declared.state.State.{State}
 use Rattle.cm_audit.specs.declared.stop.Stop.{Stop}
 use Rattle.cm_audit.specs.declared.stop.Stop.TheVariants as stop
@@ -34,11 +34,6 @@ pub few_at_first : (first : ℕ) (s : State) → summary_of s ≡ empty_summary 
 few_at_first first s e = subst (AreFewer 1) (ap (λ (u : Summary). u.counts) (sym e)) (record { sources = omega arith; pickles = omega arith; cases = omega arith; attempts = omega arith; unrun = omega arith })
 
 -- ---- a line that is taken
-
-pub still_listed : (settings : Settings) (old new : State) (r : Option (Result Envelope LineFault)) → TakesLine settings old new r (Ok tt) → IsListed new
-still_listed settings old new None k = k.1
-still_listed settings old new (Some (Err b)) k = absurd k
-still_listed settings old new (Some (Ok e)) k = k.2
 
 pub goes_on : (settings : Settings) (feed later : Stored) (old new : State) (n : ℕ) (line : List ℕ) (a b c : Input) → HasReadSo feed a b (λ xs ys. HasJudged settings xs ys feed n (summary_of old)) → feed.over ≡ None
     → Leaves feed later b c (Ok (Some line)) → GivesLine feed later line → TakesLine settings old new (envelope_unless_blank line) (Ok tt) → HasReadSo later a c (λ xs zs. HasJudged settings xs zs later (n + 1) (summary_of new))

@@ -64,6 +64,6 @@ fewer_after n s _ h = weaker n s.counts h
 
 -- a line that is taken
 pub still_fewer : (settings : Settings) (n : ℕ) (old new : State) (r : Option (Result Envelope LineFault)) → TakesLine settings old new r (Ok tt) → AreFewer n old.counts → AreFewer (n + 1) new.counts
-still_fewer settings n old new None k h = subst (AreFewer (n + 1)) (ap (λ (s : Summary). s.counts) (sym k.0)) (weaker n old.counts h)
+still_fewer settings n old new None k h = subst (AreFewer (n + 1)) (ap (λ (s : Summary). s.counts) (sym k)) (weaker n old.counts h)
 still_fewer settings n old new (Some (Err b)) k h = absurd k
 still_fewer settings n old new (Some (Ok e)) k h = subst (AreFewer (n + 1)) (ap (λ (s : Summary). s.counts) (sym k.1)) (fewer_after n (summary_of old) e h)

@@ -80,7 +80,7 @@ kept_next : (settings : Settings) (old new : State) (r : Option (Result Envelope
     → summary_of old ≡ summary_of_lines settings.first_attempt es → IsFaultless settings (es ++ envelope_in r) × (summary_of new ≡ summary_of_lines settings.first_attempt (es ++ envelope_in r))
 kept_next settings old new None es k none h =
     let same : es ≡ es ++ [] = sym (append-nil es) in
-    (subst (IsFaultless settings) same none, k.0 ∙ h ∙ ap (summary_of_lines settings.first_attempt) same)
+    (subst (IsFaultless settings) same none, k ∙ h ∙ ap (summary_of_lines settings.first_attempt) same)
 kept_next settings old new (Some (Err b)) es k none h = absurd k
 kept_next settings old new (Some (Ok e)) es k none h =
     let found : fault settings es e ≡ None = sym (findings_are_faults settings es e none) ∙ ap (λ (s : Summary). finding settings s e) (sym h) ∙ k.0 in

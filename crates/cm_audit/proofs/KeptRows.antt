@@ -1,13 +1,15 @@
 -- The rows of the sources that are kept.
 use Rattle.std.proofs.Common.{◌≡◌, ◌∙◌, refl, sym, ap, subst, Bool, true, false, List, [], ◌∷◌, map, Option, Some, None, Bor}
 use Rattle.std.specs.Prelude.{find, is_some, option_map}
+use Rattle.std.specs.Map.{lookup}
 use Rattle.std.specs.Str.{bytes_eq}
 use Rattle.cm_attempt.specs.Table.{change_first, has_text}
 use Rattle.cm_stream.specs.Texts.{Utf8}
 use Rattle.cm_state.specs.Summary.{SourceRow}
 use Rattle.cm_envelope.specs.declared.pickle.Pickle.{Pickle}
 use Rattle.cm_state.specs.StateChecks.{is_next_of}
-use Rattle.cm_audit.specs.Kept.{kept_row}
+use Rattle.cm_refs.proofs.EntryLemmas.{Key, found_entry, is_key}
+use Rattle.cm_audit.specs.Kept.{kept_row, kept_rows}
 use Rattle.cm_audit.specs.declared.source.KeptSource.{KeptSource}
 use Rattle.cm_audit.specs.declared.source.KeptSource.TheVariants as kept
 
@@ -56,9 +58,19 @@ good_bare uri kept.Refused h = h
 good_bare uri (kept.Accepted a) h = h
 
 -- whether a row is found, by the list of the uris
-pub listed_is : (uri : Utf8) (rows : List SourceRow) (names : List Utf8) (o : Option SourceRow) → map (λ r. r.uri) rows ≡ names
-    → o ≡ find (λ r. bytes_eq uri r.uri) rows → has_text uri names ≡ is_some o
-listed_is uri rows names o listed e = sym (ap (has_text uri) listed) ∙ sym (row_listed uri rows) ∙ sym (ap is_some e)
+pub listed_is : (uri : Utf8) (rows : List SourceRow) (o : Option SourceRow) → o ≡ find (λ r. bytes_eq uri r.uri) rows → has_text uri (map (λ r. r.uri) rows) ≡ is_some o
+listed_is uri rows o e = sym (row_listed uri rows) ∙ sym (ap is_some e)
+
+-- whether a key is there, by the list of the uris
+pub key_listed : (t uri : Utf8) (es : List (Key × KeptSource)) (b : Bool) → t ≡ uri → b ≡ is_some (lookup (is_key t) es) → has_text uri (map (λ r. r.uri) (kept_rows es)) ≡ b
+key_listed t uri es b same e =
+    let row : option_map (kept_row t) (lookup (is_key t) es) ≡ find (λ r. bytes_eq t r.uri) (kept_rows es) = found_entry kept_row t (λ r. bytes_eq t r.uri) (row_says t) es in
+    subst (λ u. has_text u (map (λ r. r.uri) (kept_rows es)) ≡ b) same
+    (listed_is t (kept_rows es) (option_map (kept_row t) (lookup (is_key t) es)) row ∙ still (lookup (is_key t) es) ∙ sym e)
+  where
+    still : (o : Option KeptSource) → is_some (option_map (kept_row t) o) ≡ is_some o
+    still None = refl
+    still (Some k) = refl
 
 -- what was found by an equal text
 pub found_by : (t uri : Utf8) (o : Option (Bor KeptSource)) (rows : List SourceRow) → t ≡ uri

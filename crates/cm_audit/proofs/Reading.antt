@@ -81,7 +81,7 @@ nothing_lines settings bytes = refl
 
 taken : (settings : Settings) (old new : State) (n : ℕ) (r : Option (Result Envelope LineFault)) (more : Summary → Answer) → TakesLine settings old new r (Ok tt)
     → answer_of_line settings (summary_of old) n r more ≡ more (summary_of new)
-taken settings old new n None more k = ap more (sym k.0)
+taken settings old new n None more k = ap more (sym k)
 taken settings old new n (Some (Err b)) more k = absurd k
 taken settings old new n (Some (Ok e)) more k = rw k.0 (ap more (sym k.1))
 

@@ -16,7 +16,7 @@ use Rattle.cm_stream.specs.declared.verdict.Counts.{Counts}
 use Rattle.cm_stream.specs.declared.verdict.Audited.{Audited}
 use Rattle.cm_stream.specs.declared.verdict.Verdict.{Verdict}
 use Rattle.cm_stream.specs.declared.verdict.Verdict.TheVariants as verdict
-use Rattle.cm_audit.specs.State.{Takes, IsListed, Refuses, summary_of}
+use Rattle.cm_audit.specs.State.{Takes, Refuses, summary_of}
 use Rattle.cm_audit.specs.declared.state.State.{State}
 use Rattle.cm_audit.specs.declared.stop.Stop.{Stop}
 use Rattle.cm_audit.specs.declared.stop.Stop.TheVariants as stop
@@ -157,7 +157,7 @@ IsVerdictOf settings v before after =
 -- what a line that is read so leaves
 abbrev pub TakesLine : Settings → (old new : State) → Option (Result Envelope LineFault)
     → Result ⊤ Stop → Type 0
-TakesLine settings old new None (Ok done) = (summary_of new ≡ summary_of old) × IsListed new
+TakesLine settings old new None (Ok done) = summary_of new ≡ summary_of old
 TakesLine settings old new None (Err why) = ⊥
 TakesLine settings old new (Some (Ok e)) answer = Takes settings old new e answer
 TakesLine settings old new (Some (Err b)) (Ok done) = ⊥

@@ -1,9 +1,10 @@
 -- What an audit keeps, as a summary of the lines so far.
-use Rattle.std.specs.Prelude.{◌≡◌, ◌<◌, ℕ, ⊤, map, Option, Result, Ok, Err, None, Some}
+use Rattle.std.specs.Prelude.{◌≡◌, ◌<◌, ℕ, ⊤, List, map, Option, Result, Ok, Err, None, Some}
 use Rattle.std.specs.String.{string_bytes}
 use Rattle.cm_envelope.specs.declared.envelope.Envelope.{Envelope}
 use Rattle.cm_stream.specs.declared.verdict.Counts.{Counts}
-use Rattle.cm_state.specs.Summary.{Summary}
+use Rattle.cm_refs.specs.Declarations.{Declarations}
+use Rattle.cm_state.specs.Summary.{SourceRow, Summary}
 use Rattle.cm_attempt.specs.declared.policy.Policy.{Policy}
 use Rattle.cm_attempt.specs.declared.settings.Settings.{Settings}
 use Rattle.cm_state.specs.ByOnePass.{summary_after_line, finding, finding_inside, plain_finding}
@@ -14,9 +15,13 @@ use Rattle.cm_audit.specs.declared.state.State.{State}
 use Rattle.cm_audit.specs.declared.stop.Stop.{Stop}
 use Rattle.cm_audit.specs.declared.stop.Stop.TheVariants as stop
 
+-- the declarations, with the uris of these rows for their sources
+abbrev pub with_uris : List SourceRow → Declarations → Declarations
+with_uris rows d = record d { sources = map (λ r. r.uri) rows }
+
 abbrev pub summary_of : State → Summary
 summary_of s = record {
-  declared = s.declared;
+  declared = with_uris (kept_rows s.sources.entries) s.declared;
   table = s.track;
   sources = kept_rows s.sources.entries;
   named = map string_bytes s.named.keys;
@@ -26,10 +31,6 @@ summary_of s = record {
   hooks_worst = s.hooks_worst;
   counts = s.counts;
 }
-
--- the sources that are kept are those that are declared
-abbrev pub IsListed : State → Type 0
-IsListed s = map (λ r. r.uri) (kept_rows s.sources.entries) ≡ s.declared.sources
 
 -- fewer than this number of each
 pub record AreFewer (n : ℕ) (c : Counts) : Type 0 where
@@ -53,7 +54,7 @@ Checks s e (Err why) = StopsFor (plain_finding (summary_of s) e) why
 -- a line without a finding is taken, and any other is refused for its finding, unless memory was refused
 abbrev pub TakesUnless : Option Finding → (old new : State) → Envelope → Result ⊤ Stop → Type 0
 TakesUnless found old new e (Ok done) =
-    (found ≡ None) × (summary_of new ≡ summary_after_line (summary_of old) e) × IsListed new
+    (found ≡ None) × (summary_of new ≡ summary_after_line (summary_of old) e)
 TakesUnless found old new e (Err why) = Refuses found old new why
 
 -- by the checks that are made whatever statuses are good

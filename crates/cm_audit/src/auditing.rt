@@ -11,7 +11,7 @@ ghost use Rattle.cm_audit.specs.Audit.{audited_at, unsuccessful};
 ghost use Rattle.cm_envelope.specs.Feeds.{is_failed_read};
 ghost use Rattle.cm_audit.specs.Judging.{JudgesWith, TellsLine};
 ghost use Rattle.cm_audit.specs.Watched.{IsWatchedAuditOf, audit_in, envelope_in, with_watch};
-ghost use Rattle.cm_audit.specs.State.{AreFewer, IsListed, Takes, summary_of};
+ghost use Rattle.cm_audit.specs.State.{AreFewer, Takes, summary_of};
 ghost use Rattle.cm_state.specs.Summary.{empty_summary};
 
 use crate::judge::judge;
@@ -32,7 +32,6 @@ fn take_envelope<W: Watch>(
     envelope: Envelope,
     settings: Settings,
 ) -> Result<(), Stop>
-    requires listed { IsListed state.old }
     requires few { AreFewer MOST state.old.counts }
     ensures taken { Takes settings state.old state.new envelope result }
     ensures followed { OnOk result ((es : List SomeEnvelope) → W.follows watch.old es
@@ -57,7 +56,6 @@ fn take_line<W: Watch>(
     line: &[u8],
     settings: Settings,
 ) -> Result<(), Stop>
-    requires listed { IsListed state.old }
     requires few { AreFewer MOST state.old.counts }
     ensures taken { TakesLine settings state.old state.new (envelope_unless_blank line.now) result }
     ensures followed { OnOk result ((es : List SomeEnvelope) → W.follows watch.old es
@@ -104,7 +102,6 @@ fn judge_lines<R: ByteSource, W: Watch>(
     settings: Settings,
 ) -> Result<Audited, Trouble>
     requires nothing { summary_of state.old ≡ empty_summary settings.first_attempt }
-    requires listed { IsListed state.old }
     requires starts { W.follows watch.old [] }
     ensures judged { OfReads (R.input source.old) (R.input source.new)
         (JudgesWith settings (W.follows watch.new) (W.tells watch.new) (summary_of state.new).table

@@ -1,7 +1,7 @@
 //! One line of a stream.
 ghost use Rattle.std.specs.Prelude.{◌≡◌};
 ghost use Rattle.cm_stream.specs.References.{is_judged};
-ghost use Rattle.cm_audit.specs.State.{AreFewer, IsListed, JudgesBy, Takes};
+ghost use Rattle.cm_audit.specs.State.{AreFewer, JudgesBy, Takes};
 
 use crate::judge_cases::judge_case;
 use crate::judge_features::{
@@ -21,7 +21,6 @@ use cm_stream::StreamFault;
 
 /// Judges an envelope of which no check comes after the end of the run, and takes it where it has no fault.
 fn judge_inside(state: &mut State, envelope: Envelope, policy: Policy) -> Result<(), Stop>
-    requires listed { IsListed state.old }
     requires few { AreFewer MOST state.old.counts }
     ensures { JudgesBy policy state.old state.new envelope result }
 {
@@ -55,7 +54,6 @@ fn is_judged(envelope: &Envelope) -> bool
 
 /// Judges an envelope after the lines so far, and takes it where it has no fault.
 pub(crate) fn judge(state: &mut State, envelope: Envelope, settings: Settings) -> Result<(), Stop>
-    requires listed { IsListed state.old }
     requires few { AreFewer MOST state.old.counts }
     ensures { Takes settings state.old state.new envelope result }
 {

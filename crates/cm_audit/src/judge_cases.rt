@@ -12,7 +12,7 @@ ghost use Rattle.cm_stream.specs.Texts.{same_texts};
 ghost use Rattle.cm_stream.specs.References.{pickle_step_ids};
 ghost use Rattle.cm_state.specs.Summary.{counts_with_case, with_name};
 ghost use Rattle.cm_state.specs.StateChecks.{is_among, knows_case, knows_step};
-ghost use Rattle.cm_audit.specs.State.{AreFewer, IsListed, Judges, summary_of};
+ghost use Rattle.cm_audit.specs.State.{AreFewer, Judges, summary_of};
 
 use crate::limits::MOST;
 use crate::record::add_case;
@@ -148,7 +148,6 @@ fn count_case(counts: &mut Counts, is_first: bool)
 
 /// A test case names what is declared, and has the steps of its pickle in order.
 pub(crate) fn judge_case(state: &mut State, case: TestCase) -> Result<(), Stop>
-    requires listed { IsListed state.old }
     requires few { AreFewer MOST state.old.counts }
     ensures { Judges state.old state.new (Envelope.TestCase case) result }
 {

@@ -6,7 +6,7 @@ ghost use Rattle.cm_state.specs.StateChecks.{is_next_by};
 ghost use Rattle.cm_state.specs.ByOnePass.{plain_finding};
 ghost use Rattle.cm_state.specs.Summary.{change_source, one_more, with_ids};
 ghost use Rattle.cm_audit.specs.Kept.{IsAcceptedAt, kept_rows};
-ghost use Rattle.cm_audit.specs.State.{AreFewer, Checks, IsListed, Judges, summary_of};
+ghost use Rattle.cm_audit.specs.State.{AreFewer, Checks, Judges, summary_of};
 ghost use Rattle.cm_audit.specs.Stops.{StopsFor};
 
 use crate::ids::step_ids;
@@ -25,7 +25,6 @@ const PLAIN: &str = "text/x.cucumber.gherkin+plain";
 
 /// A source has a uri of its own and holds plain Gherkin, and what its text is read as is kept.
 pub(crate) fn judge_source(state: &mut State, source: Source) -> Result<(), Stop>
-    requires listed { IsListed state.old }
     requires few { AreFewer MOST state.old.counts }
     ensures { Judges state.old state.new (envelope.Source source) result }
 {
@@ -34,18 +33,13 @@ pub(crate) fn judge_source(state: &mut State, source: Source) -> Result<(), Stop
         content,
         media_type,
     } = source;
-    if state.declared.has_source(uri.as_str()) {
+    if state.sources.contains_key(uri.as_str()) {
         return Err(Stop::Bad(StreamFault::DuplicateUri));
     }
     if media_type.as_str() != PLAIN {
         return Err(Stop::Unsupported(Reason::MediaType));
     }
-    state.sources.reserve(1)?;
     let kept = read_source(state.alloc, content.as_str())?;
-    if let Err(fault) = state.declared.declare_source(uri.as_str()) {
-        drop(kept);
-        return Err(Stop::from(fault));
-    }
     drop(state.sources.insert(uri.into_string(), kept)?);
     state.counts.sources += 1;
     Ok(())
@@ -90,7 +84,6 @@ fn count_pickle(sources: &mut Sources, uri: &str)
 
 /// Whether the stream's document is the one of its source.
 fn check_document(state: &State, document: &GherkinDocument) -> Result<(), Stop>
-    requires listed { IsListed state.now }
     ensures found { Checks state.now (envelope.GherkinDocument document.now) result }
     ensures first { OnOk result (has_text document.now.uri state.now.declared.documents ≡ false) }
     ensures accepted { OnOk result (IsAcceptedAt document.now.uri
@@ -119,7 +112,6 @@ fn check_document(state: &State, document: &GherkinDocument) -> Result<(), Stop>
 
 /// A document is the first of an accepted source, has its skeleton, and its ids are all different.
 pub(crate) fn judge_document(state: &mut State, document: GherkinDocument) -> Result<(), Stop>
-    requires listed { IsListed state.old }
     ensures { Judges state.old state.new (envelope.GherkinDocument document) result }
 {
     let checked = check_document(state, &document);
@@ -134,7 +126,6 @@ pub(crate) fn judge_document(state: &mut State, document: GherkinDocument) -> Re
 
 /// A parse error is reported of a source that is refused.
 pub(crate) fn judge_parse_error(state: &State, error: &ParseError) -> Result<(), Stop>
-    requires listed { IsListed state.now }
     ensures { Judges state.now state.now (envelope.ParseError error.now) result }
 {
     match find_source(&state.sources, error.source.uri.as_str()) {
@@ -146,11 +137,10 @@ pub(crate) fn judge_parse_error(state: &State, error: &ParseError) -> Result<(),
 
 /// Whether the pickle is the next one of its source. Its ids aren't looked at.
 fn check_pickle(state: &State, pickle: &Pickle) -> Result<(), Stop>
-    requires listed { IsListed state.now }
     ensures err { IfErr result (λ why. StopsFor
         (plain_finding (summary_of state.now) (envelope.Pickle pickle.now)) why) }
-    ensures known { OnOk result ((has_text pickle.now.uri state.now.declared.sources
-        && has_text pickle.now.uri state.now.declared.documents) ≡ true) }
+    ensures known { OnOk result ((has_text pickle.now.uri (summary_of state.now).declared.sources
+        && has_text pickle.now.uri (summary_of state.now).declared.documents) ≡ true) }
     ensures next { OnOk result (is_next_by (summary_of state.now) pickle.now ≡ true) }
 {
     let uri = pickle.uri.as_str();
@@ -169,7 +159,6 @@ fn check_pickle(state: &State, pickle: &Pickle) -> Result<(), Stop>
 
 /// A pickle is the next one of its source, after the document, and its ids are new.
 pub(crate) fn judge_pickle(state: &mut State, pickle: Pickle) -> Result<(), Stop>
-    requires listed { IsListed state.old }
     requires few { AreFewer MOST state.old.counts }
     ensures { Judges state.old state.new (envelope.Pickle pickle) result }
 {
@@ -185,7 +174,6 @@ pub(crate) fn judge_pickle(state: &mut State, pickle: Pickle) -> Result<(), Stop
 
 /// The id of a step definition is new.
 pub(crate) fn judge_definition(state: &mut State, definition: &StepDefinition) -> Result<(), Stop>
-    requires listed { IsListed state.old }
     ensures { Judges state.old state.new (envelope.StepDefinition definition.now) result }
 {
     state.declared.declare_definition(definition.id.as_str())?;
@@ -194,7 +182,6 @@ pub(crate) fn judge_definition(state: &mut State, definition: &StepDefinition) -
 
 /// The id of a hook is new.
 pub(crate) fn judge_hook(state: &mut State, hook: &Hook) -> Result<(), Stop>
-    requires listed { IsListed state.old }
     ensures { Judges state.old state.new (envelope.Hook hook.now) result }
 {
     state.declared.declare_hook(hook.id.as_str())?;

@@ -7,7 +7,7 @@ ghost use Rattle.cm_attempt.specs.Table.{is_good_status};
 ghost use Rattle.cm_stream.specs.Checks.{same_flag};
 ghost use Rattle.cm_state.specs.StateChecks.{is_well, knows_place, knows_run_hook, lacks_by};
 ghost use Rattle.cm_audit.specs.Kept.{kept_row};
-ghost use Rattle.cm_audit.specs.State.{AreFewer, IsListed, Judges, JudgesBy, summary_of};
+ghost use Rattle.cm_audit.specs.State.{AreFewer, Judges, JudgesBy, summary_of};
 
 use crate::limits::MOST;
 use crate::record::{finish_attempt, finish_step, kept_status, start_attempt, start_step};
@@ -23,7 +23,6 @@ use cm_stream::{Reason, StreamFault};
 
 /// A run starts once.
 pub(crate) fn judge_run_started(state: &mut State, run: TestRunStarted) -> Result<(), Stop>
-    requires listed { IsListed state.old }
     ensures { Judges state.old state.new (Envelope.TestRunStarted run) result }
 {
     if state.run.is_some() {
@@ -46,7 +45,6 @@ pub(crate) fn judge_run_hook_started(
     state: &mut State,
     started: &TestRunHookStarted,
 ) -> Result<(), Stop>
-    requires listed { IsListed state.old }
     ensures { Judges state.old state.new (Envelope.TestRunHookStarted started.now) result }
 {
     if state.run.is_none() {
@@ -64,7 +62,6 @@ pub(crate) fn judge_run_hook_finished(
     state: &mut State,
     finished: &TestRunHookFinished,
 ) -> Result<(), Stop>
-    requires listed { IsListed state.old }
     ensures { Judges state.old state.new (Envelope.TestRunHookFinished finished.now) result }
 {
     let status = kept_status(finished.result.status);
@@ -83,7 +80,6 @@ pub(crate) fn judge_attempt_started(
     state: &mut State,
     started: &TestCaseStarted,
 ) -> Result<(), Stop>
-    requires listed { IsListed state.old }
     requires few { AreFewer MOST state.old.counts }
     ensures { Judges state.old state.new (Envelope.TestCaseStarted started.now) result }
 {
@@ -97,7 +93,6 @@ pub(crate) fn judge_attempt_started(
 
 /// A step starts as the record of attempts lets it.
 pub(crate) fn judge_step_started(state: &mut State, started: &TestStepStarted) -> Result<(), Stop>
-    requires listed { IsListed state.old }
     ensures { Judges state.old state.new (Envelope.TestStepStarted started.now) result }
 {
     start_step(&mut state.track, started)?;
@@ -109,7 +104,6 @@ pub(crate) fn judge_step_finished(
     state: &mut State,
     finished: &TestStepFinished,
 ) -> Result<(), Stop>
-    requires listed { IsListed state.old }
     ensures { Judges state.old state.new (Envelope.TestStepFinished finished.now) result }
 {
     finish_step(&mut state.track, finished)?;
@@ -124,7 +118,6 @@ pub(crate) fn judge_attempt_finished(
     state: &mut State,
     finished: &TestCaseFinished,
 ) -> Result<(), Stop>
-    requires listed { IsListed state.old }
     ensures { Judges state.old state.new (Envelope.TestCaseFinished finished.now) result }
 {
     finish_attempt(&mut state.track, finished)?;
@@ -146,7 +139,6 @@ fn knows_place(state: &State, attachment: &Attachment) -> bool
 
 /// An attachment names a place that is known.
 pub(crate) fn judge_attachment(state: &State, attachment: &Attachment) -> Result<(), Stop>
-    requires listed { IsListed state.now }
     ensures { Judges state.now state.now (Envelope.Attachment attachment.now) result }
 {
     if knows_place(state, attachment) {
@@ -209,7 +201,6 @@ pub(crate) fn judge_run_finished(
     finished: &TestRunFinished,
     policy: Policy,
 ) -> Result<(), Stop>
-    requires listed { IsListed state.old }
     ensures { JudgesBy policy state.old state.new (Envelope.TestRunFinished finished.now) result }
 {
     if state.run.is_none() {

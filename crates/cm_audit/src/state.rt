@@ -5,7 +5,7 @@ ghost use Rattle.std.specs.String.{string_bytes};
 ghost use Rattle.cm_state.specs.StateChecks.{find_source, knows_run};
 ghost use Rattle.cm_state.specs.Summary.{empty_summary};
 ghost use Rattle.cm_audit.specs.Kept.{kept_row, kept_rows};
-ghost use Rattle.cm_audit.specs.State.{IsListed, summary_of};
+ghost use Rattle.cm_audit.specs.State.{summary_of, with_uris};
 
 use crate::source::KeptSource;
 use cm_attempt::{Status, Track};
@@ -22,7 +22,7 @@ pub type Sources = IndexMap<String, KeptSource>;
 /// The ids of pickles that test cases name, each once.
 pub type Names = IndexSet<String>;
 
-/// What an audit keeps: what was declared, the record of attempts, each source by its uri, the pickles that cases name,
+/// What an audit keeps: each source by its uri, what else was declared, the record of attempts, the pickles that cases name,
 /// what the run's envelopes said, its success among it, and the worst status of its hooks.
 #[derive(Drop)]
 pub struct State {
@@ -41,8 +41,7 @@ pub struct State {
 impl State {
     /// Nothing was seen yet, and the attempts of a case will be numbered from `first`. It takes no memory.
     pub(crate) fn new(alloc: Global, first: u64) -> State
-        ensures seen { summary_of result ≡ empty_summary first }
-        ensures listed { IsListed result }
+        ensures { summary_of result ≡ empty_summary first }
     {
         State {
             declared: Declared::new(alloc),
@@ -64,9 +63,10 @@ impl State {
         }
     }
 
-    /// What was declared.
+    /// What was declared, but for the sources: `sources` has these.
     pub fn declared(&self) -> &Declared
-        ensures { result.now ≡ (summary_of self.now).declared }
+        ensures { with_uris (summary_of self.now).sources result.now
+            ≡ (summary_of self.now).declared }
     {
         &self.declared
     }

@@ -2,7 +2,7 @@ use Rattle.std.proofs.Common.{rules, ◌+◌, ◌∙◌, refl, Ok, Err, Some, No
 use Rattle.cm_envelope.specs.Feeds.{Leaves, GivesLine}
 use Rattle.cm_stream.specs.Stream.{envelope_unless_blank}
 use Rattle.cm_audit.specs.State.{summary_of}
-use Rattle.cm_audit.proofs.Answering.{few_at_first, still_listed}
+use Rattle.cm_audit.proofs.Answering.{few_at_first}
 use Rattle.cm_audit.proofs.Counted.{still_fewer}
 use Rattle.cm_audit.proofs.Following.{ends_early_with, ends_well_with, follows_first, follows_next, stops_with, troubled_with}
 use Rattle.cm_audit.proofs.Verdicts.{none_at_end}
@@ -15,7 +15,6 @@ lines-init g c = record {
   stream_limit = rw c.new-feed.ensures refl;
   counted = omega arith;
   few = rw c.new-feed.ensures (omega arith);
-  listed = c.requires.listed;
   fewer = few_at_first c.args.settings.first_attempt c.args.state.now c.requires.nothing;
   ends = rw c.new-feed.ensures (λ ended. cc);
   judged = follows_first c.args.settings (g.W.Watch.follows c.args.watch.now) c.requires.starts c.new-feed.result c.new-feed.ensures (summary_of c.args.state.now) c.requires.nothing (g.R.ByteSource.input c.args.source.now);
@@ -35,7 +34,6 @@ lines-preserved g c =
       stream_limit = leaves.stream_limit ∙ c.lines.invariant.stream_limit;
       counted = omega (arith, c.lines.invariant.counted, given.some);
       few = omega (arith, given.fits, c.lines.invariant.stream_limit);
-      listed = still_listed c.args.settings c.lines.state c.take_line.new.state (envelope_unless_blank line) taken;
       fewer = still_fewer c.args.settings (c.lines.number + 1) c.lines.state c.take_line.new.state (envelope_unless_blank line) taken c.lines.invariant.fewer;
       ends = leaves.source c.lines.invariant.ends;
       judged = follows_next c.args.settings (g.W.Watch.follows c.lines.watch) (g.W.Watch.follows c.take_line.new.watch) c.lines.feed later c.lines.state c.take_line.new.state c.lines.number line _ _ _ c.lines.invariant.judged c.lines.invariant.open_still leaves given taken c.in-Ok.ensures.followed;

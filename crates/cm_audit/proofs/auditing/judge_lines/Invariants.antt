@@ -2,7 +2,7 @@ use Rattle.std.proofs.Common.{◌≡◌, ◌≤◌, ◌+◌, ◌-◌, None}
 use Rattle.cm_envelope.specs.Feeds.{EndsWithSource}
 use Rattle.cm_envelope.proofs.Sources.{HasReadSo}
 use Rattle.cm_audit.specs.Judging.{HasFollowed}
-use Rattle.cm_audit.specs.State.{AreFewer, IsListed, summary_of}
+use Rattle.cm_audit.specs.State.{AreFewer, summary_of}
 use Rattle.cm_audit.proofs.auditing.judge_lines.Given as goal
 
 abbrev pub invariant-lines : goal.invariant-lines
@@ -12,7 +12,6 @@ invariant-lines g l = record {
   stream_limit : l.feed.stream_limit ≡ 1073741824;
   counted : l.number ≤ l.feed.given;
   few : l.feed.given ≤ 1073741824;
-  listed : IsListed l.state;
   fewer : AreFewer (l.number + 1) l.state.counts;
   ends : EndsWithSource l.feed (g.R.ByteSource.input l.source);
   judged : HasReadSo l.feed (g.R.ByteSource.input l.fn.source) (g.R.ByteSource.input l.source) (λ xs ys. HasFollowed l.fn.settings (g.W.Watch.follows l.watch) xs ys l.feed l.number (summary_of l.state));

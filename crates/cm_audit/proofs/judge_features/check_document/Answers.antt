@@ -16,7 +16,7 @@ returns-in-None-clause-found c =
     let rows = kept_rows s.sources.entries in
     let found = found_by c.as_str-uri.result.now x.uri c.find_source.result rows c.as_str-uri.ensures c.find_source.ensures in
     let row = found_none x.uri c.find_source.result rows c.in-None.is found in
-    document_unknown (summary_of s) x (listed_is x.uri rows s.declared.sources None c.requires.listed row)
+    document_unknown (summary_of s) x (listed_is x.uri rows None row)
 
 pub returns-then-has_document-clause-found : goal.returns-then-has_document-clause-found
 returns-then-has_document-clause-found c =
@@ -26,7 +26,7 @@ returns-then-has_document-clause-found c =
     let found = found_by c.as_str-uri.result.now x.uri c.find_source.result rows c.as_str-uri.ensures c.find_source.ensures in
     let k = c.in-Some.kept in
     let row = found_kept x.uri c.find_source.result k rows c.in-Some.is found in
-    let known : has_text x.uri s.declared.sources ≡ true = listed_is x.uri rows s.declared.sources (Some (kept_row x.uri k.now)) c.requires.listed row in
+    let known : has_text x.uri (summary_of s).declared.sources ≡ true = listed_is x.uri rows (Some (kept_row x.uri k.now)) row in
     document_again (summary_of s) x known (ap (λ t. has_text t s.declared.documents) (sym c.as_str-uri.ensures) ∙ sym c.has_document.ensures ∙ c.if-has_document.true)
 
 pub returns-in-Refused-clause-found : goal.returns-in-Refused-clause-found
@@ -37,7 +37,7 @@ returns-in-Refused-clause-found c =
     let found = found_by c.as_str-uri.result.now x.uri c.find_source.result rows c.as_str-uri.ensures c.find_source.ensures in
     let k = c.in-Some.kept in
     let row = found_kept x.uri c.find_source.result k rows c.in-Some.is found in
-    let known : has_text x.uri s.declared.sources ≡ true = listed_is x.uri rows s.declared.sources (Some (kept_row x.uri k.now)) c.requires.listed row in
+    let known : has_text x.uri (summary_of s).declared.sources ≡ true = listed_is x.uri rows (Some (kept_row x.uri k.now)) row in
     let first : has_text x.uri s.declared.documents ≡ false = ap (λ t. has_text t s.declared.documents) (sym c.as_str-uri.ensures) ∙ sym c.has_document.ensures ∙ c.if-has_document.false in
     let bad : is_accepted_by (summary_of s) x.uri ≡ false = rw (← row, c.in-Refused.is) refl in
     document_of_refused (summary_of s) x known first bad
@@ -50,7 +50,7 @@ returns-then-not-is_awaited-clause-found c =
     let found = found_by c.as_str-uri.result.now x.uri c.find_source.result rows c.as_str-uri.ensures c.find_source.ensures in
     let k = c.in-Some.kept in
     let row = found_kept x.uri c.find_source.result k rows c.in-Some.is found in
-    let known : has_text x.uri s.declared.sources ≡ true = listed_is x.uri rows s.declared.sources (Some (kept_row x.uri k.now)) c.requires.listed row in
+    let known : has_text x.uri (summary_of s).declared.sources ≡ true = listed_is x.uri rows (Some (kept_row x.uri k.now)) row in
     let first : has_text x.uri s.declared.documents ≡ false = ap (λ t. has_text t s.declared.documents) (sym c.as_str-uri.ensures) ∙ sym c.has_document.ensures ∙ c.if-has_document.false in
     let a = c.in-Accepted.accepted in
     let good : find_source (summary_of s) x.uri ≡ Some (accepted_row x.uri a) = sym row ∙ ap (λ k. Some (kept_row x.uri k)) c.in-Accepted.is in
@@ -76,7 +76,7 @@ returns-then-branch-clause-found c =
     let found = found_by c.as_str-uri.result.now x.uri c.find_source.result rows c.as_str-uri.ensures c.find_source.ensures in
     let k = c.in-Some.kept in
     let row = found_kept x.uri c.find_source.result k rows c.in-Some.is found in
-    let known : has_text x.uri s.declared.sources ≡ true = listed_is x.uri rows s.declared.sources (Some (kept_row x.uri k.now)) c.requires.listed row in
+    let known : has_text x.uri (summary_of s).declared.sources ≡ true = listed_is x.uri rows (Some (kept_row x.uri k.now)) row in
     let first : has_text x.uri s.declared.documents ≡ false = ap (λ t. has_text t s.declared.documents) (sym c.as_str-uri.ensures) ∙ sym c.has_document.ensures ∙ c.if-has_document.false in
     let a = c.in-Accepted.accepted in
     let good : find_source (summary_of s) x.uri ≡ Some (accepted_row x.uri a) = sym row ∙ ap (λ k. Some (kept_row x.uri k)) c.in-Accepted.is in
@@ -92,7 +92,7 @@ returns-clause-found c =
     let found = found_by c.as_str-uri.result.now x.uri c.find_source.result rows c.as_str-uri.ensures c.find_source.ensures in
     let k = c.in-Some.kept in
     let row = found_kept x.uri c.find_source.result k rows c.in-Some.is found in
-    let known : has_text x.uri s.declared.sources ≡ true = listed_is x.uri rows s.declared.sources (Some (kept_row x.uri k.now)) c.requires.listed row in
+    let known : has_text x.uri (summary_of s).declared.sources ≡ true = listed_is x.uri rows (Some (kept_row x.uri k.now)) row in
     let first : has_text x.uri s.declared.documents ≡ false = ap (λ t. has_text t s.declared.documents) (sym c.as_str-uri.ensures) ∙ sym c.has_document.ensures ∙ c.if-has_document.false in
     let a = c.in-Accepted.accepted in
     let good : find_source (summary_of s) x.uri ≡ Some (accepted_row x.uri a) = sym row ∙ ap (λ k. Some (kept_row x.uri k)) c.in-Accepted.is in
@@ -108,7 +108,7 @@ returns-clause-first c =
     let found = found_by c.as_str-uri.result.now x.uri c.find_source.result rows c.as_str-uri.ensures c.find_source.ensures in
     let k = c.in-Some.kept in
     let row = found_kept x.uri c.find_source.result k rows c.in-Some.is found in
-    let known : has_text x.uri s.declared.sources ≡ true = listed_is x.uri rows s.declared.sources (Some (kept_row x.uri k.now)) c.requires.listed row in
+    let known : has_text x.uri (summary_of s).declared.sources ≡ true = listed_is x.uri rows (Some (kept_row x.uri k.now)) row in
     let first : has_text x.uri s.declared.documents ≡ false = ap (λ t. has_text t s.declared.documents) (sym c.as_str-uri.ensures) ∙ sym c.has_document.ensures ∙ c.if-has_document.false in
     first
 
@@ -120,7 +120,7 @@ returns-clause-accepted c =
     let found = found_by c.as_str-uri.result.now x.uri c.find_source.result rows c.as_str-uri.ensures c.find_source.ensures in
     let k = c.in-Some.kept in
     let row = found_kept x.uri c.find_source.result k rows c.in-Some.is found in
-    let known : has_text x.uri s.declared.sources ≡ true = listed_is x.uri rows s.declared.sources (Some (kept_row x.uri k.now)) c.requires.listed row in
+    let known : has_text x.uri (summary_of s).declared.sources ≡ true = listed_is x.uri rows (Some (kept_row x.uri k.now)) row in
     let first : has_text x.uri s.declared.documents ≡ false = ap (λ t. has_text t s.declared.documents) (sym c.as_str-uri.ensures) ∙ sym c.has_document.ensures ∙ c.if-has_document.false in
     let a = c.in-Accepted.accepted in
     let good : find_source (summary_of s) x.uri ≡ Some (accepted_row x.uri a) = sym row ∙ ap (λ k. Some (kept_row x.uri k)) c.in-Accepted.is in

@@ -13,7 +13,7 @@ returns-in-None-clause-err c =
     let rows = kept_rows s.sources.entries in
     let found = found_by c.as_str-uri.result.now x.uri c.find_source.result rows c.as_str-uri.ensures c.find_source.ensures in
     let row = found_none x.uri c.find_source.result rows c.in-None.is found in
-    let source : has_text x.uri s.declared.sources ≡ false = listed_is x.uri rows s.declared.sources None c.requires.listed row in
+    let source : has_text x.uri (summary_of s).declared.sources ≡ false = listed_is x.uri rows None row in
     pickle_unknown (summary_of s) x (rw source refl)
 
 pub returns-then-not-has_document-clause-err : goal.returns-then-not-has_document-clause-err
@@ -24,7 +24,7 @@ returns-then-not-has_document-clause-err c =
     let found = found_by c.as_str-uri.result.now x.uri c.find_source.result rows c.as_str-uri.ensures c.find_source.ensures in
     let k = c.in-Some.kept in
     let row = found_kept x.uri c.find_source.result k rows c.in-Some.is found in
-    let source : has_text x.uri s.declared.sources ≡ true = listed_is x.uri rows s.declared.sources (Some (kept_row x.uri k.now)) c.requires.listed row in
+    let source : has_text x.uri (summary_of s).declared.sources ≡ true = listed_is x.uri rows (Some (kept_row x.uri k.now)) row in
     let document = ap (λ t. has_text t s.declared.documents) (sym c.as_str-uri.ensures) ∙ sym c.has_document.ensures ∙ c.if-not-has_document.true in
     pickle_unknown (summary_of s) x (rw (source, document) refl)
 
@@ -36,9 +36,9 @@ returns-then-not-is_next-clause-err c =
     let found = found_by c.as_str-uri.result.now x.uri c.find_source.result rows c.as_str-uri.ensures c.find_source.ensures in
     let k = c.in-Some.kept in
     let row = found_kept x.uri c.find_source.result k rows c.in-Some.is found in
-    let source : has_text x.uri s.declared.sources ≡ true = listed_is x.uri rows s.declared.sources (Some (kept_row x.uri k.now)) c.requires.listed row in
+    let source : has_text x.uri (summary_of s).declared.sources ≡ true = listed_is x.uri rows (Some (kept_row x.uri k.now)) row in
     let document = ap (λ t. has_text t s.declared.documents) (sym c.as_str-uri.ensures) ∙ sym c.has_document.ensures ∙ c.if-not-has_document.false in
-    let known : (has_text x.uri s.declared.sources && has_text x.uri s.declared.documents) ≡ true = rw (source, document) refl in
+    let known : (has_text x.uri (summary_of s).declared.sources && has_text x.uri s.declared.documents) ≡ true = rw (source, document) refl in
     let next = next_bare x.uri x k.now ∙ sym c.is_next.ensures ∙ c.if-not-is_next.true in
     pickle_differs (summary_of s) x known (rw (← row, next) refl)
 
@@ -50,9 +50,9 @@ returns-clause-known c =
     let found = found_by c.as_str-uri.result.now x.uri c.find_source.result rows c.as_str-uri.ensures c.find_source.ensures in
     let k = c.in-Some.kept in
     let row = found_kept x.uri c.find_source.result k rows c.in-Some.is found in
-    let source : has_text x.uri s.declared.sources ≡ true = listed_is x.uri rows s.declared.sources (Some (kept_row x.uri k.now)) c.requires.listed row in
+    let source : has_text x.uri (summary_of s).declared.sources ≡ true = listed_is x.uri rows (Some (kept_row x.uri k.now)) row in
     let document = ap (λ t. has_text t s.declared.documents) (sym c.as_str-uri.ensures) ∙ sym c.has_document.ensures ∙ c.if-not-has_document.false in
-    let known : (has_text x.uri s.declared.sources && has_text x.uri s.declared.documents) ≡ true = rw (source, document) refl in
+    let known : (has_text x.uri (summary_of s).declared.sources && has_text x.uri s.declared.documents) ≡ true = rw (source, document) refl in
     let next = next_bare x.uri x k.now ∙ sym c.is_next.ensures ∙ c.if-not-is_next.false in
     known
 
@@ -64,8 +64,8 @@ returns-clause-next c =
     let found = found_by c.as_str-uri.result.now x.uri c.find_source.result rows c.as_str-uri.ensures c.find_source.ensures in
     let k = c.in-Some.kept in
     let row = found_kept x.uri c.find_source.result k rows c.in-Some.is found in
-    let source : has_text x.uri s.declared.sources ≡ true = listed_is x.uri rows s.declared.sources (Some (kept_row x.uri k.now)) c.requires.listed row in
+    let source : has_text x.uri (summary_of s).declared.sources ≡ true = listed_is x.uri rows (Some (kept_row x.uri k.now)) row in
     let document = ap (λ t. has_text t s.declared.documents) (sym c.as_str-uri.ensures) ∙ sym c.has_document.ensures ∙ c.if-not-has_document.false in
-    let known : (has_text x.uri s.declared.sources && has_text x.uri s.declared.documents) ≡ true = rw (source, document) refl in
+    let known : (has_text x.uri (summary_of s).declared.sources && has_text x.uri s.declared.documents) ≡ true = rw (source, document) refl in
     let next = next_bare x.uri x k.now ∙ sym c.is_next.ensures ∙ c.if-not-is_next.false in
     rw (← row, next) refl

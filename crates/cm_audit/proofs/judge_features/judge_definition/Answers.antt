@@ -1,6 +1,6 @@
-use Rattle.std.proofs.Common.{◌≡◌, ◌∙◌, refl, ap, sym, false}
+use Rattle.std.proofs.Common.{◌≡◌, ◌∙◌, refl, ap, false}
 use Rattle.cm_attempt.specs.Table.{has_text}
-use Rattle.cm_refs.specs.Declarations.{Declarations, with_definition}
+use Rattle.cm_refs.specs.Declarations.{with_definition}
 use Rattle.cm_envelope.specs.declared.envelope.Envelope.TheVariants.{StepDefinition}
 use Rattle.cm_audit.specs.State.{summary_of}
 use Rattle.cm_audit.specs.Stops.{refused_reference}
@@ -13,7 +13,7 @@ returns-in_err-declare_definition c =
     let answer = rw c.as_str.ensures at c.in_err-declare_definition.ensures.answer in
     stops c.args.state.now (record (c.args.state.now) { declared = c.declare_definition.new.self }) (StepDefinition c.args.definition.now) c.from_residual.result (refused_reference fault) c.from_residual.ensures.1
     (told_by (has_text c.args.definition.now.id c.args.state.now.declared.definitions) fault answer)
-    (λ i. record (summary_of c.args.state.now) { declared = c.in_err-declare_definition.ensures.err i })
+    (λ i. summary_of (record (c.args.state.now) { declared = c.in_err-declare_definition.ensures.err i }))
 
 pub returns : goal.returns
 returns c =
@@ -22,6 +22,5 @@ returns c =
     let new : has_text c.args.definition.now.id old.declared.definitions ≡ false = free_by (has_text c.args.definition.now.id old.declared.definitions) answer in
     let made = c.in_ok-declare_definition.ensures.ok ∙ ap (λ t. with_definition t old.declared) c.as_str.ensures in (
       rw new refl,
-      λ i. record (summary_of old) { declared = made i },
-      c.requires.listed ∙ sym (ap (λ (d : Declarations). d.sources) made),
+      λ i. summary_of (record old { declared = made i }),
     )

@@ -1,7 +1,7 @@
 use Rattle.std.proofs.Common.{◌≡◌, ◌∙◌, refl, ap, sym, subst, map}
 use Rattle.std.specs.Str.{bytes_eq}
 use Rattle.cm_attempt.specs.Table.{has_text}
-use Rattle.cm_refs.specs.Declarations.{Declarations, with_document}
+use Rattle.cm_refs.specs.Declarations.{with_document}
 use Rattle.cm_refs.specs.declared.fault.RefFault.TheVariants.{DuplicateUri}
 use Rattle.cm_envelope.specs.declared.envelope.Envelope.TheVariants.{GherkinDocument}
 use Rattle.cm_state.specs.ByOnePass.{plain_finding}
@@ -26,7 +26,7 @@ returns-in_err-declare_document c =
     c.from_residual-in_err-declare_document.result (refused_reference fault) c.from_residual-in_err-declare_document.ensures.1
     (only_memory (has_text c.args.document.uri c.args.state.now.declared.documents) DuplicateUri fault (plain_finding (summary_of c.args.state.now) (GherkinDocument c.args.document))
     c.in_ok-checked.ensures.first answer)
-    (λ i. record (summary_of c.args.state.now) { declared = c.in_err-declare_document.ensures.err i })
+    (λ i. summary_of (record (c.args.state.now) { declared = c.in_err-declare_document.ensures.err i }))
 
 pub set_ids-requires : goal.set_ids-requires
 set_ids-requires c =
@@ -41,12 +41,9 @@ returns c =
     let made : c.declare_document.new.self ≡ with_document uri old.declared =
     c.in_ok-declare_document.ensures.ok ∙ ap (λ t. with_document t old.declared) c.as_str.ensures in
     let changed : kept_rows c.set_ids.new.sources.entries ≡ change_source uri (with_ids ids) rows =
-    c.set_ids.ensures ∙ ap (λ t. change_source t (with_ids ids) rows) c.as_str-2.ensures in (
+    c.set_ids.ensures ∙ ap (λ t. change_source t (with_ids ids) rows) c.as_str-2.ensures in
+    let uris : map (λ r. r.uri) (kept_rows c.set_ids.new.sources.entries) ≡ map (λ r. r.uri) rows =
+    ap (map (λ (r : SourceRow). r.uri)) changed ∙ changed_uris (λ r. bytes_eq uri r.uri) (with_ids ids) (λ r. refl) rows in (
       c.in_ok-checked.ensures.found,
-      λ i. record (summary_of old) { declared = made i; sources = changed i },
-      ap (map (λ (r : SourceRow). r.uri)) changed ∙ changed_uris (λ r. bytes_eq uri r.uri) (with_ids ids) (λ r. refl) rows
-          ∙ c.requires.listed ∙ sym (ap (λ (d : Declarations). d.sources) made),
+      λ i. record (summary_of old) { declared = record (made i) { sources = uris i }; sources = changed i },
     )
-
-pub check_document-checked-requires : goal.check_document-checked-requires
-check_document-checked-requires c = record { listed = c.requires.listed }

@@ -1,7 +1,7 @@
-use Rattle.std.proofs.Common.{◌≡◌, ◌∙◌, refl, ap, sym, map, arith, ◌+◌}
+use Rattle.std.proofs.Common.{◌≡◌, ◌∙◌, refl, ap, map, arith, ◌+◌}
 use Rattle.std.specs.Str.{bytes_eq}
 use Rattle.std.specs.String.{string_bytes}
-use Rattle.cm_refs.specs.Declarations.{Declarations, with_pickle}
+use Rattle.cm_refs.specs.Declarations.{with_pickle}
 use Rattle.cm_envelope.specs.declared.envelope.Envelope.TheVariants.{Pickle}
 use Rattle.cm_state.specs.Summary.{SourceRow, change_source, one_more}
 use Rattle.cm_audit.specs.Kept.{kept_rows}
@@ -28,7 +28,7 @@ returns-in_err-declare_pickle c =
     stops c.args.state.now (record (c.args.state.now) { declared = c.declare_pickle.new.self }) (Pickle c.args.pickle)
     c.from_residual-in_err-declare_pickle.result (refused_reference fault) c.from_residual-in_err-declare_pickle.ensures.1
     (pickle_told (summary_of c.args.state.now) c.args.pickle c.in_ok-check_pickle.ensures.known c.in_ok-check_pickle.ensures.next (map string_bytes c.in_ok-steps.steps.items) c.in_ok-steps.ensures fault answer)
-    (λ i. record (summary_of c.args.state.now) { declared = c.in_err-declare_pickle.ensures.err i })
+    (λ i. summary_of (record (c.args.state.now) { declared = c.in_err-declare_pickle.ensures.err i }))
 
 pub overflow_add-state : goal.overflow_add-state
 overflow_add-state c = omega (arith, c.requires.few.pickles)
@@ -47,16 +47,13 @@ returns c =
     let made : c.declare_pickle.new.self ≡ with_pickle c.args.pickle.id (map (λ s. s.id) c.args.pickle.steps) old.declared =
     c.in_ok-declare_pickle.ensures.ok ∙ (λ i. with_pickle (c.into_string.ensures i) (same i) old.declared) in
     let changed : kept_rows c.count_pickle.new.sources.entries ≡ change_source uri one_more rows =
-    c.count_pickle.ensures ∙ ap (λ t. change_source t one_more rows) c.as_str.ensures in (
+    c.count_pickle.ensures ∙ ap (λ t. change_source t one_more rows) c.as_str.ensures in
+    let uris : map (λ r. r.uri) (kept_rows c.count_pickle.new.sources.entries) ≡ map (λ r. r.uri) rows =
+    ap (map (λ (r : SourceRow). r.uri)) changed ∙ changed_uris (λ r. bytes_eq uri r.uri) one_more (λ r. refl) rows in (
       pickle_fits (summary_of old) c.args.pickle c.in_ok-check_pickle.ensures.known c.in_ok-check_pickle.ensures.next steps same answer,
       λ i. record (summary_of old) {
-        declared = made i;
+        declared = record (made i) { sources = uris i };
         sources = changed i;
         counts = record old.counts { pickles = old.counts.pickles + 1; unrun = old.counts.unrun + 1 };
       },
-      ap (map (λ (r : SourceRow). r.uri)) changed ∙ changed_uris (λ r. bytes_eq uri r.uri) one_more (λ r. refl) rows
-          ∙ c.requires.listed ∙ sym (ap (λ (d : Declarations). d.sources) made),
     )
-
-pub check_pickle-requires : goal.check_pickle-requires
-check_pickle-requires c = record { listed = c.requires.listed }

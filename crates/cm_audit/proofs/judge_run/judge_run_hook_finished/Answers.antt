@@ -1,5 +1,5 @@
 use Rattle.std.proofs.Common.{◌≡◌, ◌∙◌, Bool, refl, ap, sym, Some, true, false}
-use Rattle.cm_refs.specs.Declarations.{Declarations, find_run_hook, with_finished_run_hook}
+use Rattle.cm_refs.specs.Declarations.{find_run_hook, with_finished_run_hook}
 use Rattle.cm_attempt.specs.Worst.{with_status}
 use Rattle.cm_envelope.specs.declared.envelope.Envelope.TheVariants.{TestRunHookFinished}
 use Rattle.cm_stream.specs.Good.{is_unknown}
@@ -32,7 +32,7 @@ returns-in_err-finish_run_hook c =
     let answer = rw c.as_str.ensures at c.in_err-finish_run_hook.ensures.answer in
     stops old (record old { declared = c.finish_run_hook.new.self }) (TestRunHookFinished finished) c.from_residual.result (refused_reference fault) c.from_residual.ensures.1
     (end_told (find_run_hook old.declared finished.test_run_hook_started_id) (is_unknown finished.result.status) fault answer)
-    (λ i. record (summary_of old) { declared = c.in_err-finish_run_hook.ensures.err i })
+    (λ i. summary_of (record old { declared = c.in_err-finish_run_hook.ensures.err i }))
 
 pub returns-then-eq : goal.returns-then-eq
 returns-then-eq c =
@@ -51,6 +51,5 @@ returns c =
     let made = c.in_ok-finish_run_hook.ensures.ok ∙ ap (λ t. with_finished_run_hook t old.declared) c.as_str.ensures in
     let worst : Some c.worst_with.result ≡ with_status old.hooks_worst (kept_status finished.result.status) = c.worst_with.ensures ∙ ap (with_status old.hooks_worst) c.kept_status-status.ensures in (
       end_found_is (find_run_hook old.declared finished.test_run_hook_started_id) (is_unknown finished.result.status) answer ∙ rw known refl,
-      λ i. record (summary_of old) { declared = made i; hooks_worst = worst i },
-      c.requires.listed ∙ sym (ap (λ (d : Declarations). d.sources) made),
+      λ i. summary_of (record old { declared = made i; hooks_worst = worst i }),
     )

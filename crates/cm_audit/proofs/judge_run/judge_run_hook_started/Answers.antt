@@ -1,6 +1,6 @@
 use Rattle.std.proofs.Common.{◌≡◌, ◌∙◌, ap, sym, true, false}
 use Rattle.std.specs.Prelude.{is_none, is_some}
-use Rattle.cm_refs.specs.Declarations.{Declarations, find_run_hook, with_run_hook}
+use Rattle.cm_refs.specs.Declarations.{find_run_hook, with_run_hook}
 use Rattle.cm_envelope.specs.declared.envelope.Envelope.TheVariants.{TestRunHookStarted}
 use Rattle.cm_state.specs.StateChecks.{knows_run_hook}
 use Rattle.cm_audit.specs.State.{summary_of}
@@ -18,7 +18,7 @@ returns-in_err-start_run_hook c =
     let known : knows_run_hook (summary_of old) started ≡ true = sym c.knows_run_hook.ensures ∙ c.if-not-knows_run_hook.false in
     stops old (record old { declared = c.start_run_hook.new.self }) (TestRunHookStarted started) c.from_residual.result (refused_reference fault) c.from_residual.ensures.1
     (hook_told (summary_of old) started inside known fault answer)
-    (λ i. record (summary_of old) { declared = c.in_err-start_run_hook.ensures.err i })
+    (λ i. summary_of (record old { declared = c.in_err-start_run_hook.ensures.err i }))
 
 pub returns : goal.returns
 returns c =
@@ -30,6 +30,5 @@ returns c =
     let new : is_some (find_run_hook old.declared started.id) ≡ false = free_by (is_some (find_run_hook old.declared started.id)) answer in
     let made = c.in_ok-start_run_hook.ensures.ok ∙ ap (λ t. with_run_hook t old.declared) c.as_str.ensures in (
       hook_fits (summary_of old) started inside known new,
-      λ i. record (summary_of old) { declared = made i },
-      c.requires.listed ∙ sym (ap (λ (d : Declarations). d.sources) made),
+      λ i. summary_of (record old { declared = made i }),
     )
