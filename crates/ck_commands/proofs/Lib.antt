@@ -3,7 +3,6 @@ pub mod CasesPrinted
 pub mod Compiles
 pub mod DiffersPrinted
 pub mod Lines
-pub mod LinesTaken
 pub mod Printing
 pub mod TextLemmas
 pub mod Delivering

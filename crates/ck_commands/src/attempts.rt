@@ -1,5 +1,5 @@
 //! The record of the attempts of a message stream, read line by line.
-ghost use Rattle.std.specs.Prelude.{◌≡◌, true, Err};
+ghost use Rattle.std.specs.Prelude.{◌≡◌, true, Err, ⊤};
 ghost use Rattle.cm_envelope.specs.Device.{CountsFailure, OfInput, OfReads};
 ghost use Rattle.cm_envelope.specs.declared.feed.Trouble.TheVariants.{ReadFailed};
 ghost use Rattle.ck_commands.specs.Outcome.{after_line, outcome_of, outcome_report};
@@ -9,24 +9,35 @@ ghost use Rattle.ck_commands.specs.Results.{ResultsShowNoFault};
 ghost use Rattle.ck_commands.specs.declared.output.ExitStatus.TheVariants.{Done};
 
 use cm_attempt::Track;
-use cm_audit::{Stop, audited_at, track};
-use cm_envelope::{ByteSource, Feed, Trouble, is_blank_line, read_envelope};
+use cm_audit::{Stop, TakeLines, take_lines, track};
+use cm_envelope::{ByteSource, Trouble, is_blank_line, read_envelope};
 use cm_stream::Audited;
 use std::alloc::Global;
 
-// Takes a line: the call of the record that its envelope makes, if it makes one.
-fn take_line(alloc: Global, attempts: &mut Track, line: &[u8]) -> Result<(), Stop>
-    ensures { LeavesTable (after_line attempts.old line.now) attempts.new result }
-{
-    if is_blank_line(line) {
-        return Ok(());
-    }
-    match read_envelope(alloc, line) {
-        Ok(envelope) => match track(alloc, attempts, envelope) {
-            Ok(()) => Ok(()),
-            Err(refusal) => Err(Stop::from(refusal)),
-        },
-        Err(fault) => Err(Stop::from(fault)),
+/// The record of the attempts so far.
+#[derive(Drop)]
+struct Attempts {
+    track: Track,
+}
+
+impl TakeLines for Attempts {
+    ghost is_ready = { λ _ _. ⊤ };
+
+    ghost takes = { λ old line result new. LeavesTable (after_line old.track line) new.track
+        result };
+
+    // The call of the record that the line's envelope makes, if it makes one.
+    fn take_line(&mut self, alloc: Global, line: &[u8]) -> Result<(), Stop> {
+        if is_blank_line(line) {
+            return Ok(());
+        }
+        match read_envelope(alloc, line) {
+            Ok(envelope) => match track(alloc, &mut self.track, envelope) {
+                Ok(()) => Ok(()),
+                Err(refusal) => Err(Stop::from(refusal)),
+            },
+            Err(fault) => Err(Stop::from(fault)),
+        }
     }
 }
 
@@ -50,20 +61,11 @@ pub(crate) fn read_attempts<S: ByteSource>(
         → OfReads (S.input source.old) (S.input source.new)
         (ResultsShowNoFault first_attempt) }
 {
-    let mut feed = Feed::new(alloc);
-    let mut attempts = Track::counting_from(alloc, first_attempt);
-    let mut number: u64 = 0;
-    'lines: loop {
-        match feed.next_line(source) {
-            Ok(Some(line)) => {
-                number += 1;
-                match take_line(alloc, &mut attempts, line) {
-                    Ok(()) => {}
-                    Err(stop) => return Err(audited_at(stop, number)),
-                }
-            }
-            Ok(None) => return Ok(attempts),
-            Err(trouble) => return Err(Err(trouble)),
-        }
+    let mut attempts = Attempts {
+        track: Track::counting_from(alloc, first_attempt),
+    };
+    match take_lines(alloc, &mut attempts, source) {
+        Ok(_) => Ok(attempts.track),
+        Err(answer) => Err(answer),
     }
 }

@@ -1,54 +1,46 @@
--- What the steps of an audit leave, and what it answers.
-use Rattle.std.proofs.Common.{◌≡◌, ℕ, ◌+◌, refl, sym, ap, ◌∙◌, subst, List, [], Some, None, Result, Ok, Err, true, false, inl, inr, arith}
+-- What a line makes of an audit, and what is answered once lines were judged one by one.
+use Rattle.std.proofs.Common.{◌≡◌, ℕ, ◌+◌, refl, sym, ap, ◌∙◌, subst, List, [], ◌∷◌, ◌++◌, Option, Some, None, Result, Ok, Err, false, inr, append-nil, length, arith}
+use Rattle.std.specs.Prelude.{OnOk, ⊤}
 use Rattle.cm_envelope.specs.Lines.{is_blank}
 use Rattle.cm_envelope.specs.Reading.{LineFault, FailsAtLine, envelope_of_line}
 use Rattle.cm_envelope.specs.declared.fault.EnvelopeFault.{EnvelopeFault}
 use Rattle.cm_envelope.specs.declared.fault.EnvelopeFault.TheVariants as shape
-use Rattle.cm_envelope.specs.Feeds.{Stored, NextLine, new_feed, GivesLine, GivesNext, Leaves, EndsWithSource, IsNextLine, is_failed_read}
-use Rattle.cm_envelope.specs.Device.{Input, OfReads}
-use Rattle.cm_envelope.proofs.Sources.{HasReadSo, read_so_far, reads_then, reads_no_more}
 use Rattle.cm_envelope.specs.declared.envelope.Envelope.{Envelope}
 use Rattle.cm_envelope.specs.declared.feed.Trouble.{Trouble}
 use Rattle.cm_envelope.specs.declared.feed.Trouble.TheVariants.{ReadFailed, LineTooLong, StreamTooLong, Memory}
 use Rattle.cm_attempt.specs.declared.settings.Settings.{Settings}
-use Rattle.cm_stream.specs.Stream.{envelope_unless_blank, verdict_in}
+use Rattle.cm_stream.specs.Findings.{IsBad, stream_fault_named, NoEnvelope}
+use Rattle.cm_stream.specs.Stream.{Answer, Found, envelope_unless_blank, feed_of, verdict_in}
 use Rattle.cm_stream.specs.declared.verdict.Audited.{Audited}
-use Rattle.cm_stream.specs.declared.verdict.Verdict.TheVariants as verdict
-use Rattle.cm_stream.specs.declared.verdict.StreamFault.TheVariants as bad
+use Rattle.cm_state.specs.ByOnePass.{answer_of_line, answer_of_lines}
 use Rattle.cm_state.specs.Summary.{Summary, empty_summary}
-use Rattle.cm_state.specs.StateChecks.{finding_at_end}
-use Rattle.cm_state.specs.Laws.{answer_at_end}
-use Rattle.cm_audit.specs.Audit.{AnswersAs, ReadsNoFurther, ReadsUpTo, TakesLine, audited_at, unsuccessful}
-use Rattle.cm_audit.specs.Judging.{judged, HasJudged, HoldNoFault, JudgesAs, TellsLine}
+use Rattle.cm_audit.specs.Audit.{AnswersAs, ReadsNoFurther, ReadsUpTo, TakesLine, audited_at, contents}
+use Rattle.cm_audit.specs.Judging.{HoldNoFault, JudgesAs, JudgesLine, TellsLine, judged, judged_from_first}
 use Rattle.cm_audit.specs.Stops.{unread_line}
 use Rattle.cm_audit.specs.State.{AreFewer, summary_of}
+use Rattle.cm_audit.specs.Taking.{StopsAtLine, TakesEach, TakesUntil}
+use Rattle.cm_audit.specs.declared.auditing.Judging.{Judging}
 use Rattle.cm_audit.specs.declared.state.State.{State}
 use Rattle.cm_audit.specs.declared.stop.Stop.{Stop}
 use Rattle.cm_audit.specs.declared.stop.Stop.TheVariants as stop
-use Rattle.cm_audit.proofs.Reading.{nothing_judged, next_judged, found_at, at_the_end, at_trouble, up_to_here, fewer_lines, held_no_fault}
-
-pub begins : (settings : Settings) (feed : Stored) → feed ≡ new_feed 67108864 1073741824 → (s : Summary) → s ≡ empty_summary settings.first_attempt → (a : Input) → HasReadSo feed a a (λ xs ys. HasJudged settings xs ys feed 0 s)
-begins settings feed f s e a = read_so_far (λ xs ys. HasJudged settings xs ys feed 0 s) feed a (λ xs. rw (f, e) (nothing_judged settings xs))
+use Rattle.cm_audit.proofs.Counted.{still_fewer}
 
 pub few_at_first : (first : ℕ) (s : State) → summary_of s ≡ empty_summary first → AreFewer 1 s.counts
 few_at_first first s e = subst (AreFewer 1) (ap (λ (u : Summary). u.counts) (sym e)) (record { sources = omega arith; pickles = omega arith; cases = omega arith; attempts = omega arith; unrun = omega arith })
 
 -- ---- a line that is taken
 
-pub goes_on : (settings : Settings) (feed later : Stored) (old new : State) (n : ℕ) (line : List ℕ) (a b c : Input) → HasReadSo feed a b (λ xs ys. HasJudged settings xs ys feed n (summary_of old)) → feed.over ≡ None
-    → Leaves feed later b c (Ok (Some line)) → GivesLine feed later line → TakesLine settings old new (envelope_unless_blank line) (Ok tt) → HasReadSo later a c (λ xs zs. HasJudged settings xs zs later (n + 1) (summary_of new))
-goes_on settings feed later old new n line a b c p still leaves g k =
-    reads_then {P = λ xs ys. HasJudged settings xs ys feed n (summary_of old)} {R = λ xs zs. HasJudged settings xs zs later (n + 1) (summary_of new)} feed later a b c p still leaves
-    (λ xs ys zs none h i. next_judged settings xs ys zs feed later n old new line h i g k)
+-- one more may be taken
+pub still_ready : (settings : Settings) (old new : State) (r : Option (Result Envelope LineFault)) (result : Result ⊤ Stop) → TakesLine settings old new r result
+    → OnOk result ((n : ℕ) → AreFewer (n + 1) old.counts → AreFewer (n + 1 + 1) new.counts)
+still_ready settings old new r (Ok done) k = λ n h. still_fewer settings (n + 1) old new r k h
+still_ready settings old new r (Err why) k = tt
 
--- what is answered after one call more
-answered : (settings : Settings) (answer : Result Audited Trouble) (call : NextLine) (feed later : Stored) (n : ℕ) (s : Summary) (a b c : Input) → HasReadSo feed a b (λ xs ys. HasJudged settings xs ys feed n s)
-    → feed.over ≡ None → EndsWithSource feed b → Leaves feed later b c call
-    → ((xs ys zs : List ℕ) → (later.is_ended ≡ true → zs ≡ []) → HasJudged settings xs ys feed n s → GivesNext feed later ys zs call → JudgesAs settings answer xs zs) → OfReads a c (JudgesAs settings answer)
-answered settings answer call feed later n s a b c p still ends leaves f =
-    reads_no_more (JudgesAs settings answer) later a c
-    (reads_then {P = λ xs ys. HasJudged settings xs ys feed n s} {R = JudgesAs settings answer} feed later a b c p still leaves f)
-    (leaves.source ends)
+taken : (settings : Settings) (old new : State) (n : ℕ) (r : Option (Result Envelope LineFault)) (more : Summary → Answer) → TakesLine settings old new r (Ok tt)
+    → answer_of_line settings (summary_of old) n r more ≡ more (summary_of new)
+taken settings old new n None more k = ap more (sym k)
+taken settings old new n (Some (Err b)) more k = absurd k
+taken settings old new n (Some (Ok e)) more k = rw k.0 (ap more (sym k.1))
 
 -- ---- a line that isn't taken
 
@@ -70,10 +62,15 @@ told_unread tells s shape.Memory (Err b) h = tt
 pub not_told : (tells : Summary → Envelope → Type 0) (s : Summary) (line : List ℕ) → is_blank line ≡ false → (fault : EnvelopeFault) → FailsAtLine fault (envelope_of_line line) → (why : Stop) → why ≡ unread_line fault → TellsLine tells s (envelope_unless_blank line) (Err why)
 not_told tells s line filled fault h why e = rw (filled, e) (told_unread tells s fault (envelope_of_line line) h)
 
-pub not_failed : (n : ℕ) (why : Stop) → is_failed_read (audited_at n why) ≡ false
-not_failed n (stop.Bad b) = refl
-not_failed n (stop.Unsupported r) = refl
-not_failed n stop.Memory = refl
+found : (settings : Settings) (old new : State) (n : ℕ) (r : Option (Result Envelope LineFault)) (more : Summary → Answer) (why : Stop) → TakesLine settings old new r (Err why)
+    → AnswersAs (answer_of_line settings (summary_of old) n r more) (audited_at n why)
+found settings old new n None more why k = absurd k
+found settings old new n (Some (Err b)) more (stop.Bad f) k = let same : IsBad (NoEnvelope b) ≡ IsBad (stream_fault_named f) = cc in ap (Found n) (sym same)
+found settings old new n (Some (Err b)) more (stop.Unsupported r) k = cc
+found settings old new n (Some (Err b)) more stop.Memory k = tt
+found settings old new n (Some (Ok e)) more (stop.Bad f) k = rw k refl
+found settings old new n (Some (Ok e)) more (stop.Unsupported r) k = rw k refl
+found settings old new n (Some (Ok e)) more stop.Memory k = tt
 
 pub never_failed : (n : ℕ) (why : Stop) → audited_at n why ≡ Err ReadFailed → ⊥
 never_failed n (stop.Bad b) e = cc
@@ -85,61 +82,84 @@ up_to n (stop.Bad b) xs zs r = inr r
 up_to n (stop.Unsupported u) xs zs r = r
 up_to n stop.Memory xs zs r = tt
 
--- what is answered at a line that isn't taken
-pub stops_at : (settings : Settings) (feed later : Stored) (old new : State) (n : ℕ) (line xs ys zs : List ℕ) → HasJudged settings xs ys feed n (summary_of old) → IsNextLine feed later ys zs line → GivesLine feed later line
-    → (later.is_ended ≡ true → zs ≡ []) → (why : Stop) → TakesLine settings old new (envelope_unless_blank line) (Err why) → JudgesAs settings (audited_at (n + 1) why) xs zs
-stops_at settings feed later old new n line xs ys zs h i g none why k = record {
-  told = found_at settings xs ys zs feed later n old new line h.read h.judges i why k;
-  read_failed = λ e. absurd (never_failed (n + 1) why e);
-  ahead = up_to (n + 1) why xs zs (up_to_here xs ys zs feed later n line h.read i g none);
-}
+-- ---- lines that are judged one by one
 
--- ---- the end
+module _ {W : Type 0} (follows : W → List Envelope → Type 0) (tells : W → Summary → Envelope → Type 0) where
+  -- the settings stay
+  pub same_settings : (old new : Judging W) (lines : List (List ℕ)) → TakesEach (JudgesLine follows tells) old lines new → new.settings ≡ old.settings
+  same_settings old new [] h = ap (λ (j : Judging W). j.settings) h
+  same_settings old new (l ∷ ls) h = same_settings h.0 new ls h.2 ∙ h.1.settings
 
-pub ends_well : (settings : Settings) (feed later : Stored) (s : Summary) (n : ℕ) (a b c : Input) → HasReadSo feed a b (λ xs ys. HasJudged settings xs ys feed n s) → feed.over ≡ None
-    → EndsWithSource feed b → Leaves feed later b c (Ok None) → s.is_finished ≡ true → OfReads a c (JudgesAs settings (Ok (record { verdict = verdict.Good s.counts; success = s.success })))
-ends_well settings feed later s n a b c p still ends leaves e =
-    answered settings _ (Ok None) feed later n s a b c p still ends leaves
-    (λ xs ys zs none h i. record {
-      told = let end : answer_at_end (n + 1) s (finding_at_end s) ≡ answer_at_end (n + 1) s None = rw e refl in sym (at_the_end settings h.read h.judges i ∙ end);
-      read_failed = λ failed. cc;
+  -- what is answered of the lines after them, from line m on
+  judges_each : (settings : Settings) (old new : Judging W) (n m : ℕ) (lines more : List (List ℕ)) (t : Option Trouble) → old.settings ≡ settings → m ≡ n + length lines → TakesEach (JudgesLine follows tells) old lines new
+      → answer_of_lines settings (summary_of old.state) n (lines ++ more) t ≡ answer_of_lines settings (summary_of new.state) m more t
+  judges_each settings old new n m [] more t own count h =
+      let here : n ≡ m = omega (arith, count) in
+      ap (λ (j : Judging W). answer_of_lines settings (summary_of j.state) n more t) (sym h) ∙ ap (λ k. answer_of_lines settings (summary_of new.state) k more t) here
+  judges_each settings old new n m (l ∷ ls) more t own count h =
+      let k : TakesLine settings old.state h.0.state (envelope_unless_blank l) (Ok tt) = subst (λ (s : Settings). TakesLine s old.state h.0.state (envelope_unless_blank l) (Ok tt)) own h.1.taken in
+      taken settings old.state h.0.state n (envelope_unless_blank l) (λ (now : Summary). answer_of_lines settings now (n + 1) (ls ++ more) t) k
+      ∙ judges_each settings h.0 new (n + 1) m ls more t (h.1.settings ∙ own) (omega (arith, count)) h.2
+
+  module _ (first : Judging W) (nothing : summary_of first.state ≡ empty_summary first.settings.first_attempt) where
+    judges_first : (now : Judging W) (lines more : List (List ℕ)) (t : Option Trouble) → TakesEach (JudgesLine follows tells) first lines now
+        → judged_from_first first.settings (lines ++ more) t ≡ answer_of_lines first.settings (summary_of now.state) (length lines + 1) more t
+    judges_first now lines more t h =
+        ap (λ (s : Summary). answer_of_lines first.settings s 1 (lines ++ more) t) (sym nothing)
+        ∙ judges_each first.settings first now 1 (length lines + 1) lines more t refl (omega arith) h
+
+    -- what is answered of bytes that have these lines first
+    pub judged_after : (now : Judging W) (bytes : List ℕ) (lines more : List (List ℕ)) (t : Option Trouble) → (feed_of bytes).lines ≡ lines ++ more → (feed_of bytes).trouble ≡ t → TakesEach (JudgesLine follows tells) first lines now
+        → judged first.settings bytes ≡ answer_of_lines first.settings (summary_of now.state) (length lines + 1) more t
+    judged_after now bytes lines more t cut trouble h =
+        ap (λ (ls : List (List ℕ)). judged_from_first first.settings ls (feed_of bytes).trouble) cut
+        ∙ ap (judged_from_first first.settings (lines ++ more)) trouble
+        ∙ judges_first now lines more t h
+
+    -- and no more lines
+    pub judged_all : (now : Judging W) (bytes : List ℕ) (t : Option Trouble) → (feed_of bytes).trouble ≡ t → TakesEach (JudgesLine follows tells) first (feed_of bytes).lines now
+        → judged first.settings bytes ≡ answer_of_lines first.settings (summary_of now.state) (length (feed_of bytes).lines + 1) [] t
+    judged_all now bytes t trouble h = judged_after now bytes (feed_of bytes).lines [] t (sym (append-nil (feed_of bytes).lines)) trouble h
+
+    -- ---- a line that stops it
+
+    pub stops_at : (new : Judging W) (answer : Result Audited Trouble) (bytes rest : List ℕ) (h : StopsAtLine (JudgesLine follows tells) first new answer bytes rest)
+        → TakesLine first.settings h.last.state new.state (envelope_unless_blank h.line) (Err h.why) → JudgesAs first.settings (audited_at (length h.before + 1) h.why) bytes rest
+    stops_at new answer bytes rest h k =
+        let n = length h.before + 1 in
+        let left : judged first.settings bytes ≡ answer_of_lines first.settings (summary_of h.last.state) n (h.line ∷ h.after) (feed_of bytes).trouble = judged_after h.last bytes h.before (h.line ∷ h.after) (feed_of bytes).trouble h.cut refl h.taken in
+        record {
+          told = rw left (found first.settings h.last.state new.state n (envelope_unless_blank h.line) (λ (now : Summary). answer_of_lines first.settings now (n + 1) h.after (feed_of bytes).trouble) h.why k);
+          read_failed = λ e. absurd (never_failed n h.why e);
+          ahead = up_to n h.why bytes rest h.no_further;
+        }
+
+    -- ---- a trouble
+
+    trouble_told : (now : Judging W) (t : Trouble) (bytes rest : List ℕ) → TakesUntil (JudgesLine follows tells) first now t bytes rest → AnswersAs (judged first.settings bytes) (Err t)
+    trouble_told now ReadFailed bytes rest h = tt
+    trouble_told now LineTooLong bytes rest h = sym (judged_all now bytes (Some LineTooLong) h.1 h.0)
+    trouble_told now StreamTooLong bytes rest h = sym (judged_all now bytes (Some StreamTooLong) h.1 h.0)
+    trouble_told now Memory bytes rest h = tt
+
+    trouble_held : (now : Judging W) (t : Trouble) (bytes rest : List ℕ) → TakesUntil (JudgesLine follows tells) first now t bytes rest → t ≡ ReadFailed → HoldNoFault first.settings bytes rest
+    trouble_held now ReadFailed bytes rest h e = record {
+      lines = h.lines;
+      ahead = h.ahead;
+      begins = h.begins;
+      faultless = ap (λ (ls : List (List ℕ)). judged_from_first first.settings ls (Some ReadFailed)) (sym (append-nil (contents h.lines))) ∙ judges_first now (contents h.lines) [] (Some ReadFailed) h.taken;
+      nothing = h.nothing;
+    }
+    trouble_held now LineTooLong bytes rest h e = cc
+    trouble_held now StreamTooLong bytes rest h e = cc
+    trouble_held now Memory bytes rest h e = cc
+
+    same_trouble : (t u : Trouble) → (let answer : Result Audited Trouble = Err t in answer) ≡ Err u → t ≡ u
+    same_trouble t u e = cc
+
+    pub troubled : (now : Judging W) (t : Trouble) (bytes rest : List ℕ) → TakesUntil (JudgesLine follows tells) first now t bytes rest → JudgesAs first.settings (Err t) bytes rest
+    troubled now t bytes rest h = record {
+      told = trouble_told now t bytes rest h;
+      read_failed = λ e. trouble_held now t bytes rest h (same_trouble t ReadFailed e);
       ahead = tt;
-    })
-
-pub ends_early : (settings : Settings) (feed later : Stored) (s : Summary) (n : ℕ) (a b c : Input) → HasReadSo feed a b (λ xs ys. HasJudged settings xs ys feed n s) → feed.over ≡ None
-    → EndsWithSource feed b → Leaves feed later b c (Ok None) → s.is_finished ≡ false → OfReads a c (JudgesAs settings (Ok (unsuccessful (verdict.Bad (n + 1) bad.NoRunFinished))))
-ends_early settings feed later s n a b c p still ends leaves e =
-    answered settings _ (Ok None) feed later n s a b c p still ends leaves
-    (λ xs ys zs none h i. record {
-      told = sym (at_the_end settings h.read h.judges i ∙ rw e refl);
-      read_failed = λ failed. cc;
-      ahead = inl (fewer_lines h.read i);
-    })
-
--- ---- a trouble
-
-trouble_told : (settings : Settings) (xs ys zs : List ℕ) (feed later : Stored) (n : ℕ) (s : Summary) (t : Trouble) → HasJudged settings xs ys feed n s → GivesNext feed later ys zs (Err t) → AnswersAs (judged settings xs) (Err t)
-trouble_told settings xs ys zs feed later n s ReadFailed h i = tt
-trouble_told settings xs ys zs feed later n s LineTooLong h i = sym (at_trouble settings h.read h.judges LineTooLong i)
-trouble_told settings xs ys zs feed later n s StreamTooLong h i = sym (at_trouble settings h.read h.judges StreamTooLong i)
-trouble_told settings xs ys zs feed later n s Memory h i = tt
-
-trouble_held : (settings : Settings) (xs ys zs : List ℕ) (feed later : Stored) (n : ℕ) (s : Summary) (t : Trouble) → feed.line_limit ≡ 67108864 → feed.stream_limit ≡ 1073741824 → HasJudged settings xs ys feed n s
-    → GivesNext feed later ys zs (Err t) → t ≡ ReadFailed → HoldNoFault settings xs zs
-trouble_held settings xs ys zs feed later n s ReadFailed line stream h i e = held_no_fault settings xs ys zs feed later n s h.read h.judges line stream i.0 i.2
-trouble_held settings xs ys zs feed later n s LineTooLong line stream h i e = cc
-trouble_held settings xs ys zs feed later n s StreamTooLong line stream h i e = cc
-trouble_held settings xs ys zs feed later n s Memory line stream h i e = cc
-
-same_trouble : (t u : Trouble) → (let answer : Result Audited Trouble = Err t in answer) ≡ Err u → t ≡ u
-same_trouble t u e = cc
-
-pub troubled : (settings : Settings) (feed later : Stored) (s : Summary) (n : ℕ) (a b c : Input) → HasReadSo feed a b (λ xs ys. HasJudged settings xs ys feed n s) → feed.over ≡ None
-    → EndsWithSource feed b → feed.line_limit ≡ 67108864 → feed.stream_limit ≡ 1073741824 → (t : Trouble) → Leaves feed later b c (Err t) → OfReads a c (JudgesAs settings (Err t))
-troubled settings feed later s n a b c p still ends line stream t leaves =
-    answered settings (Err t) (Err t) feed later n s a b c p still ends leaves
-    (λ xs ys zs none h i. record {
-      told = trouble_told settings xs ys zs feed later n s t h i;
-      read_failed = λ e. trouble_held settings xs ys zs feed later n s t line stream h i (same_trouble t ReadFailed e);
-      ahead = tt;
-    })
+    }

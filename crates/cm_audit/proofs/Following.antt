@@ -1,15 +1,13 @@
 -- What goes along with an audit is what it has to be after the stream's envelopes, and at the line that has a fault.
-use Rattle.std.proofs.Common.{◌≡◌, ℕ, ◌+◌, refl, sym, ap, ◌∙◌, subst, List, [], ◌∷◌, ◌++◌, Option, Some, None, Result, Ok, Err, Bool, true, false, append-nil, map}
-use Rattle.std.proofs.lemmas.List.{length-map, map-append}
-use Rattle.std.proofs.lemmas.List.Concat.{flat_map-append}
+use Rattle.std.proofs.Common.{◌≡◌, ℕ, ◌+◌, refl, sym, ap, ◌∙◌, subst, List, [], ◌∷◌, ◌++◌, Option, Some, None, Result, Ok, Err, Bool, true, false, inl, inr, append-nil, append_assoc, length, map, arith}
 use Rattle.cm_envelope.specs.Device.{Input, OfReads}
-use Rattle.cm_envelope.specs.Feeds.{Stored, EndsWithSource, GivesLine, IsNextLine, Leaves, given_line, feed_left, new_feed, is_failed_read}
-use Rattle.cm_envelope.specs.Lines.{Fed, Line, is_blank}
+use Rattle.cm_envelope.specs.Feeds.{is_failed_read}
+use Rattle.cm_envelope.specs.Lines.{is_blank}
 use Rattle.cm_envelope.specs.Reading.{LineFault, envelope_of_line}
 use Rattle.cm_envelope.specs.declared.envelope.Envelope.{Envelope}
 use Rattle.cm_envelope.specs.declared.feed.Trouble.{Trouble}
 use Rattle.cm_envelope.specs.declared.feed.Trouble.TheVariants.{ReadFailed, LineTooLong, StreamTooLong, Memory}
-use Rattle.cm_envelope.proofs.Sources.{HasReadSo, read_so_far, reads_no_more, reads_then, reads_weaker}
+use Rattle.cm_envelope.proofs.Sources.{reads_weaker}
 use Rattle.cm_attempt.specs.Results.{case_results}
 use Rattle.cm_attempt.specs.Table.{Table}
 use Rattle.cm_attempt.specs.declared.settings.Settings.{Settings}
@@ -33,27 +31,22 @@ use Rattle.cm_state.specs.ByOnePass.{finding, summary_after_line, summary_of_lin
 use Rattle.cm_state.proofs.Checked.{findings_are_faults}
 use Rattle.cm_state.proofs.Judged.{judged_is_told, none_yet, one_more_line}
 use Rattle.cm_state.proofs.Steps.{summaries_step}
-use Rattle.cm_audit.specs.Audit.{AnswersAs, GoodAtEnd, IsAuditOf, TakesLine, audited_at, contents, unsuccessful}
-use Rattle.cm_audit.specs.Judging.{FollowsAnswer, HasFollowed, HasJudged, JudgesAs, JudgesWith, TellsAnswer, TellsLine, judged}
+use Rattle.cm_audit.specs.Audit.{AnswersAs, GoodAtEnd, IsAuditOf, TakesLine, audited_at, unsuccessful}
+use Rattle.cm_audit.specs.Judging.{FollowsAnswer, JudgesLine, JudgesWith, TellsAnswer, TellsLine, judged}
+use Rattle.cm_audit.specs.Taking.{StopsAtLine, TakesEach, TakesStream}
 use Rattle.cm_stream.specs.OnePass.{reads}
 use Rattle.cm_stream.proofs.OnePass.{is_read as reads_by_the_grammar}
 use Rattle.cm_audit.specs.Watched.{IsFollowed, IsToldAt, IsWatchedAuditOf, audit_in, envelope_in, envelopes_in, is_of_envelope, with_watch}
 use Rattle.cm_audit.specs.State.{summary_of}
+use Rattle.cm_audit.specs.declared.auditing.Judging.{Judging}
 use Rattle.cm_audit.specs.declared.auditing.WatchedAudit.{WatchedAudit}
 use Rattle.cm_audit.specs.declared.state.State.{State}
 use Rattle.cm_audit.specs.declared.stop.Stop.{Stop}
 use Rattle.cm_audit.specs.declared.stop.Stop.TheVariants as stop
-use Rattle.cm_audit.proofs.Answering.{ends_early, stops_at, troubled}
-use Rattle.cm_audit.proofs.Reading.{at_the_end, next_judged, next_lines, nothing_judged, nothing_lines}
-use Rattle.cm_audit.proofs.Verdicts.{audit_of}
+use Rattle.cm_audit.proofs.Answering.{judged_all, same_settings, stops_at, troubled}
+use Rattle.cm_audit.proofs.Verdicts.{audit_of, none_at_end}
 
 -- ---- the envelopes of lines
-
-one_more : (ls : List Line) (l : Line) → envelopes_in (contents (ls ++ l ∷ [])) ≡ envelopes_in (contents ls) ++ envelope_in (envelope_unless_blank l.bytes)
-one_more ls l =
-    ap envelopes_in (map-append (λ (x : Line). x.bytes) ls (l ∷ []))
-    ∙ flat_map-append (λ (b : List ℕ). envelope_in (envelope_unless_blank b)) (contents ls) (l.bytes ∷ [])
-    ∙ ap (λ es. envelopes_in (contents ls) ++ es) (append-nil (envelope_in (envelope_unless_blank l.bytes)))
 
 -- lines that are read as envelopes are read as these
 read_all : (n : ℕ) (ls : List (List ℕ)) (lines : List (ℕ × Envelope)) → map read_line (nonblank_lines n ls) ≡ map as_read lines → envelopes lines ≡ envelopes_in ls
@@ -87,110 +80,35 @@ kept_next settings old new (Some (Ok e)) es k none h =
     let more : IsFaultless settings (es ++ e ∷ []) = one_more_line settings es e none found in
     (more, k.1 ∙ ap (λ (s : Summary). summary_after_line s e) h ∙ sym (summaries_step settings es e more))
 
--- ---- line by line
-
-pub follows_first : (settings : Settings) (follows : List Envelope → Type 0) → follows [] → (feed : Stored) → feed ≡ new_feed 67108864 1073741824 → (s : Summary) → s ≡ empty_summary settings.first_attempt → (a : Input)
-    → HasReadSo feed a a (λ xs ys. HasFollowed settings follows xs ys feed 0 s)
-follows_first settings follows start feed f s e a =
-    read_so_far (λ xs ys. HasFollowed settings follows xs ys feed 0 s) feed a
-    (λ xs.
-    let none : envelopes_in (contents (nothing_judged settings xs).read.lines) ≡ [] = ap (λ (ls : List Line). envelopes_in (contents ls)) (nothing_lines settings xs) in
-    rw (f, e)
-    (record {
-      judged = nothing_judged settings xs;
-      followed = subst follows (sym none) start;
-      faultless = subst (IsFaultless settings) (sym none) (none_yet settings);
-      kept = ap (summary_of_lines settings.first_attempt) (sym none);
-    }))
-
 -- a line that isn't an envelope has no fault of one
 not_of_envelope : (b : StreamFault) (f : LineFault) → Some (IsBad (NoEnvelope f)) ≡ Some (IsBad (stream_fault_named b)) → is_of_envelope b ≡ true → ⊥
 not_of_envelope (bad.NoEnvelope x) f e some = cc
 not_of_envelope _ f e some = cc
 
+-- `follows` holds of these envelopes, which have no fault, and what is kept is what they leave
+record HasFollowed {W : Type 0} (settings : Settings) (follows : W → List Envelope → Type 0) (es : List Envelope) (now : Judging W) : Type 0 where
+  pub followed : follows now.watch es
+  pub faultless : IsFaultless settings es
+  pub kept : summary_of now.state ≡ summary_of_lines settings.first_attempt es
+
+module _ {W : Type 0} (settings : Settings) (follows : W → List Envelope → Type 0) (tells : W → Summary → Envelope → Type 0) where
+  follows_next : (old new : Judging W) (l : List ℕ) (es : List Envelope) → old.settings ≡ settings → JudgesLine follows tells old l (Ok tt) new → HasFollowed settings follows es old → HasFollowed settings follows (es ++ envelope_in (envelope_unless_blank l)) new
+  follows_next old new l es own k h =
+      let taken : TakesLine settings old.state new.state (envelope_unless_blank l) (Ok tt) = subst (λ (s : Settings). TakesLine s old.state new.state (envelope_unless_blank l) (Ok tt)) own k.taken in
+      let kept = kept_next settings old.state new.state (envelope_unless_blank l) es taken h.faultless h.kept in
+      record { followed = k.followed es h.followed; faultless = kept.0; kept = kept.1 }
+
+  follows_each : (old new : Judging W) (lines : List (List ℕ)) (es : List Envelope) → old.settings ≡ settings → TakesEach (JudgesLine follows tells) old lines new → HasFollowed settings follows es old → HasFollowed settings follows (es ++ envelopes_in lines) new
+  follows_each old new [] es own k h =
+      subst (HasFollowed settings follows (es ++ [])) (sym k) (subst (λ (xs : List Envelope). HasFollowed settings follows xs old) (sym (append-nil es)) h)
+  follows_each old new (l ∷ ls) es own k h =
+      let e = envelope_in (envelope_unless_blank l) in
+      subst (λ (xs : List Envelope). HasFollowed settings follows xs new) (append_assoc es e (envelopes_in ls))
+      (follows_each k.0 new ls (es ++ e) (k.1.settings ∙ own) k.2 (follows_next old k.0 l es own k.1 h))
+
+-- ---- the answer
+
 module _ (settings : Settings) (follows : List Envelope → Type 0) where
-  only_judged : (feed : Stored) (n : ℕ) (s : Summary) (a b : Input) → HasReadSo feed a b (λ xs ys. HasFollowed settings follows xs ys feed n s) → HasReadSo feed a b (λ xs ys. HasJudged settings xs ys feed n s)
-  only_judged feed n s a b p = (p.0, p.1, λ rest none. (p.2 rest none).judged)
-
-  pub follows_next : (follows_new : List Envelope → Type 0) (feed later : Stored) (old new : State) (n : ℕ) (line : List ℕ) (a b c : Input) → HasReadSo feed a b (λ xs ys. HasFollowed settings follows xs ys feed n (summary_of old))
-      → feed.over ≡ None → Leaves feed later b c (Ok (Some line)) → GivesLine feed later line → TakesLine settings old new (envelope_unless_blank line) (Ok tt) → ((es : List Envelope) → follows es → follows_new (es ++ envelope_in (envelope_unless_blank line)))
-      → HasReadSo later a c (λ xs zs. HasFollowed settings follows_new xs zs later (n + 1) (summary_of new))
-  follows_next follows_new feed later old new n line a b c p still leaves g k f =
-      reads_then {P = λ xs ys. HasFollowed settings follows xs ys feed n (summary_of old)} {R = λ xs zs. HasFollowed settings follows_new xs zs later (n + 1) (summary_of new)} feed later a b c p still leaves
-      (λ xs ys zs none h i.
-      let lines : (next_judged settings xs ys zs feed later n old new line h.judged i g k).read.lines ≡ h.judged.read.lines ++ given_line later line ∷ [] = next_lines settings xs ys zs feed later n old new line h.judged i g k in
-      let es = envelopes_in (contents h.judged.read.lines) in
-      let more : envelopes_in (contents (next_judged settings xs ys zs feed later n old new line h.judged i g k).read.lines) ≡ es ++ envelope_in (envelope_unless_blank line) =
-      ap (λ (ls : List Line). envelopes_in (contents ls)) lines ∙ one_more h.judged.read.lines (given_line later line) in
-      let kept = kept_next settings old new (envelope_unless_blank line) es k h.faultless h.kept in
-      record {
-        judged = next_judged settings xs ys zs feed later n old new line h.judged i g k;
-        followed = subst follows_new (sym more) (f es h.followed);
-        faultless = subst (IsFaultless settings) (sym more) kept.0;
-        kept = kept.1 ∙ ap (summary_of_lines settings.first_attempt) (sym more);
-      })
-
-  -- ---- the answer
-
-  -- an answer that isn't Good, and isn't a fault of an envelope
-  alone : (tells : Summary → Envelope → Type 0) (table : Table) (answer : Result Audited Trouble) (a c : Input) → ((xs : List ℕ) → FollowsAnswer settings follows table xs answer) → ((xs : List ℕ) → TellsAnswer settings tells xs answer)
-      → OfReads a c (JudgesAs settings answer) → OfReads a c (JudgesWith settings follows tells table answer)
-  alone tells table answer a c f t p = reads_weaker {P = JudgesAs settings answer} {Q = JudgesWith settings follows tells table answer} a c p (λ xs ys h. record { judges = h; follows_it = f xs; told = t xs })
-
-  not_followed : (after_it : List Envelope → Type 0) (table : Table) (n : ℕ) (why : Stop) (xs : List ℕ) → FollowsAnswer settings after_it table xs (audited_at n why)
-  not_followed after_it table n (stop.Bad b) xs = tt
-  not_followed after_it table n (stop.Unsupported r) xs = tt
-  not_followed after_it table n stop.Memory xs = tt
-
-  told_at : (tells : Summary → Envelope → Type 0) (feed later : Stored) (old new : State) (n : ℕ) (line xs ys zs : List ℕ) → HasFollowed settings follows xs ys feed n (summary_of old) → IsNextLine feed later ys zs line → (why : Stop)
-      → TakesLine settings old new (envelope_unless_blank line) (Err why) → TellsLine tells (summary_of old) (envelope_unless_blank line) (Err why) → TellsAnswer settings tells xs (audited_at (n + 1) why)
-  told_at tells feed later old new n line xs ys zs h i (stop.Unsupported r) k told = tt
-  told_at tells feed later old new n line xs ys zs h i stop.Memory k told = tt
-  told_at tells feed later old new n line xs ys zs h i (stop.Bad b) k told = go (envelope_unless_blank line) refl k told
-    where
-      es : List Envelope
-      es = envelopes_in (contents h.judged.read.lines)
-
-      go : (r : Option (Result Envelope LineFault)) → envelope_unless_blank line ≡ r → TakesLine settings old new r (Err (stop.Bad b)) → TellsLine tells (summary_of old) r (Err (stop.Bad b)) → is_of_envelope b ≡ true → IsToldAt settings tells xs (n + 1) b
-      go None is k told some = absurd k
-      go (Some (Err f)) is k told some = absurd (not_of_envelope b f k some)
-      go (Some (Ok e)) is k told some = record {
-        read = reads;
-        by_the_grammar = reads_by_the_grammar;
-        before = contents h.judged.read.lines;
-        line = line;
-        after = (feed_left later zs).lines;
-        cut = ap (λ (f : Fed). f.lines) h.judged.read.fed ∙ ap (λ (f : Fed). contents h.judged.read.lines ++ f.lines) i.first;
-        count = ap (λ m. m + 1) (sym h.judged.read.count ∙ sym (length-map h.judged.read.lines (λ (l : Line). l.bytes)));
-        said = e;
-        is_read = is;
-        faultless = h.faultless;
-        why = sym (findings_are_faults settings es e h.faultless) ∙ ap (λ (s : Summary). finding settings s e) (sym h.kept) ∙ k;
-        told = subst (λ (s : Summary). tells s e) h.kept told;
-      }
-
-  pub stops_with : (tells : Summary → Envelope → Type 0) (table : Table) (feed later : Stored) (old new : State) (n : ℕ) (line : List ℕ) (a b c : Input) → HasReadSo feed a b (λ xs ys. HasFollowed settings follows xs ys feed n (summary_of old))
-      → feed.over ≡ None → EndsWithSource feed b → Leaves feed later b c (Ok (Some line)) → (why : Stop) → TakesLine settings old new (envelope_unless_blank line) (Err why) → TellsLine tells (summary_of old) (envelope_unless_blank line) (Err why) → (after_it : List Envelope → Type 0)
-      → OfReads a c (JudgesWith settings after_it tells table (audited_at (n + 1) why))
-  stops_with tells table feed later old new n line a b c p still ends leaves why k told after_it =
-      let answer = audited_at (n + 1) why in
-      reads_no_more (JudgesWith settings after_it tells table answer) later a c
-      (reads_then {P = λ xs ys. HasFollowed settings follows xs ys feed n (summary_of old)} {R = JudgesWith settings after_it tells table answer} feed later a b c p still leaves
-      (λ xs ys zs none h i. record {
-        judges = stops_at settings feed later old new n line xs ys zs h.judged i (leaves.line still) none why k;
-        follows_it = not_followed after_it table (n + 1) why xs;
-        told = told_at tells feed later old new n line xs ys zs h i why k told;
-      }))
-      (leaves.source ends)
-
-  pub ends_early_with : (tells : Summary → Envelope → Type 0) (table : Table) (feed later : Stored) (s : Summary) (n : ℕ) (a b c : Input) → HasReadSo feed a b (λ xs ys. HasFollowed settings follows xs ys feed n s) → feed.over ≡ None
-      → EndsWithSource feed b → Leaves feed later b c (Ok None) → s.is_finished ≡ false → OfReads a c (JudgesWith settings follows tells table (Ok (unsuccessful (verdict.Bad (n + 1) bad.NoRunFinished))))
-  ends_early_with tells table feed later s n a b c p still ends leaves e = alone tells table _ a c (λ xs. tt) (λ xs some. absurd cc) (ends_early settings feed later s n a b c (only_judged feed n s a b p) still ends leaves e)
-
-  pub troubled_with : (tells : Summary → Envelope → Type 0) (table : Table) (feed later : Stored) (s : Summary) (n : ℕ) (a b c : Input) → HasReadSo feed a b (λ xs ys. HasFollowed settings follows xs ys feed n s) → feed.over ≡ None
-      → EndsWithSource feed b → feed.line_limit ≡ 67108864 → feed.stream_limit ≡ 1073741824 → (t : Trouble) → Leaves feed later b c (Err t) → OfReads a c (JudgesWith settings follows tells table (Err t))
-  troubled_with tells table feed later s n a b c p still ends line stream t leaves = alone tells table _ a c (λ xs. tt) (λ xs. tt) (troubled settings feed later s n a b c (only_judged feed n s a b p) still ends line stream t leaves)
-
   -- a good stream's lines were all read
   followed_good : (bytes : List ℕ) (s : Summary) (counts : Counts) (success : Bool) (ls : List (List ℕ)) → AnswersAs (judged settings bytes) (Ok (record { verdict = verdict.Good counts; success = success }))
       → (feed_of bytes).lines ≡ ls → follows (envelopes_in ls) → s.table ≡ table_of_envelopes settings.first_attempt (envelopes_in ls) → IsFollowed settings follows s.table bytes
@@ -209,24 +127,111 @@ module _ (settings : Settings) (follows : List Envelope → Type 0) where
         results = ap case_results here ∙ (tables_have_results settings.first_attempt es (table_of_envelopes settings.first_attempt es) accepted).1;
       }
 
-  pub ends_well_with : (tells : Summary → Envelope → Type 0) (feed later : Stored) (s : Summary) (n : ℕ) (a b c : Input) → HasReadSo feed a b (λ xs ys. HasFollowed settings follows xs ys feed n s) → feed.over ≡ None
-      → EndsWithSource feed b → Leaves feed later b c (Ok None) → s.is_finished ≡ true → OfReads a c (JudgesWith settings follows tells s.table (Ok (record { verdict = verdict.Good s.counts; success = s.success })))
-  ends_well_with tells feed later s n a b c p still ends leaves e =
+not_followed : (settings : Settings) (follows : List Envelope → Type 0) (table : Table) (n : ℕ) (why : Stop) (xs : List ℕ) → FollowsAnswer settings follows table xs (audited_at n why)
+not_followed settings follows table n (stop.Bad b) xs = tt
+not_followed settings follows table n (stop.Unsupported r) xs = tt
+not_followed settings follows table n stop.Memory xs = tt
+
+module _ {W : Type 0} (follows : W → List Envelope → Type 0) (tells : W → Summary → Envelope → Type 0) (first : Judging W) (nothing : summary_of first.state ≡ empty_summary first.settings.first_attempt) (start : follows first.watch []) where
+  -- the lines so far were followed
+  so_far : (now : Judging W) (lines : List (List ℕ)) → TakesEach (JudgesLine follows tells) first lines now → HasFollowed first.settings follows (envelopes_in lines) now
+  so_far now lines k = follows_each first.settings follows tells first now lines [] refl k (record { followed = start; faultless = none_yet first.settings; kept = nothing })
+
+  told_at : (new : Judging W) (answer : Result Audited Trouble) (xs zs : List ℕ) (h : StopsAtLine (JudgesLine follows tells) first new answer xs zs) (why : Stop)
+      → TakesLine first.settings h.last.state new.state (envelope_unless_blank h.line) (Err why) → TellsLine (tells new.watch) (summary_of h.last.state) (envelope_unless_blank h.line) (Err why)
+      → TellsAnswer first.settings (tells new.watch) xs (audited_at (length h.before + 1) why)
+  told_at new answer xs zs h (stop.Unsupported r) k told = tt
+  told_at new answer xs zs h stop.Memory k told = tt
+  told_at new answer xs zs h (stop.Bad b) k told = go (envelope_unless_blank h.line) refl k told
+    where
+      es : List Envelope
+      es = envelopes_in h.before
+
+      go : (r : Option (Result Envelope LineFault)) → envelope_unless_blank h.line ≡ r → TakesLine first.settings h.last.state new.state r (Err (stop.Bad b)) → TellsLine (tells new.watch) (summary_of h.last.state) r (Err (stop.Bad b))
+          → is_of_envelope b ≡ true → IsToldAt first.settings (tells new.watch) xs (length h.before + 1) b
+      go None is k told some = absurd k
+      go (Some (Err f)) is k told some = absurd (not_of_envelope b f k some)
+      go (Some (Ok e)) is k told some =
+          let followed = so_far h.last h.before h.taken in
+          record {
+            read = reads;
+            by_the_grammar = reads_by_the_grammar;
+            before = h.before;
+            line = h.line;
+            after = h.after;
+            cut = h.cut;
+            count = refl;
+            said = e;
+            is_read = is;
+            faultless = followed.faultless;
+            why = sym (findings_are_faults first.settings es e followed.faultless) ∙ ap (λ (s : Summary). finding first.settings s e) (sym followed.kept) ∙ k;
+            told = subst (λ (s : Summary). tells new.watch s e) followed.kept told;
+          }
+
+  stops_with : (table : Table) (new : Judging W) (answer : Result Audited Trouble) (xs zs : List ℕ) → StopsAtLine (JudgesLine follows tells) first new answer xs zs → JudgesWith first.settings (follows new.watch) (tells new.watch) table answer xs zs
+  stops_with table new answer xs zs h =
+      let own : h.last.settings ≡ first.settings = same_settings follows tells first h.last h.before h.taken in
+      let k : TakesLine first.settings h.last.state new.state (envelope_unless_blank h.line) (Err h.why) = subst (λ (s : Settings). TakesLine s h.last.state new.state (envelope_unless_blank h.line) (Err h.why)) own h.stopped.taken in
+      subst (λ (a : Result Audited Trouble). JudgesWith first.settings (follows new.watch) (tells new.watch) table a xs zs) (sym h.answers)
+      (record {
+        judges = stops_at follows tells first nothing new answer xs zs h k;
+        follows_it = not_followed first.settings (follows new.watch) table (length h.before + 1) h.why xs;
+        told = told_at new answer xs zs h h.why k h.stopped.told;
+      })
+
+  ended_with : (table : Table) (new : Judging W) (answer : Result Audited Trouble) (xs zs : List ℕ) → TakesStream (JudgesLine follows tells) first new (Err answer) xs zs → JudgesWith first.settings (follows new.watch) (tells new.watch) table answer xs zs
+  ended_with table new answer xs zs (inl h) = stops_with table new answer xs zs h
+  ended_with table new answer xs zs (inr h) =
+      subst (λ (a : Result Audited Trouble). JudgesWith first.settings (follows new.watch) (tells new.watch) table a xs zs) (sym h.1)
+      (record { judges = troubled follows tells first nothing new h.0 xs zs h.2; follows_it = tt; told = tt })
+
+  -- the answer at a line, or for a trouble
+  pub answers_with : (table : Table) (new : Judging W) (answer : Result Audited Trouble) (a c : Input) → OfReads a c (TakesStream (JudgesLine follows tells) first new (Err answer)) → OfReads a c (JudgesWith first.settings (follows new.watch) (tells new.watch) table answer)
+  answers_with table new answer a c p =
+      reads_weaker {P = TakesStream (JudgesLine follows tells) first new (Err answer)} {Q = JudgesWith first.settings (follows new.watch) (tells new.watch) table answer} a c p (ended_with table new answer)
+
+  -- the end, before the run is over
+  pub ends_early_with : (table : Table) (new : Judging W) (n : ℕ) (a c : Input) → new.state.is_finished ≡ false → OfReads a c (TakesStream (JudgesLine follows tells) first new (Ok n))
+      → OfReads a c (JudgesWith first.settings (follows new.watch) (tells new.watch) table (Ok (unsuccessful (verdict.Bad (n + 1) bad.NoRunFinished))))
+  ends_early_with table new n a c e p =
+      let answer : Result Audited Trouble = Ok (unsuccessful (verdict.Bad (n + 1) bad.NoRunFinished)) in
+      reads_weaker {P = TakesStream (JudgesLine follows tells) first new (Ok n)} {Q = JudgesWith first.settings (follows new.watch) (tells new.watch) table answer} a c p
+      (λ xs zs h. record {
+        judges = record {
+          told = let end : judged first.settings xs ≡ answer_at_end (length (feed_of xs).lines + 1) (summary_of new.state) (finding_at_end (summary_of new.state)) = judged_all follows tells first nothing new xs None h.whole h.taken in
+              sym (end ∙ rw (e, ← h.count) refl);
+          read_failed = λ failed. cc;
+          ahead = inl (omega (arith, h.count));
+        };
+        follows_it = tt;
+        told = λ some. absurd cc;
+      })
+
+  -- the end, once the run is over
+  pub ends_well_with : (new : Judging W) (n : ℕ) (a c : Input) → new.state.is_finished ≡ true → OfReads a c (TakesStream (JudgesLine follows tells) first new (Ok n))
+      → OfReads a c (JudgesWith first.settings (follows new.watch) (tells new.watch) (summary_of new.state).table (Ok (record { verdict = verdict.Good new.state.counts; success = new.state.success })))
+  ends_well_with new n a c e p =
+      let s = summary_of new.state in
       let answer : Result Audited Trouble = Ok (record { verdict = verdict.Good s.counts; success = s.success }) in
-      reads_no_more (JudgesWith settings follows tells s.table answer) later a c
-      (reads_then {P = λ xs ys. HasFollowed settings follows xs ys feed n s} {R = JudgesWith settings follows tells s.table answer} feed later a b c p still leaves
-      (λ xs ys zs none h i.
-      let read = h.judged.read in
-      let end : answer_at_end (n + 1) s (finding_at_end s) ≡ answer_at_end (n + 1) s None = rw e refl in
-      let told : AnswersAs (judged settings xs) answer = sym (at_the_end settings h.judged.read h.judged.judges i ∙ end) in
-      let all : (feed_of xs).lines ≡ contents h.judged.read.lines =
-      ap (λ (f : Fed). f.lines) h.judged.read.fed ∙ ap (λ (f : Fed). contents h.judged.read.lines ++ f.lines) i ∙ append-nil (contents h.judged.read.lines) in
+      reads_weaker {P = TakesStream (JudgesLine follows tells) first new (Ok n)} {Q = JudgesWith first.settings (follows new.watch) (tells new.watch) s.table answer} a c p
+      (λ xs zs h.
+      let lines = (feed_of xs).lines in
+      let end : answer_at_end (length lines + 1) s (finding_at_end s) ≡ answer_at_end (length lines + 1) s None = rw e refl in
+      let told : AnswersAs (judged first.settings xs) answer = sym (judged_all follows tells first nothing new xs None h.whole h.taken ∙ end) in
+      let followed = so_far new lines h.taken in
       record {
         judges = record { told = told; read_failed = λ failed. cc; ahead = tt };
-        follows_it = followed_good xs s s.counts s.success (contents h.judged.read.lines) told all h.followed (ap (λ (u : Summary). u.table) h.kept);
+        follows_it = followed_good first.settings (follows new.watch) xs s s.counts s.success lines told refl followed.followed (ap (λ (u : Summary). u.table) followed.kept);
         told = tt;
-      }))
-      (leaves.source ends)
+      })
+
+  -- no answer at a line or for a trouble is Good
+  not_good : (new : Judging W) (answer : Result Audited Trouble) (after : Input) (xs zs : List ℕ) → TakesStream (JudgesLine follows tells) first new (Err answer) xs zs → GoodAtEnd after answer
+  not_good new answer after xs zs (inl h) = subst (GoodAtEnd after) (sym h.answers) (none_at_end after (length h.before + 1) h.why)
+  not_good new answer after xs zs (inr h) = subst (GoodAtEnd after) (sym h.1) tt
+
+  pub not_good_with : (new : Judging W) (answer : Result Audited Trouble) (a c : Input) → OfReads a c (TakesStream (JudgesLine follows tells) first new (Err answer)) → GoodAtEnd c answer
+  not_good_with new answer a c p = not_good new answer c (p.0 ++ []) [] (p.2 [] (λ over. refl))
 
 -- ---- the audit
 

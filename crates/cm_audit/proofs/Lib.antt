@@ -11,4 +11,5 @@ pub mod Repeats
 pub mod Runs
 pub mod SameLists
 pub mod Skeleton
+pub mod Taking
 pub mod Verdicts

@@ -4,14 +4,16 @@
 -- Kept: the sources that an audit keeps, as rows of what it has seen
 -- State: what an audit keeps, as a summary of the lines so far
 -- Audit: what an audit answers of the bytes of a stream, and how far it reads
+-- Taking: the lines of a stream, taken one after another, and how that ends
 -- Watched: what a watch is after an audit
--- Judging: the answer line by line, and what was read of a stream
+-- Judging: the answer line by line
 -- Record: what the record of attempts answers to an envelope
 pub mod Matching
 pub mod Stops
 pub mod Kept
 pub mod State
 pub mod Audit
+pub mod Taking
 pub mod Watched
 pub mod Judging
 pub mod Record

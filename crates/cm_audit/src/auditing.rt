@@ -1,5 +1,5 @@
 //! The audit of a stream of Cucumber Messages.
-ghost use Rattle.std.specs.Prelude.{◌≡◌, ◌++◌, ◌∷◌, [], List, Some, Ok, Err, OnOk};
+ghost use Rattle.std.specs.Prelude.{◌≡◌, ◌+◌, ◌++◌, ◌∷◌, [], List, Some, Ok, Err, OnOk};
 ghost use Rattle.cm_envelope.specs.Device.{CountsFailure, OfInput, OfReads};
 ghost use Rattle.cm_envelope.specs.declared.envelope.Envelope.{Envelope as SomeEnvelope};
 ghost use Rattle.cm_envelope.specs.declared.feed.Trouble.TheVariants.{ReadFailed};
@@ -7,20 +7,20 @@ ghost use Rattle.cm_attempt.specs.Settings.{settings_of};
 ghost use Rattle.cm_stream.specs.Stream.{NoneIsGood, envelope_unless_blank, verdict_in};
 ghost use Rattle.cm_audit.specs.Audit.{AnswersTold, Audits, DecidesGood, GoodAtEnd, GoodHeard, IsVerdictOf, ReadsUpTo};
 ghost use Rattle.cm_audit.specs.Audit.{ShowNoFault, ShowsUnsupported, TakesLine};
-ghost use Rattle.cm_audit.specs.Audit.{audited_at, unsuccessful};
 ghost use Rattle.cm_envelope.specs.Feeds.{is_failed_read};
-ghost use Rattle.cm_audit.specs.Judging.{JudgesWith, TellsLine};
+ghost use Rattle.cm_audit.specs.Judging.{JudgesLine, JudgesWith, TellsLine};
 ghost use Rattle.cm_audit.specs.Watched.{IsWatchedAuditOf, audit_in, envelope_in, with_watch};
 ghost use Rattle.cm_audit.specs.State.{AreFewer, Takes, summary_of};
 ghost use Rattle.cm_state.specs.Summary.{empty_summary};
 
 use crate::judge::judge;
 use crate::limits::MOST;
+use crate::lines::{TakeLines, take_lines};
 use crate::state::State;
-use crate::stop::Stop;
+use crate::stop::{Stop, unsuccessful};
 use crate::watch::{Unwatched, Watch};
 use cm_attempt::{Policy, Settings, Track};
-use cm_envelope::{ByteSource, Envelope, Feed, Trouble, is_blank_line, read_envelope};
+use cm_envelope::{ByteSource, Envelope, Trouble, is_blank_line, read_envelope};
 use cm_stream::{Audited, StreamFault, Verdict};
 use std::alloc::Global;
 
@@ -72,69 +72,50 @@ fn take_line<W: Watch>(
     }
 }
 
-/// The verdict on a stream that isn't good: of its run no success is known.
-fn unsuccessful(verdict: Verdict) -> Audited
-    ensures { result ≡ unsuccessful verdict }
-{
-    Audited {
-        verdict,
-        success: false,
-    }
+/// An audit that is under way.
+#[derive(Drop)]
+struct Judging<W> {
+    state: State,
+    watch: W,
+    settings: Settings,
 }
 
-/// The answer where the reading ends at the line of this number, counted from 1.
-pub fn audited_at(stop: Stop, line: u64) -> Result<Audited, Trouble>
-    ensures { result ≡ audited_at line stop }
-{
-    match stop {
-        Stop::Bad(fault) => Ok(unsuccessful(Verdict::Bad { line, fault })),
-        Stop::Unsupported(reason) => Ok(unsuccessful(Verdict::Unsupported { line, reason })),
-        Stop::Memory => Err(Trouble::Memory),
+impl<W: Watch> TakeLines for Judging<W> {
+    ghost is_ready = { λ n judging. AreFewer (n + 1) judging.state.counts };
+
+    ghost takes = { λ old line result new. JudgesLine W.follows W.tells old line result new };
+
+    fn take_line(&mut self, alloc: Global, line: &[u8]) -> Result<(), Stop> {
+        take_line(alloc, &mut self.state, &mut self.watch, line, self.settings)
     }
 }
 
 /// Judges a stream line by line, from its start.
 fn judge_lines<R: ByteSource, W: Watch>(
     alloc: Global,
-    state: &mut State,
-    watch: &mut W,
+    judging: &mut Judging<W>,
     source: &mut R,
-    settings: Settings,
 ) -> Result<Audited, Trouble>
-    requires nothing { summary_of state.old ≡ empty_summary settings.first_attempt }
-    requires starts { W.follows watch.old [] }
+    requires nothing { summary_of judging.old.state
+        ≡ empty_summary judging.old.settings.first_attempt }
+    requires starts { W.follows judging.old.watch [] }
     ensures judged { OfReads (R.input source.old) (R.input source.new)
-        (JudgesWith settings (W.follows watch.new) (W.tells watch.new) (summary_of state.new).table
-        result) }
+        (JudgesWith judging.old.settings (W.follows judging.new.watch)
+        (W.tells judging.new.watch) (summary_of judging.new.state).table result) }
     ensures at_end { GoodAtEnd (R.input source.new) result }
     ensures failures { CountsFailure (is_failed_read result) (R.input source.old).failed_calls
         (R.input source.new).failed_calls }
 {
-    let mut feed = Feed::new(alloc);
-    let mut number: u64 = 0;
-    'lines: loop {
-        match feed.next_line(source) {
-            Ok(Some(line)) => {
-                number += 1;
-                match take_line(alloc, state, watch, line, settings) {
-                    Ok(()) => {}
-                    Err(stop) => return audited_at(stop, number),
-                }
-            }
-            Ok(None) if state.is_finished => {
-                return Ok(Audited {
-                    verdict: Verdict::Good(state.counts),
-                    success: state.success,
-                });
-            }
-            Ok(None) => {
-                return Ok(unsuccessful(Verdict::Bad {
-                    line: number + 1,
-                    fault: StreamFault::NoRunFinished,
-                }));
-            }
-            Err(trouble) => return Err(trouble),
-        }
+    match take_lines(alloc, judging, source) {
+        Ok(_) if judging.state.is_finished => Ok(Audited {
+            verdict: Verdict::Good(judging.state.counts),
+            success: judging.state.success,
+        }),
+        Ok(lines) => Ok(unsuccessful(Verdict::Bad {
+            line: lines + 1,
+            fault: StreamFault::NoRunFinished,
+        })),
+        Err(answer) => answer,
     }
 }
 
@@ -186,10 +167,13 @@ pub fn audit_watched<R: ByteSource, W: Watch + Drop>(
     ensures failures { CountsFailure (is_failed_read result) (R.input source.old).failed_calls
         (R.input source.new).failed_calls }
 {
-    let mut state = State::new(alloc, settings.first_attempt);
-    let mut watch = watch;
-    let audited = judge_lines(alloc, &mut state, &mut watch, source, settings);
-    with_watch(audited, watch, state.into_track())
+    let mut judging = Judging {
+        state: State::new(alloc, settings.first_attempt),
+        watch,
+        settings,
+    };
+    let audited = judge_lines(alloc, &mut judging, source);
+    with_watch(audited, judging.watch, judging.state.into_track())
 }
 
 /// The audit alone.

@@ -15,8 +15,9 @@
 //!
 //! `audit_run` is the audit, by settings; `audit_with` and `audit` give its verdict alone, by a policy and by the strict one.
 //! `audit_watched` is the same audit, which a `Watch` goes along with: it is told of each envelope before that is judged, and
-//! sees the `State`, what the audit keeps of the lines before. `audited_at` is the answer where the reading ends at a line, for a
-//! `Stop`. `track` takes an envelope into a record of attempts, and `kept_status` gives the status that such a record keeps.
+//! sees the `State`, what the audit keeps of the lines before. `take_lines` reads a stream line by line for anything that takes
+//! lines (`TakeLines`), as an audit does. `audited_at` is the answer where the reading ends at a line, for a `Stop`. `track` takes
+//! an envelope into a record of attempts, and `kept_status` gives the status that such a record keeps.
 #![tactic(auto)]
 
 mod auditing;
@@ -26,6 +27,7 @@ mod judge_cases;
 mod judge_features;
 mod judge_run;
 mod limits;
+mod lines;
 mod matching;
 mod record;
 mod source;
@@ -33,11 +35,12 @@ mod state;
 mod stop;
 mod watch;
 
-pub use auditing::{WatchedAudit, audit, audit_run, audit_watched, audit_with, audited_at};
+pub use auditing::{WatchedAudit, audit, audit_run, audit_watched, audit_with};
 pub use cm_attempt::{Policy, Settings};
 pub use cm_stream::{Audited, Counts, Reason, StreamFault, Verdict};
+pub use lines::{TakeLines, take_lines};
 pub use record::{kept_status, track};
 pub use source::{AcceptedSource, KeptSource};
 pub use state::{Names, Sources, State};
-pub use stop::Stop;
+pub use stop::{Stop, audited_at};
 pub use watch::Watch;

@@ -1,9 +1,8 @@
-use Rattle.std.proofs.Common.{◌≡◌, ◌≤◌, ◌+◌, ◌-◌, None}
+use Rattle.std.proofs.Common.{◌≡◌, ◌≤◌, ◌-◌, None}
 use Rattle.cm_envelope.specs.Feeds.{EndsWithSource}
 use Rattle.cm_envelope.proofs.Sources.{HasReadSo}
-use Rattle.cm_audit.specs.Judging.{HasFollowed}
-use Rattle.cm_audit.specs.State.{AreFewer, summary_of}
-use Rattle.cm_audit.proofs.auditing.judge_lines.Given as goal
+use Rattle.cm_audit.proofs.Taking.{HasTaken}
+use Rattle.cm_audit.proofs.lines.take_lines.Given as goal
 
 abbrev pub invariant-lines : goal.invariant-lines
 invariant-lines g l = record {
@@ -12,9 +11,9 @@ invariant-lines g l = record {
   stream_limit : l.feed.stream_limit ≡ 1073741824;
   counted : l.number ≤ l.feed.given;
   few : l.feed.given ≤ 1073741824;
-  fewer : AreFewer (l.number + 1) l.state.counts;
   ends : EndsWithSource l.feed (g.R.ByteSource.input l.source);
-  judged : HasReadSo l.feed (g.R.ByteSource.input l.fn.source) (g.R.ByteSource.input l.source) (λ xs ys. HasFollowed l.fn.settings (g.W.Watch.follows l.watch) xs ys l.feed l.number (summary_of l.state));
+  ready : g.T.TakeLines.is_ready l.number l.taker;
+  taken : HasReadSo l.feed (g.R.ByteSource.input l.fn.source) (g.R.ByteSource.input l.source) (λ xs ys. HasTaken g.T.TakeLines.takes l.fn.taker xs ys l.feed l.number l.taker);
   no_failure : (g.R.ByteSource.input l.source).failed_calls ≡ (g.R.ByteSource.input l.fn.source).failed_calls;
 }
 
