@@ -3,7 +3,7 @@ use crate::lines::{RETRIED, stream_of};
 use ck_commands::{TextFault, read_text};
 use cm_audit::{Counts, Reason, StreamFault, Verdict, audit};
 use cm_envelope::{ByteSource, LineFault, Trouble};
-use devices::{Endless, Pieces};
+use devices::{Pieces, Repeating};
 use std::alloc::Global;
 use std::process::Abort;
 use std::test::Fail;
@@ -90,7 +90,7 @@ fn the_text_of_a_source(rt: HostRuntime) {
 
 #[test]
 fn sources_without_a_text(rt: HostRuntime) {
-    let mut endless = Endless::new(b' ');
+    let mut endless = Repeating::new(b' ');
     expect_text(&rt, rt.alloc(), &mut endless, Err(TextFault::TooLong));
     let mut other = Pieces::whole(b"\xff");
     expect_text(&rt, rt.alloc(), &mut other, Err(TextFault::NotUtf8));

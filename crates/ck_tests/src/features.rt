@@ -2,7 +2,7 @@
 use crate::lines::repeated;
 use crate::running::expect_told;
 use ck_commands::run;
-use devices::{Endless, Failing, Pieces, Store};
+use devices::{Failing, Pieces, Repeating, Store};
 use std::alloc::Global;
 use std::process::Abort;
 use std::test::Fail;
@@ -93,7 +93,7 @@ fn texts_at_the_limit_of_lines(rt: HostRuntime) -> Result<(), Fail> {
 // The text is refused once 65,536 bytes beyond the limit were read.
 #[test]
 fn a_text_without_end(rt: HostRuntime) {
-    let mut source = Endless::new(b'\xff');
+    let mut source = Repeating::new(b'\xff');
     let mut sink = Store::new(rt.alloc(), 7);
     assert_eq!(rt; run(rt.alloc(), &["parse"], &mut source, &mut sink), 1);
     assert_eq!(rt; sink.bytes(), "refused 0:0 6 TooLong\n".as_bytes());

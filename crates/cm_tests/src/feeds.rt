@@ -1,6 +1,6 @@
 //! The lines that a feed answers, over sources in memory.
 use cm_envelope::{ByteSource, Feed, Reader, Trouble, is_blank_line};
-use devices::{Endless, Failing, Pieces};
+use devices::{Failing, Pieces, Repeating};
 use std::alloc::Global;
 use std::process::Abort;
 
@@ -59,7 +59,7 @@ fn lines_within_small_limits(rt: HostRuntime) {
 
 fn expect_endless(rt: &impl Abort, alloc: Global, byte: u8, answers: &str) {
     let mut feed = Feed::with_limits(alloc, 4, 10);
-    expect_answers(rt, &mut feed, &mut Endless::new(byte), answers);
+    expect_answers(rt, &mut feed, &mut Repeating::new(byte), answers);
 }
 
 #[test]

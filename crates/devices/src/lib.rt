@@ -13,17 +13,17 @@
 //! }
 //! ```
 //!
-//! `Pieces` and `Endless` are sources, `Store` and `Compared` are sinks. No crate of the product uses them.
+//! `Pieces` and `Repeating` are sources, `Store` and `Compared` are sinks. No crate of the product uses them.
 #![tactic(auto)]
 
 mod compared;
-mod endless;
 mod failing;
 mod pieces;
+mod repeating;
 mod store;
 
 pub use compared::Compared;
-pub use endless::Endless;
 pub use failing::{FailedWrite, Failing};
 pub use pieces::Pieces;
+pub use repeating::Repeating;
 pub use store::Store;
