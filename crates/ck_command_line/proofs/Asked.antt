@@ -14,7 +14,8 @@ use Rattle.ck_command_line.specs.CommandLine.{gate_command, audit_command, cases
 use Rattle.ck_command_line.specs.Asked.{Ask, CallForHelp, TakesItsOptions, RefusesFiles, RefusesOtherOptions, FeaturesAreAsked, NothingIsAsked, ExamplesAreAsked}
 use Rattle.ck_command_line.specs.Asked.{all_words, usages, named_options, examples, mistakes, help_calls, is_option, words_of_line}
 use Rattle.ck_command_line.proofs.Leaves.{LineAnswers, leaf, gate_words, audit_words, cases_words, differs_words, results_words, parse_words, compile_words}
-use Rattle.ck_command_line.proofs.Options.{answers, gate_takes, audit_takes, results_takes}
+use Rattle.ck_command_line.proofs.Gate.{gate_takes}
+use Rattle.ck_command_line.proofs.Options.{answers, audit_takes, results_takes}
 use Rattle.ck_command_line.proofs.Plain.{plain}
 use Rattle.ck_command_line.proofs.Refused.{file_is_refused, option_is_refused, gate_leaf, audit_leaf, cases_leaf, differs_leaf, results_leaf, parse_leaf, compile_leaf}
 
@@ -96,8 +97,17 @@ module _ (name : Text) (help : codes "help" ≢ name) where
   not_audit : codes "pending-passes" ≢ name → codes "attempts-from" ≢ name → HasNone audit_command name
   not_audit p n = rw (differ (codes "pending-passes") name p, differ (codes "attempts-from") name n, differ (codes "help") name help) refl
 
-  not_gate : codes "allow-unrun" ≢ name → codes "pending-passes" ≢ name → codes "attempts-from" ≢ name → HasNone gate_command name
-  not_gate u p n = rw (differ (codes "allow-unrun") name u, differ (codes "pending-passes") name p, differ (codes "attempts-from") name n, differ (codes "help") name help) refl
+  not_gate : codes "allow-unrun" ≢ name →
+      codes "allow-unrun-tagged" ≢ name →
+      codes "no-retries" ≢ name →
+      codes "no-skips" ≢ name →
+      codes "no-stepless" ≢ name →
+      codes "no-undefined" ≢ name →
+      codes "strict" ≢ name →
+      codes "pending-passes" ≢ name →
+      codes "attempts-from" ≢ name → HasNone gate_command name
+  not_gate u t r k l d s p n =
+      rw (differ (codes "allow-unrun") name u, differ (codes "allow-unrun-tagged") name t, differ (codes "no-retries") name r, differ (codes "no-skips") name k, differ (codes "no-stepless") name l, differ (codes "no-undefined") name d, differ (codes "strict") name s, differ (codes "pending-passes") name p, differ (codes "attempts-from") name n, differ (codes "help") name help) refl
 
 pub other_options_are_refused : AllByRecursion RefusesOtherOptions named_options
 other_options_are_refused = (
@@ -105,7 +115,7 @@ other_options_are_refused = (
   (
     λ word name value long h options k others. ask (codes "compile" ∷ all_words options ++ word ∷ others) None (compile_words (all_words options ++ word ∷ others) None (option_is_refused (leaf compile_command) compile_leaf options k word name value long (not_compile name h.0 h.1.0) others)),
     (
-      λ word name value long h options k others. ask (codes "gate" ∷ all_words options ++ word ∷ others) None (gate_words (all_words options ++ word ∷ others) None (option_is_refused (leaf gate_command) gate_leaf options k word name value long (not_gate name h.0 h.1.0 h.1.1.0 h.1.1.1.0) others)),
+      λ word name value long h options k others. ask (codes "gate" ∷ all_words options ++ word ∷ others) None (gate_words (all_words options ++ word ∷ others) None (option_is_refused (leaf gate_command) gate_leaf options k word name value long (not_gate name h.0 h.1.0 h.1.1.0 h.1.1.1.0 h.1.1.1.1.0 h.1.1.1.1.1.0 h.1.1.1.1.1.1.0 h.1.1.1.1.1.1.1.0 h.1.1.1.1.1.1.1.1.0 h.1.1.1.1.1.1.1.1.1.0) others)),
       (
         λ word name value long h options k others. ask (codes "audit" ∷ all_words options ++ word ∷ others) None (audit_words (all_words options ++ word ∷ others) None (option_is_refused (leaf audit_command) audit_leaf options k word name value long (not_audit name h.0 h.1.0 h.1.1.0) others)),
         (

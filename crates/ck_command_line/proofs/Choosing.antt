@@ -1,16 +1,21 @@
 -- What a parse of the command line says of the choice.
-use Rattle.std.proofs.Common.{◌≡◌, ◌∙◌, ◌⊎◌, List, [], ◌∷◌, Option, Some, None, Ok, Err, true, option_map, refl, sym, ap, subst, inl, inr}
+use Rattle.std.proofs.Common.{◌≡◌, ◌∙◌, ◌⊎◌, List, [], ◌∷◌, Option, Some, None, Ok, Err, true, option_map, refl, sym, ap, ap₂, subst, inl, inr}
 use Rattle.std.proofs.lemmas.Bool.{or_left, or_right}
+use Rattle.std.specs.Box.{box_value}
 use Rattle.std.specs.List.{list_any}
+use Rattle.std.specs.Option.{unwrap_or}
 use Rattle.clap.specs.Kinds.{IsAmong}
-use Rattle.clap.specs.Words.{App, HasMatchesOf, Kinds, HasKind, Text, fault_of, is_simple, is_simple_and_free, kind_of, subcommand_of, subcommand_rows_of}
+use Rattle.clap.specs.Words.{App, HasMatchesOf, Kinds, HasKind, Row, Text, fault_of, found_of, is_simple, is_simple_and_free, kind_of, rows_of, subcommand_name_of, subcommand_of, subcommand_rows_of}
 use Rattle.clap.specs.declared.error.Error.{Error}
 use Rattle.clap.specs.declared.error.kind.ErrorKind.{ErrorKind}
 use Rattle.clap.specs.declared.error.kind.ErrorKind.TheVariants.{DisplayHelp, DisplayVersion, OutOfMemory}
 use Rattle.clap.specs.declared.parser.matches.ArgMatches.{ArgMatches}
-use Rattle.ck_command_line.specs.CommandLine.{Chooses, Command, command_of_choice, command_app, command_of, subcommand_named, where_none}
+use Rattle.clap.specs.declared.parser.matches.ArgMatches.TheViews.{out-ArgMatches, out-SubCommand}
+use Rattle.ck_command_line.specs.CommandLine.{Chooses, Command, Gives, command_of_choice, command_app, command_of, subcommand_named, where_none}
 use Rattle.ck_command_line.specs.CommandLine.{HelpsByKind, HelpsOnCall, IsNoHelp, is_help, is_help_call}
 use Rattle.ck_command_line.specs.declared.command_line.Choice.{Choice}
+use Rattle.ck_command_line.specs.declared.command_line.NoChoice.{NoChoice}
+use Rattle.ck_command_line.specs.declared.command_line.NoChoice.TheVariants as reason
 use Rattle.ck_command_line.specs.declared.command_line.Refusal.{Refusal}
 use Rattle.ck_command_line.specs.declared.command_line.Refusal.TheVariants.{Memory, Help, Usage}
 
@@ -48,14 +53,33 @@ refused a words e r is free memory =
     subst (λ b. Chooses (where_none (fault_of b words) (subcommand_named (subcommand_of b words))) (Err r)) is
     (by_kinds (fault_of a words) (subcommand_named (subcommand_of a words)) e r (free (is_free_command a is)) memory)
 
--- the choice that was read off the matches
-pub chosen_some : (words : List Text) (found : Option Choice) (c : Choice) → found ≡ Some c → option_map command_of_choice found ≡ command_of words
-    → Chooses (command_of words) (Ok c)
-chosen_some words found c is same = subst (λ o. Chooses o (Ok c)) (sym (ap (option_map command_of_choice) is) ∙ same) refl
+abbrev pair : {X : Type 0} → (X → Text) → (X → List Row) → X → Text × List Row
+pair f g x = (f x, g x)
 
-pub chosen_none : (words : List Text) (found : Option Choice) (r : Refusal) → found ≡ None → option_map command_of_choice found ≡ command_of words
+named : {X : Type 0} (f : X → Text) (g : X → List Row) (sub : Option X) (name : Text) (rows : List Row) → option_map f sub ≡ Some name
+    → option_map (λ (p : Text × List Row). p.1) (option_map (pair f g) sub) ≡ Some rows → option_map (pair f g) sub ≡ Some (name, rows)
+named f g None name rows is has = cc
+named f g (Some x) name rows is has = ap₂ (λ (n : Text) (rs : List Row). Some (n, rs)) (ap (λ o. unwrap_or o name) is) (ap (λ o. unwrap_or o rows) has)
+
+-- the command in the matches
+pub met : (m : ArgMatches) (name : Text) (rows : List Row) → Some name ≡ subcommand_name_of m → Some rows ≡ option_map (λ (p : Text × List Row). p.1) (subcommand_rows_of m) → subcommand_rows_of m ≡ Some (name, rows)
+met m name rows is has = named (λ b. (out-SubCommand (box_value b)).name.now) (λ b. rows_of (found_of (out-SubCommand (box_value b)).matches)) (out-ArgMatches m).subcommand name rows (sym is) (sym has)
+
+-- the choice that was read off the matches
+pub chosen_some : (words : List Text) (asked : Option Command) (c : Choice) → Gives command_of_choice asked (Ok c) → asked ≡ command_of words → Chooses (command_of words) (Ok c)
+chosen_some words asked c is same = subst (λ o. Chooses o (Ok c)) (sym is ∙ same) refl
+
+by_reason : (asked : Option Command) (why : NoChoice) (r : Refusal) → Gives command_of_choice asked (Err why) → (why ≡ reason.Memory → r ≡ Memory) → Chooses asked (Err r)
+by_reason (Some c) reason.Memory r is memory = memory refl
+by_reason None reason.Memory r is memory = refl
+by_reason asked reason.NoCommand r is memory = subst (λ o. Chooses o (Err r)) (sym is) refl
+by_reason asked reason.WrongAttempts r is memory = subst (λ o. Chooses o (Err r)) (sym is) refl
+by_reason asked reason.WrongTag r is memory = subst (λ o. Chooses o (Err r)) (sym is) refl
+by_reason asked reason.BothUnrun r is memory = subst (λ o. Chooses o (Err r)) (sym is) refl
+
+pub chosen_none : (words : List Text) (asked : Option Command) (why : NoChoice) (r : Refusal) → Gives command_of_choice asked (Err why) → (why ≡ reason.Memory → r ≡ Memory) → asked ≡ command_of words
     → Chooses (command_of words) (Err r)
-chosen_none words found r is same = subst (λ o. Chooses o (Err r)) (sym (ap (option_map command_of_choice) is) ∙ same) refl
+chosen_none words asked why r is memory same = subst (λ o. Chooses o (Err r)) same (by_reason asked why r is memory)
 
 pub no_help : (words : List Text) (r : Refusal) → IsNoHelp r → HelpsOnCall words (Err r)
 no_help words (Help t) h = absurd h

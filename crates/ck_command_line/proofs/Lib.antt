@@ -1,6 +1,11 @@
 pub mod Choosing
+pub mod Tags
 pub mod Plain
+pub mod Rows
+pub mod Said
 pub mod Leaves
+pub mod Between
+pub mod Gate
 pub mod Options
 pub mod Refused
 pub mod Asked

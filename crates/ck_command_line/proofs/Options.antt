@@ -1,4 +1,4 @@
--- Each list of a command's own options is read.
+-- Each list of their own options is read by the commands other than `gate`.
 use Rattle.std.proofs.Common.{◌≡◌, ◌∙◌, true, false, List, [], ◌∷◌, Option, Some, None, refl, ap, option_map}
 use Rattle.std.proofs.lemmas.Bool.{false≢true}
 use Rattle.std.specs.Prelude.{codes}
@@ -8,9 +8,10 @@ use Rattle.clap.specs.Simple.{Shape}
 use Rattle.clap.specs.Walk.{bundle_met, rows_after, walked}
 use Rattle.clap.specs.Faults.{flags_fault, walk_fault, defaults_fault}
 use Rattle.ck_command_line.specs.CommandLine.{Command, ask_audit, ask_cases, ask_differs, command_named, is_help, where_none}
-use Rattle.ck_command_line.specs.CommandLine.{gate_command, audit_command, cases_command, differs_command, results_command}
-use Rattle.ck_command_line.specs.Asked.{Written, allow_unrun, pending_passes, attempts_from, IsPlain, are_distinct, all_words, command_asked_with}
-use Rattle.ck_command_line.specs.Asked.{gate_usage, usage_like_audit, results_usage}
+use Rattle.ck_command_line.specs.CommandLine.{audit_command, cases_command, differs_command, results_command}
+use Rattle.ck_command_line.specs.Asked.{Written, allow_unrun, allow_unrun_tagged, no_retries, no_skips, no_stepless, no_undefined, strict, pending_passes, attempts_from}
+use Rattle.ck_command_line.specs.Asked.{IsPlain, are_distinct, all_words, command_asked_with}
+use Rattle.ck_command_line.specs.Asked.{usage_like_audit, results_usage}
 use Rattle.ck_command_line.proofs.Leaves.{Answers, faults, leaf}
 use Rattle.ck_command_line.proofs.Plain.{plain}
 
@@ -24,58 +25,6 @@ answers s words command reads = (
   ap (list_any is_help) reads.0,
 )
 
-pub gate_takes : (options : List Written) → are_distinct gate_usage.options options ≡ true → AllByRecursion IsPlain options
-    → Reads (leaf gate_command) (all_words options) (command_asked_with gate_usage options)
-unfolding bundle_met walked flags_fault walk_fault defaults_fault
-gate_takes [] h k = (refl, refl)
-gate_takes (allow_unrun ∷ []) h k = (refl, refl)
-gate_takes (allow_unrun ∷ allow_unrun ∷ options) h k = absurd (false≢true h)
-gate_takes (allow_unrun ∷ pending_passes ∷ []) h k = (refl, refl)
-gate_takes (allow_unrun ∷ pending_passes ∷ allow_unrun ∷ options) h k = absurd (false≢true h)
-gate_takes (allow_unrun ∷ pending_passes ∷ pending_passes ∷ options) h k = absurd (false≢true h)
-gate_takes (allow_unrun ∷ pending_passes ∷ attempts_from true n ∷ []) h k = (refl, refl)
-gate_takes (allow_unrun ∷ pending_passes ∷ attempts_from false n ∷ []) h k = let p = plain n k.1.1.0 in rw (p.0, p.1, p.2) (refl, refl)
-gate_takes (allow_unrun ∷ pending_passes ∷ attempts_from w n ∷ option ∷ options) h k = absurd (false≢true h)
-gate_takes (allow_unrun ∷ attempts_from true n ∷ []) h k = (refl, refl)
-gate_takes (allow_unrun ∷ attempts_from false n ∷ []) h k = let p = plain n k.1.0 in rw (p.0, p.1, p.2) (refl, refl)
-gate_takes (allow_unrun ∷ attempts_from w n ∷ allow_unrun ∷ options) h k = absurd (false≢true h)
-gate_takes (allow_unrun ∷ attempts_from true n ∷ pending_passes ∷ []) h k = (refl, refl)
-gate_takes (allow_unrun ∷ attempts_from false n ∷ pending_passes ∷ []) h k = let p = plain n k.1.0 in rw (p.0, p.1, p.2) (refl, refl)
-gate_takes (allow_unrun ∷ attempts_from w n ∷ pending_passes ∷ option ∷ options) h k = absurd (false≢true h)
-gate_takes (allow_unrun ∷ attempts_from w n ∷ attempts_from v m ∷ options) h k = absurd (false≢true h)
-gate_takes (pending_passes ∷ []) h k = (refl, refl)
-gate_takes (pending_passes ∷ allow_unrun ∷ []) h k = (refl, refl)
-gate_takes (pending_passes ∷ allow_unrun ∷ allow_unrun ∷ options) h k = absurd (false≢true h)
-gate_takes (pending_passes ∷ allow_unrun ∷ pending_passes ∷ options) h k = absurd (false≢true h)
-gate_takes (pending_passes ∷ allow_unrun ∷ attempts_from true n ∷ []) h k = (refl, refl)
-gate_takes (pending_passes ∷ allow_unrun ∷ attempts_from false n ∷ []) h k = let p = plain n k.1.1.0 in rw (p.0, p.1, p.2) (refl, refl)
-gate_takes (pending_passes ∷ allow_unrun ∷ attempts_from w n ∷ option ∷ options) h k = absurd (false≢true h)
-gate_takes (pending_passes ∷ pending_passes ∷ options) h k = absurd (false≢true h)
-gate_takes (pending_passes ∷ attempts_from true n ∷ []) h k = (refl, refl)
-gate_takes (pending_passes ∷ attempts_from false n ∷ []) h k = let p = plain n k.1.0 in rw (p.0, p.1, p.2) (refl, refl)
-gate_takes (pending_passes ∷ attempts_from true n ∷ allow_unrun ∷ []) h k = (refl, refl)
-gate_takes (pending_passes ∷ attempts_from false n ∷ allow_unrun ∷ []) h k = let p = plain n k.1.0 in rw (p.0, p.1, p.2) (refl, refl)
-gate_takes (pending_passes ∷ attempts_from w n ∷ allow_unrun ∷ option ∷ options) h k = absurd (false≢true h)
-gate_takes (pending_passes ∷ attempts_from w n ∷ pending_passes ∷ options) h k = absurd (false≢true h)
-gate_takes (pending_passes ∷ attempts_from w n ∷ attempts_from v m ∷ options) h k = absurd (false≢true h)
-gate_takes (attempts_from true n ∷ []) h k = (refl, refl)
-gate_takes (attempts_from false n ∷ []) h k = let p = plain n k.0 in rw (p.0, p.1, p.2) (refl, refl)
-gate_takes (attempts_from true n ∷ allow_unrun ∷ []) h k = (refl, refl)
-gate_takes (attempts_from false n ∷ allow_unrun ∷ []) h k = let p = plain n k.0 in rw (p.0, p.1, p.2) (refl, refl)
-gate_takes (attempts_from w n ∷ allow_unrun ∷ allow_unrun ∷ options) h k = absurd (false≢true h)
-gate_takes (attempts_from true n ∷ allow_unrun ∷ pending_passes ∷ []) h k = (refl, refl)
-gate_takes (attempts_from false n ∷ allow_unrun ∷ pending_passes ∷ []) h k = let p = plain n k.0 in rw (p.0, p.1, p.2) (refl, refl)
-gate_takes (attempts_from w n ∷ allow_unrun ∷ pending_passes ∷ option ∷ options) h k = absurd (false≢true h)
-gate_takes (attempts_from w n ∷ allow_unrun ∷ attempts_from v m ∷ options) h k = absurd (false≢true h)
-gate_takes (attempts_from true n ∷ pending_passes ∷ []) h k = (refl, refl)
-gate_takes (attempts_from false n ∷ pending_passes ∷ []) h k = let p = plain n k.0 in rw (p.0, p.1, p.2) (refl, refl)
-gate_takes (attempts_from true n ∷ pending_passes ∷ allow_unrun ∷ []) h k = (refl, refl)
-gate_takes (attempts_from false n ∷ pending_passes ∷ allow_unrun ∷ []) h k = let p = plain n k.0 in rw (p.0, p.1, p.2) (refl, refl)
-gate_takes (attempts_from w n ∷ pending_passes ∷ allow_unrun ∷ option ∷ options) h k = absurd (false≢true h)
-gate_takes (attempts_from w n ∷ pending_passes ∷ pending_passes ∷ options) h k = absurd (false≢true h)
-gate_takes (attempts_from w n ∷ pending_passes ∷ attempts_from v m ∷ options) h k = absurd (false≢true h)
-gate_takes (attempts_from w n ∷ attempts_from v m ∷ options) h k = absurd (false≢true h)
-
 -- the three commands with the options of `audit`
 abbrev AllRead : List Written → Type 0
 AllRead options = Reads (leaf audit_command) (all_words options) (command_asked_with (usage_like_audit (codes "audit") ask_audit) options)
@@ -86,8 +35,20 @@ pub audit_takes : (options : List Written) → are_distinct (usage_like_audit (c
 unfolding bundle_met walked flags_fault walk_fault defaults_fault
 audit_takes [] h k = ((refl, refl), (refl, refl), (refl, refl))
 audit_takes (allow_unrun ∷ options) h k = absurd (false≢true h)
+audit_takes (allow_unrun_tagged v t ∷ options) h k = absurd (false≢true h)
+audit_takes (no_retries ∷ options) h k = absurd (false≢true h)
+audit_takes (no_skips ∷ options) h k = absurd (false≢true h)
+audit_takes (no_stepless ∷ options) h k = absurd (false≢true h)
+audit_takes (no_undefined ∷ options) h k = absurd (false≢true h)
+audit_takes (strict ∷ options) h k = absurd (false≢true h)
 audit_takes (pending_passes ∷ []) h k = ((refl, refl), (refl, refl), (refl, refl))
 audit_takes (pending_passes ∷ allow_unrun ∷ options) h k = absurd (false≢true h)
+audit_takes (pending_passes ∷ allow_unrun_tagged v t ∷ options) h k = absurd (false≢true h)
+audit_takes (pending_passes ∷ no_retries ∷ options) h k = absurd (false≢true h)
+audit_takes (pending_passes ∷ no_skips ∷ options) h k = absurd (false≢true h)
+audit_takes (pending_passes ∷ no_stepless ∷ options) h k = absurd (false≢true h)
+audit_takes (pending_passes ∷ no_undefined ∷ options) h k = absurd (false≢true h)
+audit_takes (pending_passes ∷ strict ∷ options) h k = absurd (false≢true h)
 audit_takes (pending_passes ∷ pending_passes ∷ options) h k = absurd (false≢true h)
 audit_takes (pending_passes ∷ attempts_from true n ∷ []) h k = ((refl, refl), (refl, refl), (refl, refl))
 audit_takes (pending_passes ∷ attempts_from false n ∷ []) h k = let p = plain n k.1.0 in rw (p.0, p.1, p.2) ((refl, refl), (refl, refl), (refl, refl))
@@ -95,6 +56,12 @@ audit_takes (pending_passes ∷ attempts_from w n ∷ option ∷ options) h k = 
 audit_takes (attempts_from true n ∷ []) h k = ((refl, refl), (refl, refl), (refl, refl))
 audit_takes (attempts_from false n ∷ []) h k = let p = plain n k.0 in rw (p.0, p.1, p.2) ((refl, refl), (refl, refl), (refl, refl))
 audit_takes (attempts_from w n ∷ allow_unrun ∷ options) h k = absurd (false≢true h)
+audit_takes (attempts_from w n ∷ allow_unrun_tagged v t ∷ options) h k = absurd (false≢true h)
+audit_takes (attempts_from w n ∷ no_retries ∷ options) h k = absurd (false≢true h)
+audit_takes (attempts_from w n ∷ no_skips ∷ options) h k = absurd (false≢true h)
+audit_takes (attempts_from w n ∷ no_stepless ∷ options) h k = absurd (false≢true h)
+audit_takes (attempts_from w n ∷ no_undefined ∷ options) h k = absurd (false≢true h)
+audit_takes (attempts_from w n ∷ strict ∷ options) h k = absurd (false≢true h)
 audit_takes (attempts_from true n ∷ pending_passes ∷ []) h k = ((refl, refl), (refl, refl), (refl, refl))
 audit_takes (attempts_from false n ∷ pending_passes ∷ []) h k = let p = plain n k.0 in rw (p.0, p.1, p.2) ((refl, refl), (refl, refl), (refl, refl))
 audit_takes (attempts_from w n ∷ pending_passes ∷ option ∷ options) h k = absurd (false≢true h)
@@ -109,6 +76,12 @@ pub results_takes : (options : List Written) → are_distinct results_usage.opti
 unfolding bundle_met walked flags_fault walk_fault defaults_fault
 results_takes [] h k = (refl, refl)
 results_takes (allow_unrun ∷ options) h k = absurd (false≢true h)
+results_takes (allow_unrun_tagged v t ∷ options) h k = absurd (false≢true h)
+results_takes (no_retries ∷ options) h k = absurd (false≢true h)
+results_takes (no_skips ∷ options) h k = absurd (false≢true h)
+results_takes (no_stepless ∷ options) h k = absurd (false≢true h)
+results_takes (no_undefined ∷ options) h k = absurd (false≢true h)
+results_takes (strict ∷ options) h k = absurd (false≢true h)
 results_takes (pending_passes ∷ options) h k = absurd (false≢true h)
 results_takes (attempts_from true n ∷ []) h k = (refl, in_two_steps _ _ _)
 results_takes (attempts_from false n ∷ []) h k = let p = plain n k.0 in rw (p.0, p.1, p.2) (refl, in_two_steps _ _ _)

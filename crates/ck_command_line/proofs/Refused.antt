@@ -1,5 +1,5 @@
 -- Words after which a command asks for nothing.
-use Rattle.std.proofs.Common.{◌≡◌, ◌∙◌, ℕ, Bool, true, false, List, [], ◌∷◌, ◌++◌, Option, Some, None, refl, ap, ap₂, sym, subst, fold, is_some}
+use Rattle.std.proofs.Common.{◌≡◌, ◌∙◌, ℕ, Bool, true, false, List, [], ◌∷◌, ◌++◌, Option, Some, None, refl, ap, sym, subst, fold, is_some}
 use Rattle.std.proofs.lemmas.Slice.Eq.{bytes_eq-Decides}
 use Rattle.std.specs.Prelude.{codes, if◌then◌else◌, not, ◌&&◌}
 use Rattle.std.specs.List.{AllByRecursion, list_any}
@@ -7,7 +7,7 @@ use Rattle.std.specs.Str.{bytes_eq}
 use Rattle.clap.specs.Words.{Kinds, Text}
 use Rattle.clap.specs.Kinds.{or_else}
 use Rattle.clap.specs.Lexer.{long_of}
-use Rattle.clap.specs.Walk.{Held, Names, Waiting, idle, Walk, arg_by_index, arg_by_long, bundle_met, has_row, nothing_held, settled, walk_from, walked}
+use Rattle.clap.specs.Walk.{Held, Walk, arg_by_index, arg_by_long, bundle_met, has_row, nothing_held, settled, walk_from, walked}
 use Rattle.clap.specs.Simple.{Shape}
 use Rattle.clap.specs.Faults.{flags_fault, settle_fault, turn_fault, walk_fault}
 use Rattle.clap.specs.declared.error.kind.ErrorKind.TheVariants.{ArgumentConflict, UnknownArgument}
@@ -15,34 +15,11 @@ use Rattle.std.proofs.lemmas.List.Sums.{fold-append}
 use Rattle.std.proofs.lemmas.Bool.{false_from_ne_true, true≢false}
 use Rattle.ck_command_line.specs.CommandLine.{Command, is_help, where_none}
 use Rattle.ck_command_line.specs.CommandLine.{gate_command, audit_command, cases_command, differs_command, results_command, parse_command, compile_command}
-use Rattle.ck_command_line.specs.Asked.{Written, allow_unrun, pending_passes, attempts_from, IsPlain, words_of, all_words, is_option}
+use Rattle.ck_command_line.specs.Asked.{Written, allow_unrun, allow_unrun_tagged, no_retries, no_skips, no_stepless, no_undefined, strict, pending_passes, attempts_from}
+use Rattle.ck_command_line.specs.Asked.{IsPlain, words_of, all_words, is_option}
 use Rattle.ck_command_line.proofs.Leaves.{Answers, leaf}
+use Rattle.ck_command_line.proofs.Between.{IsBetween, between, is_between, walk_fault-append}
 use Rattle.ck_command_line.proofs.Plain.{plain}
-
--- between two options
-abbrev between : Held → ℕ → Walk
-between h p = record { held = h; waiting = idle; position = p; is_trailing = false; stopped = None }
-
-abbrev IsBetween : Walk → Type 0
-IsBetween w = (w.waiting ≡ idle) × (w.is_trailing ≡ false) × (w.stopped ≡ None)
-
-is_between : (w : Walk) → IsBetween w → w ≡ between w.held w.position
-is_between w b =
-    ap₂ (λ (waiting : Waiting) (is_trailing : Bool). record { held = w.held; waiting = waiting; position = w.position; is_trailing = is_trailing; stopped = w.stopped }) b.0 b.1
-    ∙ ap (λ (stopped : Option (Text × List Text)). record { held = w.held; waiting = idle; position = w.position; is_trailing = false; stopped = stopped }) b.2
-
-or_else-assoc : (a b c : Kinds) → or_else (or_else a b) c ≡ or_else a (or_else b c)
-or_else-assoc [] b c = refl
-or_else-assoc (k ∷ ks) b c = refl
-
--- the faults of two lists of words, one after the other
-walk_fault-append : (s : Shape) (names : Names) (w : Walk) (xs ys : List Text)
-    → walk_fault s names w (xs ++ ys) ≡ or_else (walk_fault s names w xs) (walk_fault s names (fold (walked s.rules names) w xs) ys)
-unfolding walk_fault
-walk_fault-append s names w [] ys = refl
-walk_fault-append s names w (x ∷ xs) ys =
-    ap (or_else (turn_fault s names w x)) (walk_fault-append s names (walked s.rules names w x) xs ys)
-    ∙ sym (or_else-assoc (turn_fault s names w x) (walk_fault s names (walked s.rules names w x) xs) (walk_fault s names (fold (walked s.rules names) (walked s.rules names w x) xs) ys))
 
 -- the faults hold no call for help
 abbrev NoHelp : Kinds → Type 0
@@ -144,12 +121,23 @@ module _ (s : Shape) (h : Held) where
   waiting : NoHelp settle → NoHelp (or_else (or_else settle []) [])
   waiting n = both (or_else settle []) [] (both settle [] n refl) refl
 
+  -- the faults of one that may come again
+  adding : NoHelp settle → NoHelp (or_else (or_else (or_else settle []) []) [])
+  adding n = both (or_else (or_else settle []) []) [] (waiting n) refl
+
 pub gate_leaf : IsPlainLeaf (leaf gate_command)
 unfolding bundle_met walked flags_fault walk_fault
 gate_leaf = record { step = step; no_positional = λ i. refl; is_leaf = refl }
   where
     step : (option : Written) → IsPlain option → (h : Held) (p : ℕ) → NoHelp (settle_fault (leaf gate_command).rules (leaf gate_command).args_override_self h) → Step (leaf gate_command) option h p
     step allow_unrun k h p n = ((refl, refl, refl), once (leaf gate_command) h (codes "allow-unrun") n, refl)
+    step (allow_unrun_tagged true t) k h p n = ((refl, refl, refl), adding (leaf gate_command) h n, refl)
+    step (allow_unrun_tagged false t) k h p n = let v = plain t k in rw (v.0, v.1, v.2) ((refl, refl, refl), waiting (leaf gate_command) h n, refl)
+    step no_retries k h p n = ((refl, refl, refl), once (leaf gate_command) h (codes "no-retries") n, refl)
+    step no_skips k h p n = ((refl, refl, refl), once (leaf gate_command) h (codes "no-skips") n, refl)
+    step no_stepless k h p n = ((refl, refl, refl), once (leaf gate_command) h (codes "no-stepless") n, refl)
+    step no_undefined k h p n = ((refl, refl, refl), once (leaf gate_command) h (codes "no-undefined") n, refl)
+    step strict k h p n = ((refl, refl, refl), once (leaf gate_command) h (codes "strict") n, refl)
     step pending_passes k h p n = ((refl, refl, refl), once (leaf gate_command) h (codes "pending-passes") n, refl)
     step (attempts_from true m) k h p n = ((refl, refl, refl), once (leaf gate_command) h (codes "attempts-from") n, refl)
     step (attempts_from false m) k h p n = let v = plain m k in rw (v.0, v.1, v.2) ((refl, refl, refl), waiting (leaf gate_command) h n, conflict (is_there (leaf gate_command) h (codes "attempts-from")))
@@ -160,6 +148,13 @@ audit_leaf = record { step = step; no_positional = λ i. refl; is_leaf = refl }
   where
     step : (option : Written) → IsPlain option → (h : Held) (p : ℕ) → NoHelp (settle_fault (leaf audit_command).rules (leaf audit_command).args_override_self h) → Step (leaf audit_command) option h p
     step allow_unrun k h p n = ((refl, refl, refl), refl, n)
+    step (allow_unrun_tagged true t) k h p n = ((refl, refl, refl), refl, n)
+    step (allow_unrun_tagged false t) k h p n = let v = plain t k in rw (v.0, v.1, v.2) ((refl, refl, refl), refl, n)
+    step no_retries k h p n = ((refl, refl, refl), refl, n)
+    step no_skips k h p n = ((refl, refl, refl), refl, n)
+    step no_stepless k h p n = ((refl, refl, refl), refl, n)
+    step no_undefined k h p n = ((refl, refl, refl), refl, n)
+    step strict k h p n = ((refl, refl, refl), refl, n)
     step pending_passes k h p n = ((refl, refl, refl), once (leaf audit_command) h (codes "pending-passes") n, refl)
     step (attempts_from true m) k h p n = ((refl, refl, refl), once (leaf audit_command) h (codes "attempts-from") n, refl)
     step (attempts_from false m) k h p n = let v = plain m k in rw (v.0, v.1, v.2) ((refl, refl, refl), waiting (leaf audit_command) h n, conflict (is_there (leaf audit_command) h (codes "attempts-from")))
@@ -170,6 +165,13 @@ cases_leaf = record { step = step; no_positional = λ i. refl; is_leaf = refl }
   where
     step : (option : Written) → IsPlain option → (h : Held) (p : ℕ) → NoHelp (settle_fault (leaf cases_command).rules (leaf cases_command).args_override_self h) → Step (leaf cases_command) option h p
     step allow_unrun k h p n = ((refl, refl, refl), refl, n)
+    step (allow_unrun_tagged true t) k h p n = ((refl, refl, refl), refl, n)
+    step (allow_unrun_tagged false t) k h p n = let v = plain t k in rw (v.0, v.1, v.2) ((refl, refl, refl), refl, n)
+    step no_retries k h p n = ((refl, refl, refl), refl, n)
+    step no_skips k h p n = ((refl, refl, refl), refl, n)
+    step no_stepless k h p n = ((refl, refl, refl), refl, n)
+    step no_undefined k h p n = ((refl, refl, refl), refl, n)
+    step strict k h p n = ((refl, refl, refl), refl, n)
     step pending_passes k h p n = ((refl, refl, refl), once (leaf cases_command) h (codes "pending-passes") n, refl)
     step (attempts_from true m) k h p n = ((refl, refl, refl), once (leaf cases_command) h (codes "attempts-from") n, refl)
     step (attempts_from false m) k h p n = let v = plain m k in rw (v.0, v.1, v.2) ((refl, refl, refl), waiting (leaf cases_command) h n, conflict (is_there (leaf cases_command) h (codes "attempts-from")))
@@ -180,6 +182,13 @@ differs_leaf = record { step = step; no_positional = λ i. refl; is_leaf = refl 
   where
     step : (option : Written) → IsPlain option → (h : Held) (p : ℕ) → NoHelp (settle_fault (leaf differs_command).rules (leaf differs_command).args_override_self h) → Step (leaf differs_command) option h p
     step allow_unrun k h p n = ((refl, refl, refl), refl, n)
+    step (allow_unrun_tagged true t) k h p n = ((refl, refl, refl), refl, n)
+    step (allow_unrun_tagged false t) k h p n = let v = plain t k in rw (v.0, v.1, v.2) ((refl, refl, refl), refl, n)
+    step no_retries k h p n = ((refl, refl, refl), refl, n)
+    step no_skips k h p n = ((refl, refl, refl), refl, n)
+    step no_stepless k h p n = ((refl, refl, refl), refl, n)
+    step no_undefined k h p n = ((refl, refl, refl), refl, n)
+    step strict k h p n = ((refl, refl, refl), refl, n)
     step pending_passes k h p n = ((refl, refl, refl), once (leaf differs_command) h (codes "pending-passes") n, refl)
     step (attempts_from true m) k h p n = ((refl, refl, refl), once (leaf differs_command) h (codes "attempts-from") n, refl)
     step (attempts_from false m) k h p n = let v = plain m k in rw (v.0, v.1, v.2) ((refl, refl, refl), waiting (leaf differs_command) h n, conflict (is_there (leaf differs_command) h (codes "attempts-from")))
@@ -190,6 +199,13 @@ results_leaf = record { step = step; no_positional = λ i. refl; is_leaf = refl 
   where
     step : (option : Written) → IsPlain option → (h : Held) (p : ℕ) → NoHelp (settle_fault (leaf results_command).rules (leaf results_command).args_override_self h) → Step (leaf results_command) option h p
     step allow_unrun k h p n = ((refl, refl, refl), refl, n)
+    step (allow_unrun_tagged true t) k h p n = ((refl, refl, refl), refl, n)
+    step (allow_unrun_tagged false t) k h p n = let v = plain t k in rw (v.0, v.1, v.2) ((refl, refl, refl), refl, n)
+    step no_retries k h p n = ((refl, refl, refl), refl, n)
+    step no_skips k h p n = ((refl, refl, refl), refl, n)
+    step no_stepless k h p n = ((refl, refl, refl), refl, n)
+    step no_undefined k h p n = ((refl, refl, refl), refl, n)
+    step strict k h p n = ((refl, refl, refl), refl, n)
     step pending_passes k h p n = ((refl, refl, refl), refl, n)
     step (attempts_from true m) k h p n = ((refl, refl, refl), once (leaf results_command) h (codes "attempts-from") n, refl)
     step (attempts_from false m) k h p n = let v = plain m k in rw (v.0, v.1, v.2) ((refl, refl, refl), waiting (leaf results_command) h n, conflict (is_there (leaf results_command) h (codes "attempts-from")))
@@ -200,6 +216,13 @@ parse_leaf = record { step = step; no_positional = λ i. refl; is_leaf = refl }
   where
     step : (option : Written) → IsPlain option → (h : Held) (p : ℕ) → NoHelp (settle_fault (leaf parse_command).rules (leaf parse_command).args_override_self h) → Step (leaf parse_command) option h p
     step allow_unrun k h p n = ((refl, refl, refl), refl, n)
+    step (allow_unrun_tagged true t) k h p n = ((refl, refl, refl), refl, n)
+    step (allow_unrun_tagged false t) k h p n = let v = plain t k in rw (v.0, v.1, v.2) ((refl, refl, refl), refl, n)
+    step no_retries k h p n = ((refl, refl, refl), refl, n)
+    step no_skips k h p n = ((refl, refl, refl), refl, n)
+    step no_stepless k h p n = ((refl, refl, refl), refl, n)
+    step no_undefined k h p n = ((refl, refl, refl), refl, n)
+    step strict k h p n = ((refl, refl, refl), refl, n)
     step pending_passes k h p n = ((refl, refl, refl), refl, n)
     step (attempts_from true m) k h p n = ((refl, refl, refl), refl, n)
     step (attempts_from false m) k h p n = let v = plain m k in rw (v.0, v.1, v.2) ((refl, refl, refl), refl, n)
@@ -210,6 +233,13 @@ compile_leaf = record { step = step; no_positional = λ i. refl; is_leaf = refl 
   where
     step : (option : Written) → IsPlain option → (h : Held) (p : ℕ) → NoHelp (settle_fault (leaf compile_command).rules (leaf compile_command).args_override_self h) → Step (leaf compile_command) option h p
     step allow_unrun k h p n = ((refl, refl, refl), refl, n)
+    step (allow_unrun_tagged true t) k h p n = ((refl, refl, refl), refl, n)
+    step (allow_unrun_tagged false t) k h p n = let v = plain t k in rw (v.0, v.1, v.2) ((refl, refl, refl), refl, n)
+    step no_retries k h p n = ((refl, refl, refl), refl, n)
+    step no_skips k h p n = ((refl, refl, refl), refl, n)
+    step no_stepless k h p n = ((refl, refl, refl), refl, n)
+    step no_undefined k h p n = ((refl, refl, refl), refl, n)
+    step strict k h p n = ((refl, refl, refl), refl, n)
     step pending_passes k h p n = ((refl, refl, refl), refl, n)
     step (attempts_from true m) k h p n = ((refl, refl, refl), refl, n)
     step (attempts_from false m) k h p n = let v = plain m k in rw (v.0, v.1, v.2) ((refl, refl, refl), refl, n)

@@ -1,7 +1,7 @@
 -- What the words after the program's name ask for: laws of the definition of the command line.
-use Rattle.std.specs.Prelude.{◌≡◌, ◌≢◌, ⊤, ℕ, Bool, true, false, ◌==◌, ◌&&◌, not, if◌then◌else◌, codes}
-use Rattle.std.specs.Prelude.{List, [], ◌∷◌, ◌++◌, map, filter, Option, Some, None, option_map}
-use Rattle.std.specs.List.{AllByRecursion, flat_map, list_any}
+use Rattle.std.specs.Prelude.{◌≡◌, ◌≢◌, ⊤, ℕ, Bool, true, false, ◌==◌, ◌&&◌, ◌||◌, not, if◌then◌else◌, codes}
+use Rattle.std.specs.Prelude.{List, [], ◌∷◌, ◌++◌, map, filter, Option, Some, None, option_and_then, option_map}
+use Rattle.std.specs.List.{AllByRecursion, flat_map, list_all, list_any}
 use Rattle.std.specs.Borrow.{Bor}
 use Rattle.std.specs.Str.{bytes_eq}
 use Rattle.clap.specs.Words.{Text}
@@ -9,7 +9,8 @@ use Rattle.clap.specs.Lexer.{long_of}
 use Rattle.cm_attempt.specs.declared.policy.Policy.{Policy}
 use Rattle.cm_attempt.specs.declared.policy.Policy.TheVariants.{Strict, PendingPasses}
 use Rattle.cm_attempt.specs.declared.settings.Settings.{Settings}
-use Rattle.ck_command_line.specs.CommandLine.{AsksNothing, CallsForHelp, Command, command_asked_by, first_attempt_named}
+use Rattle.cm_stream.specs.Release.{Conditions, each_runs, strict_conditions}
+use Rattle.ck_command_line.specs.CommandLine.{AsksNothing, CallsForHelp, Command, command_asked_by, first_attempt_named, is_tag}
 use Rattle.ck_command_line.specs.CommandLine.{ask_audit, ask_cases, ask_compile, ask_differs, ask_gate, ask_parse}
 use Rattle.ck_command_line.specs.CommandLine.{ask_results, asks_for_help}
 
@@ -25,20 +26,40 @@ CallForHelp texts = (words : List (Bor Text)) → map (λ w. w.now) words ≡ te
 
 -- ---- the commands that read a stream, with their options
 
--- an option as it is written; the number follows `=` in the same word, or is a word of its own
+-- an option as it is written; a tag or the number follows `=` in the same word, or is a word of its
+-- own
 pub data Written : Type 0 where
   allow_unrun : Written
+  allow_unrun_tagged : (is_one_word : Bool) → (tag : Text) → Written
+  no_retries : Written
+  no_skips : Written
+  no_stepless : Written
+  no_undefined : Written
+  strict : Written
   pending_passes : Written
   attempts_from : (is_one_word : Bool) → (number : Text) → Written
 
 abbrev pub name_of : Written → Text
 name_of allow_unrun = codes "allow-unrun"
+name_of (allow_unrun_tagged is_one_word tag) = codes "allow-unrun-tagged"
+name_of no_retries = codes "no-retries"
+name_of no_skips = codes "no-skips"
+name_of no_stepless = codes "no-stepless"
+name_of no_undefined = codes "no-undefined"
+name_of strict = codes "strict"
 name_of pending_passes = codes "pending-passes"
 name_of (attempts_from is_one_word number) = codes "attempts-from"
 
 -- its words
 abbrev pub words_of : Written → List Text
 words_of allow_unrun = codes "--allow-unrun" ∷ []
+words_of (allow_unrun_tagged true tag) = (codes "--allow-unrun-tagged=" ++ tag) ∷ []
+words_of (allow_unrun_tagged false tag) = codes "--allow-unrun-tagged" ∷ tag ∷ []
+words_of no_retries = codes "--no-retries" ∷ []
+words_of no_skips = codes "--no-skips" ∷ []
+words_of no_stepless = codes "--no-stepless" ∷ []
+words_of no_undefined = codes "--no-undefined" ∷ []
+words_of strict = codes "--strict" ∷ []
 words_of pending_passes = codes "--pending-passes" ∷ []
 words_of (attempts_from true number) = (codes "--attempts-from=" ++ number) ∷ []
 words_of (attempts_from false number) = codes "--attempts-from" ∷ number ∷ []
@@ -49,11 +70,22 @@ all_words = flat_map words_of
 abbrev pub has_name : Text → Written → Bool
 has_name name option = bytes_eq name (name_of option)
 
--- each option has one of these names, and no two have the same one
+-- `--allow-unrun-tagged` alone may be given several times
+abbrev pub may_come_again : Written → Bool
+may_come_again (allow_unrun_tagged is_one_word tag) = true
+may_come_again _ = false
+
+-- the names that options may have after this one
+abbrev pub names_after : Written → List Text → List Text
+names_after option names =
+    if may_come_again option then names else filter (λ name. not (has_name name option)) names
+
+-- each option has one of these names, and no two have the same one, but for those that may come
+-- again
 abbrev pub are_distinct : List Text → List Written → Bool
 are_distinct names [] = true
 are_distinct names (option ∷ options) = list_any (λ name. has_name name option) names
-    && are_distinct (filter (λ name. not (has_name name option)) names) options
+    && are_distinct (names_after option names) options
 
 -- a word of a hyphen and more
 abbrev pub is_option : Text → Bool
@@ -61,15 +93,19 @@ is_option [] = false
 is_option (c ∷ []) = false
 is_option (c ∷ d ∷ cs) = c == 45
 
--- a number that is a word of its own isn't written like an option
+-- a tag or a number that is a word of its own isn't written like an option
 abbrev pub IsPlain : Written → Type 0
+IsPlain (allow_unrun_tagged false tag) = is_option tag ≡ false
 IsPlain (attempts_from false number) = is_option number ≡ false
 IsPlain _ = ⊤
 
+-- an option of this name is there
+abbrev pub is_there : Text → List Written → Bool
+is_there name options = list_any (has_name name) options
+
 -- the policy that the options ask for
 abbrev pub policy_of : List Written → Policy
-policy_of options =
-    if list_any (has_name (codes "pending-passes")) options then PendingPasses else Strict
+policy_of options = if is_there (codes "pending-passes") options then PendingPasses else Strict
 
 -- the number that they give
 abbrev pub number_of : List Written → Option Text
@@ -83,17 +119,49 @@ settings_written options =
     option_map (λ first. record { policy = policy_of options; first_attempt = first })
     (first_attempt_named (number_of options))
 
+-- the tags that they give, in their order
+abbrev pub tags_of : List Written → List Text
+tags_of [] = []
+tags_of (allow_unrun_tagged is_one_word tag ∷ options) = tag ∷ tags_of options
+tags_of (option ∷ options) = tags_of options
+
+-- what they ask of a run: `--strict` is four options at once
+abbrev pub asked_of_run : List Written → Conditions
+asked_of_run options = record {
+  allows_unrun = is_there (codes "allow-unrun") options;
+  allowed_tags = tags_of options;
+  no_retries = is_there (codes "strict") options || is_there (codes "no-retries") options;
+  no_skips = is_there (codes "strict") options || is_there (codes "no-skips") options;
+  no_stepless = is_there (codes "strict") options || is_there (codes "no-stepless") options;
+  no_undefined = is_there (codes "strict") options || is_there (codes "no-undefined") options;
+}
+
+-- `--allow-unrun` and `--allow-unrun-tagged` are both there
+abbrev pub has_both_unrun : List Written → Bool
+has_both_unrun options =
+    is_there (codes "allow-unrun") options && is_there (codes "allow-unrun-tagged") options
+
+-- the conditions that they ask for: none where both of these are there, or a tag has no `@`
+abbrev pub conditions_written : List Written → Option Conditions
+conditions_written options =
+    if has_both_unrun options then None
+    else if list_all is_tag (tags_of options) then Some (asked_of_run options)
+    else None
+
 -- how a command is used: its name, the names of its options, and what it asks for by the settings
--- and by whether `--allow-unrun` is there
+-- and the conditions
 pub record Usage : Type 0 where
   pub name : Text
   pub options : List Text
-  pub asks : Settings → Bool → Command
+  pub asks : Settings → Conditions → Command
 
 abbrev pub gate_usage : Usage
 gate_usage = record {
   name = codes "gate";
-  options = codes "allow-unrun" ∷ codes "pending-passes" ∷ codes "attempts-from" ∷ [];
+  options =
+      codes "allow-unrun" ∷ codes "allow-unrun-tagged" ∷ codes "no-retries" ∷ codes "no-skips"
+      ∷ codes "no-stepless" ∷ codes "no-undefined" ∷ codes "strict" ∷ codes "pending-passes"
+      ∷ codes "attempts-from" ∷ [];
   asks = ask_gate;
 }
 
@@ -102,14 +170,14 @@ abbrev pub usage_like_audit : Text → (Settings → Command) → Usage
 usage_like_audit name asks = record {
   name = name;
   options = codes "pending-passes" ∷ codes "attempts-from" ∷ [];
-  asks = λ settings allows_unrun. asks settings;
+  asks = λ settings conditions. asks settings;
 }
 
 abbrev pub results_usage : Usage
 results_usage = record {
   name = codes "results";
   options = codes "attempts-from" ∷ [];
-  asks = λ settings allows_unrun. ask_results settings.first_attempt;
+  asks = λ settings conditions. ask_results settings.first_attempt;
 }
 
 abbrev pub usages : List Usage
@@ -121,11 +189,12 @@ usages =
 -- what a command with these options asks for
 abbrev pub command_asked_with : Usage → List Written → Option Command
 command_asked_with usage options =
-    option_map (λ settings. usage.asks settings (list_any (has_name (codes "allow-unrun")) options))
-    (settings_written options)
+    option_and_then (λ conditions. option_map (λ settings. usage.asks settings conditions)
+    (settings_written options)) (conditions_written options)
 
--- A command's own options may come in any order, none twice. They ask for it with what they say, or
--- for nothing where the number is neither 0 nor 1.
+-- A command's own options may come in any order, none twice but for `--allow-unrun-tagged`. They ask
+-- for it with what they say, or for nothing where the number is neither 0 nor 1, a tag has no `@`,
+-- or `--allow-unrun` is there beside a tag.
 abbrev pub TakesItsOptions : Usage → Type 0
 TakesItsOptions usage = (options : List Written) → are_distinct usage.options options ≡ true
     → AllByRecursion IsPlain options
@@ -190,15 +259,51 @@ words_of_line (c ∷ cs) =
 abbrev pub settings_by : Policy → (first : ℕ) → Settings
 settings_by policy first = record { policy = policy; first_attempt = first }
 
+-- `gate` without `--pending-passes` and `--attempts-from`
+abbrev pub ask_gate_for : Conditions → Command
+ask_gate_for asked = ask_gate (settings_by Strict 0) asked
+
 -- words, and the command that they ask for
 abbrev pub examples : List (Text × Command)
 examples =
-    (codes "gate", ask_gate (settings_by Strict 0) false)
-    ∷ (codes "gate --allow-unrun", ask_gate (settings_by Strict 0) true)
-    ∷ (codes "gate --attempts-from 1 --allow-unrun", ask_gate (settings_by Strict 1) true)
+    (codes "gate", ask_gate_for each_runs)
+    ∷ (codes "gate --allow-unrun", ask_gate_for (record each_runs { allows_unrun = true }))
+    ∷ (
+      codes "gate --attempts-from 1 --allow-unrun",
+      ask_gate (settings_by Strict 1) (record each_runs { allows_unrun = true }),
+    )
     ∷ (
       codes "gate --attempts-from=1 --pending-passes",
-      ask_gate (settings_by PendingPasses 1) false,
+      ask_gate (settings_by PendingPasses 1) each_runs,
+    )
+    ∷ (
+      codes "gate --allow-unrun-tagged @wip",
+      ask_gate_for (record each_runs { allowed_tags = codes "@wip" ∷ [] }),
+    )
+    ∷ (
+      codes "gate --allow-unrun-tagged=@wip --no-skips --allow-unrun-tagged @slow",
+      ask_gate_for (record each_runs {
+        allowed_tags = codes "@wip" ∷ codes "@slow" ∷ [];
+        no_skips = true;
+      }),
+    )
+    ∷ (
+      codes "gate --allow-unrun-tagged @wip --allow-unrun-tagged @wip",
+      ask_gate_for (record each_runs { allowed_tags = codes "@wip" ∷ codes "@wip" ∷ [] }),
+    )
+    ∷ (codes "gate --no-retries", ask_gate_for (record each_runs { no_retries = true }))
+    ∷ (codes "gate --no-skips", ask_gate_for (record each_runs { no_skips = true }))
+    ∷ (codes "gate --no-stepless", ask_gate_for (record each_runs { no_stepless = true }))
+    ∷ (codes "gate --no-undefined", ask_gate_for (record each_runs { no_undefined = true }))
+    ∷ (codes "gate --strict", ask_gate_for strict_conditions)
+    ∷ (codes "gate --strict --no-skips", ask_gate_for strict_conditions)
+    ∷ (
+      codes "gate --no-retries --no-skips --no-stepless --no-undefined",
+      ask_gate_for strict_conditions,
+    )
+    ∷ (
+      codes "gate --strict --allow-unrun",
+      ask_gate_for (record strict_conditions { allows_unrun = true }),
     )
     ∷ (codes "audit", ask_audit (settings_by Strict 0))
     ∷ (codes "audit --attempts-from 0", ask_audit (settings_by Strict 0))
@@ -222,7 +327,23 @@ mistakes =
     ∷ codes "gate --attempts-from -1"
     ∷ codes "gate --attempts-from --allow-unrun"
     ∷ codes "gate --attempts-from 1 --attempts-from 1"
+    ∷ codes "gate --allow-unrun-tagged"
+    ∷ codes "gate --allow-unrun-tagged wip"
+    ∷ codes "gate --allow-unrun-tagged=wip"
+    ∷ codes "gate --allow-unrun-tagged="
+    ∷ codes "gate --allow-unrun-tagged @wip --allow-unrun-tagged slow"
+    ∷ codes "gate --allow-unrun-tagged @wip @slow"
+    ∷ codes "gate --allow-unrun --allow-unrun-tagged @wip"
+    ∷ codes "gate --allow-unrun-tagged=@wip --allow-unrun"
+    ∷ codes "gate --no-retries --no-retries"
+    ∷ codes "gate --strict --strict"
+    ∷ codes "gate --no-skips=true"
+    ∷ codes "gate --no-retry"
     ∷ codes "audit --allow-unrun"
+    ∷ codes "audit --no-retries"
+    ∷ codes "cases --strict"
+    ∷ codes "results --no-skips"
+    ∷ codes "differs --allow-unrun-tagged @wip"
     ∷ codes "results --pending-passes"
     ∷ codes "--allow-unrun gate"
     ∷ []
@@ -232,6 +353,7 @@ abbrev pub help_calls : List Text
 help_calls =
     codes "help" ∷ codes "help gate" ∷ codes "--help" ∷ codes "-h"
     ∷ codes "gate --help" ∷ codes "gate -h" ∷ codes "gate --allow-unrun --help"
+    ∷ codes "gate --strict --help"
     ∷ codes "--version" ∷ codes "-V" ∷ []
 
 pub record ExamplesAreAsked : Type 0 where

@@ -1,30 +1,35 @@
 -- The command line `cukecheck COMMAND`, as the crate `clap` reads it.
-use Rattle.std.specs.Prelude.{◌≡◌, ◌⊎◌, ⊤, true, false, ℕ, Bool, List, [], ◌∷◌, Option, Some, None, Result, Ok, Err, IsErr, codes}
+use Rattle.std.specs.Prelude.{◌≡◌, ◌⊎◌, ◌==◌, ◌||◌, ⊤, true, false, ℕ, Bool, List, [], ◌∷◌}
+use Rattle.std.specs.Prelude.{Option, Some, None, Result, Ok, Err, IsErr, codes}
 use Rattle.std.specs.Prelude.{if◌then◌else◌, fold, map, option_and_then, option_map}
+use Rattle.std.specs.List.{list_all, list_any}
 use Rattle.std.specs.Borrow.{Bor}
 use Rattle.std.specs.Option.{option_map_or}
 use Rattle.std.specs.Str.{bytes_eq}
-use Rattle.std.specs.List.{list_any}
 use Rattle.clap.specs.declared.error.kind.ErrorKind.{ErrorKind}
 use Rattle.clap.specs.declared.error.kind.ErrorKind.TheVariants as kind
-use Rattle.clap.specs.Words.{App, Row, Rule, Text, fault_of, first_of, new_app, new_rule, subcommand_of, with_rule, with_subcommand}
+use Rattle.clap.specs.Words.{App, Row, Rule, Text, all_of, fault_of, first_of, new_app, new_rule}
+use Rattle.clap.specs.Words.{subcommand_of, with_rule, with_subcommand}
 use Rattle.clap.specs.Simple.{on_top}
-use Rattle.clap.specs.declared.builder.action.ArgAction.TheVariants.{Set, SetTrue}
+use Rattle.clap.specs.declared.builder.action.ArgAction.TheVariants.{Append, Set, SetTrue}
 use Rattle.cm_attempt.specs.declared.policy.Policy.{Policy}
 use Rattle.cm_attempt.specs.declared.policy.Policy.TheVariants.{Strict, PendingPasses}
 use Rattle.cm_attempt.specs.declared.settings.Settings.{Settings}
+use Rattle.cm_stream.specs.Release.{Conditions, conditions_of}
 use Rattle.ck_command_line.specs.declared.command_line.Choice.{Choice}
 use Rattle.ck_command_line.specs.declared.command_line.Choice.TheVariants as choice
+use Rattle.ck_command_line.specs.declared.command_line.NoChoice.{NoChoice}
+use Rattle.ck_command_line.specs.declared.command_line.NoChoice.TheVariants as no_choice
 use Rattle.ck_command_line.specs.declared.command_line.Refusal.{Refusal}
 use Rattle.ck_command_line.specs.declared.command_line.Refusal.TheVariants as refusal
 
 -- what the words may ask for; `compile` has its uri, `results` the number of each case's first
--- attempt, `gate` whether it lets a run pass that has pickles without a case
+-- attempt, `gate` what it asks of a run that is to be released
 pub data Command : Type 0 where
   ask_parse : Command
   ask_compile : List ℕ → Command
   ask_audit : Settings → Command
-  ask_gate : Settings → Bool → Command
+  ask_gate : Settings → Conditions → Command
   ask_results : ℕ → Command
   ask_cases : Settings → Command
   ask_differs : Settings → Command
@@ -34,7 +39,7 @@ abbrev pub command_of_choice : Choice → Command
 command_of_choice choice.Parse = ask_parse
 command_of_choice (choice.Compile uri) = ask_compile uri.now
 command_of_choice (choice.Audit settings) = ask_audit settings
-command_of_choice (choice.Gate settings allows_unrun) = ask_gate settings allows_unrun
+command_of_choice (choice.Gate settings asked) = ask_gate settings (conditions_of asked)
 command_of_choice (choice.Results first_attempt) = ask_results first_attempt
 command_of_choice (choice.Cases settings) = ask_cases settings
 command_of_choice (choice.Differs settings) = ask_differs settings
@@ -66,10 +71,24 @@ pending_rule = flag_rule (codes "pending-passes")
 abbrev pub unrun_rule : Rule
 unrun_rule = flag_rule (codes "allow-unrun")
 
--- the command `gate [--allow-unrun] [--pending-passes] [--attempts-from N]`
+-- `--allow-unrun-tagged TAG`, any number of times; its value has one name
+abbrev pub tagged_rule : Rule
+tagged_rule = record (new_rule (codes "allow-unrun-tagged")) {
+  long = Some (codes "allow-unrun-tagged");
+  value_names = 1;
+  action = Some Append;
+}
+
+-- the command with these rules, one added after another
+abbrev pub with_rules : App → List Rule → App
+with_rules command rules = fold with_rule command rules
+
+-- the command `gate`, with its options in the order in which `--help` lists them
 abbrev pub gate_command : App
-gate_command =
-    with_rule (with_rule (with_rule (new_app (codes "gate")) unrun_rule) pending_rule) attempts_rule
+gate_command = with_rules (new_app (codes "gate"))
+    (unrun_rule ∷ tagged_rule ∷ flag_rule (codes "no-retries") ∷ flag_rule (codes "no-skips")
+    ∷ flag_rule (codes "no-stepless") ∷ flag_rule (codes "no-undefined")
+    ∷ flag_rule (codes "strict") ∷ pending_rule ∷ attempts_rule ∷ [])
 
 -- the command `audit [--pending-passes] [--attempts-from N]`
 abbrev pub audit_command : App
@@ -143,9 +162,46 @@ abbrev pub settings_in : List Row → Option Settings
 settings_in rows =
     option_map (λ n. record { policy = policy_in rows; first_attempt = n }) (first_attempt_in rows)
 
--- whether pickles without a case may pass
-abbrev pub allows_unrun_in : List Row → Bool
-allows_unrun_in rows = is_given (first_of (codes "allow-unrun") rows)
+-- a flag of this name is given
+abbrev pub has_flag : Text → List Row → Bool
+has_flag name rows = is_given (first_of name rows)
+
+-- a tag begins with `@`
+abbrev pub is_tag : Text → Bool
+is_tag [] = false
+is_tag (c ∷ cs) = c == 64
+
+-- The tags of the pickles that may be without a case, in their order: none where no tag is given. A
+-- text that is no tag is a mistake, and so is a tag where any pickle may be without one.
+abbrev pub tags_allowed : (allows_unrun : Bool) → Option (List Text) → Option (List Text)
+tags_allowed allows_unrun None = Some []
+tags_allowed true (Some tags) = None
+tags_allowed false (Some tags) = if list_all is_tag tags then Some tags else None
+
+-- what the flags and these tags ask of a run; `--strict` is four flags at once
+abbrev pub conditions_by : (allows_unrun strict retries skips stepless undefined : Bool)
+    → (tags : List Text) → Conditions
+conditions_by allows_unrun strict retries skips stepless undefined tags = record {
+  allows_unrun = allows_unrun;
+  allowed_tags = tags;
+  no_retries = strict || retries;
+  no_skips = strict || skips;
+  no_stepless = strict || stepless;
+  no_undefined = strict || undefined;
+}
+
+-- what the values after `gate` ask of a run; None at a mistake
+abbrev pub conditions_in : List Row → Option Conditions
+conditions_in rows = option_map
+    (conditions_by (has_flag (codes "allow-unrun") rows) (has_flag (codes "strict") rows)
+    (has_flag (codes "no-retries") rows) (has_flag (codes "no-skips") rows)
+    (has_flag (codes "no-stepless") rows) (has_flag (codes "no-undefined") rows))
+    (tags_allowed (has_flag (codes "allow-unrun") rows) (all_of (codes "allow-unrun-tagged") rows))
+
+-- what `gate` asks by its settings and conditions, where there is no mistake in either
+abbrev pub gate_asked : Option Settings → Option Conditions → Option Command
+gate_asked settings asked =
+    option_and_then (λ conditions. option_map (λ s. ask_gate s conditions) settings) asked
 
 -- the command of this name, with the values that come after it
 abbrev pub command_named : Text → List Row → Option Command
@@ -154,8 +210,7 @@ command_named name rows =
     else if bytes_eq name (codes "compile") then option_map ask_compile
     (first_of (codes "uri") rows)
     else if bytes_eq name (codes "audit") then option_map ask_audit (settings_in rows)
-    else if bytes_eq name (codes "gate") then option_map (λ s. ask_gate s (allows_unrun_in rows))
-    (settings_in rows)
+    else if bytes_eq name (codes "gate") then gate_asked (settings_in rows) (conditions_in rows)
     else if bytes_eq name (codes "results") then option_map ask_results (first_attempt_in rows)
     else if bytes_eq name (codes "cases") then option_map ask_cases (settings_in rows)
     else if bytes_eq name (codes "differs") then option_map ask_differs (settings_in rows)
@@ -191,6 +246,12 @@ abbrev pub Chooses : Option Command → Result Choice Refusal → Type 0
 Chooses (Some c) (Ok d) = command_of_choice d ≡ c
 Chooses (Some c) (Err r) = r ≡ refusal.Memory
 Chooses None result = IsErr result
+
+-- The result shows what was asked for, or memory ran out; where nothing was, it is a mistake.
+abbrev pub Gives : {A B : Type 0} → (A → B) → Option B → Result A NoChoice → Type 0
+Gives shown asked (Ok x) = asked ≡ Some (shown x)
+Gives shown asked (Err no_choice.Memory) = ⊤
+Gives shown asked (Err mistake) = asked ≡ None
 
 -- the error shows help or the version
 abbrev pub is_help : ErrorKind → Bool

@@ -1,22 +1,25 @@
 //! The command line: what the words after the program's name ask for.
-ghost use Rattle.std.specs.Prelude.{◌≡◌, IfOk, false, map, option_map};
-ghost use Rattle.clap.specs.Words.{app_of, first_of, found_of, kind_of, new_app, rows_of, rule_of, subcommand_rows_of};
+ghost use Rattle.std.specs.List.{list_all};
+ghost use Rattle.std.specs.Prelude.{◌≡◌, IfOk, codes, false, map, option_map};
+ghost use Rattle.clap.specs.Words.{all_of, app_of, first_of, found_of, kind_of, new_app, rows_of, rule_of, subcommand_rows_of};
 ghost use Rattle.clap.specs.declared.builder.command.Command.TheViews.{out-Command as fields_of};
 ghost use Rattle.ck_command_line.specs.CommandLine.{HelpsByKind, HelpsOnCall, IsNoHelp};
 ghost use Rattle.ck_command_line.specs.CommandLine.{Chooses, command_of_choice, attempts_rule, audit_command, bare_app, cases_command};
 ghost use Rattle.ck_command_line.specs.CommandLine.{command_app, command_named, command_of, compile_command, differs_command};
-ghost use Rattle.ck_command_line.specs.CommandLine.{first_attempt_in};
+ghost use Rattle.ck_command_line.specs.CommandLine.{Gives, conditions_in, first_attempt_in, is_tag, tagged_rule, tags_allowed};
 ghost use Rattle.ck_command_line.specs.CommandLine.{flag_rule, gate_command, is_given, subcommand_named, parse_command, policy_in, results_command};
 ghost use Rattle.ck_command_line.specs.CommandLine.{settings_in, uri_rule};
+ghost use Rattle.cm_stream.specs.Release.{conditions_of};
 
 use crate::help;
 use clap::error::ErrorKind;
 use clap::{Arg, ArgAction, ArgMatches, Command, Error};
 use cm_attempt::{Policy, Settings};
+use cm_stream::Conditions;
 use std::alloc::{AllocError, Global};
 
 /// What the words ask for.
-#[derive(Clone, Copy, Debug, PartialEq, Eq)]
+#[derive(Debug, Drop)]
 pub enum Choice<'a> {
     /// What a feature file is.
     Parse,
@@ -24,9 +27,8 @@ pub enum Choice<'a> {
     Compile(&'a str),
     /// The verdict on a stream, by these settings.
     Audit(Settings),
-    /// The verdict on a stream, and whether its run is to be released; the second says whether a run passes that has
-    /// pickles without a test case.
-    Gate(Settings, bool),
+    /// The verdict on a stream, and whether its run is to be released, which is asked by these conditions.
+    Gate(Settings, Conditions<'a>),
     /// The table of the test cases of a stream, with the number of each test case's first attempt.
     Results(u64),
     /// The lines of the test cases of a good stream, by these settings.
@@ -42,6 +44,21 @@ pub enum Refusal {
     Usage(String),
     /// A call for help or for the version, with its text.
     Help(String),
+    /// There was no memory.
+    Memory,
+}
+
+/// Why the values after a command ask for nothing.
+#[derive(Clone, Copy, Debug, Drop, PartialEq, Eq)]
+enum NoChoice {
+    /// There is no such command, or its uri isn't there.
+    NoCommand,
+    /// The number of the first attempt is neither 0 nor 1.
+    WrongAttempts,
+    /// A tag has no `@`.
+    WrongTag,
+    /// `--allow-unrun` stands beside `--allow-unrun-tagged`.
+    BothUnrun,
     /// There was no memory.
     Memory,
 }
@@ -77,6 +94,17 @@ fn attempts_argument<'a>(alloc: Global) -> Arg<'a>
     explained(attempts_from, "N", help::ATTEMPTS_FROM)
 }
 
+/// The argument `--allow-unrun-tagged TAG`, which may be given several times.
+fn tagged_argument<'a>(alloc: Global) -> Arg<'a>
+    ensures rule { rule_of result ≡ tagged_rule }
+    ensures local { result.global ≡ false }
+{
+    let tagged = Arg::new(alloc, "allow-unrun-tagged")
+        .long("allow-unrun-tagged")
+        .action(ArgAction::Append);
+    explained(tagged, "TAG", help::ALLOW_UNRUN_TAGGED)
+}
+
 /// A flag, with what its help says.
 fn flag<'a>(alloc: Global, name: &'a str, text: &'a str) -> Arg<'a>
     ensures rule { rule_of result ≡ flag_rule name.entry.now }
@@ -105,7 +133,8 @@ fn new_command<'a>(
         .after_help(more)
 }
 
-/// `gate [--allow-unrun] [--pending-passes] [--attempts-from N]`.
+/// `gate [--allow-unrun] [--allow-unrun-tagged TAG].. [--no-retries] [--no-skips] [--no-stepless] [--no-undefined] [--strict]
+/// [--pending-passes] [--attempts-from N]`.
 fn gate_command<'a>(alloc: Global) -> Result<Command<'a>, AllocError>
     ensures app { IfOk result (λ c. app_of c ≡ gate_command) }
     ensures local { IfOk result (λ c. (fields_of c).has_globals ≡ false) }
@@ -118,6 +147,12 @@ fn gate_command<'a>(alloc: Global) -> Result<Command<'a>, AllocError>
         help::AFTER_GATE,
     )
     .arg(flag(alloc, "allow-unrun", help::ALLOW_UNRUN))?
+    .arg(tagged_argument(alloc))?
+    .arg(flag(alloc, "no-retries", help::NO_RETRIES))?
+    .arg(flag(alloc, "no-skips", help::NO_SKIPS))?
+    .arg(flag(alloc, "no-stepless", help::NO_STEPLESS))?
+    .arg(flag(alloc, "no-undefined", help::NO_UNDEFINED))?
+    .arg(flag(alloc, "strict", help::STRICT))?
     .arg(flag(alloc, "pending-passes", help::PENDING_PASSES))?
     .arg(attempts_argument(alloc))
 }
@@ -290,76 +325,154 @@ fn policy_in<'a>(values: &ArgMatches<'a>) -> Policy
     }
 }
 
-/// The number of each test case's first attempt: 0 where the option isn't given, and None where its value is neither 0 nor 1.
-fn first_attempt_in<'a>(values: &ArgMatches<'a>) -> Option<u64>
-    ensures { result ≡ first_attempt_in (rows_of (found_of values.now)) }
+/// The number of each test case's first attempt: 0 where the option isn't given.
+fn first_attempt_in<'a>(values: &ArgMatches<'a>) -> Result<u64, NoChoice>
+    ensures { Gives (λ number. number) (first_attempt_in (rows_of (found_of values.now))) result }
 {
     match text_of(values, "attempts-from") {
-        None => Some(0),
+        None => Ok(0),
         Some(text) => if text == "0" {
-            Some(0)
+            Ok(0)
         } else if text == "1" {
-            Some(1)
+            Ok(1)
         } else {
-            None
+            Err(NoChoice::WrongAttempts)
         },
     }
 }
 
 /// The settings that the values after a command ask for.
-fn settings_in<'a>(values: &ArgMatches<'a>) -> Option<Settings>
-    ensures { result ≡ settings_in (rows_of (found_of values.now)) }
+fn settings_in<'a>(values: &ArgMatches<'a>) -> Result<Settings, NoChoice>
+    ensures { Gives (λ settings. settings) (settings_in (rows_of (found_of values.now))) result }
 {
     let first_attempt = first_attempt_in(values)?;
-    Some(Settings {
+    Ok(Settings {
         policy: policy_in(values),
         first_attempt,
     })
 }
 
+/// The text is a tag: it begins with `@`.
+fn is_tag(text: &str) -> bool
+    ensures { result ≡ is_tag text.now }
+{
+    text.starts_with('@')
+}
+
+/// Each of the texts is a tag.
+fn are_tags(texts: &[&str]) -> bool
+    ensures { result ≡ list_all (λ text. is_tag text.now) texts.now }
+{
+    texts.iter().all(|text| is_tag(text))
+}
+
+/// The texts after `--allow-unrun-tagged`, in their order.
+fn tagged_in<'v, 'a>(values: &'v ArgMatches<'a>) -> Option<&'v [&'a str]>
+    ensures { option_map (λ texts. map (λ text. text.now) texts.now) result
+        ≡ all_of (codes "allow-unrun-tagged") (rows_of (found_of values.now)) }
+{
+    values.get_raw("allow-unrun-tagged")
+}
+
+/// The tags of the pickles that may be without a test case, in their order. Where each pickle may, none is to be given.
+fn tags_in<'a>(
+    alloc: Global,
+    values: &ArgMatches<'a>,
+    allows_unrun: bool,
+) -> Result<Vec<&'a str>, NoChoice>
+    ensures { Gives (λ tags. map (λ t. t.now) tags.items) (tags_allowed allows_unrun
+        (all_of (codes "allow-unrun-tagged") (rows_of (found_of values.now)))) result }
+{
+    let mut allowed = Vec::new(alloc);
+    let Some(tags) = tagged_in(values) else {
+        return Ok(allowed);
+    };
+    if allows_unrun {
+        return Err(NoChoice::BothUnrun);
+    }
+    if !are_tags(tags) {
+        return Err(NoChoice::WrongTag);
+    }
+    match allowed.extend_from_slice(tags) {
+        Ok(()) => Ok(allowed),
+        Err(AllocError) => Err(NoChoice::Memory),
+    }
+}
+
+/// What the values after `gate` ask of a run.
+fn conditions_in<'a>(alloc: Global, values: &ArgMatches<'a>) -> Result<Conditions<'a>, NoChoice>
+    ensures { Gives conditions_of (conditions_in (rows_of (found_of values.now))) result }
+{
+    let allows_unrun = has_flag(values, "allow-unrun");
+    let allowed_tags = tags_in(alloc, values, allows_unrun)?;
+    let strict = has_flag(values, "strict");
+    Ok(Conditions {
+        allows_unrun,
+        allowed_tags,
+        no_retries: strict || has_flag(values, "no-retries"),
+        no_skips: strict || has_flag(values, "no-skips"),
+        no_stepless: strict || has_flag(values, "no-stepless"),
+        no_undefined: strict || has_flag(values, "no-undefined"),
+    })
+}
+
 /// The command of this name, with the values that come after it.
-fn choice_named<'a>(name: &str, values: &ArgMatches<'a>) -> Option<Choice<'a>>
-    ensures { option_map command_of_choice result
-        ≡ command_named name.now (rows_of (found_of values.now)) }
+fn choice_named<'a>(
+    alloc: Global,
+    name: &str,
+    values: &ArgMatches<'a>,
+) -> Result<Choice<'a>, NoChoice>
+    ensures { Gives command_of_choice
+        (command_named name.now (rows_of (found_of values.now))) result }
 {
     if name == "parse" {
-        return Some(Choice::Parse);
+        return Ok(Choice::Parse);
     }
     if name == "compile" {
-        return Some(Choice::Compile(text_of(values, "uri")?));
+        return Ok(Choice::Compile(text_of(values, "uri").ok_or(NoChoice::NoCommand)?));
     }
     if name == "audit" {
-        return Some(Choice::Audit(settings_in(values)?));
+        return Ok(Choice::Audit(settings_in(values)?));
     }
     if name == "gate" {
-        return Some(Choice::Gate(settings_in(values)?, has_flag(values, "allow-unrun")));
+        let settings = settings_in(values)?;
+        return Ok(Choice::Gate(settings, conditions_in(alloc, values)?));
     }
     if name == "results" {
-        return Some(Choice::Results(first_attempt_in(values)?));
+        return Ok(Choice::Results(first_attempt_in(values)?));
     }
     if name == "cases" {
-        return Some(Choice::Cases(settings_in(values)?));
+        return Ok(Choice::Cases(settings_in(values)?));
     }
     if name == "differs" {
-        return Some(Choice::Differs(settings_in(values)?));
+        return Ok(Choice::Differs(settings_in(values)?));
     }
-    None
+    Err(NoChoice::NoCommand)
 }
 
 /// What the command in the matches asks for.
-fn chosen<'a>(matches: &ArgMatches<'a>) -> Option<Choice<'a>>
-    ensures { option_map command_of_choice result
-        ≡ subcommand_named (subcommand_rows_of matches.now) }
+fn chosen<'a>(alloc: Global, matches: &ArgMatches<'a>) -> Result<Choice<'a>, NoChoice>
+    ensures { Gives command_of_choice (subcommand_named (subcommand_rows_of matches.now)) result }
 {
-    let (name, values) = matches.subcommand()?;
-    choice_named(name, values)
+    match matches.subcommand() {
+        Some((name, values)) => choice_named(alloc, name, values),
+        None => Err(NoChoice::NoCommand),
+    }
 }
 
-/// The words are a command's, but for the value of `--attempts-from`.
-fn wrong_attempts(alloc: Global) -> Refusal
-    ensures { IsNoHelp result }
+/// The words are a command's, but for the values of its options.
+fn wrong_values(alloc: Global, why: NoChoice) -> Refusal
+    ensures memory { why ≡ NoChoice.Memory → result ≡ Refusal.Memory }
+    ensures no_help { IsNoHelp result }
 {
-    match String::from_str(alloc, help::WRONG_ATTEMPTS) {
+    let text = match why {
+        NoChoice::NoCommand => help::NO_COMMAND,
+        NoChoice::WrongAttempts => help::WRONG_ATTEMPTS,
+        NoChoice::WrongTag => help::WRONG_TAG,
+        NoChoice::BothUnrun => help::BOTH_UNRUN,
+        NoChoice::Memory => return Refusal::Memory,
+    };
+    match String::from_str(alloc, text) {
         Ok(text) => Refusal::Usage(text),
         Err(AllocError) => Refusal::Memory,
     }
@@ -377,9 +490,9 @@ pub fn choose<'a>(alloc: Global, words: &'a [&'a str]) -> Result<Choice<'a>, Ref
         return Err(Refusal::Memory);
     };
     match command.try_get_matches_from(words) {
-        Ok(matches) => match chosen(&matches) {
-            Some(choice) => Ok(choice),
-            None => Err(wrong_attempts(alloc)),
+        Ok(matches) => match chosen(alloc, &matches) {
+            Ok(choice) => Ok(choice),
+            Err(why) => Err(wrong_values(alloc, why)),
         },
         Err(error) => Err(refusal_of(alloc, &error)),
     }

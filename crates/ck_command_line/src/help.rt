@@ -138,9 +138,8 @@ pub(crate) const AFTER_GATE: &str =
 
   cukecheck gate < run.ndjson && deploy
 
-Prints the line that `audit` prints, and a second one where the report is true and the run isn't to
-be released:
-  good ..               0  the run is to be released
+Prints the line that `audit` prints, and a second one where the report is true:
+  good ..               0  the run is to be released, and the second line counts what it lets pass
   bad line L: N Name    1  no good stream begins with the lines up to L; or L is past the last
                            line, and the stream ends early
   trouble Name          3  the stream can't be read to its end, or there is no memory
@@ -149,18 +148,62 @@ be released:
                            says why:
   stop NotSuccessful         The run says no success.
   stop Empty                 There is no test case.
-  stop Unrun                 A pickle has no test case (not with --allow-unrun).
+  stop Unrun                 A pickle has no test case (not with --allow-unrun; nor with
+                             --allow-unrun-tagged, where it has one of the tags).
+  stop Retried               A pickle has more than one attempt (with --no-retries).
+  stop Skipped               A step of a case's last attempt was skipped (with --no-skips).
+  stop Stepless              A test case is of a pickle without steps (with --no-stepless).
+  stop Undefined             A step passed that no step definition matches (with --no-undefined).
 Where more than one of these holds, the second line has the first of them.
+Of a run that is to be released the second line is `release retried=R skipped=S unrun=U`: how many
+pickles have more than one attempt, how many cases have a skipped step in their last attempt, and
+how many pickles have no test case.
 Status 2 is for a mistake in the words. `cukecheck audit --help` explains the numbers and names.
-A scenario without steps counts as passed, and a run whose every step was skipped is released.";
+Without these options a scenario without steps counts as passed, and a run whose every step was
+skipped is released.";
 
 pub(crate) const ALLOW_UNRUN: &str =
     "A run may be released that has pickles without a test case, as where a filter was used";
+
+pub(crate) const ALLOW_UNRUN_TAGGED: &str =
+    "The same of pickles with this tag alone, as @wip; it may be given several times";
+
+pub(crate) const NO_RETRIES: &str = "No pickle may have more than one attempt";
+
+pub(crate) const NO_SKIPS: &str = "No step of a case's last attempt may be skipped";
+
+pub(crate) const NO_STEPLESS: &str = "No test case may be of a pickle without steps";
+
+pub(crate) const NO_UNDEFINED: &str = "No step may pass that no step definition matches";
+
+pub(crate) const STRICT: &str = "All four: --no-retries, --no-skips, --no-stepless, --no-undefined";
 
 pub(crate) const PENDING_PASSES: &str = "PENDING is a good status too, beside PASSED and SKIPPED";
 
 pub(crate) const ATTEMPTS_FROM: &str =
     "Number of a case's first attempt: 0 by the schema, 1 as cucumber-ruby counts [default: 0]";
+
+pub(crate) const NO_COMMAND: &str = "error: the words name no command
+
+Usage: cukecheck <COMMAND> [OPTIONS] < FILE
+
+For more information, try '--help'.
+";
+
+pub(crate) const WRONG_TAG: &str = "error: the value of '--allow-unrun-tagged <TAG>' begins with '@'
+
+Usage: cukecheck gate --allow-unrun-tagged <TAG> < FILE
+
+For more information, try '--help'.
+";
+
+pub(crate) const BOTH_UNRUN: &str =
+    "error: '--allow-unrun' can't be used with '--allow-unrun-tagged <TAG>'
+
+Usage: cukecheck gate [--allow-unrun | --allow-unrun-tagged <TAG>] < FILE
+
+For more information, try '--help'.
+";
 
 pub(crate) const WRONG_ATTEMPTS: &str = "error: the value of '--attempts-from <N>' is 0 or 1
 

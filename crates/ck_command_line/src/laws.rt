@@ -5,7 +5,7 @@ ghost use Rattle.ck_command_line.specs.Asked.{RefusesOtherOptions, TakesItsOptio
 
 /// Which words ask for which command, and which for none.
 pub fn words_ask_for_their_command()
-    // A command takes any list of its own options, in any order and none twice.
+    // A command takes any list of its own options, in any order and none twice but for `--allow-unrun-tagged`.
     ensures options { AllByRecursion TakesItsOptions usages }
     // It refuses the name of a file, and an option that it hasn't.
     ensures files { AllByRecursion RefusesFiles named_options }

@@ -1,4 +1,4 @@
--- What the commands `audit` and `gate` report.
+-- What the command `audit` reports.
 use Rattle.std.proofs.Common.{◌≡◌, ◌≢◌, ◌∙◌, ℕ, Result, Ok, Err, Bool, true, inl, inr, refl, sym, ap}
 use Rattle.cm_envelope.specs.Device.{CountsFailure, Input, OfInput, OfReads}
 use Rattle.cm_envelope.proofs.Sources.{of_reads, reads_weaker}
@@ -11,8 +11,7 @@ use Rattle.cm_stream.specs.Stream.{Answer, Failed, Found, answer_of_audit}
 use Rattle.cm_stream.specs.declared.verdict.Audited.{Audited}
 use Rattle.cm_stream.specs.declared.verdict.Verdict.{Verdict}
 use Rattle.cm_stream.specs.declared.verdict.Verdict.TheVariants as verdict
-use Rattle.ck_command_line.specs.CommandLine.{ask_audit, ask_gate}
-use Rattle.ck_commands.specs.Gate.{gate_report}
+use Rattle.ck_command_line.specs.CommandLine.{ask_audit}
 use Rattle.ck_commands.specs.Output.{Report}
 use Rattle.ck_commands.specs.Verdicts.{verdict_report}
 use Rattle.ck_commands.specs.declared.output.ExitStatus.TheVariants as exit
@@ -57,19 +56,4 @@ audit_is_reported settings answer r i j h one = record {
   no_fault = no_fault_of settings answer i j h;
   read_failed = λ more. read_failed_reported verdict_report refl answer r refl (some_failed _ _ _ h.failures more) one;
   unread = unread_at verdict_report not_done (λ t. refl) i j answer r h.failures one;
-}
-
-gate_not_done : (allows_unrun : Bool) (n : ℕ) (f : Finding) → (gate_report allows_unrun (Found n f)).status ≡ exit.Done → ⊥
-gate_not_done allows_unrun n (IsBad f) e = cc
-gate_not_done allows_unrun n (IsUnsupported r) e = cc
-
-pub gate_is_reported : (settings : Settings) (allows_unrun : Bool) (answer : Result Audited Trouble) (r : Report) (i j : Input) → Audits settings answer i j → IsOne (gate_report allows_unrun (answer_of_audit answer)) r
-    → Reported (ask_gate settings allows_unrun) r i j
-gate_is_reported settings allows_unrun answer r i j h one = record {
-  answer = λ reads. first_reported (gate_report allows_unrun) refl settings i j answer r (told_of settings answer i j h) (none_failed _ _ _ h.failures reads) one;
-  tells = λ other. audit_reported (gate_report allows_unrun) refl settings i j answer r (λ t. refl) one other h.heard;
-  over = over_at (gate_report allows_unrun) (gate_not_done allows_unrun) (λ t. refl) j answer r h.at_end one;
-  no_fault = no_fault_of settings answer i j h;
-  read_failed = λ more. read_failed_reported (gate_report allows_unrun) refl answer r refl (some_failed _ _ _ h.failures more) one;
-  unread = unread_at (gate_report allows_unrun) (gate_not_done allows_unrun) (λ t. refl) i j answer r h.failures one;
 }

@@ -22,7 +22,7 @@ use Rattle.ck_commands.specs.Output.{Report, report_made, trouble_name, trouble_
 use Rattle.ck_commands.specs.Run.{Reports, Tells}
 use Rattle.ck_commands.specs.declared.output.ExitStatus.TheVariants as exit
 use Rattle.ck_commands.specs.declared.output.Report as made
-use Rattle.ck_commands.proofs.CasesPrinted.{report_is}
+use Rattle.ck_commands.proofs.AuditsBeside.{report_is}
 use Rattle.ck_commands.proofs.Printing.{none_failed, some_failed}
 use Rattle.ck_commands.proofs.Ran.{Reported}
 

@@ -12,3 +12,5 @@ pub mod ResultsPrinted
 pub mod Choices
 pub mod Shown
 pub mod Exactly
+mod GatePrinted
+mod AuditsBeside

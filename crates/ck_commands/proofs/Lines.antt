@@ -1,7 +1,7 @@
 -- What the lines that were taken make of the record of attempts, and what is answered then.
 use Rattle.std.proofs.Common.{◌≡◌, ◌∙◌, ℕ, ◌+◌, List, [], ◌∷◌, ◌++◌, Option, Some, None, Result, Ok, Err, Bool, true, false, inl, inr, refl, sym, ap, subst, append-nil, length, arith}
 use Rattle.std.specs.Prelude.{option_and_then, if◌then◌else◌}
-use Rattle.cm_envelope.specs.Device.{CountsFailure, Input, OfInput, OfReads}
+use Rattle.cm_envelope.specs.Device.{Input, OfInput, OfReads}
 use Rattle.cm_envelope.specs.Feeds.{is_failed_read}
 use Rattle.cm_envelope.specs.Lines.{is_blank}
 use Rattle.cm_envelope.specs.Member.{◌>>=◌}
@@ -144,7 +144,8 @@ not_done_for why e = cc
 
 not_good : (first now : Attempts) (answer : Result Audited Trouble) (bytes rest : List ℕ) → TakesStream TakesCall first now (Err answer) bytes rest → (let held : Result Table (Result Audited Trouble) = Err answer in (outcome_report (held_outcome held)).status) ≡ Done → ⊥
 not_good first now answer bytes rest (inl h) done = not_good_at (length h.before + 1) h.why (rw (← h.answers) done)
-not_good first now answer bytes rest (inr h) done = not_done_for h.0 (rw (← h.1) done)
+not_good first now answer bytes rest (inr h) done =
+    not_done_for h.0 (subst (λ (a : Result Audited Trouble). (let held : Result Table (Result Audited Trouble) = Err a in (outcome_report (held_outcome held)).status) ≡ Done) h.1 done)
 
 pub not_done : (first now : Attempts) (answer : Result Audited Trouble) (a b : Input) → OfReads a b (TakesStream TakesCall first now (Err answer)) → (let held : Result Table (Result Audited Trouble) = Err answer in (outcome_report (held_outcome held)).status) ≡ Done → ⊥
 not_done first now answer a b p done = not_good first now answer (p.0 ++ []) [] (p.2 [] (λ over. refl)) done

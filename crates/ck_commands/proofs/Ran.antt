@@ -6,9 +6,9 @@ use Rattle.cm_envelope.specs.declared.feed.Trouble.TheVariants.{Memory, ReadFail
 use Rattle.cm_attempt.specs.declared.settings.Settings.{Settings}
 use Rattle.gk_grammar.specs.Tree.{Document}
 use Rattle.cm_stream.specs.Findings.{IsBad, IsUnsupported}
-use Rattle.cm_stream.specs.Release.{hold_of}
+use Rattle.cm_stream.specs.Release.{Conditions, hold_of, release_counts_of}
 use Rattle.cm_stream.specs.Results.{first_results_fault}
-use Rattle.cm_stream.specs.Stream.{At, FirstFault, GoodRunIn, NoFault, NoneIsGood, Troubled, answer_of_audit}
+use Rattle.cm_stream.specs.Stream.{At, FirstFault, GoodRunIn, NoFault, NoneIsGood, Troubled, answer_of_audit, envelopes}
 use Rattle.cm_stream.specs.declared.verdict.Audited.{Audited}
 use Rattle.cm_stream.specs.declared.verdict.Hold.{Hold}
 use Rattle.cm_stream.specs.declared.verdict.Verdict.{Verdict}
@@ -20,7 +20,7 @@ use Rattle.ck_command_line.specs.CommandLine.{Command, ask_audit, ask_cases, ask
 use Rattle.ck_commands.specs.Cases.{ListsOrTells, PrintsListed}
 use Rattle.ck_commands.specs.Differs.{PrintsBadDifference, difference_lines, differs_report}
 use Rattle.ck_commands.specs.Features.{IsFeatureOf, fault_report, parse_report}
-use Rattle.ck_commands.specs.Gate.{PrintsReleased, gate_report, held_status, hold_text}
+use Rattle.ck_commands.specs.Gate.{PrintsReleased, ReleasesOrTells, held_status, second_line}
 use Rattle.ck_commands.specs.Output.{Breaks, Delivers, DeliversOne, NoneFailed, Prints, Report, code_of, trouble_report}
 use Rattle.ck_commands.specs.Results.{results_report}
 use Rattle.ck_commands.specs.Run.{IsBadFor, IsDone, PrintsCompiled, PrintsDocument, PrintsFault, PrintsRefused, PrintsResults, Reports, ReportsCompiled, Runs, ShowsNone, Tells}
@@ -69,34 +69,31 @@ module _ (settings : Settings) (code : ℕ) (before after : Output) where
 
 -- ---- released runs
 
-not_held : (h : Option Hold) → code_of (held_status h exit.Done) ≡ 0 → h ≡ None
+not_held : (h : Option Hold) → code_of (held_status h) ≡ 0 → h ≡ None
 not_held None e = refl
 not_held (Some h) e = cc
 
-without_hold : (h : Option Hold) (text : List ℕ) → h ≡ None → text ++ hold_text h ≡ text
-without_hold h text none = rw none (append-nil text)
+held_or_done : (h : Option Hold) → code_of (held_status h) ≡ 1 → ⊥
+held_or_done None e = cc
+held_or_done (Some h) e = cc
 
-module _ (settings : Settings) (allows_unrun : Bool) (code : ℕ) (before after : Output) where
-  released : (bytes : List ℕ) (v : Verdict) (success : Bool) → GoodRunIn settings bytes v success → Prints (gate_report allows_unrun (answer_of_audit (Ok (record { verdict = v; success = success })))) code before after
-      → code ≡ 0 → PrintsReleased settings allows_unrun before after bytes
-  released bytes (verdict.Good counts) success run p zero =
-      let none = not_held (hold_of allows_unrun success counts) (sym p.status ∙ zero) in (
+module _ (settings : Settings) (asked : Conditions) (code : ℕ) (before after : Output) where
+  released : (bytes : List ℕ) (a : Audited) (v : Verdict) (r : Report) → a.verdict ≡ v → ReleasesOrTells settings asked bytes a v r → Prints r code before after → code ≡ 0 → PrintsReleased settings asked before after bytes
+  released bytes a (verdict.Good counts) r is h p zero =
+      let found = release_counts_of asked settings.policy (envelopes h.0.lines) in
+      let none = not_held (hold_of asked a.success counts found) (sym (p.status ∙ ap (λ (x : Report). code_of x.status) h.1) ∙ zero) in (
         counts,
-        (released_is_not_held settings allows_unrun bytes counts success run).0 none,
-        subst (Writes before after) (without_hold (hold_of allows_unrun success counts) (counts_text counts) none) p.written,
+        found,
+        (released_is_not_held settings asked bytes counts found a.success h.0 refl).0 none,
+        subst (Writes before after) (ap (λ (x : Report). x.text) h.1 ∙ ap (λ (o : Option Hold). counts_text counts ++ second_line o counts found) none) p.written,
       )
-  released bytes (verdict.Bad n b) success run p zero = absurd (not_both 1 0 code p.status zero (λ e. cc))
-  released bytes (verdict.Unsupported n r) success run p zero = absurd (not_both 4 0 code p.status zero (λ e. cc))
+  released bytes a (verdict.Bad n b) r is h p zero = absurd (not_both 1 0 code (p.status ∙ ap (λ (x : Report). code_of x.status) h ∙ rw is refl) zero (λ e. cc))
+  released bytes a (verdict.Unsupported n u) r is h p zero = absurd (not_both 4 0 code (p.status ∙ ap (λ (x : Report). code_of x.status) h ∙ rw is refl) zero (λ e. cc))
 
-  held_or_done : (h : Option Hold) → code_of (held_status h exit.Done) ≡ 1 → ⊥
-  held_or_done None e = cc
-  held_or_done (Some h) e = cc
-
-  not_released : (bytes : List ℕ) (v : Verdict) (success : Bool) → NoneIsGood settings bytes (Ok v) → Prints (gate_report allows_unrun (answer_of_audit (Ok (record { verdict = v; success = success })))) code before after
-      → code ≡ 1 → PrintsBad settings before after bytes
-  not_released bytes (verdict.Good counts) success none p one = absurd (held_or_done (hold_of allows_unrun success counts) (sym p.status ∙ one))
-  not_released bytes (verdict.Bad n b) success none p one = (n, b, none, subst (Writes before after) (append-nil _) p.written)
-  not_released bytes (verdict.Unsupported n r) success none p one = absurd (not_both 4 1 code p.status one (λ e. cc))
+  not_released : (bytes : List ℕ) (a : Audited) (v : Verdict) (r : Report) → a.verdict ≡ v → ReleasesOrTells settings asked bytes a v r → NoneIsGood settings bytes (Ok v) → Prints r code before after → code ≡ 1 → PrintsBad settings before after bytes
+  not_released bytes a (verdict.Good counts) r is h none p one = absurd (held_or_done (hold_of asked a.success counts (release_counts_of asked settings.policy (envelopes h.0.lines))) (sym (p.status ∙ ap (λ (x : Report). code_of x.status) h.1) ∙ one))
+  not_released bytes a (verdict.Bad n b) r is h none p one = (n, b, none, subst (Writes before after) (ap (λ (x : Report). x.text) h ∙ rw is refl) p.written)
+  not_released bytes a (verdict.Unsupported n u) r is h none p one = absurd (not_both 4 1 code (p.status ∙ ap (λ (x : Report). code_of x.status) h ∙ rw is refl) one (λ e. cc))
 
 -- ---- the lines of cases
 
@@ -183,7 +180,7 @@ done_of : (c : Command) (bytes rest : List ℕ) (r : Report) (code : ℕ) (befor
 done_of ask_parse bytes rest r code before after t p zero = document code before after bytes t.0 t.1 (subst (Printed code before after) t.2 p) zero
 done_of (ask_compile uri) bytes rest r code before after t p zero = compiled code before after uri bytes r t p zero
 done_of (ask_audit s) bytes rest r code before after t p zero = good s code before after bytes t.0.verdict t.0.success t.1.good (subst (Printed code before after) t.2 p) zero
-done_of (ask_gate s u) bytes rest r code before after t p zero = released s u code before after bytes t.0.verdict t.0.success t.1.good (subst (Printed code before after) t.2 p) zero
+done_of (ask_gate s asked) bytes rest r code before after t p zero = released s asked code before after bytes t.0 t.0.verdict r refl t.2 p zero
 done_of (ask_results n) bytes rest r code before after t p zero = results code before after n bytes (first_results_fault n bytes) refl (subst (Printed code before after) t p) zero
 done_of (ask_cases s) bytes rest r code before after t p zero = listed s code before after bytes t.0 t.0.verdict r refl t.2 p zero
 done_of (ask_differs s) bytes rest r code before after t p zero = good_differs s code before after bytes t.0.verdict t.0.success t.2.0 t.1.good t.2.1 (subst (Printed code before after) t.2.2 p) zero
@@ -192,7 +189,7 @@ bad_of : (c : Command) (bytes rest : List ℕ) (r : Report) (code : ℕ) (before
 bad_of ask_parse bytes rest r code before after t p one = no_document code before after bytes t.0 t.1 (subst (Printed code before after) t.2 p) one
 bad_of (ask_compile uri) bytes rest r code before after t p one = not_compiled code before after uri bytes r t p one
 bad_of (ask_audit s) bytes rest r code before after t p one = bad s code before after bytes t.0.verdict t.0.success t.1.bad (subst (Printed code before after) t.2 p) one
-bad_of (ask_gate s u) bytes rest r code before after t p one = not_released s u code before after bytes t.0.verdict t.0.success t.1.bad (subst (Printed code before after) t.2 p) one
+bad_of (ask_gate s asked) bytes rest r code before after t p one = not_released s asked code before after bytes t.0 t.0.verdict r refl t.2 t.1.bad p one
 bad_of (ask_results n) bytes rest r code before after t p one = no_results code before after n bytes (first_results_fault n bytes) refl (subst (Printed code before after) t p) one
 bad_of (ask_cases s) bytes rest r code before after t p one = not_listed s code before after bytes t.0 t.0.verdict r refl t.2 t.1.bad p one
 bad_of (ask_differs s) bytes rest r code before after t p one = bad_differs s code before after bytes t.0.verdict t.0.success t.2.0 t.1.bad t.2.1 (subst (Printed code before after) t.2.2 p) one

@@ -1,9 +1,9 @@
 -- The bytes that a source shows to come.
-use Rattle.std.proofs.Common.{◌≡◌, ◌∙◌, ◌++◌, [], ℕ, Bool, List, Option, Some, None, refl, sym, ap, subst}
+use Rattle.std.proofs.Common.{◌≡◌, ◌∙◌, ◌++◌, [], ℕ, List, Option, Some, None, refl, sym, ap, subst}
 use Rattle.std.specs.Io.KnownBytes.{Consumes, IsAtEnd}
 use Rattle.cm_envelope.specs.Device.{Input, OfWhole, Output}
 use Rattle.cm_attempt.specs.declared.settings.Settings.{Settings}
-use Rattle.cm_stream.specs.Release.{IsReleasedStream}
+use Rattle.cm_stream.specs.Release.{Conditions, IsReleasedStream}
 use Rattle.ck_commands.specs.Gate.{PrintsReleased}
 use Rattle.ck_commands.specs.Laws.{ShownAreHeard}
 use Rattle.ck_commands.specs.Standard.{GaveReleased}
@@ -21,7 +21,7 @@ shown_are_heard before after read bytes heard ends is =
     (parts.0, parts.1, parts.2, λ over. subst IsAtEnd parts.1 (heard.ends ends over))
 
 -- the bytes heard of a source from its first call on
-pub gave_released : (settings : Settings) (allows_unrun : Bool) (i j : Input) (before after : Output) → i.heard ≡ [] → OfWhole i j (PrintsReleased settings allows_unrun before after) → GaveReleased settings allows_unrun j
-gave_released settings allows_unrun i j before after new h =
+pub gave_released : (settings : Settings) (asked : Conditions) (i j : Input) (before after : Output) → i.heard ≡ [] → OfWhole i j (PrintsReleased settings asked before after) → GaveReleased settings asked j
+gave_released settings asked i j before after new h =
     let all : j.heard ≡ h.0 = h.1.heard ∙ ap (λ l. l ++ h.0) new in
-    (h.2, (h.3.0, subst (λ l. IsReleasedStream settings allows_unrun l h.3.0) (sym all) h.3.1))
+    (h.2, (h.3.0, h.3.1, subst (λ l. IsReleasedStream settings asked l h.3.0 h.3.1) (sym all) h.3.2))

@@ -19,7 +19,7 @@ use Rattle.cm_stream.specs.declared.verdict.Audited.{Audited}
 use Rattle.cm_stream.specs.declared.verdict.Verdict.{Verdict}
 use Rattle.cm_stream.specs.declared.verdict.Verdict.TheVariants as verdict
 use Rattle.cm_audit_cases.specs.declared.audited_cases.AuditedCases.{AuditedCases}
-use Rattle.ck_commands.specs.Output.{Report, trouble_report}
+use Rattle.ck_commands.specs.Output.{IsReport, Report, ReportsAnswer, trouble_report}
 use Rattle.ck_commands.specs.Statuses.{reported_word}
 use Rattle.ck_commands.specs.Verdicts.{finding_report, verdict_report}
 use Rattle.ck_commands.specs.declared.output.ExitStatus.TheVariants.{Done}
@@ -60,15 +60,11 @@ IsCasesText listing attempts text =
     (es : List Envelope) → listing ≡ listing_of es → case_results attempts ≡ results_of es
     → text ≡ cases_text es
 
--- the report is this one
-abbrev pub IsReport : Report → made.Report → Type 0
-IsReport report r = (string_bytes r.text ≡ report.text) × (r.status ≡ report.status)
-
 abbrev pub ReportsVerdict : Listing → Table → Audited → Verdict → made.Report → Type 0
 ReportsVerdict listing attempts a (verdict.Good counts) r =
     IsCasesText listing attempts (string_bytes r.text) × (r.status ≡ Done)
 ReportsVerdict listing attempts a _ r = IsReport (verdict_report (answer_of_audit (Ok a))) r
 
 abbrev pub ReportsCases : Result AuditedCases Trouble → made.Report → Type 0
-ReportsCases (Ok a) r = ReportsVerdict a.listing a.attempts a.audited a.audited.verdict r
-ReportsCases (Err t) r = IsReport (trouble_report t) r
+ReportsCases =
+    ReportsAnswer (λ a r. ReportsVerdict a.listing a.attempts a.audited a.audited.verdict r)

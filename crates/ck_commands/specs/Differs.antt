@@ -13,7 +13,7 @@ use Rattle.cm_stream.specs.Findings.{IsBad, stream_fault_named}
 use Rattle.cm_stream.specs.Stream.{Answer, FirstFault, At, NoneIsGood, answer_of_audit}
 use Rattle.cm_stream.specs.declared.verdict.StreamFault.{StreamFault}
 use Rattle.cm_stream.specs.declared.verdict.Verdict.TheVariants as verdict
-use Rattle.ck_commands.specs.Cases.{IsReport}
+use Rattle.ck_commands.specs.Output.{IsReport}
 use Rattle.ck_commands.specs.Output.{Report}
 use Rattle.ck_commands.specs.Verdicts.{finding_text, verdict_report}
 use Rattle.ck_commands.specs.declared.output.Report as made

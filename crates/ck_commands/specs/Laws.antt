@@ -1,8 +1,9 @@
 -- What holds of the definitions of a run.
-use Rattle.std.specs.Prelude.{◌≡◌, ◌↔◌, ◌++◌, ℕ, Bool, List, Some}
+use Rattle.std.specs.Prelude.{◌≡◌, ◌↔◌, ◌++◌, ℕ, List, Some}
 use Rattle.cm_envelope.specs.Device.{EndsAsShown, Hears, Input, MayCome}
 use Rattle.cm_attempt.specs.declared.settings.Settings.{Settings}
-use Rattle.cm_stream.specs.Release.{IsReleasedStream}
+use Rattle.cm_stream.specs.Release.{Conditions, IsReleasedStream}
+use Rattle.cm_stream.specs.declared.conditions.ReleaseCounts.{ReleaseCounts}
 use Rattle.cm_stream.specs.declared.verdict.Counts.{Counts}
 use Rattle.ck_command_line.specs.CommandLine.{ask_gate}
 use Rattle.ck_commands.specs.Output.{Report}
@@ -20,7 +21,8 @@ ShownAreHeard =
 -- Of these bytes a gate reports the status 0 exactly where they are a released stream.
 abbrev pub GateReleasesExactly : Type 0
 GateReleasesExactly =
-    (settings : Settings) (allows_unrun : Bool) (bytes : List ℕ) (r : Report)
-    → Reports (ask_gate settings allows_unrun) bytes r
+    (settings : Settings) (asked : Conditions) (bytes : List ℕ) (r : Report)
+    → Reports (ask_gate settings asked) bytes r
     → (r.status ≡ Done)
-    ↔ ((counts : Counts) × IsReleasedStream settings allows_unrun bytes counts)
+    ↔ ((counts : Counts) × (found : ReleaseCounts)
+    × IsReleasedStream settings asked bytes counts found)

@@ -43,6 +43,16 @@ abbrev pub report_made : Result made.Report AllocError → Report
 report_made (Ok report) = record { text = string_bytes report.text; status = report.status }
 report_made (Err refused) = trouble_report Memory
 
+-- the report that the code made is this one
+abbrev pub IsReport : Report → made.Report → Type 0
+IsReport report r = (string_bytes r.text ≡ report.text) × (r.status ≡ report.status)
+
+-- it is one of which P holds by what was audited, or that of the trouble in its place
+abbrev pub ReportsAnswer : {A : Type 0} → (A → made.Report → Type 0) → Result A Trouble
+    → made.Report → Type 0
+ReportsAnswer P (Ok a) r = P a r
+ReportsAnswer P (Err t) r = IsReport (trouble_report t) r
+
 -- no call of a device failed between two of its counts of failed calls, the first of which could still rise
 abbrev pub NoneFailed : ℕ → ℕ → Type 0
 NoneFailed old new = (old < greatest_count) × (new ≡ old)

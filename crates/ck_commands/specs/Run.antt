@@ -23,7 +23,7 @@ use Rattle.ck_command_line.specs.declared.command_line.Refusal.TheVariants as re
 use Rattle.ck_commands.specs.Cases.{ListsOrTells, PrintsListed, cases_report}
 use Rattle.ck_commands.specs.Differs.{IsDifferenceOf, PrintsBadDifference, differs_report}
 use Rattle.ck_commands.specs.Features.{IsFaultOf, IsFeatureOf, IsReadableText, IsRefusedFeature, document_text, fault_report, parse_report, refused_text}
-use Rattle.ck_commands.specs.Gate.{PrintsReleased, gate_report}
+use Rattle.ck_commands.specs.Gate.{PrintsReleased, ReleasesOrTells, gate_report}
 use Rattle.ck_commands.specs.Output.{DeliversOne, NoneFailed, Prints, Report, code_of, trouble_report}
 use Rattle.ck_commands.specs.Results.{ResultsShowNoFault, result_text, results_report}
 use Rattle.ck_commands.specs.Verdicts.{PrintsBad, PrintsGood, finding_text, verdict_report}
@@ -62,7 +62,7 @@ Reports ask_parse bytes r =
     (feature : Result Document FeatureFault) × IsFeatureOf bytes feature × (r ≡ parse_report feature)
 Reports (ask_compile uri) bytes r = ReportsCompiled uri bytes r
 Reports (ask_audit s) bytes r = ReportsFirst (λ first. verdict_report (answer_for first)) s bytes r
-Reports (ask_gate s u) bytes r = ReportsFirst (λ first. gate_report u (answer_for first)) s bytes r
+Reports (ask_gate s asked) bytes r = ReportsFirst (gate_report s asked) s bytes r
 Reports (ask_results n) bytes r = r ≡ results_report (first_results_fault n bytes)
 Reports (ask_cases s) bytes r = ReportsFirst cases_report s bytes r
 Reports (ask_differs s) bytes r = ReportsDiffering s bytes r
@@ -84,8 +84,8 @@ TellsDifference s bytes a r =
 abbrev pub Tells : Command → (bytes rest : List ℕ) → Report → Type 0
 Tells (ask_audit s) bytes rest r =
     ReportsAudit (λ a r. r ≡ verdict_report (answer_of_audit (Ok a))) s bytes rest r
-Tells (ask_gate s u) bytes rest r =
-    ReportsAudit (λ a r. r ≡ gate_report u (answer_of_audit (Ok a))) s bytes rest r
+Tells (ask_gate s asked) bytes rest r =
+    ReportsAudit (λ a r. ReleasesOrTells s asked bytes a a.verdict r) s bytes rest r
 Tells (ask_cases s) bytes rest r =
     ReportsAudit (λ a r. ListsOrTells s bytes a a.verdict r) s bytes rest r
 Tells (ask_differs s) bytes rest r = ReportsAudit (TellsDifference s bytes) s bytes rest r
@@ -111,7 +111,7 @@ abbrev pub IsDone : Command → (before after : Output) → (bytes : List ℕ) �
 IsDone ask_parse before after bytes = PrintsDocument before after bytes
 IsDone (ask_compile uri) before after bytes = PrintsCompiled uri before after bytes
 IsDone (ask_audit s) before after bytes = PrintsGood s before after bytes
-IsDone (ask_gate s u) before after bytes = PrintsReleased s u before after bytes
+IsDone (ask_gate s asked) before after bytes = PrintsReleased s asked before after bytes
 IsDone (ask_results n) before after bytes = PrintsResults n before after bytes
 IsDone (ask_cases s) before after bytes = PrintsListed s before after bytes
 IsDone (ask_differs s) before after bytes = PrintsGood s before after bytes
@@ -130,7 +130,7 @@ abbrev pub IsBadFor : Command → (before after : Output) → (bytes : List ℕ)
 IsBadFor ask_parse before after bytes = PrintsRefused before after bytes
 IsBadFor (ask_compile uri) before after bytes = PrintsRefused before after bytes
 IsBadFor (ask_audit s) before after bytes = PrintsBad s before after bytes
-IsBadFor (ask_gate s u) before after bytes = PrintsBad s before after bytes
+IsBadFor (ask_gate s asked) before after bytes = PrintsBad s before after bytes
 IsBadFor (ask_results n) before after bytes = PrintsFault n before after bytes
 IsBadFor (ask_cases s) before after bytes = PrintsBad s before after bytes
 IsBadFor (ask_differs s) before after bytes = PrintsBadDifference s before after bytes
@@ -149,7 +149,7 @@ pub record IsRight (c : Command) (code : ℕ) (i j : Input) (before after : Outp
 -- the lines before it have no fault that the command reports
 abbrev pub ShowsNone : Command → (bytes rest : List ℕ) → Type 0
 ShowsNone (ask_audit s) bytes rest = ShowNoFault s bytes rest
-ShowsNone (ask_gate s u) bytes rest = ShowNoFault s bytes rest
+ShowsNone (ask_gate s asked) bytes rest = ShowNoFault s bytes rest
 ShowsNone (ask_cases s) bytes rest = ShowNoFault s bytes rest
 ShowsNone (ask_differs s) bytes rest = ShowNoFault s bytes rest
 ShowsNone (ask_results n) bytes rest = ResultsShowNoFault n bytes rest

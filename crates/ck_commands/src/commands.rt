@@ -42,8 +42,8 @@ fn run_choice<R: ByteSource, W: ByteSink>(
         Choice::Parse => print_feature(alloc, source, sink),
         Choice::Compile(uri) => print_compiled(alloc, uri, source, sink),
         Choice::Audit(settings) => print_audit(alloc, settings, source, sink),
-        Choice::Gate(settings, allows_unrun) => {
-            print_gate(alloc, settings, allows_unrun, source, sink)
+        Choice::Gate(settings, conditions) => {
+            print_gate(alloc, settings, &conditions, source, sink)
         }
         Choice::Results(first_attempt) => print_results(alloc, first_attempt, source, sink),
         Choice::Cases(settings) => print_cases(alloc, settings, source, sink),

@@ -1,6 +1,7 @@
 //! A run over a reader and a writer of std, of which nothing has to be known.
-ghost use Rattle.std.specs.Prelude.{◌≡◌, Bool};
+ghost use Rattle.std.specs.Prelude.{◌≡◌};
 ghost use Rattle.cm_attempt.specs.declared.settings.Settings.{Settings};
+ghost use Rattle.cm_stream.specs.Release.{Conditions};
 ghost use Rattle.ck_command_line.specs.CommandLine.{Asks, AsksNothing, CallsForHelp, ask_gate};
 ghost use Rattle.ck_commands.specs.Output.{code_of};
 ghost use Rattle.ck_commands.specs.Standard.{GaveReleased};
@@ -31,10 +32,10 @@ pub fn run_over<R: Read, W: Write>(
     writer: W,
 ) -> Ended<R, W>
     // With status 0 of a gate the bytes that the reader gave, up to its end, are a released stream.
-    ensures released { (settings : Settings) (allows_unrun : Bool)
-        → Asks words.now (ask_gate settings allows_unrun)
+    ensures released { (settings : Settings) (asked : Conditions)
+        → Asks words.now (ask_gate settings asked)
         → result.code ≡ code_of ExitStatus.Done
-        → GaveReleased settings allows_unrun (⟦<Reader<R> as ByteSource>⟧.input result.source) }
+        → GaveReleased settings asked (⟦<Reader<R> as ByteSource>⟧.input result.source) }
     // Words that ask for no command end with status 0 only where they call for help or for the version.
     ensures usage { result.code ≡ code_of ExitStatus.Done → AsksNothing words.now
         → CallsForHelp words.now }

@@ -102,7 +102,7 @@ fn unrun_part(alloc: Global, unrun: u64) -> Result<String, AllocError>
 }
 
 /// The line of a good stream.
-fn good_text(alloc: Global, counts: Counts) -> Result<String, AllocError>
+pub(crate) fn good_text(alloc: Global, counts: Counts) -> Result<String, AllocError>
     ensures { IfOk result (λ text. string_bytes text ≡ counts_text counts) }
 {
     let mut text = plain_text(alloc, counts)?;

@@ -267,7 +267,8 @@ fn failures_with_a_bad_stream(rt: HostRuntime) -> Result<(), Fail> {
 
 #[test]
 fn failures_of_gate(rt: HostRuntime) -> Result<(), Fail> {
-    expect_stream(&rt, rt.alloc(), "gate", RETRIED, GOOD, 0)?;
+    let text = format!(in rt.alloc(); "{GOOD}release retried=1 skipped=0 unrun=0\n")?;
+    expect_stream(&rt, rt.alloc(), "gate", RETRIED, text.as_str(), 0)?;
     expect_stream(&rt, rt.alloc(), "gate", "run well", HELD, 5)
 }
 

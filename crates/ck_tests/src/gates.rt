@@ -7,10 +7,10 @@ use std::process::Abort;
 use std::test::Fail;
 
 const PLAIN: &str =
-    "good sources=1 pickles=1 cases=1 attempts=1/ 0 = source document pickle run case:c1:t1 start:a1:c1:0 step:a1:t1 end:a1:t1:PASSED done:a1:false well
-good sources=1 pickles=1 cases=1 attempts=1/ 0 = source document pickle run case:c1:t1 start:a1:c1:0 step:a1:t1 end:a1:t1:SKIPPED done:a1:false well
-good sources=1 pickles=1 cases=1 attempts=1/ 0 = stepless stepless_document stepless_pickle run stepless_case start:a1:c1:0 done:a1:false well
-good sources=1 pickles=1 cases=1 attempts=2/ 0 = source document pickle run case:c1:t1 start:a1:c1:0 step:a1:t1 end:a1:t1:FAILED done:a1:true start:a2:c1:1 step:a2:t1 end:a2:t1:PASSED done:a2:false well
+    "good sources=1 pickles=1 cases=1 attempts=1/release retried=0 skipped=0 unrun=0/ 0 = source document pickle run case:c1:t1 start:a1:c1:0 step:a1:t1 end:a1:t1:PASSED done:a1:false well
+good sources=1 pickles=1 cases=1 attempts=1/release retried=0 skipped=1 unrun=0/ 0 = source document pickle run case:c1:t1 start:a1:c1:0 step:a1:t1 end:a1:t1:SKIPPED done:a1:false well
+good sources=1 pickles=1 cases=1 attempts=1/release retried=0 skipped=0 unrun=0/ 0 = stepless stepless_document stepless_pickle run stepless_case start:a1:c1:0 done:a1:false well
+good sources=1 pickles=1 cases=1 attempts=2/release retried=1 skipped=0 unrun=0/ 0 = source document pickle run case:c1:t1 start:a1:c1:0 step:a1:t1 end:a1:t1:FAILED done:a1:true start:a2:c1:1 step:a2:t1 end:a2:t1:PASSED done:a2:false well
 good sources=1 pickles=1 cases=1 attempts=1/stop NotSuccessful/ 5 = source document pickle run case:c1:t1 start:a1:c1:0 step:a1:t1 end:a1:t1:FAILED done:a1:false unwell
 good sources=1 pickles=1 cases=1 attempts=0/stop NotSuccessful/ 5 = source document pickle run case:c1:t1 unwell
 good sources=1 pickles=0 cases=0 attempts=0/stop NotSuccessful/ 5 = refused refused_error run unwell
@@ -30,7 +30,7 @@ fn runs_that_are_released_and_runs_that_are_not(rt: HostRuntime) -> Result<(), F
 }
 
 const WITH_UNRUN: &str =
-    "good sources=2 pickles=2 cases=1 attempts=1 unrun=1/ 0 = source document pickle source_b document_b pickle_b run case:c1:t1 start:a1:c1:0 step:a1:t1 end:a1:t1:PASSED done:a1:false well
+    "good sources=2 pickles=2 cases=1 attempts=1 unrun=1/release retried=0 skipped=0 unrun=1/ 0 = source document pickle source_b document_b pickle_b run case:c1:t1 start:a1:c1:0 step:a1:t1 end:a1:t1:PASSED done:a1:false well
 good sources=2 pickles=2 cases=1 attempts=1 unrun=1/stop NotSuccessful/ 5 = source document pickle source_b document_b pickle_b run case:c1:t1 start:a1:c1:0 step:a1:t1 end:a1:t1:FAILED done:a1:false unwell
 good sources=1 pickles=1 cases=0 attempts=0 unrun=1/stop Empty/ 5 = source document pickle run well
 good sources=0 pickles=0 cases=0 attempts=0/stop Empty/ 5 = run well";
@@ -41,7 +41,7 @@ fn pickles_without_a_case_that_are_allowed(rt: HostRuntime) -> Result<(), Fail> 
 }
 
 const WITH_PENDING: &str =
-    "good sources=1 pickles=1 cases=1 attempts=1/ 0 = source document pickle run case:c1:t1 start:a1:c1:0 step:a1:t1 end:a1:t1:PENDING done:a1:false well
+    "good sources=1 pickles=1 cases=1 attempts=1/release retried=0 skipped=0 unrun=0/ 0 = source document pickle run case:c1:t1 start:a1:c1:0 step:a1:t1 end:a1:t1:PENDING done:a1:false well
 bad line 10: 21 SuccessDiffers/ 1 = source document pickle run case:c1:t1 start:a1:c1:0 step:a1:t1 end:a1:t1:PENDING done:a1:false unwell
 good sources=1 pickles=1 cases=1 attempts=1/stop NotSuccessful/ 5 = source document pickle run case:c1:t1 start:a1:c1:0 step:a1:t1 end:a1:t1:UNDEFINED done:a1:false unwell
 good sources=1 pickles=1 cases=0 attempts=0 unrun=1/stop Empty/ 5 = source document pickle hook run hook_start hook_pending well";
@@ -51,12 +51,20 @@ fn gates_where_pending_passes(rt: HostRuntime) -> Result<(), Fail> {
     expect_rows(&rt, rt.alloc(), &["gate", "--pending-passes"], WITH_PENDING)
 }
 
-// `audit` and `gate` say the same of these.
-const FROM_ONE: &str =
+// What `audit` says of attempts from 1, and what `gate` says of the same streams.
+const AUDITED_FROM_ONE: &str =
     "good sources=1 pickles=1 cases=1 attempts=1/ 0 = source document pickle run case:c1:t1 start:a1:c1:1 step:a1:t1 end:a1:t1:PASSED done:a1:false well
 good sources=1 pickles=1 cases=1 attempts=2/ 0 = source document pickle run case:c1:t1 start:a1:c1:1 step:a1:t1 end:a1:t1:FAILED done:a1:true start:a2:c1:2 step:a2:t1 end:a2:t1:PASSED done:a2:false well
-good sources=2 pickles=2 cases=2 attempts=2/ 0 = source document pickle source_b document_b pickle_b run case:c1:t1 case_b start:a1:c1:1 step:a1:t1 end:a1:t1:PASSED done:a1:false start:b1:c2:1 step:b1:t1 end:b1:t1:PASSED done:b1:false well
-bad line 6: 12 AttemptNumber/ 1 = source document pickle run case:c1:t1 start:a1:c1:0
+good sources=2 pickles=2 cases=2 attempts=2/ 0 = source document pickle source_b document_b pickle_b run case:c1:t1 case_b start:a1:c1:1 step:a1:t1 end:a1:t1:PASSED done:a1:false start:b1:c2:1 step:b1:t1 end:b1:t1:PASSED done:b1:false well";
+
+const RELEASED_FROM_ONE: &str =
+    "good sources=1 pickles=1 cases=1 attempts=1/release retried=0 skipped=0 unrun=0/ 0 = source document pickle run case:c1:t1 start:a1:c1:1 step:a1:t1 end:a1:t1:PASSED done:a1:false well
+good sources=1 pickles=1 cases=1 attempts=2/release retried=1 skipped=0 unrun=0/ 0 = source document pickle run case:c1:t1 start:a1:c1:1 step:a1:t1 end:a1:t1:FAILED done:a1:true start:a2:c1:2 step:a2:t1 end:a2:t1:PASSED done:a2:false well
+good sources=2 pickles=2 cases=2 attempts=2/release retried=0 skipped=0 unrun=0/ 0 = source document pickle source_b document_b pickle_b run case:c1:t1 case_b start:a1:c1:1 step:a1:t1 end:a1:t1:PASSED done:a1:false start:b1:c2:1 step:b1:t1 end:b1:t1:PASSED done:b1:false well";
+
+// What both say.
+const BAD_FROM_ONE: &str =
+    "bad line 6: 12 AttemptNumber/ 1 = source document pickle run case:c1:t1 start:a1:c1:0
 bad line 6: 12 AttemptNumber/ 1 = source document pickle run case:c1:t1 start:a1:c1:2
 bad line 6: 12 AttemptNumber/ 1 = source document pickle run case:c1:t1 start_without_number
 bad line 10: 12 AttemptNumber/ 1 = source document pickle run case:c1:t1 start:a1:c1:1 step:a1:t1 end:a1:t1:FAILED done:a1:true start:a2:c1:1
@@ -72,26 +80,34 @@ bad line 2: 12 AttemptNumber/ 1 = case:c1:t1 start_without_number";
 
 #[test]
 fn attempts_that_are_numbered_from_one(rt: HostRuntime) -> Result<(), Fail> {
-    for command in ["audit", "gate"] {
+    for (command, good) in [("audit", AUDITED_FROM_ONE), ("gate", RELEASED_FROM_ONE)] {
         let words = [command, "--attempts-from", "1"];
-        expect_rows(&rt, rt.alloc(), &words, FROM_ONE)?;
-        expect_rows(&rt, rt.alloc(), &[command, "--attempts-from=1"], FROM_ONE)?;
+        expect_rows(&rt, rt.alloc(), &words, good)?;
+        expect_rows(&rt, rt.alloc(), &words, BAD_FROM_ONE)?;
+        expect_rows(&rt, rt.alloc(), &[command, "--attempts-from=1"], good)?;
     }
     let words = ["results", "--attempts-from", "1"];
     expect_rows(&rt, rt.alloc(), &words, RESULTS_FROM_ONE)
 }
 
 // The first number is 0 where the words say so, or say nothing, and an attempt without a number has 0.
-const FROM_ZERO: &str =
-    "good sources=1 pickles=1 cases=1 attempts=1/ 0 = source document pickle run case:c1:t1 start_without_number step:a1:t1 end:a1:t1:PASSED done:a1:false well
-bad line 6: 12 AttemptNumber/ 1 = source document pickle run case:c1:t1 start:a1:c1:1";
+const AUDITED_FROM_ZERO: &str =
+    "good sources=1 pickles=1 cases=1 attempts=1/ 0 = source document pickle run case:c1:t1 start_without_number step:a1:t1 end:a1:t1:PASSED done:a1:false well";
+
+const RELEASED_FROM_ZERO: &str =
+    "good sources=1 pickles=1 cases=1 attempts=1/release retried=0 skipped=0 unrun=0/ 0 = source document pickle run case:c1:t1 start_without_number step:a1:t1 end:a1:t1:PASSED done:a1:false well";
+
+const BAD_FROM_ZERO: &str =
+    "bad line 6: 12 AttemptNumber/ 1 = source document pickle run case:c1:t1 start:a1:c1:1";
 
 #[test]
 fn attempts_that_are_numbered_from_zero(rt: HostRuntime) -> Result<(), Fail> {
-    for command in ["audit", "gate"] {
-        expect_rows(&rt, rt.alloc(), &[command], FROM_ZERO)?;
+    for (command, good) in [("audit", AUDITED_FROM_ZERO), ("gate", RELEASED_FROM_ZERO)] {
+        expect_rows(&rt, rt.alloc(), &[command], good)?;
+        expect_rows(&rt, rt.alloc(), &[command], BAD_FROM_ZERO)?;
         let words = [command, "--attempts-from", "0"];
-        expect_rows(&rt, rt.alloc(), &words, FROM_ZERO)?;
+        expect_rows(&rt, rt.alloc(), &words, good)?;
+        expect_rows(&rt, rt.alloc(), &words, BAD_FROM_ZERO)?;
     }
     let bad = "bad line 2: 12 AttemptNumber/ 1 = case:c1:t1 start:a1:c1:1";
     expect_rows(&rt, rt.alloc(), &["results"], bad)?;
@@ -101,7 +117,7 @@ fn attempts_that_are_numbered_from_zero(rt: HostRuntime) -> Result<(), Fail> {
 #[test]
 fn all_options_of_the_gate(rt: HostRuntime) -> Result<(), Fail> {
     let rows =
-        "good sources=2 pickles=2 cases=1 attempts=1 unrun=1/ 0 = source document pickle source_b document_b pickle_b run case:c1:t1 start:a1:c1:1 step:a1:t1 end:a1:t1:PENDING done:a1:false well";
+        "good sources=2 pickles=2 cases=1 attempts=1 unrun=1/release retried=0 skipped=0 unrun=1/ 0 = source document pickle source_b document_b pickle_b run case:c1:t1 start:a1:c1:1 step:a1:t1 end:a1:t1:PENDING done:a1:false well";
     let words = [
         "gate",
         "--attempts-from=1",

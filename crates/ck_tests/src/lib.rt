@@ -10,6 +10,8 @@ mod cases;
 #[cfg(test)]
 mod compiled;
 #[cfg(test)]
+mod conditions;
+#[cfg(test)]
 mod differs;
 #[cfg(test)]
 mod failures;

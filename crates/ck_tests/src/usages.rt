@@ -13,7 +13,7 @@ const TEXTS: &str = "0 --help = Usage: parse compile audit gate results cases di
 0 parse --help = Usage: parse
 0 compile --help = Usage: compile --uri
 0 audit --help = Usage: audit --pending-passes --attempts-from
-0 gate --help = Usage: gate --allow-unrun --pending-passes --attempts-from stop
+0 gate --help = Usage: gate --allow-unrun --allow-unrun-tagged --strict --no-retries --no-skips --no-stepless --no-undefined --pending-passes --attempts-from stop release
 0 help gate = Usage: gate --allow-unrun --pending-passes --attempts-from stop
 0 results -h = Usage: results --attempts-from
 0 cases --help = Usage: cases --pending-passes --attempts-from UNRUN
@@ -35,6 +35,16 @@ const TEXTS: &str = "0 --help = Usage: parse compile audit gate results cases di
 2 gate --uri u = Usage: gate
 2 gate --allow-unrun --allow-unrun = Usage: gate --allow-unrun
 2 gate --allow-unrun=true = Usage: gate
+2 gate --strict --strict = Usage: gate --strict
+2 gate --no-retries --no-retries = Usage: gate --no-retries
+2 gate --no-skips=true = Usage: gate
+2 gate --allow-unrun-tagged = Usage: gate --allow-unrun-tagged
+2 gate --allow-unrun-tagged wip = --allow-unrun-tagged @
+2 gate --allow-unrun --allow-unrun-tagged @wip = --allow-unrun --allow-unrun-tagged
+2 gate --allow-unrun-tagged @wip --allow-unrun = --allow-unrun --allow-unrun-tagged
+2 audit --strict = Usage: audit
+2 cases --no-skips = Usage: cases
+2 results --allow-unrun-tagged @wip = Usage: results
 2 gate -V = Usage: gate
 2 --allow-unrun gate = Usage:
 2 --attempts-from 1 audit = Usage:

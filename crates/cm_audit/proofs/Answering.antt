@@ -25,9 +25,6 @@ use Rattle.cm_audit.specs.declared.stop.Stop.{Stop}
 use Rattle.cm_audit.specs.declared.stop.Stop.TheVariants as stop
 use Rattle.cm_audit.proofs.Counted.{still_fewer}
 
-pub few_at_first : (first : ℕ) (s : State) → summary_of s ≡ empty_summary first → AreFewer 1 s.counts
-few_at_first first s e = subst (AreFewer 1) (ap (λ (u : Summary). u.counts) (sym e)) (record { sources = omega arith; pickles = omega arith; cases = omega arith; attempts = omega arith; unrun = omega arith })
-
 -- ---- a line that is taken
 
 -- one more may be taken

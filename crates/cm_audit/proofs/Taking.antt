@@ -130,9 +130,3 @@ module _ {T : Type 0} (takes : Taking T) (first : T) where
   troubled feed later n now a b c p still at_end line stream t leaves =
       ended now now (Err (Err t)) (Err t) feed later n a b c p still at_end leaves
       (λ xs ys zs none h i. inr (t, refl, until xs ys zs feed later n now t line stream h i))
-
--- the answer at a line is no failed read
-pub not_failed : (n : ℕ) (why : Stop) → is_failed_read (audited_at n why) ≡ false
-not_failed n (stop.Bad b) = refl
-not_failed n (stop.Unsupported r) = refl
-not_failed n stop.Memory = refl

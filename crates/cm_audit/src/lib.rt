@@ -16,8 +16,8 @@
 //! `audit_run` is the audit, by settings; `audit_with` and `audit` give its verdict alone, by a policy and by the strict one.
 //! `audit_watched` is the same audit, which a `Watch` goes along with: it is told of each envelope before that is judged, and
 //! sees the `State`, what the audit keeps of the lines before. `take_lines` reads a stream line by line for anything that takes
-//! lines (`TakeLines`), as an audit does. `audited_at` is the answer where the reading ends at a line, for a `Stop`. `track` takes
-//! an envelope into a record of attempts, and `kept_status` gives the status that such a record keeps.
+//! lines (`TakeLines`), as an audit does; a line ends the reading by a `Stop`. `track` takes an envelope into a record of
+//! attempts, and `kept_status` gives the status that such a record keeps.
 #![tactic(auto)]
 
 mod auditing;
@@ -42,5 +42,5 @@ pub use lines::{TakeLines, take_lines};
 pub use record::{kept_status, track};
 pub use source::{AcceptedSource, KeptSource};
 pub use state::{Names, Sources, State};
-pub use stop::{Stop, audited_at};
+pub use stop::Stop;
 pub use watch::Watch;

@@ -1,5 +1,5 @@
 //! The lines of a stream, taken one after another.
-ghost use Rattle.std.specs.Prelude.{◌≡◌, ◌≤◌, ◌<◌, ◌+◌, ℕ, List, Ok, Result, OnOk, IfOk, true, ⊤};
+ghost use Rattle.std.specs.Prelude.{◌≡◌, ◌≤◌, ◌<◌, ◌+◌, ℕ, OnOk, IfOk, true};
 ghost use Rattle.cm_envelope.specs.Device.{CountsFailure, OfReads};
 ghost use Rattle.cm_envelope.specs.Lines.{max_stream_bytes};
 ghost use Rattle.cm_audit.specs.Taking.{Taking, TakesStream, is_failed_taking};

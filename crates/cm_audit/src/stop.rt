@@ -102,7 +102,7 @@ pub(crate) fn unsuccessful(verdict: Verdict) -> Audited
 }
 
 /// The answer where the reading ends at the line of this number, counted from 1.
-pub fn audited_at(stop: Stop, line: u64) -> Result<Audited, Trouble>
+pub(crate) fn audited_at(stop: Stop, line: u64) -> Result<Audited, Trouble>
     ensures { result ≡ audited_at line stop }
 {
     match stop {

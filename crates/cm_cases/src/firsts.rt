@@ -9,12 +9,13 @@ use indexmap::IndexMap;
 use std::alloc::{AllocError, Global};
 
 /// A value for each text.
-pub(crate) type ByText<'a, V> = IndexMap<&'a str, V>;
+pub type ByText<'a, V> = IndexMap<&'a str, V>;
 
 /// A text by which values are found.
-pub(crate) trait Key<T> {
+pub trait Key<T> {
     ghost text: { T → List ℕ };
 
+    /// The text of the value.
     fn of(item: &T) -> &str
         ensures { result.now ≡ text item.now };
 }
@@ -64,7 +65,10 @@ impl Key<Place> for PlaceId {
 }
 
 /// Adds a value for a text that has none yet.
-pub(crate) fn add_first<'a, V: Drop>(
+///
+/// # Errors
+/// Only where there is no memory for it.
+pub fn add_first<'a, V: Drop>(
     map: &mut ByText<'a, V>,
     text: &'a str,
     value: V,
@@ -81,7 +85,10 @@ pub(crate) fn add_first<'a, V: Drop>(
 }
 
 /// The first of the items with each text.
-pub(crate) fn firsts_of<'a, K: Key<T>, T>(
+///
+/// # Errors
+/// Only where there is no memory for the map.
+pub fn firsts_of<'a, K: Key<T>, T>(
     alloc: Global,
     items: &'a [T],
 ) -> Result<ByText<'a, &'a T>, AllocError>

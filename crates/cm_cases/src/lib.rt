@@ -19,7 +19,7 @@
 //!
 //! `Listing` keeps what the lines name, envelope by envelope, and `Places` writes them. `add_shown` and `add_shown_json` write
 //! texts so that they keep to their line. What they say is defined over the whole list of envelopes and over whole texts, in
-//! `specs/Places` and `specs/Shown`.
+//! `specs/Places` and `specs/Shown`. `firsts_of` and `add_first` find values by their texts, with a `Key` for each kind.
 #![tactic(auto)]
 
 mod firsts;
@@ -27,6 +27,7 @@ mod listing;
 mod places;
 mod shown;
 
+pub use firsts::{ByText, Key, add_first, firsts_of};
 pub use listing::Listing;
 pub use places::Places;
 pub use shown::{add_shown, add_shown_json};

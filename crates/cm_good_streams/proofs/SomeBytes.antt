@@ -12,7 +12,7 @@ use Rattle.serde_json.specs.Read.{number_of}
 use Rattle.cm_envelope.specs.declared.envelope.Envelope.{Envelope}
 use Rattle.cm_stream.specs.Texts.{Utf8}
 use Rattle.cm_stream.specs.Stream.{IsGoodRun, feed_of, nonblank_lines, read_line, as_read}
-use Rattle.cm_stream.specs.Release.{hold_of}
+use Rattle.cm_stream.specs.Release.{each_runs, hold_of}
 use Rattle.cm_stream.proofs.Released.{released_is_not_held, released_exactly}
 use Rattle.cm_stream.proofs.Streams.{run_is_told}
 use Rattle.cm_good_streams.specs.Streams.{retried, interleaved, refused_beside_accepted}
@@ -73,16 +73,18 @@ pub refused_bytes_are_good : RefusedBytesAreGood
 refused_bytes_are_good = (false, refused_run)
 
 pub retried_bytes_are_released : RetriedBytesAreReleased
-retried_bytes_are_released = (released_is_not_held strict false _ _ true retried_run).0 refl
+unfolding retried_run
+retried_bytes_are_released = (released_is_not_held strict each_runs _ _ _ true retried_run refl).0 refl
 
 pub interleaved_bytes_are_released : InterleavedBytesAreReleased
-interleaved_bytes_are_released = (released_is_not_held strict false _ _ true interleaved_run).0 refl
+unfolding interleaved_run
+interleaved_bytes_are_released = (released_is_not_held strict each_runs _ _ _ true interleaved_run refl).0 refl
 
 pub refused_bytes_are_held : RefusedBytesAreHeld
-refused_bytes_are_held allows_unrun any released =
-    let run = (released_exactly strict allows_unrun (bytes_of refused_lines) any).0 released in
+refused_bytes_are_held asked any found released =
+    let run = (released_exactly strict asked (bytes_of refused_lines) any found).0 released in
     let its = run_is_told strict (bytes_of refused_lines) any run.0 run.1 in
     let this = run_is_told strict (bytes_of refused_lines) (counts 2 1 1 1) false refused_run in
     let said : run.0 ≡ false = cc in
-    let held : hold_of allows_unrun false any ≡ None = subst (λ success. hold_of allows_unrun success any ≡ None) said run.2 in
+    let held : hold_of asked false any found ≡ None = subst (λ success. hold_of asked success any found ≡ None) said run.3 in
     cc

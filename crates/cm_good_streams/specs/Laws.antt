@@ -1,9 +1,11 @@
 -- Good streams exist, and released ones.
-use Rattle.std.specs.Prelude.{ℕ, Bool, false}
+use Rattle.std.specs.Prelude.{ℕ, List}
 use Rattle.cm_attempt.specs.declared.policy.Policy.TheVariants.{Strict}
 use Rattle.cm_attempt.specs.declared.settings.Settings.{Settings}
 use Rattle.cm_stream.specs.Good.{Good}
-use Rattle.cm_stream.specs.Release.{IsReleasedStream}
+use Rattle.cm_stream.specs.Release.{Conditions, IsReleasedStream, each_runs, release_counts_of}
+use Rattle.cm_stream.specs.declared.conditions.ReleaseCounts.{ReleaseCounts}
+use Rattle.cm_envelope.specs.declared.envelope.Envelope.{Envelope}
 use Rattle.cm_stream.specs.Stream.{IsGoodStream}
 use Rattle.cm_stream.specs.declared.verdict.Counts.{Counts}
 use Rattle.cm_good_streams.specs.Streams.{retried, interleaved, refused_beside_accepted}
@@ -47,15 +49,21 @@ RefusedBytesAreGood = IsGoodStream strict (bytes_of refused_lines) (counts 2 1 1
 
 -- ---- which of them are released
 
+-- what is counted where no pickle may be without a test case
+abbrev pub found_in : List Envelope → ReleaseCounts
+found_in = release_counts_of each_runs Strict
+
 abbrev pub RetriedBytesAreReleased : Type 0
-RetriedBytesAreReleased = IsReleasedStream strict false (bytes_of retried_lines) (counts 1 1 1 2)
+RetriedBytesAreReleased =
+    IsReleasedStream strict each_runs (bytes_of retried_lines) (counts 1 1 1 2) (found_in retried)
 
 abbrev pub InterleavedBytesAreReleased : Type 0
 InterleavedBytesAreReleased =
-    IsReleasedStream strict false (bytes_of interleaved_lines) (counts 2 2 2 2)
+    IsReleasedStream strict each_runs (bytes_of interleaved_lines) (counts 2 2 2 2)
+    (found_in interleaved)
 
 -- the one that doesn't say success isn't, whatever is allowed
 abbrev pub RefusedBytesAreHeld : Type 0
 RefusedBytesAreHeld =
-    (allows_unrun : Bool) (any : Counts)
-    → IsReleasedStream strict allows_unrun (bytes_of refused_lines) any → ⊥
+    (asked : Conditions) (any : Counts) (found : ReleaseCounts)
+    → IsReleasedStream strict asked (bytes_of refused_lines) any found → ⊥

@@ -19,7 +19,7 @@ pub fn some_bytes_are_good()
 {}
 
 /// Of these lines, the first two are released streams of bytes, without unrun pickles: also the one
-/// whose first attempt failed. The third isn't, be unrun pickles allowed or not.
+/// whose first attempt failed. The third isn't, whatever is asked or allowed.
 pub fn some_streams_are_released()
     ensures retried { RetriedBytesAreReleased }
     ensures interleaved { InterleavedBytesAreReleased }

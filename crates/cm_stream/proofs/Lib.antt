@@ -25,6 +25,7 @@ pub mod Steps
 pub mod RunHooks
 pub mod Released
 pub mod CallWords
+pub mod ReleasedScenarios
 pub mod CallChecks
 pub mod Tables
 pub mod TableSteps

@@ -1,9 +1,10 @@
 -- Which good runs are released, and what a released run says of its scenarios and of the run.
-use Rattle.std.proofs.Common.{◌≡◌, ℕ, suc, refl, sym, ap, subst, ◌∙◌, List, [], ◌∷◌, ◌++◌, Option, Some, None, true, false, Bool, not, ◌&&◌, ◌==◌, map, length, arith}
+use Rattle.std.proofs.Common.{◌≡◌, ℕ, suc, inl, inr, refl, sym, ap, subst, ◌∙◌, List, [], ◌∷◌, ◌++◌, Option, Some, None, true, false, Bool, not, ◌&&◌, ◌==◌, map, length, arith}
 use Rattle.std.specs.Prelude.{◌≢◌, find, count_by, if◌then◌else◌}
 use Rattle.std.specs.List.{AllByRecursion, filter}
 use Rattle.std.specs.Option.{option_map, option_map_or}
 use Rattle.std.specs.Str.{bytes_eq}
+use Rattle.std.proofs.lemmas.Bool.{true≢false}
 use Rattle.std.proofs.lemmas.Bool.Decides.{nat_tests}
 use Rattle.cm_attempt.specs.Table.{is_good_status}
 use Rattle.cm_attempt.specs.Worst.{worst_of}
@@ -15,10 +16,14 @@ use Rattle.cm_stream.specs.Statuses.{kept_status}
 use Rattle.cm_stream.specs.ByOnePass.{first_fault}
 use Rattle.cm_attempt.specs.Calls.{all_moves, last_of}
 use Rattle.cm_stream.specs.Good.{Good, SuccessGood, AllWell, IsAccepted, MeetsSource}
-use Rattle.cm_stream.specs.Stream.{IsGoodRun, answer_of_audit, answer_for, envelopes, unrun_count}
-use Rattle.cm_stream.specs.Release.{hold_of, is_named, EachNamed, IsReleasedStream, IsCompiled, CaseRan, Ran, HookRan, RunEnded, EachSourceIsCompiled, EachPickleRan, EachCaseRan, EachHookRan, ReleasedIsNotHeld, ReleasedExactly, Releases, AnswersRelease, ReleasedRan, ReleasedCasesRan}
+use Rattle.cm_stream.specs.Stream.{IsGoodRun, GoodWith, NoFault, answer_for, envelopes}
+use Rattle.cm_stream.specs.Release.{Conditions, NoneIs, hold_if, hold_of, release_counts_of, is_named, is_missed, may_stay_unrun, is_retried_pickle, has_skip, is_stepless, passes_unmatched}
+use Rattle.cm_stream.specs.Release.{IsReleasedStream, ReleasedIsNotHeld, ReleasedExactly, FirstFaultReleases, Releases}
+use Rattle.cm_stream.specs.ReleasedRuns.{IsCompiled, CaseRan, Ran, RanOrMayNot, HookRan, RunEnded, EachSourceIsCompiled, EachCaseRan, EachHookRan, ReleasedRan, EachRan}
 use Rattle.cm_stream.specs.declared.verdict.Hold.{Hold}
-use Rattle.cm_stream.specs.declared.verdict.Hold.TheVariants.{NotSuccessful, Empty, Unrun}
+use Rattle.cm_stream.specs.declared.conditions.ReleaseCounts.{ReleaseCounts}
+use Rattle.cm_stream.specs.declared.verdict.Hold.TheVariants as hold
+use Rattle.cm_stream.specs.declared.verdict.Hold.TheVariants.{NotSuccessful, Empty, Unrun, Retried, Stepless}
 use Rattle.cm_envelope.specs.declared.envelope.Envelope.{Envelope}
 use Rattle.cm_envelope.specs.declared.envelope.Envelope.TheVariants as envelope
 use Rattle.cm_envelope.specs.declared.envelope.Source.{Source}
@@ -36,13 +41,13 @@ use Rattle.cm_stream.proofs.OnePass.{reads_it}
 use Rattle.cm_stream.proofs.Readings.{source_meets}
 use Rattle.cm_stream.proofs.Refuted.{cut_at}
 use Rattle.cm_stream.proofs.Documents.{documents_both}
-use Rattle.cm_stream.proofs.Passing.{AllPass, plain_passes, was_not}
+use Rattle.cm_stream.proofs.Passing.{AllPass, plain_passes}
 use Rattle.cm_stream.proofs.OneRow.{OnlyOne, one_pickle, only_here, one_case}
 use Rattle.cm_stream.proofs.NoFault.{good_have_no_fault}
-use Rattle.cm_stream.proofs.Streams.{read_is_told, run_if_told, run_is_told}
+use Rattle.cm_stream.proofs.Streams.{read_is_told, run_if_told}
 use Rattle.cm_stream.proofs.ByGrammar.{reported}
 
-each_mapped : {X Y : Type 0} (P : Y → Type 0) (f : X → Y) (xs : List X) → AllByRecursion P (map f xs) → AllByRecursion (λ x. P (f x)) xs
+pub each_mapped : {X Y : Type 0} (P : Y → Type 0) (f : X → Y) (xs : List X) → AllByRecursion P (map f xs) → AllByRecursion (λ x. P (f x)) xs
 each_mapped P f [] h = tt
 each_mapped P f (x ∷ xs) h = (h.0, each_mapped P f xs h.1)
 
@@ -50,21 +55,17 @@ was_some : {X Y : Type 0} (f : X → Y) (o : Option X) (y : Y) → option_map f 
 was_some f None y h = cc
 was_some f (Some x) y h = (x, refl)
 
-each_so : {X : Type 0} (P Q : X → Type 0) → ((x : X) → P x → Q x) → (xs : List X) → AllByRecursion P xs → AllByRecursion Q xs
+pub each_so : {X : Type 0} (P Q : X → Type 0) → ((x : X) → P x → Q x) → (xs : List X) → AllByRecursion P xs → AllByRecursion Q xs
 each_so P Q f [] h = tt
 each_so P Q f (x ∷ xs) h = (f x h.0, each_so P Q f xs h.1)
 
 -- ---- which runs are released
 
-all_named : (es : List Envelope) → unrun_count es ≡ 0 → EachNamed es
-all_named es none =
-    let q = λ (p : Pickle). not (is_named es p) in
-    each_so (λ p. q p ≡ false) (λ p. is_named es p ≡ true) (λ p h. was_not (is_named es p) h) (pickles es) (each_false q (pickles es) (count_none q (pickles es) none))
+none_of : {X : Type 0} (q : X → Bool) (xs : List X) → count_by q xs ≡ 0 → NoneIs q xs
+none_of q xs none = each_false q xs (count_none q xs none)
 
-none_unrun : (es : List Envelope) → EachNamed es → unrun_count es ≡ 0
-none_unrun es named =
-    let q = λ (p : Pickle). not (is_named es p) in
-    none_counted q (pickles es) (none_any q (pickles es) (each_so (λ p. is_named es p ≡ true) (λ p. q p ≡ false) (λ p h. ap not h) (pickles es) named))
+none_there : {X : Type 0} (q : X → Bool) (xs : List X) → NoneIs q xs → count_by q xs ≡ 0
+none_there q xs h = none_counted q xs (none_any q xs h)
 
 is_zero : (n : ℕ) → (n == 0) ≡ true → n ≡ 0
 is_zero n h = grind (arith, nat_tests)
@@ -72,7 +73,7 @@ is_zero n h = grind (arith, nat_tests)
 zero_is : (n : ℕ) → n ≡ 0 → (n == 0) ≡ true
 zero_is n h = grind (arith, nat_tests)
 
-some_there : {X : Type 0} (xs : List X) → (length xs == 0) ≡ false → xs ≢ []
+pub some_there : {X : Type 0} (xs : List X) → (length xs == 0) ≡ false → xs ≢ []
 some_there [] h = cc
 some_there (x ∷ xs) h = λ e. cc
 
@@ -83,82 +84,139 @@ none_empty (x ∷ xs) h = more (length xs)
     more : (n : ℕ) → (suc n == 0) ≡ false
     more n = grind (arith, nat_tests)
 
--- the three tests of a run, and what each says
-abbrev held : (allows_unrun success is_empty each_runs : Bool) → Option Hold
-held allows_unrun success is_empty each_runs =
-    if not success then Some NotSuccessful
-    else (if is_empty then Some Empty
-    else (if not allows_unrun && not each_runs then Some Unrun else None))
+-- a test that is made where it is asked for
+test_passed : (is_asked is_none : Bool) (h : Hold) (others : Option Hold) → (if is_asked && not is_none then Some h else others) ≡ None
+    → (is_asked ≡ true → is_none ≡ true) × (others ≡ None)
+test_passed true true h others e = (λ k. refl, e)
+test_passed true false h others e = cc
+test_passed false is_none h others e = (λ k. cc, e)
 
-record Passed (allows_unrun success is_empty each_runs : Bool) : Type 0 where
-  succeeded : success ≡ true
-  some_case : is_empty ≡ false
-  each : allows_unrun ≡ false → each_runs ≡ true
+passes_test : (is_asked is_none : Bool) (h : Hold) (others : Option Hold) → (is_asked ≡ true → is_none ≡ true) → others ≡ None
+    → (if is_asked && not is_none then Some h else others) ≡ None
+passes_test true true h others f e = e
+passes_test true false h others f e = let no_way = f refl in cc
+passes_test false is_none h others f e = e
 
-not_held : (a s e r : Bool) → held a s e r ≡ None → Passed a s e r
-not_held a false e r h = cc
-not_held a true true r h = cc
-not_held true true false r h = record { succeeded = refl; some_case = refl; each = λ k. cc }
-not_held false true false false h = cc
-not_held false true false true h = record { succeeded = refl; some_case = refl; each = λ k. refl }
+-- the tests of a run, and what each says
+abbrev Tests : Conditions → ReleaseCounts → Option Hold
+Tests asked found =
+    hold_if true found.missed Unrun
+    (hold_if asked.no_retries found.retried Retried
+    (hold_if asked.no_skips found.skipped hold.Skipped
+    (hold_if asked.no_stepless found.stepless Stepless
+    (hold_if asked.no_undefined found.undefined hold.Undefined None))))
 
-is_not_held : (a s e r : Bool) → Passed a s e r → held a s e r ≡ None
-is_not_held a false e r p = let no_way = p.succeeded in cc
-is_not_held a true true r p = let no_way = p.some_case in cc
-is_not_held true true false r p = refl
-is_not_held false true false false p = let no_way = p.each refl in cc
-is_not_held false true false true p = refl
+abbrev held : (success is_empty : Bool) → Option Hold → Option Hold
+held success is_empty others = if not success then Some NotSuccessful else (if is_empty then Some Empty else others)
+
+not_held : (success is_empty : Bool) (others : Option Hold) → held success is_empty others ≡ None → (success ≡ true) × (is_empty ≡ false) × (others ≡ None)
+not_held false is_empty others e = cc
+not_held true true others e = cc
+not_held true false others e = (refl, refl, e)
+
+is_not_held : (success is_empty : Bool) (others : Option Hold) → success ≡ true → is_empty ≡ false → others ≡ None → held success is_empty others ≡ None
+is_not_held success is_empty others s e o = rw (s, e) o
+
+record Passed (asked : Conditions) (found : ReleaseCounts) : Type 0 where
+  missed : found.missed ≡ 0
+  retried : asked.no_retries ≡ true → found.retried ≡ 0
+  skipped : asked.no_skips ≡ true → found.skipped ≡ 0
+  stepless : asked.no_stepless ≡ true → found.stepless ≡ 0
+  undefined : asked.no_undefined ≡ true → found.undefined ≡ 0
+
+all_passed : (asked : Conditions) (found : ReleaseCounts) → Tests asked found ≡ None → Passed asked found
+all_passed asked found e =
+    let missed = test_passed true (found.missed == 0) Unrun _ e in
+    let retried = test_passed asked.no_retries (found.retried == 0) Retried _ missed.1 in
+    let skipped = test_passed asked.no_skips (found.skipped == 0) hold.Skipped _ retried.1 in
+    let stepless = test_passed asked.no_stepless (found.stepless == 0) Stepless _ skipped.1 in
+    let undefined = test_passed asked.no_undefined (found.undefined == 0) hold.Undefined None stepless.1 in
+    record {
+      missed = is_zero found.missed (missed.0 refl);
+      retried = λ k. is_zero found.retried (retried.0 k);
+      skipped = λ k. is_zero found.skipped (skipped.0 k);
+      stepless = λ k. is_zero found.stepless (stepless.0 k);
+      undefined = λ k. is_zero found.undefined (undefined.0 k);
+    }
+
+passes_all : (asked : Conditions) (found : ReleaseCounts) → Passed asked found → Tests asked found ≡ None
+passes_all asked found p =
+    let undefined = passes_test asked.no_undefined (found.undefined == 0) hold.Undefined None (λ k. zero_is found.undefined (p.undefined k)) refl in
+    let stepless = passes_test asked.no_stepless (found.stepless == 0) Stepless _ (λ k. zero_is found.stepless (p.stepless k)) undefined in
+    let skipped = passes_test asked.no_skips (found.skipped == 0) hold.Skipped _ (λ k. zero_is found.skipped (p.skipped k)) stepless in
+    let retried = passes_test asked.no_retries (found.retried == 0) Retried _ (λ k. zero_is found.retried (p.retried k)) skipped in
+    passes_test true (found.missed == 0) Unrun _ (λ k. zero_is found.missed p.missed) retried
 
 pub released_is_not_held : ReleasedIsNotHeld
-released_is_not_held settings allows_unrun bytes counts success run = (released, not_so)
+released_is_not_held settings asked bytes counts found success run same = (released, not_so)
   where
-    released : hold_of allows_unrun success counts ≡ None → IsReleasedStream settings allows_unrun bytes counts
+    released : hold_of asked success counts found ≡ None → IsReleasedStream settings asked bytes counts found
     released h =
         let es = envelopes run.lines in
-        let p = not_held allows_unrun success (counts.cases == 0) (counts.unrun == 0) h in
+        let tests = not_held success (counts.cases == 0) (Tests asked found) h in
+        let p = all_passed asked found tests.2 in
         record {
           lines = run.lines;
           read = run.read;
           good = run.good;
           exact = run.exact;
-          succeeded = sym run.said ∙ p.succeeded;
-          some_case = some_there (cases es) (ap (λ (n : Counts). n.cases == 0) (sym run.exact) ∙ p.some_case);
-          each_named = λ k. all_named es (ap (λ (n : Counts). n.unrun) (sym run.exact) ∙ is_zero counts.unrun (p.each k));
+          found_exact = same;
+          succeeded = sym run.said ∙ tests.0;
+          some_case = some_there (cases es) (ap (λ (n : Counts). n.cases == 0) (sym run.exact) ∙ tests.1);
+          none_missed = none_of (is_missed asked es) (pickles es) (ap (λ (n : ReleaseCounts). n.missed) (sym same) ∙ p.missed);
+          none_retried = λ k. none_of (is_retried_pickle es) (pickles es) (ap (λ (n : ReleaseCounts). n.retried) (sym same) ∙ p.retried k);
+          none_skipped = λ k. none_of (has_skip es) (cases es) (ap (λ (n : ReleaseCounts). n.skipped) (sym same) ∙ p.skipped k);
+          none_stepless = λ k. none_of (is_stepless es) (cases es) (ap (λ (n : ReleaseCounts). n.stepless) (sym same) ∙ p.stepless k);
+          none_undefined = λ k. none_of (passes_unmatched settings.policy es) es (ap (λ (n : ReleaseCounts). n.undefined) (sym same) ∙ p.undefined k);
         }
 
-    not_so : IsReleasedStream settings allows_unrun bytes counts → hold_of allows_unrun success counts ≡ None
+    not_so : IsReleasedStream settings asked bytes counts found → hold_of asked success counts found ≡ None
     not_so r =
         let es = envelopes r.lines in
         let here = read_is_told settings bytes run.lines run.read run.good in
         let there = read_is_told settings bytes r.lines r.read r.good in
-        let same : envelopes run.lines ≡ es = cc in
-        is_not_held allows_unrun success (counts.cases == 0) (counts.unrun == 0) (record {
-          succeeded = run.said ∙ ap run_succeeded same ∙ r.succeeded;
-          some_case = ap (λ (n : Counts). n.cases == 0) r.exact ∙ none_empty (cases es) r.some_case;
-          each = λ k. zero_is counts.unrun (ap (λ (n : Counts). n.unrun) r.exact ∙ none_unrun es (r.each_named k));
-        })
+        let same_lines : envelopes run.lines ≡ es = cc in
+        is_not_held success (counts.cases == 0) (Tests asked found) (run.said ∙ ap run_succeeded same_lines ∙ r.succeeded)
+        (ap (λ (n : Counts). n.cases == 0) r.exact ∙ none_empty (cases es) r.some_case)
+        (passes_all asked found (record {
+          missed = ap (λ (n : ReleaseCounts). n.missed) r.found_exact ∙ none_there (is_missed asked es) (pickles es) r.none_missed;
+          retried = λ k. ap (λ (n : ReleaseCounts). n.retried) r.found_exact ∙ none_there (is_retried_pickle es) (pickles es) (r.none_retried k);
+          skipped = λ k. ap (λ (n : ReleaseCounts). n.skipped) r.found_exact ∙ none_there (has_skip es) (cases es) (r.none_skipped k);
+          stepless = λ k. ap (λ (n : ReleaseCounts). n.stepless) r.found_exact ∙ none_there (is_stepless es) (cases es) (r.none_stepless k);
+          undefined = λ k. ap (λ (n : ReleaseCounts). n.undefined) r.found_exact ∙ none_there (passes_unmatched settings.policy es) es (r.none_undefined k);
+        }))
 
 pub released_exactly : ReleasedExactly
-released_exactly settings allows_unrun bytes counts = (unheld, λ h. (released_is_not_held settings allows_unrun bytes counts h.0 h.1).0 h.2)
+released_exactly settings asked bytes counts found = (unheld, λ h. (released_is_not_held settings asked bytes counts found h.0 h.1 h.2).0 h.3)
   where
-    unheld : IsReleasedStream settings allows_unrun bytes counts → (success : Bool) × IsGoodRun settings bytes counts success × (hold_of allows_unrun success counts ≡ None)
+    unheld : IsReleasedStream settings asked bytes counts found
+        → (success : Bool) × (run : IsGoodRun settings bytes counts success) × (found ≡ release_counts_of asked settings.policy (envelopes run.lines)) × (hold_of asked success counts found ≡ None)
     unheld r =
         let run : IsGoodRun settings bytes counts true = record { lines = r.lines; read = r.read; good = r.good; exact = r.exact; said = sym r.succeeded } in
-        (true, run, (released_is_not_held settings allows_unrun bytes counts true run).1 r)
+        (true, run, r.found_exact, (released_is_not_held settings asked bytes counts found true run r.found_exact).1 r)
 
-pub answers_release : AnswersRelease
-answers_release settings allows_unrun bytes counts f answer first e = (released, releases)
+pub first_fault_releases : FirstFaultReleases
+first_fault_releases settings asked bytes counts found f first = (released, releases)
   where
-    told : answer_of_audit answer ≡ answer_for (first_fault settings bytes)
-    told = e ∙ ap answer_for (sym (reported settings bytes f first))
+    told : first_fault settings bytes ≡ f
+    told = reported settings bytes f first
 
-    released : Releases allows_unrun counts (answer_of_audit answer) → IsReleasedStream settings allows_unrun bytes counts
-    released h = (released_exactly settings allows_unrun bytes counts).1 (h.0, run_if_told settings bytes counts h.0 (sym told ∙ h.1), h.2)
+    released : Releases asked settings.policy counts found f → IsReleasedStream settings asked bytes counts found
+    released h =
+        let es = h.0 in
+        let said : answer_for (first_fault settings bytes) ≡ GoodWith counts (run_succeeded es) = ap answer_for (told ∙ h.1) ∙ ap (λ (c : Counts). GoodWith c (run_succeeded es)) (sym h.2) in
+        let run = run_if_told settings bytes counts (run_succeeded es) said in
+        let here = read_is_told settings bytes run.lines run.read run.good in
+        let of_run : NoFault es ≡ NoFault (envelopes run.lines) = sym h.1 ∙ sym told ∙ here in
+        let same : es ≡ envelopes run.lines = cc in
+        (released_is_not_held settings asked bytes counts found (run_succeeded es) run (h.3 ∙ ap (release_counts_of asked settings.policy) same)).0 h.4
 
-    releases : IsReleasedStream settings allows_unrun bytes counts → Releases allows_unrun counts (answer_of_audit answer)
+    releases : IsReleasedStream settings asked bytes counts found → Releases asked settings.policy counts found f
     releases r =
-        let h = (released_exactly settings allows_unrun bytes counts).0 r in
-        (h.0, told ∙ run_is_told settings bytes counts h.0 h.1, h.2)
+        let es = envelopes r.lines in
+        let run : IsGoodRun settings bytes counts true = record { lines = r.lines; read = r.read; good = r.good; exact = r.exact; said = sym r.succeeded } in
+        let none = (released_is_not_held settings asked bytes counts found true run r.found_exact).1 r in
+        (es, sym told ∙ read_is_told settings bytes r.lines r.read r.good, r.exact, r.found_exact, subst (λ (b : Bool). hold_of asked b counts found ≡ None) (sym r.succeeded) none)
 
 -- ---- success
 
@@ -187,7 +245,7 @@ not_end _ h = refl
 
 -- ---- the last attempt of a case
 
-kept_so : {X : Type 0} (P : X → Type 0) (q : X → Bool) (xs : List X) → AllByRecursion P xs → AllByRecursion (λ x. P x × (q x ≡ true)) (filter q xs)
+pub kept_so : {X : Type 0} (P : X → Type 0) (q : X → Bool) (xs : List X) → AllByRecursion P xs → AllByRecursion (λ x. P x × (q x ≡ true)) (filter q xs)
 kept_so P q [] h = tt
 kept_so {X} P q (x ∷ xs) h = go (q x) refl (kept_so P q xs h.1)
   where
@@ -293,13 +351,19 @@ module _ (settings : Settings) (es : List Envelope) (good : Good settings es) (w
       let cut : es ≡ at.front ++ envelope.TestCase c ∷ at.back = at.cut ∙ ap (λ x. at.front ++ x ∷ at.back) (case_is at.here c at.is) in
       (c, case_ran at.front at.back c p cut (ap (λ u. find_pickle u es) (sym (bytes_are p.id c.pickle_id at.passes)) ∙ there))
 
-  each_ran : EachNamed es → EachPickleRan settings.policy es
-  each_ran named = each_found as_pickle (Ran settings.policy es) es each
+  each_ran : (asked : Conditions) → NoneIs (is_missed asked es) (pickles es) → AllByRecursion (RanOrMayNot asked settings.policy es) (pickles es)
+  each_ran asked none = each_found as_pickle (RanOrMayNot asked settings.policy es) es each
     where
-      each : (front : List Envelope) (here : Envelope) (back : List Envelope) (p : Pickle) → es ≡ front ++ here ∷ back → as_pickle here ≡ Some p → Ran settings.policy es p
+      either : (p : Pickle) → find_pickle p.id es ≡ Some p → (n m : Bool) → is_named es p ≡ n → may_stay_unrun asked p ≡ m → (not n && not m) ≡ false → RanOrMayNot asked settings.policy es p
+      either p there true m named may e = inl (ran p there named)
+      either p there false true named may e = inr may
+      either p there false false named may e = cc
+
+      each : (front : List Envelope) (here : Envelope) (back : List Envelope) (p : Pickle) → es ≡ front ++ here ∷ back → as_pickle here ≡ Some p → RanOrMayNot asked settings.policy es p
       each front here back p cut is =
           let all : pickles es ≡ pickles front ++ p ∷ pickles back = ap pickles cut ∙ found_cut as_pickle front here back p is in
-          ran p (pickle_there front here back p all) (all_here (λ x. is_named es x ≡ true) (pickles front) p (pickles back) (subst (AllByRecursion (λ x. is_named es x ≡ true)) all named))
+          either p (pickle_there front here back p all) (is_named es p) (may_stay_unrun asked p) refl refl
+          (all_here (λ x. is_missed asked es x ≡ false) (pickles front) p (pickles back) (subst (NoneIs (is_missed asked es)) all none))
 
   hook_ran : (front back : List Envelope) (h : TestRunHookStarted) → es ≡ front ++ envelope.TestRunHookStarted h ∷ back → HookRan settings.policy es h
   hook_ran front back h cut =
@@ -326,18 +390,27 @@ module _ (settings : Settings) (es : List Envelope) (good : Good settings es) (w
       }
 
 pub released_ran : ReleasedRan
-released_ran settings bytes counts r =
+released_ran settings asked bytes counts found r =
     let es = envelopes r.lines in
-    let well = all_well settings.policy es r.good.success r.succeeded in
-    (each_compiled settings es r.good well, each_ran settings es r.good well (r.each_named refl))
+    let well = all_well settings.policy es r.good.success r.succeeded in (
+      record {
+        each_source = each_compiled settings es r.good well;
+        each_case = each_case_ran settings es r.good well;
+        each_hook = each_hook_ran settings es r.good well;
+        run_end = run_ended settings es r.good well;
+      },
+      each_ran settings es r.good well asked r.none_missed,
+    )
 
-pub released_cases_ran : ReleasedCasesRan
-released_cases_ran settings allows_unrun bytes counts r =
-    let es = envelopes r.lines in
-    let well = all_well settings.policy es r.good.success r.succeeded in
-    record {
-      each_source = each_compiled settings es r.good well;
-      each_case = each_case_ran settings es r.good well;
-      each_hook = each_hook_ran settings es r.good well;
-      run_end = run_ended settings es r.good well;
-    }
+may_not_stay : (asked : Conditions) (p : Pickle) → asked.allows_unrun ≡ false → asked.allowed_tags ≡ [] → may_stay_unrun asked p ≡ true → ⊥
+may_not_stay asked p none no_tags may =
+    let no : may_stay_unrun asked p ≡ false = rw (none, no_tags) refl in
+    absurd (true≢false (sym may ∙ no))
+
+pub each_ran_where_none_may_stay : EachRan
+each_ran_where_none_may_stay settings asked bytes counts found r none no_tags =
+    each_so (RanOrMayNot asked settings.policy (envelopes r.lines)) (Ran settings.policy (envelopes r.lines)) one (pickles (envelopes r.lines)) (released_ran settings asked bytes counts found r).1
+  where
+    one : (p : Pickle) → RanOrMayNot asked settings.policy (envelopes r.lines) p → Ran settings.policy (envelopes r.lines) p
+    one p (inl h) = h
+    one p (inr h) = absurd (may_not_stay asked p none no_tags h)

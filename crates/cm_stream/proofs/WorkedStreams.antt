@@ -1,5 +1,5 @@
 -- Worked streams and runs, computed.
-use Rattle.std.proofs.Common.{◌≡◌, refl, Some, None, [], ◌∷◌, ◌++◌, true, false}
+use Rattle.std.proofs.Common.{◌≡◌, ◌+◌, ℕ, refl, Some, None, [], ◌∷◌, ◌++◌, true, false}
 use Rattle.std.specs.Prelude.{codes}
 use lib.Utf8.{encode}
 use Rattle.std.specs.Str.{chars}
@@ -16,9 +16,12 @@ use Rattle.cm_stream.specs.OnePass.{reads}
 use Rattle.cm_stream.specs.Findings.{IsBad, IsUnsupported}
 use Rattle.cm_stream.specs.Findings as fault
 use Rattle.cm_envelope.specs.declared.envelope.Status.TheVariants as status
-use Rattle.cm_stream.specs.declared.verdict.Hold.TheVariants.{NotSuccessful, Empty, Unrun}
+use Rattle.cm_stream.specs.declared.verdict.Hold.TheVariants as hold
+use Rattle.cm_stream.specs.declared.verdict.Hold.TheVariants.{NotSuccessful, Empty, Unrun, Retried, Stepless}
+use Rattle.cm_stream.specs.declared.verdict.Counts.{Counts}
 use Rattle.cm_stream.specs.declared.verdict.Reason.TheVariants as reason
-use Rattle.cm_stream.specs.Release.{hold_of}
+use Rattle.cm_stream.specs.Release.{each_runs, hold_of, strict_conditions}
+use Rattle.cm_stream.specs.declared.conditions.ReleaseCounts.{ReleaseCounts}
 use Rattle.cm_attempt.specs.declared.policy.Policy.TheVariants.{Strict, PendingPasses}
 use Rattle.cm_envelope.specs.declared.envelope.Envelope.TheVariants as envelope
 use Rattle.cm_stream.proofs.Streaming.{by, one_step, french, source, document, pickle, parse_error, hook, hook_started, hook_finished, one_step_as, one_pickle, outline_front, first_row, second_row, third_row, no_steps_front, empty_case, run_started, run_finished, case, started, step_started, step_finished, finished, Fault, shown, shown_by, good}
@@ -268,17 +271,41 @@ pending_run_hook_passes : shown_by (by PendingPasses 0) (one_pickle ++ hook ∷ 
 unfolding reads lines_read lines_of numbered_lines without_mark chars after text_after_indent first_some trimmed_text begins_by fence_of indent_of is_blank_line language_of step_of title_of token_of cells_of units pickles replaced_after same_skeleton encode
 pending_run_hook_passes = refl
 
+-- a stream with so many cases and pickles without one
+abbrev counted : (cases unrun : ℕ) → Counts
+counted cases unrun = record { sources = 1; pickles = cases + unrun; cases = cases; attempts = cases; unrun = unrun }
+
+-- so many pickles that may not be without a case, and so much of all else
+abbrev found : (missed others : ℕ) → ReleaseCounts
+found missed others = record { missed = missed; retried = others; skipped = others; stepless = others; undefined = others }
+
 -- A run without success and without a case is held for the first.
-held_without_success : hold_of true false (record { sources = 0; pickles = 0; cases = 0; attempts = 0; unrun = 0 }) ≡ Some NotSuccessful
+held_without_success : hold_of strict_conditions false (counted 0 0) (found 1 1) ≡ Some NotSuccessful
 held_without_success = refl
 
 -- A run that succeeds without a case is held, also where pickles may be unrun.
-held_without_a_case : hold_of true true (record { sources = 1; pickles = 1; cases = 0; attempts = 0; unrun = 1 }) ≡ Some Empty
+held_without_a_case : hold_of (record strict_conditions { allows_unrun = true }) true (counted 0 1) (found 0 1) ≡ Some Empty
 held_without_a_case = refl
 
--- A pickle without a case holds a run, unless that is allowed.
-held_with_a_pickle_unrun : hold_of false true (record { sources = 1; pickles = 2; cases = 1; attempts = 1; unrun = 1 }) ≡ Some Unrun
+-- A pickle that may not be without a case holds a run, whatever else is asked.
+held_with_a_pickle_unrun : hold_of each_runs true (counted 1 1) (found 1 0) ≡ Some Unrun
 held_with_a_pickle_unrun = refl
 
-released_with_a_pickle_unrun : hold_of true true (record { sources = 1; pickles = 2; cases = 1; attempts = 1; unrun = 1 }) ≡ None
+held_for_a_pickle_first : hold_of strict_conditions true (counted 1 1) (found 1 1) ≡ Some Unrun
+held_for_a_pickle_first = refl
+
+released_with_a_pickle_unrun : hold_of each_runs true (counted 1 1) (found 0 1) ≡ None
 released_with_a_pickle_unrun = refl
+
+-- of what is asked for the first that holds is told
+held_for_a_retry : hold_of strict_conditions true (counted 1 0) (found 0 1) ≡ Some Retried
+held_for_a_retry = refl
+
+held_for_a_skip : hold_of (record strict_conditions { no_retries = false }) true (counted 1 0) (found 0 1) ≡ Some hold.Skipped
+held_for_a_skip = refl
+
+held_without_steps : hold_of (record each_runs { no_stepless = true; no_undefined = true }) true (counted 1 0) (found 0 1) ≡ Some Stepless
+held_without_steps = refl
+
+held_undefined : hold_of (record each_runs { no_undefined = true }) true (counted 1 0) (found 0 1) ≡ Some hold.Undefined
+held_undefined = refl

@@ -19,7 +19,8 @@
 -- ByOnePass: the checks and the first fault of a stream where sources' texts are read in one pass, as a program
 --   reads them
 -- Unsupported: why a stream isn't judged, by the line that shows it
--- Release: which good runs are to be released, and what a released run says of its scenarios and of the run
+-- Release: what a release may ask of a run, and which good runs are released
+-- ReleasedRuns: what a released run says of its scenarios and of the run
 -- Results: the results of a stream, which streams have results, and where another has its first fault
 pub mod Texts
 pub mod Findings
@@ -41,4 +42,5 @@ pub mod CallFaults
 pub mod ByOnePass
 pub mod Unsupported
 pub mod Release
+pub mod ReleasedRuns
 pub mod Results

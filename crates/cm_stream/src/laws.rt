@@ -2,7 +2,9 @@
 ghost use Rattle.cm_stream.specs.Laws.{FaultlessAreGood, GoodHaveNoFault};
 ghost use Rattle.cm_stream.specs.Readings.{OneReading, SomeReading};
 ghost use Rattle.cm_stream.specs.CallFaults.{OwnAreChecks, CallFaultsAreTold};
-ghost use Rattle.cm_stream.specs.Release.{AnswersRelease, ReleasedCasesRan, ReleasedExactly, ReleasedIsNotHeld, ReleasedRan};
+ghost use Rattle.cm_stream.specs.Release.{FirstFaultReleases, ReleasedExactly, ReleasedIsNotHeld};
+ghost use Rattle.cm_stream.specs.ReleasedRuns.{EachRan, ReleasedCasesMeet, ReleasedRan, ReleasedScenariosRan, ReleasedStepsMatched};
+ghost use Rattle.cm_stream.specs.ReleasedRuns.{StrictlyReleased};
 ghost use Rattle.cm_stream.specs.Results.{FaultsAreChecks, FaultsAreExact, FaultsAreFirst, FrontsAreWellOrdered, NoFaultIsExact};
 ghost use Rattle.cm_stream.specs.Results.{RefusedForFaults, TablesChange, TablesHaveResults, TroublesAreLast, WellOrderedAreAccepted};
 ghost use Rattle.cm_stream.specs.FaultlessLines.{NoneIsRefused, TableSteps, TablesAgree};
@@ -85,23 +87,32 @@ pub fn released_is_not_held()
     ensures { ReleasedIsNotHeld }
 {}
 
-/// A stream is released exactly where it is good and its run isn't held; and so exactly where an audit that answers what is
-/// reported of its bytes answers Good, of a run that isn't held.
+/// A stream is released exactly where it is good and its run isn't held; and so exactly where no line of it has a fault, and the
+/// run of its envelopes isn't held.
 pub fn released_exactly()
     ensures streams { ReleasedExactly }
-    ensures answers { AnswersRelease }
+    ensures first { FirstFaultReleases }
 {}
 
-/// In a released stream, with unrun pickles or without, the pickles of each source are those that its text compiles to; each
-/// test case ran; each run hook finished once, with a good status; and the run finished once, says success and has no exception.
-pub fn released_cases_ran()
-    ensures { ReleasedCasesRan }
-{}
-
-/// In a released stream without unrun pickles, the pickles of each source are those that its text compiles to, and each of
-/// them ran: its case's last attempt went through each step in order, finished, and is at worst of a good status.
+/// In a released stream the pickles of each source are those that its text compiles to, and each of them ran, or may be without
+/// a test case; each test case ran: its last attempt went through each step in order, finished, and is at worst of a good
+/// status; each run hook finished once, with a good status; and the run finished once, says success and has no exception.
 pub fn released_scenarios_ran()
-    ensures { ReleasedRan }
+    ensures all { ReleasedRan }
+    ensures each { EachRan }
+    // By the feature files: each scenario of a source's text ran, or may be left out by its tags in the text.
+    ensures scenarios { ReleasedScenariosRan }
+{}
+
+/// In a released stream each test case is as the release asks: its last attempt is the only one of its pickle, none of its steps
+/// was skipped, and its pickle has steps; and each step of a pickle that passed, in whatever attempt, was matched by step
+/// definitions that the stream declares.
+pub fn released_cases_meet_conditions()
+    ensures cases { ReleasedCasesMeet }
+    ensures steps { ReleasedStepsMatched }
+    // Where all is asked and nothing is allowed: each scenario of the sources has steps, ran exactly once, and each of its steps
+    // passed and was matched.
+    ensures strict { StrictlyReleased }
 {}
 
 /// Where no call for the envelopes is refused, their attempts are well ordered, and the table reports of each case, in order

@@ -2,7 +2,8 @@
 //!
 //! The crate gives definitions, and no judge: good lists of envelopes (`specs/Good`), the checks of each line in order
 //! (`specs/Checks`), what is reported of a stream's bytes (`specs/Stream`), why a stream isn't judged (`specs/Unsupported`),
-//! which good runs are released (`specs/Release`), and a stream's results (`specs/Results`). What they say of a source's text
+//! which good runs are released (`specs/Release`) and what they say (`specs/ReleasedRuns`), and a stream's results
+//! (`specs/Results`). What they say of a source's text
 //! is said by the grammar; `specs/ByOnePass` has the same where texts are read in one pass, for proofs and private functions.
 //! Each public function is a law: its contract says the law, and it does nothing. The types are what an audit answers.
 //!
@@ -21,16 +22,18 @@
 //! says of success, exactly for good streams, and where it is `Bad` at a line no good stream has the lines up to that one.
 #![tactic(auto)]
 
+mod conditions;
 mod laws;
 mod verdict;
 
+pub use conditions::{Conditions, ReleaseCounts};
 pub use laws::{
     answers_are_right, call_faults_are_told, each_stream_has_one_first_fault,
     each_text_has_one_reading, faults_are_exact, found_is_not_good, fronts_are_well_ordered,
     good_is_no_fault, good_streams_have_no_fault, lines_are_refused_for_faults, no_fault_is_good,
-    none_begins_so, reasons_are_shown, released_cases_ran, released_exactly, released_is_not_held,
-    released_scenarios_ran, results_faults_are_first, results_troubles_are_last,
-    results_without_fault_are_exact, streams_without_fault_are_good, table_steps, tables_agree,
-    tables_change, tables_have_results, well_ordered_are_accepted,
+    none_begins_so, reasons_are_shown, released_cases_meet_conditions, released_exactly,
+    released_is_not_held, released_scenarios_ran, results_faults_are_first,
+    results_troubles_are_last, results_without_fault_are_exact, streams_without_fault_are_good,
+    table_steps, tables_agree, tables_change, tables_have_results, well_ordered_are_accepted,
 };
 pub use verdict::{Audited, Counts, Hold, Reason, StreamFault, Verdict};

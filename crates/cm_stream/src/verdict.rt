@@ -70,6 +70,14 @@ pub enum Hold {
     NotSuccessful,
     /// The run has no test case.
     Empty,
-    /// No test case names one of the pickles.
+    /// No test case names one of the pickles, which may not be without one.
     Unrun,
+    /// A pickle has more than one attempt.
+    Retried,
+    /// A step of a test case's last attempt was skipped.
+    Skipped,
+    /// The pickle of a test case has no steps.
+    Stepless,
+    /// A step passed that no step definition matches.
+    Undefined,
 }

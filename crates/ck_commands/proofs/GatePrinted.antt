@@ -1,0 +1,109 @@
+-- What the command `gate` reports.
+use Rattle.std.proofs.Common.{◌≡◌, ◌∙◌, ◌⊎◌, ℕ, List, Result, Ok, Err, Bool, true, false, inl, inr, refl, sym, ap}
+use Rattle.std.specs.Prelude.{IfOk}
+use Rattle.std.specs.declared.alloc.AllocError.{AllocError}
+use Rattle.cm_attempt.specs.declared.settings.Settings.{Settings}
+use Rattle.cm_envelope.specs.Device.{CountsFailure, Input, OfReads}
+use Rattle.cm_envelope.specs.declared.envelope.Envelope.{Envelope}
+use Rattle.cm_envelope.specs.declared.feed.Trouble.{Trouble}
+use Rattle.cm_envelope.specs.declared.feed.Trouble.TheVariants.{ReadFailed, LineTooLong, StreamTooLong, Memory}
+use Rattle.cm_envelope.proofs.Sources.{of_reads, reads_weaker}
+use Rattle.cm_stream.specs.References.{run_succeeded}
+use Rattle.cm_stream.specs.Release.{Conditions, release_counts_of}
+use Rattle.cm_stream.specs.Stream.{Answer, At, Failed, FirstFault, GoodRunIn, GoodWith, NoFault, Troubled, answer_for, answer_of_audit, counts_of, envelopes}
+use Rattle.cm_stream.specs.declared.conditions.ReleaseCounts.{ReleaseCounts}
+use Rattle.cm_stream.specs.declared.verdict.Counts.{Counts}
+use Rattle.cm_stream.specs.declared.verdict.Verdict.{Verdict}
+use Rattle.cm_stream.specs.declared.verdict.Verdict.TheVariants as verdict
+use Rattle.cm_stream.proofs.ByGrammar.{is_first, reported}
+use Rattle.cm_stream.proofs.Streams.{read_is_told}
+use Rattle.cm_audit.specs.Audit.{AnswersTold, GoodAtEnd, GoodAtEndIn, IsAuditOf}
+use Rattle.cm_envelope.specs.Feeds.{is_failed_read}
+use Rattle.cm_audit_release.specs.ReleaseAudit.{CountsGood, IsReleaseAuditOf, audited_in}
+use Rattle.cm_audit_release.specs.declared.audited_release.AuditedRelease.{AuditedRelease}
+use Rattle.ck_command_line.specs.CommandLine.{ask_gate}
+use Rattle.ck_commands.specs.Gate.{ReleasesOrTells, ReportsCounted, ReportsRelease, gate_report, release_report}
+use Rattle.ck_commands.specs.Output.{IsReport, Report, report_made, trouble_report}
+use Rattle.ck_commands.specs.Run.{Reports}
+use Rattle.ck_commands.specs.Verdicts.{verdict_report}
+use Rattle.ck_commands.specs.declared.output.ExitStatus.TheVariants as exit
+use Rattle.ck_commands.specs.declared.output.Report as made
+use Rattle.ck_commands.proofs.AuditsBeside.{Shows, alone, audit_beside_is_reported, report_is}
+use Rattle.ck_commands.proofs.Ran.{Reported}
+
+module _ (settings : Settings) (asked : Conditions) where
+  -- an answer that isn't Good has the same report
+  same_report : (first : FirstFault) (a : Answer) → a ≡ answer_for first → ((es : List Envelope) → a ≡ answer_for (NoFault es) → ⊥) → verdict_report a ≡ gate_report settings asked first
+  same_report (At n f) a e none = ap verdict_report e
+  same_report (Troubled t) a e none = ap verdict_report e
+  same_report (NoFault es) a e none = absurd (none es e)
+
+  told : (x : made.Report) (first : FirstFault) (a : Answer) → a ≡ answer_for first → ((es : List Envelope) → a ≡ answer_for (NoFault es) → ⊥) → IsReport (verdict_report a) x
+      → report_made (Ok x) ≡ gate_report settings asked first
+  told x first a e none is = report_is (verdict_report a) x is ∙ same_report first a e none
+
+  module _ (found : ReleaseCounts) where
+    of_verdict : (bytes : List ℕ) (success : Bool) (v : Verdict) (x : made.Report) → ReportsCounted asked found (record { verdict = v; success = success }) v x
+        → CountsGood settings asked found bytes v → AnswersTold settings bytes (Ok (record { verdict = v; success = success })) → Reports (ask_gate settings asked) bytes (report_made (Ok x))
+    of_verdict bytes success (verdict.Good counts) x r c h =
+        let es = envelopes c.lines in
+        let good = read_is_told settings bytes c.lines c.read c.good in
+        let first : h.first ≡ NoFault es = sym (reported settings bytes h.first h.is_first) ∙ good in
+        let same : GoodWith counts success ≡ GoodWith (counts_of es) (run_succeeded es) = h.answers ∙ ap answer_for first in
+        let counts_are : counts ≡ counts_of es = cc in
+        let success_is : success ≡ run_succeeded es = cc in (
+          NoFault es,
+          is_first settings bytes (NoFault es) good,
+          report_is (release_report asked success counts found) x r ∙ ap (λ (b : Bool). release_report asked b counts found) success_is
+              ∙ ap (λ (n : Counts). release_report asked (run_succeeded es) n found) counts_are ∙ ap (release_report asked (run_succeeded es) (counts_of es)) c.counted,
+        )
+    of_verdict bytes success (verdict.Bad n b) x r c h = (h.first, h.is_first, told x h.first (answer_of_audit (Ok (record { verdict = verdict.Bad n b; success = success }))) h.answers (λ es e. cc) r)
+    of_verdict bytes success (verdict.Unsupported n u) x r c h =
+        (h.first, h.is_first, told x h.first (answer_of_audit (Ok (record { verdict = verdict.Unsupported n u; success = success }))) h.answers (λ es e. cc) r)
+
+    releases_or_tells : (bytes : List ℕ) (success : Bool) (v : Verdict) (x : made.Report) → ReportsCounted asked found (record { verdict = v; success = success }) v x
+        → CountsGood settings asked found bytes v → GoodRunIn settings bytes v success → ReleasesOrTells settings asked bytes (record { verdict = v; success = success }) v (report_made (Ok x))
+    releases_or_tells bytes success (verdict.Good counts) x r c run =
+        let here = read_is_told settings bytes c.lines c.read c.good in
+        let there = read_is_told settings bytes run.lines run.read run.good in
+        let same : envelopes c.lines ≡ envelopes run.lines = cc in
+        (run, report_is (release_report asked success counts found) x r ∙ ap (release_report asked success counts) (c.counted ∙ ap (release_counts_of asked settings.policy) same))
+    releases_or_tells bytes success (verdict.Bad n b) x r c run = report_is _ x r
+    releases_or_tells bytes success (verdict.Unsupported n u) x r c run = report_is _ x r
+
+    done_at_end : (j : Input) (success : Bool) (v : Verdict) (x : made.Report) → ReportsCounted asked found (record { verdict = v; success = success }) v x → GoodAtEndIn j v → x.status ≡ exit.Done → j.is_over ≡ true
+    done_at_end j success (verdict.Good counts) x r over done = over
+    done_at_end j success (verdict.Bad n b) x r over done = let no : exit.Refused ≡ exit.Done = sym r.1 ∙ done in cc
+    done_at_end j success (verdict.Unsupported n u) x r over done = let no : exit.Unsupported ≡ exit.Done = sym r.1 ∙ done in cc
+
+  of_trouble : (t : Trouble) (x : made.Report) (bytes : List ℕ) → IsReport (trouble_report t) x → AnswersTold settings bytes (Err t) → (t ≡ LineTooLong) ⊎ (t ≡ StreamTooLong) → Reports (ask_gate settings asked) bytes (report_made (Ok x))
+  of_trouble LineTooLong x bytes is h e = (h.first, h.is_first, told x h.first (Failed LineTooLong) h.answers (λ es e. cc) is)
+  of_trouble StreamTooLong x bytes is h e = (h.first, h.is_first, told x h.first (Failed StreamTooLong) h.answers (λ es e. cc) is)
+  of_trouble ReadFailed x bytes is h (inl e) = cc
+  of_trouble ReadFailed x bytes is h (inr e) = cc
+  of_trouble Memory x bytes is h (inl e) = cc
+  of_trouble Memory x bytes is h (inr e) = cc
+
+  audit_alone : (answer : Result AuditedRelease Trouble) (bytes rest : List ℕ) → IsReleaseAuditOf settings asked answer bytes rest → IsAuditOf settings (alone (λ a. a.audited) answer) bytes rest
+  audit_alone (Ok a) bytes rest h = h.audit
+  audit_alone (Err t) bytes rest h = h.audit
+
+  pub gate_shows : Shows (ask_gate settings asked) settings (λ a. a.audited) (λ a r. ReportsCounted asked a.found a.audited a.audited.verdict r) (IsReleaseAuditOf settings asked)
+  gate_shows = record {
+    audit = audit_alone;
+    of_audit = λ a x bytes rest is h. of_verdict a.found bytes a.audited.success a.audited.verdict x is h.counted h.audit.told;
+    of_trouble = of_trouble;
+    tells = λ a x bytes rest is h. (a.audited, h.audit, releases_or_tells a.found bytes a.audited.success a.audited.verdict x is h.counted h.audit.good);
+    at_end = λ a x j is end done. done_at_end a.found j a.audited.success a.audited.verdict x is end done;
+    no_fault = λ bytes rest h. h;
+  }
+
+at_end_alone : (j : Input) (answer : Result AuditedRelease Trouble) → GoodAtEnd j (audited_in answer) → GoodAtEnd j (alone (λ a. a.audited) answer)
+at_end_alone j (Ok a) h = h
+at_end_alone j (Err t) h = h
+
+pub gate_is_reported : (settings : Settings) (asked : Conditions) (answer : Result AuditedRelease Trouble) (m : Result made.Report AllocError) (i j : Input) → IfOk m (ReportsRelease asked answer) → OfReads i j (IsReleaseAuditOf settings asked answer)
+    → GoodAtEnd j (audited_in answer) → CountsFailure (is_failed_read answer) i.failed_calls j.failed_calls → Reported (ask_gate settings asked) (report_made m) i j
+gate_is_reported settings asked answer m i j is h end counts =
+    audit_beside_is_reported (ask_gate settings asked) settings (λ a. a.audited) (λ a r. ReportsCounted asked a.found a.audited a.audited.verdict r) (IsReleaseAuditOf settings asked) (gate_shows settings asked)
+    answer m i j is h (at_end_alone j answer end) counts

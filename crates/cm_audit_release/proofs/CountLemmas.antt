@@ -1,0 +1,234 @@
+-- What maps count is what is counted of what is kept.
+use Rattle.std.proofs.Common.{◌≡◌, ◌∙◌, ap, sym, refl, ℕ, ◌+◌, ◌<◌, Bool, true, false, cond, List, [], ◌∷◌, ◌++◌, ◌&&◌, ◌||◌, take, get_or, length, map, not, Option, None, Some, Bor, arith, add-zero, append-nil, ⊎_elim, zero, suc, ◌==◌}
+use Rattle.std.specs.Prelude.{count_by, find, if◌then◌else◌, is_some, nat_lt, option_map}
+use Rattle.std.specs.List.{filter, list_any}
+use Rattle.std.specs.Option.{option_and_then, option_map_or}
+use Rattle.std.specs.Str.{bytes_eq}
+use Rattle.std.proofs.lemmas.Bool.{cases_Bool}
+use Rattle.std.proofs.lemmas.Bool.Decides.{nat_tests}
+use Rattle.std.proofs.lemmas.List.{take_more}
+use Rattle.std.proofs.lemmas.List.Elements.{filter-append}
+use Rattle.std.proofs.lemmas.List.Sums.{sum_by_more}
+use Rattle.std.proofs.lemmas.Slice.Eq.{bytes_eq-Decides}
+use Rattle.indexmap.specs.IndexMap.{IndexMap}
+use Rattle.cm_attempt.specs.Calls.{last_of}
+use Rattle.cm_attempt.specs.declared.policy.Policy.{Policy}
+use Rattle.cm_cases.specs.Firsts.{HasFirsts, value_at}
+use Rattle.cm_cases.proofs.FirstLemmas.{has_any}
+use Rattle.cm_state.proofs.OneMore.{same_count}
+use Rattle.cm_stream.specs.Release.{Conditions}
+use Rattle.cm_stream.specs.Texts.{Utf8}
+use Rattle.cm_stream.proofs.Declared.{same_any}
+use Rattle.cm_stream.proofs.Found.{eq_back}
+use Rattle.cm_stream.proofs.Lists.{none_counted}
+use Rattle.cm_stream.proofs.Steps.{never}
+use Rattle.cm_audit_release.specs.Counts.{attempts_in, case_in, case_of_attempt, is_attempt_in, is_missed_in, is_retried_in, is_stepless_in, is_undefined_in, last_start, may_stay, passes_in, some_or_more}
+use Rattle.cm_audit_release.specs.declared.kept.CaseEntry.{CaseEntry}
+use Rattle.cm_audit_release.specs.declared.kept.FinishEntry.{FinishEntry}
+use Rattle.cm_audit_release.specs.declared.kept.Kept.{Kept}
+use Rattle.cm_audit_release.specs.declared.kept.PickleEntry.{PickleEntry}
+use Rattle.cm_audit_release.specs.declared.kept.StartEntry.{StartEntry}
+
+-- ---- tests of lists
+
+any_none : {X : Type 0} (xs : List X) → list_any (λ x. false) xs ≡ false
+any_none [] = refl
+any_none (x ∷ xs) = any_none xs
+
+or_turned : (a b c d : Bool) → ((a || c) || (b || d)) ≡ ((a || b) || (c || d))
+or_turned true b c d = refl
+or_turned false b true d = ⊎_elim (λ yes. rw yes refl) (λ no. rw no refl) (cases_Bool b)
+or_turned false b false d = refl
+
+any_or : {X : Type 0} (p q : X → Bool) (xs : List X) → (list_any p xs || list_any q xs) ≡ list_any (λ x. p x || q x) xs
+any_or p q [] = refl
+any_or p q (x ∷ xs) = or_turned (p x) (q x) (list_any p xs) (list_any q xs) ∙ ap (λ b. (p x || q x) || b) (any_or p q xs)
+
+any_swap : {X Y : Type 0} (r : X → Y → Bool) (xs : List X) (ys : List Y) → list_any (λ x. list_any (r x) ys) xs ≡ list_any (λ y. list_any (λ x. r x y) xs) ys
+any_swap r [] ys = sym (any_none ys)
+any_swap r (x ∷ xs) ys = ap (λ b. list_any (r x) ys || b) (any_swap r xs ys) ∙ any_or (r x) (λ y. list_any (λ z. r z y) xs) ys
+
+pub any_map : {X Y : Type 0} (p : Y → Bool) (f : X → Y) (xs : List X) → list_any p (map f xs) ≡ list_any (λ x. p (f x)) xs
+any_map p f [] = refl
+any_map p f (x ∷ xs) = ap (λ b. p (f x) || b) (any_map p f xs)
+
+zero_of : {X : Type 0} (p : X → Bool) → ((x : X) → p x ≡ false) → (xs : List X) → count_by p xs ≡ 0
+zero_of p h xs = none_counted p xs (same_any p (λ x. false) h xs ∙ any_none xs)
+
+-- ---- options
+
+same_option : {X : Type 0} (o : Option X) → option_map (λ x. x) o ≡ o
+same_option None = refl
+same_option (Some x) = refl
+
+pub or_of_map : {X Y Z : Type 0} (g : Y → Z) (f : X → Y) (o : Option X) (d : Z) → option_map_or (λ x. g (f x)) o d ≡ option_map_or g (option_map f o) d
+or_of_map g f None d = refl
+or_of_map g f (Some x) d = refl
+
+then_of_map : {X Y Z : Type 0} (g : Y → Option Z) (f : X → Y) (o : Option X) → option_and_then (λ x. g (f x)) o ≡ option_and_then g (option_map f o)
+then_of_map g f None = refl
+then_of_map g f (Some x) = refl
+
+map_of_then : {X Y Z : Type 0} (g : Y → Z) (f : X → Option Y) (o : Option X) → option_and_then (λ x. option_map g (f x)) o ≡ option_map g (option_and_then f o)
+map_of_then g f None = refl
+map_of_then g f (Some x) = refl
+
+then_same : {X Y : Type 0} (f g : X → Option Y) → ((x : X) → f x ≡ g x) → (o : Option X) → option_and_then f o ≡ option_and_then g o
+then_same f g h None = refl
+then_same f g h (Some x) = h x
+
+-- ---- missed
+
+pub none_missed : (asked : Conditions) (kept : Kept) → asked.allows_unrun ≡ true → 0 ≡ count_by (is_missed_in asked kept) kept.pickles
+none_missed asked kept e = sym (zero_of (is_missed_in asked kept) (λ p. rw e (never (not (list_any (λ c. bytes_eq p.id c.pickle_id) kept.cases)))) kept.pickles)
+
+tags_allowed : (tags : List (Bor Utf8)) (names : List Utf8) → list_any (λ t. list_any (λ (x : Bor Utf8). bytes_eq t x.now) tags) names ≡ list_any (λ tag. list_any (bytes_eq tag) names) (map (λ t. t.now) tags)
+tags_allowed tags names =
+    any_swap (λ t (x : Bor Utf8). bytes_eq t x.now) names tags
+    ∙ same_any (λ (x : Bor Utf8). list_any (λ t. bytes_eq t x.now) names) (λ (x : Bor Utf8). list_any (bytes_eq x.now) names) (λ x. same_any (λ t. bytes_eq t x.now) (bytes_eq x.now) (λ t. eq_back t x.now) names) tags
+    ∙ sym (any_map (λ tag. list_any (bytes_eq tag) names) (λ (t : Bor Utf8). t.now) tags)
+
+module _ {S T : Type 0} where
+  pub missed_counted : (n : ℕ) (asked : Conditions) (kept : Kept) (tags : List (Bor Utf8)) (cs : List CaseEntry) (ps : List PickleEntry) (named : IndexMap (Bor Utf8) (Bor CaseEntry) S) (allowed : IndexMap (Bor Utf8) (Bor (Bor Utf8)) T)
+      → asked.allows_unrun ≡ false → asked.allowed_tags ≡ map (λ t. t.now) tags → cs ≡ kept.cases → ps ≡ kept.pickles
+      → HasFirsts (λ x. x.now) (λ x. x) (λ c. c.pickle_id) cs named
+      → HasFirsts (λ x. x.now) (λ x. x) (λ t. t.now) tags allowed
+      → n ≡ count_by (λ p. not (is_some (value_at named p.id)) && not (list_any (λ t. is_some (value_at allowed t)) p.tags)) ps
+      → n ≡ count_by (is_missed_in asked kept) kept.pickles
+  missed_counted n asked kept tags cs ps named allowed no_unrun are same_cases same_pickles h k count =
+      count ∙ same_count _ (is_missed_in asked kept)
+      (λ p.
+      let name : is_some (value_at named p.id) ≡ list_any (λ c. bytes_eq p.id c.pickle_id) kept.cases =
+      has_any (λ x. x.now) (λ x. x) (λ (c : CaseEntry). c.pickle_id) cs named p.id h ∙ ap (list_any (λ c. bytes_eq p.id c.pickle_id)) same_cases in
+      let tag : list_any (λ t. is_some (value_at allowed t)) p.tags ≡ list_any (λ tag. list_any (bytes_eq tag) p.tags) asked.allowed_tags =
+      same_any (λ t. is_some (value_at allowed t)) (λ t. list_any (λ (x : Bor Utf8). bytes_eq t x.now) tags) (λ t. has_any (λ x. x.now) (λ x. x) (λ (x : Bor Utf8). x.now) tags allowed t k) p.tags
+      ∙ tags_allowed tags p.tags ∙ ap (list_any (λ tag. list_any (bytes_eq tag) p.tags)) (sym are) in
+      let may : list_any (λ tag. list_any (bytes_eq tag) p.tags) asked.allowed_tags ≡ may_stay asked p = ap (λ b. b || list_any (λ tag. list_any (bytes_eq tag) p.tags) asked.allowed_tags) (sym no_unrun) in
+      (λ j. not (name j) && not ((tag ∙ may) j)))
+      ps ∙ ap (count_by (is_missed_in asked kept)) same_pickles
+
+-- ---- retried
+
+again_if : (b v w : Bool) (o : Option Bool) → (b ≡ true → v ≡ w) → cond b (Some v) o ≡ (if b then Some w else o)
+again_if true v w o h = ap Some (h refl)
+again_if false v w o h = refl
+
+module _ {S : Type 0} where
+  -- a text that is noted has been noted before, or is there now
+  pub again_noted : (old new : IndexMap (Bor Utf8) Bool S) (text : Utf8) (v : Bool) → v ≡ is_some (value_at old text)
+      → ((q : Bor Utf8) → value_at new q.now ≡ cond (bytes_eq text q.now) (Some v) (value_at old q.now))
+      → (other : Utf8) → value_at new other ≡ (if bytes_eq other text then Some (is_some (value_at old other)) else value_at old other)
+  again_noted old new text v is all other =
+      let q : Bor Utf8 = record { ref_ptr = (0, 0); now = other } in
+      all q ∙ ap (λ b. cond b (Some v) (value_at old other)) (eq_back text other)
+      ∙ again_if (bytes_eq other text) v (is_some (value_at old other)) (value_at old other) (λ yes. is ∙ ap (λ (t : Utf8). is_some (value_at old t)) (sym ((bytes_eq-Decides other text).0 yes)))
+
+pub one_attempt_more : (b : Bool) (n : ℕ) (o : Option Bool) → o ≡ some_or_more n → (if b then Some (is_some o) else o) ≡ some_or_more (n + cond b 1 0)
+one_attempt_more true zero o e = rw e refl
+one_attempt_more true (suc n) o e =
+    let no : (suc n == 0) ≡ false = grind (arith, nat_tests) in
+    let no_more : (suc n + 1 == 0) ≡ false = grind (arith, nat_tests) in
+    let more : nat_lt 1 (suc n + 1) ≡ true = grind (arith, nat_tests) in
+    rw e (rw (no, no_more, more) refl)
+one_attempt_more false n o e = e ∙ ap some_or_more (sym (add-zero n))
+
+count_more : {X : Type 0} (p : X → Bool) (xs : List X) (i : ℕ) (x : X) → i < length xs → x ≡ get_or xs i x → count_by p (take (i + 1) xs) ≡ count_by p (take i xs) + cond (p x) 1 0
+count_more p xs i x lt at = sum_by_more (λ y. cond (p y) 1 0) xs i x lt ∙ ap (λ y. count_by p (take i xs) + cond (p y) 1 0) (sym at)
+
+module _ {S : Type 0} where
+  -- an attempt at a case that is there
+  pub attempt_noted : (cases : List CaseEntry) (starts : List StartEntry) (i : ℕ) (s : StartEntry) (c : CaseEntry) (text : Utf8) (old new : IndexMap (Bor Utf8) Bool S)
+      → i < length starts → s ≡ get_or starts i s → Some c ≡ case_in cases s.case_id → text ≡ c.pickle_id
+      → ((p : Utf8) → value_at old p ≡ some_or_more (attempts_in cases p (take i starts)))
+      → ((p : Utf8) → value_at new p ≡ (if bytes_eq p text then Some (is_some (value_at old p)) else value_at old p))
+      → (p : Utf8) → value_at new p ≡ some_or_more (attempts_in cases p (take (i + 1) starts))
+  attempt_noted cases starts i s c text old new lt at found same before after p =
+      let is : is_attempt_in cases p s ≡ bytes_eq p text = ap (λ o. option_map_or (λ c. bytes_eq p c.pickle_id) o false) (sym found) ∙ ap (bytes_eq p) (sym same) in
+      after p ∙ one_attempt_more (bytes_eq p text) (attempts_in cases p (take i starts)) (value_at old p) (before p)
+      ∙ ap (λ b. some_or_more (attempts_in cases p (take i starts) + cond b 1 0)) (sym is)
+      ∙ ap some_or_more (sym (count_more (is_attempt_in cases p) starts i s lt at))
+
+  -- an attempt at a case that isn't
+  pub attempt_passed : (cases : List CaseEntry) (starts : List StartEntry) (i : ℕ) (s : StartEntry) (old : IndexMap (Bor Utf8) Bool S)
+      → i < length starts → s ≡ get_or starts i s → None ≡ case_in cases s.case_id
+      → ((p : Utf8) → value_at old p ≡ some_or_more (attempts_in cases p (take i starts)))
+      → (p : Utf8) → value_at old p ≡ some_or_more (attempts_in cases p (take (i + 1) starts))
+  attempt_passed cases starts i s old lt at none before p =
+      let is : is_attempt_in cases p s ≡ false = ap (λ o. option_map_or (λ c. bytes_eq p c.pickle_id) o false) (sym none) in
+      before p ∙ ap some_or_more (sym (count_more (is_attempt_in cases p) starts i s lt at ∙ ap (λ b. attempts_in cases p (take i starts) + cond b 1 0) is ∙ add-zero _))
+
+some_or_false : (n : ℕ) → option_map_or (λ b. b) (some_or_more n) false ≡ nat_lt 1 n
+some_or_false zero = refl
+some_or_false (suc n) = let no : (suc n == 0) ≡ false = grind (arith, nat_tests) in rw no refl
+
+module _ {S : Type 0} where
+  pub retried_counted : (n : ℕ) (kept : Kept) (ps : List PickleEntry) (seen : IndexMap (Bor Utf8) Bool S) → ps ≡ kept.pickles → ((p : Utf8) → value_at seen p ≡ some_or_more (attempts_in kept.cases p kept.starts))
+      → n ≡ count_by (λ p. option_map_or (λ again. again) (value_at seen p.id) false) ps → n ≡ count_by (is_retried_in kept) kept.pickles
+  retried_counted n kept ps seen same h count =
+      count ∙ same_count _ (is_retried_in kept) (λ p. ap (λ o. option_map_or (λ again. again) o false) (h p.id) ∙ some_or_false (attempts_in kept.cases p.id kept.starts)) ps
+      ∙ ap (count_by (is_retried_in kept)) same
+
+-- ---- skipped
+
+last_push : {X : Type 0} (xs : List X) (x : X) → last_of (xs ++ x ∷ []) ≡ Some x
+last_push [] x = refl
+last_push (y ∷ []) x = refl
+last_push (y ∷ z ∷ xs) x = last_push (z ∷ xs) x
+
+last_more : {X : Type 0} (p : X → Bool) (xs : List X) (x : X) → last_of (filter p (xs ++ x ∷ [])) ≡ (if p x then Some x else last_of (filter p xs))
+last_more p xs x =
+    ap last_of (filter-append p xs (x ∷ []))
+    ∙ ⊎_elim (λ yes. rw yes (last_push (filter p xs) x)) (λ no. rw no (ap last_of (append-nil (filter p xs)))) (cases_Bool (p x))
+
+module _ {S : Type 0} where
+  pub last_noted : (starts : List StartEntry) (i : ℕ) (s : StartEntry) (b : Bor StartEntry) (text : Utf8) (old new : IndexMap (Bor Utf8) (Bor StartEntry) S)
+      → i < length starts → s ≡ get_or starts i s → text ≡ s.case_id → b.now ≡ s
+      → ((c : Utf8) → option_map (λ x. x.now) (value_at old c) ≡ last_start (take i starts) c)
+      → ((q : Bor Utf8) → value_at new q.now ≡ cond (bytes_eq text q.now) (Some b) (value_at old q.now))
+      → (c : Utf8) → option_map (λ x. x.now) (value_at new c) ≡ last_start (take (i + 1) starts) c
+  last_noted starts i s b text old new lt at same is before all c =
+      let q : Bor Utf8 = record { ref_ptr = (0, 0); now = c } in
+      let more : take (i + 1) starts ≡ take i starts ++ s ∷ [] = take_more starts i s lt ∙ ap (λ y. take i starts ++ y ∷ []) (sym at) in
+      let after : last_start (take (i + 1) starts) c ≡ (if bytes_eq c s.case_id then Some s else last_start (take i starts) c) = ap (λ l. last_start l c) more ∙ last_more (λ x. bytes_eq c x.case_id) (take i starts) s in
+      let turned : bytes_eq text c ≡ bytes_eq c s.case_id = eq_back text c ∙ ap (bytes_eq c) same in
+      ap (option_map (λ x. x.now)) (all q)
+      ∙ ⊎_elim (λ yes. rw (turned, yes) (ap Some is)) (λ no. rw (turned, no) (before c)) (cases_Bool (bytes_eq c s.case_id))
+      ∙ sym after
+
+-- ---- stepless
+
+module _ {S : Type 0} where
+  pub stepless_counted : (n : ℕ) (kept : Kept) (ps : List PickleEntry) (cs : List CaseEntry) (pickles : IndexMap (Bor Utf8) (Bor PickleEntry) S) → ps ≡ kept.pickles → cs ≡ kept.cases
+      → HasFirsts (λ x. x.now) (λ x. x) (λ p. p.id) ps pickles
+      → n ≡ count_by (λ c. option_map_or (λ p. p.now.is_stepless) (value_at pickles c.pickle_id) false) cs
+      → n ≡ count_by (is_stepless_in kept) kept.cases
+  stepless_counted n kept ps cs pickles same_pickles same_cases h count =
+      count ∙ same_count _ (is_stepless_in kept)
+      (λ c. or_of_map (λ (p : PickleEntry). p.is_stepless) (λ (p : Bor PickleEntry). p.now) (value_at pickles c.pickle_id) false
+      ∙ ap (λ o. option_map_or (λ p. p.is_stepless) o false) (h c.pickle_id ∙ same_option _)
+      ∙ ap (λ l. option_map_or (λ p. p.is_stepless) (find (λ p. bytes_eq c.pickle_id p.id) l) false) same_pickles)
+      cs ∙ ap (count_by (is_stepless_in kept)) same_cases
+
+-- ---- undefined
+
+module _ {S T : Type 0} where
+  pub undefined_counted : (n : ℕ) (policy : Policy) (kept : Kept) (ss : List StartEntry) (cs : List CaseEntry) (fs : List FinishEntry) (starts : IndexMap (Bor Utf8) (Bor StartEntry) S) (cases : IndexMap (Bor Utf8) (List Utf8) T)
+      → ss ≡ kept.starts → cs ≡ kept.cases → fs ≡ kept.finishes
+      → HasFirsts (λ x. x.now) (λ x. x) (λ s. s.id) ss starts
+      → HasFirsts (λ x. x) (λ c. c.unmatched) (λ c. c.id) cs cases
+      → n ≡ count_by (λ f. passes_in policy f && option_map_or (list_any (bytes_eq f.step_id)) (option_and_then (λ s. value_at cases s.now.case_id) (value_at starts f.attempt_id)) false) fs
+      → n ≡ count_by (is_undefined_in policy kept) kept.finishes
+  undefined_counted n policy kept ss cs fs starts cases same_starts same_cases same_finishes h k count =
+      count ∙ same_count _ (is_undefined_in policy kept)
+      (λ f.
+      let start : option_map (λ s. s.now) (value_at starts f.attempt_id) ≡ find (λ s. bytes_eq f.attempt_id s.id) kept.starts =
+      h f.attempt_id ∙ same_option _ ∙ ap (find (λ s. bytes_eq f.attempt_id s.id)) same_starts in
+      let found : option_and_then (λ s. value_at cases s.now.case_id) (value_at starts f.attempt_id) ≡ option_map (λ c. c.unmatched) (case_of_attempt kept f.attempt_id) =
+      then_of_map (λ (s : StartEntry). value_at cases s.case_id) (λ (s : Bor StartEntry). s.now) (value_at starts f.attempt_id)
+      ∙ ap (option_and_then (λ (s : StartEntry). value_at cases s.case_id)) start
+      ∙ then_same (λ (s : StartEntry). value_at cases s.case_id) (λ (s : StartEntry). option_map (λ c. c.unmatched) (case_in kept.cases s.case_id))
+      (λ s. sym (same_option _) ∙ k s.case_id ∙ ap (λ l. option_map (λ (c : CaseEntry). c.unmatched) (case_in l s.case_id)) same_cases) (find (λ s. bytes_eq f.attempt_id s.id) kept.starts)
+      ∙ map_of_then (λ (c : CaseEntry). c.unmatched) (λ (s : StartEntry). case_in kept.cases s.case_id) (find (λ s. bytes_eq f.attempt_id s.id) kept.starts) in
+      ap (λ o. passes_in policy f && option_map_or (list_any (bytes_eq f.step_id)) o false) found
+      ∙ ap (λ b. passes_in policy f && b) (sym (or_of_map (list_any (bytes_eq f.step_id)) (λ (c : CaseEntry). c.unmatched) (case_of_attempt kept f.attempt_id) false)))
+      fs ∙ ap (count_by (is_undefined_in policy kept)) same_finishes
