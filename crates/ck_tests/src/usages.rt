@@ -38,7 +38,7 @@ const TEXTS: &str = "0 --help = Usage: parse compile audit gate results cases di
 2 gate --strict --strict = Usage: gate --strict
 2 gate --no-retries --no-retries = Usage: gate --no-retries
 2 gate --no-skips=true = Usage: gate
-2 gate --allow-unrun-tagged = Usage: gate --allow-unrun-tagged
+2 gate --allow-unrun-tagged = required --allow-unrun-tagged
 2 gate --allow-unrun-tagged wip = --allow-unrun-tagged @
 2 gate --allow-unrun --allow-unrun-tagged @wip = --allow-unrun --allow-unrun-tagged
 2 gate --allow-unrun-tagged @wip --allow-unrun = --allow-unrun --allow-unrun-tagged

@@ -96,8 +96,9 @@ fn run_cases(alloc: Global) -> Came {
 }
 
 fn run_gate(alloc: Global) -> Came {
-    let good = "good sources=1 pickles=1 cases=2 attempts=2\n";
-    came_of_words(alloc, &["gate"], INTERLEAVED, good, ExitStatus::Done)
+    let released =
+        "good sources=1 pickles=1 cases=2 attempts=2\nrelease retried=1 skipped=1 unrun=0\n";
+    came_of_words(alloc, &["gate"], INTERLEAVED, released, ExitStatus::Done)
 }
 
 fn run_parse(alloc: Global) -> Came {
