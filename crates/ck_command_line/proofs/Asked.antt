@@ -15,9 +15,10 @@ use Rattle.ck_command_line.specs.Asked.{Ask, CallForHelp, TakesItsOptions, Refus
 use Rattle.ck_command_line.specs.Asked.{all_words, usages, named_options, examples, mistakes, help_calls, is_option, words_of_line}
 use Rattle.ck_command_line.proofs.Leaves.{LineAnswers, leaf, gate_words, audit_words, cases_words, differs_words, results_words, parse_words, compile_words}
 use Rattle.ck_command_line.proofs.Gate.{gate_takes}
-use Rattle.ck_command_line.proofs.Options.{answers, audit_takes, results_takes}
+use Rattle.ck_command_line.proofs.AuditOptions.{audit_takes, cases_takes, differs_takes}
+use Rattle.ck_command_line.proofs.Options.{answers, results_takes}
 use Rattle.ck_command_line.proofs.Plain.{plain}
-use Rattle.ck_command_line.proofs.Refused.{file_is_refused, option_is_refused, gate_leaf, audit_leaf, cases_leaf, differs_leaf, results_leaf, parse_leaf, compile_leaf}
+use Rattle.ck_command_line.proofs.Refused.{file_is_refused, option_is_refused, gate_leaf, leaf_like_audit, results_leaf, parse_leaf, compile_leaf}
 
 ask : (texts : List Text) (command : Option Command) → LineAnswers texts command → Ask texts command
 ask texts command told words is = (
@@ -37,11 +38,11 @@ pub options_are_taken : AllByRecursion TakesItsOptions usages
 options_are_taken = (
   λ options h k. ask (codes "gate" ∷ all_words options) _ (gate_words (all_words options) _ (answers _ _ _ (gate_takes options h k))),
   (
-    λ options h k. ask (codes "audit" ∷ all_words options) _ (audit_words (all_words options) _ (answers _ _ _ (audit_takes options h k).0)),
+    λ options h k. ask (codes "audit" ∷ all_words options) _ (audit_words (all_words options) _ (answers _ _ _ (audit_takes options h k))),
     (
-      λ options h k. ask (codes "cases" ∷ all_words options) _ (cases_words (all_words options) _ (answers _ _ _ (audit_takes options h k).1)),
+      λ options h k. ask (codes "cases" ∷ all_words options) _ (cases_words (all_words options) _ (answers _ _ _ (cases_takes options h k))),
       (
-        λ options h k. ask (codes "differs" ∷ all_words options) _ (differs_words (all_words options) _ (answers _ _ _ (audit_takes options h k).2)),
+        λ options h k. ask (codes "differs" ∷ all_words options) _ (differs_words (all_words options) _ (answers _ _ _ (differs_takes options h k))),
         (
           λ options h k. ask (codes "results" ∷ all_words options) _ (results_words (all_words options) _ (answers _ _ _ (results_takes options h k))),
           tt,
@@ -61,11 +62,11 @@ files_are_refused = (
     (
       λ word plain_word options k others. ask (codes "gate" ∷ all_words options ++ word ∷ others) None (gate_words (all_words options ++ word ∷ others) None (file_is_refused (leaf gate_command) gate_leaf options k word plain_word others)),
       (
-        λ word plain_word options k others. ask (codes "audit" ∷ all_words options ++ word ∷ others) None (audit_words (all_words options ++ word ∷ others) None (file_is_refused (leaf audit_command) audit_leaf options k word plain_word others)),
+        λ word plain_word options k others. ask (codes "audit" ∷ all_words options ++ word ∷ others) None (audit_words (all_words options ++ word ∷ others) None (file_is_refused (leaf audit_command) (leaf_like_audit (codes "audit")) options k word plain_word others)),
         (
-          λ word plain_word options k others. ask (codes "cases" ∷ all_words options ++ word ∷ others) None (cases_words (all_words options ++ word ∷ others) None (file_is_refused (leaf cases_command) cases_leaf options k word plain_word others)),
+          λ word plain_word options k others. ask (codes "cases" ∷ all_words options ++ word ∷ others) None (cases_words (all_words options ++ word ∷ others) None (file_is_refused (leaf cases_command) (leaf_like_audit (codes "cases")) options k word plain_word others)),
           (
-            λ word plain_word options k others. ask (codes "differs" ∷ all_words options ++ word ∷ others) None (differs_words (all_words options ++ word ∷ others) None (file_is_refused (leaf differs_command) differs_leaf options k word plain_word others)),
+            λ word plain_word options k others. ask (codes "differs" ∷ all_words options ++ word ∷ others) None (differs_words (all_words options ++ word ∷ others) None (file_is_refused (leaf differs_command) (leaf_like_audit (codes "differs")) options k word plain_word others)),
             (
               λ word plain_word options k others. ask (codes "results" ∷ all_words options ++ word ∷ others) None (results_words (all_words options ++ word ∷ others) None (file_is_refused (leaf results_command) results_leaf options k word plain_word others)),
               tt,
@@ -94,8 +95,8 @@ module _ (name : Text) (help : codes "help" ≢ name) where
   not_results : codes "attempts-from" ≢ name → HasNone results_command name
   not_results n = rw (differ (codes "attempts-from") name n, differ (codes "help") name help) refl
 
-  not_audit : codes "pending-passes" ≢ name → codes "attempts-from" ≢ name → HasNone audit_command name
-  not_audit p n = rw (differ (codes "pending-passes") name p, differ (codes "attempts-from") name n, differ (codes "help") name help) refl
+  not_audit : codes "pending-passes" ≢ name → codes "attempts-from" ≢ name → codes "allow-redeclared" ≢ name → HasNone audit_command name
+  not_audit p n a = rw (differ (codes "pending-passes") name p, differ (codes "attempts-from") name n, differ (codes "allow-redeclared") name a, differ (codes "help") name help) refl
 
   not_gate : codes "allow-unrun" ≢ name →
       codes "allow-unrun-tagged" ≢ name →
@@ -105,9 +106,10 @@ module _ (name : Text) (help : codes "help" ≢ name) where
       codes "no-undefined" ≢ name →
       codes "strict" ≢ name →
       codes "pending-passes" ≢ name →
-      codes "attempts-from" ≢ name → HasNone gate_command name
-  not_gate u t r k l d s p n =
-      rw (differ (codes "allow-unrun") name u, differ (codes "allow-unrun-tagged") name t, differ (codes "no-retries") name r, differ (codes "no-skips") name k, differ (codes "no-stepless") name l, differ (codes "no-undefined") name d, differ (codes "strict") name s, differ (codes "pending-passes") name p, differ (codes "attempts-from") name n, differ (codes "help") name help) refl
+      codes "attempts-from" ≢ name →
+      codes "allow-redeclared" ≢ name → HasNone gate_command name
+  not_gate u t r k l d s p n a =
+      rw (differ (codes "allow-unrun") name u, differ (codes "allow-unrun-tagged") name t, differ (codes "no-retries") name r, differ (codes "no-skips") name k, differ (codes "no-stepless") name l, differ (codes "no-undefined") name d, differ (codes "strict") name s, differ (codes "pending-passes") name p, differ (codes "attempts-from") name n, differ (codes "allow-redeclared") name a, differ (codes "help") name help) refl
 
 pub other_options_are_refused : AllByRecursion RefusesOtherOptions named_options
 other_options_are_refused = (
@@ -115,13 +117,13 @@ other_options_are_refused = (
   (
     λ word name value long h options k others. ask (codes "compile" ∷ all_words options ++ word ∷ others) None (compile_words (all_words options ++ word ∷ others) None (option_is_refused (leaf compile_command) compile_leaf options k word name value long (not_compile name h.0 h.1.0) others)),
     (
-      λ word name value long h options k others. ask (codes "gate" ∷ all_words options ++ word ∷ others) None (gate_words (all_words options ++ word ∷ others) None (option_is_refused (leaf gate_command) gate_leaf options k word name value long (not_gate name h.0 h.1.0 h.1.1.0 h.1.1.1.0 h.1.1.1.1.0 h.1.1.1.1.1.0 h.1.1.1.1.1.1.0 h.1.1.1.1.1.1.1.0 h.1.1.1.1.1.1.1.1.0 h.1.1.1.1.1.1.1.1.1.0) others)),
+      λ word name value long h options k others. ask (codes "gate" ∷ all_words options ++ word ∷ others) None (gate_words (all_words options ++ word ∷ others) None (option_is_refused (leaf gate_command) gate_leaf options k word name value long (not_gate name h.0 h.1.0 h.1.1.0 h.1.1.1.0 h.1.1.1.1.0 h.1.1.1.1.1.0 h.1.1.1.1.1.1.0 h.1.1.1.1.1.1.1.0 h.1.1.1.1.1.1.1.1.0 h.1.1.1.1.1.1.1.1.1.0 h.1.1.1.1.1.1.1.1.1.1.0) others)),
       (
-        λ word name value long h options k others. ask (codes "audit" ∷ all_words options ++ word ∷ others) None (audit_words (all_words options ++ word ∷ others) None (option_is_refused (leaf audit_command) audit_leaf options k word name value long (not_audit name h.0 h.1.0 h.1.1.0) others)),
+        λ word name value long h options k others. ask (codes "audit" ∷ all_words options ++ word ∷ others) None (audit_words (all_words options ++ word ∷ others) None (option_is_refused (leaf audit_command) (leaf_like_audit (codes "audit")) options k word name value long (not_audit name h.0 h.1.0 h.1.1.0 h.1.1.1.0) others)),
         (
-          λ word name value long h options k others. ask (codes "cases" ∷ all_words options ++ word ∷ others) None (cases_words (all_words options ++ word ∷ others) None (option_is_refused (leaf cases_command) cases_leaf options k word name value long (not_audit name h.0 h.1.0 h.1.1.0) others)),
+          λ word name value long h options k others. ask (codes "cases" ∷ all_words options ++ word ∷ others) None (cases_words (all_words options ++ word ∷ others) None (option_is_refused (leaf cases_command) (leaf_like_audit (codes "cases")) options k word name value long (not_audit name h.0 h.1.0 h.1.1.0 h.1.1.1.0) others)),
           (
-            λ word name value long h options k others. ask (codes "differs" ∷ all_words options ++ word ∷ others) None (differs_words (all_words options ++ word ∷ others) None (option_is_refused (leaf differs_command) differs_leaf options k word name value long (not_audit name h.0 h.1.0 h.1.1.0) others)),
+            λ word name value long h options k others. ask (codes "differs" ∷ all_words options ++ word ∷ others) None (differs_words (all_words options ++ word ∷ others) None (option_is_refused (leaf differs_command) (leaf_like_audit (codes "differs")) options k word name value long (not_audit name h.0 h.1.0 h.1.1.0 h.1.1.1.0) others)),
             (
               λ word name value long h options k others. ask (codes "results" ∷ all_words options ++ word ∷ others) None (results_words (all_words options ++ word ∷ others) None (option_is_refused (leaf results_command) results_leaf options k word name value long (not_results name h.0 h.1.0) others)),
               tt,

@@ -4,8 +4,11 @@ pub mod Plain
 pub mod Rows
 pub mod Said
 pub mod Leaves
+pub mod Arguments
 pub mod Between
+pub mod Using
 pub mod Gate
+pub mod AuditOptions
 pub mod Options
 pub mod Refused
 pub mod Asked

@@ -8,6 +8,7 @@ use Rattle.clap.specs.Words.{Text}
 use Rattle.clap.specs.Lexer.{long_of}
 use Rattle.cm_attempt.specs.declared.policy.Policy.{Policy}
 use Rattle.cm_attempt.specs.declared.policy.Policy.TheVariants.{Strict, PendingPasses}
+use Rattle.cm_attempt.specs.Settings.{settings_of}
 use Rattle.cm_attempt.specs.declared.settings.Settings.{Settings}
 use Rattle.cm_stream.specs.Release.{Conditions, each_runs, strict_conditions}
 use Rattle.ck_command_line.specs.CommandLine.{AsksNothing, CallsForHelp, Command, command_asked_by, first_attempt_named, is_tag}
@@ -38,6 +39,7 @@ pub data Written : Type 0 where
   strict : Written
   pending_passes : Written
   attempts_from : (is_one_word : Bool) → (number : Text) → Written
+  allow_redeclared : Written
 
 abbrev pub name_of : Written → Text
 name_of allow_unrun = codes "allow-unrun"
@@ -49,6 +51,7 @@ name_of no_undefined = codes "no-undefined"
 name_of strict = codes "strict"
 name_of pending_passes = codes "pending-passes"
 name_of (attempts_from is_one_word number) = codes "attempts-from"
+name_of allow_redeclared = codes "allow-redeclared"
 
 -- its words
 abbrev pub words_of : Written → List Text
@@ -63,6 +66,7 @@ words_of strict = codes "--strict" ∷ []
 words_of pending_passes = codes "--pending-passes" ∷ []
 words_of (attempts_from true number) = (codes "--attempts-from=" ++ number) ∷ []
 words_of (attempts_from false number) = codes "--attempts-from" ∷ number ∷ []
+words_of allow_redeclared = codes "--allow-redeclared" ∷ []
 
 abbrev pub all_words : List Written → List Text
 all_words = flat_map words_of
@@ -116,8 +120,11 @@ number_of (option ∷ options) = number_of options
 -- the settings that they ask for: none where the number is neither 0 nor 1
 abbrev pub settings_written : List Written → Option Settings
 settings_written options =
-    option_map (λ first. record { policy = policy_of options; first_attempt = first })
-    (first_attempt_named (number_of options))
+    option_map (λ first. record {
+      policy = policy_of options;
+      first_attempt = first;
+      allows_redeclared = is_there (codes "allow-redeclared") options;
+    }) (first_attempt_named (number_of options))
 
 -- the tags that they give, in their order
 abbrev pub tags_of : List Written → List Text
@@ -161,7 +168,7 @@ gate_usage = record {
   options =
       codes "allow-unrun" ∷ codes "allow-unrun-tagged" ∷ codes "no-retries" ∷ codes "no-skips"
       ∷ codes "no-stepless" ∷ codes "no-undefined" ∷ codes "strict" ∷ codes "pending-passes"
-      ∷ codes "attempts-from" ∷ [];
+      ∷ codes "attempts-from" ∷ codes "allow-redeclared" ∷ [];
   asks = ask_gate;
 }
 
@@ -169,7 +176,7 @@ gate_usage = record {
 abbrev pub usage_like_audit : Text → (Settings → Command) → Usage
 usage_like_audit name asks = record {
   name = name;
-  options = codes "pending-passes" ∷ codes "attempts-from" ∷ [];
+  options = codes "pending-passes" ∷ codes "attempts-from" ∷ codes "allow-redeclared" ∷ [];
   asks = λ settings conditions. asks settings;
 }
 
@@ -255,9 +262,13 @@ words_of_line [] = [] ∷ []
 words_of_line (c ∷ cs) =
     if c == 32 then [] ∷ words_of_line cs else with_first c (words_of_line cs)
 
--- the settings of this policy, with first attempts of this number
+-- the settings of this policy, with first attempts of this number, and nothing declared again
 abbrev pub settings_by : Policy → (first : ℕ) → Settings
-settings_by policy first = record { policy = policy; first_attempt = first }
+settings_by policy first = record (settings_of policy) { first_attempt = first }
+
+-- where hooks and step definitions may be declared again
+abbrev pub allowing_redeclared : Settings → Settings
+allowing_redeclared settings = record settings { allows_redeclared = true }
 
 -- `gate` without `--pending-passes` and `--attempts-from`
 abbrev pub ask_gate_for : Conditions → Command
@@ -305,7 +316,15 @@ examples =
       codes "gate --strict --allow-unrun",
       ask_gate_for (record strict_conditions { allows_unrun = true }),
     )
+    ∷ (
+      codes "gate --allow-redeclared --strict",
+      ask_gate (allowing_redeclared (settings_by Strict 0)) strict_conditions,
+    )
     ∷ (codes "audit", ask_audit (settings_by Strict 0))
+    ∷ (
+      codes "audit --attempts-from 1 --allow-redeclared",
+      ask_audit (allowing_redeclared (settings_by Strict 1)),
+    )
     ∷ (codes "audit --attempts-from 0", ask_audit (settings_by Strict 0))
     ∷ (codes "cases --pending-passes", ask_cases (settings_by PendingPasses 0))
     ∷ (codes "differs --attempts-from 1", ask_differs (settings_by Strict 1))
@@ -345,6 +364,9 @@ mistakes =
     ∷ codes "results --no-skips"
     ∷ codes "differs --allow-unrun-tagged @wip"
     ∷ codes "results --pending-passes"
+    ∷ codes "results --allow-redeclared"
+    ∷ codes "audit --allow-redeclared --allow-redeclared"
+    ∷ codes "gate --allow-redeclared=true"
     ∷ codes "--allow-unrun gate"
     ∷ []
 

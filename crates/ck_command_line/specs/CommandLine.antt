@@ -79,28 +79,41 @@ tagged_rule = record (new_rule (codes "allow-unrun-tagged")) {
   action = Some Append;
 }
 
+-- whether hooks and step definitions may be declared again
+abbrev pub redeclared_rule : Rule
+redeclared_rule = flag_rule (codes "allow-redeclared")
+
 -- the command with these rules, one added after another
 abbrev pub with_rules : App → List Rule → App
 with_rules command rules = fold with_rule command rules
 
+-- the options that say by which settings a stream is judged
+abbrev pub settings_rules : List Rule
+settings_rules = pending_rule ∷ attempts_rule ∷ redeclared_rule ∷ []
+
+-- the options that say what a release asks of a run
+abbrev pub release_rules : List Rule
+release_rules =
+    unrun_rule ∷ tagged_rule ∷ flag_rule (codes "no-retries") ∷ flag_rule (codes "no-skips")
+    ∷ flag_rule (codes "no-stepless") ∷ flag_rule (codes "no-undefined")
+    ∷ flag_rule (codes "strict") ∷ []
+
 -- the command `gate`, with its options in the order in which `--help` lists them
 abbrev pub gate_command : App
-gate_command = with_rules (new_app (codes "gate"))
-    (unrun_rule ∷ tagged_rule ∷ flag_rule (codes "no-retries") ∷ flag_rule (codes "no-skips")
-    ∷ flag_rule (codes "no-stepless") ∷ flag_rule (codes "no-undefined")
-    ∷ flag_rule (codes "strict") ∷ pending_rule ∷ attempts_rule ∷ [])
+gate_command = with_rules (with_rules (new_app (codes "gate")) release_rules) settings_rules
 
--- the command `audit [--pending-passes] [--attempts-from N]`
+-- a command with the options of `audit`
+abbrev pub command_like_audit : Text → App
+command_like_audit name = with_rules (new_app name) settings_rules
+
 abbrev pub audit_command : App
-audit_command = with_rule (with_rule (new_app (codes "audit")) pending_rule) attempts_rule
+audit_command = command_like_audit (codes "audit")
 
--- the command `cases [--pending-passes] [--attempts-from N]`
 abbrev pub cases_command : App
-cases_command = with_rule (with_rule (new_app (codes "cases")) pending_rule) attempts_rule
+cases_command = command_like_audit (codes "cases")
 
--- the command `differs [--pending-passes] [--attempts-from N]`
 abbrev pub differs_command : App
-differs_command = with_rule (with_rule (new_app (codes "differs")) pending_rule) attempts_rule
+differs_command = command_like_audit (codes "differs")
 
 -- the command `results [--attempts-from N]`
 abbrev pub results_command : App
@@ -158,13 +171,18 @@ first_attempt_in rows = first_attempt_named (first_of (codes "attempts-from") ro
 abbrev pub policy_in : List Row → Policy
 policy_in rows = policy_named (first_of (codes "pending-passes") rows)
 
-abbrev pub settings_in : List Row → Option Settings
-settings_in rows =
-    option_map (λ n. record { policy = policy_in rows; first_attempt = n }) (first_attempt_in rows)
-
 -- a flag of this name is given
 abbrev pub has_flag : Text → List Row → Bool
 has_flag name rows = is_given (first_of name rows)
+
+-- the settings, where there is no mistake in the number
+abbrev pub settings_in : List Row → Option Settings
+settings_in rows =
+    option_map (λ n. record {
+      policy = policy_in rows;
+      first_attempt = n;
+      allows_redeclared = has_flag (codes "allow-redeclared") rows;
+    }) (first_attempt_in rows)
 
 -- a tag begins with `@`
 abbrev pub is_tag : Text → Bool

@@ -8,7 +8,7 @@ ghost use Rattle.ck_command_line.specs.CommandLine.{Chooses, command_of_choice, 
 ghost use Rattle.ck_command_line.specs.CommandLine.{command_app, command_named, command_of, compile_command, differs_command};
 ghost use Rattle.ck_command_line.specs.CommandLine.{Gives, conditions_in, first_attempt_in, is_tag, tagged_rule, tags_allowed};
 ghost use Rattle.ck_command_line.specs.CommandLine.{flag_rule, gate_command, is_given, subcommand_named, parse_command, policy_in, results_command};
-ghost use Rattle.ck_command_line.specs.CommandLine.{settings_in, uri_rule};
+ghost use Rattle.ck_command_line.specs.CommandLine.{settings_in, settings_rules, uri_rule, with_rules};
 ghost use Rattle.cm_stream.specs.Release.{conditions_of};
 
 use crate::help;
@@ -133,76 +133,86 @@ fn new_command<'a>(
         .after_help(more)
 }
 
+/// The command with the options that say by which settings a stream is judged: `[--pending-passes] [--attempts-from N]
+/// [--allow-redeclared]`.
+fn with_settings<'a>(alloc: Global, command: Command<'a>) -> Result<Command<'a>, AllocError>
+    requires local { (fields_of command).has_globals ≡ false }
+    ensures app { IfOk result (λ c. app_of c ≡ with_rules (app_of command.entry) settings_rules) }
+    ensures local { IfOk result (λ c. (fields_of c).has_globals ≡ false) }
+{
+    command
+        .arg(flag(alloc, "pending-passes", help::PENDING_PASSES))?
+        .arg(attempts_argument(alloc))?
+        .arg(flag(alloc, "allow-redeclared", help::ALLOW_REDECLARED))
+}
+
 /// `gate [--allow-unrun] [--allow-unrun-tagged TAG].. [--no-retries] [--no-skips] [--no-stepless] [--no-undefined] [--strict]
-/// [--pending-passes] [--attempts-from N]`.
+/// [--pending-passes] [--attempts-from N] [--allow-redeclared]`.
 fn gate_command<'a>(alloc: Global) -> Result<Command<'a>, AllocError>
     ensures app { IfOk result (λ c. app_of c ≡ gate_command) }
     ensures local { IfOk result (λ c. (fields_of c).has_globals ≡ false) }
 {
-    new_command(
+    let bare = new_command(
         alloc,
         "gate",
         help::GATE,
         help::GATE_USAGE,
         help::AFTER_GATE,
-    )
-    .arg(flag(alloc, "allow-unrun", help::ALLOW_UNRUN))?
-    .arg(tagged_argument(alloc))?
-    .arg(flag(alloc, "no-retries", help::NO_RETRIES))?
-    .arg(flag(alloc, "no-skips", help::NO_SKIPS))?
-    .arg(flag(alloc, "no-stepless", help::NO_STEPLESS))?
-    .arg(flag(alloc, "no-undefined", help::NO_UNDEFINED))?
-    .arg(flag(alloc, "strict", help::STRICT))?
-    .arg(flag(alloc, "pending-passes", help::PENDING_PASSES))?
-    .arg(attempts_argument(alloc))
+    );
+    let command = bare
+        .arg(flag(alloc, "allow-unrun", help::ALLOW_UNRUN))?
+        .arg(tagged_argument(alloc))?
+        .arg(flag(alloc, "no-retries", help::NO_RETRIES))?
+        .arg(flag(alloc, "no-skips", help::NO_SKIPS))?
+        .arg(flag(alloc, "no-stepless", help::NO_STEPLESS))?
+        .arg(flag(alloc, "no-undefined", help::NO_UNDEFINED))?
+        .arg(flag(alloc, "strict", help::STRICT))?;
+    with_settings(alloc, command)
 }
 
-/// `audit [--pending-passes] [--attempts-from N]`.
+/// `audit [--pending-passes] [--attempts-from N] [--allow-redeclared]`.
 fn audit_command<'a>(alloc: Global) -> Result<Command<'a>, AllocError>
     ensures app { IfOk result (λ c. app_of c ≡ audit_command) }
     ensures local { IfOk result (λ c. (fields_of c).has_globals ≡ false) }
 {
-    new_command(
+    let command = new_command(
         alloc,
         "audit",
         help::AUDIT,
         help::AUDIT_USAGE,
         help::AFTER_AUDIT,
-    )
-    .arg(flag(alloc, "pending-passes", help::PENDING_PASSES))?
-    .arg(attempts_argument(alloc))
+    );
+    with_settings(alloc, command)
 }
 
-/// `cases [--pending-passes] [--attempts-from N]`.
+/// `cases [--pending-passes] [--attempts-from N] [--allow-redeclared]`.
 fn cases_command<'a>(alloc: Global) -> Result<Command<'a>, AllocError>
     ensures app { IfOk result (λ c. app_of c ≡ cases_command) }
     ensures local { IfOk result (λ c. (fields_of c).has_globals ≡ false) }
 {
-    new_command(
+    let command = new_command(
         alloc,
         "cases",
         help::CASES,
         help::CASES_USAGE,
         help::AFTER_CASES,
-    )
-    .arg(flag(alloc, "pending-passes", help::PENDING_PASSES))?
-    .arg(attempts_argument(alloc))
+    );
+    with_settings(alloc, command)
 }
 
-/// `differs [--pending-passes] [--attempts-from N]`.
+/// `differs [--pending-passes] [--attempts-from N] [--allow-redeclared]`.
 fn differs_command<'a>(alloc: Global) -> Result<Command<'a>, AllocError>
     ensures app { IfOk result (λ c. app_of c ≡ differs_command) }
     ensures local { IfOk result (λ c. (fields_of c).has_globals ≡ false) }
 {
-    new_command(
+    let command = new_command(
         alloc,
         "differs",
         help::DIFFERS,
         help::DIFFERS_USAGE,
         help::AFTER_DIFFERS,
-    )
-    .arg(flag(alloc, "pending-passes", help::PENDING_PASSES))?
-    .arg(attempts_argument(alloc))
+    );
+    with_settings(alloc, command)
 }
 
 /// `results [--attempts-from N]`.
@@ -349,6 +359,7 @@ fn settings_in<'a>(values: &ArgMatches<'a>) -> Result<Settings, NoChoice>
     Ok(Settings {
         policy: policy_in(values),
         first_attempt,
+        allows_redeclared: has_flag(values, "allow-redeclared"),
     })
 }
 

@@ -91,7 +91,8 @@ bad:
    2 Shape                    The line is no object, or has two judged kinds, or a judged kind that
                               is no object.
    3 Field kind.member        A member is missing or has another type.
-   4 DuplicateId              An id was declared before for the same kind, or is twice in the line.
+   4 DuplicateId              An id was declared before for the same kind, or is twice in the line;
+                              --allow-redeclared lets hooks and step definitions come again.
    5 DuplicateUri             The uri has a source already, or a document.
    6 UnknownReference         It refers to something that no line before declares.
    7 DocumentOfRefusedSource  The document's source doesn't parse.
@@ -182,6 +183,9 @@ pub(crate) const PENDING_PASSES: &str = "PENDING is a good status too, beside PA
 
 pub(crate) const ATTEMPTS_FROM: &str =
     "Number of a case's first attempt: 0 by the schema, 1 as cucumber-ruby counts [default: 0]";
+
+pub(crate) const ALLOW_REDECLARED: &str =
+    "A hook or step definition may be declared again, as cucumber-jvm does; it is passed over";
 
 pub(crate) const NO_COMMAND: &str = "error: the words name no command
 

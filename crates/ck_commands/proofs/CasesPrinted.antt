@@ -11,7 +11,7 @@ use Rattle.cm_envelope.specs.declared.envelope.Envelope.{Envelope}
 use Rattle.cm_envelope.specs.declared.feed.Trouble.{Trouble}
 use Rattle.cm_envelope.specs.declared.feed.Trouble.TheVariants.{ReadFailed, LineTooLong, StreamTooLong, Memory}
 use Rattle.cm_envelope.proofs.Sources.{of_reads, reads_weaker}
-use Rattle.cm_stream.specs.Stream.{Answer, At, Failed, FirstFault, NoFault, Troubled, answer_for, answer_of_audit, envelopes}
+use Rattle.cm_stream.specs.Stream.{Answer, At, Failed, FirstFault, NoFault, Troubled, answer_for, answer_of_audit}
 use Rattle.cm_stream.specs.declared.verdict.Verdict.{Verdict}
 use Rattle.cm_stream.specs.declared.verdict.Verdict.TheVariants as verdict
 use Rattle.cm_stream.proofs.ByGrammar.{is_first}
@@ -46,9 +46,9 @@ module _ (settings : Settings) where
     of_verdict : (bytes : List ℕ) (success : Bool) (v : Verdict) (x : made.Report) → ReportsVerdict listing attempts (record { verdict = v; success = success }) v x
         → FollowsGood settings (λ es. listing ≡ listing_of es) attempts bytes v → AnswersTold settings bytes (Ok (record { verdict = v; success = success })) → Reports (ask_cases settings) bytes (report_made (Ok x))
     of_verdict bytes success (verdict.Good counts) x r f h = (
-      NoFault (envelopes f.lines),
-      is_first settings bytes (NoFault (envelopes f.lines)) (read_is_told settings bytes f.lines f.read f.good),
-      λ j. record { text = r.0 (envelopes f.lines) f.followed f.results j; status = r.1 j },
+      NoFault f.judged,
+      is_first settings bytes (NoFault f.judged) (read_is_told settings bytes f.judged f.read f.good),
+      λ j. record { text = r.0 f.judged f.followed f.results j; status = r.1 j },
     )
     of_verdict bytes success (verdict.Bad n b) x r f h = (h.first, h.is_first, told bytes x h.first (answer_of_audit (Ok (record { verdict = verdict.Bad n b; success = success }))) h.answers (λ es e. cc) r)
     of_verdict bytes success (verdict.Unsupported n u) x r f h =
@@ -56,7 +56,7 @@ module _ (settings : Settings) where
 
     lists_or_tells : (bytes : List ℕ) (success : Bool) (v : Verdict) (x : made.Report) → ReportsVerdict listing attempts (record { verdict = v; success = success }) v x
         → FollowsGood settings (λ es. listing ≡ listing_of es) attempts bytes v → ListsOrTells settings bytes (record { verdict = v; success = success }) v (report_made (Ok x))
-    lists_or_tells bytes success (verdict.Good counts) x r f = (f.lines, f.read, f.good, λ j. record { text = r.0 (envelopes f.lines) f.followed f.results j; status = r.1 j })
+    lists_or_tells bytes success (verdict.Good counts) x r f = (f.judged, f.read, f.good, λ j. record { text = r.0 f.judged f.followed f.results j; status = r.1 j })
     lists_or_tells bytes success (verdict.Bad n b) x r f = report_is _ x r
     lists_or_tells bytes success (verdict.Unsupported n u) x r f = report_is _ x r
 

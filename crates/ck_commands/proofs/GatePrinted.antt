@@ -10,7 +10,7 @@ use Rattle.cm_envelope.specs.declared.feed.Trouble.TheVariants.{ReadFailed, Line
 use Rattle.cm_envelope.proofs.Sources.{of_reads, reads_weaker}
 use Rattle.cm_stream.specs.References.{run_succeeded}
 use Rattle.cm_stream.specs.Release.{Conditions, release_counts_of}
-use Rattle.cm_stream.specs.Stream.{Answer, At, Failed, FirstFault, GoodRunIn, GoodWith, NoFault, Troubled, answer_for, answer_of_audit, counts_of, envelopes}
+use Rattle.cm_stream.specs.Stream.{Answer, At, Failed, FirstFault, GoodRunIn, GoodWith, NoFault, Troubled, answer_for, answer_of_audit, counts_of}
 use Rattle.cm_stream.specs.declared.conditions.ReleaseCounts.{ReleaseCounts}
 use Rattle.cm_stream.specs.declared.verdict.Counts.{Counts}
 use Rattle.cm_stream.specs.declared.verdict.Verdict.{Verdict}
@@ -46,8 +46,8 @@ module _ (settings : Settings) (asked : Conditions) where
     of_verdict : (bytes : List ℕ) (success : Bool) (v : Verdict) (x : made.Report) → ReportsCounted asked found (record { verdict = v; success = success }) v x
         → CountsGood settings asked found bytes v → AnswersTold settings bytes (Ok (record { verdict = v; success = success })) → Reports (ask_gate settings asked) bytes (report_made (Ok x))
     of_verdict bytes success (verdict.Good counts) x r c h =
-        let es = envelopes c.lines in
-        let good = read_is_told settings bytes c.lines c.read c.good in
+        let es = c.judged in
+        let good = read_is_told settings bytes c.judged c.read c.good in
         let first : h.first ≡ NoFault es = sym (reported settings bytes h.first h.is_first) ∙ good in
         let same : GoodWith counts success ≡ GoodWith (counts_of es) (run_succeeded es) = h.answers ∙ ap answer_for first in
         let counts_are : counts ≡ counts_of es = cc in
@@ -64,9 +64,9 @@ module _ (settings : Settings) (asked : Conditions) where
     releases_or_tells : (bytes : List ℕ) (success : Bool) (v : Verdict) (x : made.Report) → ReportsCounted asked found (record { verdict = v; success = success }) v x
         → CountsGood settings asked found bytes v → GoodRunIn settings bytes v success → ReleasesOrTells settings asked bytes (record { verdict = v; success = success }) v (report_made (Ok x))
     releases_or_tells bytes success (verdict.Good counts) x r c run =
-        let here = read_is_told settings bytes c.lines c.read c.good in
-        let there = read_is_told settings bytes run.lines run.read run.good in
-        let same : envelopes c.lines ≡ envelopes run.lines = cc in
+        let here = read_is_told settings bytes c.judged c.read c.good in
+        let there = read_is_told settings bytes run.judged run.read run.good in
+        let same : c.judged ≡ run.judged = cc in
         (run, report_is (release_report asked success counts found) x r ∙ ap (release_report asked success counts) (c.counted ∙ ap (release_counts_of asked settings.policy) same))
     releases_or_tells bytes success (verdict.Bad n b) x r c run = report_is _ x r
     releases_or_tells bytes success (verdict.Unsupported n u) x r c run = report_is _ x r

@@ -8,7 +8,7 @@ use Rattle.gk_grammar.specs.Tree.{Document}
 use Rattle.cm_stream.specs.Findings.{IsBad, IsUnsupported}
 use Rattle.cm_stream.specs.Release.{Conditions, hold_of, release_counts_of}
 use Rattle.cm_stream.specs.Results.{first_results_fault}
-use Rattle.cm_stream.specs.Stream.{At, FirstFault, GoodRunIn, NoFault, NoneIsGood, Troubled, answer_of_audit, envelopes}
+use Rattle.cm_stream.specs.Stream.{At, FirstFault, GoodRunIn, NoFault, NoneIsGood, Troubled, answer_of_audit}
 use Rattle.cm_stream.specs.declared.verdict.Audited.{Audited}
 use Rattle.cm_stream.specs.declared.verdict.Hold.{Hold}
 use Rattle.cm_stream.specs.declared.verdict.Verdict.{Verdict}
@@ -80,7 +80,7 @@ held_or_done (Some h) e = cc
 module _ (settings : Settings) (asked : Conditions) (code : ℕ) (before after : Output) where
   released : (bytes : List ℕ) (a : Audited) (v : Verdict) (r : Report) → a.verdict ≡ v → ReleasesOrTells settings asked bytes a v r → Prints r code before after → code ≡ 0 → PrintsReleased settings asked before after bytes
   released bytes a (verdict.Good counts) r is h p zero =
-      let found = release_counts_of asked settings.policy (envelopes h.0.lines) in
+      let found = release_counts_of asked settings.policy h.0.judged in
       let none = not_held (hold_of asked a.success counts found) (sym (p.status ∙ ap (λ (x : Report). code_of x.status) h.1) ∙ zero) in (
         counts,
         found,
@@ -91,7 +91,7 @@ module _ (settings : Settings) (asked : Conditions) (code : ℕ) (before after :
   released bytes a (verdict.Unsupported n u) r is h p zero = absurd (not_both 4 0 code (p.status ∙ ap (λ (x : Report). code_of x.status) h ∙ rw is refl) zero (λ e. cc))
 
   not_released : (bytes : List ℕ) (a : Audited) (v : Verdict) (r : Report) → a.verdict ≡ v → ReleasesOrTells settings asked bytes a v r → NoneIsGood settings bytes (Ok v) → Prints r code before after → code ≡ 1 → PrintsBad settings before after bytes
-  not_released bytes a (verdict.Good counts) r is h none p one = absurd (held_or_done (hold_of asked a.success counts (release_counts_of asked settings.policy (envelopes h.0.lines))) (sym (p.status ∙ ap (λ (x : Report). code_of x.status) h.1) ∙ one))
+  not_released bytes a (verdict.Good counts) r is h none p one = absurd (held_or_done (hold_of asked a.success counts (release_counts_of asked settings.policy h.0.judged)) (sym (p.status ∙ ap (λ (x : Report). code_of x.status) h.1) ∙ one))
   not_released bytes a (verdict.Bad n b) r is h none p one = (n, b, none, subst (Writes before after) (ap (λ (x : Report). x.text) h ∙ rw is refl) p.written)
   not_released bytes a (verdict.Unsupported n u) r is h none p one = absurd (not_both 4 1 code (p.status ∙ ap (λ (x : Report). code_of x.status) h ∙ rw is refl) one (λ e. cc))
 

@@ -13,7 +13,7 @@ use Rattle.cm_envelope.specs.declared.envelope.Envelope.{Envelope}
 use Rattle.cm_envelope.specs.declared.feed.Trouble.{Trouble}
 use Rattle.cm_stream.specs.Good.{Good}
 use Rattle.cm_stream.specs.Results.{results_of}
-use Rattle.cm_stream.specs.Stream.{FirstFault, At, Troubled, NoFault, IsRead, answer_of_audit, envelopes}
+use Rattle.cm_stream.specs.Stream.{FirstFault, At, Troubled, NoFault, IsReadAs, answer_of_audit}
 use Rattle.cm_stream.specs.Texts.{Utf8}
 use Rattle.cm_stream.specs.declared.verdict.Audited.{Audited}
 use Rattle.cm_stream.specs.declared.verdict.Verdict.{Verdict}
@@ -42,14 +42,14 @@ cases_report (Troubled t) = trouble_report t
 -- the stream is good, and the lines of its cases and unrun pickles were printed
 abbrev pub PrintsListed : Settings → (before after : Output) → (bytes : List ℕ) → Type 0
 PrintsListed settings before after bytes =
-    (lines : List (ℕ × Envelope)) × IsRead bytes lines × Good settings (envelopes lines)
-    × Writes before after (cases_text (envelopes lines))
+    (es : List Envelope) × IsReadAs settings bytes es × Good settings es
+    × Writes before after (cases_text es)
 
 -- the lines of the cases of a good stream, and of any other verdict its line
 abbrev pub ListsOrTells : Settings → List ℕ → Audited → Verdict → Report → Type 0
 ListsOrTells settings bytes a (verdict.Good counts) r =
-    (lines : List (ℕ × Envelope)) × IsRead bytes lines × Good settings (envelopes lines)
-    × (r ≡ record { text = cases_text (envelopes lines); status = Done })
+    (es : List Envelope) × IsReadAs settings bytes es × Good settings es
+    × (r ≡ record { text = cases_text es; status = Done })
 ListsOrTells settings bytes a _ r = r ≡ verdict_report (answer_of_audit (Ok a))
 
 -- ---- the report that the code makes

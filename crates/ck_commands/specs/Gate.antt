@@ -7,7 +7,7 @@ use Rattle.cm_envelope.specs.declared.feed.Trouble.{Trouble}
 use Rattle.cm_attempt.specs.declared.settings.Settings.{Settings}
 use Rattle.cm_stream.specs.References.{run_succeeded}
 use Rattle.cm_stream.specs.Release.{Conditions, IsReleasedStream, hold_of, release_counts_of}
-use Rattle.cm_stream.specs.Stream.{FirstFault, At, Troubled, NoFault, IsGoodRun, answer_for, answer_of_audit, counts_of, envelopes}
+use Rattle.cm_stream.specs.Stream.{FirstFault, At, Troubled, NoFault, IsGoodRun, answer_for, answer_of_audit, counts_of}
 use Rattle.cm_stream.specs.declared.conditions.ReleaseCounts.{ReleaseCounts}
 use Rattle.cm_stream.specs.declared.verdict.Audited.{Audited}
 use Rattle.cm_stream.specs.declared.verdict.Counts.{Counts}
@@ -66,7 +66,7 @@ abbrev pub ReleasesOrTells : Settings → Conditions → List ℕ → Audited �
 ReleasesOrTells settings asked bytes a (verdict.Good counts) r =
     (run : IsGoodRun settings bytes counts a.success)
     × (r ≡ release_report asked a.success counts
-    (release_counts_of asked settings.policy (envelopes run.lines)))
+    (release_counts_of asked settings.policy run.judged))
 ReleasesOrTells settings asked bytes a _ r = r ≡ verdict_report (answer_of_audit (Ok a))
 
 -- the counts of a released stream were printed

@@ -1,7 +1,9 @@
 -- By what a stream is judged where nothing but the policy is asked for.
+use Rattle.std.specs.Prelude.{false}
 use Rattle.cm_attempt.specs.declared.policy.Policy.{Policy}
 use Rattle.cm_attempt.specs.declared.settings.Settings.{Settings}
 
--- the policy, and attempts counted from 0
+-- the policy, attempts counted from 0, and nothing declared again
 abbrev pub settings_of : Policy → Settings
-settings_of policy = record { policy = policy; first_attempt = 0 }
+settings_of policy =
+    record { policy = policy; first_attempt = 0; allows_redeclared = false }

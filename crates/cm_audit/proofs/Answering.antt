@@ -10,11 +10,12 @@ use Rattle.cm_envelope.specs.declared.feed.Trouble.{Trouble}
 use Rattle.cm_envelope.specs.declared.feed.Trouble.TheVariants.{ReadFailed, LineTooLong, StreamTooLong, Memory}
 use Rattle.cm_attempt.specs.declared.settings.Settings.{Settings}
 use Rattle.cm_stream.specs.Findings.{IsBad, stream_fault_named, NoEnvelope}
-use Rattle.cm_stream.specs.Stream.{Answer, Found, envelope_unless_blank, feed_of, verdict_in}
+use Rattle.cm_stream.specs.Stream.{Answer, Found, feed_of, verdict_in}
 use Rattle.cm_stream.specs.declared.verdict.Audited.{Audited}
 use Rattle.cm_state.specs.ByOnePass.{answer_of_line, answer_of_lines}
+use Rattle.cm_state.specs.StateChecks.{line_judged_by}
 use Rattle.cm_state.specs.Summary.{Summary, empty_summary}
-use Rattle.cm_audit.specs.Audit.{AnswersAs, ReadsNoFurther, ReadsUpTo, TakesLine, audited_at, contents}
+use Rattle.cm_audit.specs.Audit.{AnswersAs, ReadsNoFurther, ReadsUpTo, TakesLine, audited_at, contents, judged_line}
 use Rattle.cm_audit.specs.Judging.{HoldNoFault, JudgesAs, JudgesLine, TellsLine, judged, judged_from_first}
 use Rattle.cm_audit.specs.Stops.{unread_line}
 use Rattle.cm_audit.specs.State.{AreFewer, summary_of}
@@ -42,22 +43,23 @@ taken settings old new n (Some (Ok e)) more k = rw k.0 (ap more (sym k.1))
 -- ---- a line that isn't taken
 
 -- a line that isn't read
-unread : (settings : Settings) (old : State) (fault : EnvelopeFault) (r : Result Envelope LineFault) → FailsAtLine fault r → TakesLine settings old old (Some r) (Err (unread_line fault))
+unread : (settings : Settings) (old : State) (fault : EnvelopeFault) (r : Result Envelope LineFault) → FailsAtLine fault r → TakesLine settings old old (line_judged_by settings (summary_of old) (Some r)) (Err (unread_line fault))
 unread settings old (shape.Line line) r h = rw h refl
 unread settings old shape.Memory (Ok e) h = refl
 unread settings old shape.Memory (Err b) h = refl
 
-pub not_read : (settings : Settings) (old : State) (line : List ℕ) → is_blank line ≡ false → (fault : EnvelopeFault) → FailsAtLine fault (envelope_of_line line) → (why : Stop) → why ≡ unread_line fault → TakesLine settings old old (envelope_unless_blank line) (Err why)
+pub not_read : (settings : Settings) (old : State) (line : List ℕ) → is_blank line ≡ false → (fault : EnvelopeFault) → FailsAtLine fault (envelope_of_line line) → (why : Stop) → why ≡ unread_line fault → TakesLine settings old old (judged_line settings old line) (Err why)
 not_read settings old line filled fault h why e = rw (filled, e) (unread settings old fault (envelope_of_line line) h)
 
 -- nothing is told of it
-told_unread : (tells : Summary → Envelope → Type 0) (s : Summary) (fault : EnvelopeFault) (r : Result Envelope LineFault) → FailsAtLine fault r → TellsLine tells s (Some r) (Err (unread_line fault))
-told_unread tells s (shape.Line line) r h = rw h tt
-told_unread tells s shape.Memory (Ok e) h = tt
-told_unread tells s shape.Memory (Err b) h = tt
+told_unread : (tells : Summary → Envelope → Type 0) (settings : Settings) (s : Summary) (fault : EnvelopeFault) (r : Result Envelope LineFault) → FailsAtLine fault r → TellsLine tells s (line_judged_by settings s (Some r)) (Err (unread_line fault))
+told_unread tells settings s (shape.Line line) r h = rw h tt
+told_unread tells settings s shape.Memory (Ok e) h = tt
+told_unread tells settings s shape.Memory (Err b) h = tt
 
-pub not_told : (tells : Summary → Envelope → Type 0) (s : Summary) (line : List ℕ) → is_blank line ≡ false → (fault : EnvelopeFault) → FailsAtLine fault (envelope_of_line line) → (why : Stop) → why ≡ unread_line fault → TellsLine tells s (envelope_unless_blank line) (Err why)
-not_told tells s line filled fault h why e = rw (filled, e) (told_unread tells s fault (envelope_of_line line) h)
+pub not_told : (tells : Summary → Envelope → Type 0) (settings : Settings) (old : State) (line : List ℕ) → is_blank line ≡ false → (fault : EnvelopeFault) → FailsAtLine fault (envelope_of_line line) → (why : Stop) → why ≡ unread_line fault
+    → TellsLine tells (summary_of old) (judged_line settings old line) (Err why)
+not_told tells settings old line filled fault h why e = rw (filled, e) (told_unread tells settings (summary_of old) fault (envelope_of_line line) h)
 
 found : (settings : Settings) (old new : State) (n : ℕ) (r : Option (Result Envelope LineFault)) (more : Summary → Answer) (why : Stop) → TakesLine settings old new r (Err why)
     → AnswersAs (answer_of_line settings (summary_of old) n r more) (audited_at n why)
@@ -94,8 +96,8 @@ module _ {W : Type 0} (follows : W → List Envelope → Type 0) (tells : W → 
       let here : n ≡ m = omega (arith, count) in
       ap (λ (j : Judging W). answer_of_lines settings (summary_of j.state) n more t) (sym h) ∙ ap (λ k. answer_of_lines settings (summary_of new.state) k more t) here
   judges_each settings old new n m (l ∷ ls) more t own count h =
-      let k : TakesLine settings old.state h.0.state (envelope_unless_blank l) (Ok tt) = subst (λ (s : Settings). TakesLine s old.state h.0.state (envelope_unless_blank l) (Ok tt)) own h.1.taken in
-      taken settings old.state h.0.state n (envelope_unless_blank l) (λ (now : Summary). answer_of_lines settings now (n + 1) (ls ++ more) t) k
+      let k : TakesLine settings old.state h.0.state (judged_line settings old.state l) (Ok tt) = subst (λ (s : Settings). TakesLine s old.state h.0.state (judged_line s old.state l) (Ok tt)) own h.1.taken in
+      taken settings old.state h.0.state n (judged_line settings old.state l) (λ (now : Summary). answer_of_lines settings now (n + 1) (ls ++ more) t) k
       ∙ judges_each settings h.0 new (n + 1) m ls more t (h.1.settings ∙ own) (omega (arith, count)) h.2
 
   module _ (first : Judging W) (nothing : summary_of first.state ≡ empty_summary first.settings.first_attempt) where
@@ -121,12 +123,12 @@ module _ {W : Type 0} (follows : W → List Envelope → Type 0) (tells : W → 
     -- ---- a line that stops it
 
     pub stops_at : (new : Judging W) (answer : Result Audited Trouble) (bytes rest : List ℕ) (h : StopsAtLine (JudgesLine follows tells) first new answer bytes rest)
-        → TakesLine first.settings h.last.state new.state (envelope_unless_blank h.line) (Err h.why) → JudgesAs first.settings (audited_at (length h.before + 1) h.why) bytes rest
+        → TakesLine first.settings h.last.state new.state (judged_line first.settings h.last.state h.line) (Err h.why) → JudgesAs first.settings (audited_at (length h.before + 1) h.why) bytes rest
     stops_at new answer bytes rest h k =
         let n = length h.before + 1 in
         let left : judged first.settings bytes ≡ answer_of_lines first.settings (summary_of h.last.state) n (h.line ∷ h.after) (feed_of bytes).trouble = judged_after h.last bytes h.before (h.line ∷ h.after) (feed_of bytes).trouble h.cut refl h.taken in
         record {
-          told = rw left (found first.settings h.last.state new.state n (envelope_unless_blank h.line) (λ (now : Summary). answer_of_lines first.settings now (n + 1) h.after (feed_of bytes).trouble) h.why k);
+          told = rw left (found first.settings h.last.state new.state n (judged_line first.settings h.last.state h.line) (λ (now : Summary). answer_of_lines first.settings now (n + 1) h.after (feed_of bytes).trouble) h.why k);
           read_failed = λ e. absurd (never_failed n h.why e);
           ahead = up_to n h.why bytes rest h.no_further;
         }

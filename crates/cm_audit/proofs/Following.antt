@@ -14,6 +14,7 @@ use Rattle.cm_attempt.specs.declared.settings.Settings.{Settings}
 use Rattle.cm_stream.specs.ByOnePass.{fault, IsFaultless}
 use Rattle.cm_stream.specs.Findings.{IsBad, NoEnvelope, stream_fault_named}
 use Rattle.cm_stream.specs.Record.{table_of_envelopes}
+use Rattle.cm_stream.specs.Redeclared.{judged_after, judged_as, line_judged_as}
 use Rattle.cm_stream.specs.Stream.{IsGoodRun, as_read, envelopes, feed_of, nonblank_lines, read_line, envelope_unless_blank}
 use Rattle.cm_stream.specs.declared.verdict.Audited.{Audited}
 use Rattle.cm_stream.specs.declared.verdict.Counts.{Counts}
@@ -25,18 +26,18 @@ use Rattle.cm_stream.proofs.Streams.{answers_are_right}
 use Rattle.cm_stream.proofs.TableSteps.{none_is_refused}
 use Rattle.cm_stream.proofs.Tables.{tables_have_results}
 use Rattle.cm_state.specs.Laws.{answer_at_end}
-use Rattle.cm_state.specs.StateChecks.{finding_at_end}
+use Rattle.cm_state.specs.StateChecks.{finding_at_end, line_judged_by}
 use Rattle.cm_state.specs.Summary.{Summary, empty_summary}
 use Rattle.cm_state.specs.ByOnePass.{finding, summary_after_line, summary_of_lines}
 use Rattle.cm_state.proofs.Checked.{findings_are_faults}
-use Rattle.cm_state.proofs.Judged.{judged_is_told, none_yet, one_more_line}
+use Rattle.cm_state.proofs.Judged.{judged_is_told, none_yet, one_more_line, same_line}
 use Rattle.cm_state.proofs.Steps.{summaries_step}
-use Rattle.cm_audit.specs.Audit.{AnswersAs, GoodAtEnd, IsAuditOf, TakesLine, audited_at, unsuccessful}
+use Rattle.cm_audit.specs.Audit.{AnswersAs, GoodAtEnd, IsAuditOf, TakesLine, audited_at, judged_line, unsuccessful}
 use Rattle.cm_audit.specs.Judging.{FollowsAnswer, JudgesLine, JudgesWith, TellsAnswer, TellsLine, judged}
 use Rattle.cm_audit.specs.Taking.{StopsAtLine, TakesEach, TakesStream}
 use Rattle.cm_stream.specs.OnePass.{reads}
 use Rattle.cm_stream.proofs.OnePass.{is_read as reads_by_the_grammar}
-use Rattle.cm_audit.specs.Watched.{IsFollowed, IsToldAt, IsWatchedAuditOf, audit_in, envelope_in, envelopes_in, is_of_envelope, with_watch}
+use Rattle.cm_audit.specs.Watched.{IsFollowed, IsToldAt, IsWatchedAuditOf, audit_in, envelope_in, envelopes_in, is_of_envelope, judged_in, with_watch}
 use Rattle.cm_audit.specs.State.{summary_of}
 use Rattle.cm_audit.specs.declared.auditing.Judging.{Judging}
 use Rattle.cm_audit.specs.declared.auditing.WatchedAudit.{WatchedAudit}
@@ -80,6 +81,14 @@ kept_next settings old new (Some (Ok e)) es k none h =
     let more : IsFaultless settings (es ++ e ∷ []) = one_more_line settings es e none found in
     (more, k.1 ∙ ap (λ (s : Summary). summary_after_line s e) h ∙ sym (summaries_step settings es e more))
 
+-- what one line and the rest are judged as
+judged_next : (settings : Settings) (o : Option (Result Envelope LineFault)) (es rest : List Envelope) → es ++ judged_after settings es (envelope_in o ++ rest) ≡ (es ++ envelope_in (line_judged_as settings es o)) ++ judged_after settings (es ++ envelope_in (line_judged_as settings es o)) rest
+judged_next settings None es rest = ap (λ (xs : List Envelope). xs ++ judged_after settings xs rest) (sym (append-nil es))
+judged_next settings (Some (Err b)) es rest = ap (λ (xs : List Envelope). xs ++ judged_after settings xs rest) (sym (append-nil es))
+judged_next settings (Some (Ok e)) es rest =
+    let said = judged_as settings es e in
+    sym (append_assoc es (said ∷ []) (judged_after settings (es ++ said ∷ []) rest))
+
 -- a line that isn't an envelope has no fault of one
 not_of_envelope : (b : StreamFault) (f : LineFault) → Some (IsBad (NoEnvelope f)) ≡ Some (IsBad (stream_fault_named b)) → is_of_envelope b ≡ true → ⊥
 not_of_envelope (bad.NoEnvelope x) f e some = cc
@@ -92,18 +101,21 @@ record HasFollowed {W : Type 0} (settings : Settings) (follows : W → List Enve
   pub kept : summary_of now.state ≡ summary_of_lines settings.first_attempt es
 
 module _ {W : Type 0} (settings : Settings) (follows : W → List Envelope → Type 0) (tells : W → Summary → Envelope → Type 0) where
-  follows_next : (old new : Judging W) (l : List ℕ) (es : List Envelope) → old.settings ≡ settings → JudgesLine follows tells old l (Ok tt) new → HasFollowed settings follows es old → HasFollowed settings follows (es ++ envelope_in (envelope_unless_blank l)) new
+  follows_next : (old new : Judging W) (l : List ℕ) (es : List Envelope) → old.settings ≡ settings → JudgesLine follows tells old l (Ok tt) new → HasFollowed settings follows es old → HasFollowed settings follows (es ++ envelope_in (line_judged_as settings es (envelope_unless_blank l))) new
   follows_next old new l es own k h =
-      let taken : TakesLine settings old.state new.state (envelope_unless_blank l) (Ok tt) = subst (λ (s : Settings). TakesLine s old.state new.state (envelope_unless_blank l) (Ok tt)) own k.taken in
-      let kept = kept_next settings old.state new.state (envelope_unless_blank l) es taken h.faultless h.kept in
-      record { followed = k.followed es h.followed; faultless = kept.0; kept = kept.1 }
+      let o = envelope_unless_blank l in
+      let same : judged_line old.settings old.state l ≡ line_judged_as settings es o = ap (λ (s : Settings). judged_line s old.state l) own ∙ ap (λ (s : Summary). line_judged_by settings s o) h.kept ∙ same_line settings es o in
+      let judged : TakesLine old.settings old.state new.state (line_judged_as settings es o) (Ok tt) = subst (λ (r : Option (Result Envelope LineFault)). TakesLine old.settings old.state new.state r (Ok tt)) same k.taken in
+      let taken : TakesLine settings old.state new.state (line_judged_as settings es o) (Ok tt) = subst (λ (s : Settings). TakesLine s old.state new.state (line_judged_as settings es o) (Ok tt)) own judged in
+      let kept = kept_next settings old.state new.state (line_judged_as settings es o) es taken h.faultless h.kept in
+      record { followed = subst (λ (r : Option (Result Envelope LineFault)). follows new.watch (es ++ envelope_in r)) same (k.followed es h.followed); faultless = kept.0; kept = kept.1 }
 
-  follows_each : (old new : Judging W) (lines : List (List ℕ)) (es : List Envelope) → old.settings ≡ settings → TakesEach (JudgesLine follows tells) old lines new → HasFollowed settings follows es old → HasFollowed settings follows (es ++ envelopes_in lines) new
+  follows_each : (old new : Judging W) (lines : List (List ℕ)) (es : List Envelope) → old.settings ≡ settings → TakesEach (JudgesLine follows tells) old lines new → HasFollowed settings follows es old → HasFollowed settings follows (es ++ judged_after settings es (envelopes_in lines)) new
   follows_each old new [] es own k h =
       subst (HasFollowed settings follows (es ++ [])) (sym k) (subst (λ (xs : List Envelope). HasFollowed settings follows xs old) (sym (append-nil es)) h)
   follows_each old new (l ∷ ls) es own k h =
-      let e = envelope_in (envelope_unless_blank l) in
-      subst (λ (xs : List Envelope). HasFollowed settings follows xs new) (append_assoc es e (envelopes_in ls))
+      let e = envelope_in (line_judged_as settings es (envelope_unless_blank l)) in
+      subst (λ (xs : List Envelope). HasFollowed settings follows xs new) (sym (judged_next settings (envelope_unless_blank l) es (envelopes_in ls)))
       (follows_each k.0 new ls (es ++ e) (k.1.settings ∙ own) k.2 (follows_next old k.0 l es own k.1 h))
 
 -- ---- the answer
@@ -111,16 +123,17 @@ module _ {W : Type 0} (settings : Settings) (follows : W → List Envelope → T
 module _ (settings : Settings) (follows : List Envelope → Type 0) where
   -- a good stream's lines were all read
   followed_good : (bytes : List ℕ) (s : Summary) (counts : Counts) (success : Bool) (ls : List (List ℕ)) → AnswersAs (judged settings bytes) (Ok (record { verdict = verdict.Good counts; success = success }))
-      → (feed_of bytes).lines ≡ ls → follows (envelopes_in ls) → s.table ≡ table_of_envelopes settings.first_attempt (envelopes_in ls) → IsFollowed settings follows s.table bytes
+      → (feed_of bytes).lines ≡ ls → follows (judged_in settings ls) → s.table ≡ table_of_envelopes settings.first_attempt (judged_in settings ls) → IsFollowed settings follows s.table bytes
   followed_good bytes s counts success ls told all follow table =
       let answer : Result Audited Trouble = Ok (record { verdict = verdict.Good counts; success = success }) in
       let run : IsGoodRun settings bytes counts success = (answers_are_right settings bytes answer (told ∙ judged_is_told settings (feed_of bytes).lines (feed_of bytes).trouble)).good in
-      let es = envelopes run.lines in
-      let same : es ≡ envelopes_in ls = read_all 1 (feed_of bytes).lines run.lines run.read.read ∙ ap envelopes_in all in
+      let es = run.judged in
+      let said : envelopes run.read.lines ≡ envelopes_in ls = read_all 1 (feed_of bytes).lines run.read.lines run.read.read.read ∙ ap envelopes_in all in
+      let same : es ≡ judged_in settings ls = run.read.judged ∙ ap (judged_after settings []) said in
       let here : s.table ≡ table_of_envelopes settings.first_attempt es = table ∙ ap (table_of_envelopes settings.first_attempt) (sym same) in
       let accepted = none_is_refused settings es (good_have_no_fault settings es run.good).lines in
       record {
-        lines = run.lines;
+        judged = run.judged;
         read = run.read;
         good = run.good;
         followed = subst follows (sym same) follow;
@@ -134,25 +147,26 @@ not_followed settings follows table n stop.Memory xs = tt
 
 module _ {W : Type 0} (follows : W → List Envelope → Type 0) (tells : W → Summary → Envelope → Type 0) (first : Judging W) (nothing : summary_of first.state ≡ empty_summary first.settings.first_attempt) (start : follows first.watch []) where
   -- the lines so far were followed
-  so_far : (now : Judging W) (lines : List (List ℕ)) → TakesEach (JudgesLine follows tells) first lines now → HasFollowed first.settings follows (envelopes_in lines) now
+  so_far : (now : Judging W) (lines : List (List ℕ)) → TakesEach (JudgesLine follows tells) first lines now → HasFollowed first.settings follows (judged_in first.settings lines) now
   so_far now lines k = follows_each first.settings follows tells first now lines [] refl k (record { followed = start; faultless = none_yet first.settings; kept = nothing })
 
   told_at : (new : Judging W) (answer : Result Audited Trouble) (xs zs : List ℕ) (h : StopsAtLine (JudgesLine follows tells) first new answer xs zs) (why : Stop)
-      → TakesLine first.settings h.last.state new.state (envelope_unless_blank h.line) (Err why) → TellsLine (tells new.watch) (summary_of h.last.state) (envelope_unless_blank h.line) (Err why)
+      → TakesLine first.settings h.last.state new.state (judged_line first.settings h.last.state h.line) (Err why) → TellsLine (tells new.watch) (summary_of h.last.state) (judged_line first.settings h.last.state h.line) (Err why)
       → TellsAnswer first.settings (tells new.watch) xs (audited_at (length h.before + 1) why)
   told_at new answer xs zs h (stop.Unsupported r) k told = tt
   told_at new answer xs zs h stop.Memory k told = tt
-  told_at new answer xs zs h (stop.Bad b) k told = go (envelope_unless_blank h.line) refl k told
+  told_at new answer xs zs h (stop.Bad b) k told = go (judged_line first.settings h.last.state h.line) refl k told
     where
       es : List Envelope
-      es = envelopes_in h.before
+      es = judged_in first.settings h.before
 
-      go : (r : Option (Result Envelope LineFault)) → envelope_unless_blank h.line ≡ r → TakesLine first.settings h.last.state new.state r (Err (stop.Bad b)) → TellsLine (tells new.watch) (summary_of h.last.state) r (Err (stop.Bad b))
+      go : (r : Option (Result Envelope LineFault)) → judged_line first.settings h.last.state h.line ≡ r → TakesLine first.settings h.last.state new.state r (Err (stop.Bad b)) → TellsLine (tells new.watch) (summary_of h.last.state) r (Err (stop.Bad b))
           → is_of_envelope b ≡ true → IsToldAt first.settings (tells new.watch) xs (length h.before + 1) b
       go None is k told some = absurd k
       go (Some (Err f)) is k told some = absurd (not_of_envelope b f k some)
       go (Some (Ok e)) is k told some =
           let followed = so_far h.last h.before h.taken in
+          let o = envelope_unless_blank h.line in
           record {
             read = reads;
             by_the_grammar = reads_by_the_grammar;
@@ -162,7 +176,7 @@ module _ {W : Type 0} (follows : W → List Envelope → Type 0) (tells : W → 
             cut = h.cut;
             count = refl;
             said = e;
-            is_read = is;
+            is_judged = sym (same_line first.settings es o) ∙ ap (λ (s : Summary). line_judged_by first.settings s o) (sym followed.kept) ∙ is;
             faultless = followed.faultless;
             why = sym (findings_are_faults first.settings es e followed.faultless) ∙ ap (λ (s : Summary). finding first.settings s e) (sym followed.kept) ∙ k;
             told = subst (λ (s : Summary). tells new.watch s e) followed.kept told;
@@ -171,12 +185,13 @@ module _ {W : Type 0} (follows : W → List Envelope → Type 0) (tells : W → 
   stops_with : (table : Table) (new : Judging W) (answer : Result Audited Trouble) (xs zs : List ℕ) → StopsAtLine (JudgesLine follows tells) first new answer xs zs → JudgesWith first.settings (follows new.watch) (tells new.watch) table answer xs zs
   stops_with table new answer xs zs h =
       let own : h.last.settings ≡ first.settings = same_settings follows tells first h.last h.before h.taken in
-      let k : TakesLine first.settings h.last.state new.state (envelope_unless_blank h.line) (Err h.why) = subst (λ (s : Settings). TakesLine s h.last.state new.state (envelope_unless_blank h.line) (Err h.why)) own h.stopped.taken in
+      let k : TakesLine first.settings h.last.state new.state (judged_line first.settings h.last.state h.line) (Err h.why) = subst (λ (s : Settings). TakesLine s h.last.state new.state (judged_line s h.last.state h.line) (Err h.why)) own h.stopped.taken in
+      let told = subst (λ (s : Settings). TellsLine (tells new.watch) (summary_of h.last.state) (judged_line s h.last.state h.line) (Err h.why)) own h.stopped.told in
       subst (λ (a : Result Audited Trouble). JudgesWith first.settings (follows new.watch) (tells new.watch) table a xs zs) (sym h.answers)
       (record {
         judges = stops_at follows tells first nothing new answer xs zs h k;
         follows_it = not_followed first.settings (follows new.watch) table (length h.before + 1) h.why xs;
-        told = told_at new answer xs zs h h.why k h.stopped.told;
+        told = told_at new answer xs zs h h.why k told;
       })
 
   ended_with : (table : Table) (new : Judging W) (answer : Result Audited Trouble) (xs zs : List ℕ) → TakesStream (JudgesLine follows tells) first new (Err answer) xs zs → JudgesWith first.settings (follows new.watch) (tells new.watch) table answer xs zs

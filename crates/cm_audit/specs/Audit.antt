@@ -10,12 +10,13 @@ use Rattle.cm_envelope.specs.declared.feed.Trouble.{Trouble}
 use Rattle.cm_envelope.specs.declared.feed.Trouble.TheVariants.{ReadFailed, Memory}
 use Rattle.cm_attempt.specs.declared.settings.Settings.{Settings}
 use Rattle.cm_stream.specs.Findings.{IsBad, NoEnvelope}
-use Rattle.cm_stream.specs.Stream.{FirstFault, IsFirstFault, IsFirstFaultOf, IsGoodRun, GoodWith, Answer, GoodRunsOnly, NoneIsGood, Troubled, feed_of, answer_of_audit, answer_for, verdict_in}
+use Rattle.cm_stream.specs.Stream.{FirstFault, IsFirstFault, IsFirstFaultOf, IsGoodRun, GoodWith, Answer, GoodRunsOnly, NoneIsGood, Troubled, envelope_unless_blank, feed_of, answer_of_audit, answer_for, verdict_in}
 use Rattle.cm_stream.specs.Unsupported.{ShowsReason}
 use Rattle.cm_stream.specs.declared.verdict.Counts.{Counts}
 use Rattle.cm_stream.specs.declared.verdict.Audited.{Audited}
 use Rattle.cm_stream.specs.declared.verdict.Verdict.{Verdict}
 use Rattle.cm_stream.specs.declared.verdict.Verdict.TheVariants as verdict
+use Rattle.cm_state.specs.StateChecks.{line_judged_by}
 use Rattle.cm_audit.specs.State.{Takes, Refuses, summary_of}
 use Rattle.cm_audit.specs.declared.state.State.{State}
 use Rattle.cm_audit.specs.declared.stop.Stop.{Stop}
@@ -153,6 +154,11 @@ IsVerdictOf settings v before after =
     × Audits settings answer before after
 
 -- ---- a line
+
+-- what a line is judged as, by what is kept of the lines before it
+abbrev pub judged_line : Settings → State → List ℕ → Option (Result Envelope LineFault)
+judged_line settings s line =
+    line_judged_by settings (summary_of s) (envelope_unless_blank line)
 
 -- what a line that is read so leaves
 abbrev pub TakesLine : Settings → (old new : State) → Option (Result Envelope LineFault)

@@ -8,11 +8,11 @@ use Rattle.cm_envelope.specs.declared.feed.Trouble.{Trouble}
 use Rattle.cm_envelope.specs.declared.feed.Trouble.TheVariants.{ReadFailed}
 use Rattle.cm_attempt.specs.Table.{Table}
 use Rattle.cm_attempt.specs.declared.settings.Settings.{Settings}
-use Rattle.cm_stream.specs.Stream.{Answer, Failed, envelope_unless_blank, feed_of, verdict_in}
+use Rattle.cm_stream.specs.Stream.{Answer, Failed, feed_of, verdict_in}
 use Rattle.cm_stream.specs.declared.verdict.Audited.{Audited}
 use Rattle.cm_state.specs.Summary.{Summary, empty_summary}
 use Rattle.cm_state.specs.ByOnePass.{answer_of_lines}
-use Rattle.cm_audit.specs.Audit.{AnswersAs, Begins, ReadsUpTo, TakesLine, all_written, contents}
+use Rattle.cm_audit.specs.Audit.{AnswersAs, Begins, ReadsUpTo, TakesLine, all_written, contents, judged_line}
 use Rattle.cm_audit.specs.State.{summary_of}
 use Rattle.cm_audit.specs.Watched.{FollowsGood, TellsVerdict, envelope_in}
 use Rattle.cm_audit.specs.declared.auditing.Judging.{Judging}
@@ -55,11 +55,12 @@ pub record JudgesLine {W : Type 0} (follows : W → List Envelope → Type 0)
     (tells : W → Summary → Envelope → Type 0) (old : Judging W) (line : List ℕ)
     (result : Result ⊤ Stop) (new : Judging W) : Type 0 where
   pub settings : new.settings ≡ old.settings
-  pub taken : TakesLine old.settings old.state new.state (envelope_unless_blank line) result
+  pub taken : TakesLine old.settings old.state new.state
+      (judged_line old.settings old.state line) result
   pub followed : OnOk result ((es : List Envelope) → follows old.watch es
-      → follows new.watch (es ++ envelope_in (envelope_unless_blank line)))
-  pub told : TellsLine (tells new.watch) (summary_of old.state) (envelope_unless_blank line)
-      result
+      → follows new.watch (es ++ envelope_in (judged_line old.settings old.state line)))
+  pub told : TellsLine (tells new.watch) (summary_of old.state)
+      (judged_line old.settings old.state line) result
 
 -- what is told at a fault, where the answer is one
 abbrev pub TellsAnswer : Settings → (tells : Summary → Envelope → Type 0) → List ℕ

@@ -14,7 +14,8 @@ use Rattle.cm_stream.specs.Texts.{Utf8}
 use Rattle.cm_stream.specs.Findings.{IsBad, stream_fault_named}
 use Rattle.cm_stream.specs.Good.{Good}
 use Rattle.cm_stream.specs.Results.{results_of}
-use Rattle.cm_stream.specs.Stream.{IsRead, envelopes, feed_of, envelope_unless_blank}
+use Rattle.cm_stream.specs.Redeclared.{judged_after, line_judged_as}
+use Rattle.cm_stream.specs.Stream.{IsReadAs, feed_of, envelope_unless_blank}
 use Rattle.cm_stream.specs.declared.verdict.Audited.{Audited}
 use Rattle.cm_stream.specs.declared.verdict.StreamFault.{StreamFault}
 use Rattle.cm_stream.specs.declared.verdict.StreamFault.TheVariants as bad
@@ -33,16 +34,21 @@ envelope_in _ = []
 abbrev pub envelopes_in : List (List ℕ) → List Envelope
 envelopes_in lines = flat_map (λ l. envelope_in (envelope_unless_blank l)) lines
 
+-- what they are judged as
+abbrev pub judged_in : Settings → List (List ℕ) → List Envelope
+judged_in settings lines = judged_after settings [] (envelopes_in lines)
+
 -- ---- of a good stream
 
--- The bytes are those of a good stream. `follows` holds of the stream's envelopes, and the table has the results of their cases.
+-- The bytes are those of a good stream. `follows` holds of its envelopes as they are judged, and the table has the results of
+-- their cases.
 pub record IsFollowed (settings : Settings) (follows : List Envelope → Type 0) (table : Table)
     (bytes : List ℕ) : Type 0 where
-  pub lines : List (ℕ × Envelope)
-  pub read : IsRead bytes lines
-  pub good : Good settings (envelopes lines)
-  pub followed : follows (envelopes lines)
-  pub results : case_results table ≡ results_of (envelopes lines)
+  pub judged : List Envelope
+  pub read : IsReadAs settings bytes judged
+  pub good : Good settings judged
+  pub followed : follows judged
+  pub results : case_results table ≡ results_of judged
 
 -- that, where the verdict is Good
 abbrev pub FollowsGood : Settings → (List Envelope → Type 0) → Table → List ℕ → Verdict → Type 0
@@ -59,7 +65,7 @@ FollowsWatched settings follows bytes (Err t) = ⊤
 
 -- ---- at a fault
 
--- Line n of the bytes, counted from 1, is read as an envelope that has this fault, and no line before it has one. `tells`
+-- Line n of the bytes, counted from 1, is judged as an envelope that has this fault, and no line before it has one. `tells`
 -- holds of what those lines leave and of the envelope. Texts are read by the grammar.
 pub record IsToldAt (settings : Settings) (tells : Summary → Envelope → Type 0) (bytes : List ℕ)
     (n : ℕ) (b : StreamFault) : Type 0 where
@@ -71,11 +77,13 @@ pub record IsToldAt (settings : Settings) (tells : Summary → Envelope → Type
   pub cut : (feed_of bytes).lines ≡ before ++ line ∷ after
   pub count : n ≡ length before + 1
   pub said : Envelope
-  pub is_read : envelope_unless_blank line ≡ Some (Ok said)
-  pub faultless : IsFaultlessBy read settings (envelopes_in before)
-  pub why : fault_by read settings (envelopes_in before) said
+  pub is_judged : line_judged_as settings (judged_in settings before) (envelope_unless_blank line)
+      ≡ Some (Ok said)
+  pub faultless : IsFaultlessBy read settings (judged_in settings before)
+  pub why : fault_by read settings (judged_in settings before) said
       ≡ Some (IsBad (stream_fault_named b))
-  pub told : tells (summary_of_lines_by read settings.first_attempt (envelopes_in before)) said
+  pub told : tells (summary_of_lines_by read settings.first_attempt (judged_in settings before))
+      said
 
 -- a fault of an envelope, and not of a line that is none, or of the end
 abbrev pub is_of_envelope : StreamFault → Bool

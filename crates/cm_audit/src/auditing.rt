@@ -4,16 +4,16 @@ ghost use Rattle.cm_envelope.specs.Device.{CountsFailure, OfInput, OfReads};
 ghost use Rattle.cm_envelope.specs.declared.envelope.Envelope.{Envelope as SomeEnvelope};
 ghost use Rattle.cm_envelope.specs.declared.feed.Trouble.TheVariants.{ReadFailed};
 ghost use Rattle.cm_attempt.specs.Settings.{settings_of};
-ghost use Rattle.cm_stream.specs.Stream.{NoneIsGood, envelope_unless_blank, verdict_in};
+ghost use Rattle.cm_stream.specs.Stream.{NoneIsGood, verdict_in};
 ghost use Rattle.cm_audit.specs.Audit.{AnswersTold, Audits, DecidesGood, GoodAtEnd, GoodHeard, IsVerdictOf, ReadsUpTo};
-ghost use Rattle.cm_audit.specs.Audit.{ShowNoFault, ShowsUnsupported, TakesLine};
+ghost use Rattle.cm_audit.specs.Audit.{ShowNoFault, ShowsUnsupported, TakesLine, judged_line};
 ghost use Rattle.cm_envelope.specs.Feeds.{is_failed_read};
 ghost use Rattle.cm_audit.specs.Judging.{JudgesLine, JudgesWith, TellsLine};
 ghost use Rattle.cm_audit.specs.Watched.{IsWatchedAuditOf, audit_in, envelope_in, with_watch};
 ghost use Rattle.cm_audit.specs.State.{AreFewer, Takes, summary_of};
 ghost use Rattle.cm_state.specs.Summary.{empty_summary};
 
-use crate::judge::judge;
+use crate::judge::{judge, judged_as};
 use crate::limits::MOST;
 use crate::lines::{TakeLines, take_lines};
 use crate::state::State;
@@ -57,17 +57,21 @@ fn take_line<W: Watch>(
     settings: Settings,
 ) -> Result<(), Stop>
     requires few { AreFewer MOST state.old.counts }
-    ensures taken { TakesLine settings state.old state.new (envelope_unless_blank line.now) result }
+    ensures taken { TakesLine settings state.old state.new
+        (judged_line settings state.old line.now) result }
     ensures followed { OnOk result ((es : List SomeEnvelope) → W.follows watch.old es
-        → W.follows watch.new (es ++ envelope_in (envelope_unless_blank line.now))) }
+        → W.follows watch.new (es ++ envelope_in (judged_line settings state.old line.now))) }
     ensures told { TellsLine (W.tells watch.new) (summary_of state.old)
-        (envelope_unless_blank line.now) result }
+        (judged_line settings state.old line.now) result }
 {
     if is_blank_line(line) {
         return Ok(());
     }
     match read_envelope(alloc, line) {
-        Ok(envelope) => take_envelope(alloc, state, watch, envelope, settings),
+        Ok(envelope) => {
+            let envelope = judged_as(state, envelope, settings);
+            take_envelope(alloc, state, watch, envelope, settings)
+        }
         Err(fault) => Err(Stop::from(fault)),
     }
 }
@@ -190,7 +194,8 @@ fn audit_in<W: Drop>(watched: Result<WatchedAudit<W>, Trouble>) -> Result<Audite
 /// an earlier declaration, every attempt started and finished each step of its test case once, in order, and success is
 /// reported exactly if every test case's final attempt is at worst of a good status and nothing outside the attempts failed: no
 /// source is refused, each run hook is at worst of a good status, and there is no exception. The settings say which statuses
-/// are good, and from which number the attempts of a test case are counted.
+/// are good, from which number the attempts of a test case are counted, and whether a hook or a step definition that is declared
+/// again is passed over.
 ///
 /// The verdict is Good with the stream's counts, or the first line that has a fault, or that shows why the stream is not
 /// judged. Lines count from 1, with the blank ones; a fault at the end has the line after the last one. Judging stops at

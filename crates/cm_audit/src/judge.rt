@@ -1,7 +1,9 @@
 //! One line of a stream.
 ghost use Rattle.std.specs.Prelude.{◌≡◌};
 ghost use Rattle.cm_stream.specs.References.{is_judged};
-ghost use Rattle.cm_audit.specs.State.{AreFewer, JudgesBy, Takes};
+ghost use Rattle.cm_stream.specs.Redeclared.{passed_over};
+ghost use Rattle.cm_state.specs.StateChecks.{is_redeclared_by, judged_by};
+ghost use Rattle.cm_audit.specs.State.{AreFewer, JudgesBy, Takes, summary_of};
 
 use crate::judge_cases::judge_case;
 use crate::judge_features::{
@@ -16,7 +18,7 @@ use crate::limits::MOST;
 use crate::state::State;
 use crate::stop::Stop;
 use cm_attempt::{Policy, Settings};
-use cm_envelope::Envelope;
+use cm_envelope::{Attachment, Envelope};
 use cm_stream::StreamFault;
 
 /// Judges an envelope of which no check comes after the end of the run, and takes it where it has no fault.
@@ -43,6 +45,40 @@ fn judge_inside(state: &mut State, envelope: Envelope, policy: Policy) -> Result
         Envelope::TestRunHookFinished(finished) => judge_run_hook_finished(state, &finished),
         Envelope::Other => Ok(()),
     }
+}
+
+/// Whether an envelope is a hook or a step definition of an id that is kept already.
+fn is_redeclared(state: &State, envelope: &Envelope) -> bool
+    ensures { result ≡ is_redeclared_by (summary_of state.now) envelope.now }
+{
+    match envelope {
+        Envelope::Hook(hook) => state.declared.has_hook(hook.id.as_str()),
+        Envelope::StepDefinition(definition) => {
+            state.declared.has_definition(definition.id.as_str())
+        }
+        _ => false,
+    }
+}
+
+/// An attachment that names nothing.
+fn passed_over() -> Envelope
+    ensures { result ≡ passed_over }
+{
+    Envelope::Attachment(Attachment {
+        test_case_started_id: None,
+        test_step_id: None,
+    })
+}
+
+/// What an envelope is judged as: one that is declared again is passed over, where the settings allow it.
+pub(crate) fn judged_as(state: &State, envelope: Envelope, settings: Settings) -> Envelope
+    ensures { result ≡ judged_by settings (summary_of state.now) envelope }
+{
+    if settings.allows_redeclared && is_redeclared(state, &envelope) {
+        drop(envelope);
+        return passed_over();
+    }
+    envelope
 }
 
 /// Whether an envelope is of a kind that is judged.

@@ -23,7 +23,7 @@ use Rattle.cm_state.specs.Summary.{Summary, summary_of_lines_by}
 use Rattle.cm_state.specs.ByOnePass.{summary_of_lines}
 use Rattle.cm_differs.specs.declared.difference.Difference.{Difference}
 use Rattle.cm_audit.specs.Audit.{GoodAtEnd}
-use Rattle.cm_audit.specs.Watched.{IsToldAt, IsWatchedAuditOf, TellsVerdict, audit_in, envelopes_in}
+use Rattle.cm_audit.specs.Watched.{IsToldAt, IsWatchedAuditOf, TellsVerdict, audit_in, judged_in}
 use Rattle.cm_audit.specs.declared.auditing.WatchedAudit.{WatchedAudit}
 use Rattle.cm_audit_differs.specs.DifferenceAudit.{audited_of, DiffersBy, IsDifferenceAt, IsDifferenceBy, IsDiffersAuditOf, reported, with_difference}
 use Rattle.cm_audit_differs.specs.SourceDifference.{Differs}
@@ -41,9 +41,9 @@ record ToldInOnePass (settings : Settings) (o : Option Difference) (es : List En
   told : Tells o (summary_of_lines settings.first_attempt es) e
 
 in_one_pass : (settings : Settings) (bytes : List ℕ) (n : ℕ) (b : StreamFault) (o : Option Difference) (h : IsToldAt settings (Tells o) bytes n b)
-    → ToldInOnePass settings o (envelopes_in h.before) h.said b
+    → ToldInOnePass settings o (judged_in settings h.before) h.said b
 in_one_pass settings bytes n b o h =
-    let es = envelopes_in h.before in
+    let es = judged_in settings h.before in
     let same : h.read ≡ reads = sym (same_reads h.read h.by_the_grammar) in
     record {
       faultless = subst (λ (z : Utf8 → Reading). IsFaultlessBy z settings es) same h.faultless;
@@ -52,7 +52,7 @@ in_one_pass settings bytes n b o h =
     }
 
 module _ (settings : Settings) (bytes : List ℕ) (n : ℕ) where
-  placed : (b : StreamFault) (o held : Option Difference) (h : IsToldAt settings (Tells held) bytes n b) → ToldInOnePass settings held (envelopes_in h.before) h.said b → IsSomeAnd o (IsDifferenceBy reads (envelopes_in h.before) h.said) → IsSomeAnd o (IsDifferenceAt settings bytes n b)
+  placed : (b : StreamFault) (o held : Option Difference) (h : IsToldAt settings (Tells held) bytes n b) → ToldInOnePass settings held (judged_in settings h.before) h.said b → IsSomeAnd o (IsDifferenceBy reads (judged_in settings h.before) h.said) → IsSomeAnd o (IsDifferenceAt settings bytes n b)
   placed b None held h p d = absurd d
   placed b (Some x) held h p d = record {
     read = reads;
@@ -63,7 +63,7 @@ module _ (settings : Settings) (bytes : List ℕ) (n : ℕ) where
     cut = h.cut;
     count = h.count;
     said = h.said;
-    is_read = h.is_read;
+    is_judged = h.is_judged;
     why = p.why;
     differs = d;
   }
@@ -72,15 +72,15 @@ module _ (settings : Settings) (bytes : List ℕ) (n : ℕ) where
   at_fault bad.TreeDiffers o told =
       let h = told refl in
       let p = in_one_pass settings bytes n bad.TreeDiffers o h in
-      placed bad.TreeDiffers o o h p (tree_differs settings (envelopes_in h.before) p.faultless h.said o p.why p.told)
+      placed bad.TreeDiffers o o h p (tree_differs settings (judged_in settings h.before) p.faultless h.said o p.why p.told)
   at_fault bad.PickleDiffers o told =
       let h = told refl in
       let p = in_one_pass settings bytes n bad.PickleDiffers o h in
-      placed bad.PickleDiffers o o h p (pickle_differs settings (envelopes_in h.before) p.faultless h.said o p.why p.told)
+      placed bad.PickleDiffers o o h p (pickle_differs settings (judged_in settings h.before) p.faultless h.said o p.why p.told)
   at_fault bad.SourceIncomplete o told =
       let h = told refl in
       let p = in_one_pass settings bytes n bad.SourceIncomplete o h in
-      placed bad.SourceIncomplete o o h p (source_lacks settings (envelopes_in h.before) p.faultless h.said o p.why p.told)
+      placed bad.SourceIncomplete o o h p (source_lacks settings (judged_in settings h.before) p.faultless h.said o p.why p.told)
   at_fault _ o told = refl
 
 differs_by : (settings : Settings) (bytes : List ℕ) (v : Verdict) (o : Option Difference) → TellsVerdict settings (Tells o) bytes v → DiffersBy settings bytes v (reported v o)

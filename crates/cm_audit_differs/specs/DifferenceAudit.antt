@@ -11,6 +11,7 @@ use Rattle.cm_stream.specs.Checks.{document_ids, fault_by, is_incomplete_by, nex
 use Rattle.cm_stream.specs.Findings.{IsBad, stream_fault_named}
 use Rattle.cm_stream.specs.Readings.{Reading, Accepted, ReadsByTheGrammar}
 use Rattle.cm_stream.specs.References.{documents_of, pickles_of, reading_of_by, sources}
+use Rattle.cm_stream.specs.Redeclared.{line_judged_as}
 use Rattle.cm_stream.specs.Stream.{feed_of, envelope_unless_blank}
 use Rattle.cm_stream.specs.Texts.{Utf8}
 use Rattle.cm_stream.specs.declared.verdict.Audited.{Audited}
@@ -21,7 +22,7 @@ use Rattle.cm_stream.specs.declared.verdict.Verdict.TheVariants as verdict
 use Rattle.cm_differs.specs.Differences.{IsTreeDifference, missing_document, missing_pickle, pickle_difference}
 use Rattle.cm_differs.specs.declared.difference.Difference.{Difference}
 use Rattle.cm_audit.specs.Audit.{IsAuditOf}
-use Rattle.cm_audit.specs.Watched.{envelopes_in}
+use Rattle.cm_audit.specs.Watched.{judged_in}
 use Rattle.cm_audit.specs.declared.auditing.WatchedAudit.{WatchedAudit}
 use Rattle.cm_audit_differs.specs.declared.audited_difference.AuditedDifference.{AuditedDifference}
 use Rattle.cm_audit_differs.specs.declared.source_difference.DifferenceWatch.{DifferenceWatch}
@@ -51,7 +52,7 @@ IsDifferenceBy read before (envelope.TestRunFinished f) d =
     × (missing_of before s.uri (read s.content) ≡ Some d)
 IsDifferenceBy read before _ d = ⊥
 
--- Line n of the bytes, counted from 1, is read as an envelope that has this fault after those of the lines before it, and that
+-- Line n of the bytes, counted from 1, is judged as an envelope that has this fault after those of the lines before it, and that
 -- is the difference. Texts are read by the grammar.
 pub record IsDifferenceAt (settings : Settings) (bytes : List ℕ) (n : ℕ) (b : StreamFault)
     (d : Difference) : Type 0 where
@@ -63,9 +64,11 @@ pub record IsDifferenceAt (settings : Settings) (bytes : List ℕ) (n : ℕ) (b 
   pub cut : (feed_of bytes).lines ≡ before ++ line ∷ after
   pub count : n ≡ length before + 1
   pub said : Envelope
-  pub is_read : envelope_unless_blank line ≡ Some (Ok said)
-  pub why : fault_by read settings (envelopes_in before) said ≡ Some (IsBad (stream_fault_named b))
-  pub differs : IsDifferenceBy read (envelopes_in before) said d
+  pub is_judged : line_judged_as settings (judged_in settings before) (envelope_unless_blank line)
+      ≡ Some (Ok said)
+  pub why : fault_by read settings (judged_in settings before) said
+      ≡ Some (IsBad (stream_fault_named b))
+  pub differs : IsDifferenceBy read (judged_in settings before) said d
 
 -- ---- the audit with its difference
 

@@ -9,7 +9,6 @@ use Rattle.cm_envelope.specs.declared.feed.Trouble.TheVariants.{Memory}
 use Rattle.cm_envelope.proofs.Sources.{reads_weaker}
 use Rattle.cm_state.specs.Summary.{Summary}
 use Rattle.cm_stream.specs.Release.{Conditions}
-use Rattle.cm_stream.specs.Stream.{envelopes}
 use Rattle.cm_stream.specs.declared.conditions.ReleaseCounts.{ReleaseCounts}
 use Rattle.cm_stream.specs.declared.verdict.Audited.{Audited}
 use Rattle.cm_stream.specs.declared.verdict.Verdict.{Verdict}
@@ -42,10 +41,10 @@ memory_too settings answer xs ys h = record {
 counted_by : (settings : Settings) (asked : Conditions) (watch : ReleaseWatch) (table : Table) (found : ReleaseCounts) (xs : List ℕ) (v : Verdict)
     → FollowsGood settings (Keeps watch) table xs v → IsFoundIn asked settings.policy watch.kept v found → CountsGood settings asked found xs v
 counted_by settings asked watch table found xs (verdict.Good counts) h k = record {
-  lines = h.lines;
+  judged = h.judged;
   read = h.read;
   good = h.good;
-  counted = k ∙ ap (counts_in asked settings.policy) h.followed.0 ∙ counts_same asked settings (envelopes h.lines) h.good;
+  counted = k ∙ ap (counts_in asked settings.policy) h.followed.0 ∙ counts_same asked settings h.judged h.good;
 }
 counted_by settings asked watch table found xs (verdict.Bad n b) h k = tt
 counted_by settings asked watch table found xs (verdict.Unsupported n r) h k = tt

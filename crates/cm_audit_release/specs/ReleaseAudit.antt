@@ -7,7 +7,7 @@ use Rattle.cm_attempt.specs.declared.policy.Policy.{Policy}
 use Rattle.cm_attempt.specs.declared.settings.Settings.{Settings}
 use Rattle.cm_stream.specs.Good.{Good}
 use Rattle.cm_stream.specs.Release.{Conditions, release_counts_of}
-use Rattle.cm_stream.specs.Stream.{IsRead, envelopes}
+use Rattle.cm_stream.specs.Stream.{IsReadAs}
 use Rattle.cm_stream.specs.declared.conditions.ReleaseCounts.{ReleaseCounts}
 use Rattle.cm_stream.specs.declared.verdict.Audited.{Audited}
 use Rattle.cm_stream.specs.declared.verdict.Verdict.{Verdict}
@@ -26,10 +26,10 @@ audited_in (Err t) = Err t
 -- The bytes are those of a good stream, and this is what is counted of its envelopes.
 pub record IsCounted (settings : Settings) (asked : Conditions) (found : ReleaseCounts)
     (bytes : List ℕ) : Type 0 where
-  pub lines : List (ℕ × Envelope)
-  pub read : IsRead bytes lines
-  pub good : Good settings (envelopes lines)
-  pub counted : found ≡ release_counts_of asked settings.policy (envelopes lines)
+  pub judged : List Envelope
+  pub read : IsReadAs settings bytes judged
+  pub good : Good settings judged
+  pub counted : found ≡ release_counts_of asked settings.policy judged
 
 -- that, where the verdict is Good
 abbrev pub CountsGood : Settings → Conditions → ReleaseCounts → List ℕ → Verdict → Type 0

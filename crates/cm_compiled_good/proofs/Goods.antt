@@ -7,11 +7,15 @@ use Rattle.gk_document.specs.declared.tree.Document.{Document}
 use Rattle.gk_pickle.specs.declared.pickle.Pickle.{Pickle}
 use Rattle.gk_pickle.specs.Pickles.{pickles as compiled}
 use Rattle.cm_attempt.specs.declared.settings.Settings.{Settings}
+use Rattle.cm_envelope.specs.declared.envelope.Envelope.{Envelope}
+use Rattle.cm_envelope.specs.declared.envelope.Envelope.TheVariants as envelope
 use Rattle.cm_stream.specs.Good.{Good}
+use Rattle.cm_stream.specs.Redeclared.{judged_after}
 use Rattle.cm_stream.specs.Stream.{feed_of, IsRead, IsGoodStream, envelopes, counts_of, unrun_count}
 use Rattle.cm_stream.specs.References.{sources, pickles, cases, starts, as_source, as_case, as_start, run_succeeded}
 use Rattle.cm_stream.proofs.FaultlessGood.{faultless_are_good}
-use Rattle.cm_read_back.specs.Documents.{IsReadable}
+use Rattle.cm_read_back.specs.Documents.{IsReadable, document_read}
+use Rattle.cm_read_back.specs.Pickles.{pickle_read, source_read}
 use Rattle.cm_compile.specs.Compiled.{id_count}
 use Rattle.cm_compiled_good.specs.Law.{stream_of, counts_for}
 use Rattle.cm_compiled_good.proofs.Faultless.{Known, none_faulty}
@@ -48,6 +52,21 @@ counts_are uri text d =
       unrun = sym free i;
     }
 
+-- ---- what is judged
+
+pickles_as_they_are : (settings : Settings) (uri : List ℕ) (id : ℕ) (ps : List Pickle) (before : List Envelope) → judged_after settings before (pickle_envelopes uri id ps ++ run_envelopes) ≡ pickle_envelopes uri id ps ++ run_envelopes
+pickles_as_they_are settings uri id [] before = refl
+pickles_as_they_are settings uri id (p ∷ ps) before =
+    let e = envelope.Pickle (pickle_read uri id p) in
+    ap (λ es. e ∷ es) (pickles_as_they_are settings uri (id + id_count p) ps (before ++ e ∷ []))
+
+-- none of the envelopes is declared again
+as_they_are : (settings : Settings) (uri text : List ℕ) (d : Document) → judged_after settings [] (expected uri text d) ≡ expected uri text d
+as_they_are settings uri text d =
+    let source = envelope.Source (source_read uri text) in
+    let document = envelope.GherkinDocument (document_read uri d) in
+    ap (λ es. source ∷ document ∷ es) (pickles_as_they_are settings uri d.nodes (compiled d) (source ∷ document ∷ []))
+
 -- ---- the stream
 
 pub good_if_plain : (settings : Settings) (uri text : List ℕ) (d : Document) → IsReadable d → Known uri text d → ArePlain uri text d → (feed_of (stream_of uri text d)).trouble ≡ None → IsGoodStream settings (stream_of uri text d) (counts_for d)
@@ -58,12 +77,16 @@ good_if_plain settings uri text d readable k plain fits =
     they_are_read (all_texts uri text d) es (all_lines uri text d readable plain) (ap (λ (bytes : List ℕ). (feed_of bytes).trouble) joined ∙ fits) in
     let good : Good settings es = faultless_are_good settings es (none_faulty settings uri text d k) in
     let same : envelopes (with_numbers 1 es) ≡ es = numbers_off 1 es in (
-      run_succeeded (envelopes (with_numbers 1 es)),
+      run_succeeded es,
       record {
-        lines = with_numbers 1 es;
-        read = subst (λ bytes. IsRead bytes (with_numbers 1 es)) joined read;
-        good = subst (Good settings) (sym same) good;
-        exact = counts_are uri text d ∙ ap counts_of (sym same);
+        judged = es;
+        read = record {
+          lines = with_numbers 1 es;
+          read = subst (λ bytes. IsRead bytes (with_numbers 1 es)) joined read;
+          judged = sym (as_they_are settings uri text d) ∙ ap (judged_after settings []) (sym same);
+        };
+        good = good;
+        exact = counts_are uri text d;
         said = refl;
       },
     )

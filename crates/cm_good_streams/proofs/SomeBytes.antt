@@ -38,8 +38,8 @@ refused_read = refl
 
 retried_run : IsGoodRun strict (bytes_of retried_lines) (counts 1 1 1 2) true
 retried_run = record {
-  lines = enumerate_from 1 retried;
-  read = record { no_trouble = refl; read = retried_read };
+  judged = retried;
+  read = record { lines = enumerate_from 1 retried; read = record { no_trouble = refl; read = retried_read }; judged = refl };
   good = retried_are_good;
   exact = refl;
   said = refl;
@@ -47,8 +47,8 @@ retried_run = record {
 
 interleaved_run : IsGoodRun strict (bytes_of interleaved_lines) (counts 2 2 2 2) true
 interleaved_run = record {
-  lines = enumerate_from 1 interleaved;
-  read = record { no_trouble = refl; read = interleaved_read };
+  judged = interleaved;
+  read = record { lines = enumerate_from 1 interleaved; read = record { no_trouble = refl; read = interleaved_read }; judged = refl };
   good = interleaved_are_good;
   exact = refl;
   said = refl;
@@ -56,8 +56,8 @@ interleaved_run = record {
 
 refused_run : IsGoodRun strict (bytes_of refused_lines) (counts 2 1 1 1) false
 refused_run = record {
-  lines = enumerate_from 1 refused_beside_accepted;
-  read = record { no_trouble = refl; read = refused_read };
+  judged = refused_beside_accepted;
+  read = record { lines = enumerate_from 1 refused_beside_accepted; read = record { no_trouble = refl; read = refused_read }; judged = refl };
   good = refused_are_good;
   exact = refl;
   said = refl;

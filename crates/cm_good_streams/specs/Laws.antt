@@ -1,6 +1,7 @@
 -- Good streams exist, and released ones.
 use Rattle.std.specs.Prelude.{ℕ, List}
 use Rattle.cm_attempt.specs.declared.policy.Policy.TheVariants.{Strict}
+use Rattle.cm_attempt.specs.Settings.{settings_of}
 use Rattle.cm_attempt.specs.declared.settings.Settings.{Settings}
 use Rattle.cm_stream.specs.Good.{Good}
 use Rattle.cm_stream.specs.Release.{Conditions, IsReleasedStream, each_runs, release_counts_of}
@@ -11,9 +12,9 @@ use Rattle.cm_stream.specs.declared.verdict.Counts.{Counts}
 use Rattle.cm_good_streams.specs.Streams.{retried, interleaved, refused_beside_accepted}
 use Rattle.cm_good_streams.specs.Lines.{bytes_of, retried_lines, interleaved_lines, refused_lines}
 
--- the settings without an option: PENDING is no good status, and attempts are numbered from 0
+-- the settings without an option: PENDING is no good status, attempts are numbered from 0, and nothing is declared again
 abbrev pub strict : Settings
-strict = record { policy = Strict; first_attempt = 0 }
+strict = settings_of Strict
 
 -- ---- as lists of envelopes
 

@@ -76,7 +76,7 @@ in_parts first es _ = refl
 unknown_one : (name : Name) (es : List Envelope) (b : Bool) → IsDeclaredIf name es b → not b ≡ ((times_declared name es == 0) || false)
 unknown_one name es b k = sym k.unknown ∙ sym (or_no (times_declared name es == 0))
 
-again_one : (name : Name) (es : List Envelope) (b : Bool) → IsDeclaredIf name es b → b ≡ (nat_lt 0 (times_declared name es) || false)
+pub again_one : (name : Name) (es : List Envelope) (b : Bool) → IsDeclaredIf name es b → b ≡ (nat_lt 0 (times_declared name es) || false)
 again_one name es b k = sym k.again ∙ sym (or_no (nat_lt 0 (times_declared name es)))
 
 -- ---- each line

@@ -1,19 +1,24 @@
 -- Judging a stream line by line is judging it over all its lines.
-use Rattle.std.proofs.Common.{◌≡◌, ℕ, ◌+◌, refl, sym, ap, ◌∙◌, List, [], ◌∷◌, ◌++◌, Option, Some, None, Result, Ok, Err, true, false, Bool, ◌⊎◌, inl, inr}
+use Rattle.std.proofs.Common.{◌≡◌, ℕ, ◌+◌, refl, sym, ap, subst, ◌∙◌, ◌&&◌, List, [], ◌∷◌, ◌++◌, Option, Some, None, Result, Ok, Err, true, false, Bool, ◌⊎◌, inl, inr}
+use Rattle.std.specs.Prelude.{if◌then◌else◌}
+use Rattle.cm_attempt.specs.Table.{has_text}
 use Rattle.cm_envelope.specs.Lines.{is_blank}
 use Rattle.cm_envelope.specs.Reading.{LineFault, envelope_of_line}
 use Rattle.cm_envelope.specs.declared.envelope.Envelope.{Envelope}
+use Rattle.cm_envelope.specs.declared.envelope.Envelope.TheVariants as envelope
 use Rattle.cm_envelope.specs.declared.feed.Trouble.{Trouble}
 use Rattle.cm_attempt.specs.declared.settings.Settings.{Settings}
-use Rattle.cm_stream.specs.Checks.{fault_at_end}
+use Rattle.cm_stream.specs.Checks.{declares_again, fault_at_end}
+use Rattle.cm_stream.specs.Redeclared.{judged_as, line_judged_as, passed_over}
 use Rattle.cm_stream.specs.Findings.{Finding}
-use Rattle.cm_stream.specs.References.{has_run_finished}
+use Rattle.cm_stream.specs.References.{Definition, HookNamed, has_run_finished}
 use Rattle.cm_stream.specs.Stream.{answer_for}
 use Rattle.cm_stream.specs.Stream as stream
 use Rattle.cm_stream.specs.ByOnePass.{fault, first_fault_line, first_fault_of, IsFaultless}
-use Rattle.cm_state.specs.Summary.{Summary, empty_summary}
-use Rattle.cm_state.specs.StateChecks.{finding_at_end}
-use Rattle.cm_state.proofs.Checked.{findings_are_faults as findings}
+use Rattle.cm_state.specs.Summary.{Summary, declarations_in, empty_summary}
+use Rattle.cm_state.specs.StateChecks.{finding_at_end, judged_by, line_judged_by}
+use Rattle.cm_state.proofs.Checked.{again_one, findings_are_faults as findings}
+use Rattle.cm_state.proofs.Tests.{definition_declared, hook_declared}
 use Rattle.cm_state.proofs.Steps.{summaries_step as steps}
 use Rattle.cm_stream.specs.OnePass.{reads}
 use Rattle.cm_stream.proofs.ByGrammar.{by_the_grammar}
@@ -47,6 +52,24 @@ one_more_line settings before e h none b x a cut = go (cut_before before e b x a
     go (inl k) = ap (λ ys. fault settings ys x) k.0 ∙ ap (fault settings before) k.1 ∙ none
     go (inr k) = h b x k.0 k.1
 
+-- ---- what a line is judged as
+
+chosen : (settings : Settings) (e : Envelope) (b c : Bool) → b ≡ c → (if b && settings.allows_redeclared then passed_over else e) ≡ (if c && settings.allows_redeclared then passed_over else e)
+chosen settings e b c same = ap (λ (x : Bool). if x && settings.allows_redeclared then passed_over else e) same
+
+-- by what is kept, as by the lines
+pub same_judged : (settings : Settings) (es : List Envelope) (e : Envelope) → judged_by settings (summary_of_lines settings.first_attempt es) e ≡ judged_as settings es e
+same_judged settings es (envelope.Hook h) =
+    chosen settings (envelope.Hook h) (has_text h.id (declarations_in es).hooks) (declares_again es (envelope.Hook h)) (again_one (HookNamed h.id) es (has_text h.id (declarations_in es).hooks) (hook_declared h.id es))
+same_judged settings es (envelope.StepDefinition d) =
+    chosen settings (envelope.StepDefinition d) (has_text d.id (declarations_in es).definitions) (declares_again es (envelope.StepDefinition d)) (again_one (Definition d.id) es (has_text d.id (declarations_in es).definitions) (definition_declared d.id es))
+same_judged settings es _ = refl
+
+pub same_line : (settings : Settings) (es : List Envelope) (r : Option (Result Envelope LineFault)) → line_judged_by settings (summary_of_lines settings.first_attempt es) r ≡ line_judged_as settings es r
+same_line settings es None = refl
+same_line settings es (Some (Err b)) = refl
+same_line settings es (Some (Ok e)) = ap (λ (x : Envelope). Some (Ok x)) (same_judged settings es e)
+
 -- ---- all lines
 
 finished : (first n : ℕ) (before : List Envelope) → answer_at_end n (summary_of_lines first before) (finding_at_end (summary_of_lines first before)) ≡ answer_for (stream.at_end n before (fault_at_end before))
@@ -72,11 +95,14 @@ module _ (settings : Settings) where
           rec (summary_after_line s e) (ap (λ u. summary_after_line u e) is ∙ sym (steps settings before e more)) more
 
       on_read : (r : Result Envelope LineFault) → ((e : Envelope) → Later e)
-          → answer_of_line settings s n (Some r) (λ (now : Summary). answer_of_lines settings now (n + 1) ls t) ≡ answer_for (first_fault_line settings before n (Some r) (λ (now : List Envelope). first_fault_of settings now (n + 1) ls t))
+          → answer_of_line settings s n (line_judged_by settings s (Some r)) (λ (now : Summary). answer_of_lines settings now (n + 1) ls t) ≡ answer_for (first_fault_line settings before n (line_judged_as settings before (Some r)) (λ (now : List Envelope). first_fault_of settings now (n + 1) ls t))
       on_read (Err b) rec = refl
       on_read (Ok e) rec =
-          let found : finding settings s e ≡ fault settings before e = ap (λ u. finding settings u e) is ∙ findings settings before e h in
-          rw found (on_fault e (fault settings before e) refl (rec e))
+          let said = judged_as settings before e in
+          let same_said : judged_by settings s e ≡ said = ap (λ u. judged_by settings u e) is ∙ same_judged settings before e in
+          let found : finding settings s said ≡ fault settings before said = ap (λ u. finding settings u said) is ∙ findings settings before said h in
+          subst (λ (x : Envelope). answer_of_line settings s n (Some (Ok x)) (λ (now : Summary). answer_of_lines settings now (n + 1) ls t) ≡ answer_for (first_fault_line settings before n (Some (Ok said)) (λ (now : List Envelope). first_fault_of settings now (n + 1) ls t)))
+          (sym same_said) (rw found (on_fault said (fault settings before said) refl (rec said)))
 
       go : (b : Bool) → is_blank l ≡ b → answer_of_lines settings s (n + 1) ls t ≡ answer_for (first_fault_of settings before (n + 1) ls t) → ((e : Envelope) → Later e) → answer_of_lines settings s n (l ∷ ls) t ≡ answer_for (first_fault_of settings before n (l ∷ ls) t)
       go true k skip rec = rw k skip

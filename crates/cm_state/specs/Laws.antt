@@ -11,7 +11,7 @@ use Rattle.cm_stream.specs.FaultlessLines.{IsFaultlessBy}
 use Rattle.cm_stream.specs.Readings.{Reading, ByTheGrammar}
 use Rattle.cm_stream.specs.Texts.{Utf8}
 use Rattle.cm_state.specs.Summary.{Summary, summary_of_lines_by, empty_summary, summary_after_line_by}
-use Rattle.cm_state.specs.StateChecks.{finding_by, finding_at_end}
+use Rattle.cm_state.specs.StateChecks.{finding_by, finding_at_end, line_judged_by}
 
 -- ---- one line
 
@@ -60,7 +60,7 @@ abbrev pub answer_of_lines_by : (read : Utf8 → Reading) → Settings → Summa
 answer_of_lines_by read settings s n [] (Some t) = Failed t
 answer_of_lines_by read settings s n [] None = answer_at_end n s (finding_at_end s)
 answer_of_lines_by read settings s n (l ∷ ls) t =
-    answer_of_line_by read settings s n (envelope_unless_blank l)
+    answer_of_line_by read settings s n (line_judged_by settings s (envelope_unless_blank l))
     (λ (now : Summary). answer_of_lines_by read settings now (n + 1) ls t)
 
 -- the answer is that for what is reported of the lines

@@ -1,5 +1,5 @@
 -- What is reported of a line, by what an audit keeps of the lines before it.
-use Rattle.std.specs.Prelude.{◌==◌, ◌&&◌, ◌||◌, Bool, true, false, not, List, [], ◌∷◌, Option, Some, None, is_some, is_none, if◌then◌else◌, map, length, find, slice_get, unwrap_or}
+use Rattle.std.specs.Prelude.{◌==◌, ◌&&◌, ◌||◌, Bool, true, false, not, List, [], ◌∷◌, Option, Some, None, Result, Ok, is_some, is_none, if◌then◌else◌, map, length, find, slice_get, unwrap_or}
 use Rattle.std.specs.List.{list_any, list_all}
 use Rattle.std.specs.Option.{option_map_or, option_and_then}
 use Rattle.std.specs.Str.{bytes_eq}
@@ -16,7 +16,9 @@ use Rattle.cm_stream.specs.Sources.{plain, is_due}
 use Rattle.cm_stream.specs.References.{is_judged, pickle_step_ids}
 use Rattle.cm_stream.specs.Good.{is_unknown}
 use Rattle.cm_stream.specs.Checks.{Check, ◌if◌, ◌unsupported_if◌, first_failed, is_too_long, is_other_language, same_flag}
+use Rattle.cm_stream.specs.Redeclared.{passed_over}
 use Rattle.cm_stream.specs.CallFaults.{call_fault_finding, call_fault_of_envelope}
+use Rattle.cm_envelope.specs.Reading.{LineFault}
 use Rattle.cm_envelope.specs.declared.envelope.Envelope.{Envelope}
 use Rattle.cm_envelope.specs.declared.envelope.Envelope.TheVariants as envelope
 use Rattle.cm_envelope.specs.declared.envelope.TestCase.{TestCase}
@@ -29,6 +31,25 @@ use Rattle.cm_stream.specs.Findings as bad
 use Rattle.cm_stream.specs.Findings.{Finding, IsBad}
 use Rattle.cm_stream.specs.declared.verdict.Reason.TheVariants as reason
 use Rattle.cm_state.specs.Summary.{SourceRow, Summary}
+
+-- ---- what is judged
+
+-- a hook, or a step definition, whose id is kept already
+abbrev pub is_redeclared_by : Summary → Envelope → Bool
+is_redeclared_by s (envelope.Hook h) = has_text h.id s.declared.hooks
+is_redeclared_by s (envelope.StepDefinition d) = has_text d.id s.declared.definitions
+is_redeclared_by s _ = false
+
+-- what an envelope is judged as: one that is declared again is passed over where the settings allow it
+abbrev pub judged_by : Settings → Summary → Envelope → Envelope
+judged_by settings s e =
+    if is_redeclared_by s e && settings.allows_redeclared then passed_over else e
+
+-- what a line is judged as, where it is read so
+abbrev pub line_judged_by : Settings → Summary → Option (Result Envelope LineFault)
+    → Option (Result Envelope LineFault)
+line_judged_by settings s (Some (Ok e)) = Some (Ok (judged_by settings s e))
+line_judged_by settings s line = line
 
 -- ---- what is tested
 

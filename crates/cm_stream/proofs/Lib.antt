@@ -23,6 +23,7 @@ pub mod WorkedStreams
 pub mod OneRow
 pub mod Steps
 pub mod RunHooks
+pub mod RedeclaredLaws
 pub mod Released
 pub mod CallWords
 pub mod ReleasedScenarios

@@ -1,5 +1,5 @@
 -- A stream isn't judged only where a line shows the reason.
-use Rattle.std.proofs.Common.{◌≡◌, refl, ap, ◌∙◌, subst, ℕ, ◌+◌, List, [], ◌∷◌, ◌++◌, Option, Some, None, Result, Ok, Err, true, false, Bool, not, length, arith}
+use Rattle.std.proofs.Common.{◌≡◌, refl, ap, ◌∙◌, subst, ℕ, ◌+◌, List, [], ◌∷◌, ◌++◌, Option, Some, None, Result, Ok, Err, true, false, Bool, not, ◌&&◌, length, arith}
 use Rattle.std.specs.Prelude.{if◌then◌else◌}
 use Rattle.std.specs.List.{AllByRecursion}
 use Rattle.std.specs.Str.{bytes_eq}
@@ -14,6 +14,7 @@ use Rattle.cm_stream.specs.Readings.{Reading, Accepted, Refused, OtherLanguage, 
 use Rattle.cm_stream.specs.OnePass.{reads}
 use Rattle.cm_stream.specs.References.{has_run_finished}
 use Rattle.cm_stream.specs.Findings.{Fault, Finding, IsBad, IsUnsupported, NoRunFinished}
+use Rattle.cm_stream.specs.Redeclared.{is_redeclared, judged_as, line_judged_as, passed_over}
 use Rattle.cm_stream.specs.Sources.{plain}
 use Rattle.cm_stream.specs.Checks.{Check, ◌if◌, ◌unsupported_if◌, first_failed, is_too_long, is_other_language}
 use Rattle.cm_stream.specs.ByOnePass.{checks, fault, first_fault, first_fault_line, first_fault_of}
@@ -119,6 +120,20 @@ first_is_grounded e (c ∷ cs) r each h = go c.fails refl h (first_is_grounded e
 fault_has_reason : (settings : Settings) (es : List Envelope) (e : Envelope) (r : Reason) → fault settings es e ≡ Some (IsUnsupported r) → HasReason r e
 fault_has_reason settings es e r h = first_is_grounded e (checks settings es e) r (each_grounded settings es e) h
 
+-- ---- what is judged
+
+passed_over_has_none : (r : Reason) → HasReason r passed_over → ⊥
+passed_over_has_none reason.UnknownStatus h = cc
+passed_over_has_none _ h = h
+
+chosen_has_it : (r : Reason) (e : Envelope) (b : Bool) → HasReason r (if b then passed_over else e) → HasReason r e
+chosen_has_it r e true h = absurd (passed_over_has_none r h)
+chosen_has_it r e false h = h
+
+-- an envelope has the reason that it has as it is judged
+judged_has_reason : (settings : Settings) (before : List Envelope) (e : Envelope) (r : Reason) → HasReason r (judged_as settings before e) → HasReason r e
+judged_has_reason settings before e r h = chosen_has_it r e (is_redeclared before e && settings.allows_redeclared) h
+
 -- ---- the line
 
 record ShownIn (n : ℕ) (ls : List (List ℕ)) (m : ℕ) (r : Reason) : Type 0 where
@@ -157,7 +172,8 @@ module _ (settings : Settings) (m : ℕ) (r : Reason) where
       go false k = absurd cc
   shown_in before n (l ∷ ls) t h = go (envelope_unless_blank l) refl h (shown_in before (n + 1) ls t) (λ e. shown_in (before ++ e ∷ []) (n + 1) ls t)
     where
-      on_fault : (e : Envelope) → envelope_unless_blank l ≡ Some (Ok e) → (o : Option Finding) → fault settings before e ≡ o → at_line n o (first_fault_of settings (before ++ e ∷ []) (n + 1) ls t) ≡ At m (IsUnsupported r) → Later (n + 1) ls t (before ++ e ∷ []) → ShownIn n (l ∷ ls) m r
+      on_fault : (e : Envelope) → envelope_unless_blank l ≡ Some (Ok e) → (o : Option Finding) → fault settings before (judged_as settings before e) ≡ o → at_line n o (first_fault_of settings (before ++ judged_as settings before e ∷ []) (n + 1) ls t) ≡ At m (IsUnsupported r)
+          → Later (n + 1) ls t (before ++ judged_as settings before e ∷ []) → ShownIn n (l ∷ ls) m r
       on_fault e is None k told rec = shown_later n l ls (rec told)
       on_fault e is (Some f) k told rec =
           let here : n ≡ m = cc in
@@ -170,14 +186,14 @@ module _ (settings : Settings) (m : ℕ) (r : Reason) where
             count = omega arith;
             said = e;
             read = is;
-            why = fault_has_reason settings before e r (k ∙ ap Some its);
+            why = judged_has_reason settings before e r (fault_has_reason settings before (judged_as settings before e) r (k ∙ ap Some its));
           }
 
-      go : (o : Option (Result Envelope LineFault)) → envelope_unless_blank l ≡ o → first_fault_line settings before n o (λ (now : List Envelope). first_fault_of settings now (n + 1) ls t) ≡ At m (IsUnsupported r) → Later (n + 1) ls t before
+      go : (o : Option (Result Envelope LineFault)) → envelope_unless_blank l ≡ o → first_fault_line settings before n (line_judged_as settings before o) (λ (now : List Envelope). first_fault_of settings now (n + 1) ls t) ≡ At m (IsUnsupported r) → Later (n + 1) ls t before
           → ((e : Envelope) → Later (n + 1) ls t (before ++ e ∷ [])) → ShownIn n (l ∷ ls) m r
       go None is k skip rec = shown_later n l ls (skip k)
       go (Some (Err b)) is k skip rec = absurd cc
-      go (Some (Ok e)) is k skip rec = on_fault e is (fault settings before e) refl k (rec e)
+      go (Some (Ok e)) is k skip rec = on_fault e is (fault settings before (judged_as settings before e)) refl k (rec (judged_as settings before e))
 
 pub shows_reason : (settings : Settings) (bytes : List ℕ) (n : ℕ) (r : Reason) → first_fault settings bytes ≡ At n (IsUnsupported r) → ShowsReason bytes n r
 shows_reason settings bytes n r h =

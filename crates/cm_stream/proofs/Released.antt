@@ -16,7 +16,7 @@ use Rattle.cm_stream.specs.Statuses.{kept_status}
 use Rattle.cm_stream.specs.ByOnePass.{first_fault}
 use Rattle.cm_attempt.specs.Calls.{all_moves, last_of}
 use Rattle.cm_stream.specs.Good.{Good, SuccessGood, AllWell, IsAccepted, MeetsSource}
-use Rattle.cm_stream.specs.Stream.{IsGoodRun, GoodWith, NoFault, answer_for, envelopes}
+use Rattle.cm_stream.specs.Stream.{IsGoodRun, GoodWith, NoFault, answer_for}
 use Rattle.cm_stream.specs.Release.{Conditions, NoneIs, hold_if, hold_of, release_counts_of, is_named, is_missed, may_stay_unrun, is_retried_pickle, has_skip, is_stepless, passes_unmatched}
 use Rattle.cm_stream.specs.Release.{IsReleasedStream, ReleasedIsNotHeld, ReleasedExactly, FirstFaultReleases, Releases}
 use Rattle.cm_stream.specs.ReleasedRuns.{IsCompiled, CaseRan, Ran, RanOrMayNot, HookRan, RunEnded, EachSourceIsCompiled, EachCaseRan, EachHookRan, ReleasedRan, EachRan}
@@ -152,11 +152,11 @@ released_is_not_held settings asked bytes counts found success run same = (relea
   where
     released : hold_of asked success counts found ≡ None → IsReleasedStream settings asked bytes counts found
     released h =
-        let es = envelopes run.lines in
+        let es = run.judged in
         let tests = not_held success (counts.cases == 0) (Tests asked found) h in
         let p = all_passed asked found tests.2 in
         record {
-          lines = run.lines;
+          judged = run.judged;
           read = run.read;
           good = run.good;
           exact = run.exact;
@@ -172,10 +172,10 @@ released_is_not_held settings asked bytes counts found success run same = (relea
 
     not_so : IsReleasedStream settings asked bytes counts found → hold_of asked success counts found ≡ None
     not_so r =
-        let es = envelopes r.lines in
-        let here = read_is_told settings bytes run.lines run.read run.good in
-        let there = read_is_told settings bytes r.lines r.read r.good in
-        let same_lines : envelopes run.lines ≡ es = cc in
+        let es = r.judged in
+        let here = read_is_told settings bytes run.judged run.read run.good in
+        let there = read_is_told settings bytes r.judged r.read r.good in
+        let same_lines : run.judged ≡ es = cc in
         is_not_held success (counts.cases == 0) (Tests asked found) (run.said ∙ ap run_succeeded same_lines ∙ r.succeeded)
         (ap (λ (n : Counts). n.cases == 0) r.exact ∙ none_empty (cases es) r.some_case)
         (passes_all asked found (record {
@@ -190,9 +190,9 @@ pub released_exactly : ReleasedExactly
 released_exactly settings asked bytes counts found = (unheld, λ h. (released_is_not_held settings asked bytes counts found h.0 h.1 h.2).0 h.3)
   where
     unheld : IsReleasedStream settings asked bytes counts found
-        → (success : Bool) × (run : IsGoodRun settings bytes counts success) × (found ≡ release_counts_of asked settings.policy (envelopes run.lines)) × (hold_of asked success counts found ≡ None)
+        → (success : Bool) × (run : IsGoodRun settings bytes counts success) × (found ≡ release_counts_of asked settings.policy run.judged) × (hold_of asked success counts found ≡ None)
     unheld r =
-        let run : IsGoodRun settings bytes counts true = record { lines = r.lines; read = r.read; good = r.good; exact = r.exact; said = sym r.succeeded } in
+        let run : IsGoodRun settings bytes counts true = record { judged = r.judged; read = r.read; good = r.good; exact = r.exact; said = sym r.succeeded } in
         (true, run, r.found_exact, (released_is_not_held settings asked bytes counts found true run r.found_exact).1 r)
 
 pub first_fault_releases : FirstFaultReleases
@@ -206,17 +206,17 @@ first_fault_releases settings asked bytes counts found f first = (released, rele
         let es = h.0 in
         let said : answer_for (first_fault settings bytes) ≡ GoodWith counts (run_succeeded es) = ap answer_for (told ∙ h.1) ∙ ap (λ (c : Counts). GoodWith c (run_succeeded es)) (sym h.2) in
         let run = run_if_told settings bytes counts (run_succeeded es) said in
-        let here = read_is_told settings bytes run.lines run.read run.good in
-        let of_run : NoFault es ≡ NoFault (envelopes run.lines) = sym h.1 ∙ sym told ∙ here in
-        let same : es ≡ envelopes run.lines = cc in
+        let here = read_is_told settings bytes run.judged run.read run.good in
+        let of_run : NoFault es ≡ NoFault run.judged = sym h.1 ∙ sym told ∙ here in
+        let same : es ≡ run.judged = cc in
         (released_is_not_held settings asked bytes counts found (run_succeeded es) run (h.3 ∙ ap (release_counts_of asked settings.policy) same)).0 h.4
 
     releases : IsReleasedStream settings asked bytes counts found → Releases asked settings.policy counts found f
     releases r =
-        let es = envelopes r.lines in
-        let run : IsGoodRun settings bytes counts true = record { lines = r.lines; read = r.read; good = r.good; exact = r.exact; said = sym r.succeeded } in
+        let es = r.judged in
+        let run : IsGoodRun settings bytes counts true = record { judged = r.judged; read = r.read; good = r.good; exact = r.exact; said = sym r.succeeded } in
         let none = (released_is_not_held settings asked bytes counts found true run r.found_exact).1 r in
-        (es, sym told ∙ read_is_told settings bytes r.lines r.read r.good, r.exact, r.found_exact, subst (λ (b : Bool). hold_of asked b counts found ≡ None) (sym r.succeeded) none)
+        (es, sym told ∙ read_is_told settings bytes r.judged r.read r.good, r.exact, r.found_exact, subst (λ (b : Bool). hold_of asked b counts found ≡ None) (sym r.succeeded) none)
 
 -- ---- success
 
@@ -391,7 +391,7 @@ module _ (settings : Settings) (es : List Envelope) (good : Good settings es) (w
 
 pub released_ran : ReleasedRan
 released_ran settings asked bytes counts found r =
-    let es = envelopes r.lines in
+    let es = r.judged in
     let well = all_well settings.policy es r.good.success r.succeeded in (
       record {
         each_source = each_compiled settings es r.good well;
@@ -409,8 +409,8 @@ may_not_stay asked p none no_tags may =
 
 pub each_ran_where_none_may_stay : EachRan
 each_ran_where_none_may_stay settings asked bytes counts found r none no_tags =
-    each_so (RanOrMayNot asked settings.policy (envelopes r.lines)) (Ran settings.policy (envelopes r.lines)) one (pickles (envelopes r.lines)) (released_ran settings asked bytes counts found r).1
+    each_so (RanOrMayNot asked settings.policy r.judged) (Ran settings.policy r.judged) one (pickles r.judged) (released_ran settings asked bytes counts found r).1
   where
-    one : (p : Pickle) → RanOrMayNot asked settings.policy (envelopes r.lines) p → Ran settings.policy (envelopes r.lines) p
+    one : (p : Pickle) → RanOrMayNot asked settings.policy r.judged p → Ran settings.policy r.judged p
     one p (inl h) = h
     one p (inr h) = absurd (may_not_stay asked p none no_tags h)

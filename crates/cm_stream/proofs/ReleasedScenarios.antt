@@ -30,7 +30,6 @@ use Rattle.cm_stream.specs.References.{Name, PickleNamed, HookNamed, PickleStep,
 use Rattle.cm_stream.specs.Release.{Conditions, IsReleasedStream, NoneIs, attempts_of, has_skip, is_attempt_of, is_retried_pickle, is_skipped, is_stepless, may_stay_unrun, passes_unmatched, strict_conditions, test_step_of}
 use Rattle.cm_stream.specs.ReleasedRuns.{CaseMeets, CaseRan, EachScenarioRan, IsCompiled, RanOrMayNot, ReleasedCasesMeet, ReleasedScenariosRan, ReleasedStepsMatched, ScenarioPassed, ScenarioRan, StepMatched, StrictlyReleased, may_be_left_out, Ran, EachScenarioPassed}
 use Rattle.cm_stream.specs.Sources.{DuePickle, DueTag, english, ids_at, is_due, is_due_step, is_due_tag}
-use Rattle.cm_stream.specs.Stream.{envelopes}
 use Rattle.cm_stream.specs.declared.conditions.ReleaseCounts.{ReleaseCounts}
 use Rattle.cm_stream.specs.declared.verdict.Counts.{Counts}
 use Rattle.cm_stream.specs.Texts.{Utf8, same_list, same_texts}
@@ -83,13 +82,13 @@ module _ (ids : List Utf8) where
 
 pub released_scenarios_ran : ReleasedScenariosRan
 released_scenarios_ran settings asked bytes counts found r =
-    let es = envelopes r.lines in
+    let es = r.judged in
     let h = released_ran settings asked bytes counts found r in
     each_so (IsCompiled es) (EachScenarioRan asked settings.policy es) (one h.1) _ h.0.each_source
   where
-    one : AllByRecursion (RanOrMayNot asked settings.policy (envelopes r.lines)) (pickles (envelopes r.lines)) → (s : Source) → IsCompiled (envelopes r.lines) s → EachScenarioRan asked settings.policy (envelopes r.lines) s
+    one : AllByRecursion (RanOrMayNot asked settings.policy r.judged) (pickles r.judged) → (s : Source) → IsCompiled r.judged s → EachScenarioRan asked settings.policy r.judged s
     one all s c =
-        let es = envelopes r.lines in
+        let es = r.judged in
         let P = RanOrMayNot asked settings.policy es in
         let its = kept_so P (λ p. bytes_eq s.uri p.uri) (pickles es) all in
         (c, each_scenario c.found.ids asked settings.policy es (pickles_of s.uri es) _ c.same_pickles (each_so (λ p. P p × (bytes_eq s.uri p.uri ≡ true)) P (λ p k. k.0) (pickles_of s.uri es) its))
@@ -164,7 +163,7 @@ module _ {X : Type 0} (skips stepless : Type 0) (P Q R S : X → Type 0) (f : (x
 
 module _ (settings : Settings) (asked : Conditions) (bytes : List ℕ) (counts : Counts) (found : ReleaseCounts) (r : IsReleasedStream settings asked bytes counts found) where
   abbrev es : List Envelope
-  es = envelopes r.lines
+  es = r.judged
 
   abbrev Meets : TestCase → Type 0
   Meets c = (p : Pickle) × (ran : CaseRan settings.policy es c p) × CaseMeets asked es p ran.attempt
@@ -274,9 +273,9 @@ module _ (es : List Envelope) (references : ReferencesGood es) where
 pub released_steps_matched : ReleasedStepsMatched
 released_steps_matched settings asked bytes counts found r asks = matched
   where
-    matched : (front : List Envelope) (e : Envelope) (back : List Envelope) → envelopes r.lines ≡ front ++ e ∷ back → StepMatched settings.policy (envelopes r.lines) e
+    matched : (front : List Envelope) (e : Envelope) (back : List Envelope) → r.judged ≡ front ++ e ∷ back → StepMatched settings.policy r.judged e
     matched front (envelope.TestStepFinished f) back cut = λ passing t its is_pickle.
-        let es = envelopes r.lines in
+        let es = r.judged in
         let test = passes_unmatched settings.policy es in
         let here : test (envelope.TestStepFinished f) ≡ false = all_here (λ x. test x ≡ false) front (envelope.TestStepFinished f) back (subst (λ xs. NoneIs test xs) cut (r.none_undefined asks)) in
         let none : (length t.step_definition_ids == 0) ≡ false = rw (passing, its, is_pickle) at here in
@@ -330,22 +329,22 @@ each_passed (s ∷ ss) good none =
     let n = or_false (is_skipped s) (list_any is_skipped ss) none in
     (passed_one s g.0 n.0, each_passed ss g.1 n.1)
 
-module _ (first : ℕ) (bytes : List ℕ) (counts : Counts) (found : ReleaseCounts) (r : IsReleasedStream (record { policy = Strict; first_attempt = first }) strict_conditions bytes counts found) where
+module _ (first : ℕ) (again : Bool) (bytes : List ℕ) (counts : Counts) (found : ReleaseCounts) (r : IsReleasedStream (record { policy = Strict; first_attempt = first; allows_redeclared = again }) strict_conditions bytes counts found) where
   abbrev settings : Settings
-  settings = record { policy = Strict; first_attempt = first }
+  settings = record { policy = Strict; first_attempt = first; allows_redeclared = again }
 
   abbrev strict_es : List Envelope
-  strict_es = envelopes r.lines
+  strict_es = r.judged
 
   scenario_passed : (ids : List Utf8) (due : DuePickle) → ScenarioRan strict_conditions Strict strict_es ids due → ScenarioPassed strict_es ids due
   scenario_passed ids due s = go s.ran
     where
-      go : Ran Strict (envelopes r.lines) s.pickle ⊎ (may_be_left_out strict_conditions due ≡ true) → ScenarioPassed (envelopes r.lines) ids due
+      go : Ran Strict r.judged s.pickle ⊎ (may_be_left_out strict_conditions due ≡ true) → ScenarioPassed r.judged ids due
       go (inl ran) =
           let meet = found_meets settings strict_conditions bytes counts found r ran.0 s.pickle ran.1 in
           let attempt = ran.1.attempt in
-          let all = statuses attempt.id (envelopes r.lines) in
-          let good = sym (good_worst Strict all (all_known attempt.id (envelopes r.lines) r.good.sound.known)) ∙ ran.1.good_status in
+          let all = statuses attempt.id r.judged in
+          let good = sym (good_worst Strict all (all_known attempt.id r.judged r.good.sound.known)) ∙ ran.1.good_status in
           record {
             pickle = s.pickle;
             is_its = s.is_its;
@@ -364,10 +363,10 @@ module _ (first : ℕ) (bytes : List ℕ) (counts : Counts) (found : ReleaseCoun
       (sources strict_es) (released_scenarios_ran settings strict_conditions bytes counts found r)
 
 pub strictly_released : StrictlyReleased
-strictly_released settings bytes counts found r is = by_policy settings.policy is settings.first_attempt bytes counts found r
+strictly_released settings bytes counts found r is = by_policy settings.policy is settings.first_attempt settings.allows_redeclared bytes counts found r
   where
-    by_policy : (policy : Policy) → policy ≡ Strict → (first : ℕ) (bytes : List ℕ) (counts : Counts) (found : ReleaseCounts) (r : IsReleasedStream (record { policy = policy; first_attempt = first }) strict_conditions bytes counts found)
-        → AllByRecursion (EachScenarioPassed (envelopes r.lines)) (sources (envelopes r.lines)) × Everywhere (λ before e after. StepMatched Strict (envelopes r.lines) e) (envelopes r.lines)
-    by_policy Strict e first bytes counts found r =
-        (each_scenario_passed first bytes counts found r, released_steps_matched (record { policy = Strict; first_attempt = first }) strict_conditions bytes counts found r refl)
-    by_policy PendingPasses e first bytes counts found r = cc
+    by_policy : (policy : Policy) → policy ≡ Strict → (first : ℕ) (again : Bool) (bytes : List ℕ) (counts : Counts) (found : ReleaseCounts) (r : IsReleasedStream (record { policy = policy; first_attempt = first; allows_redeclared = again }) strict_conditions bytes counts found)
+        → AllByRecursion (EachScenarioPassed r.judged) (sources r.judged) × Everywhere (λ before e after. StepMatched Strict r.judged e) r.judged
+    by_policy Strict e first again bytes counts found r =
+        (each_scenario_passed first again bytes counts found r, released_steps_matched (record { policy = Strict; first_attempt = first; allows_redeclared = again }) strict_conditions bytes counts found r refl)
+    by_policy PendingPasses e first again bytes counts found r = cc

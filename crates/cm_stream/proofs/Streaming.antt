@@ -1,5 +1,5 @@
 -- The lines that the worked streams are made of.
-use Rattle.std.proofs.Common.{ℕ, suc, List, [], ◌∷◌, ◌++◌, Some, None, false, Bool}
+use Rattle.std.proofs.Common.{ℕ, suc, List, [], ◌∷◌, ◌++◌, Some, None, true, false, Bool}
 use Rattle.std.specs.Prelude.{codes}
 use Rattle.gk_document.specs.declared.tree.Document.{Document}
 use Rattle.cm_envelope.specs.declared.pickle.StepKind.TheVariants.{Context}
@@ -13,6 +13,7 @@ use Rattle.cm_attempt.specs.declared.settings.Settings.{Settings}
 use Rattle.cm_attempt.specs.declared.policy.Policy.TheVariants.{Strict}
 use Rattle.cm_stream.specs.Checks.{fault_at_end}
 use Rattle.cm_stream.specs.ByOnePass.{fault}
+use Rattle.cm_stream.specs.Redeclared.{judged_as}
 use Rattle.cm_stream.specs.Stream.{FirstFault, At, NoFault, at_line, at_end, counts_of}
 use Rattle.cm_envelope.specs.declared.envelope.Envelope.{Envelope}
 use Rattle.cm_envelope.specs.declared.envelope.Envelope.TheVariants as envelope
@@ -148,11 +149,12 @@ pub data Shown : Type 0 where
 
 -- by the policy, where the attempts of a case are numbered from the first number
 abbrev pub by : Policy → (first : ℕ) → Settings
-by policy first = record { policy = policy; first_attempt = first }
+by policy first = record { policy = policy; first_attempt = first; allows_redeclared = false }
 
 abbrev pub told_from : Settings → List Envelope → ℕ → List Envelope → FirstFault
 told_from settings before n [] = at_end n before (fault_at_end before)
-told_from settings before n (e ∷ es) = at_line n (fault settings before e) (told_from settings (before ++ e ∷ []) (suc n) es)
+told_from settings before n (e ∷ es) =
+    at_line n (fault settings before (judged_as settings before e)) (told_from settings (before ++ judged_as settings before e ∷ []) (suc n) es)
 
 abbrev pub show : FirstFault → Shown
 show (NoFault es) = Good (counts_of es)
@@ -164,6 +166,10 @@ shown_by settings es = show (told_from settings [] 1 es)
 
 abbrev pub shown : List Envelope → Shown
 shown = shown_by (by Strict 0)
+
+-- where hooks and step definitions may be declared again
+abbrev pub shown_redeclared : List Envelope → Shown
+shown_redeclared = shown_by (record (by Strict 0) { allows_redeclared = true })
 
 abbrev pub good : (sources pickles cases attempts unrun : ℕ) → Shown
 good s p c a u = Good (record { sources = s; pickles = p; cases = c; attempts = a; unrun = u })

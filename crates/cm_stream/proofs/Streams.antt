@@ -9,7 +9,8 @@ use Rattle.cm_stream.specs.Findings.{Finding}
 use Rattle.cm_stream.specs.StreamLaws.{IsRightAnswer}
 use Rattle.cm_stream.specs.Good.{Good}
 use Rattle.cm_stream.specs.References.{run_succeeded}
-use Rattle.cm_stream.specs.Stream.{FirstFault, Troubled, GoodWith, answer_in, answer_of_audit, answer_for, GoodRunIn, NoneIsGood, feed_of, nonblank_lines, read_line, as_read, envelopes, counts_of, IsRead, IsGoodStream, IsGoodRun, At, NoFault, at_end, at_line, envelope_unless_blank, HaveFirstLines}
+use Rattle.cm_stream.specs.Redeclared.{judged_as, judged_after, line_judged_as}
+use Rattle.cm_stream.specs.Stream.{FirstFault, Troubled, GoodWith, answer_in, answer_of_audit, answer_for, GoodRunIn, NoneIsGood, feed_of, nonblank_lines, read_line, as_read, envelopes, counts_of, IsReadAs, IsGoodStream, IsGoodRun, At, NoFault, at_end, at_line, envelope_unless_blank, HaveFirstLines}
 use Rattle.cm_stream.specs.ByOnePass.{fault, HasNoFault, first_fault_line, first_fault_of, first_fault}
 use Rattle.cm_envelope.specs.declared.envelope.Envelope.{Envelope}
 use Rattle.cm_envelope.specs.Lines.{is_blank}
@@ -20,13 +21,17 @@ use Rattle.cm_stream.proofs.NoFault.{good_have_no_fault}
 use Rattle.cm_stream.proofs.FaultlessGood.{faultless_are_good}
 
 module _ (settings : Settings) where
+  -- what lines that are read so are judged as, after these envelopes
+  abbrev judged_lines : List Envelope → List (ℕ × Envelope) → List Envelope
+  judged_lines before lines = judged_after settings before (envelopes lines)
+
   -- lines from the number n on that have no fault after these envelopes
   record Clean (before : List Envelope) (n : ℕ) (ls : List (List ℕ)) (t : Option Trouble) (es : List Envelope) : Type 0 where
     lines : List (ℕ × Envelope)
     no_trouble : t ≡ None
     read : map read_line (nonblank_lines n ls) ≡ map as_read lines
-    all : es ≡ before ++ envelopes lines
-    none : (b : List Envelope) (e : Envelope) (a : List Envelope) → envelopes lines ≡ b ++ e ∷ a → fault settings (before ++ b) e ≡ None
+    all : es ≡ before ++ judged_lines before lines
+    none : (b : List Envelope) (e : Envelope) (a : List Envelope) → judged_lines before lines ≡ b ++ e ∷ a → fault settings (before ++ b) e ≡ None
     end : fault_at_end es ≡ None
 
   empty_isnt : {X : Type 0} (b : List X) (e : X) (a : List X) → [] ≡ b ++ e ∷ a → ⊥
@@ -44,32 +49,38 @@ module _ (settings : Settings) where
           record { lines = []; no_trouble = refl; read = refl; all = sym same ∙ sym (append-nil before); none = λ b x a c. absurd (empty_isnt b x a c); end = ap fault_at_end (sym same) ∙ e }
   clean before n (l ∷ ls) t es h = go (is_blank l) refl (clean before (n + 1) ls t es) (λ e. clean (before ++ e ∷ []) (n + 1) ls t es)
     where
-      line : (e : Envelope) → is_blank l ≡ false → envelope_of_line l ≡ Ok e → fault settings before e ≡ None → Clean (before ++ e ∷ []) (n + 1) ls t es → Clean before n (l ∷ ls) t es
+      line : (e : Envelope) → is_blank l ≡ false → envelope_of_line l ≡ Ok e → fault settings before (judged_as settings before e) ≡ None → Clean (before ++ judged_as settings before e ∷ []) (n + 1) ls t es → Clean before n (l ∷ ls) t es
       line e filled is passes c = record {
         lines = (n, e) ∷ c.lines;
         no_trouble = c.no_trouble;
         read = rw (filled, is, c.read) refl;
-        all = c.all ∙ append_assoc before (e ∷ []) (envelopes c.lines);
+        all = c.all ∙ append_assoc before (said ∷ []) later;
         none = each;
         end = c.end;
       }
         where
-          each : (b : List Envelope) (x : Envelope) (a : List Envelope) → e ∷ envelopes c.lines ≡ b ++ x ∷ a → fault settings (before ++ b) x ≡ None
-          each [] x a k = let same : e ≡ x = cc in ap (λ bs. fault settings bs x) (append-nil before) ∙ ap (fault settings before) (sym same) ∙ passes
-          each (y ∷ b) x a k =
-              let first : e ≡ y = cc in
-              let rest : envelopes c.lines ≡ b ++ x ∷ a = cc in
-              ap (λ bs. fault settings bs x) (ap (λ z. before ++ z ∷ b) (sym first) ∙ sym (append_assoc before (e ∷ []) b)) ∙ c.none b x a rest
+          said : Envelope
+          said = judged_as settings before e
 
-      on_fault : (e : Envelope) → is_blank l ≡ false → envelope_of_line l ≡ Ok e → (o : Option Finding) → fault settings before e ≡ o → at_line n o (first_fault_of settings (before ++ e ∷ []) (n + 1) ls t) ≡ NoFault es
-          → (first_fault_of settings (before ++ e ∷ []) (n + 1) ls t ≡ NoFault es → Clean (before ++ e ∷ []) (n + 1) ls t es) → Clean before n (l ∷ ls) t es
+          later : List Envelope
+          later = judged_lines (before ++ judged_as settings before e ∷ []) c.lines
+
+          each : (b : List Envelope) (x : Envelope) (a : List Envelope) → said ∷ later ≡ b ++ x ∷ a → fault settings (before ++ b) x ≡ None
+          each [] x a k = let same : said ≡ x = cc in ap (λ bs. fault settings bs x) (append-nil before) ∙ ap (fault settings before) (sym same) ∙ passes
+          each (y ∷ b) x a k =
+              let first : said ≡ y = cc in
+              let rest : later ≡ b ++ x ∷ a = cc in
+              ap (λ bs. fault settings bs x) (ap (λ z. before ++ z ∷ b) (sym first) ∙ sym (append_assoc before (said ∷ []) b)) ∙ c.none b x a rest
+
+      on_fault : (e : Envelope) → is_blank l ≡ false → envelope_of_line l ≡ Ok e → (o : Option Finding) → fault settings before (judged_as settings before e) ≡ o → at_line n o (first_fault_of settings (before ++ judged_as settings before e ∷ []) (n + 1) ls t) ≡ NoFault es
+          → (first_fault_of settings (before ++ judged_as settings before e ∷ []) (n + 1) ls t ≡ NoFault es → Clean (before ++ judged_as settings before e ∷ []) (n + 1) ls t es) → Clean before n (l ∷ ls) t es
       on_fault e filled is (Some f) k told rec = cc
       on_fault e filled is None k told rec = line e filled is k (rec told)
 
-      on_read : is_blank l ≡ false → (r : Result Envelope LineFault) → envelope_of_line l ≡ r → first_fault_line settings before n (Some r) (λ (now : List Envelope). first_fault_of settings now (n + 1) ls t) ≡ NoFault es
+      on_read : is_blank l ≡ false → (r : Result Envelope LineFault) → envelope_of_line l ≡ r → first_fault_line settings before n (line_judged_as settings before (Some r)) (λ (now : List Envelope). first_fault_of settings now (n + 1) ls t) ≡ NoFault es
           → ((e : Envelope) → first_fault_of settings (before ++ e ∷ []) (n + 1) ls t ≡ NoFault es → Clean (before ++ e ∷ []) (n + 1) ls t es) → Clean before n (l ∷ ls) t es
       on_read filled (Err b) is told rec = cc
-      on_read filled (Ok e) is told rec = on_fault e filled is (fault settings before e) refl told (rec e)
+      on_read filled (Ok e) is told rec = on_fault e filled is (fault settings before (judged_as settings before e)) refl told (rec (judged_as settings before e))
 
       go : (b : Bool) → is_blank l ≡ b → (first_fault_of settings before (n + 1) ls t ≡ NoFault es → Clean before (n + 1) ls t es)
           → ((e : Envelope) → first_fault_of settings (before ++ e ∷ []) (n + 1) ls t ≡ NoFault es → Clean (before ++ e ∷ []) (n + 1) ls t es) → Clean before n (l ∷ ls) t es
@@ -82,11 +93,12 @@ module _ (settings : Settings) where
   good_run : (bytes : List ℕ) (es : List Envelope) → first_fault settings bytes ≡ NoFault es → IsGoodRun settings bytes (counts_of es) (run_succeeded es)
   good_run bytes es h =
       let c = clean [] 1 (feed_of bytes).lines (feed_of bytes).trouble es h in
-      let faultless : HasNoFault settings (envelopes c.lines) = record { lines = λ b e a cut. c.none b e a cut; end = ap fault_at_end (sym c.all) ∙ c.end } in
+      let judged = judged_lines [] c.lines in
+      let faultless : HasNoFault settings judged = record { lines = λ b e a cut. c.none b e a cut; end = ap fault_at_end (sym c.all) ∙ c.end } in
       record {
-        lines = c.lines;
-        read = record { no_trouble = c.no_trouble; read = c.read };
-        good = faultless_are_good settings (envelopes c.lines) faultless;
+        judged = judged;
+        read = record { lines = c.lines; read = record { no_trouble = c.no_trouble; read = c.read }; judged = refl };
+        good = faultless_are_good settings judged faultless;
         exact = ap counts_of c.all;
         said = ap run_succeeded c.all;
       }
@@ -113,8 +125,8 @@ module _ (settings : Settings) where
   -- ---- the other direction
 
   told_good : (before : List Envelope) (n : ℕ) (ls : List (List ℕ)) (lines : List (ℕ × Envelope)) → map read_line (nonblank_lines n ls) ≡ map as_read lines
-      → ((b : List Envelope) (e : Envelope) (a : List Envelope) → envelopes lines ≡ b ++ e ∷ a → fault settings (before ++ b) e ≡ None) → fault_at_end (before ++ envelopes lines) ≡ None
-      → first_fault_of settings before n ls None ≡ NoFault (before ++ envelopes lines)
+      → ((b : List Envelope) (e : Envelope) (a : List Envelope) → judged_lines before lines ≡ b ++ e ∷ a → fault settings (before ++ b) e ≡ None) → fault_at_end (before ++ judged_lines before lines) ≡ None
+      → first_fault_of settings before n ls None ≡ NoFault (before ++ judged_lines before lines)
   told_good before n [] [] read none end =
       let here : fault_at_end before ≡ None = ap fault_at_end (sym (append-nil before)) ∙ end in
       rw here (ap NoFault (sym (append-nil before)))
@@ -122,45 +134,48 @@ module _ (settings : Settings) where
   told_good before n (l ∷ ls) lines read none end = go (is_blank l) refl (told_good before (n + 1) ls lines) (λ e more. told_good (before ++ e ∷ []) (n + 1) ls more)
     where
       filled : is_blank l ≡ false → (lines : List (ℕ × Envelope)) → (n, envelope_of_line l) ∷ map read_line (nonblank_lines (n + 1) ls) ≡ map as_read lines
-          → ((b : List Envelope) (e : Envelope) (a : List Envelope) → envelopes lines ≡ b ++ e ∷ a → fault settings (before ++ b) e ≡ None) → fault_at_end (before ++ envelopes lines) ≡ None
+          → ((b : List Envelope) (e : Envelope) (a : List Envelope) → judged_lines before lines ≡ b ++ e ∷ a → fault settings (before ++ b) e ≡ None) → fault_at_end (before ++ judged_lines before lines) ≡ None
           → ((e : Envelope) (more : List (ℕ × Envelope)) → map read_line (nonblank_lines (n + 1) ls) ≡ map as_read more
-          → ((b : List Envelope) (x : Envelope) (a : List Envelope) → envelopes more ≡ b ++ x ∷ a → fault settings ((before ++ e ∷ []) ++ b) x ≡ None) → fault_at_end ((before ++ e ∷ []) ++ envelopes more) ≡ None
-          → first_fault_of settings (before ++ e ∷ []) (n + 1) ls None ≡ NoFault ((before ++ e ∷ []) ++ envelopes more))
-          → first_fault_of settings before n (l ∷ ls) None ≡ NoFault (before ++ envelopes lines)
+          → ((b : List Envelope) (x : Envelope) (a : List Envelope) → judged_lines (before ++ e ∷ []) more ≡ b ++ x ∷ a → fault settings ((before ++ e ∷ []) ++ b) x ≡ None) → fault_at_end ((before ++ e ∷ []) ++ judged_lines (before ++ e ∷ []) more) ≡ None
+          → first_fault_of settings (before ++ e ∷ []) (n + 1) ls None ≡ NoFault ((before ++ e ∷ []) ++ judged_lines (before ++ e ∷ []) more))
+          → first_fault_of settings before n (l ∷ ls) None ≡ NoFault (before ++ judged_lines before lines)
       filled is [] read none end rec = cc
       filled is (x ∷ lines) read none end rec =
           let first : ◌≡◌ {A = ℕ × Result Envelope LineFault} (n, envelope_of_line l) (as_read x) = cc in
           let more : map read_line (nonblank_lines (n + 1) ls) ≡ map as_read lines = cc in
           let here : envelope_of_line l ≡ Ok x.1 = ap (λ (r : ℕ × Result Envelope LineFault). r.1) first in
-          let passes : fault settings before x.1 ≡ None = ap (λ bs. fault settings bs x.1) (sym (append-nil before)) ∙ none [] x.1 (envelopes lines) refl in
-          let rest = rec x.1 lines more (λ b e a c. ap (λ bs. fault settings bs e) (append_assoc before (x.1 ∷ []) b) ∙ none (x.1 ∷ b) e a (ap (λ ys. x.1 ∷ ys) c))
-          (ap fault_at_end (append_assoc before (x.1 ∷ []) (envelopes lines)) ∙ end) in
-          rw (is, here, passes) (rest ∙ ap NoFault (append_assoc before (x.1 ∷ []) (envelopes lines)))
+          let said = judged_as settings before x.1 in
+          let later = judged_lines (before ++ said ∷ []) lines in
+          let passes : fault settings before said ≡ None = ap (λ bs. fault settings bs said) (sym (append-nil before)) ∙ none [] said later refl in
+          let rest = rec said lines more (λ b e a c. ap (λ bs. fault settings bs e) (append_assoc before (said ∷ []) b) ∙ none (said ∷ b) e a (ap (λ ys. said ∷ ys) c))
+          (ap fault_at_end (append_assoc before (said ∷ []) later) ∙ end) in
+          rw (is, here, passes) (rest ∙ ap NoFault (append_assoc before (said ∷ []) later))
 
       go : (b : Bool) → is_blank l ≡ b
-          → (map read_line (nonblank_lines (n + 1) ls) ≡ map as_read lines → ((b : List Envelope) (e : Envelope) (a : List Envelope) → envelopes lines ≡ b ++ e ∷ a → fault settings (before ++ b) e ≡ None)
-          → fault_at_end (before ++ envelopes lines) ≡ None → first_fault_of settings before (n + 1) ls None ≡ NoFault (before ++ envelopes lines))
+          → (map read_line (nonblank_lines (n + 1) ls) ≡ map as_read lines → ((b : List Envelope) (e : Envelope) (a : List Envelope) → judged_lines before lines ≡ b ++ e ∷ a → fault settings (before ++ b) e ≡ None)
+          → fault_at_end (before ++ judged_lines before lines) ≡ None → first_fault_of settings before (n + 1) ls None ≡ NoFault (before ++ judged_lines before lines))
           → ((e : Envelope) (more : List (ℕ × Envelope)) → map read_line (nonblank_lines (n + 1) ls) ≡ map as_read more
-          → ((b : List Envelope) (x : Envelope) (a : List Envelope) → envelopes more ≡ b ++ x ∷ a → fault settings ((before ++ e ∷ []) ++ b) x ≡ None) → fault_at_end ((before ++ e ∷ []) ++ envelopes more) ≡ None
-          → first_fault_of settings (before ++ e ∷ []) (n + 1) ls None ≡ NoFault ((before ++ e ∷ []) ++ envelopes more))
-          → first_fault_of settings before n (l ∷ ls) None ≡ NoFault (before ++ envelopes lines)
+          → ((b : List Envelope) (x : Envelope) (a : List Envelope) → judged_lines (before ++ e ∷ []) more ≡ b ++ x ∷ a → fault settings ((before ++ e ∷ []) ++ b) x ≡ None) → fault_at_end ((before ++ e ∷ []) ++ judged_lines (before ++ e ∷ []) more) ≡ None
+          → first_fault_of settings (before ++ e ∷ []) (n + 1) ls None ≡ NoFault ((before ++ e ∷ []) ++ judged_lines (before ++ e ∷ []) more))
+          → first_fault_of settings before n (l ∷ ls) None ≡ NoFault (before ++ judged_lines before lines)
       go true e skip rec = rw e (skip (rw e at read) none end)
       go false e skip rec = filled e lines (rw e at read) none end rec
 
   -- A good list of lines is reported as such.
-  pub read_is_told : (bytes : List ℕ) (lines : List (ℕ × Envelope)) → IsRead bytes lines → Good settings (envelopes lines) → first_fault settings bytes ≡ NoFault (envelopes lines)
-  read_is_told bytes lines read good =
-      let faultless = good_have_no_fault settings (envelopes lines) good in
-      let here : first_fault_of settings [] 1 (feed_of bytes).lines None ≡ NoFault (envelopes lines) = told_good [] 1 (feed_of bytes).lines lines read.read (λ b e a c. faultless.lines b e a c) faultless.end in
-      ap (first_fault_of settings [] 1 (feed_of bytes).lines) read.no_trouble ∙ here
+  pub read_is_told : (bytes : List ℕ) (judged : List Envelope) → IsReadAs settings bytes judged → Good settings judged → first_fault settings bytes ≡ NoFault judged
+  read_is_told bytes judged said good =
+      let lines = said.lines in
+      let faultless = good_have_no_fault settings (judged_lines [] lines) (subst (Good settings) said.judged good) in
+      let here : first_fault_of settings [] 1 (feed_of bytes).lines None ≡ NoFault (judged_lines [] lines) = told_good [] 1 (feed_of bytes).lines lines said.read.read (λ b e a c. faultless.lines b e a c) faultless.end in
+      ap (first_fault_of settings [] 1 (feed_of bytes).lines) said.read.no_trouble ∙ here ∙ ap NoFault (sym said.judged)
 
   pub good_is_told : (bytes : List ℕ) (counts : Counts) → IsGoodStream settings bytes counts → (es : List Envelope) × (first_fault settings bytes ≡ NoFault es) × (counts ≡ counts_of es)
-  good_is_told bytes counts g = let r = g.1 in (envelopes r.lines, read_is_told bytes r.lines r.read r.good, r.exact)
+  good_is_told bytes counts g = let r = g.1 in (r.judged, read_is_told bytes r.judged r.read r.good, r.exact)
 
   -- the answer for a good run
   pub run_is_told : (bytes : List ℕ) (counts : Counts) (success : Bool) → IsGoodRun settings bytes counts success → answer_for (first_fault settings bytes) ≡ GoodWith counts success
   run_is_told bytes counts success r =
-      let here = read_is_told bytes r.lines r.read r.good in
+      let here = read_is_told bytes r.judged r.read r.good in
       let exact = r.exact in
       let said = r.said in
       cc
@@ -174,7 +189,7 @@ module _ (settings : Settings) where
       go : (o : Option Finding) → at_end n before o ≡ At m f → n ≤ m
       go None k = cc
       go (Some g) k = let same : n ≡ m = cc in omega arith
-  at_is_after before n (l ∷ ls) t m f h = go (envelope_unless_blank l) h (at_is_after before (n + 1) ls t m f) (λ e. at_is_after (before ++ e ∷ []) (n + 1) ls t m f)
+  at_is_after before n (l ∷ ls) t m f h = go (line_judged_as settings before (envelope_unless_blank l)) h (at_is_after before (n + 1) ls t m f) (λ e. at_is_after (before ++ e ∷ []) (n + 1) ls t m f)
     where
       on_fault : (e : Envelope) (o : Option Finding) → at_line n o (first_fault_of settings (before ++ e ∷ []) (n + 1) ls t) ≡ At m f → (first_fault_of settings (before ++ e ∷ []) (n + 1) ls t ≡ At m f → n + 1 ≤ m) → n ≤ m
       on_fault e None k rec = let later = rec k in omega arith
@@ -190,7 +205,7 @@ module _ (settings : Settings) where
       → first_fault_of settings before n (front ++ more) u ≡ At m f
   told_by_front before n [] later more t u m f h lt = let le = at_is_after before n later t m f h in absurd (omega arith)
   told_by_front before n (l ∷ front) later more t u m f h lt =
-      go (envelope_unless_blank l) h (λ k. told_by_front before (n + 1) front later more t u m f k (omega arith)) (λ e k. told_by_front (before ++ e ∷ []) (n + 1) front later more t u m f k (omega arith))
+      go (line_judged_as settings before (envelope_unless_blank l)) h (λ k. told_by_front before (n + 1) front later more t u m f k (omega arith)) (λ e k. told_by_front (before ++ e ∷ []) (n + 1) front later more t u m f k (omega arith))
     where
       on_fault : (e : Envelope) (o : Option Finding) → at_line n o (first_fault_of settings (before ++ e ∷ []) (n + 1) (front ++ later) t) ≡ At m f
           → (first_fault_of settings (before ++ e ∷ []) (n + 1) (front ++ later) t ≡ At m f → first_fault_of settings (before ++ e ∷ []) (n + 1) (front ++ more) u ≡ At m f) → at_line n o (first_fault_of settings (before ++ e ∷ []) (n + 1) (front ++ more) u) ≡ At m f

@@ -24,7 +24,7 @@ use Rattle.cm_stream.specs.Release.{each_runs, hold_of, strict_conditions}
 use Rattle.cm_stream.specs.declared.conditions.ReleaseCounts.{ReleaseCounts}
 use Rattle.cm_attempt.specs.declared.policy.Policy.TheVariants.{Strict, PendingPasses}
 use Rattle.cm_envelope.specs.declared.envelope.Envelope.TheVariants as envelope
-use Rattle.cm_stream.proofs.Streaming.{by, one_step, french, source, document, pickle, parse_error, hook, hook_started, hook_finished, one_step_as, one_pickle, outline_front, first_row, second_row, third_row, no_steps_front, empty_case, run_started, run_finished, case, started, step_started, step_finished, finished, Fault, shown, shown_by, good}
+use Rattle.cm_stream.proofs.Streaming.{by, one_step, french, source, document, pickle, parse_error, hook, hook_started, hook_finished, one_step_as, one_pickle, outline_front, first_row, second_row, third_row, no_steps_front, empty_case, run_started, run_finished, case, started, step_started, step_finished, finished, Fault, shown, shown_by, shown_redeclared, good}
 
 -- A pickle without a case is counted as not run.
 never_run : shown (one_pickle ++ run_started ∷ run_finished true ∷ []) ≡ good 1 1 0 0 1
@@ -150,6 +150,17 @@ no_run_finished = refl
 hook_declared_twice : shown (hook ∷ hook ∷ []) ≡ Fault 2 (IsBad fault.DuplicateId)
 unfolding reads lines_read lines_of numbered_lines without_mark chars after text_after_indent first_some trimmed_text begins_by fence_of indent_of is_blank_line language_of step_of title_of token_of cells_of units pickles replaced_after same_skeleton encode
 hook_declared_twice = refl
+
+-- A hook that may be declared again is passed over, and not after the run.
+hook_passed_over : shown_redeclared (hook ∷ run_started ∷ hook ∷ hook_started (codes "r1") ∷ hook_finished (codes "r1") status.Passed ∷ run_finished true ∷ []) ≡ good 0 0 0 0 0
+hook_passed_over = refl
+
+hook_after_the_run : shown_redeclared (hook ∷ run_started ∷ run_finished true ∷ hook ∷ []) ≡ Fault 4 (IsBad fault.AfterRunFinished)
+hook_after_the_run = refl
+
+-- A run hook that starts again isn't.
+run_hook_not_passed_over : shown_redeclared (hook ∷ run_started ∷ hook_started (codes "r1") ∷ hook_started (codes "r1") ∷ []) ≡ Fault 4 (IsBad fault.DuplicateId)
+run_hook_not_passed_over = refl
 
 -- A text in another language is not judged.
 another_language : shown (source (codes "f") french ∷ []) ≡ Fault 1 (IsUnsupported reason.Language)

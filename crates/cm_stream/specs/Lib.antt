@@ -10,6 +10,7 @@
 -- References: what a list of envelopes says
 -- Good: good streams, as predicates on the whole list of envelopes
 -- Checks: the checks of each line in order, over the lines before it
+-- Redeclared: hooks and step definitions that a stream declares again
 -- Stream: good streams of bytes, and the first fault of a stream
 -- Record: the table of the record of attempts after the lines so far
 -- FaultlessLines: lines without a fault, and the table of the record of attempts after them
@@ -18,6 +19,7 @@
 -- CallFaults: what a record of attempts refuses, as the first failed of the checks that are its own
 -- ByOnePass: the checks and the first fault of a stream where sources' texts are read in one pass, as a program
 --   reads them
+-- RedeclaredLaws: what a good stream says of its own envelopes, where hooks and step definitions may be declared again
 -- Unsupported: why a stream isn't judged, by the line that shows it
 -- Release: what a release may ask of a run, and which good runs are released
 -- ReleasedRuns: what a released run says of its scenarios and of the run
@@ -33,6 +35,7 @@ pub mod Calls
 pub mod References
 pub mod Good
 pub mod Checks
+pub mod Redeclared
 pub mod Stream
 pub mod Record
 pub mod FaultlessLines
@@ -40,6 +43,7 @@ pub mod Laws
 pub mod StreamLaws
 pub mod CallFaults
 pub mod ByOnePass
+pub mod RedeclaredLaws
 pub mod Unsupported
 pub mod Release
 pub mod ReleasedRuns

@@ -13,7 +13,7 @@ use Rattle.cm_stream.specs.Statuses.{kept_status}
 use Rattle.cm_stream.specs.References.{pickles, cases, starts, starts_of, case_of, find_case, find_pickle, statuses, run_succeeded}
 use Rattle.cm_attempt.specs.Calls.{last_of}
 use Rattle.cm_stream.specs.Good.{Good}
-use Rattle.cm_stream.specs.Stream.{FirstFault, NoFault, IsFirstFault, IsRead, IsGoodRun, envelopes, counts_of}
+use Rattle.cm_stream.specs.Stream.{FirstFault, NoFault, IsFirstFault, IsReadAs, IsGoodRun, counts_of}
 use Rattle.cm_envelope.specs.declared.envelope.Envelope.{Envelope}
 use Rattle.cm_envelope.specs.declared.envelope.Envelope.TheVariants as envelope
 use Rattle.cm_envelope.specs.declared.envelope.TestCase.{TestCase}
@@ -171,22 +171,22 @@ NoneIs test = AllByRecursion (λ x. test x ≡ false)
 -- a pickle without steps, and no step passed that no step definition matches.
 pub record IsReleasedStream (settings : Settings) (asked : Conditions) (bytes : List ℕ)
     (counts : Counts) (found : ReleaseCounts) : Type 0 where
-  pub lines : List (ℕ × Envelope)
-  pub read : IsRead bytes lines
-  pub good : Good settings (envelopes lines)
-  pub exact : counts ≡ counts_of (envelopes lines)
-  pub found_exact : found ≡ release_counts_of asked settings.policy (envelopes lines)
-  pub succeeded : run_succeeded (envelopes lines) ≡ true
-  pub some_case : cases (envelopes lines) ≢ []
-  pub none_missed : NoneIs (is_missed asked (envelopes lines)) (pickles (envelopes lines))
+  pub judged : List Envelope
+  pub read : IsReadAs settings bytes judged
+  pub good : Good settings judged
+  pub exact : counts ≡ counts_of judged
+  pub found_exact : found ≡ release_counts_of asked settings.policy judged
+  pub succeeded : run_succeeded judged ≡ true
+  pub some_case : cases judged ≢ []
+  pub none_missed : NoneIs (is_missed asked judged) (pickles judged)
   pub none_retried : asked.no_retries ≡ true
-      → NoneIs (is_retried_pickle (envelopes lines)) (pickles (envelopes lines))
+      → NoneIs (is_retried_pickle judged) (pickles judged)
   pub none_skipped : asked.no_skips ≡ true
-      → NoneIs (has_skip (envelopes lines)) (cases (envelopes lines))
+      → NoneIs (has_skip judged) (cases judged)
   pub none_stepless : asked.no_stepless ≡ true
-      → NoneIs (is_stepless (envelopes lines)) (cases (envelopes lines))
+      → NoneIs (is_stepless judged) (cases judged)
   pub none_undefined : asked.no_undefined ≡ true
-      → NoneIs (passes_unmatched settings.policy (envelopes lines)) (envelopes lines)
+      → NoneIs (passes_unmatched settings.policy judged) judged
 
 -- ---- the laws
 
@@ -195,7 +195,7 @@ abbrev pub ReleasedIsNotHeld : Type 0
 ReleasedIsNotHeld =
     (settings : Settings) (asked : Conditions) (bytes : List ℕ) (counts : Counts)
     (found : ReleaseCounts) (success : Bool) (run : IsGoodRun settings bytes counts success)
-    → found ≡ release_counts_of asked settings.policy (envelopes run.lines)
+    → found ≡ release_counts_of asked settings.policy run.judged
     → (hold_of asked success counts found ≡ None)
     ↔ IsReleasedStream settings asked bytes counts found
 
@@ -206,7 +206,7 @@ ReleasedExactly =
     (found : ReleaseCounts)
     → IsReleasedStream settings asked bytes counts found
     ↔ ((success : Bool) × (run : IsGoodRun settings bytes counts success)
-    × (found ≡ release_counts_of asked settings.policy (envelopes run.lines))
+    × (found ≡ release_counts_of asked settings.policy run.judged)
     × (hold_of asked success counts found ≡ None))
 
 -- no line has a fault, and the run of these envelopes isn't held

@@ -29,7 +29,6 @@ use Rattle.cm_stream.specs.References.{Definition, sources, pickles, cases, run_
 use Rattle.cm_stream.specs.Release.{Conditions, IsReleasedStream, attempts_of, is_passing, is_skipped, may_stay_unrun, strict_conditions, test_step_of}
 use Rattle.cm_stream.specs.Sources.{DuePickle, is_due}
 use Rattle.cm_stream.specs.Statuses.{kept_status}
-use Rattle.cm_stream.specs.Stream.{envelopes}
 use Rattle.cm_stream.specs.Texts.{Utf8, same_list}
 use Rattle.cm_stream.specs.declared.conditions.ReleaseCounts.{ReleaseCounts}
 use Rattle.cm_stream.specs.declared.verdict.Counts.{Counts}
@@ -109,9 +108,9 @@ abbrev pub ReleasedRan : Type 0
 ReleasedRan =
     (settings : Settings) (asked : Conditions) (bytes : List ℕ) (counts : Counts)
     (found : ReleaseCounts) (r : IsReleasedStream settings asked bytes counts found)
-    → AllRan settings.policy (envelopes r.lines)
-    × AllByRecursion (RanOrMayNot asked settings.policy (envelopes r.lines))
-    (pickles (envelopes r.lines))
+    → AllRan settings.policy r.judged
+    × AllByRecursion (RanOrMayNot asked settings.policy r.judged)
+    (pickles r.judged)
 
 -- where no pickle may be without a test case, each ran
 abbrev pub EachRan : Type 0
@@ -119,7 +118,7 @@ EachRan =
     (settings : Settings) (asked : Conditions) (bytes : List ℕ) (counts : Counts)
     (found : ReleaseCounts) (r : IsReleasedStream settings asked bytes counts found)
     → asked.allows_unrun ≡ false → asked.allowed_tags ≡ []
-    → EachPickleRan settings.policy (envelopes r.lines)
+    → EachPickleRan settings.policy r.judged
 
 -- ---- by the conditions
 
@@ -146,8 +145,8 @@ abbrev pub ReleasedScenariosRan : Type 0
 ReleasedScenariosRan =
     (settings : Settings) (asked : Conditions) (bytes : List ℕ) (counts : Counts)
     (found : ReleaseCounts) (r : IsReleasedStream settings asked bytes counts found)
-    → AllByRecursion (EachScenarioRan asked settings.policy (envelopes r.lines))
-    (sources (envelopes r.lines))
+    → AllByRecursion (EachScenarioRan asked settings.policy r.judged)
+    (sources r.judged)
 
 -- What is asked of a test case that ran, by its last attempt: that this is the only attempt of its pickle, that none of its
 -- steps was skipped, and that its pickle has steps.
@@ -166,7 +165,7 @@ abbrev pub ReleasedCasesMeet : Type 0
 ReleasedCasesMeet =
     (settings : Settings) (asked : Conditions) (bytes : List ℕ) (counts : Counts)
     (found : ReleaseCounts) (r : IsReleasedStream settings asked bytes counts found)
-    → EachCaseMeets asked settings.policy (envelopes r.lines)
+    → EachCaseMeets asked settings.policy r.judged
 
 -- the test step names a step definition, and the stream declares each that it names
 abbrev pub IsMatched : List Envelope → TestStep → Type 0
@@ -187,8 +186,8 @@ ReleasedStepsMatched =
     (settings : Settings) (asked : Conditions) (bytes : List ℕ) (counts : Counts)
     (found : ReleaseCounts) (r : IsReleasedStream settings asked bytes counts found)
     → asked.no_undefined ≡ true
-    → Everywhere (λ before e after. StepMatched settings.policy (envelopes r.lines) e)
-    (envelopes r.lines)
+    → Everywhere (λ before e after. StepMatched settings.policy r.judged e)
+    r.judged
 
 -- ---- where all is asked, nothing is allowed, and PENDING is no good status
 
@@ -213,5 +212,5 @@ StrictlyReleased =
     (settings : Settings) (bytes : List ℕ) (counts : Counts) (found : ReleaseCounts)
     (r : IsReleasedStream settings strict_conditions bytes counts found)
     → settings.policy ≡ Strict
-    → AllByRecursion (EachScenarioPassed (envelopes r.lines)) (sources (envelopes r.lines))
-    × Everywhere (λ before e after. StepMatched Strict (envelopes r.lines) e) (envelopes r.lines)
+    → AllByRecursion (EachScenarioPassed r.judged) (sources r.judged)
+    × Everywhere (λ before e after. StepMatched Strict r.judged e) r.judged

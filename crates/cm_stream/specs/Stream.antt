@@ -10,6 +10,7 @@ use Rattle.cm_attempt.specs.declared.settings.Settings.{Settings}
 use Rattle.cm_stream.specs.References.{sources, pickles, cases, starts, run_succeeded}
 use Rattle.cm_stream.specs.Good.{Good}
 use Rattle.cm_stream.specs.Checks.{fault_by, fault_at_end}
+use Rattle.cm_stream.specs.Redeclared.{judged_after, line_judged_as}
 use Rattle.cm_stream.specs.Texts.{Utf8}
 use Rattle.cm_stream.specs.Readings.{Reading, ReadsByTheGrammar}
 use Rattle.cm_envelope.specs.declared.envelope.Envelope.{Envelope}
@@ -58,14 +59,21 @@ counts_of es =
       unrun = unrun_count es;
     }
 
+-- The stream is read as envelopes that are judged as these by the settings. They are the envelopes themselves, but that hooks
+-- and step definitions which are declared again may be passed over.
+pub record IsReadAs (settings : Settings) (bytes : List ℕ) (es : List Envelope) : Type 0 where
+  pub lines : List (ℕ × Envelope)
+  pub read : IsRead bytes lines
+  pub judged : es ≡ judged_after settings [] (envelopes lines)
+
 -- a good stream by the settings, which has these counts, and says this of the run's success
 pub record IsGoodRun (settings : Settings) (bytes : List ℕ) (counts : Counts)
     (success : Bool) : Type 0 where
-  pub lines : List (ℕ × Envelope)
-  pub read : IsRead bytes lines
-  pub good : Good settings (envelopes lines)
-  pub exact : counts ≡ counts_of (envelopes lines)
-  pub said : success ≡ run_succeeded (envelopes lines)
+  pub judged : List Envelope
+  pub read : IsReadAs settings bytes judged
+  pub good : Good settings judged
+  pub exact : counts ≡ counts_of judged
+  pub said : success ≡ run_succeeded judged
 
 -- whatever it says of success
 abbrev pub IsGoodStream : Settings → List ℕ → Counts → Type 0
@@ -106,7 +114,8 @@ abbrev pub first_fault_of_by : (read : Utf8 → Reading) → Settings → (befor
 first_fault_of_by read settings before n [] (Some t) = Troubled t
 first_fault_of_by read settings before n [] None = at_end n before (fault_at_end before)
 first_fault_of_by read settings before n (l ∷ ls) t =
-    first_fault_line_by read settings before n (envelope_unless_blank l)
+    first_fault_line_by read settings before n
+    (line_judged_as settings before (envelope_unless_blank l))
     (λ (now : List Envelope). first_fault_of_by read settings now (n + 1) ls t)
 
 -- that is reported of the lines and of the trouble or the end after them, where sources' texts are read by the grammar

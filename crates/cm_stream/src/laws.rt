@@ -2,6 +2,7 @@
 ghost use Rattle.cm_stream.specs.Laws.{FaultlessAreGood, GoodHaveNoFault};
 ghost use Rattle.cm_stream.specs.Readings.{OneReading, SomeReading};
 ghost use Rattle.cm_stream.specs.CallFaults.{OwnAreChecks, CallFaultsAreTold};
+ghost use Rattle.cm_stream.specs.RedeclaredLaws.{NothingIsPassedOver, ReferencesDeclared};
 ghost use Rattle.cm_stream.specs.Release.{FirstFaultReleases, ReleasedExactly, ReleasedIsNotHeld};
 ghost use Rattle.cm_stream.specs.ReleasedRuns.{EachRan, ReleasedCasesMeet, ReleasedRan, ReleasedScenariosRan, ReleasedStepsMatched};
 ghost use Rattle.cm_stream.specs.ReleasedRuns.{StrictlyReleased};
@@ -55,6 +56,17 @@ pub fn found_is_not_good()
 /// Where a stream isn't judged for a reason, the line that is reported shows that reason.
 pub fn reasons_are_shown()
     ensures { ReasonsAreShown }
+{}
+
+/// In a good stream each reference names what exactly one earlier envelope declares; where the settings allow it, a hook or a
+/// step definition may be declared by several.
+pub fn references_are_declared()
+    ensures { ReferencesDeclared }
+{}
+
+/// Where the settings don't allow it, no envelope is passed over.
+pub fn nothing_is_passed_over()
+    ensures { NothingIsPassedOver }
 {}
 
 /// An audit that answers what is reported of the stream's bytes is right in both directions.

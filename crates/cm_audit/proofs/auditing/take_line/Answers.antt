@@ -1,6 +1,5 @@
 use Rattle.std.proofs.Common.{◌≡◌, sym, ◌∙◌, false}
 use Rattle.cm_envelope.specs.Lines.{is_blank}
-use Rattle.cm_audit.specs.State.{summary_of}
 use Rattle.cm_audit.proofs.Answering.{not_read, not_told}
 use Rattle.cm_audit.proofs.auditing.take_line.Goals as goal
 
@@ -12,4 +11,4 @@ returns-in-Err-clause-taken g c =
 pub returns-in-Err-clause-told : goal.returns-in-Err-clause-told
 returns-in-Err-clause-told g c =
     let filled : is_blank c.args.line.now ≡ false = sym c.is_blank_line.ensures ∙ c.if-is_blank_line.false in
-    not_told (g.W.Watch.tells c.args.watch.now) (summary_of c.args.state.now) c.args.line.now filled c.in-Err.fault c.in-Err.ensures c.from.result c.from.ensures
+    not_told (g.W.Watch.tells c.args.watch.now) c.args.settings c.args.state.now c.args.line.now filled c.in-Err.fault c.in-Err.ensures c.from.result c.from.ensures
