@@ -124,14 +124,25 @@ fn runs_with_a_step_that_no_definition_matches(rt: HostRuntime) -> Result<(), Fa
     expect_rows(&rt, rt.alloc(), &words, PENDING)
 }
 
-// Of two reasons the first is told: the words, and the rows of their streams.
+// Of two reasons the first is told: each two that hold together, and no third. A run without a test case has no attempt.
 const TWO_REASONS: &str =
-    "good sources=2 pickles=2 cases=1 attempts=2 unrun=1/stop Unrun/ 5 = source document pickle source_b document_b pickle_b run case:c1:t1 start:a1:c1:0 step:a1:t1 end:a1:t1:FAILED done:a1:true start:a2:c1:1 step:a2:t1 end:a2:t1:PASSED done:a2:false well
-good sources=1 pickles=1 cases=1 attempts=2/stop Retried/ 5 = source document pickle run case:c1:t1 start:a1:c1:0 step:a1:t1 end:a1:t1:FAILED done:a1:true start:a2:c1:1 step:a2:t1 end:a2:t1:SKIPPED done:a2:false well
-good sources=1 pickles=1 cases=1 attempts=1/stop Skipped/ 5 = stepless stepless_document stepless_pickle hook run hooked_stepless_case start:a1:c1:0 step:a1:h1 end:a1:h1:SKIPPED done:a1:false well
-good sources=2 pickles=2 cases=2 attempts=2/stop Stepless/ 5 = stepless stepless_document stepless_pickle source_b document_b pickle_b run stepless_case case_b start:a1:c1:0 done:a1:false start:b1:c2:0 step:b1:t1 end:b1:t1:PASSED done:b1:false well
+    "good sources=0 pickles=0 cases=0 attempts=0/stop NotSuccessful/ 5 = hook run hook_start hook_failed unwell
+good sources=2 pickles=2 cases=1 attempts=1 unrun=1/stop NotSuccessful/ 5 = source document pickle source_b document_b pickle_b run case:c1:t1 start:a1:c1:0 step:a1:t1 end:a1:t1:FAILED done:a1:false unwell
 good sources=1 pickles=1 cases=1 attempts=2/stop NotSuccessful/ 5 = source document pickle run case:c1:t1 start:a1:c1:0 step:a1:t1 end:a1:t1:FAILED done:a1:true start:a2:c1:1 step:a2:t1 end:a2:t1:FAILED done:a2:false unwell
-good sources=1 pickles=1 cases=0 attempts=0 unrun=1/stop Empty/ 5 = source document pickle run well";
+good sources=1 pickles=1 cases=1 attempts=1/stop NotSuccessful/ 5 = source document pickle definition hook run hooked_case start:a1:c1:0 step:a1:h1 end:a1:h1:FAILED step:a1:t1 end:a1:t1:SKIPPED done:a1:false unwell
+good sources=1 pickles=1 cases=1 attempts=1/stop NotSuccessful/ 5 = stepless stepless_document stepless_pickle hook run hooked_stepless_case start:a1:c1:0 step:a1:h1 end:a1:h1:FAILED done:a1:false unwell
+good sources=1 pickles=1 cases=1 attempts=1/stop NotSuccessful/ 5 = source document pickle hook run hook_start hook_failed unmatched_case start:a1:c1:0 step:a1:t1 end:a1:t1:PASSED done:a1:false unwell
+good sources=1 pickles=1 cases=0 attempts=0 unrun=1/stop Empty/ 5 = source document pickle run well
+good sources=2 pickles=2 cases=1 attempts=2 unrun=1/stop Unrun/ 5 = source document pickle source_b document_b pickle_b definition run matched_case start:a1:c1:0 step:a1:t1 end:a1:t1:FAILED done:a1:true start:a2:c1:1 step:a2:t1 end:a2:t1:PASSED done:a2:false well
+good sources=2 pickles=2 cases=1 attempts=1 unrun=1/stop Unrun/ 5 = source document pickle source_b document_b pickle_b run case:c1:t1 start:a1:c1:0 step:a1:t1 end:a1:t1:SKIPPED done:a1:false well
+good sources=2 pickles=2 cases=1 attempts=1 unrun=1/stop Unrun/ 5 = stepless stepless_document stepless_pickle source_b document_b pickle_b run stepless_case start:a1:c1:0 done:a1:false well
+good sources=2 pickles=2 cases=1 attempts=1 unrun=1/stop Unrun/ 5 = source document pickle source_b document_b pickle_b run unmatched_case start:a1:c1:0 step:a1:t1 end:a1:t1:PASSED done:a1:false well
+good sources=1 pickles=1 cases=1 attempts=2/stop Retried/ 5 = source document pickle run case:c1:t1 start:a1:c1:0 step:a1:t1 end:a1:t1:FAILED done:a1:true start:a2:c1:1 step:a2:t1 end:a2:t1:SKIPPED done:a2:false well
+good sources=1 pickles=1 cases=1 attempts=2/stop Retried/ 5 = stepless stepless_document stepless_pickle run stepless_case start:a1:c1:0 done:a1:true start:a2:c1:1 done:a2:false well
+good sources=1 pickles=1 cases=1 attempts=2/stop Retried/ 5 = source document pickle run unmatched_case start:a1:c1:0 step:a1:t1 end:a1:t1:FAILED done:a1:true start:a2:c1:1 step:a2:t1 end:a2:t1:PASSED done:a2:false well
+good sources=1 pickles=1 cases=1 attempts=1/stop Skipped/ 5 = stepless stepless_document stepless_pickle hook run hooked_stepless_case start:a1:c1:0 step:a1:h1 end:a1:h1:SKIPPED done:a1:false well
+good sources=2 pickles=2 cases=2 attempts=2/stop Skipped/ 5 = source document pickle source_b document_b pickle_b run unmatched_case case_b start:a1:c1:0 step:a1:t1 end:a1:t1:PASSED done:a1:false start:b1:c2:0 step:b1:t1 end:b1:t1:SKIPPED done:b1:false well
+good sources=2 pickles=2 cases=2 attempts=2/stop Stepless/ 5 = stepless stepless_document stepless_pickle source_b document_b pickle_b run stepless_case case_b start:a1:c1:0 done:a1:false start:b1:c2:0 step:b1:t1 end:b1:t1:PASSED done:b1:false well";
 
 #[test]
 fn the_first_reason_is_told(rt: HostRuntime) -> Result<(), Fail> {

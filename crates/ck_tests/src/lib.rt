@@ -28,6 +28,10 @@ mod lines;
 #[cfg(test)]
 mod producers;
 #[cfg(test)]
+mod redeclared;
+#[cfg(test)]
+mod releases;
+#[cfg(test)]
 mod retries;
 #[cfg(test)]
 mod running;
