@@ -16,10 +16,11 @@ use Rattle.cm_state.specs.ByOnePass.{answer_of_line, answer_of_lines}
 use Rattle.cm_state.specs.StateChecks.{line_judged_by}
 use Rattle.cm_state.specs.Summary.{Summary, empty_summary}
 use Rattle.cm_audit.specs.Audit.{AnswersAs, ReadsNoFurther, ReadsUpTo, TakesLine, audited_at, contents, judged_line}
-use Rattle.cm_audit.specs.Judging.{HoldNoFault, JudgesAs, JudgesLine, TellsLine, judged, judged_from_first}
+use Rattle.cm_audit.specs.Judging.{HoldNoFault, JudgesAs, JudgesLine, TellsLine, UnlessNoMemory, judged, judged_from_first}
 use Rattle.cm_audit.specs.Stops.{unread_line}
 use Rattle.cm_audit.specs.State.{AreFewer, summary_of}
 use Rattle.cm_audit.specs.Taking.{StopsAtLine, TakesEach, TakesUntil}
+use Rattle.cm_audit.specs.Watched.{envelope_in}
 use Rattle.cm_audit.specs.declared.auditing.Judging.{Judging}
 use Rattle.cm_audit.specs.declared.state.State.{State}
 use Rattle.cm_audit.specs.declared.stop.Stop.{Stop}
@@ -44,7 +45,7 @@ taken settings old new n (Some (Ok e)) more k = rw k.0 (ap more (sym k.1))
 
 -- a line that isn't read
 unread : (settings : Settings) (old : State) (fault : EnvelopeFault) (r : Result Envelope LineFault) → FailsAtLine fault r → TakesLine settings old old (line_judged_by settings (summary_of old) (Some r)) (Err (unread_line fault))
-unread settings old (shape.Line line) r h = rw h refl
+unread settings old (shape.Line line) r h = rw h (refl, refl)
 unread settings old shape.Memory (Ok e) h = refl
 unread settings old shape.Memory (Err b) h = refl
 
@@ -61,13 +62,23 @@ pub not_told : (tells : Summary → Envelope → Type 0) (settings : Settings) (
     → TellsLine tells (summary_of old) (judged_line settings old line) (Err why)
 not_told tells settings old line filled fault h why e = rw (filled, e) (told_unread tells settings (summary_of old) fault (envelope_of_line line) h)
 
+-- and nothing more is followed
+followed_unread : (follows : List Envelope → Type 0) (settings : Settings) (s : Summary) (fault : EnvelopeFault) (r : Result Envelope LineFault) → FailsAtLine fault r
+    → UnlessNoMemory (Err (unread_line fault)) ((es : List Envelope) → follows es → follows (es ++ envelope_in (line_judged_by settings s (Some r))))
+followed_unread follows settings s (shape.Line line) r h = rw h (λ es f. subst follows (sym (append-nil es)) f)
+followed_unread follows settings s shape.Memory r h = tt
+
+pub not_followed : (follows : List Envelope → Type 0) (settings : Settings) (old : State) (line : List ℕ) → is_blank line ≡ false → (fault : EnvelopeFault) → FailsAtLine fault (envelope_of_line line) → (why : Stop) → why ≡ unread_line fault
+    → UnlessNoMemory (Err why) ((es : List Envelope) → follows es → follows (es ++ envelope_in (judged_line settings old line)))
+not_followed follows settings old line filled fault h why e = rw (filled, e) (followed_unread follows settings (summary_of old) fault (envelope_of_line line) h)
+
 found : (settings : Settings) (old new : State) (n : ℕ) (r : Option (Result Envelope LineFault)) (more : Summary → Answer) (why : Stop) → TakesLine settings old new r (Err why)
     → AnswersAs (answer_of_line settings (summary_of old) n r more) (audited_at n why)
 found settings old new n None more why k = absurd k
-found settings old new n (Some (Err b)) more (stop.Bad f) k = let same : IsBad (NoEnvelope b) ≡ IsBad (stream_fault_named f) = cc in ap (Found n) (sym same)
+found settings old new n (Some (Err b)) more (stop.Bad f) k = let told = k.0 in let same : IsBad (NoEnvelope b) ≡ IsBad (stream_fault_named f) = cc in ap (Found n) (sym same)
 found settings old new n (Some (Err b)) more (stop.Unsupported r) k = cc
 found settings old new n (Some (Err b)) more stop.Memory k = tt
-found settings old new n (Some (Ok e)) more (stop.Bad f) k = rw k refl
+found settings old new n (Some (Ok e)) more (stop.Bad f) k = rw k.0 refl
 found settings old new n (Some (Ok e)) more (stop.Unsupported r) k = rw k refl
 found settings old new n (Some (Ok e)) more stop.Memory k = tt
 

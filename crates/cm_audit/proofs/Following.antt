@@ -1,5 +1,7 @@
 -- What goes along with an audit is what it has to be after the stream's envelopes, and at the line that has a fault.
-use Rattle.std.proofs.Common.{◌≡◌, ℕ, ◌+◌, refl, sym, ap, ◌∙◌, subst, List, [], ◌∷◌, ◌++◌, Option, Some, None, Result, Ok, Err, Bool, true, false, inl, inr, append-nil, append_assoc, length, map, arith}
+use Rattle.std.proofs.Common.{◌≡◌, ℕ, ◌+◌, refl, sym, ap, ◌∙◌, subst, List, [], ◌∷◌, ◌++◌, Option, Some, None, Result, Ok, Err, Bool, true, false, inl, inr, append-nil, append_assoc, length, map, arith, ◌<◌}
+use Rattle.std.specs.Prelude.{IfSome, ⊤}
+use Rattle.std.proofs.lemmas.List.{length-append}
 use Rattle.cm_envelope.specs.Device.{Input, OfReads}
 use Rattle.cm_envelope.specs.Feeds.{is_failed_read}
 use Rattle.cm_envelope.specs.Lines.{is_blank}
@@ -12,7 +14,7 @@ use Rattle.cm_attempt.specs.Results.{case_results}
 use Rattle.cm_attempt.specs.Table.{Table}
 use Rattle.cm_attempt.specs.declared.settings.Settings.{Settings}
 use Rattle.cm_stream.specs.ByOnePass.{fault, IsFaultless}
-use Rattle.cm_stream.specs.Findings.{IsBad, NoEnvelope, stream_fault_named}
+use Rattle.cm_stream.specs.Findings.{Finding, IsBad, IsUnsupported, NoEnvelope, stream_fault_named}
 use Rattle.cm_stream.specs.Record.{table_of_envelopes}
 use Rattle.cm_stream.specs.Redeclared.{judged_after, judged_as, line_judged_as}
 use Rattle.cm_stream.specs.Stream.{IsGoodRun, as_read, envelopes, feed_of, nonblank_lines, read_line, envelope_unless_blank}
@@ -33,11 +35,11 @@ use Rattle.cm_state.proofs.Checked.{findings_are_faults}
 use Rattle.cm_state.proofs.Judged.{judged_is_told, none_yet, one_more_line, same_line}
 use Rattle.cm_state.proofs.Steps.{summaries_step}
 use Rattle.cm_audit.specs.Audit.{AnswersAs, GoodAtEnd, IsAuditOf, TakesLine, audited_at, judged_line, unsuccessful}
-use Rattle.cm_audit.specs.Judging.{FollowsAnswer, JudgesLine, JudgesWith, TellsAnswer, TellsLine, judged}
+use Rattle.cm_audit.specs.Judging.{DecidesAnswer, FollowsAnswer, JudgesLine, JudgesWith, ReadsAgain, TellsAnswer, TellsLine, UnlessNoMemory, judged}
 use Rattle.cm_audit.specs.Taking.{StopsAtLine, TakesEach, TakesStream}
 use Rattle.cm_stream.specs.OnePass.{reads}
 use Rattle.cm_stream.proofs.OnePass.{is_read as reads_by_the_grammar}
-use Rattle.cm_audit.specs.Watched.{IsFollowed, IsToldAt, IsWatchedAuditOf, audit_in, envelope_in, envelopes_in, is_of_envelope, judged_in, with_watch}
+use Rattle.cm_audit.specs.Watched.{IsDecidedAt, IsFollowed, IsToldAt, IsWatchedAuditOf, audit_in, envelope_in, envelopes_in, is_of_envelope, judged_in, with_watch}
 use Rattle.cm_audit.specs.State.{summary_of}
 use Rattle.cm_audit.specs.declared.auditing.Judging.{Judging}
 use Rattle.cm_audit.specs.declared.auditing.WatchedAudit.{WatchedAudit}
@@ -163,7 +165,7 @@ module _ {W : Type 0} (follows : W → List Envelope → Type 0) (tells : W → 
       go : (r : Option (Result Envelope LineFault)) → judged_line first.settings h.last.state h.line ≡ r → TakesLine first.settings h.last.state new.state r (Err (stop.Bad b)) → TellsLine (tells new.watch) (summary_of h.last.state) r (Err (stop.Bad b))
           → is_of_envelope b ≡ true → IsToldAt first.settings (tells new.watch) xs (length h.before + 1) b
       go None is k told some = absurd k
-      go (Some (Err f)) is k told some = absurd (not_of_envelope b f k some)
+      go (Some (Err f)) is k told some = absurd (not_of_envelope b f k.0 some)
       go (Some (Ok e)) is k told some =
           let followed = so_far h.last h.before h.taken in
           let o = envelope_unless_blank h.line in
@@ -178,39 +180,108 @@ module _ {W : Type 0} (follows : W → List Envelope → Type 0) (tells : W → 
             said = e;
             is_judged = sym (same_line first.settings es o) ∙ ap (λ (s : Summary). line_judged_by first.settings s o) (sym followed.kept) ∙ is;
             faultless = followed.faultless;
-            why = sym (findings_are_faults first.settings es e followed.faultless) ∙ ap (λ (s : Summary). finding first.settings s e) (sym followed.kept) ∙ k;
+            why = sym (findings_are_faults first.settings es e followed.faultless) ∙ ap (λ (s : Summary). finding first.settings s e) (sym followed.kept) ∙ k.0;
             told = subst (λ (s : Summary). tells new.watch s e) followed.kept told;
           }
 
-  stops_with : (table : Table) (new : Judging W) (answer : Result Audited Trouble) (xs zs : List ℕ) → StopsAtLine (JudgesLine follows tells) first new answer xs zs → JudgesWith first.settings (follows new.watch) (tells new.watch) table answer xs zs
-  stops_with table new answer xs zs h =
+  -- what was read once more is what the line is read as
+  same_envelope : (line : List ℕ) (said e : Envelope) (b : Bool) → is_blank line ≡ b → envelope_unless_blank line ≡ Some (Ok said) → envelope_of_line line ≡ Ok e → envelope_unless_blank line ≡ Some (Ok e)
+  same_envelope line said e true blank is again = let no : (let nothing : Option (Result Envelope LineFault) = None in nothing) ≡ Some (Ok said) = rw blank at is in cc
+  same_envelope line said e false blank is again = rw (blank, again) refl
+
+  decided_at : (new : Judging W) (answer : Result Audited Trouble) (xs zs : List ℕ) (h : StopsAtLine (JudgesLine follows tells) first new answer xs zs) (why : Stop) (f : Finding) (left : Summary → Type 0)
+      → ((x : Envelope) → TakesLine first.settings h.last.state new.state (Some (Ok x)) (Err why) → (finding first.settings (summary_of h.last.state) x ≡ Some f) × left (summary_of h.last.state))
+      → ((b : LineFault) → TakesLine first.settings h.last.state new.state (Some (Err b)) (Err why) → ⊥)
+      → TakesLine first.settings h.last.state new.state (judged_line first.settings h.last.state h.line) (Err why)
+      → ((es : List Envelope) → follows h.last.watch es → follows new.watch (es ++ envelope_in (judged_line first.settings h.last.state h.line)))
+      → (last : Option Envelope) → IfSome last (λ e. envelope_of_line h.line ≡ Ok e) → IfSome last (IsDecidedAt first.settings (follows new.watch) left xs (length h.before + 1) f)
+  decided_at new answer xs zs h why f left found none k goes None again = tt
+  decided_at new answer xs zs h why f left found none k goes (Some e) again = go (envelope_unless_blank h.line) refl
+    where
+      es : List Envelope
+      es = judged_in first.settings h.before
+
+      x : Envelope
+      x = judged_as first.settings es e
+
+      kept : HasFollowed first.settings follows es h.last
+      kept = so_far h.last h.before h.taken
+
+      judged_so : (o : Option (Result Envelope LineFault)) → envelope_unless_blank h.line ≡ o → judged_line first.settings h.last.state h.line ≡ line_judged_as first.settings es o
+      judged_so o is = ap (line_judged_by first.settings (summary_of h.last.state)) is ∙ ap (λ (s : Summary). line_judged_by first.settings s o) kept.kept ∙ same_line first.settings es o
+
+      said : (raw : Envelope) → envelope_unless_blank h.line ≡ Some (Ok raw) → IsDecidedAt first.settings (follows new.watch) left xs (length h.before + 1) f e
+      said raw is =
+          let read : envelope_unless_blank h.line ≡ Some (Ok e) = same_envelope h.line raw e (is_blank h.line) refl is again in
+          let here : judged_line first.settings h.last.state h.line ≡ Some (Ok x) = judged_so (Some (Ok e)) read in
+          let taken = subst (λ (r : Option (Result Envelope LineFault)). TakesLine first.settings h.last.state new.state r (Err why)) here k in
+          record {
+            read = reads;
+            by_the_grammar = reads_by_the_grammar;
+            before = h.before;
+            line = h.line;
+            after = h.after;
+            cut = h.cut;
+            count = refl;
+            is_read = read;
+            faultless = kept.faultless;
+            why = sym (findings_are_faults first.settings es x kept.faultless) ∙ ap (λ (s : Summary). finding first.settings s x) (sym kept.kept) ∙ (found x taken).0;
+            leaves = subst left kept.kept (found x taken).1;
+            followed = subst (λ (r : Option (Result Envelope LineFault)). follows new.watch (es ++ envelope_in r)) here (goes es kept.followed);
+          }
+
+      go : (o : Option (Result Envelope LineFault)) → envelope_unless_blank h.line ≡ o → IsDecidedAt first.settings (follows new.watch) left xs (length h.before + 1) f e
+      go None is = absurd (subst (λ (r : Option (Result Envelope LineFault)). TakesLine first.settings h.last.state new.state r (Err why)) (judged_so None is) k)
+      go (Some (Err b)) is = absurd (none b (subst (λ (r : Option (Result Envelope LineFault)). TakesLine first.settings h.last.state new.state r (Err why)) (judged_so (Some (Err b)) is) k))
+      go (Some (Ok raw)) is = said raw is
+
+  -- a line isn't past the last one
+  within : (before after : List (List ℕ)) (line : List ℕ) (lines : List (List ℕ)) → lines ≡ before ++ line ∷ after → length lines < length before + 1 → ⊥
+  within before after line lines cut less = let count = ap length cut ∙ length-append before (line ∷ after) in omega (arith, count, less)
+
+  decided_by : (new : Judging W) (answer : Result Audited Trouble) (xs zs : List ℕ) (h : StopsAtLine (JudgesLine follows tells) first new answer xs zs) (why : Stop)
+      → TakesLine first.settings h.last.state new.state (judged_line first.settings h.last.state h.line) (Err why)
+      → UnlessNoMemory (Err why) ((es : List Envelope) → follows h.last.watch es → follows new.watch (es ++ envelope_in (judged_line first.settings h.last.state h.line)))
+      → ReadsAgain new.last h.line (Err why) → DecidesAnswer first.settings (follows new.watch) new.last (summary_of new.state) xs (audited_at (length h.before + 1) why)
+  decided_by new answer xs zs h (stop.Bad b) k goes again = (
+    λ some. decided_at new answer xs zs h (stop.Bad b) (IsBad (stream_fault_named b)) (λ s. summary_of new.state ≡ s) (λ x t. t) (λ fault t. not_of_envelope b fault t.0 some) k goes new.last again,
+    λ less. absurd (within h.before h.after h.line (feed_of xs).lines h.cut less),
+  )
+  decided_by new answer xs zs h (stop.Unsupported r) k goes again =
+      decided_at new answer xs zs h (stop.Unsupported r) (IsUnsupported r) (λ s. ⊤) (λ x t. (t, tt)) (λ fault t. cc) k goes new.last again
+  decided_by new answer xs zs h stop.Memory k goes again = tt
+
+  stops_with : (new : Judging W) (answer : Result Audited Trouble) (xs zs : List ℕ) → StopsAtLine (JudgesLine follows tells) first new answer xs zs → JudgesWith first.settings (follows new.watch) (tells new.watch) new.last (summary_of new.state) answer xs zs
+  stops_with new answer xs zs h =
       let own : h.last.settings ≡ first.settings = same_settings follows tells first h.last h.before h.taken in
       let k : TakesLine first.settings h.last.state new.state (judged_line first.settings h.last.state h.line) (Err h.why) = subst (λ (s : Settings). TakesLine s h.last.state new.state (judged_line s h.last.state h.line) (Err h.why)) own h.stopped.taken in
       let told = subst (λ (s : Settings). TellsLine (tells new.watch) (summary_of h.last.state) (judged_line s h.last.state h.line) (Err h.why)) own h.stopped.told in
-      subst (λ (a : Result Audited Trouble). JudgesWith first.settings (follows new.watch) (tells new.watch) table a xs zs) (sym h.answers)
+      let goes = subst (λ (s : Settings). UnlessNoMemory (let stopped : Result ⊤ Stop = Err h.why in stopped) ((es : List Envelope) → follows h.last.watch es → follows new.watch (es ++ envelope_in (judged_line s h.last.state h.line)))) own h.stopped.followed in
+      subst (λ (a : Result Audited Trouble). JudgesWith first.settings (follows new.watch) (tells new.watch) new.last (summary_of new.state) a xs zs) (sym h.answers)
       (record {
         judges = stops_at follows tells first nothing new answer xs zs h k;
-        follows_it = not_followed first.settings (follows new.watch) table (length h.before + 1) h.why xs;
+        follows_it = not_followed first.settings (follows new.watch) (summary_of new.state).table (length h.before + 1) h.why xs;
         told = told_at new answer xs zs h h.why k told;
+        decided = decided_by new answer xs zs h h.why k goes h.stopped.again;
       })
 
-  ended_with : (table : Table) (new : Judging W) (answer : Result Audited Trouble) (xs zs : List ℕ) → TakesStream (JudgesLine follows tells) first new (Err answer) xs zs → JudgesWith first.settings (follows new.watch) (tells new.watch) table answer xs zs
-  ended_with table new answer xs zs (inl h) = stops_with table new answer xs zs h
-  ended_with table new answer xs zs (inr h) =
-      subst (λ (a : Result Audited Trouble). JudgesWith first.settings (follows new.watch) (tells new.watch) table a xs zs) (sym h.1)
-      (record { judges = troubled follows tells first nothing new h.0 xs zs h.2; follows_it = tt; told = tt })
+  ended_with : (new : Judging W) (answer : Result Audited Trouble) (xs zs : List ℕ) → TakesStream (JudgesLine follows tells) first new (Err answer) xs zs → JudgesWith first.settings (follows new.watch) (tells new.watch) new.last (summary_of new.state) answer xs zs
+  ended_with new answer xs zs (inl h) = stops_with new answer xs zs h
+  ended_with new answer xs zs (inr h) =
+      subst (λ (a : Result Audited Trouble). JudgesWith first.settings (follows new.watch) (tells new.watch) new.last (summary_of new.state) a xs zs) (sym h.1)
+      (record { judges = troubled follows tells first nothing new h.0 xs zs h.2; follows_it = tt; told = tt; decided = tt })
 
   -- the answer at a line, or for a trouble
-  pub answers_with : (table : Table) (new : Judging W) (answer : Result Audited Trouble) (a c : Input) → OfReads a c (TakesStream (JudgesLine follows tells) first new (Err answer)) → OfReads a c (JudgesWith first.settings (follows new.watch) (tells new.watch) table answer)
-  answers_with table new answer a c p =
-      reads_weaker {P = TakesStream (JudgesLine follows tells) first new (Err answer)} {Q = JudgesWith first.settings (follows new.watch) (tells new.watch) table answer} a c p (ended_with table new answer)
+  pub answers_with : (new : Judging W) (answer : Result Audited Trouble) (a c : Input) → OfReads a c (TakesStream (JudgesLine follows tells) first new (Err answer)) → OfReads a c (JudgesWith first.settings (follows new.watch) (tells new.watch) new.last (summary_of new.state) answer)
+  answers_with new answer a c p =
+      reads_weaker {P = TakesStream (JudgesLine follows tells) first new (Err answer)} {Q = JudgesWith first.settings (follows new.watch) (tells new.watch) new.last (summary_of new.state) answer} a c p (ended_with new answer)
 
   -- the end, before the run is over
-  pub ends_early_with : (table : Table) (new : Judging W) (n : ℕ) (a c : Input) → new.state.is_finished ≡ false → OfReads a c (TakesStream (JudgesLine follows tells) first new (Ok n))
-      → OfReads a c (JudgesWith first.settings (follows new.watch) (tells new.watch) table (Ok (unsuccessful (verdict.Bad (n + 1) bad.NoRunFinished))))
-  ends_early_with table new n a c e p =
+  pub ends_early_with : (new : Judging W) (n : ℕ) (a c : Input) → new.state.is_finished ≡ false → OfReads a c (TakesStream (JudgesLine follows tells) first new (Ok n))
+      → OfReads a c (JudgesWith first.settings (follows new.watch) (tells new.watch) new.last (summary_of new.state) (Ok (unsuccessful (verdict.Bad (n + 1) bad.NoRunFinished))))
+  ends_early_with new n a c e p =
       let answer : Result Audited Trouble = Ok (unsuccessful (verdict.Bad (n + 1) bad.NoRunFinished)) in
-      reads_weaker {P = TakesStream (JudgesLine follows tells) first new (Ok n)} {Q = JudgesWith first.settings (follows new.watch) (tells new.watch) table answer} a c p
+      reads_weaker {P = TakesStream (JudgesLine follows tells) first new (Ok n)} {Q = JudgesWith first.settings (follows new.watch) (tells new.watch) new.last (summary_of new.state) answer} a c p
       (λ xs zs h. record {
         judges = record {
           told = let end : judged first.settings xs ≡ answer_at_end (length (feed_of xs).lines + 1) (summary_of new.state) (finding_at_end (summary_of new.state)) = judged_all follows tells first nothing new xs None h.whole h.taken in
@@ -220,15 +291,21 @@ module _ {W : Type 0} (follows : W → List Envelope → Type 0) (tells : W → 
         };
         follows_it = tt;
         told = λ some. absurd cc;
+        decided = (
+          λ some. absurd cc,
+          λ less.
+              let followed = so_far new (feed_of xs).lines h.taken in
+              record { read = reads; by_the_grammar = reads_by_the_grammar; whole = h.whole; faultless = followed.faultless; followed = followed.followed; left = followed.kept },
+        );
       })
 
   -- the end, once the run is over
   pub ends_well_with : (new : Judging W) (n : ℕ) (a c : Input) → new.state.is_finished ≡ true → OfReads a c (TakesStream (JudgesLine follows tells) first new (Ok n))
-      → OfReads a c (JudgesWith first.settings (follows new.watch) (tells new.watch) (summary_of new.state).table (Ok (record { verdict = verdict.Good new.state.counts; success = new.state.success })))
+      → OfReads a c (JudgesWith first.settings (follows new.watch) (tells new.watch) new.last (summary_of new.state) (Ok (record { verdict = verdict.Good new.state.counts; success = new.state.success })))
   ends_well_with new n a c e p =
       let s = summary_of new.state in
       let answer : Result Audited Trouble = Ok (record { verdict = verdict.Good s.counts; success = s.success }) in
-      reads_weaker {P = TakesStream (JudgesLine follows tells) first new (Ok n)} {Q = JudgesWith first.settings (follows new.watch) (tells new.watch) s.table answer} a c p
+      reads_weaker {P = TakesStream (JudgesLine follows tells) first new (Ok n)} {Q = JudgesWith first.settings (follows new.watch) (tells new.watch) new.last s answer} a c p
       (λ xs zs h.
       let lines = (feed_of xs).lines in
       let end : answer_at_end (length lines + 1) s (finding_at_end s) ≡ answer_at_end (length lines + 1) s None = rw e refl in
@@ -238,6 +315,7 @@ module _ {W : Type 0} (follows : W → List Envelope → Type 0) (tells : W → 
         judges = record { told = told; read_failed = λ failed. cc; ahead = tt };
         follows_it = followed_good first.settings (follows new.watch) xs s s.counts s.success lines told refl followed.followed (ap (λ (u : Summary). u.table) followed.kept);
         told = tt;
+        decided = tt;
       })
 
   -- no answer at a line or for a trouble is Good
@@ -251,22 +329,24 @@ module _ {W : Type 0} (follows : W → List Envelope → Type 0) (tells : W → 
 -- ---- the audit
 
 module _ {W : Type 0} (settings : Settings) (follows : W → List Envelope → Type 0) (tells : W → Summary → Envelope → Type 0) where
-  watched : (watch : W) (table : Table) (answer : Result Audited Trouble) (xs ys : List ℕ) → JudgesWith settings (follows watch) (tells watch) table answer xs ys → IsWatchedAuditOf settings follows tells (with_watch watch table answer) xs ys
-  watched watch table (Ok audited) xs ys h = record { audit = audit_of settings (Ok audited) xs ys h.judges; followed = h.follows_it; told = h.told }
-  watched watch table (Err t) xs ys h = record { audit = audit_of settings (Err t) xs ys h.judges; followed = tt; told = tt }
+  watched : (watch : W) (last : Option Envelope) (state : State) (answer : Result Audited Trouble) (xs ys : List ℕ) → JudgesWith settings (follows watch) (tells watch) last (summary_of state) answer xs ys
+      → IsWatchedAuditOf settings follows tells (with_watch watch last state answer) xs ys
+  watched watch last state (Ok audited) xs ys h = record { audit = audit_of settings (Ok audited) xs ys h.judges; followed = h.follows_it; told = h.told; decided = h.decided }
+  watched watch last state (Err t) xs ys h = record { audit = audit_of settings (Err t) xs ys h.judges; followed = tt; told = tt; decided = tt }
 
   -- what was judged line by line is an audit that was watched
-  pub watched_audit : (watch : W) (table : Table) (answer : Result Audited Trouble) (a b : Input) → OfReads a b (JudgesWith settings (follows watch) (tells watch) table answer) → OfReads a b (IsWatchedAuditOf settings follows tells (with_watch watch table answer))
-  watched_audit watch table answer a b p =
-      reads_weaker {P = JudgesWith settings (follows watch) (tells watch) table answer} {Q = IsWatchedAuditOf settings follows tells (with_watch watch table answer)} a b p (watched watch table answer)
+  pub watched_audit : (watch : W) (last : Option Envelope) (state : State) (answer : Result Audited Trouble) (a b : Input) → OfReads a b (JudgesWith settings (follows watch) (tells watch) last (summary_of state) answer)
+      → OfReads a b (IsWatchedAuditOf settings follows tells (with_watch watch last state answer))
+  watched_audit watch last state answer a b p =
+      reads_weaker {P = JudgesWith settings (follows watch) (tells watch) last (summary_of state) answer} {Q = IsWatchedAuditOf settings follows tells (with_watch watch last state answer)} a b p (watched watch last state answer)
 
   -- the audit alone
   pub audit_alone : (answer : Result (WatchedAudit W) Trouble) (a b : Input) → OfReads a b (IsWatchedAuditOf settings follows tells answer) → OfReads a b (IsAuditOf settings (audit_in answer))
   audit_alone answer a b p = reads_weaker {P = IsWatchedAuditOf settings follows tells answer} {Q = IsAuditOf settings (audit_in answer)} a b p (λ xs ys h. h.audit)
 
-pub at_end_with : {W : Type 0} (after : Input) (answer : Result Audited Trouble) (watch : W) (table : Table) → GoodAtEnd after answer → GoodAtEnd after (audit_in (with_watch watch table answer))
-at_end_with after (Ok audited) watch table over = over
-at_end_with after (Err t) watch table over = tt
+pub at_end_with : {W : Type 0} (after : Input) (answer : Result Audited Trouble) (watch : W) (last : Option Envelope) (state : State) → GoodAtEnd after answer → GoodAtEnd after (audit_in (with_watch watch last state answer))
+at_end_with after (Ok audited) watch last state over = over
+at_end_with after (Err t) watch last state over = tt
 
 -- a read failed in the audit alone where one failed in the watched one
 pub failed_alone : {W : Type 0} (answer : Result (WatchedAudit W) Trouble) → is_failed_read (audit_in answer) ≡ is_failed_read answer
@@ -275,3 +355,10 @@ failed_alone (Err ReadFailed) = refl
 failed_alone (Err LineTooLong) = refl
 failed_alone (Err StreamTooLong) = refl
 failed_alone (Err Memory) = refl
+
+pub failed_with : {W : Type 0} (answer : Result Audited Trouble) (watch : W) (last : Option Envelope) (state : State) → is_failed_read (with_watch watch last state answer) ≡ is_failed_read answer
+failed_with (Ok a) watch last state = refl
+failed_with (Err ReadFailed) watch last state = refl
+failed_with (Err LineTooLong) watch last state = refl
+failed_with (Err StreamTooLong) watch last state = refl
+failed_with (Err Memory) watch last state = refl

@@ -37,7 +37,7 @@ use Rattle.cm_audit.proofs.KeptRows.{moved_row}
 
 -- the finding is reported, and what is kept is as it was
 pub refuses : (f : Option Finding) (old new : State) (why : Stop) → StopsFor f why → summary_of new ≡ summary_of old → Refuses f old new why
-refuses f old new (stop.Bad b) told same = told
+refuses f old new (stop.Bad b) told same = (told, same)
 refuses f old new (stop.Unsupported r) told same = told
 refuses f old new stop.Memory told same = same
 

@@ -1,8 +1,8 @@
 -- The answer line by line.
-use Rattle.std.specs.Prelude.{◌≡◌, ⊤, ℕ, List, ◌++◌, Option, Some, OnOk, Result, Ok, Err, length}
+use Rattle.std.specs.Prelude.{◌≡◌, ⊤, ℕ, List, ◌++◌, Option, Some, IfSome, Result, Ok, Err, length}
 use Rattle.cm_envelope.specs.Lines.{Line, max_line_bytes, max_stream_bytes}
 use Rattle.cm_envelope.specs.Feeds.{ShowNothing}
-use Rattle.cm_envelope.specs.Reading.{LineFault}
+use Rattle.cm_envelope.specs.Reading.{LineFault, envelope_of_line}
 use Rattle.cm_envelope.specs.declared.envelope.Envelope.{Envelope}
 use Rattle.cm_envelope.specs.declared.feed.Trouble.{Trouble}
 use Rattle.cm_envelope.specs.declared.feed.Trouble.TheVariants.{ReadFailed}
@@ -14,7 +14,7 @@ use Rattle.cm_state.specs.Summary.{Summary, empty_summary}
 use Rattle.cm_state.specs.ByOnePass.{answer_of_lines}
 use Rattle.cm_audit.specs.Audit.{AnswersAs, Begins, ReadsUpTo, TakesLine, all_written, contents, judged_line}
 use Rattle.cm_audit.specs.State.{summary_of}
-use Rattle.cm_audit.specs.Watched.{FollowsGood, TellsVerdict, envelope_in}
+use Rattle.cm_audit.specs.Watched.{DecidesVerdict, FollowsGood, TellsVerdict, envelope_in}
 use Rattle.cm_audit.specs.declared.auditing.Judging.{Judging}
 use Rattle.cm_audit.specs.declared.stop.Stop.{Stop}
 use Rattle.cm_audit.specs.declared.stop.Stop.TheVariants as stop
@@ -50,6 +50,16 @@ abbrev pub TellsLine : (tells : Summary → Envelope → Type 0) → Summary
 TellsLine tells s (Some (Ok e)) (Err (stop.Bad b)) = tells s e
 TellsLine tells s _ _ = ⊤
 
+-- it holds, unless memory was refused
+abbrev pub UnlessNoMemory : Result ⊤ Stop → Type 0 → Type 0
+UnlessNoMemory (Err stop.Memory) P = ⊤
+UnlessNoMemory result P = P
+
+-- what was read once more is the envelope of a line that stops the audit
+abbrev pub ReadsAgain : Option Envelope → List ℕ → Result ⊤ Stop → Type 0
+ReadsAgain last line (Ok done) = ⊤
+ReadsAgain last line (Err why) = IfSome last (λ e. envelope_of_line line ≡ Ok e)
+
 -- What an audit with a watch makes of a line: it is judged, and the watch is told of its envelope.
 pub record JudgesLine {W : Type 0} (follows : W → List Envelope → Type 0)
     (tells : W → Summary → Envelope → Type 0) (old : Judging W) (line : List ℕ)
@@ -57,8 +67,9 @@ pub record JudgesLine {W : Type 0} (follows : W → List Envelope → Type 0)
   pub settings : new.settings ≡ old.settings
   pub taken : TakesLine old.settings old.state new.state
       (judged_line old.settings old.state line) result
-  pub followed : OnOk result ((es : List Envelope) → follows old.watch es
+  pub followed : UnlessNoMemory result ((es : List Envelope) → follows old.watch es
       → follows new.watch (es ++ envelope_in (judged_line old.settings old.state line)))
+  pub again : ReadsAgain new.last line result
   pub told : TellsLine (tells new.watch) (summary_of old.state)
       (judged_line old.settings old.state line) result
 
@@ -75,10 +86,18 @@ FollowsAnswer settings follows table bytes (Ok a) =
     FollowsGood settings follows table bytes a.verdict
 FollowsAnswer settings follows table bytes (Err t) = ⊤
 
+-- what is followed up to the line that decides, where the answer isn't Good
+abbrev pub DecidesAnswer : Settings → (List Envelope → Type 0) → (last : Option Envelope)
+    → (kept : Summary) → List ℕ → Result Audited Trouble → Type 0
+DecidesAnswer settings follows last kept bytes (Ok a) =
+    DecidesVerdict settings follows last kept bytes a.verdict
+DecidesAnswer settings follows last kept bytes (Err t) = ⊤
+
 -- `IsWatchedAuditOf`, where the lines are judged one by one
 pub record JudgesWith (settings : Settings) (follows : List Envelope → Type 0)
-    (tells : Summary → Envelope → Type 0) (table : Table) (answer : Result Audited Trouble)
-    (bytes rest : List ℕ) : Type 0 where
+    (tells : Summary → Envelope → Type 0) (last : Option Envelope) (kept : Summary)
+    (answer : Result Audited Trouble) (bytes rest : List ℕ) : Type 0 where
   pub judges : JudgesAs settings answer bytes rest
-  pub follows_it : FollowsAnswer settings follows table bytes answer
+  pub follows_it : FollowsAnswer settings follows kept.table bytes answer
   pub told : TellsAnswer settings tells bytes answer
+  pub decided : DecidesAnswer settings follows last kept bytes answer

@@ -40,9 +40,10 @@ pub record AreFewer (n : ℕ) (c : Counts) : Type 0 where
   pub attempts : c.attempts < n
   pub unrun : c.unrun < n
 
--- a line has the finding, or memory was refused, and then what is kept is as it was
+-- a line has the finding, or memory was refused; after a fault and without memory what is kept is as it was
 abbrev pub Refuses : Option Finding → (old new : State) → Stop → Type 0
-Refuses f old new (stop.Bad b) = f ≡ Some (IsBad (stream_fault_named b))
+Refuses f old new (stop.Bad b) =
+    (f ≡ Some (IsBad (stream_fault_named b))) × (summary_of new ≡ summary_of old)
 Refuses f old new (stop.Unsupported r) = f ≡ Some (IsUnsupported r)
 Refuses f old new stop.Memory = summary_of new ≡ summary_of old
 

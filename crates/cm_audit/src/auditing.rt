@@ -1,5 +1,5 @@
 //! The audit of a stream of Cucumber Messages.
-ghost use Rattle.std.specs.Prelude.{◌≡◌, ◌+◌, ◌++◌, ◌∷◌, [], List, Some, Ok, Err, OnOk};
+ghost use Rattle.std.specs.Prelude.{◌≡◌, ◌+◌, ◌++◌, ◌∷◌, [], List, Some, Ok, Err, IfSome};
 ghost use Rattle.cm_envelope.specs.Device.{CountsFailure, OfInput, OfReads};
 ghost use Rattle.cm_envelope.specs.declared.envelope.Envelope.{Envelope as SomeEnvelope};
 ghost use Rattle.cm_envelope.specs.declared.feed.Trouble.TheVariants.{ReadFailed};
@@ -8,7 +8,8 @@ ghost use Rattle.cm_stream.specs.Stream.{NoneIsGood, verdict_in};
 ghost use Rattle.cm_audit.specs.Audit.{AnswersTold, Audits, DecidesGood, GoodAtEnd, GoodHeard, IsVerdictOf, ReadsUpTo};
 ghost use Rattle.cm_audit.specs.Audit.{ShowNoFault, ShowsUnsupported, TakesLine, judged_line};
 ghost use Rattle.cm_envelope.specs.Feeds.{is_failed_read};
-ghost use Rattle.cm_audit.specs.Judging.{JudgesLine, JudgesWith, TellsLine};
+ghost use Rattle.cm_envelope.specs.Reading.{envelope_of_line};
+ghost use Rattle.cm_audit.specs.Judging.{JudgesLine, JudgesWith, TellsLine, UnlessNoMemory};
 ghost use Rattle.cm_audit.specs.Watched.{IsWatchedAuditOf, audit_in, envelope_in, with_watch};
 ghost use Rattle.cm_audit.specs.State.{AreFewer, Takes, summary_of};
 ghost use Rattle.cm_state.specs.Summary.{empty_summary};
@@ -19,7 +20,7 @@ use crate::lines::{TakeLines, take_lines};
 use crate::state::State;
 use crate::stop::{Stop, unsuccessful};
 use crate::watch::{Unwatched, Watch};
-use cm_attempt::{Policy, Settings, Track};
+use cm_attempt::{Policy, Settings};
 use cm_envelope::{ByteSource, Envelope, Trouble, is_blank_line, read_envelope};
 use cm_stream::{Audited, StreamFault, Verdict};
 use std::alloc::Global;
@@ -34,7 +35,7 @@ fn take_envelope<W: Watch>(
 ) -> Result<(), Stop>
     requires few { AreFewer MOST state.old.counts }
     ensures taken { Takes settings state.old state.new envelope result }
-    ensures followed { OnOk result ((es : List SomeEnvelope) → W.follows watch.old es
+    ensures followed { UnlessNoMemory result ((es : List SomeEnvelope) → W.follows watch.old es
         → W.follows watch.new (es ++ envelope ∷ [])) }
     ensures told { TellsLine (W.tells watch.new) (summary_of state.old) (Some (Ok envelope))
         result }
@@ -59,7 +60,7 @@ fn take_line<W: Watch>(
     requires few { AreFewer MOST state.old.counts }
     ensures taken { TakesLine settings state.old state.new
         (judged_line settings state.old line.now) result }
-    ensures followed { OnOk result ((es : List SomeEnvelope) → W.follows watch.old es
+    ensures followed { UnlessNoMemory result ((es : List SomeEnvelope) → W.follows watch.old es
         → W.follows watch.new (es ++ envelope_in (judged_line settings state.old line.now))) }
     ensures told { TellsLine (W.tells watch.new) (summary_of state.old)
         (judged_line settings state.old line.now) result }
@@ -76,11 +77,23 @@ fn take_line<W: Watch>(
     }
 }
 
+/// The envelope of a line, read once more, where the line has one and there is memory.
+fn read_again(alloc: Global, line: &[u8]) -> Option<Envelope>
+    ensures { IfSome result (λ envelope. envelope_of_line line.now ≡ Ok envelope) }
+{
+    match read_envelope(alloc, line) {
+        Ok(envelope) => Some(envelope),
+        Err(_) => None,
+    }
+}
+
 /// An audit that is under way.
 #[derive(Drop)]
 struct Judging<W> {
     state: State,
     watch: W,
+    /// The envelope of the line that stopped it, where the watch wants it.
+    last: Option<Envelope>,
     settings: Settings,
 }
 
@@ -90,7 +103,13 @@ impl<W: Watch> TakeLines for Judging<W> {
     ghost takes = { λ old line result new. JudgesLine W.follows W.tells old line result new };
 
     fn take_line(&mut self, alloc: Global, line: &[u8]) -> Result<(), Stop> {
-        take_line(alloc, &mut self.state, &mut self.watch, line, self.settings)
+        let taken = take_line(alloc, &mut self.state, &mut self.watch, line, self.settings);
+        self.last = if taken.is_err() && self.watch.wants_last() {
+            read_again(alloc, line)
+        } else {
+            None
+        };
+        taken
     }
 }
 
@@ -105,7 +124,7 @@ fn judge_lines<R: ByteSource, W: Watch>(
     requires starts { W.follows judging.old.watch [] }
     ensures judged { OfReads (R.input source.old) (R.input source.new)
         (JudgesWith judging.old.settings (W.follows judging.new.watch)
-        (W.tells judging.new.watch) (summary_of judging.new.state).table result) }
+        (W.tells judging.new.watch) judging.new.last (summary_of judging.new.state) result) }
     ensures at_end { GoodAtEnd (R.input source.new) result }
     ensures failures { CountsFailure (is_failed_read result) (R.input source.old).failed_calls
         (R.input source.new).failed_calls }
@@ -123,37 +142,41 @@ fn judge_lines<R: ByteSource, W: Watch>(
     }
 }
 
-/// An audit, with what went along with it and the record of the attempts that it judged.
+/// An audit, with what went along with it and what it keeps.
 #[derive(Drop)]
 pub struct WatchedAudit<W> {
     /// What `audit_run` answers.
     pub audited: Audited,
     pub watch: W,
-    /// The attempts of a good stream. Of any other stream they say nothing.
-    pub attempts: Track,
+    /// The envelope of the line that decided, where the watch wants it and there was memory to read it once more.
+    pub last: Option<Envelope>,
+    /// What is kept of all lines of a good stream, or of the lines before the one that has a fault.
+    pub state: State,
 }
 
-/// The audit with its watch and its attempts, where the stream was read.
+/// The audit with its watch and what it keeps, where the stream was read.
 fn with_watch<W: Drop>(
     audited: Result<Audited, Trouble>,
     watch: W,
-    attempts: Track,
+    last: Option<Envelope>,
+    state: State,
 ) -> Result<WatchedAudit<W>, Trouble>
-    ensures { result ≡ with_watch watch attempts audited }
+    ensures { result ≡ with_watch watch last state audited }
 {
     match audited {
         Ok(audited) => Ok(WatchedAudit {
             audited,
             watch,
-            attempts,
+            last,
+            state,
         }),
         Err(trouble) => Err(trouble),
     }
 }
 
 /// Audits a stream by the settings, as `audit_run` does, and tells the watch of each envelope before it is judged. What the
-/// watch is then: of a good stream what it has to be after all envelopes of the stream, and at the fault of an envelope what
-/// it tells of that envelope and of what is kept of the lines before it.
+/// watch is then: what it has to be after all envelopes of the stream, or after those up to the line that decides, and at the
+/// fault of an envelope what it tells of that envelope and of what is kept of the lines before it.
 ///
 /// # Errors
 /// As those of `audit_run`, and want of memory for the watch.
@@ -174,10 +197,11 @@ pub fn audit_watched<R: ByteSource, W: Watch + Drop>(
     let mut judging = Judging {
         state: State::new(alloc, settings.first_attempt),
         watch,
+        last: None,
         settings,
     };
     let audited = judge_lines(alloc, &mut judging, source);
-    with_watch(audited, judging.watch, judging.state.into_track())
+    with_watch(audited, judging.watch, judging.last, judging.state)
 }
 
 /// The audit alone.

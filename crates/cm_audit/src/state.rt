@@ -122,8 +122,8 @@ impl State {
     }
 
     /// The record of attempts alone.
-    pub(crate) fn into_track(self) -> Track
-        ensures { result ≡ self.track }
+    pub fn into_track(self) -> Track
+        ensures { result ≡ (summary_of self).table }
     {
         let State {
             declared,

@@ -25,6 +25,9 @@ pub trait Watch {
         ensures follows { OnOk result ((es : List SomeEnvelope) → follows self.old es
             → follows self.new (es ++ envelope.now ∷ [])) }
         ensures tells { OnOk result (tells self.new (summary_of state.now) envelope.now) };
+
+    /// Whether it wants the envelope of the line that decides, which is then read once more.
+    fn wants_last(&self) -> bool;
 }
 
 /// Nothing is kept of the envelopes.
@@ -43,5 +46,9 @@ impl Watch for Unwatched {
         _envelope: &Envelope,
     ) -> Result<(), AllocError> {
         Ok(())
+    }
+
+    fn wants_last(&self) -> bool {
+        false
     }
 }

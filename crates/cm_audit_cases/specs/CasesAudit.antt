@@ -5,6 +5,7 @@ use Rattle.cm_attempt.specs.declared.settings.Settings.{Settings}
 use Rattle.cm_cases.specs.Listed.{listing_of}
 use Rattle.cm_stream.specs.declared.verdict.Audited.{Audited}
 use Rattle.cm_audit.specs.Audit.{IsAuditOf}
+use Rattle.cm_audit.specs.State.{summary_of}
 use Rattle.cm_audit.specs.Watched.{FollowsGood}
 use Rattle.cm_audit.specs.declared.auditing.WatchedAudit.{WatchedAudit}
 use Rattle.cm_audit_cases.specs.declared.case_watch.CaseWatch.{CaseWatch}
@@ -29,5 +30,9 @@ pub record IsCasesAuditOf (settings : Settings) (answer : Result AuditedCases Tr
 -- an audit of a stream that was read, with what was watched
 abbrev pub with_cases : Result (WatchedAudit CaseWatch) Trouble → Result AuditedCases Trouble
 with_cases (Ok w) =
-    Ok (record { audited = w.audited; listing = w.watch.listing; attempts = w.attempts })
+    Ok (record {
+      audited = w.audited;
+      listing = w.watch.listing;
+      attempts = (summary_of w.state).table;
+    })
 with_cases (Err t) = Err t

@@ -30,7 +30,7 @@ fn with_cases(watched: Result<WatchedAudit<CaseWatch>, Trouble>) -> Result<Audit
         Ok(watched) => Ok(AuditedCases {
             audited: watched.audited,
             listing: watched.watch.listing,
-            attempts: watched.attempts,
+            attempts: watched.state.into_track(),
         }),
         Err(trouble) => Err(trouble),
     }

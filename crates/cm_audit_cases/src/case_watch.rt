@@ -26,4 +26,8 @@ impl Watch for CaseWatch {
     ) -> Result<(), AllocError> {
         self.listing.note(alloc, envelope)
     }
+
+    fn wants_last(&self) -> bool {
+        false
+    }
 }

@@ -34,6 +34,10 @@ impl Watch for DifferenceWatch {
         self.difference = difference_at(alloc, state, envelope)?;
         Ok(())
     }
+
+    fn wants_last(&self) -> bool {
+        false
+    }
 }
 
 /// The difference of an envelope.

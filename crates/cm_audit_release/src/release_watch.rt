@@ -142,4 +142,8 @@ impl Watch for ReleaseWatch {
             _ => Ok(()),
         }
     }
+
+    fn wants_last(&self) -> bool {
+        false
+    }
 }

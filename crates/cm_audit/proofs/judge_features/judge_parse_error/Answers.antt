@@ -17,7 +17,7 @@ returns-in-None c =
     let rows = kept_rows s.sources.entries in
     let found = found_by c.as_str.result.now uri c.find_source.result rows c.as_str.ensures c.find_source.ensures in
     let row : None ≡ find (λ r. bytes_eq uri r.uri) rows = sym (ap (option_map (λ (k : Bor KeptSource). kept_row uri k.now)) c.in-None.is) ∙ found in
-    error_unknown (summary_of s) c.args.error.now (listed_is uri rows None row)
+    (error_unknown (summary_of s) c.args.error.now (listed_is uri rows None row), refl)
 
 pub returns-in-Some-Accepted : goal.returns-in-Some-Accepted
 returns-in-Some-Accepted c =
@@ -29,7 +29,7 @@ returns-in-Some-Accepted c =
     let row : Some (accepted_row uri a) ≡ find (λ r. bytes_eq uri r.uri) rows =
     sym (ap (λ k. Some (kept_row uri k)) c.in-Some-Accepted.field-0-is) ∙ sym (ap (option_map (λ (k : Bor KeptSource). kept_row uri k.now)) c.in-Some-Accepted.is) ∙ found in
     let good : is_accepted_by (summary_of s) uri ≡ true = rw (← row) refl in
-    error_of_good (summary_of s) c.args.error.now (listed_is uri rows (Some (accepted_row uri a)) row) good
+    (error_of_good (summary_of s) c.args.error.now (listed_is uri rows (Some (accepted_row uri a)) row) good, refl)
 
 pub returns-in-Some-Refused : goal.returns-in-Some-Refused
 returns-in-Some-Refused c =

@@ -18,8 +18,8 @@ use Rattle.cm_audit.proofs.judge_features.judge_source.Goals as goal
 pub returns-then-contains_key : goal.returns-then-contains_key
 returns-then-contains_key c =
     let old = c.args.state.now in
-    source_again (summary_of old) c.args.source
-    (key_listed c.as_str.result.now c.args.source.uri old.sources.entries c.contains_key.result c.as_str.ensures c.contains_key.ensures ∙ c.if-contains_key.true)
+    let again = key_listed c.as_str.result.now c.args.source.uri old.sources.entries c.contains_key.result c.as_str.ensures c.contains_key.ensures ∙ c.if-contains_key.true in
+    (source_again (summary_of old) c.args.source again, refl)
 
 pub returns-then-ne : goal.returns-then-ne
 returns-then-ne c =
