@@ -13,9 +13,9 @@ use Rattle.cm_stream.specs.References.{as_document, cases, find_case, find_pickl
 use Rattle.cm_stream.specs.Release.{is_named}
 use Rattle.cm_stream.specs.Texts.{Utf8}
 use Rattle.cm_cases.specs.Firsts as listed
-use Rattle.cm_cases.specs.Firsts.{entry_of, entry_text, line_in, unrun_entries_text}
+use Rattle.cm_cases.specs.Firsts.{entry_of, entry_scenario, entry_text, line_in, unrun_entries_text}
 use Rattle.cm_cases.specs.Listed.{case_entry, document_entry, listing_of, pickle_entry}
-use Rattle.cm_cases.specs.Places.{case_place, line_of, pickle_of, place_text, places_at, places_of, unrun_lines}
+use Rattle.cm_cases.specs.Places.{case_place, case_scenario, line_of, pickle_of, pickle_scenario, place_text, places_at, places_of, scenario_text, unrun_lines}
 use Rattle.cm_cases.specs.declared.listing.CaseEntry.{CaseEntry}
 use Rattle.cm_cases.specs.declared.listing.DocumentEntry.{DocumentEntry}
 use Rattle.cm_cases.specs.declared.listing.Listing.{Listing}
@@ -44,6 +44,9 @@ places_listed es uri =
 same_line : (es : List Envelope) (p : Pickle) → line_in (listing_of es) (pickle_entry p) ≡ line_of es p
 same_line es p = ap (λ (ps : List Place). option_map_or (λ x. x.line) (find (λ x. bytes_eq (pickle_entry p).node x.id) ps) 0) (places_listed es p.uri)
 
+same_scenario : (es : List Envelope) (p : Pickle) → entry_scenario (listing_of es) (pickle_entry p) ≡ scenario_text es p
+same_scenario es p = rw (same_line es p) refl
+
 same_text : (es : List Envelope) (p : Pickle) → entry_text (listing_of es) (pickle_entry p) ≡ place_text es p
 same_text es p = rw (same_line es p) refl
 
@@ -58,6 +61,21 @@ entry_listed : (es : List Envelope) (id : Utf8) → entry_of (listing_of es) id 
 entry_listed es id =
     ap (option_and_then (λ (c : CaseEntry). find (λ p. bytes_eq c.pickle_id p.id) (listing_of es).pickles)) (find_map (λ c. bytes_eq id c.id) case_entry (cases es))
     ∙ then_same es (find_case id es)
+
+any_scenario : (es : List Envelope) (o : Option Pickle) → flat_map (entry_scenario (listing_of es)) (if_any (option_map pickle_entry o)) ≡ flat_map (scenario_text es) (if_any o)
+any_scenario es None = refl
+any_scenario es (Some p) = ap (λ t. t ++ []) (same_scenario es p)
+
+pub case_scenario_shown : (l : Listing) (es : List Envelope) (id : Utf8) (o : Option PickleEntry) → l ≡ listing_of es → o ≡ entry_of l id → flat_map (entry_scenario l) (if_any o) ≡ case_scenario es id
+case_scenario_shown l es id o is e =
+    let entry : o ≡ option_map pickle_entry (pickle_of es id) = e ∙ ap (λ (k : Listing). entry_of k id) is ∙ entry_listed es id in
+    (λ j. flat_map (entry_scenario (is j)) (if_any (entry j))) ∙ any_scenario es (pickle_of es id)
+
+pub pickle_scenario_shown : (l : Listing) (es : List Envelope) (id : Utf8) (o : Option PickleEntry) → l ≡ listing_of es → o ≡ find (λ p. bytes_eq id p.id) l.pickles → flat_map (entry_scenario l) (if_any o) ≡ pickle_scenario es id
+pickle_scenario_shown l es id o is e =
+    let entry : o ≡ option_map pickle_entry (find_pickle id es) =
+    e ∙ ap (λ (k : Listing). find (λ p. bytes_eq id p.id) k.pickles) is ∙ find_map (λ p. bytes_eq id p.id) pickle_entry (pickles es) in
+    (λ j. flat_map (entry_scenario (is j)) (if_any (entry j))) ∙ any_scenario es (find_pickle id es)
 
 any_shown : (es : List Envelope) (o : Option Pickle) → flat_map (entry_text (listing_of es)) (if_any (option_map pickle_entry o)) ≡ flat_map (place_text es) (if_any o)
 any_shown es None = refl

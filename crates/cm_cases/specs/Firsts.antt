@@ -40,10 +40,13 @@ line_in l p =
     (find (λ x. bytes_eq p.node x.id)
     (option_map_or (λ d. d.places) (find (λ d. bytes_eq p.uri d.uri) l.documents) [])) 0
 
-abbrev pub entry_text : Listing → PickleEntry → List ℕ
-entry_text l p =
+abbrev pub entry_scenario : Listing → PickleEntry → List ℕ
+entry_scenario l p =
     codes " " ++ shown_text p.uri ++ codes ":" ++ decimal (line_in l p) ++ codes " "
-    ++ shown_text p.name ++ line_feed ∷ []
+    ++ shown_text p.name
+
+abbrev pub entry_text : Listing → PickleEntry → List ℕ
+entry_text l p = entry_scenario l p ++ line_feed ∷ []
 
 abbrev pub entry_of : Listing → Utf8 → Option PickleEntry
 entry_of l id =

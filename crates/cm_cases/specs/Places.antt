@@ -59,15 +59,26 @@ abbrev pub line_of : List Envelope → Pickle → ℕ
 line_of es p =
     option_map_or (λ x. x.line) (find (λ x. bytes_eq (last_node p) x.id) (places_at p.uri es)) 0
 
--- ` URI:LINE NAME`, and the end of the line
-abbrev pub place_text : List Envelope → Pickle → List ℕ
-place_text es p =
+-- ` URI:LINE NAME`
+abbrev pub scenario_text : List Envelope → Pickle → List ℕ
+scenario_text es p =
     codes " " ++ shown_text p.uri ++ codes ":" ++ decimal (line_of es p) ++ codes " "
-    ++ shown_text p.name ++ line_feed ∷ []
+    ++ shown_text p.name
+
+-- that, and the end of the line
+abbrev pub place_text : List Envelope → Pickle → List ℕ
+place_text es p = scenario_text es p ++ line_feed ∷ []
 
 -- the pickle that a case names
 abbrev pub pickle_of : List Envelope → (test_case : Utf8) → Option Pickle
 pickle_of es id = option_and_then (λ c. find_pickle c.pickle_id es) (find_case id es)
+
+-- ` URI:LINE NAME` of the pickle of an id, and of that of a case; nothing where there is none
+abbrev pub pickle_scenario : List Envelope → (pickle : Utf8) → List ℕ
+pickle_scenario es id = flat_map (scenario_text es) (if_any (find_pickle id es))
+
+abbrev pub case_scenario : List Envelope → (test_case : Utf8) → List ℕ
+case_scenario es id = flat_map (scenario_text es) (if_any (pickle_of es id))
 
 -- where the pickle of a case stands
 abbrev pub case_place : List Envelope → (test_case : Utf8) → List ℕ

@@ -3,9 +3,9 @@ ghost use Rattle.std.specs.Prelude.{◌≡◌, ◌++◌, List, [], IfOk, OnOk, f
 ghost use Rattle.std.specs.Option.{option_map_or};
 ghost use Rattle.std.specs.Str.{bytes_eq};
 ghost use Rattle.cm_envelope.specs.declared.envelope.Envelope.{Envelope};
-ghost use Rattle.cm_cases.specs.Firsts.{HasFirsts, case_place_text, entry_of, entry_text, is_named, line_in, unrun_entries_text};
+ghost use Rattle.cm_cases.specs.Firsts.{HasFirsts, case_place_text, entry_of, entry_scenario, entry_text, is_named, line_in, unrun_entries_text};
 ghost use Rattle.cm_cases.specs.Listed.{listing_of};
-ghost use Rattle.cm_cases.specs.Places.{case_place, unrun_lines};
+ghost use Rattle.cm_cases.specs.Places.{case_place, case_scenario, pickle_scenario, unrun_lines};
 
 use crate::firsts::{ByText, CaseId, CasePickle, PickleId, PlaceId, add_first, firsts_of};
 use crate::listing::{CaseEntry, DocumentEntry, Listing, PickleEntry, Place};
@@ -134,17 +134,52 @@ impl<'a> Places<'a> {
         self.named.contains_key(pickle.id.as_str())
     }
 
-    fn add_entry(&self, text: &mut String, pickle: &PickleEntry) -> Result<(), AllocError>
+    fn add_scenario(&self, text: &mut String, pickle: &PickleEntry) -> Result<(), AllocError>
         ensures { OnOk result (string_bytes text.new
-            ≡ string_bytes text.old ++ entry_text self.now pickle.now) }
+            ≡ string_bytes text.old ++ entry_scenario self.now pickle.now) }
     {
         text.push_str(" ")?;
         add_shown(text, pickle.uri.as_str())?;
         text.push_str(":")?;
         write!(text, "{}", self.line(pickle))?;
         text.push_str(" ")?;
-        add_shown(text, pickle.name.as_str())?;
+        add_shown(text, pickle.name.as_str())
+    }
+
+    fn add_entry(&self, text: &mut String, pickle: &PickleEntry) -> Result<(), AllocError>
+        ensures { OnOk result (string_bytes text.new
+            ≡ string_bytes text.old ++ entry_text self.now pickle.now) }
+    {
+        self.add_scenario(text, pickle)?;
         text.push_str("\n")
+    }
+
+    /// Adds where the scenario of a pickle stands, and its name.
+    ///
+    /// # Errors
+    /// Only where there is no memory.
+    pub fn add_pickle_scenario(&self, text: &mut String, id: &str) -> Result<(), AllocError>
+        ensures { OnOk result ((es : List Envelope) → self.now ≡ listing_of es
+            → string_bytes text.new ≡ string_bytes text.old ++ pickle_scenario es id.now) }
+    {
+        match self.pickles.get(id) {
+            Some(pickle) => self.add_scenario(text, pickle),
+            None => Ok(()),
+        }
+    }
+
+    /// Adds where the scenario of a case stands, and its name.
+    ///
+    /// # Errors
+    /// Only where there is no memory.
+    pub fn add_case_scenario(&self, text: &mut String, case: &str) -> Result<(), AllocError>
+        ensures { OnOk result ((es : List Envelope) → self.now ≡ listing_of es
+            → string_bytes text.new ≡ string_bytes text.old ++ case_scenario es case.now) }
+    {
+        match self.pickle(case) {
+            Some(pickle) => self.add_scenario(text, pickle),
+            None => Ok(()),
+        }
     }
 
     /// Adds where the pickle of a case stands, to the end of its line.
