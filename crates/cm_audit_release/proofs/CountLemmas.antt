@@ -1,12 +1,12 @@
--- What maps count is what is counted of what is kept.
-use Rattle.std.proofs.Common.{◌≡◌, ◌∙◌, ap, sym, refl, ℕ, ◌+◌, ◌<◌, Bool, true, false, cond, List, [], ◌∷◌, ◌++◌, ◌&&◌, ◌||◌, take, get_or, length, map, not, Option, None, Some, Bor, arith, add-zero, append-nil, ⊎_elim, zero, suc, ◌==◌}
-use Rattle.std.specs.Prelude.{count_by, find, if◌then◌else◌, is_some, nat_lt, option_map}
+-- What maps find is what is found in what is kept.
+use Rattle.std.proofs.Common.{◌≡◌, ◌∙◌, ap, sym, refl, ℕ, ◌+◌, ◌<◌, Bool, true, false, cond, List, [], ◌∷◌, ◌++◌, ◌&&◌, ◌||◌, take, get_or, length, map, not, Option, None, Some, Bor, Result, Ok, Err, arith, add-zero, append-nil, ⊎_elim, zero, suc, ◌==◌}
+use Rattle.std.specs.Prelude.{IfOk, count_by, find, if◌then◌else◌, is_some, nat_lt, option_map}
 use Rattle.std.specs.List.{filter, list_any}
 use Rattle.std.specs.Option.{option_and_then, option_map_or}
 use Rattle.std.specs.Str.{bytes_eq}
 use Rattle.std.proofs.lemmas.Bool.{cases_Bool}
 use Rattle.std.proofs.lemmas.Bool.Decides.{nat_tests}
-use Rattle.std.proofs.lemmas.List.{take_more}
+use Rattle.std.proofs.lemmas.List.{map-append, take_more}
 use Rattle.std.proofs.lemmas.List.Elements.{filter-append}
 use Rattle.std.proofs.lemmas.List.Sums.{sum_by_more}
 use Rattle.std.proofs.lemmas.Slice.Eq.{bytes_eq-Decides}
@@ -20,9 +20,9 @@ use Rattle.cm_stream.specs.Release.{Conditions}
 use Rattle.cm_stream.specs.Texts.{Utf8}
 use Rattle.cm_stream.proofs.Declared.{same_any}
 use Rattle.cm_stream.proofs.Found.{eq_back}
-use Rattle.cm_stream.proofs.Lists.{none_counted}
+use Rattle.cm_stream.proofs.Lists.{keeps_none}
 use Rattle.cm_stream.proofs.Steps.{never}
-use Rattle.cm_audit_release.specs.Counts.{attempts_in, case_in, case_of_attempt, is_attempt_in, is_missed_in, is_retried_in, is_stepless_in, is_undefined_in, last_start, may_stay, passes_in, some_or_more}
+use Rattle.cm_audit_release.specs.Counts.{attempts_in, case_in, case_of_attempt, has_skip_in, is_attempt_in, is_missed_in, is_retried_in, is_stepless_in, is_undefined_in, last_start, may_stay, missed_in, passes_in, retried_in, skipped_in, some_or_more, stepless_in, texts_of}
 use Rattle.cm_audit_release.specs.declared.kept.CaseEntry.{CaseEntry}
 use Rattle.cm_audit_release.specs.declared.kept.FinishEntry.{FinishEntry}
 use Rattle.cm_audit_release.specs.declared.kept.Kept.{Kept}
@@ -52,8 +52,41 @@ pub any_map : {X Y : Type 0} (p : Y → Bool) (f : X → Y) (xs : List X) → li
 any_map p f [] = refl
 any_map p f (x ∷ xs) = ap (λ b. p (f x) || b) (any_map p f xs)
 
-zero_of : {X : Type 0} (p : X → Bool) → ((x : X) → p x ≡ false) → (xs : List X) → count_by p xs ≡ 0
-zero_of p h xs = none_counted p xs (same_any p (λ x. false) h xs ∙ any_none xs)
+none_of : {X : Type 0} (p : X → Bool) → ((x : X) → p x ≡ false) → (xs : List X) → filter p xs ≡ []
+none_of p h xs = keeps_none p xs (same_any p (λ x. false) h xs ∙ any_none xs)
+
+-- ---- results
+
+pub if_ok : {A E : Type 0} (P Q : A → Type 0) (r : Result A E) → IfOk r P → ((a : A) → P a → Q a) → IfOk r Q
+if_ok P Q (Ok a) p f = f a p
+if_ok P Q (Err e) p f = p
+
+-- ---- what passes a test
+
+pub same_picked : {X Y : Type 0} (f : X → Y) (p q : X → Bool) → ((x : X) → p x ≡ q x) → (xs : List X) → map f (filter p xs) ≡ map f (filter q xs)
+same_picked f p q h xs = λ j. map f (filter (λ x. h x j) xs)
+
+-- one more
+picked_more : {X Y : Type 0} (f : X → Y) (p : X → Bool) (xs : List X) (i : ℕ) (x : X) → i < length xs → x ≡ get_or xs i x
+    → map f (filter p (take (i + 1) xs)) ≡ map f (filter p (take i xs)) ++ map f (filter p (x ∷ []))
+picked_more f p xs i x lt at =
+    ap (λ l. map f (filter p l)) (take_more xs i x lt ∙ ap (λ y. take i xs ++ y ∷ []) (sym at))
+    ∙ ap (map f) (filter-append p (take i xs) (x ∷ []))
+    ∙ map-append f (filter p (take i xs)) (filter p (x ∷ []))
+
+pub picked_in : {X : Type 0} (f : X → Utf8) (p : X → Bool) (xs : List X) (i : ℕ) (x : X) (b : Bor Utf8) (old new : List (Bor Utf8)) → i < length xs → x ≡ get_or xs i x
+    → p x ≡ true → b.now ≡ f x → new ≡ old ++ b ∷ [] → texts_of old ≡ map f (filter p (take i xs)) → texts_of new ≡ map f (filter p (take (i + 1) xs))
+picked_in f p xs i x b old new lt at passes same pushed before =
+    ap texts_of pushed ∙ map-append (λ t. t.now) old (b ∷ []) ∙ (λ j. before j ++ same j ∷ [])
+    ∙ ap (λ l. map f (filter p (take i xs)) ++ l) (let one : f x ∷ [] ≡ map f (filter p (x ∷ [])) = rw passes refl in one)
+    ∙ sym (picked_more f p xs i x lt at)
+
+pub picked_out : {X : Type 0} (f : X → Utf8) (p : X → Bool) (xs : List X) (i : ℕ) (x : X) (old : List Utf8) → i < length xs → x ≡ get_or xs i x
+    → p x ≡ false → old ≡ map f (filter p (take i xs)) → old ≡ map f (filter p (take (i + 1) xs))
+picked_out f p xs i x old lt at fails before =
+    before ∙ sym (append-nil (map f (filter p (take i xs))))
+    ∙ ap (λ l. map f (filter p (take i xs)) ++ l) (let none : [] ≡ map f (filter p (x ∷ [])) = rw fails refl in none)
+    ∙ sym (picked_more f p xs i x lt at)
 
 -- ---- options
 
@@ -79,8 +112,9 @@ then_same f g h (Some x) = h x
 
 -- ---- missed
 
-pub none_missed : (asked : Conditions) (kept : Kept) → asked.allows_unrun ≡ true → 0 ≡ count_by (is_missed_in asked kept) kept.pickles
-none_missed asked kept e = sym (zero_of (is_missed_in asked kept) (λ p. rw e (never (not (list_any (λ c. bytes_eq p.id c.pickle_id) kept.cases)))) kept.pickles)
+pub none_missed : (asked : Conditions) (kept : Kept) → asked.allows_unrun ≡ true → [] ≡ missed_in asked kept
+none_missed asked kept e =
+    sym (ap (map (λ p. p.id)) (none_of (is_missed_in asked kept) (λ p. rw e (never (not (list_any (λ c. bytes_eq p.id c.pickle_id) kept.cases)))) kept.pickles))
 
 tags_allowed : (tags : List (Bor Utf8)) (names : List Utf8) → list_any (λ t. list_any (λ (x : Bor Utf8). bytes_eq t x.now) tags) names ≡ list_any (λ tag. list_any (bytes_eq tag) names) (map (λ t. t.now) tags)
 tags_allowed tags names =
@@ -89,14 +123,14 @@ tags_allowed tags names =
     ∙ sym (any_map (λ tag. list_any (bytes_eq tag) names) (λ (t : Bor Utf8). t.now) tags)
 
 module _ {S T : Type 0} where
-  pub missed_counted : (n : ℕ) (asked : Conditions) (kept : Kept) (tags : List (Bor Utf8)) (cs : List CaseEntry) (ps : List PickleEntry) (named : IndexMap (Bor Utf8) (Bor CaseEntry) S) (allowed : IndexMap (Bor Utf8) (Bor (Bor Utf8)) T)
+  pub missed_found : (ids : List Utf8) (asked : Conditions) (kept : Kept) (tags : List (Bor Utf8)) (cs : List CaseEntry) (ps : List PickleEntry) (named : IndexMap (Bor Utf8) (Bor CaseEntry) S) (allowed : IndexMap (Bor Utf8) (Bor (Bor Utf8)) T)
       → asked.allows_unrun ≡ false → asked.allowed_tags ≡ map (λ t. t.now) tags → cs ≡ kept.cases → ps ≡ kept.pickles
       → HasFirsts (λ x. x.now) (λ x. x) (λ c. c.pickle_id) cs named
       → HasFirsts (λ x. x.now) (λ x. x) (λ t. t.now) tags allowed
-      → n ≡ count_by (λ p. not (is_some (value_at named p.id)) && not (list_any (λ t. is_some (value_at allowed t)) p.tags)) ps
-      → n ≡ count_by (is_missed_in asked kept) kept.pickles
-  missed_counted n asked kept tags cs ps named allowed no_unrun are same_cases same_pickles h k count =
-      count ∙ same_count _ (is_missed_in asked kept)
+      → ids ≡ map (λ p. p.id) (filter (λ p. not (is_some (value_at named p.id)) && not (list_any (λ t. is_some (value_at allowed t)) p.tags)) ps)
+      → ids ≡ missed_in asked kept
+  missed_found ids asked kept tags cs ps named allowed no_unrun are same_cases same_pickles h k found =
+      found ∙ same_picked (λ p. p.id) (λ p. not (is_some (value_at named p.id)) && not (list_any (λ t. is_some (value_at allowed t)) p.tags)) (is_missed_in asked kept)
       (λ p.
       let name : is_some (value_at named p.id) ≡ list_any (λ c. bytes_eq p.id c.pickle_id) kept.cases =
       has_any (λ x. x.now) (λ x. x) (λ (c : CaseEntry). c.pickle_id) cs named p.id h ∙ ap (list_any (λ c. bytes_eq p.id c.pickle_id)) same_cases in
@@ -105,7 +139,7 @@ module _ {S T : Type 0} where
       ∙ tags_allowed tags p.tags ∙ ap (list_any (λ tag. list_any (bytes_eq tag) p.tags)) (sym are) in
       let may : list_any (λ tag. list_any (bytes_eq tag) p.tags) asked.allowed_tags ≡ may_stay asked p = ap (λ b. b || list_any (λ tag. list_any (bytes_eq tag) p.tags) asked.allowed_tags) (sym no_unrun) in
       (λ j. not (name j) && not ((tag ∙ may) j)))
-      ps ∙ ap (count_by (is_missed_in asked kept)) same_pickles
+      ps ∙ ap (λ l. map (λ p. p.id) (filter (is_missed_in asked kept) l)) same_pickles
 
 -- ---- retried
 
@@ -162,11 +196,13 @@ some_or_false zero = refl
 some_or_false (suc n) = let no : (suc n == 0) ≡ false = grind (arith, nat_tests) in rw no refl
 
 module _ {S : Type 0} where
-  pub retried_counted : (n : ℕ) (kept : Kept) (ps : List PickleEntry) (seen : IndexMap (Bor Utf8) Bool S) → ps ≡ kept.pickles → ((p : Utf8) → value_at seen p ≡ some_or_more (attempts_in kept.cases p kept.starts))
-      → n ≡ count_by (λ p. option_map_or (λ again. again) (value_at seen p.id) false) ps → n ≡ count_by (is_retried_in kept) kept.pickles
-  retried_counted n kept ps seen same h count =
-      count ∙ same_count _ (is_retried_in kept) (λ p. ap (λ o. option_map_or (λ again. again) o false) (h p.id) ∙ some_or_false (attempts_in kept.cases p.id kept.starts)) ps
-      ∙ ap (count_by (is_retried_in kept)) same
+  pub retried_found : (ids : List Utf8) (kept : Kept) (ps : List PickleEntry) (seen : IndexMap (Bor Utf8) Bool S) → ps ≡ kept.pickles → ((p : Utf8) → value_at seen p ≡ some_or_more (attempts_in kept.cases p kept.starts))
+      → ids ≡ map (λ p. p.id) (filter (λ p. option_map_or (λ again. again) (value_at seen p.id) false) ps) → ids ≡ retried_in kept
+  retried_found ids kept ps seen same h found =
+      found
+      ∙ same_picked (λ p. p.id) (λ p. option_map_or (λ again. again) (value_at seen p.id) false) (is_retried_in kept)
+      (λ p. ap (λ o. option_map_or (λ again. again) o false) (h p.id) ∙ some_or_false (attempts_in kept.cases p.id kept.starts)) ps
+      ∙ ap (λ l. map (λ p. p.id) (filter (is_retried_in kept) l)) same
 
 -- ---- skipped
 
@@ -195,19 +231,31 @@ module _ {S : Type 0} where
       ∙ ⊎_elim (λ yes. rw (turned, yes) (ap Some is)) (λ no. rw (turned, no) (before c)) (cases_Bool (bytes_eq c s.case_id))
       ∙ sym after
 
+module _ {S : Type 0} where
+  pub skipped_found : (ids : List Utf8) (kept : Kept) (attempts : List Utf8) (cs : List CaseEntry) (lasts : IndexMap (Bor Utf8) (Bor StartEntry) S) → cs ≡ kept.cases → attempts ≡ kept.skips
+      → ((c : Utf8) → option_map (λ s. s.now) (value_at lasts c) ≡ last_start kept.starts c)
+      → ids ≡ map (λ c. c.id) (filter (λ c. option_map_or (λ s. list_any (bytes_eq s.now.id) attempts) (value_at lasts c.id) false) cs)
+      → ids ≡ skipped_in kept
+  skipped_found ids kept attempts cs lasts same_cases same_skips h found =
+      found
+      ∙ same_picked (λ c. c.id) (λ c. option_map_or (λ s. list_any (bytes_eq s.now.id) attempts) (value_at lasts c.id) false) (has_skip_in kept)
+      (λ c. or_of_map (λ (s : StartEntry). list_any (bytes_eq s.id) attempts) (λ (s : Bor StartEntry). s.now) (value_at lasts c.id) false
+      ∙ (λ j. option_map_or (λ (s : StartEntry). list_any (bytes_eq s.id) (same_skips j)) (h c.id j) false))
+      cs ∙ ap (λ l. map (λ c. c.id) (filter (has_skip_in kept) l)) same_cases
+
 -- ---- stepless
 
 module _ {S : Type 0} where
-  pub stepless_counted : (n : ℕ) (kept : Kept) (ps : List PickleEntry) (cs : List CaseEntry) (pickles : IndexMap (Bor Utf8) (Bor PickleEntry) S) → ps ≡ kept.pickles → cs ≡ kept.cases
+  pub stepless_found : (ids : List Utf8) (kept : Kept) (ps : List PickleEntry) (cs : List CaseEntry) (pickles : IndexMap (Bor Utf8) (Bor PickleEntry) S) → ps ≡ kept.pickles → cs ≡ kept.cases
       → HasFirsts (λ x. x.now) (λ x. x) (λ p. p.id) ps pickles
-      → n ≡ count_by (λ c. option_map_or (λ p. p.now.is_stepless) (value_at pickles c.pickle_id) false) cs
-      → n ≡ count_by (is_stepless_in kept) kept.cases
-  stepless_counted n kept ps cs pickles same_pickles same_cases h count =
-      count ∙ same_count _ (is_stepless_in kept)
+      → ids ≡ map (λ c. c.id) (filter (λ c. option_map_or (λ p. p.now.is_stepless) (value_at pickles c.pickle_id) false) cs)
+      → ids ≡ stepless_in kept
+  stepless_found ids kept ps cs pickles same_pickles same_cases h found =
+      found ∙ same_picked (λ c. c.id) (λ c. option_map_or (λ p. p.now.is_stepless) (value_at pickles c.pickle_id) false) (is_stepless_in kept)
       (λ c. or_of_map (λ (p : PickleEntry). p.is_stepless) (λ (p : Bor PickleEntry). p.now) (value_at pickles c.pickle_id) false
       ∙ ap (λ o. option_map_or (λ p. p.is_stepless) o false) (h c.pickle_id ∙ same_option _)
       ∙ ap (λ l. option_map_or (λ p. p.is_stepless) (find (λ p. bytes_eq c.pickle_id p.id) l) false) same_pickles)
-      cs ∙ ap (count_by (is_stepless_in kept)) same_cases
+      cs ∙ ap (λ l. map (λ c. c.id) (filter (is_stepless_in kept) l)) same_cases
 
 -- ---- undefined
 

@@ -2,3 +2,4 @@ pub mod KeptLemmas
 pub mod CountLemmas
 pub mod WholeLemmas
 pub mod ReleaseAudit
+pub mod Judging

@@ -5,6 +5,7 @@ use Rattle.std.specs.List.{filter, filter_map, flat_map, list_any}
 use Rattle.std.specs.Option.{option_and_then, option_map_or}
 use Rattle.std.specs.Str.{bytes_eq}
 use Rattle.std.proofs.lemmas.Bool.{cases_Bool}
+use Rattle.std.proofs.lemmas.List.{length-map}
 use Rattle.std.proofs.lemmas.List.Folds.{list_any-append}
 use Rattle.std.proofs.lemmas.List.Sums.{length-filter, sum_by-append, sum_by-cons}
 use Rattle.cm_attempt.specs.Calls.{last_of}
@@ -30,19 +31,31 @@ use Rattle.cm_stream.specs.Statuses.{kept_status}
 use Rattle.cm_stream.specs.Texts.{Utf8}
 use Rattle.cm_stream.proofs.Declared.{case_is, declarer, declares_attempt, declares_case, same_any, start_is}
 use Rattle.cm_stream.proofs.Found.{bytes_are, bytes_same, eq_back, still_found}
-use Rattle.cm_stream.proofs.Lists.{any_front, find_map, or_false}
+use Rattle.cm_stream.proofs.Lists.{any_front, find_map, map_twice, or_false}
 use Rattle.cm_stream.proofs.Refuted.{declared_append, names_after}
-use Rattle.cm_audit_release.specs.Counts.{attempts_in, case_in, case_of_attempt, counts_in, has_skip_in, is_attempt_in, is_missed_in, is_retried_in, is_stepless_in, is_undefined_in, last_start, may_stay}
+use Rattle.cm_audit_release.specs.Counts.{attempts_in, case_in, case_of_attempt, counts_in, has_skip_in, is_attempt_in, is_missed_in, is_retried_in, is_stepless_in, is_undefined_in, last_start, may_stay, missed_in, retried_in, skipped_in, stepless_in}
 use Rattle.cm_audit_release.specs.Kept.{all_unmatched, case_entry, finish_after, finish_among, finish_entry, finishes_from, kept_of, pickle_entry, skip_of, skips_in, start_entry, unmatched_ids}
 use Rattle.cm_audit_release.specs.declared.kept.CaseEntry.{CaseEntry}
 use Rattle.cm_audit_release.specs.declared.kept.PickleEntry.{PickleEntry}
 use Rattle.cm_audit_release.specs.declared.kept.StartEntry.{StartEntry}
-use Rattle.cm_audit_release.proofs.CountLemmas.{any_map, or_of_map}
+use Rattle.cm_audit_release.proofs.CountLemmas.{any_map, or_of_map, same_picked}
+use Rattle.cm_reasons.specs.Reasons.{missed_pickles, retried_pickles, skipped_cases, stepless_cases}
 
 count_map : {X Y : Type 0} (q : Y → Bool) (f : X → Y) (xs : List X) → count_by q (map f xs) ≡ count_by (λ x. q (f x)) xs
 count_map q f [] = refl
 count_map q f (x ∷ xs) =
     sum_by-cons (λ y. cond (q y) 1 0) (f x) (map f xs) ∙ ap (λ n. cond (q (f x)) 1 0 + n) (count_map q f xs) ∙ sym (sum_by-cons (λ y. cond (q (f y)) 1 0) x xs)
+
+filter_of_map : {X Y : Type 0} (q : Y → Bool) (f : X → Y) (xs : List X) → filter q (map f xs) ≡ map f (filter (λ x. q (f x)) xs)
+filter_of_map q f [] = refl
+filter_of_map {X} q f (x ∷ xs) = ⊎_elim (λ yes. rw yes (ap (λ l. f x ∷ l) (filter_of_map q f xs))) (λ no. rw no (filter_of_map q f xs)) (cases_Bool (q (f x)))
+
+-- what of values passes a test, of what they are made of
+picked_map : {X Y Z : Type 0} (g : Y → Z) (q : Y → Bool) (f : X → Y) (xs : List X) → map g (filter q (map f xs)) ≡ map (λ x. g (f x)) (filter (λ x. q (f x)) xs)
+picked_map g q f xs = ap (map g) (filter_of_map q f xs) ∙ map_twice g f (filter (λ x. q (f x)) xs)
+
+picked_count : {X Y : Type 0} (g : X → Y) (p : X → Bool) (xs : List X) → length (map g (filter p xs)) ≡ count_by p xs
+picked_count g p xs = length-map (filter p xs) g ∙ length-filter p xs
 
 -- ---- missed
 
@@ -54,10 +67,10 @@ may_same asked p =
     ap (λ b. asked.allows_unrun || b)
     (same_any (λ tag. list_any (bytes_eq tag) (map (λ (t : PickleTag). t.name) p.tags)) (has_tag p) (λ tag. any_map (bytes_eq tag) (λ (t : PickleTag). t.name) p.tags) asked.allowed_tags)
 
-missed_same : (asked : Conditions) (es : List Envelope) → count_by (is_missed_in asked (kept_of es)) (map pickle_entry (pickles es)) ≡ count_by (is_missed asked es) (pickles es)
+pub missed_same : (asked : Conditions) (es : List Envelope) → missed_in asked (kept_of es) ≡ missed_pickles asked es
 missed_same asked es =
-    count_map (is_missed_in asked (kept_of es)) pickle_entry (pickles es)
-    ∙ same_count (λ p. is_missed_in asked (kept_of es) (pickle_entry p)) (is_missed asked es) (λ p. λ j. not (named_same es p j) && not (may_same asked p j)) (pickles es)
+    picked_map (λ (p : PickleEntry). p.id) (is_missed_in asked (kept_of es)) pickle_entry (pickles es)
+    ∙ same_picked (λ (p : Pickle). p.id) (λ p. is_missed_in asked (kept_of es) (pickle_entry p)) (is_missed asked es) (λ p. λ j. not (named_same es p j) && not (may_same asked p j)) (pickles es)
 
 -- ---- retried
 
@@ -72,10 +85,10 @@ attempts_same es p =
     ∙ same_count (λ s. is_attempt_in (map case_entry (cases es)) p.id (start_entry s)) (is_attempt_of es p) (attempt_same es p) (starts es)
     ∙ sym (length-filter (is_attempt_of es p) (starts es))
 
-retried_same : (es : List Envelope) → count_by (is_retried_in (kept_of es)) (map pickle_entry (pickles es)) ≡ count_by (is_retried_pickle es) (pickles es)
+pub retried_same : (es : List Envelope) → retried_in (kept_of es) ≡ retried_pickles es
 retried_same es =
-    count_map (is_retried_in (kept_of es)) pickle_entry (pickles es)
-    ∙ same_count (λ p. is_retried_in (kept_of es) (pickle_entry p)) (is_retried_pickle es) (λ p. ap (nat_lt 1) (attempts_same es p)) (pickles es)
+    picked_map (λ (p : PickleEntry). p.id) (is_retried_in (kept_of es)) pickle_entry (pickles es)
+    ∙ same_picked (λ (p : Pickle). p.id) (λ p. is_retried_in (kept_of es) (pickle_entry p)) (is_retried_pickle es) (λ p. ap (nat_lt 1) (attempts_same es p)) (pickles es)
 
 -- ---- skipped
 
@@ -83,10 +96,6 @@ last_map : {X Y : Type 0} (f : X → Y) (xs : List X) → last_of (map f xs) ≡
 last_map f [] = refl
 last_map f (x ∷ []) = refl
 last_map f (x ∷ y ∷ more) = last_map f (y ∷ more)
-
-filter_of_map : {X Y : Type 0} (q : Y → Bool) (f : X → Y) (xs : List X) → filter q (map f xs) ≡ map f (filter (λ x. q (f x)) xs)
-filter_of_map q f [] = refl
-filter_of_map {X} q f (x ∷ xs) = ⊎_elim (λ yes. rw yes (ap (λ l. f x ∷ l) (filter_of_map q f xs))) (λ no. rw no (filter_of_map q f xs)) (cases_Bool (q (f x)))
 
 last_same : (es : List Envelope) (c : TestCase) → last_start (map start_entry (starts es)) c.id ≡ option_map start_entry (last_of (starts_of c.id es))
 last_same es c = ap last_of (filter_of_map (λ (s : StartEntry). bytes_eq c.id s.case_id) start_entry (starts es)) ∙ last_map start_entry (starts_of c.id es)
@@ -148,10 +157,10 @@ skip_of_case es c =
     ∙ sym (or_of_map (λ (s : StartEntry). list_any (bytes_eq s.id) (flat_map skips_in es)) start_entry (last_of (starts_of c.id es)) false)
     ∙ or_same (λ (s : TestCaseStarted). list_any (bytes_eq s.id) (flat_map skips_in es)) (λ s. list_any is_skipped (statuses s.id es)) (λ s. skips_same s.id es) (last_of (starts_of c.id es)) false
 
-skipped_same : (es : List Envelope) → count_by (has_skip_in (kept_of es)) (map case_entry (cases es)) ≡ count_by (has_skip es) (cases es)
+pub skipped_same : (es : List Envelope) → skipped_in (kept_of es) ≡ skipped_cases es
 skipped_same es =
-    count_map (has_skip_in (kept_of es)) case_entry (cases es)
-    ∙ same_count (λ c. has_skip_in (kept_of es) (case_entry c)) (has_skip es) (skip_of_case es) (cases es)
+    picked_map (λ (c : CaseEntry). c.id) (has_skip_in (kept_of es)) case_entry (cases es)
+    ∙ same_picked (λ (c : TestCase). c.id) (λ c. has_skip_in (kept_of es) (case_entry c)) (has_skip es) (skip_of_case es) (cases es)
 
 -- ---- stepless
 
@@ -160,10 +169,10 @@ stepless_case es c =
     ap (λ (o : Option PickleEntry). option_map_or (λ p. p.is_stepless) o false) (find_map (λ (p : PickleEntry). bytes_eq c.pickle_id p.id) pickle_entry (pickles es))
     ∙ sym (or_of_map (λ (p : PickleEntry). p.is_stepless) pickle_entry (find_pickle c.pickle_id es) false)
 
-stepless_same : (es : List Envelope) → count_by (is_stepless_in (kept_of es)) (map case_entry (cases es)) ≡ count_by (is_stepless es) (cases es)
+pub stepless_same : (es : List Envelope) → stepless_in (kept_of es) ≡ stepless_cases es
 stepless_same es =
-    count_map (is_stepless_in (kept_of es)) case_entry (cases es)
-    ∙ same_count (λ c. is_stepless_in (kept_of es) (case_entry c)) (is_stepless es) (stepless_case es) (cases es)
+    picked_map (λ (c : CaseEntry). c.id) (is_stepless_in (kept_of es)) case_entry (cases es)
+    ∙ same_picked (λ (c : TestCase). c.id) (λ c. is_stepless_in (kept_of es) (case_entry c)) (is_stepless es) (stepless_case es) (cases es)
 
 -- ---- undefined: the unmatched steps of a case whose steps have distinct ids
 
@@ -357,9 +366,9 @@ module _ (policy : Policy) (es : List Envelope) (good : Sound es) where
 
 pub counts_same : (asked : Conditions) (settings : Settings) (es : List Envelope) → Good settings es → counts_in asked settings.policy (kept_of es) ≡ release_counts_of asked settings.policy es
 counts_same asked settings es good =
-    let missed = missed_same asked es in
-    let retried = retried_same es in
-    let skipped = skipped_same es in
-    let stepless = stepless_same es in
+    let missed = ap length (missed_same asked es) ∙ picked_count (λ (p : Pickle). p.id) (is_missed asked es) (pickles es) in
+    let retried = ap length (retried_same es) ∙ picked_count (λ (p : Pickle). p.id) (is_retried_pickle es) (pickles es) in
+    let skipped = ap length (skipped_same es) ∙ picked_count (λ (c : TestCase). c.id) (has_skip es) (cases es) in
+    let stepless = ap length (stepless_same es) ∙ picked_count (λ (c : TestCase). c.id) (is_stepless es) (cases es) in
     let undefined = from_there settings.policy es good.sound [] es refl in
     λ j. record { missed = missed j; retried = retried j; skipped = skipped j; stepless = stepless j; undefined = undefined j }

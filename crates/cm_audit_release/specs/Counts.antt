@@ -1,5 +1,6 @@
 -- What is counted of what is kept of a stream, for its release.
-use Rattle.std.specs.Prelude.{◌==◌, ◌&&◌, ◌||◌, ℕ, Bool, false, not, List, Option, Some, None, if◌then◌else◌, count_by, filter, find, nat_lt}
+use Rattle.std.specs.Prelude.{◌==◌, ◌&&◌, ◌||◌, ℕ, Bool, false, not, List, Option, Some, None, if◌then◌else◌, count_by, filter, find, length, map, nat_lt}
+use Rattle.std.specs.Borrow.{Bor}
 use Rattle.std.specs.List.{list_any}
 use Rattle.std.specs.Option.{option_and_then, option_map_or}
 use Rattle.std.specs.Str.{bytes_eq}
@@ -83,11 +84,29 @@ is_undefined_in policy kept f =
 
 -- ---- all
 
+-- texts that the code holds by references
+abbrev pub texts_of : List (Bor Utf8) → List Utf8
+texts_of ids = map (λ id. id.now) ids
+
+-- the ids of the pickles and of the cases that pass each test
+abbrev pub missed_in : Conditions → Kept → List Utf8
+missed_in asked kept = map (λ p. p.id) (filter (is_missed_in asked kept) kept.pickles)
+
+abbrev pub retried_in : Kept → List Utf8
+retried_in kept = map (λ p. p.id) (filter (is_retried_in kept) kept.pickles)
+
+abbrev pub skipped_in : Kept → List Utf8
+skipped_in kept = map (λ c. c.id) (filter (has_skip_in kept) kept.cases)
+
+abbrev pub stepless_in : Kept → List Utf8
+stepless_in kept = map (λ c. c.id) (filter (is_stepless_in kept) kept.cases)
+
+-- how many there are of each
 abbrev pub counts_in : Conditions → Policy → Kept → ReleaseCounts
 counts_in asked policy kept = record {
-  missed = count_by (is_missed_in asked kept) kept.pickles;
-  retried = count_by (is_retried_in kept) kept.pickles;
-  skipped = count_by (has_skip_in kept) kept.cases;
-  stepless = count_by (is_stepless_in kept) kept.cases;
+  missed = length (missed_in asked kept);
+  retried = length (retried_in kept);
+  skipped = length (skipped_in kept);
+  stepless = length (stepless_in kept);
   undefined = count_by (is_undefined_in policy kept) kept.finishes;
 }

@@ -111,3 +111,7 @@ module _ {S : Type 0} where
   HasUnmatched ids cases =
       (text : Utf8)
       → has_text text (map string_bytes ids.keys) ≡ has_text text (all_unmatched cases)
+
+  -- it is what is kept of these envelopes, with that set
+  abbrev pub Keeps : Kept → IndexSet (String Global) S → List Envelope → Type 0
+  Keeps kept unmatched es = (kept ≡ kept_of es) × HasUnmatched unmatched kept.cases

@@ -1,45 +1,49 @@
--- The audit of a stream, with what is counted of it for a release.
-use Rattle.std.specs.Prelude.{◌≡◌, ⊤, ℕ, List, Result, Ok, Err}
+-- The audit of a stream, with what is said of its run for a release.
+use Rattle.std.specs.Prelude.{◌≡◌, ⊤, ℕ, Bool, List, Option, Result, Ok, Err, string_bytes}
 use Rattle.cm_envelope.specs.declared.envelope.Envelope.{Envelope}
 use Rattle.cm_envelope.specs.declared.feed.Trouble.{Trouble}
 use Rattle.cm_envelope.specs.declared.feed.Trouble.TheVariants.{Memory}
-use Rattle.cm_attempt.specs.declared.policy.Policy.{Policy}
 use Rattle.cm_attempt.specs.declared.settings.Settings.{Settings}
 use Rattle.cm_stream.specs.Good.{Good}
-use Rattle.cm_stream.specs.Release.{Conditions, release_counts_of}
+use Rattle.cm_stream.specs.Release.{Conditions}
 use Rattle.cm_stream.specs.Stream.{IsReadAs}
 use Rattle.cm_stream.specs.declared.conditions.ReleaseCounts.{ReleaseCounts}
 use Rattle.cm_stream.specs.declared.verdict.Audited.{Audited}
+use Rattle.cm_stream.specs.declared.verdict.Counts.{Counts}
+use Rattle.cm_stream.specs.declared.verdict.Hold.{Hold}
 use Rattle.cm_stream.specs.declared.verdict.Verdict.{Verdict}
 use Rattle.cm_stream.specs.declared.verdict.Verdict.TheVariants as verdict
 use Rattle.cm_audit.specs.Audit.{IsAuditOf}
 use Rattle.cm_audit.specs.declared.auditing.WatchedAudit.{WatchedAudit}
-use Rattle.cm_audit_release.specs.Counts.{counts_in}
+use Rattle.cm_audit_release.specs.Judged.{IsJudged}
+use Rattle.cm_audit_release.specs.Watched.{Follows}
 use Rattle.cm_audit_release.specs.declared.audited_release.AuditedRelease.{AuditedRelease}
-use Rattle.cm_audit_release.specs.declared.kept.Kept.{Kept}
 use Rattle.cm_audit_release.specs.declared.release_watch.ReleaseWatch.{ReleaseWatch}
 
 abbrev pub audited_in : Result AuditedRelease Trouble → Result Audited Trouble
 audited_in (Ok a) = Ok a.audited
 audited_in (Err t) = Err t
 
--- The bytes are those of a good stream, and this is what is counted of its envelopes.
-pub record IsCounted (settings : Settings) (asked : Conditions) (found : ReleaseCounts)
-    (bytes : List ℕ) : Type 0 where
+-- The bytes are those of a good stream, and this is said of the run of its envelopes.
+pub record IsCounted (settings : Settings) (asked : Conditions) (success : Bool) (counts : Counts)
+    (found : ReleaseCounts) (held : Option Hold) (reasons bytes : List ℕ) : Type 0 where
   pub judged : List Envelope
   pub read : IsReadAs settings bytes judged
   pub good : Good settings judged
-  pub counted : found ≡ release_counts_of asked settings.policy judged
+  pub is : IsJudged settings asked judged success counts found held reasons
 
 -- that, where the verdict is Good
-abbrev pub CountsGood : Settings → Conditions → ReleaseCounts → List ℕ → Verdict → Type 0
-CountsGood settings asked found bytes (verdict.Good counts) = IsCounted settings asked found bytes
-CountsGood settings asked found bytes _ = ⊤
+abbrev pub CountsGood : Settings → Conditions → (success : Bool) → ReleaseCounts → Option Hold
+    → (reasons bytes : List ℕ) → Verdict → Type 0
+CountsGood settings asked success found held reasons bytes (verdict.Good counts) =
+    IsCounted settings asked success counts found held reasons bytes
+CountsGood settings asked success found held reasons bytes _ = ⊤
 
 -- that, where the answer is a verdict
 abbrev pub CountsRelease : Settings → Conditions → List ℕ → Result AuditedRelease Trouble → Type 0
 CountsRelease settings asked bytes (Ok a) =
-    CountsGood settings asked a.found bytes a.audited.verdict
+    CountsGood settings asked a.audited.success a.found a.hold (string_bytes a.reasons) bytes
+    a.audited.verdict
 CountsRelease settings asked bytes (Err t) = ⊤
 
 -- what the answer says of the bytes of its stream, and of those that were left to come
@@ -48,17 +52,27 @@ pub record IsReleaseAuditOf (settings : Settings) (asked : Conditions)
   pub audit : IsAuditOf settings (audited_in answer) bytes rest
   pub counted : CountsRelease settings asked bytes answer
 
--- ---- what is counted after the audit
+-- ---- what is said after the audit
 
--- what is counted of what was kept, where the verdict is Good
-abbrev pub IsFoundIn : Conditions → Policy → Kept → Verdict → ReleaseCounts → Type 0
-IsFoundIn asked policy kept (verdict.Good counts) found = found ≡ counts_in asked policy kept
-IsFoundIn asked policy kept _ found = ⊤
+-- what is said of a good run by what went along, where the verdict is Good
+abbrev pub JudgesVerdict : Settings → Conditions → ReleaseWatch → (success : Bool) → ReleaseCounts
+    → Option Hold → (reasons : List ℕ) → Verdict → Type 0
+JudgesVerdict settings asked watch success found held reasons (verdict.Good counts) =
+    (es : List Envelope) → Follows watch es → Good settings es
+    → IsJudged settings asked es success counts found held reasons
+JudgesVerdict settings asked watch success found held reasons _ = ⊤
 
--- of an audit that was watched, the audit with what is counted, unless there was no memory to count it
-abbrev pub CountsWatched : Conditions → Policy → Result (WatchedAudit ReleaseWatch) Trouble
+-- of an audit that was watched, the audit with what is said
+abbrev pub JudgesWatched : Settings → Conditions → WatchedAudit ReleaseWatch → AuditedRelease
+    → Type 0
+JudgesWatched settings asked w a =
+    (a.audited ≡ w.audited)
+    × JudgesVerdict settings asked w.watch w.audited.success a.found a.hold (string_bytes a.reasons)
+    w.audited.verdict
+
+-- that, unless there was no memory for it
+abbrev pub CountsWatched : Settings → Conditions → Result (WatchedAudit ReleaseWatch) Trouble
     → Result AuditedRelease Trouble → Type 0
-CountsWatched asked policy (Ok w) (Ok a) =
-    (a.audited ≡ w.audited) × IsFoundIn asked policy w.watch.kept w.audited.verdict a.found
-CountsWatched asked policy (Ok w) (Err t) = t ≡ Memory
-CountsWatched asked policy (Err t) answer = answer ≡ Err t
+CountsWatched settings asked (Ok w) (Ok a) = JudgesWatched settings asked w a
+CountsWatched settings asked (Ok w) (Err t) = t ≡ Memory
+CountsWatched settings asked (Err t) answer = answer ≡ Err t

@@ -1,85 +1,104 @@
-//! The audit of a stream, with what is counted of it for a release.
+//! The audit of a stream, with what is said of its run for a release.
+ghost use Rattle.std.specs.Prelude.{IfOk, string_bytes};
 ghost use Rattle.cm_envelope.specs.Device.{CountsFailure, OfReads};
 ghost use Rattle.cm_envelope.specs.Feeds.{is_failed_read};
 ghost use Rattle.cm_audit.specs.Audit.{GoodAtEnd};
 ghost use Rattle.cm_stream.specs.Release.{conditions_of};
-ghost use Rattle.std.specs.Prelude.{IfOk};
-ghost use Rattle.cm_audit_release.specs.ReleaseAudit.{CountsWatched, IsFoundIn, IsReleaseAuditOf, audited_in};
+ghost use Rattle.cm_audit_release.specs.ReleaseAudit.{CountsWatched, IsReleaseAuditOf, JudgesVerdict, JudgesWatched, audited_in};
 
-use crate::counting::count_kept;
-use crate::kept::Kept;
+use crate::judgement::Judgement;
 use crate::release_watch::ReleaseWatch;
-use cm_attempt::{Policy, Settings};
+use cm_attempt::Settings;
 use cm_audit::{WatchedAudit, audit_watched};
 use cm_envelope::{ByteSource, Trouble};
-use cm_stream::{Audited, Conditions, ReleaseCounts, Verdict};
+use cm_stream::{Audited, Conditions, Hold, ReleaseCounts, Verdict};
 use std::alloc::{AllocError, Global};
 
-/// An audit; and of a good stream what is counted of it for a release.
+/// An audit; and of a good stream what is counted of it for a release, why its run isn't to be released, and the lines below
+/// that. Of a stream that isn't good these say nothing.
 #[derive(Debug, Drop)]
 pub struct AuditedRelease {
     /// What `audit_run` answers.
     pub audited: Audited,
-    /// Of a stream that isn't good they say nothing.
     pub found: ReleaseCounts,
+    pub hold: Option<Hold>,
+    pub reasons: String,
 }
 
-/// What is counted of what was kept, where the verdict is Good.
-fn found_in(
+/// What is said of the run for a release, where the verdict is Good.
+fn judgement_of(
     alloc: Global,
     conditions: &Conditions<'_>,
-    policy: Policy,
-    kept: &Kept,
-    verdict: Verdict,
-) -> Result<ReleaseCounts, AllocError>
-    ensures { IfOk result (IsFoundIn (conditions_of conditions.now) policy kept.now verdict) }
+    settings: Settings,
+    watch: &ReleaseWatch,
+    audited: Audited,
+) -> Result<Judgement, AllocError>
+    ensures { IfOk result (λ judgement. JudgesVerdict settings (conditions_of conditions.now)
+        watch.now audited.success judgement.found judgement.hold (string_bytes judgement.reasons)
+        audited.verdict) }
 {
-    match verdict {
-        Verdict::Good(_) => count_kept(alloc, conditions, policy, kept),
-        _ => Ok(ReleaseCounts {
-            missed: 0,
-            retried: 0,
-            skipped: 0,
-            stepless: 0,
-            undefined: 0,
-        }),
+    match audited.verdict {
+        Verdict::Good(counts) => {
+            Judgement::of(alloc, conditions, settings, watch, audited.success, counts)
+        }
+        _ => Ok(Judgement::none(alloc)),
     }
 }
 
-/// The audit with what is counted, where the stream was read.
-fn with_counts(
+/// An audit that was watched, with what is said of its run.
+fn judged(
     alloc: Global,
     conditions: &Conditions<'_>,
-    policy: Policy,
-    watched: Result<WatchedAudit<ReleaseWatch>, Trouble>,
+    settings: Settings,
+    watched: &WatchedAudit<ReleaseWatch>,
+) -> Result<AuditedRelease, AllocError>
+    ensures { IfOk result (JudgesWatched settings (conditions_of conditions.now) watched.now) }
+{
+    let audited = watched.audited;
+    let judgement = judgement_of(alloc, conditions, settings, &watched.watch, audited)?;
+    let Judgement {
+        found,
+        hold,
+        reasons,
+    } = judgement;
+    Ok(AuditedRelease {
+        audited,
+        found,
+        hold,
+        reasons,
+    })
+}
+
+/// That, where the stream was read.
+fn with_judgement(
+    alloc: Global,
+    conditions: &Conditions<'_>,
+    settings: Settings,
+    watched: &Result<WatchedAudit<ReleaseWatch>, Trouble>,
 ) -> Result<AuditedRelease, Trouble>
-    ensures { CountsWatched (conditions_of conditions.now) policy watched result }
+    ensures { CountsWatched settings (conditions_of conditions.now) watched.now result }
 {
     match watched {
-        Ok(watched) => {
-            let audited = watched.audited;
-            let kept = &watched.watch.kept;
-            match found_in(alloc, conditions, policy, kept, audited.verdict) {
-                Ok(found) => Ok(AuditedRelease { audited, found }),
-                Err(_) => Err(Trouble::Memory),
-            }
-        }
-        Err(trouble) => Err(trouble),
+        Ok(watched) => match judged(alloc, conditions, settings, watched) {
+            Ok(release) => Ok(release),
+            Err(_) => Err(Trouble::Memory),
+        },
+        Err(trouble) => Err(*trouble),
     }
 }
 
-/// Audits a stream by the settings, as `audit_run` does, and counts what a release may be refused for. Of a stream that isn't
-/// good the counts say nothing.
+/// Audits a stream by the settings, as `audit_run` does, counts what a release may be refused for, and says why a good run
+/// isn't to be released under these conditions.
 ///
 /// # Errors
-/// As those of `audit_run`, and want of memory for the lists and the maps by which they are counted.
+/// As those of `audit_run`, and want of memory for the lists and the maps by which they are counted, and for the lines.
 pub fn audit_release<R: ByteSource>(
     alloc: Global,
     source: &mut R,
     settings: Settings,
     conditions: &Conditions<'_>,
 ) -> Result<AuditedRelease, Trouble>
-    // The audit, and for Good what is counted of the stream's envelopes, all of the same bytes.
+    // The audit, and for Good what is said of the stream's envelopes, all of the same bytes.
     ensures same_bytes { OfReads (R.input source.old) (R.input source.new)
         (IsReleaseAuditOf settings (conditions_of conditions.now) result) }
     ensures at_end { GoodAtEnd (R.input source.new) (audited_in result) }
@@ -88,5 +107,7 @@ pub fn audit_release<R: ByteSource>(
 {
     let watch = ReleaseWatch::new(alloc);
     let watched = audit_watched(alloc, source, settings, watch);
-    with_counts(alloc, conditions, settings.policy, watched)
+    let release = with_judgement(alloc, conditions, settings, &watched);
+    drop(watched);
+    release
 }

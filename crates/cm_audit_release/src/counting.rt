@@ -1,11 +1,15 @@
-//! What is counted of what was kept, by maps.
-ghost use Rattle.std.specs.Prelude.{◌≡◌, ◌&&◌, List, ℕ, Some, None, Bool, false, not, IfOk, OnOk, count_by, is_some, option_map, if◌then◌else◌};
+//! What is found in what was kept, by maps.
+ghost use Rattle.std.specs.Prelude.{◌≡◌, ◌&&◌, List, ℕ, Some, None, Bool, false, not, IfOk, OnOk, filter, is_some, map, option_map, if◌then◌else◌};
 ghost use Rattle.std.specs.List.{list_any};
 ghost use Rattle.std.specs.Option.{option_map_or};
 ghost use Rattle.std.specs.Str.{bytes_eq};
-ghost use Rattle.cm_stream.specs.Release.{conditions_of};
+ghost use Rattle.cm_attempt.specs.declared.policy.Policy.{Policy as SomePolicy};
+ghost use Rattle.cm_stream.specs.Release.{Conditions as SomeConditions, conditions_of};
 ghost use Rattle.cm_cases.specs.Firsts.{value_at};
-ghost use Rattle.cm_audit_release.specs.Counts.{attempts_in, counts_in, has_skip_in, is_missed_in, is_retried_in, is_stepless_in, last_start, some_or_more};
+ghost use Rattle.cm_audit_release.specs.Counts.{attempts_in, counts_in, last_start, some_or_more};
+ghost use Rattle.cm_audit_release.specs.Counts.{missed_in, retried_in, skipped_in, stepless_in, texts_of};
+ghost use Rattle.cm_audit_release.specs.Found.{IsFoundIn};
+ghost use Rattle.cm_audit_release.specs.declared.kept.Kept.{Kept as SomeKept};
 
 use crate::kept::{CaseEntry, Kept, PickleEntry, StartEntry};
 use crate::texts::{CaseId, CasePickle, PickleId, TextSet, Whole};
@@ -38,32 +42,41 @@ fn is_unnamed(
     !named.contains_key(pickle.id.as_str()) && !is_allowed(allowed, pickle.tags.as_slice())
 }
 
-/// How many of the pickles no case names, and have no allowed tag.
-fn count_unnamed(
+/// The ids of the pickles that no case names, and that have no allowed tag.
+fn unnamed_of<'a>(
+    alloc: Global,
     named: &ByText<'_, &CaseEntry>,
     allowed: &ByText<'_, &&str>,
-    pickles: &[PickleEntry],
-) -> u64
-    ensures { result ≡ count_by (λ p. not (is_some (value_at named.now p.id))
-        && not (list_any (λ t. is_some (value_at allowed.now t)) p.tags)) pickles.now }
+    pickles: &'a [PickleEntry],
+) -> Result<Vec<&'a str>, AllocError>
+    ensures { IfOk result (λ ids. texts_of ids.items
+        ≡ map (λ p. p.id) (filter (λ p. not (is_some (value_at named.now p.id))
+        && not (list_any (λ t. is_some (value_at allowed.now t)) p.tags)) pickles.now)) }
 {
-    pickles
-        .iter()
-        .filter(|pickle| is_unnamed(named, allowed, pickle))
-        .count() as u64
+    let mut ids = Vec::new(alloc);
+    for pickle in pickles {
+        if is_unnamed(named, allowed, pickle) {
+            ids.push(pickle.id.as_str())?;
+        }
+    }
+    Ok(ids)
 }
 
-/// How many pickles are missed.
-fn count_missed(alloc: Global, conditions: &Conditions<'_>, kept: &Kept) -> Result<u64, AllocError>
-    ensures { IfOk result (λ n. n
-        ≡ count_by (is_missed_in (conditions_of conditions.now) kept.now) kept.now.pickles) }
+/// The ids of the pickles that are missed.
+fn missed_of<'a>(
+    alloc: Global,
+    conditions: &Conditions<'_>,
+    kept: &'a Kept,
+) -> Result<Vec<&'a str>, AllocError>
+    ensures { IfOk result (λ ids. texts_of ids.items
+        ≡ missed_in (conditions_of conditions.now) kept.now) }
 {
     if conditions.allows_unrun {
-        return Ok(0);
+        return Ok(Vec::new(alloc));
     }
     let named = firsts_of::<CasePickle, CaseEntry>(alloc, kept.cases.as_slice())?;
     let allowed = firsts_of::<Whole, &str>(alloc, conditions.allowed_tags.as_slice())?;
-    Ok(count_unnamed(&named, &allowed, kept.pickles.as_slice()))
+    unnamed_of(alloc, &named, &allowed, kept.pickles.as_slice())
 }
 
 // ---- retried
@@ -104,23 +117,30 @@ fn is_again(seen: &ByText<'_, bool>, pickle: &str) -> bool
     }
 }
 
-/// How many of the pickles were noted more than once.
-fn count_again(seen: &ByText<'_, bool>, pickles: &[PickleEntry]) -> u64
-    ensures { result ≡ count_by (λ p. option_map_or (λ again. again) (value_at seen.now p.id) false)
-        pickles.now }
+/// The ids of the pickles that were noted more than once.
+fn again_of<'a>(
+    alloc: Global,
+    seen: &ByText<'_, bool>,
+    pickles: &'a [PickleEntry],
+) -> Result<Vec<&'a str>, AllocError>
+    ensures { IfOk result (λ ids. texts_of ids.items ≡ map (λ p. p.id)
+        (filter (λ p. option_map_or (λ again. again) (value_at seen.now p.id) false) pickles.now)) }
 {
-    pickles
-        .iter()
-        .filter(|pickle| is_again(seen, pickle.id.as_str()))
-        .count() as u64
+    let mut ids = Vec::new(alloc);
+    for pickle in pickles {
+        if is_again(seen, pickle.id.as_str()) {
+            ids.push(pickle.id.as_str())?;
+        }
+    }
+    Ok(ids)
 }
 
-/// How many pickles have more than one attempt.
-fn count_retried(alloc: Global, kept: &Kept) -> Result<u64, AllocError>
-    ensures { IfOk result (λ n. n ≡ count_by (is_retried_in kept.now) kept.now.pickles) }
+/// The ids of the pickles that have more than one attempt.
+fn retried_of<'a>(alloc: Global, kept: &'a Kept) -> Result<Vec<&'a str>, AllocError>
+    ensures { IfOk result (λ ids. texts_of ids.items ≡ retried_in kept.now) }
 {
     let seen = attempts_of(alloc, kept)?;
-    Ok(count_again(&seen, kept.pickles.as_slice()))
+    again_of(alloc, &seen, kept.pickles.as_slice())
 }
 
 // ---- skipped
@@ -151,24 +171,33 @@ fn is_last_among(lasts: &ByText<'_, &StartEntry>, attempts: &TextSet<'_>, case: 
     }
 }
 
-/// How many cases have a last attempt among these.
-fn count_last(lasts: &ByText<'_, &StartEntry>, attempts: &TextSet<'_>, cases: &[CaseEntry]) -> u64
-    ensures { result ≡ count_by (λ c. option_map_or (λ s. list_any (bytes_eq s.now.id) attempts.now)
-        (value_at lasts.now c.id) false) cases.now }
+/// The ids of the cases that have a last attempt among these.
+fn last_among<'a>(
+    alloc: Global,
+    lasts: &ByText<'_, &StartEntry>,
+    attempts: &TextSet<'_>,
+    cases: &'a [CaseEntry],
+) -> Result<Vec<&'a str>, AllocError>
+    ensures { IfOk result (λ ids. texts_of ids.items ≡ map (λ c. c.id)
+        (filter (λ c. option_map_or (λ s. list_any (bytes_eq s.now.id) attempts.now)
+        (value_at lasts.now c.id) false) cases.now)) }
 {
-    cases
-        .iter()
-        .filter(|case| is_last_among(lasts, attempts, case.id.as_str()))
-        .count() as u64
+    let mut ids = Vec::new(alloc);
+    for case in cases {
+        if is_last_among(lasts, attempts, case.id.as_str()) {
+            ids.push(case.id.as_str())?;
+        }
+    }
+    Ok(ids)
 }
 
-/// How many cases have a skipped step in their last attempt.
-fn count_skipped(alloc: Global, kept: &Kept) -> Result<u64, AllocError>
-    ensures { IfOk result (λ n. n ≡ count_by (has_skip_in kept.now) kept.now.cases) }
+/// The ids of the cases that have a skipped step in their last attempt.
+fn skipped_of<'a>(alloc: Global, kept: &'a Kept) -> Result<Vec<&'a str>, AllocError>
+    ensures { IfOk result (λ ids. texts_of ids.items ≡ skipped_in kept.now) }
 {
     let lasts = lasts_of(alloc, kept.starts.as_slice())?;
     let skips = TextSet::of(alloc, kept.skips.as_slice())?;
-    Ok(count_last(&lasts, &skips, kept.cases.as_slice()))
+    last_among(alloc, &lasts, &skips, kept.cases.as_slice())
 }
 
 // ---- stepless
@@ -184,43 +213,75 @@ fn is_stepless(pickles: &ByText<'_, &PickleEntry>, pickle: &str) -> bool
     }
 }
 
-/// How many of the cases are of a pickle without steps.
-fn count_of_stepless(pickles: &ByText<'_, &PickleEntry>, cases: &[CaseEntry]) -> u64
-    ensures { result ≡ count_by
+/// The ids of those of the cases that are of a pickle without steps.
+fn of_stepless<'a>(
+    alloc: Global,
+    pickles: &ByText<'_, &PickleEntry>,
+    cases: &'a [CaseEntry],
+) -> Result<Vec<&'a str>, AllocError>
+    ensures { IfOk result (λ ids. texts_of ids.items ≡ map (λ c. c.id) (filter
         (λ c. option_map_or (λ p. p.now.is_stepless) (value_at pickles.now c.pickle_id) false)
-        cases.now }
+        cases.now)) }
 {
-    cases
-        .iter()
-        .filter(|case| is_stepless(pickles, case.pickle_id.as_str()))
-        .count() as u64
+    let mut ids = Vec::new(alloc);
+    for case in cases {
+        if is_stepless(pickles, case.pickle_id.as_str()) {
+            ids.push(case.id.as_str())?;
+        }
+    }
+    Ok(ids)
 }
 
-/// How many cases are of a pickle without steps.
-fn count_stepless(alloc: Global, kept: &Kept) -> Result<u64, AllocError>
-    ensures { IfOk result (λ n. n ≡ count_by (is_stepless_in kept.now) kept.now.cases) }
+/// The ids of the cases that are of a pickle without steps.
+fn stepless_of<'a>(alloc: Global, kept: &'a Kept) -> Result<Vec<&'a str>, AllocError>
+    ensures { IfOk result (λ ids. texts_of ids.items ≡ stepless_in kept.now) }
 {
     let pickles = firsts_of::<PickleId, PickleEntry>(alloc, kept.pickles.as_slice())?;
-    Ok(count_of_stepless(&pickles, kept.cases.as_slice()))
+    of_stepless(alloc, &pickles, kept.cases.as_slice())
 }
 
 // ---- all
 
-/// What is counted of what was kept.
-pub(crate) fn count_kept(
-    alloc: Global,
-    conditions: &Conditions<'_>,
-    policy: Policy,
-    kept: &Kept,
-) -> Result<ReleaseCounts, AllocError>
-    ensures { IfOk result
-        (λ counts. counts ≡ counts_in (conditions_of conditions.now) policy kept.now) }
-{
-    Ok(ReleaseCounts {
-        missed: count_missed(alloc, conditions, kept)?,
-        retried: count_retried(alloc, kept)?,
-        skipped: count_skipped(alloc, kept)?,
-        stepless: count_stepless(alloc, kept)?,
-        undefined: count_undefined(alloc, policy, kept)?,
-    })
+/// What a release may be refused for: the ids of pickles and of cases, and how many steps.
+#[derive(Drop)]
+pub(crate) struct Found<'a> {
+    pub(crate) missed: Vec<&'a str>,
+    pub(crate) retried: Vec<&'a str>,
+    pub(crate) skipped: Vec<&'a str>,
+    pub(crate) stepless: Vec<&'a str>,
+    pub(crate) undefined: u64,
+}
+
+impl<'a> Found<'a> {
+    /// What is found in what was kept.
+    pub(crate) fn of(
+        alloc: Global,
+        conditions: &Conditions<'_>,
+        policy: Policy,
+        kept: &'a Kept,
+    ) -> Result<Found<'a>, AllocError>
+        ensures { IfOk result (IsFoundIn (conditions_of conditions.now) policy kept.now) }
+    {
+        Ok(Found {
+            missed: missed_of(alloc, conditions, kept)?,
+            retried: retried_of(alloc, kept)?,
+            skipped: skipped_of(alloc, kept)?,
+            stepless: stepless_of(alloc, kept)?,
+            undefined: count_undefined(alloc, policy, kept)?,
+        })
+    }
+
+    /// How many there are of each.
+    pub(crate) fn counts(&self) -> ReleaseCounts
+        ensures { (asked : SomeConditions) (policy : SomePolicy) (kept : SomeKept)
+            → IsFoundIn asked policy kept self.now → result ≡ counts_in asked policy kept }
+    {
+        ReleaseCounts {
+            missed: self.missed.len() as u64,
+            retried: self.retried.len() as u64,
+            skipped: self.skipped.len() as u64,
+            stepless: self.stepless.len() as u64,
+            undefined: self.undefined,
+        }
+    }
 }

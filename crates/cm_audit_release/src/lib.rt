@@ -27,6 +27,7 @@
 
 mod audited_release;
 mod counting;
+mod judgement;
 mod kept;
 mod release_watch;
 mod texts;

@@ -3,18 +3,20 @@ ghost use Rattle.std.specs.Prelude.{◌≡◌, ◌++◌, ◌∷◌, [], ⊤, ℕ
 ghost use Rattle.std.specs.String.{string_bytes};
 ghost use Rattle.cm_attempt.specs.Table.{has_text};
 ghost use Rattle.cm_envelope.specs.declared.envelope.Envelope.{Envelope as SomeEnvelope};
-ghost use Rattle.cm_audit_release.specs.Kept.{HasUnmatched, case_entry, finish_among, kept_of, pass_among, skip_of};
+ghost use Rattle.cm_audit_release.specs.Kept.{HasUnmatched, Keeps, case_entry, finish_among, pass_among, skip_of};
+ghost use Rattle.cm_audit_release.specs.Watched.{Follows};
 
 use crate::kept::{FinishEntry, Kept, case_entry, pickle_entry, start_entry};
 use cm_audit::{State, Watch};
 use cm_envelope::{Envelope, Status, TestCase, TestStepFinished};
+use cm_reasons::Trail;
 use gk_document::Text;
 use indexmap::IndexSet;
 use std::alloc::{AllocError, Global};
 
 /// What is kept of the envelopes so far, and the ids of the unmatched steps among them.
 #[derive(Drop)]
-pub(crate) struct ReleaseWatch {
+pub(crate) struct Keeping {
     pub(crate) kept: Kept,
     pub(crate) unmatched: IndexSet<String>,
 }
@@ -40,13 +42,12 @@ fn add_ids(ids: &mut IndexSet<String>, alloc: Global, added: &[Text]) -> Result<
     Ok(())
 }
 
-impl ReleaseWatch {
+impl Keeping {
     /// That of no envelope. It takes no memory.
-    pub(crate) fn new(alloc: Global) -> ReleaseWatch
-        ensures kept { result.kept ≡ kept_of [] }
-        ensures unmatched { HasUnmatched result.unmatched result.kept.cases }
+    fn new(alloc: Global) -> Keeping
+        ensures { Keeps result.kept result.unmatched [] }
     {
-        ReleaseWatch {
+        Keeping {
             kept: Kept::new(alloc),
             unmatched: IndexSet::new(alloc),
         }
@@ -120,18 +121,13 @@ fn note_finish(
     }
 }
 
-impl Watch for ReleaseWatch {
-    ghost follows = { λ watch es. (watch.kept ≡ kept_of es)
-        × HasUnmatched watch.unmatched watch.kept.cases };
-
-    ghost tells = { λ _ _ _. ⊤ };
-
-    fn note(
-        &mut self,
-        alloc: Global,
-        _state: &State,
-        envelope: &Envelope,
-    ) -> Result<(), AllocError> {
+impl Keeping {
+    /// Keeps what is counted of one envelope more.
+    fn note(&mut self, alloc: Global, envelope: &Envelope) -> Result<(), AllocError>
+        ensures { OnOk result ((es : List SomeEnvelope)
+            → Keeps self.old.kept self.old.unmatched es
+            → Keeps self.new.kept self.new.unmatched (es ++ envelope.now ∷ [])) }
+    {
         match envelope {
             Envelope::Pickle(pickle) => self.kept.pickles.push(pickle_entry(alloc, pickle)?),
             Envelope::TestCase(case) => self.note_case(alloc, case),
@@ -141,6 +137,41 @@ impl Watch for ReleaseWatch {
             }
             _ => Ok(()),
         }
+    }
+}
+
+/// What a release is judged by, and what its reasons name.
+#[derive(Drop)]
+pub(crate) struct ReleaseWatch {
+    pub(crate) keeping: Keeping,
+    pub(crate) trail: Trail,
+}
+
+impl ReleaseWatch {
+    /// That of no envelope. It takes no memory.
+    pub(crate) fn new(alloc: Global) -> ReleaseWatch
+        ensures { Follows result [] }
+    {
+        ReleaseWatch {
+            keeping: Keeping::new(alloc),
+            trail: Trail::new(alloc),
+        }
+    }
+}
+
+impl Watch for ReleaseWatch {
+    ghost follows = { λ watch es. Follows watch es };
+
+    ghost tells = { λ _ _ _. ⊤ };
+
+    fn note(
+        &mut self,
+        alloc: Global,
+        _state: &State,
+        envelope: &Envelope,
+    ) -> Result<(), AllocError> {
+        self.trail.note(alloc, envelope)?;
+        self.keeping.note(alloc, envelope)
     }
 
     fn wants_last(&self) -> bool {

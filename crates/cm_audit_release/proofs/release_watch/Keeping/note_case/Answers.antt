@@ -4,7 +4,7 @@ use Rattle.cm_attempt.specs.Table.{has_text}
 use Rattle.cm_cases.proofs.ListingLemmas.{on_ok}
 use Rattle.cm_audit_release.specs.Kept.{all_unmatched}
 use Rattle.cm_audit_release.proofs.KeptLemmas.{case_added, more_added}
-use Rattle.cm_audit_release.proofs.release_watch.ReleaseWatch.note_case.Goals as goal
+use Rattle.cm_audit_release.proofs.release_watch.Keeping.note_case.Goals as goal
 
 pub returns-clause-unmatched : goal.returns-clause-unmatched
 returns-clause-unmatched c =

@@ -1,0 +1,114 @@
+//! What is said of a good run for its release.
+ghost use Rattle.std.specs.Prelude.{◌≡◌, List, IfOk, string_bytes};
+ghost use Rattle.cm_envelope.specs.declared.envelope.Envelope.{Envelope as SomeEnvelope};
+ghost use Rattle.cm_stream.specs.Good.{Good};
+ghost use Rattle.cm_stream.specs.Release.{conditions_of, hold_of};
+ghost use Rattle.cm_audit_release.specs.Judged.{AreReasonsIn, IsJudged};
+ghost use Rattle.cm_audit_release.specs.Watched.{Follows};
+
+use crate::counting::Found;
+use crate::release_watch::ReleaseWatch;
+use cm_attempt::Settings;
+use cm_reasons::{Trail, retried_text, skipped_text, stepless_text, unrun_text};
+use cm_stream::{Conditions, Counts, Hold, ReleaseCounts};
+use std::alloc::{AllocError, Global};
+
+/// What is counted of a good run for its release, why it isn't to be released, and the lines below that.
+#[derive(Debug, Drop)]
+pub(crate) struct Judgement {
+    pub(crate) found: ReleaseCounts,
+    pub(crate) hold: Option<Hold>,
+    pub(crate) reasons: String,
+}
+
+/// Why a good run with these counts isn't to be released, the first reason that holds.
+fn hold_of(
+    conditions: &Conditions<'_>,
+    success: bool,
+    counts: Counts,
+    found: ReleaseCounts,
+) -> Option<Hold>
+    ensures { result ≡ hold_of (conditions_of conditions.now) success counts found }
+{
+    if !success {
+        return Some(Hold::NotSuccessful);
+    }
+    if counts.cases == 0 {
+        return Some(Hold::Empty);
+    }
+    if found.missed != 0 {
+        return Some(Hold::Unrun);
+    }
+    if conditions.no_retries && found.retried != 0 {
+        return Some(Hold::Retried);
+    }
+    if conditions.no_skips && found.skipped != 0 {
+        return Some(Hold::Skipped);
+    }
+    if conditions.no_stepless && found.stepless != 0 {
+        return Some(Hold::Stepless);
+    }
+    if conditions.no_undefined && found.undefined != 0 {
+        return Some(Hold::Undefined);
+    }
+    None
+}
+
+/// The lines below that of a hold.
+fn reasons_of(
+    alloc: Global,
+    trail: &Trail,
+    found: &Found<'_>,
+    hold: Option<Hold>,
+) -> Result<String, AllocError>
+    ensures { IfOk result (λ text. AreReasonsIn trail.now found.now hold (string_bytes text)) }
+{
+    match hold {
+        Some(Hold::Unrun) => unrun_text(alloc, trail, found.missed.as_slice()),
+        Some(Hold::Retried) => retried_text(alloc, trail, found.retried.as_slice()),
+        Some(Hold::Skipped) => skipped_text(alloc, trail, found.skipped.as_slice()),
+        Some(Hold::Stepless) => stepless_text(alloc, trail, found.stepless.as_slice()),
+        _ => Ok(String::new(alloc)),
+    }
+}
+
+impl Judgement {
+    /// Of a good run with these counts.
+    pub(crate) fn of(
+        alloc: Global,
+        conditions: &Conditions<'_>,
+        settings: Settings,
+        watch: &ReleaseWatch,
+        success: bool,
+        counts: Counts,
+    ) -> Result<Judgement, AllocError>
+        ensures { IfOk result (λ judgement. (es : List SomeEnvelope) → Follows watch.now es
+            → Good settings es → IsJudged settings (conditions_of conditions.now) es success counts
+            judgement.found judgement.hold (string_bytes judgement.reasons)) }
+    {
+        let found = Found::of(alloc, conditions, settings.policy, &watch.keeping.kept)?;
+        let counted = found.counts();
+        let hold = hold_of(conditions, success, counts, counted);
+        let reasons = reasons_of(alloc, &watch.trail, &found, hold)?;
+        Ok(Judgement {
+            found: counted,
+            hold,
+            reasons,
+        })
+    }
+
+    /// What is said of a stream that isn't good: nothing.
+    pub(crate) fn none(alloc: Global) -> Judgement {
+        Judgement {
+            found: ReleaseCounts {
+                missed: 0,
+                retried: 0,
+                skipped: 0,
+                stepless: 0,
+                undefined: 0,
+            },
+            hold: None,
+            reasons: String::new(alloc),
+        }
+    }
+}

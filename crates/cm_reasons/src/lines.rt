@@ -1,0 +1,66 @@
+//! Lines below one another, a hundred at most.
+ghost use Rattle.std.specs.Prelude.{◌≡◌, ◌≢◌, ◌++◌, List, ℕ, OnOk, map, string_bytes};
+ghost use Rattle.cm_envelope.specs.declared.envelope.Envelope.{Envelope as SomeEnvelope};
+ghost use Rattle.cm_reasons.specs.Lines.{ended, limited, more_text};
+
+use std::alloc::AllocError;
+
+/// How many lines of a kind are shown.
+const MOST_LINES: usize = 100;
+
+/// Writes a line for an item, by what it keeps of a stream's envelopes.
+pub(crate) trait AddLine<T> {
+    /// Whether it is of these envelopes.
+    ghost of: { Self → List SomeEnvelope → Type 0 };
+
+    /// The line of an item.
+    ghost line: { Self → List SomeEnvelope → T → List ℕ };
+
+    /// Adds the line, without its end.
+    ///
+    /// # Errors
+    /// Only where there is no memory for it.
+    fn add(&self, text: &mut String, item: &T) -> Result<(), AllocError>
+        ensures { OnOk result ((es : List SomeEnvelope) → of self.now es
+            → string_bytes text.new ≡ string_bytes text.old ++ line self.now es item.now) };
+}
+
+/// Adds the line of each item.
+fn add_each<T, L: AddLine<T>>(text: &mut String, lines: &L, items: &[T]) -> Result<(), AllocError>
+    ensures { OnOk result ((es : List SomeEnvelope) → L.of lines.now es → string_bytes text.new
+        ≡ string_bytes text.old ++ ended (map (L.line lines.now es) items.now)) }
+{
+    for item in items {
+        lines.add(text, item)?;
+        text.push_str("\n")?;
+    }
+    Ok(())
+}
+
+/// Adds how many lines more there are.
+fn add_more(text: &mut String, count: usize) -> Result<(), AllocError>
+    requires { count ≢ 0 }
+    ensures { OnOk result
+        (string_bytes text.new ≡ string_bytes text.old ++ more_text count) }
+{
+    write!(text, "and {count} more\n")
+}
+
+/// Adds the lines of the first hundred items, and how many more there are.
+///
+/// # Errors
+/// Only where there is no memory for them.
+pub(crate) fn add_limited<T, L: AddLine<T>>(
+    text: &mut String,
+    lines: &L,
+    items: &[T],
+) -> Result<(), AllocError>
+    ensures { OnOk result ((es : List SomeEnvelope) → L.of lines.now es → string_bytes text.new
+        ≡ string_bytes text.old ++ limited (map (L.line lines.now es) items.now)) }
+{
+    if items.len() <= MOST_LINES {
+        return add_each(text, lines, items);
+    }
+    add_each(text, lines, &items[..MOST_LINES])?;
+    add_more(text, items.len() - MOST_LINES)
+}

@@ -1,0 +1,36 @@
+//! What is kept of a stream's envelopes for its reasons.
+ghost use Rattle.std.specs.Prelude.{◌≡◌, ◌++◌, ◌∷◌, [], List, OnOk};
+ghost use Rattle.cm_envelope.specs.declared.envelope.Envelope.{Envelope as SomeEnvelope};
+ghost use Rattle.cm_reasons.specs.Trail.{trail_of};
+
+use cm_cases::Listing;
+use cm_envelope::Envelope;
+use std::alloc::{AllocError, Global};
+
+/// What the reasons of a stream name, kept envelope by envelope.
+#[derive(Debug, Drop)]
+pub struct Trail {
+    pub(crate) listing: Listing,
+}
+
+impl Trail {
+    /// That of no envelope. It takes no memory.
+    pub fn new(alloc: Global) -> Trail
+        ensures { result ≡ trail_of [] }
+    {
+        Trail {
+            listing: Listing::new(alloc),
+        }
+    }
+
+    /// Keeps what the reasons name of one envelope more.
+    ///
+    /// # Errors
+    /// Only where there is no memory for it.
+    pub fn note(&mut self, alloc: Global, envelope: &Envelope) -> Result<(), AllocError>
+        ensures { OnOk result ((es : List SomeEnvelope) → self.old ≡ trail_of es
+            → self.new ≡ trail_of (es ++ envelope.now ∷ [])) }
+    {
+        self.listing.note(alloc, envelope)
+    }
+}
