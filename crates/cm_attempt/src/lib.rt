@@ -39,4 +39,4 @@ pub use laws::{
 pub use policy::Policy;
 pub use settings::Settings;
 pub use status::{Status, worst, worst_with};
-pub use track::{CaseResult, Track};
+pub use track::{CaseResult, DueStep, Track};

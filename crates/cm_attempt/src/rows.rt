@@ -5,12 +5,14 @@ ghost use Rattle.std.specs.List.{list_all};
 ghost use Rattle.std.specs.Str.{bytes_eq};
 ghost use Rattle.std.specs.String.{string_bytes};
 ghost use Rattle.indexmap.specs.IndexMap.{index_map_len, values};
+ghost use Rattle.cm_attempt.specs.Due.{due_at, due_of, due_view};
 ghost use Rattle.cm_attempt.specs.Rows.{attempt_row, attempt_rows, case_row, case_rows, place_of, table_of};
 ghost use Rattle.cm_attempt.specs.Table.{has_step, has_text, is_good_case as is_good, is_good_status};
 ghost use Rattle.cm_attempt.specs.Table.{outcome as specs_outcome, status_of_last, steps_of as steps_in};
 
 use crate::policy::Policy;
 use crate::status::Status;
+use crate::track::DueStep;
 use indexmap::{IndexMap, IndexSet};
 
 /// The state of the last attempt of a case.
@@ -139,6 +141,32 @@ pub(crate) fn count_open(attempts: &Attempts) -> u64
         .values()
         .filter(|attempt| attempt.cursor.is_some())
         .count() as u64
+}
+
+/// The step of the case that an attempt with this cursor has to go through next.
+fn due_of<'a>(cursor: Cursor, steps: &'a Steps) -> Option<DueStep<'a>>
+    ensures { option_map due_view result
+        ≡ due_of cursor (map string_bytes steps.now.keys) }
+{
+    let step = steps.as_slice().get(cursor.finished)?;
+    Some(DueStep {
+        step: step.as_str(),
+        is_running: cursor.is_running,
+    })
+}
+
+/// The step that the attempt has to go through next.
+pub(crate) fn due_at<'a>(cases: &'a Cases, attempt: &Attempt) -> Option<DueStep<'a>>
+    ensures { option_map due_view result
+        ≡ due_at (table_of 0 cases.now.entries []) (attempt_row [] attempt.now) }
+{
+    let Some(cursor) = attempt.cursor else {
+        return None;
+    };
+    match find_case(cases, attempt.case_id.as_str()) {
+        Some((_, case)) => due_of(cursor, &case.steps),
+        None => None,
+    }
 }
 
 /// Whether there is such an attempt and its case has the step.

@@ -1,5 +1,5 @@
 //! The record of test cases and attempts.
-ghost use Rattle.std.specs.Prelude.{◌≡◌, ◌+◌, ◌⊎◌, IfOk, IfSome, IsErrAnd, IsOkUnless, MatchOption, OnErr, OnOk, is_some, map};
+ghost use Rattle.std.specs.Prelude.{◌≡◌, ◌+◌, ◌⊎◌, IfOk, IfSome, IsErrAnd, IsOkUnless, MatchOption, OnErr, OnOk, is_some, map, option_map};
 ghost use Rattle.std.specs.List.{list_all};
 ghost use Rattle.std.specs.String.{string_bytes};
 ghost use Rattle.cm_refs.specs.Due.{RefusesExactly, RefusesExactlyUnless};
@@ -7,6 +7,7 @@ ghost use Rattle.cm_attempt.specs.Results.{case_results, result_view};
 ghost use Rattle.cm_attempt.specs.Table.{HasDistinctIds, add_case_fault, change_attempt, empty_table, table_from};
 ghost use Rattle.cm_attempt.specs.Table.{find_attempt as row_of, find_case as case_of};
 ghost use Rattle.cm_attempt.specs.Table.{finish_fault, with_finished_attempt, has_step, is_good_case, open_count};
+ghost use Rattle.cm_attempt.specs.Due.{due_step, due_view};
 ghost use Rattle.cm_attempt.specs.Table.{reported_status, with_running_step, start_fault, with_attempt, with_finished_step};
 ghost use Rattle.cm_attempt.specs.Table.{step_finish_fault, step_start_fault, with_case};
 
@@ -17,8 +18,8 @@ use crate::checks::{check_end, check_finish, check_new, check_start};
 use crate::fault::TrackFault;
 use crate::policy::Policy;
 use crate::rows::{
-    Attempts, Cases, are_good, attempt_has_step, count_open, final_status, find_attempt, find_case,
-    outcome,
+    Attempts, Cases, are_good, attempt_has_step, count_open, due_at, final_status, find_attempt,
+    find_case, outcome,
 };
 use crate::status::Status;
 use cm_refs::distinct_texts;
@@ -32,6 +33,13 @@ use std::marker::Model;
 pub struct CaseResult<'a> {
     pub id: &'a str,
     pub status: Option<Status>,
+}
+
+/// The next step of an attempt, and whether it is running.
+#[derive(Clone, Copy, Debug)]
+pub struct DueStep<'a> {
+    pub step: &'a str,
+    pub is_running: bool,
 }
 
 /// The test cases of a run and their attempts, as the Messages' `testCase`, `testCaseStarted`,
@@ -233,6 +241,22 @@ impl Track {
         ensures { result ≡ open_count self.now }
     {
         count_open(&self.attempts)
+    }
+
+    /// Whether the case was added.
+    pub fn has_case(&self, id: &str) -> bool
+        ensures { result ≡ is_some (case_of self.now id.now) }
+    {
+        find_case(&self.cases, id).is_some()
+    }
+
+    /// The step that the attempt has to go through next. There is none where the attempt wasn't started, has ended, or went
+    /// through all steps of its case.
+    pub fn due_step(&self, attempt: &str) -> Option<DueStep<'_>>
+        ensures { option_map due_view result ≡ due_step self.now attempt.now }
+    {
+        let (_, found) = find_attempt(&self.attempts, attempt)?;
+        due_at(&self.cases, found)
     }
 
     /// Whether the attempt was started.

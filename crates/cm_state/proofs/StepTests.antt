@@ -49,7 +49,7 @@ declares_step pickle step _ = refl
 row_is : (es : List Envelope) (id : Utf8) → find_pickle (declarations_in es) id ≡ option_map pickle_row (pickle_in id es)
 row_is es id = find_map (λ r. bytes_eq id r.id) pickle_row (pickles es)
 
-step_declared : (first : ℕ) (es : List Envelope) → AllPass es → (pickle step : Utf8) → IsDeclaredIf (PickleStep pickle step) es (has_text step (steps_by (summary_of_lines first es) pickle))
+pub step_declared : (first : ℕ) (es : List Envelope) → AllPass es → (pickle step : Utf8) → IsDeclaredIf (PickleStep pickle step) es (has_text step (steps_by (summary_of_lines first es) pickle))
 step_declared first es pass pickle step = go (pickle_in pickle es) refl
   where
     k : IsDeclaredIf (PickleStep pickle step) es (list_any (has_step_of pickle step) (pickles es))

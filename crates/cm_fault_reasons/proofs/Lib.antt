@@ -1,0 +1,6 @@
+mod DuplicateLemmas
+mod DuplicateSame
+mod UnknownLemmas
+mod UnknownSame
+mod ToldSame
+pub mod AtLine
