@@ -1,5 +1,5 @@
 -- What the command `gate` reports.
-use Rattle.std.proofs.Common.{◌≡◌, ◌∙◌, ◌⊎◌, ℕ, List, Result, Ok, Err, Bool, true, false, inl, inr, refl, sym, ap}
+use Rattle.std.proofs.Common.{◌≡◌, ◌∙◌, ◌⊎◌, ℕ, List, Option, Result, Ok, Err, Bool, true, false, inl, inr, refl, string_bytes, subst, sym, ap}
 use Rattle.std.specs.Prelude.{IfOk}
 use Rattle.std.specs.declared.alloc.AllocError.{AllocError}
 use Rattle.cm_attempt.specs.declared.settings.Settings.{Settings}
@@ -8,11 +8,13 @@ use Rattle.cm_envelope.specs.declared.envelope.Envelope.{Envelope}
 use Rattle.cm_envelope.specs.declared.feed.Trouble.{Trouble}
 use Rattle.cm_envelope.specs.declared.feed.Trouble.TheVariants.{ReadFailed, LineTooLong, StreamTooLong, Memory}
 use Rattle.cm_envelope.proofs.Sources.{of_reads, reads_weaker}
+use Rattle.cm_reasons.specs.Reasons.{AreReasons}
 use Rattle.cm_stream.specs.References.{run_succeeded}
-use Rattle.cm_stream.specs.Release.{Conditions, release_counts_of}
+use Rattle.cm_stream.specs.Release.{Conditions, hold_of, release_counts_of}
 use Rattle.cm_stream.specs.Stream.{Answer, At, Failed, FirstFault, GoodRunIn, GoodWith, NoFault, Troubled, answer_for, answer_of_audit, counts_of}
 use Rattle.cm_stream.specs.declared.conditions.ReleaseCounts.{ReleaseCounts}
 use Rattle.cm_stream.specs.declared.verdict.Counts.{Counts}
+use Rattle.cm_stream.specs.declared.verdict.Hold.{Hold}
 use Rattle.cm_stream.specs.declared.verdict.Verdict.{Verdict}
 use Rattle.cm_stream.specs.declared.verdict.Verdict.TheVariants as verdict
 use Rattle.cm_stream.proofs.ByGrammar.{is_first, reported}
@@ -22,7 +24,7 @@ use Rattle.cm_envelope.specs.Feeds.{is_failed_read}
 use Rattle.cm_audit_release.specs.ReleaseAudit.{CountsGood, IsReleaseAuditOf, audited_in}
 use Rattle.cm_audit_release.specs.declared.audited_release.AuditedRelease.{AuditedRelease}
 use Rattle.ck_command_line.specs.CommandLine.{ask_gate}
-use Rattle.ck_commands.specs.Gate.{ReleasesOrTells, ReportsCounted, ReportsRelease, gate_report, release_report}
+use Rattle.ck_commands.specs.Gate.{IsGateReport, ReleasesOrTells, ReportsHeld, ReportsRelease, held_report, hold_in}
 use Rattle.ck_commands.specs.Output.{IsReport, Report, report_made, trouble_report}
 use Rattle.ck_commands.specs.Run.{Reports}
 use Rattle.ck_commands.specs.Verdicts.{verdict_report}
@@ -33,45 +35,57 @@ use Rattle.ck_commands.proofs.Ran.{Reported}
 
 module _ (settings : Settings) (asked : Conditions) where
   -- an answer that isn't Good has the same report
-  same_report : (first : FirstFault) (a : Answer) → a ≡ answer_for first → ((es : List Envelope) → a ≡ answer_for (NoFault es) → ⊥) → verdict_report a ≡ gate_report settings asked first
-  same_report (At n f) a e none = ap verdict_report e
-  same_report (Troubled t) a e none = ap verdict_report e
-  same_report (NoFault es) a e none = absurd (none es e)
+  same_report : (first : FirstFault) (a : Answer) (r : Report) → a ≡ answer_for first → ((es : List Envelope) → a ≡ answer_for (NoFault es) → ⊥) → r ≡ verdict_report a → IsGateReport settings asked first r
+  same_report (At n f) a r e none is = is ∙ ap verdict_report e
+  same_report (Troubled t) a r e none is = is ∙ ap verdict_report e
+  same_report (NoFault es) a r e none is = absurd (none es e)
 
   told : (x : made.Report) (first : FirstFault) (a : Answer) → a ≡ answer_for first → ((es : List Envelope) → a ≡ answer_for (NoFault es) → ⊥) → IsReport (verdict_report a) x
-      → report_made (Ok x) ≡ gate_report settings asked first
-  told x first a e none is = report_is (verdict_report a) x is ∙ same_report first a e none
+      → IsGateReport settings asked first (report_made (Ok x))
+  told x first a e none is = same_report first a (report_made (Ok x)) e none (report_is (verdict_report a) x is)
 
-  module _ (found : ReleaseCounts) where
-    of_verdict : (bytes : List ℕ) (success : Bool) (v : Verdict) (x : made.Report) → ReportsCounted asked found (record { verdict = v; success = success }) v x
-        → CountsGood settings asked found bytes v → AnswersTold settings bytes (Ok (record { verdict = v; success = success })) → Reports (ask_gate settings asked) bytes (report_made (Ok x))
+  module _ (found : ReleaseCounts) (held : Option Hold) (reasons : List ℕ) where
+    of_verdict : (bytes : List ℕ) (success : Bool) (v : Verdict) (x : made.Report) → ReportsHeld found held reasons (record { verdict = v; success = success }) v x
+        → CountsGood settings asked success found held reasons bytes v → AnswersTold settings bytes (Ok (record { verdict = v; success = success })) → Reports (ask_gate settings asked) bytes (report_made (Ok x))
     of_verdict bytes success (verdict.Good counts) x r c h =
         let es = c.judged in
         let good = read_is_told settings bytes c.judged c.read c.good in
         let first : h.first ≡ NoFault es = sym (reported settings bytes h.first h.is_first) ∙ good in
         let same : GoodWith counts success ≡ GoodWith (counts_of es) (run_succeeded es) = h.answers ∙ ap answer_for first in
         let counts_are : counts ≡ counts_of es = cc in
-        let success_is : success ≡ run_succeeded es = cc in (
+        let success_is : success ≡ run_succeeded es = cc in
+        let same_hold : held ≡ hold_in settings asked es = c.is.first ∙ (λ j. hold_of asked (success_is j) (counts_are j) (c.is.counted j)) in (
           NoFault es,
           is_first settings bytes (NoFault es) good,
-          report_is (release_report asked success counts found) x r ∙ ap (λ (b : Bool). release_report asked b counts found) success_is
-              ∙ ap (λ (n : Counts). release_report asked (run_succeeded es) n found) counts_are ∙ ap (release_report asked (run_succeeded es) (counts_of es)) c.counted,
+          (
+            reasons,
+            subst (λ (o : Option Hold). AreReasons settings.policy asked es o reasons) same_hold c.is.told,
+            report_is (held_report held counts found reasons) x r ∙ (λ j. held_report (same_hold j) (counts_are j) (c.is.counted j) reasons),
+          ),
         )
     of_verdict bytes success (verdict.Bad n b) x r c h = (h.first, h.is_first, told x h.first (answer_of_audit (Ok (record { verdict = verdict.Bad n b; success = success }))) h.answers (λ es e. cc) r)
     of_verdict bytes success (verdict.Unsupported n u) x r c h =
         (h.first, h.is_first, told x h.first (answer_of_audit (Ok (record { verdict = verdict.Unsupported n u; success = success }))) h.answers (λ es e. cc) r)
 
-    releases_or_tells : (bytes : List ℕ) (success : Bool) (v : Verdict) (x : made.Report) → ReportsCounted asked found (record { verdict = v; success = success }) v x
-        → CountsGood settings asked found bytes v → GoodRunIn settings bytes v success → ReleasesOrTells settings asked bytes (record { verdict = v; success = success }) v (report_made (Ok x))
+    releases_or_tells : (bytes : List ℕ) (success : Bool) (v : Verdict) (x : made.Report) → ReportsHeld found held reasons (record { verdict = v; success = success }) v x
+        → CountsGood settings asked success found held reasons bytes v → GoodRunIn settings bytes v success → ReleasesOrTells settings asked bytes (record { verdict = v; success = success }) v (report_made (Ok x))
     releases_or_tells bytes success (verdict.Good counts) x r c run =
         let here = read_is_told settings bytes c.judged c.read c.good in
         let there = read_is_told settings bytes run.judged run.read run.good in
         let same : c.judged ≡ run.judged = cc in
-        (run, report_is (release_report asked success counts found) x r ∙ ap (release_report asked success counts) (c.counted ∙ ap (release_counts_of asked settings.policy) same))
+        let counted : found ≡ release_counts_of asked settings.policy run.judged = c.is.counted ∙ ap (release_counts_of asked settings.policy) same in
+        let same_hold : held ≡ hold_of asked success counts (release_counts_of asked settings.policy run.judged) = c.is.first ∙ ap (hold_of asked success counts) counted in (
+          run,
+          (
+            reasons,
+            subst (λ (o : Option Hold). AreReasons settings.policy asked run.judged o reasons) same_hold (subst (λ (es : List Envelope). AreReasons settings.policy asked es held reasons) same c.is.told),
+            report_is (held_report held counts found reasons) x r ∙ (λ j. held_report (same_hold j) counts (counted j) reasons),
+          ),
+        )
     releases_or_tells bytes success (verdict.Bad n b) x r c run = report_is _ x r
     releases_or_tells bytes success (verdict.Unsupported n u) x r c run = report_is _ x r
 
-    done_at_end : (j : Input) (success : Bool) (v : Verdict) (x : made.Report) → ReportsCounted asked found (record { verdict = v; success = success }) v x → GoodAtEndIn j v → x.status ≡ exit.Done → j.is_over ≡ true
+    done_at_end : (j : Input) (success : Bool) (v : Verdict) (x : made.Report) → ReportsHeld found held reasons (record { verdict = v; success = success }) v x → GoodAtEndIn j v → x.status ≡ exit.Done → j.is_over ≡ true
     done_at_end j success (verdict.Good counts) x r over done = over
     done_at_end j success (verdict.Bad n b) x r over done = let no : exit.Refused ≡ exit.Done = sym r.1 ∙ done in cc
     done_at_end j success (verdict.Unsupported n u) x r over done = let no : exit.Unsupported ≡ exit.Done = sym r.1 ∙ done in cc
@@ -88,13 +102,13 @@ module _ (settings : Settings) (asked : Conditions) where
   audit_alone (Ok a) bytes rest h = h.audit
   audit_alone (Err t) bytes rest h = h.audit
 
-  pub gate_shows : Shows (ask_gate settings asked) settings (λ a. a.audited) (λ a r. ReportsCounted asked a.found a.audited a.audited.verdict r) (IsReleaseAuditOf settings asked)
+  pub gate_shows : Shows (ask_gate settings asked) settings (λ a. a.audited) (λ a r. ReportsHeld a.found a.hold (string_bytes a.reasons) a.audited a.audited.verdict r) (IsReleaseAuditOf settings asked)
   gate_shows = record {
     audit = audit_alone;
-    of_audit = λ a x bytes rest is h. of_verdict a.found bytes a.audited.success a.audited.verdict x is h.counted h.audit.told;
+    of_audit = λ a x bytes rest is h. of_verdict a.found a.hold (string_bytes a.reasons) bytes a.audited.success a.audited.verdict x is h.counted h.audit.told;
     of_trouble = of_trouble;
-    tells = λ a x bytes rest is h. (a.audited, h.audit, releases_or_tells a.found bytes a.audited.success a.audited.verdict x is h.counted h.audit.good);
-    at_end = λ a x j is end done. done_at_end a.found j a.audited.success a.audited.verdict x is end done;
+    tells = λ a x bytes rest is h. (a.audited, h.audit, releases_or_tells a.found a.hold (string_bytes a.reasons) bytes a.audited.success a.audited.verdict x is h.counted h.audit.good);
+    at_end = λ a x j is end done. done_at_end a.found a.hold (string_bytes a.reasons) j a.audited.success a.audited.verdict x is end done;
     no_fault = λ bytes rest h. h;
   }
 
@@ -102,8 +116,8 @@ at_end_alone : (j : Input) (answer : Result AuditedRelease Trouble) → GoodAtEn
 at_end_alone j (Ok a) h = h
 at_end_alone j (Err t) h = h
 
-pub gate_is_reported : (settings : Settings) (asked : Conditions) (answer : Result AuditedRelease Trouble) (m : Result made.Report AllocError) (i j : Input) → IfOk m (ReportsRelease asked answer) → OfReads i j (IsReleaseAuditOf settings asked answer)
+pub gate_is_reported : (settings : Settings) (asked : Conditions) (answer : Result AuditedRelease Trouble) (m : Result made.Report AllocError) (i j : Input) → IfOk m (ReportsRelease answer) → OfReads i j (IsReleaseAuditOf settings asked answer)
     → GoodAtEnd j (audited_in answer) → CountsFailure (is_failed_read answer) i.failed_calls j.failed_calls → Reported (ask_gate settings asked) (report_made m) i j
 gate_is_reported settings asked answer m i j is h end counts =
-    audit_beside_is_reported (ask_gate settings asked) settings (λ a. a.audited) (λ a r. ReportsCounted asked a.found a.audited a.audited.verdict r) (IsReleaseAuditOf settings asked) (gate_shows settings asked)
+    audit_beside_is_reported (ask_gate settings asked) settings (λ a. a.audited) (λ a r. ReportsHeld a.found a.hold (string_bytes a.reasons) a.audited a.audited.verdict r) (IsReleaseAuditOf settings asked) (gate_shows settings asked)
     answer m i j is h (at_end_alone j answer end) counts

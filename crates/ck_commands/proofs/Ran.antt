@@ -81,17 +81,17 @@ module _ (settings : Settings) (asked : Conditions) (code : ℕ) (before after :
   released : (bytes : List ℕ) (a : Audited) (v : Verdict) (r : Report) → a.verdict ≡ v → ReleasesOrTells settings asked bytes a v r → Prints r code before after → code ≡ 0 → PrintsReleased settings asked before after bytes
   released bytes a (verdict.Good counts) r is h p zero =
       let found = release_counts_of asked settings.policy h.0.judged in
-      let none = not_held (hold_of asked a.success counts found) (sym (p.status ∙ ap (λ (x : Report). code_of x.status) h.1) ∙ zero) in (
+      let none = not_held (hold_of asked a.success counts found) (sym (p.status ∙ ap (λ (x : Report). code_of x.status) h.1.2) ∙ zero) in (
         counts,
         found,
         (released_is_not_held settings asked bytes counts found a.success h.0 refl).0 none,
-        subst (Writes before after) (ap (λ (x : Report). x.text) h.1 ∙ ap (λ (o : Option Hold). counts_text counts ++ second_line o counts found) none) p.written,
+        subst (Writes before after) (ap (λ (x : Report). x.text) h.1.2 ∙ ap (λ (o : Option Hold). counts_text counts ++ second_line o counts found h.1.0) none) p.written,
       )
   released bytes a (verdict.Bad n b) r is h p zero = absurd (not_both 1 0 code (p.status ∙ ap (λ (x : Report). code_of x.status) h ∙ rw is refl) zero (λ e. cc))
   released bytes a (verdict.Unsupported n u) r is h p zero = absurd (not_both 4 0 code (p.status ∙ ap (λ (x : Report). code_of x.status) h ∙ rw is refl) zero (λ e. cc))
 
   not_released : (bytes : List ℕ) (a : Audited) (v : Verdict) (r : Report) → a.verdict ≡ v → ReleasesOrTells settings asked bytes a v r → NoneIsGood settings bytes (Ok v) → Prints r code before after → code ≡ 1 → PrintsBad settings before after bytes
-  not_released bytes a (verdict.Good counts) r is h none p one = absurd (held_or_done (hold_of asked a.success counts (release_counts_of asked settings.policy h.0.judged)) (sym (p.status ∙ ap (λ (x : Report). code_of x.status) h.1) ∙ one))
+  not_released bytes a (verdict.Good counts) r is h none p one = absurd (held_or_done (hold_of asked a.success counts (release_counts_of asked settings.policy h.0.judged)) (sym (p.status ∙ ap (λ (x : Report). code_of x.status) h.1.2) ∙ one))
   not_released bytes a (verdict.Bad n b) r is h none p one = (n, b, none, subst (Writes before after) (ap (λ (x : Report). x.text) h ∙ rw is refl) p.written)
   not_released bytes a (verdict.Unsupported n u) r is h none p one = absurd (not_both 4 1 code (p.status ∙ ap (λ (x : Report). code_of x.status) h ∙ rw is refl) one (λ e. cc))
 

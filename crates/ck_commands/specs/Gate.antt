@@ -1,10 +1,12 @@
 -- What the command `gate` prints: the line of `audit`, and of a run that is truthfully reported a second line, with the reason why
--- it isn't to be released, or with what was let pass.
+-- it isn't to be released and the lines that say it, or with what was let pass.
 use Rattle.std.specs.Prelude.{◌≡◌, ℕ, Bool, List, [], ◌∷◌, ◌++◌, Option, Some, None, Result, Ok, Err, codes, decimal, string_bytes}
 use Rattle.cm_envelope.specs.Device.{Output, Writes}
 use Rattle.cm_envelope.specs.Lines.{line_feed}
 use Rattle.cm_envelope.specs.declared.feed.Trouble.{Trouble}
 use Rattle.cm_attempt.specs.declared.settings.Settings.{Settings}
+use Rattle.cm_envelope.specs.declared.envelope.Envelope.{Envelope}
+use Rattle.cm_reasons.specs.Reasons.{AreReasons}
 use Rattle.cm_stream.specs.References.{run_succeeded}
 use Rattle.cm_stream.specs.Release.{Conditions, IsReleasedStream, hold_of, release_counts_of}
 use Rattle.cm_stream.specs.Stream.{FirstFault, At, Troubled, NoFault, IsGoodRun, answer_for, answer_of_audit, counts_of}
@@ -37,36 +39,50 @@ release_text counts found =
     codes "release retried=" ++ decimal found.retried ++ codes " skipped=" ++ decimal found.skipped
     ++ codes " unrun=" ++ decimal counts.unrun ++ line_feed ∷ []
 
--- the second line
-abbrev pub second_line : Option Hold → Counts → ReleaseCounts → List ℕ
-second_line None counts found = release_text counts found
-second_line (Some h) counts found = hold_name h ++ line_feed ∷ []
+-- the second line, and of a held run the lines of its reasons below it
+abbrev pub second_line : Option Hold → Counts → ReleaseCounts → (reasons : List ℕ) → List ℕ
+second_line None counts found reasons = release_text counts found
+second_line (Some h) counts found reasons = (hold_name h ++ line_feed ∷ []) ++ reasons
 
 abbrev pub held_status : Option Hold → ExitStatus
 held_status None = Done
 held_status (Some h) = Held
 
--- the report of a good stream
-abbrev pub release_report : Conditions → (success : Bool) → Counts → ReleaseCounts → Report
-release_report asked success counts found = record {
-  text = counts_text counts ++ second_line (hold_of asked success counts found) counts found;
-  status = held_status (hold_of asked success counts found);
+-- the report of a good stream whose run is held for this, or isn't
+abbrev pub held_report : Option Hold → Counts → ReleaseCounts → (reasons : List ℕ) → Report
+held_report held counts found reasons = record {
+  text = counts_text counts ++ second_line held counts found reasons;
+  status = held_status held;
 }
 
+-- why the run of a good list of envelopes is held
+abbrev pub hold_in : Settings → Conditions → List Envelope → Option Hold
+hold_in settings asked es =
+    hold_of asked (run_succeeded es) (counts_of es) (release_counts_of asked settings.policy es)
+
 -- Of a stream that isn't good it is the line of `audit` alone.
-abbrev pub gate_report : Settings → Conditions → FirstFault → Report
-gate_report settings asked (NoFault es) =
-    release_report asked (run_succeeded es) (counts_of es)
-    (release_counts_of asked settings.policy es)
-gate_report settings asked (At n finding) = verdict_report (answer_for (At n finding))
-gate_report settings asked (Troubled t) = trouble_report t
+abbrev pub IsGateReport : Settings → Conditions → FirstFault → Report → Type 0
+IsGateReport settings asked (NoFault es) r =
+    (reasons : List ℕ) × AreReasons settings.policy asked es (hold_in settings asked es) reasons
+    × (r ≡ held_report (hold_in settings asked es) (counts_of es)
+    (release_counts_of asked settings.policy es) reasons)
+IsGateReport settings asked (At n finding) r = r ≡ verdict_report (answer_for (At n finding))
+IsGateReport settings asked (Troubled t) r = r ≡ trouble_report t
+
+-- the report of a good run's envelopes
+abbrev pub IsReleaseReport : Settings → Conditions → List Envelope → (success : Bool) → Counts
+    → ReleaseCounts → Report → Type 0
+IsReleaseReport settings asked es success counts found r =
+    (reasons : List ℕ)
+    × AreReasons settings.policy asked es (hold_of asked success counts found) reasons
+    × (r ≡ held_report (hold_of asked success counts found) counts found reasons)
 
 -- the report of an audit's verdict on these bytes
 abbrev pub ReleasesOrTells : Settings → Conditions → List ℕ → Audited → Verdict → Report → Type 0
 ReleasesOrTells settings asked bytes a (verdict.Good counts) r =
     (run : IsGoodRun settings bytes counts a.success)
-    × (r ≡ release_report asked a.success counts
-    (release_counts_of asked settings.policy run.judged))
+    × IsReleaseReport settings asked run.judged a.success counts
+    (release_counts_of asked settings.policy run.judged) r
 ReleasesOrTells settings asked bytes a _ r = r ≡ verdict_report (answer_of_audit (Ok a))
 
 -- the counts of a released stream were printed
@@ -79,11 +95,13 @@ PrintsReleased settings asked before after bytes =
 
 -- ---- the report that the code makes
 
-abbrev pub ReportsCounted : Conditions → ReleaseCounts → Audited → Verdict → made.Report → Type 0
-ReportsCounted asked found a (verdict.Good counts) r =
-    IsReport (release_report asked a.success counts found) r
-ReportsCounted asked found a _ r = IsReport (verdict_report (answer_of_audit (Ok a))) r
+abbrev pub ReportsHeld : ReleaseCounts → Option Hold → (reasons : List ℕ) → Audited → Verdict
+    → made.Report → Type 0
+ReportsHeld found held reasons a (verdict.Good counts) r =
+    IsReport (held_report held counts found reasons) r
+ReportsHeld found held reasons a _ r = IsReport (verdict_report (answer_of_audit (Ok a))) r
 
-abbrev pub ReportsRelease : Conditions → Result AuditedRelease Trouble → made.Report → Type 0
-ReportsRelease asked =
-    ReportsAnswer (λ a r. ReportsCounted asked a.found a.audited a.audited.verdict r)
+abbrev pub ReportsRelease : Result AuditedRelease Trouble → made.Report → Type 0
+ReportsRelease =
+    ReportsAnswer (λ a r. ReportsHeld a.found a.hold (string_bytes a.reasons) a.audited
+    a.audited.verdict r)

@@ -11,6 +11,7 @@ use Rattle.cm_envelope.specs.declared.envelope.Envelope.{Envelope}
 use Rattle.cm_envelope.specs.declared.feed.Trouble.TheVariants.{Memory, ReadFailed}
 use Rattle.cm_attempt.specs.declared.settings.Settings.{Settings}
 use Rattle.cm_stream.specs.Findings.{Fault, IsBad}
+use Rattle.cm_stream.specs.Release.{Conditions}
 use Rattle.cm_stream.specs.Results.{first_results_fault, results_of}
 use Rattle.cm_stream.specs.Stream.{At, FirstFault, IsFirstFault, NoFault, answer_for, answer_of_audit}
 use Rattle.cm_stream.specs.declared.verdict.Audited.{Audited}
@@ -23,7 +24,7 @@ use Rattle.ck_command_line.specs.declared.command_line.Refusal.TheVariants as re
 use Rattle.ck_commands.specs.Cases.{ListsOrTells, PrintsListed, cases_report}
 use Rattle.ck_commands.specs.Differs.{IsDifferenceOf, PrintsBadDifference, differs_report}
 use Rattle.ck_commands.specs.Features.{IsFaultOf, IsFeatureOf, IsReadableText, IsRefusedFeature, document_text, fault_report, parse_report, refused_text}
-use Rattle.ck_commands.specs.Gate.{PrintsReleased, ReleasesOrTells, gate_report}
+use Rattle.ck_commands.specs.Gate.{IsGateReport, PrintsReleased, ReleasesOrTells}
 use Rattle.ck_commands.specs.Output.{DeliversOne, NoneFailed, Prints, Report, code_of, trouble_report}
 use Rattle.ck_commands.specs.Results.{ResultsShowNoFault, result_text, results_report}
 use Rattle.ck_commands.specs.Verdicts.{PrintsBad, PrintsGood, finding_text, verdict_report}
@@ -56,13 +57,18 @@ ReportsDiffering settings bytes r =
     × (d : Option Difference) × IsDifferenceOf settings bytes first d
     × (r ≡ differs_report d (answer_for first))
 
+-- that of a gate
+abbrev pub ReportsGate : Settings → Conditions → List ℕ → Report → Type 0
+ReportsGate settings asked bytes r =
+    (first : FirstFault) × IsFirstFault settings bytes first × IsGateReport settings asked first r
+
 -- what a command prints of these bytes, and the status
 abbrev pub Reports : Command → List ℕ → Report → Type 0
 Reports ask_parse bytes r =
     (feature : Result Document FeatureFault) × IsFeatureOf bytes feature × (r ≡ parse_report feature)
 Reports (ask_compile uri) bytes r = ReportsCompiled uri bytes r
 Reports (ask_audit s) bytes r = ReportsFirst (λ first. verdict_report (answer_for first)) s bytes r
-Reports (ask_gate s asked) bytes r = ReportsFirst (gate_report s asked) s bytes r
+Reports (ask_gate s asked) bytes r = ReportsGate s asked bytes r
 Reports (ask_results n) bytes r = r ≡ results_report (first_results_fault n bytes)
 Reports (ask_cases s) bytes r = ReportsFirst cases_report s bytes r
 Reports (ask_differs s) bytes r = ReportsDiffering s bytes r

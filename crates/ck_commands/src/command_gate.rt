@@ -1,9 +1,9 @@
 //! The command `gate`: whether a run is to be released.
 ghost use Rattle.std.specs.Prelude.{◌≡◌, ◌++◌, IfOk, Some, string_bytes};
-ghost use Rattle.cm_stream.specs.Release.{conditions_of, hold_of};
+ghost use Rattle.cm_stream.specs.Release.{conditions_of};
 ghost use Rattle.ck_command_line.specs.CommandLine.{ask_gate};
 ghost use Rattle.ck_commands.specs.Output.{IsReport};
-ghost use Rattle.ck_commands.specs.Gate.{ReportsRelease, hold_name, release_report, release_text};
+ghost use Rattle.ck_commands.specs.Gate.{ReportsRelease, held_report, hold_name, release_text};
 ghost use Rattle.ck_commands.specs.Gate.{held_status, second_line};
 ghost use Rattle.ck_commands.specs.Run.{Runs};
 
@@ -14,39 +14,6 @@ use cm_audit_release::{AuditedRelease, audit_release};
 use cm_envelope::{ByteSink, ByteSource, Trouble};
 use cm_stream::{Conditions, Counts, Hold, ReleaseCounts, Verdict};
 use std::alloc::{AllocError, Global};
-
-/// Why a good run with these counts isn't to be released, the first reason that holds.
-fn hold_of(
-    conditions: &Conditions<'_>,
-    success: bool,
-    counts: Counts,
-    found: ReleaseCounts,
-) -> Option<Hold>
-    ensures { result ≡ hold_of (conditions_of conditions.now) success counts found }
-{
-    if !success {
-        return Some(Hold::NotSuccessful);
-    }
-    if counts.cases == 0 {
-        return Some(Hold::Empty);
-    }
-    if found.missed != 0 {
-        return Some(Hold::Unrun);
-    }
-    if conditions.no_retries && found.retried != 0 {
-        return Some(Hold::Retried);
-    }
-    if conditions.no_skips && found.skipped != 0 {
-        return Some(Hold::Skipped);
-    }
-    if conditions.no_stepless && found.stepless != 0 {
-        return Some(Hold::Stepless);
-    }
-    if conditions.no_undefined && found.undefined != 0 {
-        return Some(Hold::Undefined);
-    }
-    None
-}
 
 /// The name of a hold, after the word `stop`.
 fn hold_name(hold: Hold) -> &'static str
@@ -74,23 +41,24 @@ fn release_text(alloc: Global, counts: Counts, found: ReleaseCounts) -> Result<S
     Ok(text)
 }
 
-/// Adds the line of why the run isn't to be released, or of what was let pass.
+/// Adds the line of why the run isn't to be released and the reasons below it, or the line of what was let pass.
 fn add_second_line(
     alloc: Global,
     text: &mut String,
-    hold: Option<Hold>,
     counts: Counts,
-    found: ReleaseCounts,
+    release: &AuditedRelease,
 ) -> Result<(), AllocError>
     ensures { IfOk result (λ done. string_bytes text.new
-        ≡ string_bytes text.old ++ second_line hold counts found) }
+        ≡ string_bytes text.old ++ second_line release.now.hold counts release.now.found
+        (string_bytes release.now.reasons)) }
 {
-    match hold {
+    match release.hold {
         Some(hold) => {
             text.push_str(hold_name(hold))?;
-            text.push_str("\n")
+            text.push_str("\n")?;
+            text.push_str(release.reasons.as_str())
         }
-        None => text.push_str(release_text(alloc, counts, found)?.as_str()),
+        None => text.push_str(release_text(alloc, counts, release.found)?.as_str()),
     }
 }
 
@@ -105,40 +73,34 @@ fn status_of(hold: Option<Hold>) -> ExitStatus
 }
 
 /// The report of a good stream.
-fn release_report(
+fn held_report(
     alloc: Global,
-    conditions: &Conditions<'_>,
-    success: bool,
     counts: Counts,
-    found: ReleaseCounts,
+    release: &AuditedRelease,
 ) -> Result<Report, AllocError>
-    ensures { IfOk result
-        (IsReport (release_report (conditions_of conditions.now) success counts found)) }
+    ensures { IfOk result (IsReport (held_report release.now.hold counts release.now.found
+        (string_bytes release.now.reasons))) }
 {
-    let hold = hold_of(conditions, success, counts, found);
     let mut text = good_text(alloc, counts)?;
-    add_second_line(alloc, &mut text, hold, counts, found)?;
+    add_second_line(alloc, &mut text, counts, release)?;
     Ok(Report {
         text,
-        status: status_of(hold),
+        status: status_of(release.hold),
     })
 }
 
 /// The report of a stream that was audited.
 fn gate_report(
     alloc: Global,
-    conditions: &Conditions<'_>,
     answer: &Result<AuditedRelease, Trouble>,
 ) -> Result<Report, AllocError>
-    ensures { IfOk result (ReportsRelease (conditions_of conditions.now) answer.now) }
+    ensures { IfOk result (ReportsRelease answer.now) }
 {
     match answer {
         Ok(release) => {
             let audited = release.audited;
             match audited.verdict {
-                Verdict::Good(counts) => {
-                    release_report(alloc, conditions, audited.success, counts, release.found)
-                }
+                Verdict::Good(counts) => held_report(alloc, counts, release),
                 Verdict::Bad { .. } | Verdict::Unsupported { .. } => {
                     verdict_report(alloc, &Ok(audited))
                 }
@@ -149,7 +111,7 @@ fn gate_report(
 }
 
 /// Audits the source by the settings, prints the verdict and, of a good stream, why its run isn't to be released under these
-/// conditions, or what was let pass, and gives the exit code.
+/// conditions, with its reasons, or what was let pass, and gives the exit code.
 pub(crate) fn print_gate<R: ByteSource, W: ByteSink>(
     alloc: Global,
     settings: Settings,
@@ -161,5 +123,7 @@ pub(crate) fn print_gate<R: ByteSource, W: ByteSink>(
         (R.input source.old) (R.input source.new) (W.output sink.old) (W.output sink.new) }
 {
     let answer = audit_release(alloc, source, settings, conditions);
-    write_report(sink, gate_report(alloc, conditions, &answer))
+    let report = gate_report(alloc, &answer);
+    drop(answer);
+    write_report(sink, report)
 }

@@ -9,5 +9,5 @@ pub returns : goal.returns
 returns g c =
     let audit = c.audit_release-answer.ensures in
     let asked = conditions_of c.args.conditions.now in
-    runs_of (ask_gate c.args.settings asked) (report_made c.gate_report.result) _ _ _ _ _ c.write_report.ensures
-    (gate_is_reported c.args.settings asked c.audit_release-answer.result c.gate_report.result _ _ c.gate_report.ensures audit.same_bytes audit.at_end audit.failures)
+    runs_of (ask_gate c.args.settings asked) (report_made c.gate_report-report.result) _ _ _ _ _ c.write_report.ensures
+    (gate_is_reported c.args.settings asked c.audit_release-answer.result c.gate_report-report.result _ _ c.gate_report-report.ensures audit.same_bytes audit.at_end audit.failures)
