@@ -1,3 +1,4 @@
 pub mod FirstLemmas
 pub mod ListingLemmas
 pub mod PlaceLemmas
+mod JsonLemmas

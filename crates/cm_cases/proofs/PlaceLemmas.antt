@@ -41,7 +41,7 @@ places_listed es uri =
     ap (λ (o : Option DocumentEntry). option_map_or (λ d. d.places) o []) (find_map (λ d. bytes_eq uri d.uri) document_entry (filter_map as_document es))
     ∙ same_places (find (λ d. bytes_eq uri d.uri) (filter_map as_document es))
 
-same_line : (es : List Envelope) (p : Pickle) → line_in (listing_of es) (pickle_entry p) ≡ line_of es p
+pub same_line : (es : List Envelope) (p : Pickle) → line_in (listing_of es) (pickle_entry p) ≡ line_of es p
 same_line es p = ap (λ (ps : List Place). option_map_or (λ x. x.line) (find (λ x. bytes_eq (pickle_entry p).node x.id) ps) 0) (places_listed es p.uri)
 
 same_scenario : (es : List Envelope) (p : Pickle) → entry_scenario (listing_of es) (pickle_entry p) ≡ scenario_text es p
@@ -57,7 +57,7 @@ then_same : (es : List Envelope) (o : Option TestCase)
 then_same es None = refl
 then_same es (Some c) = find_map (λ p. bytes_eq c.pickle_id p.id) pickle_entry (pickles es)
 
-entry_listed : (es : List Envelope) (id : Utf8) → entry_of (listing_of es) id ≡ option_map pickle_entry (pickle_of es id)
+pub entry_listed : (es : List Envelope) (id : Utf8) → entry_of (listing_of es) id ≡ option_map pickle_entry (pickle_of es id)
 entry_listed es id =
     ap (option_and_then (λ (c : CaseEntry). find (λ p. bytes_eq c.pickle_id p.id) (listing_of es).pickles)) (find_map (λ c. bytes_eq id c.id) case_entry (cases es))
     ∙ then_same es (find_case id es)
@@ -88,10 +88,10 @@ case_shown l es id o is e =
 
 -- ---- pickles that no case names
 
-same_named : (es : List Envelope) (p : Pickle) → listed.is_named (listing_of es) (pickle_entry p) ≡ is_named es p
+pub same_named : (es : List Envelope) (p : Pickle) → listed.is_named (listing_of es) (pickle_entry p) ≡ is_named es p
 same_named es p = any_map (λ c. bytes_eq p.id c.pickle_id) case_entry (cases es)
 
-filter_step : {X A : Type 0} (f : X → List A) (q : X → Bool) (x : X) (xs : List X) (b : Bool) → q x ≡ b → flat_map f (filter q (x ∷ xs)) ≡ (if b then f x else []) ++ flat_map f (filter q xs)
+pub filter_step : {X A : Type 0} (f : X → List A) (q : X → Bool) (x : X) (xs : List X) (b : Bool) → q x ≡ b → flat_map f (filter q (x ∷ xs)) ≡ (if b then f x else []) ++ flat_map f (filter q xs)
 filter_step f q x xs true e = rw e refl
 filter_step f q x xs false e = rw e refl
 

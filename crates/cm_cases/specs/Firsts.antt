@@ -1,5 +1,5 @@
 -- The first of some values with each text, as a map has them, and what is shown of what a listing keeps.
-use Rattle.std.specs.Prelude.{◌≡◌, ℕ, not, Bool, List, [], ◌∷◌, ◌++◌, Option, Some, None, codes, decimal, find, option_map}
+use Rattle.std.specs.Prelude.{◌≡◌, ℕ, not, Bool, List, [], ◌∷◌, ◌++◌, Option, Some, None, codes, count_by, decimal, find, option_map}
 use Rattle.std.specs.List.{filter, flat_map, list_any}
 use Rattle.std.specs.Option.{option_and_then, option_map_or}
 use Rattle.std.specs.Map.{lookup}
@@ -9,7 +9,9 @@ use Rattle.indexmap.specs.IndexMap.{IndexMap}
 use Rattle.cm_envelope.specs.Lines.{line_feed}
 use Rattle.cm_stream.specs.References.{if_any}
 use Rattle.cm_stream.specs.Texts.{Utf8}
+use Rattle.cm_cases.specs.JsonLines.{CaseValues, json_line}
 use Rattle.cm_cases.specs.Shown.{shown_text}
+use Rattle.cm_cases.specs.declared.json_lines.CaseJson.{CaseJson}
 use Rattle.cm_cases.specs.declared.listing.Listing.{Listing}
 use Rattle.cm_cases.specs.declared.listing.PickleEntry.{PickleEntry}
 
@@ -26,6 +28,11 @@ module _ {V S : Type 0} where
   HasFirsts seen kept key xs m =
       (text : Utf8) → option_map seen (value_at m text)
       ≡ option_map kept (find (λ x. bytes_eq text (key x)) xs)
+
+module _ {S : Type 0} where
+  -- the count that a map has for a text, and 0 where it has none
+  abbrev pub count_at : IndexMap (Bor Utf8) ℕ S → Utf8 → ℕ
+  count_at m text = option_map_or (λ n. n) (value_at m text) 0
 
 -- one value, or else another
 abbrev pub or_else : {V : Type 0} → Option V → Option V → Option V
@@ -62,3 +69,39 @@ is_named l p = list_any (λ c. bytes_eq p.id c.pickle_id) l.cases
 abbrev pub unrun_entries_text : Listing → List ℕ
 unrun_entries_text l =
     flat_map (λ p. codes "UNRUN" ++ entry_text l p) (filter (λ p. not (is_named l p)) l.pickles)
+
+-- ---- the same as JSON
+
+abbrev pub times_in : List Utf8 → Utf8 → ℕ
+times_in texts text = count_by (bytes_eq text) texts
+
+-- what the code says in a line
+abbrev pub values_in : CaseJson → CaseValues
+values_in c = record {
+  attempts = c.attempts;
+  line = c.line;
+  name = c.pickle.now.name;
+  status = c.status.now;
+  tags = c.pickle.now.tags;
+  uri = c.pickle.now.uri;
+}
+
+abbrev pub entry_values : Listing → (attempts : ℕ) → (status : Utf8) → PickleEntry → CaseValues
+entry_values l attempts status p = record {
+  attempts = attempts;
+  line = line_in l p;
+  name = p.name;
+  status = status;
+  tags = p.tags;
+  uri = p.uri;
+}
+
+abbrev pub case_json_text : Listing → (test_case status : Utf8) → List ℕ
+case_json_text l id status =
+    flat_map (λ p. json_line (entry_values l (times_in l.starts id) status p))
+    (if_any (entry_of l id))
+
+abbrev pub unrun_json_text : Listing → List ℕ
+unrun_json_text l =
+    flat_map (λ p. json_line (entry_values l 0 (codes "UNRUN") p))
+    (filter (λ p. not (is_named l p)) l.pickles)

@@ -5,7 +5,7 @@ use Rattle.cm_envelope.specs.declared.envelope.Envelope.{Envelope}
 use Rattle.cm_envelope.specs.declared.envelope.GherkinDocument.{GherkinDocument}
 use Rattle.cm_envelope.specs.declared.envelope.TestCase.{TestCase}
 use Rattle.cm_envelope.specs.declared.pickle.Pickle.{Pickle}
-use Rattle.cm_stream.specs.References.{as_document, cases, pickles}
+use Rattle.cm_stream.specs.References.{as_document, cases, pickles, starts}
 use Rattle.cm_cases.specs.Places.{last_node, places_of}
 use Rattle.cm_cases.specs.declared.listing.CaseEntry.{CaseEntry}
 use Rattle.cm_cases.specs.declared.listing.DocumentEntry.{DocumentEntry}
@@ -16,15 +16,22 @@ abbrev pub case_entry : TestCase → CaseEntry
 case_entry c = record { id = c.id; pickle_id = c.pickle_id }
 
 abbrev pub pickle_entry : Pickle → PickleEntry
-pickle_entry p = record { id = p.id; uri = p.uri; name = p.name; node = last_node p }
+pickle_entry p = record {
+  id = p.id;
+  uri = p.uri;
+  name = p.name;
+  node = last_node p;
+  tags = map (λ t. t.name) p.tags;
+}
 
 abbrev pub document_entry : GherkinDocument → DocumentEntry
 document_entry d = record { uri = d.uri; places = places_of d }
 
--- of each case, pickle and document what its lines name
+-- of each case, pickle and document what its lines name, and of each attempt its case
 abbrev pub listing_of : List Envelope → Listing
 listing_of es = record {
   cases = map case_entry (cases es);
   pickles = map pickle_entry (pickles es);
   documents = map document_entry (filter_map as_document es);
+  starts = map (λ s. s.test_case_id) (starts es);
 }

@@ -1,6 +1,6 @@
 -- A text as it is shown within a line: nothing in it breaks, turns or hides the line.
-use Rattle.std.specs.Prelude.{ℕ, ◌==◌, ◌/◌, ◌%◌, ◌||◌, ◌&&◌, Bool, List, [], ◌∷◌, ◌++◌, codes, nat_le, if◌then◌else◌}
-use Rattle.std.specs.Char.{digit_char, encode_utf8}
+use Rattle.std.specs.Prelude.{ℕ, ◌==◌, ◌/◌, ◌%◌, ◌||◌, ◌&&◌, Bool, not, List, [], ◌∷◌, ◌++◌, codes, nat_le, if◌then◌else◌}
+use Rattle.std.specs.Char.{digit_char, encode_utf8, is_whitespace}
 use Rattle.std.specs.List.{flat_map}
 use Rattle.std.specs.Str.{chars}
 
@@ -30,11 +30,12 @@ four_digits c =
     digit_char (c / 4096 % 16) ∷ digit_char (c / 256 % 16) ∷ digit_char (c / 16 % 16)
     ∷ digit_char (c % 16) ∷ []
 
--- A hidden character has its number (RFC 8259, section 7), and all else stands as it is.
-abbrev pub json_char : ℕ → List ℕ
-json_char c = if is_hidden c then codes "\\u" ++ four_digits c else encode_utf8 c
+-- a character by its number, as in JSON (RFC 8259, section 7)
+abbrev pub numbered : ℕ → List ℕ
+numbered c = codes "\\u" ++ four_digits c
 
--- A backslash is doubled, five control characters have a letter and the others their number; all else stands as it is.
+-- A backslash is doubled, five control characters have a letter and the other hidden ones their number; all else stands as it
+-- is.
 abbrev pub shown_char : ℕ → List ℕ
 shown_char c =
     if c == 0x5c then codes "\\\\"
@@ -43,12 +44,31 @@ shown_char c =
     else if c == 0xa then codes "\\n"
     else if c == 0xc then codes "\\f"
     else if c == 0xd then codes "\\r"
-    else json_char c
+    else if is_hidden c then numbered c
+    else encode_utf8 c
 
 -- the text, character by character
 abbrev pub shown_text : List ℕ → List ℕ
 shown_text text = flat_map shown_char (chars text)
 
--- JSON text, in whose strings alone a hidden character may stand, character by character
+-- ---- JSON
+
+-- white space (Unicode's White_Space) that looks like the space U+0020 and isn't it
+abbrev pub is_other_space : ℕ → Bool
+is_other_space c = is_whitespace c && not (c == 0x20)
+
+-- the characters that join or part others and have no width
+abbrev pub is_widthless : ℕ → Bool
+is_widthless c = (c == 0x200b) || (c == 0x2060) || (c == 0xfeff)
+
+-- the characters that JSON text shows by their numbers
+abbrev pub is_numbered_in_json : ℕ → Bool
+is_numbered_in_json c = is_hidden c || is_other_space c || is_widthless c
+
+-- such a character has its number, and all else stands as it is
+abbrev pub json_char : ℕ → List ℕ
+json_char c = if is_numbered_in_json c then numbered c else encode_utf8 c
+
+-- JSON text, in whose strings alone such a character may stand, character by character
 abbrev pub shown_json : List ℕ → List ℕ
 shown_json json = flat_map json_char (chars json)

@@ -17,17 +17,20 @@
 //! }
 //! ```
 //!
-//! `Listing` keeps what the lines name, envelope by envelope, and `Places` writes them. `add_shown` and `add_shown_json` write
-//! texts so that they keep to their line. What they say is defined over the whole list of envelopes and over whole texts, in
-//! `specs/Places` and `specs/Shown`. `firsts_of` and `add_first` find values by their texts, with a `Key` for each kind.
+//! `Listing` keeps what the lines name, envelope by envelope; `Places` writes them, and `JsonLines` as JSON. `add_shown` and
+//! `add_shown_json` write texts so that they keep to their line. What they say is defined over the whole list of envelopes and
+//! over whole texts, in `specs/Places`, `specs/JsonLines` and `specs/Shown`. `firsts_of` and `add_first` find values by their
+//! texts, with a `Key` for each kind.
 #![tactic(auto)]
 
 mod firsts;
+mod json_lines;
 mod listing;
 mod places;
 mod shown;
 
 pub use firsts::{ByText, Key, add_first, firsts_of};
+pub use json_lines::JsonLines;
 pub use listing::Listing;
 pub use places::Places;
 pub use shown::{add_shown, add_shown_json};

@@ -5,7 +5,7 @@ ghost use Rattle.cm_envelope.specs.declared.envelope.Envelope.{Envelope as SomeE
 ghost use Rattle.cm_cases.specs.Listed.{case_entry, document_entry, listing_of, pickle_entry};
 ghost use Rattle.cm_cases.specs.Places.{example_rows, last_node, place, places_of, rows_of, scenario_places};
 
-use cm_envelope::{Envelope, GherkinDocument, Pickle, TestCase};
+use cm_envelope::{Envelope, GherkinDocument, Pickle, PickleTag, TestCase};
 use gk_document::{Examples, Location, Row, Rule, Scenario, Sequence, Text, id_of};
 use std::alloc::{AllocError, Global};
 
@@ -16,13 +16,14 @@ pub(crate) struct CaseEntry {
     pub(crate) pickle_id: Text,
 }
 
-/// A pickle, with the last of the nodes that it is made of.
+/// A pickle, with the last of the nodes that it is made of, and the names of its tags.
 #[derive(Debug, Drop)]
 pub(crate) struct PickleEntry {
     pub(crate) id: Text,
     pub(crate) uri: Text,
     pub(crate) name: Text,
     pub(crate) node: Text,
+    pub(crate) tags: Sequence<Text>,
 }
 
 /// A scenario or a row of examples.
@@ -39,12 +40,13 @@ pub(crate) struct DocumentEntry {
     pub(crate) places: Sequence<Place>,
 }
 
-/// What the lines of a stream's cases name, kept envelope by envelope.
+/// What the lines of a stream's cases name, kept envelope by envelope. `starts` are the cases of the attempts.
 #[derive(Debug, Drop)]
 pub struct Listing {
     pub(crate) cases: Sequence<CaseEntry>,
     pub(crate) pickles: Sequence<PickleEntry>,
     pub(crate) documents: Sequence<DocumentEntry>,
+    pub(crate) starts: Sequence<Text>,
 }
 
 fn copy(alloc: Global, text: &Text) -> Result<Text, AllocError>
@@ -156,6 +158,17 @@ fn last_text(texts: &[Text]) -> &str
     }
 }
 
+/// The names of the tags.
+fn names_of(alloc: Global, tags: &[PickleTag]) -> Result<Sequence<Text>, AllocError>
+    ensures { IfOk result (λ names. names ≡ map (λ t. t.name) tags.now) }
+{
+    let mut names = Sequence::new(alloc);
+    for tag in tags {
+        names.push(copy(alloc, &tag.name)?)?;
+    }
+    Ok(names)
+}
+
 fn pickle_entry(alloc: Global, pickle: &Pickle) -> Result<PickleEntry, AllocError>
     ensures { IfOk result (λ entry. entry ≡ pickle_entry pickle.now) }
 {
@@ -164,6 +177,7 @@ fn pickle_entry(alloc: Global, pickle: &Pickle) -> Result<PickleEntry, AllocErro
         uri: copy(alloc, &pickle.uri)?,
         name: copy(alloc, &pickle.name)?,
         node: Text::copy_of(alloc, last_text(pickle.ast_node_ids.as_slice()))?,
+        tags: names_of(alloc, pickle.tags.as_slice())?,
     })
 }
 
@@ -185,6 +199,7 @@ impl Listing {
             cases: Sequence::new(alloc),
             pickles: Sequence::new(alloc),
             documents: Sequence::new(alloc),
+            starts: Sequence::new(alloc),
         }
     }
 
@@ -203,6 +218,7 @@ impl Listing {
             Envelope::GherkinDocument(document) => {
                 self.documents.push(document_entry(alloc, document)?)
             }
+            Envelope::TestCaseStarted(start) => self.starts.push(copy(alloc, &start.test_case_id)?),
             _ => Ok(()),
         }
     }

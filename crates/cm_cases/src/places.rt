@@ -111,7 +111,8 @@ impl<'a> Places<'a> {
         })
     }
 
-    fn line(&self, pickle: &PickleEntry) -> u32
+    /// The line of the pickle's scenario or row, and 0 where no document has it.
+    pub(crate) fn line(&self, pickle: &PickleEntry) -> u32
         ensures { result ≡ line_in self.now pickle.now }
     {
         match self.documents.get(pickle.uri.as_str()) {
@@ -120,7 +121,8 @@ impl<'a> Places<'a> {
         }
     }
 
-    fn pickle(&self, case: &str) -> Option<&PickleEntry>
+    /// The pickle of a case.
+    pub(crate) fn pickle(&self, case: &str) -> Option<&PickleEntry>
         ensures { option_map (λ p. p.now) result ≡ entry_of self.now case.now }
     {
         let case = self.cases.get(case)?;
@@ -128,7 +130,8 @@ impl<'a> Places<'a> {
         Some(*pickle)
     }
 
-    fn is_named(&self, pickle: &PickleEntry) -> bool
+    /// Whether a case names the pickle.
+    pub(crate) fn is_named(&self, pickle: &PickleEntry) -> bool
         ensures { result ≡ is_named self.now pickle.now }
     {
         self.named.contains_key(pickle.id.as_str())

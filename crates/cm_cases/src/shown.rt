@@ -1,7 +1,8 @@
 //! Texts as they are shown within a line.
 ghost use Rattle.std.specs.Prelude.{◌≡◌, ◌<◌, ◌++◌, ◌∷◌, [], OnOk, string_bytes};
 ghost use Rattle.std.specs.Char.{digit_char};
-ghost use Rattle.cm_cases.specs.Shown.{four_digits, is_hidden, json_char, shown_char, shown_json, shown_text};
+ghost use Rattle.cm_cases.specs.Shown.{four_digits, is_hidden, is_numbered_in_json, is_other_space, is_widthless};
+ghost use Rattle.cm_cases.specs.Shown.{json_char, numbered, shown_char, shown_json, shown_text};
 
 use std::alloc::AllocError;
 
@@ -19,6 +20,27 @@ fn is_hidden(c: char) -> bool
             | '\u{202a}'..='\u{202e}'
             | '\u{2066}'..='\u{2069}'
     )
+}
+
+/// Whether a character is white space that looks like a space and isn't U+0020.
+fn is_other_space(c: char) -> bool
+    ensures { result ≡ is_other_space c }
+{
+    c.is_whitespace() && c != ' '
+}
+
+/// Whether a character joins or parts others and has no width.
+fn is_widthless(c: char) -> bool
+    ensures { result ≡ is_widthless c }
+{
+    matches!(c, '\u{200b}' | '\u{2060}' | '\u{feff}')
+}
+
+/// Whether JSON text shows a character by its number.
+fn is_numbered_in_json(c: char) -> bool
+    ensures { result ≡ is_numbered_in_json c }
+{
+    is_hidden(c) || is_other_space(c) || is_widthless(c)
 }
 
 fn add_digit(text: &mut String, digit: u32) -> Result<(), AllocError>
@@ -42,14 +64,22 @@ fn add_number(text: &mut String, number: u32) -> Result<(), AllocError>
     add_digit(text, number % 16)
 }
 
+/// Adds a character by its number.
+fn add_numbered(text: &mut String, c: char) -> Result<(), AllocError>
+    ensures { OnOk result (string_bytes text.new ≡ string_bytes text.old ++ numbered c) }
+{
+    text.push_str("\\u")?;
+    add_number(text, c as u32)
+}
+
 fn add_json_char(text: &mut String, c: char) -> Result<(), AllocError>
     ensures { OnOk result (string_bytes text.new ≡ string_bytes text.old ++ json_char c) }
 {
-    if !is_hidden(c) {
-        return text.push(c);
+    if is_numbered_in_json(c) {
+        add_numbered(text, c)
+    } else {
+        text.push(c)
     }
-    text.push_str("\\u")?;
-    add_number(text, c as u32)
 }
 
 fn add_char(text: &mut String, c: char) -> Result<(), AllocError>
@@ -62,7 +92,8 @@ fn add_char(text: &mut String, c: char) -> Result<(), AllocError>
         '\n' => text.push_str("\\n"),
         '\u{c}' => text.push_str("\\f"),
         '\r' => text.push_str("\\r"),
-        _ => add_json_char(text, c),
+        _ if is_hidden(c) => add_numbered(text, c),
+        _ => text.push(c),
     }
 }
 
@@ -81,8 +112,9 @@ pub fn add_shown(text: &mut String, added: &str) -> Result<(), AllocError>
     Ok(())
 }
 
-/// Adds JSON text as it is shown within a line: each character that can break, turn or hide the line has its number. In compact
-/// JSON such characters stand within strings alone, so what is shown means the same.
+/// Adds JSON text as it is shown within a line: each character that can break, turn or hide the line has its number, and so has
+/// white space other than U+0020, and what has no width. In compact JSON such characters stand within strings alone, so what is
+/// shown means the same.
 ///
 /// # Errors
 /// Only where there is no memory for it.
