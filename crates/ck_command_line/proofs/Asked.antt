@@ -15,10 +15,11 @@ use Rattle.ck_command_line.specs.Asked.{Ask, CallForHelp, TakesItsOptions, Refus
 use Rattle.ck_command_line.specs.Asked.{all_words, usages, named_options, examples, mistakes, help_calls, is_option, words_of_line}
 use Rattle.ck_command_line.proofs.Leaves.{LineAnswers, leaf, gate_words, audit_words, cases_words, differs_words, results_words, parse_words, compile_words}
 use Rattle.ck_command_line.proofs.Gate.{gate_takes}
-use Rattle.ck_command_line.proofs.AuditOptions.{audit_takes, cases_takes, differs_takes}
+use Rattle.ck_command_line.proofs.AuditOptions.{audit_takes, differs_takes}
+use Rattle.ck_command_line.proofs.CasesOptions.{cases_takes}
 use Rattle.ck_command_line.proofs.Options.{answers, results_takes}
 use Rattle.ck_command_line.proofs.Plain.{plain}
-use Rattle.ck_command_line.proofs.Refused.{file_is_refused, option_is_refused, gate_leaf, leaf_like_audit, results_leaf, parse_leaf, compile_leaf}
+use Rattle.ck_command_line.proofs.Refused.{file_is_refused, option_is_refused, gate_leaf, leaf_like_audit, cases_leaf, results_leaf, parse_leaf, compile_leaf}
 
 ask : (texts : List Text) (command : Option Command) → LineAnswers texts command → Ask texts command
 ask texts command told words is = (
@@ -64,7 +65,7 @@ files_are_refused = (
       (
         λ word plain_word options k others. ask (codes "audit" ∷ all_words options ++ word ∷ others) None (audit_words (all_words options ++ word ∷ others) None (file_is_refused (leaf audit_command) (leaf_like_audit (codes "audit")) options k word plain_word others)),
         (
-          λ word plain_word options k others. ask (codes "cases" ∷ all_words options ++ word ∷ others) None (cases_words (all_words options ++ word ∷ others) None (file_is_refused (leaf cases_command) (leaf_like_audit (codes "cases")) options k word plain_word others)),
+          λ word plain_word options k others. ask (codes "cases" ∷ all_words options ++ word ∷ others) None (cases_words (all_words options ++ word ∷ others) None (file_is_refused (leaf cases_command) cases_leaf options k word plain_word others)),
           (
             λ word plain_word options k others. ask (codes "differs" ∷ all_words options ++ word ∷ others) None (differs_words (all_words options ++ word ∷ others) None (file_is_refused (leaf differs_command) (leaf_like_audit (codes "differs")) options k word plain_word others)),
             (
@@ -98,6 +99,10 @@ module _ (name : Text) (help : codes "help" ≢ name) where
   not_audit : codes "pending-passes" ≢ name → codes "attempts-from" ≢ name → codes "allow-redeclared" ≢ name → HasNone audit_command name
   not_audit p n a = rw (differ (codes "pending-passes") name p, differ (codes "attempts-from") name n, differ (codes "allow-redeclared") name a, differ (codes "help") name help) refl
 
+  not_cases : codes "json" ≢ name → codes "pending-passes" ≢ name → codes "attempts-from" ≢ name → codes "allow-redeclared" ≢ name → HasNone cases_command name
+  not_cases j p n a =
+      rw (differ (codes "json") name j, differ (codes "pending-passes") name p, differ (codes "attempts-from") name n, differ (codes "allow-redeclared") name a, differ (codes "help") name help) refl
+
   not_gate : codes "allow-unrun" ≢ name →
       codes "allow-unrun-tagged" ≢ name →
       codes "no-retries" ≢ name →
@@ -121,7 +126,7 @@ other_options_are_refused = (
       (
         λ word name value long h options k others. ask (codes "audit" ∷ all_words options ++ word ∷ others) None (audit_words (all_words options ++ word ∷ others) None (option_is_refused (leaf audit_command) (leaf_like_audit (codes "audit")) options k word name value long (not_audit name h.0 h.1.0 h.1.1.0 h.1.1.1.0) others)),
         (
-          λ word name value long h options k others. ask (codes "cases" ∷ all_words options ++ word ∷ others) None (cases_words (all_words options ++ word ∷ others) None (option_is_refused (leaf cases_command) (leaf_like_audit (codes "cases")) options k word name value long (not_audit name h.0 h.1.0 h.1.1.0 h.1.1.1.0) others)),
+          λ word name value long h options k others. ask (codes "cases" ∷ all_words options ++ word ∷ others) None (cases_words (all_words options ++ word ∷ others) None (option_is_refused (leaf cases_command) cases_leaf options k word name value long (not_cases name h.0 h.1.0 h.1.1.0 h.1.1.1.0 h.1.1.1.1.0) others)),
           (
             λ word name value long h options k others. ask (codes "differs" ∷ all_words options ++ word ∷ others) None (differs_words (all_words options ++ word ∷ others) None (option_is_refused (leaf differs_command) (leaf_like_audit (codes "differs")) options k word name value long (not_audit name h.0 h.1.0 h.1.1.0 h.1.1.1.0) others)),
             (

@@ -1,23 +1,24 @@
 -- Each list of the options of `audit` is read, by each command that has them.
-use Rattle.std.proofs.Common.{◌≡◌, ◌∙◌, ℕ, Bool, true, false, List, [], ◌∷◌, Option, Some, None, refl, ap, inl, inr, sym, fold, option_map}
-use Rattle.std.proofs.lemmas.Bool.{false≢true}
-use Rattle.std.specs.Prelude.{codes, if◌then◌else◌, option_and_then}
-use Rattle.std.specs.List.{AllByRecursion, list_all}
+use Rattle.std.proofs.Common.{◌≡◌, ◌∙◌, ℕ, true, false, List, [], ◌∷◌, Option, refl, ap, inl, inr, sym, fold, option_map}
+use Rattle.std.proofs.lemmas.Bool.{false≢true, or_right}
+use Rattle.std.specs.Prelude.{codes, option_and_then}
+use Rattle.std.specs.List.{AllByRecursion}
 use Rattle.clap.specs.Words.{Row, Text, first_of}
 use Rattle.clap.specs.Walk.{Held, bundle_met, nothing_held, reading_by, rows_after, walked, with_default}
 use Rattle.clap.specs.Simple.{Shape}
 use Rattle.clap.specs.Faults.{flags_fault, walk_fault}
 use Rattle.cm_attempt.specs.declared.settings.Settings.{Settings}
 use Rattle.cm_stream.specs.Release.{Conditions}
-use Rattle.ck_command_line.specs.CommandLine.{Command, ask_audit, ask_cases, ask_differs, command_like_audit, command_named, is_given, is_tag, settings_in}
-use Rattle.ck_command_line.specs.Asked.{Written, allow_unrun, allow_unrun_tagged, no_retries, no_skips, no_stepless, no_undefined, strict, pending_passes, attempts_from, allow_redeclared}
-use Rattle.ck_command_line.specs.Asked.{IsPlain, all_words, are_distinct, asked_of_run, command_asked_with, conditions_written, has_both_unrun, is_there, number_of, settings_written, tags_of, usage_like_audit}
+use Rattle.ck_command_line.specs.CommandLine.{Command, ask_audit, ask_differs, command_like_audit, command_named, is_given, settings_in}
+use Rattle.ck_command_line.specs.Asked.{Written, allow_unrun, allow_unrun_tagged, no_retries, no_skips, no_stepless, no_undefined, strict, as_json, pending_passes, attempts_from, allow_redeclared}
+use Rattle.ck_command_line.specs.Asked.{IsPlain, all_words, are_distinct, command_asked_with, has_name, is_there, number_of, settings_written, usage_like_audit}
 use Rattle.ck_command_line.proofs.Between.{between}
 use Rattle.ck_command_line.proofs.Gate.{same_settings}
 use Rattle.ck_command_line.proofs.Leaves.{faults, leaf}
 use Rattle.ck_command_line.proofs.Plain.{plain}
 use Rattle.ck_command_line.proofs.Rows.{IsFit, IsOff, Keeps, defaults_fit, defaults_keep, defaults_off, first_is, first_text, is_on, set_told}
 use Rattle.ck_command_line.proofs.Said.{IsFlag, flag_said, number_said}
+use Rattle.ck_command_line.proofs.Unconditional.{AreFree, unconditional}
 use Rattle.ck_command_line.proofs.Using.{AreUsed, IsNew, ReadsEach, Told, Used, again, all_own, conflict, is_new, is_own, no_faults_found, once, rows_now, rule_for, settling, use_all, waiting}
 
 abbrev own_names : List Text
@@ -25,45 +26,13 @@ own_names = (usage_like_audit (codes "audit") ask_audit).options
 
 -- ---- no conditions are written
 
-no_tags : (options : List Written) → AllByRecursion (λ option. is_own own_names option ≡ true) options → tags_of options ≡ []
-no_tags [] h = refl
-no_tags (allow_unrun ∷ options) h = absurd (false≢true h.0)
-no_tags ((allow_unrun_tagged w t) ∷ options) h = absurd (false≢true h.0)
-no_tags (no_retries ∷ options) h = absurd (false≢true h.0)
-no_tags (no_skips ∷ options) h = absurd (false≢true h.0)
-no_tags (no_stepless ∷ options) h = absurd (false≢true h.0)
-no_tags (no_undefined ∷ options) h = absurd (false≢true h.0)
-no_tags (strict ∷ options) h = absurd (false≢true h.0)
-no_tags (pending_passes ∷ options) h = no_tags options h.1
-no_tags (attempts_from w n ∷ options) h = no_tags options h.1
-no_tags (allow_redeclared ∷ options) h = no_tags options h.1
-
-none_unrun : (options : List Written) → AllByRecursion (λ option. is_own own_names option ≡ true) options → is_there (codes "allow-unrun") options ≡ false
-none_unrun [] h = refl
-none_unrun (allow_unrun ∷ options) h = absurd (false≢true h.0)
-none_unrun ((allow_unrun_tagged w t) ∷ options) h = absurd (false≢true h.0)
-none_unrun (no_retries ∷ options) h = absurd (false≢true h.0)
-none_unrun (no_skips ∷ options) h = absurd (false≢true h.0)
-none_unrun (no_stepless ∷ options) h = absurd (false≢true h.0)
-none_unrun (no_undefined ∷ options) h = absurd (false≢true h.0)
-none_unrun (strict ∷ options) h = absurd (false≢true h.0)
-none_unrun (pending_passes ∷ options) h = none_unrun options h.1
-none_unrun (attempts_from w n ∷ options) h = none_unrun options h.1
-none_unrun (allow_redeclared ∷ options) h = none_unrun options h.1
-
--- so the conditions have no mistake
-unconditional : (options : List Written) → AllByRecursion (λ option. is_own own_names option ≡ true) options → conditions_written options ≡ Some (asked_of_run options)
-unconditional options h =
-    go (has_both_unrun options) (list_all is_tag (tags_of options)) (rw (none_unrun options h) refl) (ap (list_all is_tag) (no_tags options h))
-  where
-    go : (both all : Bool) → both ≡ false → all ≡ true → (if both then None else if all then Some (asked_of_run options) else None) ≡ Some (asked_of_run options)
-    go true all e f = absurd (false≢true (sym e))
-    go false true e f = refl
-    go false false e f = absurd (false≢true f)
+wider : (options : List Written) → AllByRecursion (λ option. is_own own_names option ≡ true) options → AreFree options
+wider [] h = tt
+wider (option ∷ options) h = (or_right (has_name (codes "json") option) (is_own own_names option) h.0, wider options h.1)
 
 asked_with : (name : Text) (asks : Settings → Command) (options : List Written) → are_distinct own_names options ≡ true → command_asked_with (usage_like_audit name asks) options ≡ option_map asks (settings_written options)
 asked_with name asks options d =
-    ap (λ (o : Option Conditions). option_and_then (λ conditions. option_map asks (settings_written options)) o) (unconditional options (all_own own_names options d))
+    ap (λ (o : Option Conditions). option_and_then (λ conditions. option_map asks (settings_written options)) o) (unconditional options (wider options (all_own own_names options d)))
 
 -- ---- one option
 
@@ -80,6 +49,7 @@ module _ (name : Text) where
   use_one no_stepless own k h p n new = absurd (false≢true own)
   use_one no_undefined own k h p n new = absurd (false≢true own)
   use_one strict own k h p n new = absurd (false≢true own)
+  use_one as_json own k h p n new = absurd (false≢true own)
   use_one pending_passes own k h p n new = ((refl, refl, refl), refl, once (settling audit h) (again audit (codes "pending-passes") (rows_now audit h)) n (is_new audit (codes "pending-passes") (rows_now audit h) (new refl)), refl)
   use_one (attempts_from true m) own k h p n new = ((refl, refl, refl), refl, once (settling audit h) (again audit (codes "attempts-from") (rows_now audit h)) n (is_new audit (codes "attempts-from") (rows_now audit h) (new refl)), refl)
   use_one (attempts_from false m) own k h p n new = let v = plain m k in rw (v.0, v.1, v.2) (((refl, refl, refl), refl, waiting (settling audit h) n, conflict (again audit (codes "attempts-from") (rows_now audit h)) (is_new audit (codes "attempts-from") (rows_now audit h) (new refl))))
@@ -93,6 +63,7 @@ module _ (name : Text) where
   told no_stepless own row rows new = absurd (false≢true own)
   told no_undefined own row rows new = absurd (false≢true own)
   told strict own row rows new = absurd (false≢true own)
+  told as_json own row rows new = absurd (false≢true own)
   told pending_passes own row rows new = set_told (codes "pending-passes") row (reading_by (rule_for audit pending_passes)) (codes "true" ∷ []) rows (new refl)
   told (attempts_from w n) own row rows new = set_told (codes "attempts-from") row (reading_by (rule_for audit (attempts_from w n))) (n ∷ []) rows (new refl)
   told allow_redeclared own row rows new = set_told (codes "allow-redeclared") row (reading_by (rule_for audit allow_redeclared)) (codes "true" ∷ []) rows (new refl)
@@ -137,7 +108,7 @@ module _ (name : Text) where
     pub settings_read : settings_in (rows_after audit.rules [] (all_words options)) ≡ settings_written options
     settings_read = same_settings (flag_read (codes "pending-passes") (refl, refl)) (flag_read (codes "allow-redeclared") (refl, refl)) number_read
 
--- ---- the three commands
+-- ---- the two commands
 
 -- the command finds no fault, and this is what its values ask for
 abbrev pub Reads : Shape → List Text → Option Command → Type 0
@@ -146,9 +117,6 @@ Reads s words command = (faults s words ≡ []) × (command_named s.name (rows_a
 module _ (options : List Written) (d : are_distinct own_names options ≡ true) (k : AllByRecursion IsPlain options) where
   pub audit_takes : Reads (leaf (command_like_audit (codes "audit"))) (all_words options) (command_asked_with (usage_like_audit (codes "audit") ask_audit) options)
   audit_takes = (no_faults (codes "audit") options d k, ap (option_map ask_audit) (settings_read (codes "audit") options d k) ∙ sym (asked_with (codes "audit") ask_audit options d))
-
-  pub cases_takes : Reads (leaf (command_like_audit (codes "cases"))) (all_words options) (command_asked_with (usage_like_audit (codes "cases") ask_cases) options)
-  cases_takes = (no_faults (codes "cases") options d k, ap (option_map ask_cases) (settings_read (codes "cases") options d k) ∙ sym (asked_with (codes "cases") ask_cases options d))
 
   pub differs_takes : Reads (leaf (command_like_audit (codes "differs"))) (all_words options) (command_asked_with (usage_like_audit (codes "differs") ask_differs) options)
   differs_takes = (no_faults (codes "differs") options d k, ap (option_map ask_differs) (settings_read (codes "differs") options d k) ∙ sym (asked_with (codes "differs") ask_differs options d))

@@ -1,5 +1,6 @@
 -- Each list of the gate's own options is read.
 use Rattle.std.proofs.Common.{◌≡◌, ◌∙◌, ℕ, Bool, true, false, List, [], ◌∷◌, Option, Some, None, refl, ap, inl, inr, fold, option_map}
+use Rattle.std.proofs.lemmas.Bool.{false≢true}
 use Rattle.std.specs.Prelude.{codes, if◌then◌else◌}
 use Rattle.std.specs.List.{AllByRecursion, list_all}
 use Rattle.clap.specs.Words.{Row, Text, all_of, first_of}
@@ -11,7 +12,7 @@ use Rattle.cm_attempt.specs.declared.policy.Policy.TheVariants.{Strict, PendingP
 use Rattle.cm_attempt.specs.declared.settings.Settings.{Settings}
 use Rattle.cm_stream.specs.Release.{Conditions}
 use Rattle.ck_command_line.specs.CommandLine.{Command, command_named, conditions_by, first_attempt_named, gate_asked, gate_command, is_given, is_tag, tags_allowed}
-use Rattle.ck_command_line.specs.Asked.{Written, allow_unrun, allow_unrun_tagged, no_retries, no_skips, no_stepless, no_undefined, strict, pending_passes, attempts_from, allow_redeclared}
+use Rattle.ck_command_line.specs.Asked.{Written, allow_unrun, allow_unrun_tagged, no_retries, no_skips, no_stepless, no_undefined, strict, as_json, pending_passes, attempts_from, allow_redeclared}
 use Rattle.ck_command_line.specs.Asked.{IsPlain, all_words, are_distinct, asked_of_run, command_asked_with, conditions_written, gate_usage, has_both_unrun, is_there, number_of, tags_of}
 use Rattle.ck_command_line.proofs.Between.{between}
 use Rattle.ck_command_line.proofs.Leaves.{faults, leaf}
@@ -35,6 +36,7 @@ use_one no_skips own k h p n new = ((refl, refl, refl), refl, once (settling gat
 use_one no_stepless own k h p n new = ((refl, refl, refl), refl, once (settling gate h) (again gate (codes "no-stepless") (rows_now gate h)) n (is_new gate (codes "no-stepless") (rows_now gate h) (new refl)), refl)
 use_one no_undefined own k h p n new = ((refl, refl, refl), refl, once (settling gate h) (again gate (codes "no-undefined") (rows_now gate h)) n (is_new gate (codes "no-undefined") (rows_now gate h) (new refl)), refl)
 use_one strict own k h p n new = ((refl, refl, refl), refl, once (settling gate h) (again gate (codes "strict") (rows_now gate h)) n (is_new gate (codes "strict") (rows_now gate h) (new refl)), refl)
+use_one as_json own k h p n new = absurd (false≢true own)
 use_one pending_passes own k h p n new = ((refl, refl, refl), refl, once (settling gate h) (again gate (codes "pending-passes") (rows_now gate h)) n (is_new gate (codes "pending-passes") (rows_now gate h) (new refl)), refl)
 use_one (attempts_from true m) own k h p n new = ((refl, refl, refl), refl, once (settling gate h) (again gate (codes "attempts-from") (rows_now gate h)) n (is_new gate (codes "attempts-from") (rows_now gate h) (new refl)), refl)
 use_one (attempts_from false m) own k h p n new = let v = plain m k in rw (v.0, v.1, v.2) (((refl, refl, refl), refl, waiting (settling gate h) n, conflict (again gate (codes "attempts-from") (rows_now gate h)) (is_new gate (codes "attempts-from") (rows_now gate h) (new refl))))
@@ -48,6 +50,7 @@ told no_skips own name rows new = set_told (codes "no-skips") name (reading_by (
 told no_stepless own name rows new = set_told (codes "no-stepless") name (reading_by (rule_for gate no_stepless)) (codes "true" ∷ []) rows (new refl)
 told no_undefined own name rows new = set_told (codes "no-undefined") name (reading_by (rule_for gate no_undefined)) (codes "true" ∷ []) rows (new refl)
 told strict own name rows new = set_told (codes "strict") name (reading_by (rule_for gate strict)) (codes "true" ∷ []) rows (new refl)
+told as_json own name rows new = absurd (false≢true own)
 told pending_passes own name rows new = set_told (codes "pending-passes") name (reading_by (rule_for gate pending_passes)) (codes "true" ∷ []) rows (new refl)
 told (attempts_from w n) own name rows new = set_told (codes "attempts-from") name (reading_by (rule_for gate (attempts_from w n))) (n ∷ []) rows (new refl)
 told allow_redeclared own name rows new = set_told (codes "allow-redeclared") name (reading_by (rule_for gate allow_redeclared)) (codes "true" ∷ []) rows (new refl)

@@ -9,6 +9,8 @@ pub mod Between
 pub mod Using
 pub mod Gate
 pub mod AuditOptions
+pub mod Unconditional
+pub mod CasesOptions
 pub mod Options
 pub mod Refused
 pub mod Asked

@@ -7,7 +7,7 @@ use Rattle.clap.specs.Simple.{Shape}
 use Rattle.clap.specs.Walk.{bundle_met, rows_after, walked}
 use Rattle.clap.specs.Faults.{flags_fault, walk_fault, defaults_fault}
 use Rattle.ck_command_line.specs.CommandLine.{Command, command_named, is_help, results_command, where_none}
-use Rattle.ck_command_line.specs.Asked.{Written, allow_unrun, allow_unrun_tagged, no_retries, no_skips, no_stepless, no_undefined, strict, pending_passes, attempts_from, allow_redeclared}
+use Rattle.ck_command_line.specs.Asked.{Written, allow_unrun, allow_unrun_tagged, no_retries, no_skips, no_stepless, no_undefined, strict, as_json, pending_passes, attempts_from, allow_redeclared}
 use Rattle.ck_command_line.specs.Asked.{IsPlain, are_distinct, all_words, command_asked_with}
 use Rattle.ck_command_line.specs.Asked.{results_usage}
 use Rattle.ck_command_line.proofs.AuditOptions.{Reads}
@@ -35,6 +35,7 @@ results_takes (no_skips ∷ options) h k = absurd (false≢true h)
 results_takes (no_stepless ∷ options) h k = absurd (false≢true h)
 results_takes (no_undefined ∷ options) h k = absurd (false≢true h)
 results_takes (strict ∷ options) h k = absurd (false≢true h)
+results_takes (as_json ∷ options) h k = absurd (false≢true h)
 results_takes (allow_redeclared ∷ options) h k = absurd (false≢true h)
 results_takes (pending_passes ∷ options) h k = absurd (false≢true h)
 results_takes (attempts_from true n ∷ []) h k = (refl, in_two_steps _ _ _)

@@ -14,8 +14,8 @@ use Rattle.clap.specs.declared.error.kind.ErrorKind.TheVariants.{ArgumentConflic
 use Rattle.std.proofs.lemmas.List.Sums.{fold-append}
 use Rattle.std.proofs.lemmas.Bool.{false_from_ne_true, true≢false}
 use Rattle.ck_command_line.specs.CommandLine.{Command, is_help, where_none}
-use Rattle.ck_command_line.specs.CommandLine.{command_like_audit, compile_command, gate_command, parse_command, results_command}
-use Rattle.ck_command_line.specs.Asked.{Written, allow_unrun, allow_unrun_tagged, no_retries, no_skips, no_stepless, no_undefined, strict, pending_passes, attempts_from, allow_redeclared}
+use Rattle.ck_command_line.specs.CommandLine.{cases_command, command_like_audit, compile_command, gate_command, parse_command, results_command}
+use Rattle.ck_command_line.specs.Asked.{Written, allow_unrun, allow_unrun_tagged, no_retries, no_skips, no_stepless, no_undefined, strict, as_json, pending_passes, attempts_from, allow_redeclared}
 use Rattle.ck_command_line.specs.Asked.{IsPlain, words_of, all_words, is_option}
 use Rattle.ck_command_line.proofs.Leaves.{Answers, leaf}
 use Rattle.ck_command_line.proofs.Between.{IsBetween, between, is_between, walk_fault-append}
@@ -138,6 +138,7 @@ gate_leaf = record { step = step; no_positional = λ i. refl; is_leaf = refl }
     step no_stepless k h p n = ((refl, refl, refl), once (leaf gate_command) h (codes "no-stepless") n, refl)
     step no_undefined k h p n = ((refl, refl, refl), once (leaf gate_command) h (codes "no-undefined") n, refl)
     step strict k h p n = ((refl, refl, refl), once (leaf gate_command) h (codes "strict") n, refl)
+    step as_json k h p n = ((refl, refl, refl), refl, n)
     step pending_passes k h p n = ((refl, refl, refl), once (leaf gate_command) h (codes "pending-passes") n, refl)
     step (attempts_from true m) k h p n = ((refl, refl, refl), once (leaf gate_command) h (codes "attempts-from") n, refl)
     step (attempts_from false m) k h p n = let v = plain m k in rw (v.0, v.1, v.2) ((refl, refl, refl), waiting (leaf gate_command) h n, conflict (is_there (leaf gate_command) h (codes "attempts-from")))
@@ -157,10 +158,30 @@ leaf_like_audit name = record { step = step; no_positional = λ i. refl; is_leaf
     step no_stepless k h p n = ((refl, refl, refl), refl, n)
     step no_undefined k h p n = ((refl, refl, refl), refl, n)
     step strict k h p n = ((refl, refl, refl), refl, n)
+    step as_json k h p n = ((refl, refl, refl), refl, n)
     step pending_passes k h p n = ((refl, refl, refl), once (leaf (command_like_audit name)) h (codes "pending-passes") n, refl)
     step (attempts_from true m) k h p n = ((refl, refl, refl), once (leaf (command_like_audit name)) h (codes "attempts-from") n, refl)
     step (attempts_from false m) k h p n = let v = plain m k in rw (v.0, v.1, v.2) ((refl, refl, refl), waiting (leaf (command_like_audit name)) h n, conflict (is_there (leaf (command_like_audit name)) h (codes "attempts-from")))
     step allow_redeclared k h p n = ((refl, refl, refl), once (leaf (command_like_audit name)) h (codes "allow-redeclared") n, refl)
+
+pub cases_leaf : IsPlainLeaf (leaf cases_command)
+unfolding bundle_met walked flags_fault walk_fault
+cases_leaf = record { step = step; no_positional = λ i. refl; is_leaf = refl }
+  where
+    step : (option : Written) → IsPlain option → (h : Held) (p : ℕ) → NoHelp (settle_fault (leaf cases_command).rules (leaf cases_command).args_override_self h) → Step (leaf cases_command) option h p
+    step allow_unrun k h p n = ((refl, refl, refl), refl, n)
+    step (allow_unrun_tagged true t) k h p n = ((refl, refl, refl), refl, n)
+    step (allow_unrun_tagged false t) k h p n = let v = plain t k in rw (v.0, v.1, v.2) ((refl, refl, refl), refl, n)
+    step no_retries k h p n = ((refl, refl, refl), refl, n)
+    step no_skips k h p n = ((refl, refl, refl), refl, n)
+    step no_stepless k h p n = ((refl, refl, refl), refl, n)
+    step no_undefined k h p n = ((refl, refl, refl), refl, n)
+    step strict k h p n = ((refl, refl, refl), refl, n)
+    step as_json k h p n = ((refl, refl, refl), once (leaf cases_command) h (codes "json") n, refl)
+    step pending_passes k h p n = ((refl, refl, refl), once (leaf cases_command) h (codes "pending-passes") n, refl)
+    step (attempts_from true m) k h p n = ((refl, refl, refl), once (leaf cases_command) h (codes "attempts-from") n, refl)
+    step (attempts_from false m) k h p n = let v = plain m k in rw (v.0, v.1, v.2) ((refl, refl, refl), waiting (leaf cases_command) h n, conflict (is_there (leaf cases_command) h (codes "attempts-from")))
+    step allow_redeclared k h p n = ((refl, refl, refl), once (leaf cases_command) h (codes "allow-redeclared") n, refl)
 
 pub results_leaf : IsPlainLeaf (leaf results_command)
 unfolding bundle_met walked flags_fault walk_fault
@@ -175,6 +196,7 @@ results_leaf = record { step = step; no_positional = λ i. refl; is_leaf = refl 
     step no_stepless k h p n = ((refl, refl, refl), refl, n)
     step no_undefined k h p n = ((refl, refl, refl), refl, n)
     step strict k h p n = ((refl, refl, refl), refl, n)
+    step as_json k h p n = ((refl, refl, refl), refl, n)
     step pending_passes k h p n = ((refl, refl, refl), refl, n)
     step (attempts_from true m) k h p n = ((refl, refl, refl), once (leaf results_command) h (codes "attempts-from") n, refl)
     step (attempts_from false m) k h p n = let v = plain m k in rw (v.0, v.1, v.2) ((refl, refl, refl), waiting (leaf results_command) h n, conflict (is_there (leaf results_command) h (codes "attempts-from")))
@@ -193,6 +215,7 @@ parse_leaf = record { step = step; no_positional = λ i. refl; is_leaf = refl }
     step no_stepless k h p n = ((refl, refl, refl), refl, n)
     step no_undefined k h p n = ((refl, refl, refl), refl, n)
     step strict k h p n = ((refl, refl, refl), refl, n)
+    step as_json k h p n = ((refl, refl, refl), refl, n)
     step pending_passes k h p n = ((refl, refl, refl), refl, n)
     step (attempts_from true m) k h p n = ((refl, refl, refl), refl, n)
     step (attempts_from false m) k h p n = let v = plain m k in rw (v.0, v.1, v.2) ((refl, refl, refl), refl, n)
@@ -211,6 +234,7 @@ compile_leaf = record { step = step; no_positional = λ i. refl; is_leaf = refl 
     step no_stepless k h p n = ((refl, refl, refl), refl, n)
     step no_undefined k h p n = ((refl, refl, refl), refl, n)
     step strict k h p n = ((refl, refl, refl), refl, n)
+    step as_json k h p n = ((refl, refl, refl), refl, n)
     step pending_passes k h p n = ((refl, refl, refl), refl, n)
     step (attempts_from true m) k h p n = ((refl, refl, refl), refl, n)
     step (attempts_from false m) k h p n = let v = plain m k in rw (v.0, v.1, v.2) ((refl, refl, refl), refl, n)

@@ -6,7 +6,7 @@ use Rattle.std.specs.List.{list_all}
 use Rattle.std.specs.Str.{bytes_eq}
 use Rattle.clap.specs.Words.{Text}
 use Rattle.ck_command_line.specs.CommandLine.{is_given, is_tag, tags_allowed}
-use Rattle.ck_command_line.specs.Asked.{Written, allow_unrun, allow_unrun_tagged, no_retries, no_skips, no_stepless, no_undefined, strict, pending_passes, attempts_from, allow_redeclared}
+use Rattle.ck_command_line.specs.Asked.{Written, allow_unrun, allow_unrun_tagged, no_retries, no_skips, no_stepless, no_undefined, strict, as_json, pending_passes, attempts_from, allow_redeclared}
 use Rattle.ck_command_line.specs.Asked.{has_name, is_there, number_of, tags_of}
 use Rattle.ck_command_line.proofs.Rows.{first_text, is_on, said_by}
 
@@ -59,6 +59,7 @@ says_true name flag no_skips h = refl
 says_true name flag no_stepless h = refl
 says_true name flag no_undefined h = refl
 says_true name flag strict h = refl
+says_true name flag as_json h = refl
 says_true name flag pending_passes h = refl
 says_true name flag (attempts_from w n) h = absurd (false≢true (sym flag.1 ∙ h))
 says_true name flag allow_redeclared h = refl
@@ -86,6 +87,7 @@ number_first (no_skips ∷ options) = number_first options
 number_first (no_stepless ∷ options) = number_first options
 number_first (no_undefined ∷ options) = number_first options
 number_first (strict ∷ options) = number_first options
+number_first (as_json ∷ options) = number_first options
 number_first (pending_passes ∷ options) = number_first options
 number_first (attempts_from w n ∷ options) = refl
 number_first (allow_redeclared ∷ options) = number_first options
@@ -104,6 +106,7 @@ more_tags (no_skips ∷ options) tags = more_tags options tags
 more_tags (no_stepless ∷ options) tags = more_tags options tags
 more_tags (no_undefined ∷ options) tags = more_tags options tags
 more_tags (strict ∷ options) tags = more_tags options tags
+more_tags (as_json ∷ options) tags = more_tags options tags
 more_tags (pending_passes ∷ options) tags = more_tags options tags
 more_tags (attempts_from w n ∷ options) tags = more_tags options tags
 more_tags (allow_redeclared ∷ options) tags = more_tags options tags
@@ -121,6 +124,7 @@ tags_said (no_skips ∷ options) = tags_said options
 tags_said (no_stepless ∷ options) = tags_said options
 tags_said (no_undefined ∷ options) = tags_said options
 tags_said (strict ∷ options) = tags_said options
+tags_said (as_json ∷ options) = tags_said options
 tags_said (pending_passes ∷ options) = tags_said options
 tags_said (attempts_from w n ∷ options) = tags_said options
 tags_said (allow_redeclared ∷ options) = tags_said options
@@ -134,6 +138,7 @@ no_tags (no_skips ∷ options) h = no_tags options h
 no_tags (no_stepless ∷ options) h = no_tags options h
 no_tags (no_undefined ∷ options) h = no_tags options h
 no_tags (strict ∷ options) h = no_tags options h
+no_tags (as_json ∷ options) h = no_tags options h
 no_tags (pending_passes ∷ options) h = no_tags options h
 no_tags (attempts_from w n ∷ options) h = no_tags options h
 no_tags (allow_redeclared ∷ options) h = no_tags options h

@@ -13,7 +13,7 @@ use Rattle.clap.specs.Walk.{Held, Walk, arg_by_long, has_row, nothing_held, sett
 use Rattle.clap.specs.Simple.{Shape}
 use Rattle.clap.specs.Faults.{settle_fault, walk_fault}
 use Rattle.clap.specs.declared.error.kind.ErrorKind.TheVariants.{ArgumentConflict}
-use Rattle.ck_command_line.specs.Asked.{Written, allow_unrun, allow_unrun_tagged, no_retries, no_skips, no_stepless, no_undefined, strict, pending_passes, attempts_from, allow_redeclared}
+use Rattle.ck_command_line.specs.Asked.{Written, allow_unrun, allow_unrun_tagged, no_retries, no_skips, no_stepless, no_undefined, strict, as_json, pending_passes, attempts_from, allow_redeclared}
 use Rattle.ck_command_line.specs.Asked.{IsPlain, all_words, are_distinct, has_name, may_come_again, name_of, names_after, words_of}
 use Rattle.ck_command_line.proofs.Between.{IsBetween, between, is_between, walk_fault-append}
 use Rattle.ck_command_line.proofs.Rows.{not_there, said_by}
@@ -86,6 +86,7 @@ not_again no_skips w t h = refl
 not_again no_stepless w t h = refl
 not_again no_undefined w t h = refl
 not_again strict w t h = refl
+not_again as_json w t h = refl
 not_again pending_passes w t h = refl
 not_again (attempts_from v n) w t h = refl
 not_again allow_redeclared w t h = refl
@@ -178,6 +179,7 @@ module _ (s : Shape) where
   left_new no_stepless told names rows new all = by_filter no_stepless told names rows new all
   left_new no_undefined told names rows new all = by_filter no_undefined told names rows new all
   left_new strict told names rows new all = by_filter strict told names rows new all
+  left_new as_json told names rows new all = by_filter as_json told names rows new all
   left_new pending_passes told names rows new all = by_filter pending_passes told names rows new all
   left_new (attempts_from w n) told names rows new all = by_filter (attempts_from w n) told names rows new all
   left_new allow_redeclared told names rows new all = by_filter allow_redeclared told names rows new all

@@ -14,6 +14,8 @@ use Rattle.cm_stream.specs.Release.{Conditions, each_runs, strict_conditions}
 use Rattle.ck_command_line.specs.CommandLine.{AsksNothing, CallsForHelp, Command, command_asked_by, first_attempt_named, is_tag}
 use Rattle.ck_command_line.specs.CommandLine.{ask_audit, ask_cases, ask_compile, ask_differs, ask_gate, ask_parse}
 use Rattle.ck_command_line.specs.CommandLine.{ask_results, asks_for_help}
+use Rattle.ck_command_line.specs.declared.command_line.CaseForm.{CaseForm}
+use Rattle.ck_command_line.specs.declared.command_line.CaseForm.TheVariants.{Plain, Json}
 
 -- words that are these texts ask for this command, or for none, and don't call for help
 abbrev pub Ask : List Text → Option Command → Type 0
@@ -37,6 +39,7 @@ pub data Written : Type 0 where
   no_stepless : Written
   no_undefined : Written
   strict : Written
+  as_json : Written
   pending_passes : Written
   attempts_from : (is_one_word : Bool) → (number : Text) → Written
   allow_redeclared : Written
@@ -49,6 +52,7 @@ name_of no_skips = codes "no-skips"
 name_of no_stepless = codes "no-stepless"
 name_of no_undefined = codes "no-undefined"
 name_of strict = codes "strict"
+name_of as_json = codes "json"
 name_of pending_passes = codes "pending-passes"
 name_of (attempts_from is_one_word number) = codes "attempts-from"
 name_of allow_redeclared = codes "allow-redeclared"
@@ -63,6 +67,7 @@ words_of no_skips = codes "--no-skips" ∷ []
 words_of no_stepless = codes "--no-stepless" ∷ []
 words_of no_undefined = codes "--no-undefined" ∷ []
 words_of strict = codes "--strict" ∷ []
+words_of as_json = codes "--json" ∷ []
 words_of pending_passes = codes "--pending-passes" ∷ []
 words_of (attempts_from true number) = (codes "--attempts-from=" ++ number) ∷ []
 words_of (attempts_from false number) = codes "--attempts-from" ∷ number ∷ []
@@ -155,12 +160,16 @@ conditions_written options =
     else if list_all is_tag (tags_of options) then Some (asked_of_run options)
     else None
 
--- how a command is used: its name, the names of its options, and what it asks for by the settings
--- and the conditions
+-- the form that they ask for
+abbrev pub form_of : List Written → CaseForm
+form_of options = if is_there (codes "json") options then Json else Plain
+
+-- how a command is used: its name, the names of its options, and what it asks for by the settings,
+-- the conditions and the form
 pub record Usage : Type 0 where
   pub name : Text
   pub options : List Text
-  pub asks : Settings → Conditions → Command
+  pub asks : Settings → Conditions → CaseForm → Command
 
 abbrev pub gate_usage : Usage
 gate_usage = record {
@@ -169,7 +178,7 @@ gate_usage = record {
       codes "allow-unrun" ∷ codes "allow-unrun-tagged" ∷ codes "no-retries" ∷ codes "no-skips"
       ∷ codes "no-stepless" ∷ codes "no-undefined" ∷ codes "strict" ∷ codes "pending-passes"
       ∷ codes "attempts-from" ∷ codes "allow-redeclared" ∷ [];
-  asks = ask_gate;
+  asks = λ settings conditions form. ask_gate settings conditions;
 }
 
 -- a command with the options of `audit`
@@ -177,26 +186,35 @@ abbrev pub usage_like_audit : Text → (Settings → Command) → Usage
 usage_like_audit name asks = record {
   name = name;
   options = codes "pending-passes" ∷ codes "attempts-from" ∷ codes "allow-redeclared" ∷ [];
-  asks = λ settings conditions. asks settings;
+  asks = λ settings conditions form. asks settings;
+}
+
+-- that, and `--json`
+abbrev pub cases_usage : Usage
+cases_usage = record {
+  name = codes "cases";
+  options =
+      codes "json" ∷ codes "pending-passes" ∷ codes "attempts-from" ∷ codes "allow-redeclared" ∷ [];
+  asks = λ settings conditions form. ask_cases settings form;
 }
 
 abbrev pub results_usage : Usage
 results_usage = record {
   name = codes "results";
   options = codes "attempts-from" ∷ [];
-  asks = λ settings conditions. ask_results settings.first_attempt;
+  asks = λ settings conditions form. ask_results settings.first_attempt;
 }
 
 abbrev pub usages : List Usage
 usages =
-    gate_usage ∷ usage_like_audit (codes "audit") ask_audit
-    ∷ usage_like_audit (codes "cases") ask_cases
+    gate_usage ∷ usage_like_audit (codes "audit") ask_audit ∷ cases_usage
     ∷ usage_like_audit (codes "differs") ask_differs ∷ results_usage ∷ []
 
 -- what a command with these options asks for
 abbrev pub command_asked_with : Usage → List Written → Option Command
 command_asked_with usage options =
-    option_and_then (λ conditions. option_map (λ settings. usage.asks settings conditions)
+    option_and_then (λ conditions. option_map
+    (λ settings. usage.asks settings conditions (form_of options))
     (settings_written options)) (conditions_written options)
 
 -- A command's own options may come in any order, none twice but for `--allow-unrun-tagged`. They ask
@@ -326,7 +344,15 @@ examples =
       ask_audit (allowing_redeclared (settings_by Strict 1)),
     )
     ∷ (codes "audit --attempts-from 0", ask_audit (settings_by Strict 0))
-    ∷ (codes "cases --pending-passes", ask_cases (settings_by PendingPasses 0))
+    ∷ (codes "cases", ask_cases (settings_by Strict 0) Plain)
+    ∷ (codes "cases --pending-passes", ask_cases (settings_by PendingPasses 0) Plain)
+    ∷ (codes "cases --json", ask_cases (settings_by Strict 0) Json)
+    ∷ (codes "cases --json --pending-passes", ask_cases (settings_by PendingPasses 0) Json)
+    ∷ (codes "cases --attempts-from 1 --json", ask_cases (settings_by Strict 1) Json)
+    ∷ (
+      codes "cases --json --allow-redeclared",
+      ask_cases (allowing_redeclared (settings_by Strict 0)) Json,
+    )
     ∷ (codes "differs --attempts-from 1", ask_differs (settings_by Strict 1))
     ∷ (codes "results --attempts-from 1", ask_results 1)
     ∷ (codes "parse", ask_parse)
@@ -361,6 +387,15 @@ mistakes =
     ∷ codes "audit --allow-unrun"
     ∷ codes "audit --no-retries"
     ∷ codes "cases --strict"
+    ∷ codes "cases --json --json"
+    ∷ codes "cases --json=true"
+    ∷ codes "cases --json run.ndjson"
+    ∷ codes "gate --json"
+    ∷ codes "audit --json"
+    ∷ codes "differs --json"
+    ∷ codes "results --json"
+    ∷ codes "parse --json"
+    ∷ codes "--json cases"
     ∷ codes "results --no-skips"
     ∷ codes "differs --allow-unrun-tagged @wip"
     ∷ codes "results --pending-passes"
@@ -376,6 +411,7 @@ help_calls =
     codes "help" ∷ codes "help gate" ∷ codes "--help" ∷ codes "-h"
     ∷ codes "gate --help" ∷ codes "gate -h" ∷ codes "gate --allow-unrun --help"
     ∷ codes "gate --strict --help"
+    ∷ codes "cases --json --help"
     ∷ codes "--version" ∷ codes "-V" ∷ []
 
 pub record ExamplesAreAsked : Type 0 where

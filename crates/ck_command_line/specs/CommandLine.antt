@@ -16,6 +16,8 @@ use Rattle.cm_attempt.specs.declared.policy.Policy.{Policy}
 use Rattle.cm_attempt.specs.declared.policy.Policy.TheVariants.{Strict, PendingPasses}
 use Rattle.cm_attempt.specs.declared.settings.Settings.{Settings}
 use Rattle.cm_stream.specs.Release.{Conditions, conditions_of}
+use Rattle.ck_command_line.specs.declared.command_line.CaseForm.{CaseForm}
+use Rattle.ck_command_line.specs.declared.command_line.CaseForm.TheVariants.{Plain, Json}
 use Rattle.ck_command_line.specs.declared.command_line.Choice.{Choice}
 use Rattle.ck_command_line.specs.declared.command_line.Choice.TheVariants as choice
 use Rattle.ck_command_line.specs.declared.command_line.NoChoice.{NoChoice}
@@ -24,14 +26,14 @@ use Rattle.ck_command_line.specs.declared.command_line.Refusal.{Refusal}
 use Rattle.ck_command_line.specs.declared.command_line.Refusal.TheVariants as refusal
 
 -- what the words may ask for; `compile` has its uri, `results` the number of each case's first
--- attempt, `gate` what it asks of a run that is to be released
+-- attempt, `gate` what it asks of a run that is to be released, `cases` the form of its lines
 pub data Command : Type 0 where
   ask_parse : Command
   ask_compile : List ℕ → Command
   ask_audit : Settings → Command
   ask_gate : Settings → Conditions → Command
   ask_results : ℕ → Command
-  ask_cases : Settings → Command
+  ask_cases : Settings → CaseForm → Command
   ask_differs : Settings → Command
 
 -- the command, as the code holds it
@@ -41,7 +43,7 @@ command_of_choice (choice.Compile uri) = ask_compile uri.now
 command_of_choice (choice.Audit settings) = ask_audit settings
 command_of_choice (choice.Gate settings asked) = ask_gate settings (conditions_of asked)
 command_of_choice (choice.Results first_attempt) = ask_results first_attempt
-command_of_choice (choice.Cases settings) = ask_cases settings
+command_of_choice (choice.Cases settings form) = ask_cases settings form
 command_of_choice (choice.Differs settings) = ask_differs settings
 
 -- `--uri URI`, which must be given; its value has one name
@@ -83,6 +85,10 @@ tagged_rule = record (new_rule (codes "allow-unrun-tagged")) {
 abbrev pub redeclared_rule : Rule
 redeclared_rule = flag_rule (codes "allow-redeclared")
 
+-- whether `cases` writes JSON
+abbrev pub json_rule : Rule
+json_rule = flag_rule (codes "json")
+
 -- the command with these rules, one added after another
 abbrev pub with_rules : App → List Rule → App
 with_rules command rules = fold with_rule command rules
@@ -109,8 +115,9 @@ command_like_audit name = with_rules (new_app name) settings_rules
 abbrev pub audit_command : App
 audit_command = command_like_audit (codes "audit")
 
+-- the command `cases`, with one option more
 abbrev pub cases_command : App
-cases_command = command_like_audit (codes "cases")
+cases_command = with_rules (with_rule (new_app (codes "cases")) json_rule) settings_rules
 
 abbrev pub differs_command : App
 differs_command = command_like_audit (codes "differs")
@@ -184,6 +191,10 @@ settings_in rows =
       allows_redeclared = has_flag (codes "allow-redeclared") rows;
     }) (first_attempt_in rows)
 
+-- the form that the values after `cases` ask for
+abbrev pub form_in : List Row → CaseForm
+form_in rows = if has_flag (codes "json") rows then Json else Plain
+
 -- a tag begins with `@`
 abbrev pub is_tag : Text → Bool
 is_tag [] = false
@@ -221,6 +232,10 @@ abbrev pub gate_asked : Option Settings → Option Conditions → Option Command
 gate_asked settings asked =
     option_and_then (λ conditions. option_map (λ s. ask_gate s conditions) settings) asked
 
+-- what `cases` asks by its settings and in this form, where there is no mistake
+abbrev pub cases_asked : Option Settings → CaseForm → Option Command
+cases_asked settings form = option_map (λ s. ask_cases s form) settings
+
 -- the command of this name, with the values that come after it
 abbrev pub command_named : Text → List Row → Option Command
 command_named name rows =
@@ -230,7 +245,7 @@ command_named name rows =
     else if bytes_eq name (codes "audit") then option_map ask_audit (settings_in rows)
     else if bytes_eq name (codes "gate") then gate_asked (settings_in rows) (conditions_in rows)
     else if bytes_eq name (codes "results") then option_map ask_results (first_attempt_in rows)
-    else if bytes_eq name (codes "cases") then option_map ask_cases (settings_in rows)
+    else if bytes_eq name (codes "cases") then cases_asked (settings_in rows) (form_in rows)
     else if bytes_eq name (codes "differs") then option_map ask_differs (settings_in rows)
     else None
 

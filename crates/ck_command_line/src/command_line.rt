@@ -5,6 +5,7 @@ ghost use Rattle.clap.specs.Words.{all_of, app_of, first_of, found_of, kind_of, 
 ghost use Rattle.clap.specs.declared.builder.command.Command.TheViews.{out-Command as fields_of};
 ghost use Rattle.ck_command_line.specs.CommandLine.{HelpsByKind, HelpsOnCall, IsNoHelp};
 ghost use Rattle.ck_command_line.specs.CommandLine.{Chooses, command_of_choice, attempts_rule, audit_command, bare_app, cases_command};
+ghost use Rattle.ck_command_line.specs.CommandLine.{cases_asked, form_in, json_rule};
 ghost use Rattle.ck_command_line.specs.CommandLine.{command_app, command_named, command_of, compile_command, differs_command};
 ghost use Rattle.ck_command_line.specs.CommandLine.{Gives, conditions_in, first_attempt_in, is_tag, tagged_rule, tags_allowed};
 ghost use Rattle.ck_command_line.specs.CommandLine.{flag_rule, gate_command, is_given, subcommand_named, parse_command, policy_in, results_command};
@@ -17,6 +18,15 @@ use clap::{Arg, ArgAction, ArgMatches, Command, Error};
 use cm_attempt::{Policy, Settings};
 use cm_stream::Conditions;
 use std::alloc::{AllocError, Global};
+
+/// How the lines of test cases are written.
+#[derive(Clone, Copy, Debug, PartialEq, Eq)]
+pub enum CaseForm {
+    /// `STATUS URI:LINE NAME`.
+    Plain,
+    /// A JSON object.
+    Json,
+}
 
 /// What the words ask for.
 #[derive(Debug, Drop)]
@@ -31,8 +41,8 @@ pub enum Choice<'a> {
     Gate(Settings, Conditions<'a>),
     /// The table of the test cases of a stream, with the number of each test case's first attempt.
     Results(u64),
-    /// The lines of the test cases of a good stream, by these settings.
-    Cases(Settings),
+    /// The lines of the test cases of a good stream, by these settings, in this form.
+    Cases(Settings, CaseForm),
     /// The verdict on a stream, by these settings, and what differs from its sources.
     Differs(Settings),
 }
@@ -185,18 +195,19 @@ fn audit_command<'a>(alloc: Global) -> Result<Command<'a>, AllocError>
     with_settings(alloc, command)
 }
 
-/// `cases [--pending-passes] [--attempts-from N] [--allow-redeclared]`.
+/// `cases [--json] [--pending-passes] [--attempts-from N] [--allow-redeclared]`.
 fn cases_command<'a>(alloc: Global) -> Result<Command<'a>, AllocError>
     ensures app { IfOk result (λ c. app_of c ≡ cases_command) }
     ensures local { IfOk result (λ c. (fields_of c).has_globals ≡ false) }
 {
-    let command = new_command(
+    let bare = new_command(
         alloc,
         "cases",
         help::CASES,
         help::CASES_USAGE,
         help::AFTER_CASES,
     );
+    let command = bare.arg(flag(alloc, "json", help::JSON))?;
     with_settings(alloc, command)
 }
 
@@ -363,6 +374,17 @@ fn settings_in<'a>(values: &ArgMatches<'a>) -> Result<Settings, NoChoice>
     })
 }
 
+/// The form of the lines that the values after `cases` ask for.
+fn form_in<'a>(values: &ArgMatches<'a>) -> CaseForm
+    ensures { result ≡ form_in (rows_of (found_of values.now)) }
+{
+    if has_flag(values, "json") {
+        CaseForm::Json
+    } else {
+        CaseForm::Plain
+    }
+}
+
 /// The text is a tag: it begins with `@`.
 fn is_tag(text: &str) -> bool
     ensures { result ≡ is_tag text.now }
@@ -453,7 +475,8 @@ fn choice_named<'a>(
         return Ok(Choice::Results(first_attempt_in(values)?));
     }
     if name == "cases" {
-        return Ok(Choice::Cases(settings_in(values)?));
+        let settings = settings_in(values)?;
+        return Ok(Choice::Cases(settings, form_in(values)));
     }
     if name == "differs" {
         return Ok(Choice::Differs(settings_in(values)?));

@@ -251,11 +251,19 @@ statuses are:
 LINE is that of the scenario, or of the row of examples, and NAME is the pickle's. In URI and NAME
 a backslash is `\\\\`; \\b, \\t, \\n, \\f and \\r are written so, and each other character that could
 break, turn or hide the line as \\u and four hexadecimal digits.
+With --json each line is an object in its place:
+  {\"attempts\":N,\"line\":LINE,\"name\":NAME,\"status\":STATUS,\"tags\":[TAG,..],\"uri\":URI}
+N is how many attempts at the test case started, and each TAG the name of a tag, with its `@`. Each
+character that could break, turn or hide the line, white space other than the space, and what has
+no width is written as \\u and four hexadecimal digits.
 Of any other stream it prints the line of `audit`, with its exit status:
   bad line L: N Name       1
   trouble Name             3
   unsupported line L: ..   4
 `cukecheck audit --help` explains the numbers and names.";
+
+pub(crate) const JSON: &str =
+    "Each line is a JSON object, which has the tags and the number of attempts too";
 
 pub(crate) const DIFFERS: &str =
     "Prints the verdict on a stream, and of a tree or a pickle that differs both sides.";
@@ -278,5 +286,6 @@ Prints the line of `audit`, with its exit status. Three lines more come after
   found JSON     what the stream has there
 Either says `nothing` where there is none. Ids that are free are left out. In URI a backslash is
 `\\\\`; \\b, \\t, \\n, \\f and \\r are written so, and in both each other character that could break,
-turn or hide the line as \\u and four hexadecimal digits.
+turn or hide the line as \\u and four hexadecimal digits; in JSON so are white space other than the
+space, and what has no width.
 `cukecheck audit --help` explains the numbers and names.";

@@ -15,5 +15,5 @@ mod command_line;
 mod help;
 mod laws;
 
-pub use command_line::{Choice, Refusal, choose};
+pub use command_line::{CaseForm, Choice, Refusal, choose};
 pub use laws::words_ask_for_their_command;
