@@ -17,6 +17,7 @@ use Rattle.cm_stream.proofs.Released.{released_is_not_held}
 use Rattle.cm_audit_differs.specs.DifferenceAudit.{DiffersBy}
 use Rattle.cm_differs.specs.declared.difference.Difference.{Difference}
 use Rattle.ck_command_line.specs.CommandLine.{Command, ask_audit, ask_cases, ask_compile, ask_differs, ask_gate, ask_parse, ask_results}
+use Rattle.ck_command_line.specs.declared.command_line.CaseForm.{CaseForm}
 use Rattle.ck_commands.specs.Cases.{ListsOrTells, PrintsListed}
 use Rattle.ck_commands.specs.Differs.{PrintsBadDifference, difference_lines, differs_report}
 use Rattle.ck_commands.specs.Features.{IsFeatureOf, fault_report, parse_report}
@@ -98,15 +99,15 @@ module _ (settings : Settings) (asked : Conditions) (code : ℕ) (before after :
 -- ---- the lines of cases
 
 module _ (settings : Settings) (code : ℕ) (before after : Output) where
-  listed : (bytes : List ℕ) (a : Audited) (v : Verdict) (r : Report) → a.verdict ≡ v → ListsOrTells settings bytes a v r → Prints r code before after → code ≡ 0 → PrintsListed settings before after bytes
-  listed bytes a (verdict.Good counts) r is h p zero = (h.0, h.1, h.2, subst (λ (x : Report). Writes before after x.text) h.3 p.written)
-  listed bytes a (verdict.Bad n b) r is h p zero = absurd (not_both 1 0 code (p.status ∙ ap (λ (x : Report). code_of x.status) h ∙ rw is refl) zero (λ e. cc))
-  listed bytes a (verdict.Unsupported n u) r is h p zero = absurd (not_both 4 0 code (p.status ∙ ap (λ (x : Report). code_of x.status) h ∙ rw is refl) zero (λ e. cc))
+  listed : (form : CaseForm) (bytes : List ℕ) (a : Audited) (v : Verdict) (r : Report) → a.verdict ≡ v → ListsOrTells settings form bytes a v r → Prints r code before after → code ≡ 0 → PrintsListed settings form before after bytes
+  listed form bytes a (verdict.Good counts) r is h p zero = (h.0, h.1, h.2, subst (λ (x : Report). Writes before after x.text) h.3 p.written)
+  listed form bytes a (verdict.Bad n b) r is h p zero = absurd (not_both 1 0 code (p.status ∙ ap (λ (x : Report). code_of x.status) h ∙ rw is refl) zero (λ e. cc))
+  listed form bytes a (verdict.Unsupported n u) r is h p zero = absurd (not_both 4 0 code (p.status ∙ ap (λ (x : Report). code_of x.status) h ∙ rw is refl) zero (λ e. cc))
 
-  not_listed : (bytes : List ℕ) (a : Audited) (v : Verdict) (r : Report) → a.verdict ≡ v → ListsOrTells settings bytes a v r → NoneIsGood settings bytes (Ok v) → Prints r code before after → code ≡ 1 → PrintsBad settings before after bytes
-  not_listed bytes a (verdict.Good counts) r is h none p one = absurd (not_both 0 1 code (p.status ∙ ap (λ (x : Report). code_of x.status) h.3) one (λ e. cc))
-  not_listed bytes a (verdict.Bad n b) r is h none p one = (n, b, none, subst (Writes before after) (ap (λ (x : Report). x.text) h ∙ rw is refl) p.written)
-  not_listed bytes a (verdict.Unsupported n u) r is h none p one = absurd (not_both 4 1 code (p.status ∙ ap (λ (x : Report). code_of x.status) h ∙ rw is refl) one (λ e. cc))
+  not_listed : (form : CaseForm) (bytes : List ℕ) (a : Audited) (v : Verdict) (r : Report) → a.verdict ≡ v → ListsOrTells settings form bytes a v r → NoneIsGood settings bytes (Ok v) → Prints r code before after → code ≡ 1 → PrintsBad settings before after bytes
+  not_listed form bytes a (verdict.Good counts) r is h none p one = absurd (not_both 0 1 code (p.status ∙ ap (λ (x : Report). code_of x.status) h.3) one (λ e. cc))
+  not_listed form bytes a (verdict.Bad n b) r is h none p one = (n, b, none, subst (Writes before after) (ap (λ (x : Report). x.text) h ∙ rw is refl) p.written)
+  not_listed form bytes a (verdict.Unsupported n u) r is h none p one = absurd (not_both 4 1 code (p.status ∙ ap (λ (x : Report). code_of x.status) h ∙ rw is refl) one (λ e. cc))
 
   -- ---- differences
 
@@ -182,7 +183,7 @@ done_of (ask_compile uri) bytes rest r code before after t p zero = compiled cod
 done_of (ask_audit s) bytes rest r code before after t p zero = good s code before after bytes t.0.verdict t.0.success t.1.good (subst (Printed code before after) t.2 p) zero
 done_of (ask_gate s asked) bytes rest r code before after t p zero = released s asked code before after bytes t.0 t.0.verdict r refl t.2 p zero
 done_of (ask_results n) bytes rest r code before after t p zero = results code before after n bytes (first_results_fault n bytes) refl (subst (Printed code before after) t p) zero
-done_of (ask_cases s) bytes rest r code before after t p zero = listed s code before after bytes t.0 t.0.verdict r refl t.2 p zero
+done_of (ask_cases s form) bytes rest r code before after t p zero = listed s code before after form bytes t.0 t.0.verdict r refl t.2 p zero
 done_of (ask_differs s) bytes rest r code before after t p zero = good_differs s code before after bytes t.0.verdict t.0.success t.2.0 t.1.good t.2.1 (subst (Printed code before after) t.2.2 p) zero
 
 bad_of : (c : Command) (bytes rest : List ℕ) (r : Report) (code : ℕ) (before after : Output) → Tells c bytes rest r → Prints r code before after → code ≡ 1 → IsBadFor c before after bytes
@@ -191,7 +192,7 @@ bad_of (ask_compile uri) bytes rest r code before after t p one = not_compiled c
 bad_of (ask_audit s) bytes rest r code before after t p one = bad s code before after bytes t.0.verdict t.0.success t.1.bad (subst (Printed code before after) t.2 p) one
 bad_of (ask_gate s asked) bytes rest r code before after t p one = not_released s asked code before after bytes t.0 t.0.verdict r refl t.2 t.1.bad p one
 bad_of (ask_results n) bytes rest r code before after t p one = no_results code before after n bytes (first_results_fault n bytes) refl (subst (Printed code before after) t p) one
-bad_of (ask_cases s) bytes rest r code before after t p one = not_listed s code before after bytes t.0 t.0.verdict r refl t.2 t.1.bad p one
+bad_of (ask_cases s form) bytes rest r code before after t p one = not_listed s code before after form bytes t.0 t.0.verdict r refl t.2 t.1.bad p one
 bad_of (ask_differs s) bytes rest r code before after t p one = bad_differs s code before after bytes t.0.verdict t.0.success t.2.0 t.1.bad t.2.1 (subst (Printed code before after) t.2.2 p) one
 
 -- ---- a run

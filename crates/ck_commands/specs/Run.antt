@@ -70,7 +70,7 @@ Reports (ask_compile uri) bytes r = ReportsCompiled uri bytes r
 Reports (ask_audit s) bytes r = ReportsFirst (λ first. verdict_report (answer_for first)) s bytes r
 Reports (ask_gate s asked) bytes r = ReportsGate s asked bytes r
 Reports (ask_results n) bytes r = r ≡ results_report (first_results_fault n bytes)
-Reports (ask_cases s) bytes r = ReportsFirst cases_report s bytes r
+Reports (ask_cases s form) bytes r = ReportsFirst (cases_report form) s bytes r
 Reports (ask_differs s) bytes r = ReportsDiffering s bytes r
 
 -- ---- what a status says, whatever failed
@@ -92,8 +92,8 @@ Tells (ask_audit s) bytes rest r =
     ReportsAudit (λ a r. r ≡ verdict_report (answer_of_audit (Ok a))) s bytes rest r
 Tells (ask_gate s asked) bytes rest r =
     ReportsAudit (λ a r. ReleasesOrTells s asked bytes a a.verdict r) s bytes rest r
-Tells (ask_cases s) bytes rest r =
-    ReportsAudit (λ a r. ListsOrTells s bytes a a.verdict r) s bytes rest r
+Tells (ask_cases s form) bytes rest r =
+    ReportsAudit (λ a r. ListsOrTells s form bytes a a.verdict r) s bytes rest r
 Tells (ask_differs s) bytes rest r = ReportsAudit (TellsDifference s bytes) s bytes rest r
 Tells c bytes rest r = Reports c bytes r
 
@@ -119,7 +119,7 @@ IsDone (ask_compile uri) before after bytes = PrintsCompiled uri before after by
 IsDone (ask_audit s) before after bytes = PrintsGood s before after bytes
 IsDone (ask_gate s asked) before after bytes = PrintsReleased s asked before after bytes
 IsDone (ask_results n) before after bytes = PrintsResults n before after bytes
-IsDone (ask_cases s) before after bytes = PrintsListed s before after bytes
+IsDone (ask_cases s form) before after bytes = PrintsListed s form before after bytes
 IsDone (ask_differs s) before after bytes = PrintsGood s before after bytes
 
 abbrev pub PrintsRefused : (before after : Output) → List ℕ → Type 0
@@ -138,7 +138,7 @@ IsBadFor (ask_compile uri) before after bytes = PrintsRefused before after bytes
 IsBadFor (ask_audit s) before after bytes = PrintsBad s before after bytes
 IsBadFor (ask_gate s asked) before after bytes = PrintsBad s before after bytes
 IsBadFor (ask_results n) before after bytes = PrintsFault n before after bytes
-IsBadFor (ask_cases s) before after bytes = PrintsBad s before after bytes
+IsBadFor (ask_cases s form) before after bytes = PrintsBad s before after bytes
 IsBadFor (ask_differs s) before after bytes = PrintsBadDifference s before after bytes
 
 -- What the status of a command says of the bytes heard from one state of its source to a later one.
@@ -156,7 +156,7 @@ pub record IsRight (c : Command) (code : ℕ) (i j : Input) (before after : Outp
 abbrev pub ShowsNone : Command → (bytes rest : List ℕ) → Type 0
 ShowsNone (ask_audit s) bytes rest = ShowNoFault s bytes rest
 ShowsNone (ask_gate s asked) bytes rest = ShowNoFault s bytes rest
-ShowsNone (ask_cases s) bytes rest = ShowNoFault s bytes rest
+ShowsNone (ask_cases s form) bytes rest = ShowNoFault s bytes rest
 ShowsNone (ask_differs s) bytes rest = ShowNoFault s bytes rest
 ShowsNone (ask_results n) bytes rest = ResultsShowNoFault n bytes rest
 ShowsNone c bytes rest = ⊤

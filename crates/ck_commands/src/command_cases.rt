@@ -1,21 +1,23 @@
 //! The command `cases`: the status, the place and the name of each test case of a good stream, and the pickles that no
-//! test case names.
+//! test case names, in lines or as JSON.
 ghost use Rattle.std.specs.Prelude.{◌≡◌, ◌++◌, List, IfOk, map, string_bytes};
 ghost use Rattle.std.specs.List.{flat_map};
 ghost use Rattle.cm_attempt.specs.Results.{result_view};
 ghost use Rattle.cm_cases.specs.Listed.{listing_of};
+ghost use Rattle.cm_cases.specs.JsonLines.{unrun_json};
 ghost use Rattle.cm_cases.specs.Places.{unrun_lines};
 ghost use Rattle.cm_envelope.specs.declared.envelope.Envelope.{Envelope};
 ghost use Rattle.ck_command_line.specs.CommandLine.{ask_cases};
-ghost use Rattle.ck_commands.specs.Cases.{IsCasesText, ReportsCases, case_text};
+ghost use Rattle.ck_commands.specs.Cases.{IsCasesText, ReportsCases, case_object, case_text};
 ghost use Rattle.ck_commands.specs.Run.{Runs};
 
 use crate::output::{ExitStatus, Report, write_report};
 use crate::status_words::word_of;
 use crate::verdict_report::verdict_report;
+use ck_command_line::CaseForm;
 use cm_attempt::{CaseResult, Settings, Track};
 use cm_audit_cases::{AuditedCases, audit_cases};
-use cm_cases::{Listing, Places};
+use cm_cases::{JsonLines, Listing, Places};
 use cm_envelope::{ByteSink, ByteSource, Trouble};
 use cm_stream::Verdict;
 use std::alloc::{AllocError, Global};
@@ -39,9 +41,28 @@ fn lines_of(
     Ok(text)
 }
 
+// The same lines as JSON.
+fn json_of(
+    alloc: Global,
+    lines: &JsonLines<'_>,
+    results: &[CaseResult<'_>],
+) -> Result<String, AllocError>
+    ensures { IfOk result (λ text. (es : List Envelope) → lines.now ≡ listing_of es
+        → string_bytes text
+        ≡ flat_map (case_object es) (map result_view results.now) ++ unrun_json es) }
+{
+    let mut text = String::new(alloc);
+    for case in results {
+        lines.add_case(alloc, &mut text, case.id, word_of(case.status))?;
+    }
+    lines.add_unrun(alloc, &mut text)?;
+    Ok(text)
+}
+
 // One line for each case, in order of declaration, and then one for each pickle that no case names.
 fn cases_text(alloc: Global, listing: &Listing, attempts: &Track) -> Result<String, AllocError>
-    ensures { IfOk result (λ text. IsCasesText listing.now attempts.now (string_bytes text)) }
+    ensures { IfOk result
+        (λ text. IsCasesText CaseForm.Plain listing.now attempts.now (string_bytes text)) }
 {
     let results = attempts.results()?;
     let places = Places::of(alloc, listing)?;
@@ -50,14 +71,45 @@ fn cases_text(alloc: Global, listing: &Listing, attempts: &Track) -> Result<Stri
     text
 }
 
+// The same as JSON.
+fn cases_json(alloc: Global, listing: &Listing, attempts: &Track) -> Result<String, AllocError>
+    ensures { IfOk result
+        (λ text. IsCasesText CaseForm.Json listing.now attempts.now (string_bytes text)) }
+{
+    let results = attempts.results()?;
+    let lines = JsonLines::of(alloc, listing)?;
+    let text = json_of(alloc, &lines, results.as_slice());
+    drop(lines);
+    text
+}
+
+// The lines in this form.
+fn lines_in(
+    alloc: Global,
+    form: CaseForm,
+    listing: &Listing,
+    attempts: &Track,
+) -> Result<String, AllocError>
+    ensures { IfOk result (λ text. IsCasesText form listing.now attempts.now (string_bytes text)) }
+{
+    match form {
+        CaseForm::Plain => cases_text(alloc, listing, attempts),
+        CaseForm::Json => cases_json(alloc, listing, attempts),
+    }
+}
+
 // The report of a stream that was audited.
-fn cases_report(alloc: Global, answer: &Result<AuditedCases, Trouble>) -> Result<Report, AllocError>
-    ensures { IfOk result (λ report. ReportsCases answer.now report) }
+fn cases_report(
+    alloc: Global,
+    form: CaseForm,
+    answer: &Result<AuditedCases, Trouble>,
+) -> Result<Report, AllocError>
+    ensures { IfOk result (λ report. ReportsCases form answer.now report) }
 {
     match answer {
         Ok(cases) => match cases.audited.verdict {
             Verdict::Good(_) => Ok(Report {
-                text: cases_text(alloc, &cases.listing, &cases.attempts)?,
+                text: lines_in(alloc, form, &cases.listing, &cases.attempts)?,
                 status: ExitStatus::Done,
             }),
             Verdict::Bad { .. } | Verdict::Unsupported { .. } => {
@@ -68,19 +120,20 @@ fn cases_report(alloc: Global, answer: &Result<AuditedCases, Trouble>) -> Result
     }
 }
 
-/// Audits the source by the settings, prints the lines of a good stream's cases and of its pickles that no case names, or
-/// else the verdict, and gives the exit code.
+/// Audits the source by the settings, prints the lines of a good stream's cases and of its pickles that no case names in the
+/// form, or else the verdict, and gives the exit code.
 pub(crate) fn print_cases<R: ByteSource, W: ByteSink>(
     alloc: Global,
     settings: Settings,
+    form: CaseForm,
     source: &mut R,
     sink: &mut W,
 ) -> u8
-    ensures { Runs (ask_cases settings) result (R.input source.old) (R.input source.new)
+    ensures { Runs (ask_cases settings form) result (R.input source.old) (R.input source.new)
         (W.output sink.old) (W.output sink.new) }
 {
     let answer = audit_cases(alloc, source, settings);
-    let report = cases_report(alloc, &answer);
+    let report = cases_report(alloc, form, &answer);
     drop(answer);
     write_report(sink, report)
 }

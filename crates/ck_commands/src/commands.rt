@@ -46,7 +46,7 @@ fn run_choice<R: ByteSource, W: ByteSink>(
             print_gate(alloc, settings, &conditions, source, sink)
         }
         Choice::Results(first_attempt) => print_results(alloc, first_attempt, source, sink),
-        Choice::Cases(settings) => print_cases(alloc, settings, source, sink),
+        Choice::Cases(settings, form) => print_cases(alloc, settings, form, source, sink),
         Choice::Differs(settings) => print_differs(alloc, settings, source, sink),
     }
 }
