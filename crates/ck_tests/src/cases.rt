@@ -35,6 +35,26 @@ fn cases_and_pickles_without_one(rt: HostRuntime) -> Result<(), Fail> {
     Ok(())
 }
 
+// The same as JSON.
+const OBJECTS: &str =
+    r#"{"attempts":1,"line":3,"name":"s","status":"PASSED","tags":[],"uri":"a.feature"}/ 0 = source document pickle run case:c1:t1 start:a1:c1:0 step:a1:t1 end:a1:t1:PASSED done:a1:false well
+{"attempts":2,"line":3,"name":"s","status":"PASSED","tags":[],"uri":"a.feature"}/ 0 = source document pickle run case:c1:t1 start:a1:c1:0 step:a1:t1 end:a1:t1:FAILED done:a1:true start:a2:c1:1 step:a2:t1 end:a2:t1:PASSED done:a2:false well
+{"attempts":0,"line":3,"name":"s","status":"NONE","tags":[],"uri":"a.feature"}/ 0 = source document pickle run case:c1:t1 unwell
+{"attempts":1,"line":3,"name":"s","status":"NONE","tags":[],"uri":"a.feature"}/ 0 = source document pickle run case:c1:t1 start:a1:c1:0 step:a1:t1 end:a1:t1:PASSED done:a1:true unwell
+{"attempts":0,"line":4,"name":"s","status":"UNRUN","tags":["@slow","@wip"],"uri":"w.feature"}/ 0 = tagged tagged_document tagged_pickle run well
+{"attempts":1,"line":3,"name":"s","status":"PASSED","tags":[],"uri":"a.feature"}/{"attempts":0,"line":3,"name":"t","status":"UNRUN","tags":[],"uri":"b.feature"}/ 0 = source source_b document_b document pickle_b pickle run case:c1:t1 start:a1:c1:0 step:a1:t1 end:a1:t1:PASSED done:a1:false well
+{"attempts":2,"line":3,"name":"s","status":"PASSED","tags":[],"uri":"a.feature"}/{"attempts":1,"line":3,"name":"s","status":"FAILED","tags":[],"uri":"a.feature"}/ 0 = source document pickle run case:c1:t1 case:c2:u1 start:a1:c1:0 step:a1:t1 end:a1:t1:FAILED done:a1:true start:b1:c2:0 step:b1:u1 end:b1:u1:FAILED done:b1:false start:a2:c1:1 step:a2:t1 end:a2:t1:PASSED done:a2:false unwell
+{"attempts":1,"line":8,"name":"s","status":"PASSED","tags":[],"uri":"o.feature"}/{"attempts":0,"line":7,"name":"s","status":"NONE","tags":[],"uri":"o.feature"}/{"attempts":0,"line":6,"name":"s","status":"UNRUN","tags":[],"uri":"o.feature"}/ 0 = outline outline_document first_row second_row third_row run third_row_case second_row_case start:a1:c2:0 step:a1:t1 end:a1:t1:PASSED done:a1:false unwell"#;
+
+#[test]
+fn objects_of_cases_and_pickles(rt: HostRuntime) -> Result<(), Fail> {
+    let words = ["cases", "--json"];
+    expect_rows(&rt, rt.alloc(), &words, OBJECTS)?;
+    let empty = Pieces::whole(EMPTY.as_bytes());
+    expect_words(&rt, rt.alloc(), &words, empty, "", 0);
+    Ok(())
+}
+
 // `audit` says the same of these.
 const OTHERS: &str =
     "bad line 10: 21 SuccessDiffers/ 1 = source document pickle run case:c1:t1 start:a1:c1:0 step:a1:t1 end:a1:t1:PENDING done:a1:false well
@@ -46,7 +66,8 @@ unsupported line 1: 1 Language/ 4 = french";
 #[test]
 fn streams_that_are_not_good(rt: HostRuntime) -> Result<(), Fail> {
     expect_rows(&rt, rt.alloc(), &["audit"], OTHERS)?;
-    expect_rows(&rt, rt.alloc(), &["cases"], OTHERS)
+    expect_rows(&rt, rt.alloc(), &["cases"], OTHERS)?;
+    expect_rows(&rt, rt.alloc(), &["cases", "--json"], OTHERS)
 }
 
 const PENDING: &str =
@@ -98,6 +119,42 @@ fn texts_that_could_hide_a_line(rt: HostRuntime) -> Result<(), Fail> {
     Ok(())
 }
 
+const SHOWN_OBJECTS: &str =
+    "{\"attempts\":0,\"line\":3,\"name\":\"a\\tb\\\"c'\\\\d\\u2028e\\u2029f\\u202eg\\u0001h\\u007fi\\u0085j\\u061ck\\u2066l\u{e9}m\\u200bn\",\"status\":\"UNRUN\",\"tags\":[],\"uri\":\"a\\nb\\\\c\\u2028.feature\"}
+{\"attempts\":0,\"line\":5,\"name\":\"\",\"status\":\"UNRUN\",\"tags\":[],\"uri\":\"a\\nb\\\\c\\u2028.feature\"}
+{\"attempts\":0,\"line\":11,\"name\":\"p\\nq\\\\r\",\"status\":\"UNRUN\",\"tags\":[],\"uri\":\"a\\nb\\\\c\\u2028.feature\"}
+{\"attempts\":0,\"line\":12,\"name\":\"\\u200fs\u{206a}\",\"status\":\"UNRUN\",\"tags\":[],\"uri\":\"a\\nb\\\\c\\u2028.feature\"}
+{\"attempts\":0,\"line\":16,\"name\":\"in a rule\",\"status\":\"UNRUN\",\"tags\":[],\"uri\":\"a\\nb\\\\c\\u2028.feature\"}
+";
+
+// A pickle whose name has white space, and characters without width.
+const SPACES: &str =
+    r#"{"source":{"data":"Feature: f\n\n  Scenario: a b\u00a0c\u1680d\u2000e\u200af\u202fg\u205fh\u3000i\u200bj\u2060k\ufeffl\n","mediaType":"text/x.cucumber.gherkin+plain","uri":"a.feature"}}
+{"gherkinDocument":{"comments":[],"feature":{"children":[{"scenario":{"description":"","examples":[],"id":"0","keyword":"Scenario","location":{"column":3,"line":3},"name":"a b\u00a0c\u1680d\u2000e\u200af\u202fg\u205fh\u3000i\u200bj\u2060k\ufeffl","steps":[],"tags":[]}}],"description":"","keyword":"Feature","language":"en","location":{"column":1,"line":1},"name":"f","tags":[]},"uri":"a.feature"}}
+{"pickle":{"astNodeIds":["0"],"id":"1","language":"en","name":"a b\u00a0c\u1680d\u2000e\u200af\u202fg\u205fh\u3000i\u200bj\u2060k\ufeffl","steps":[],"tags":[],"uri":"a.feature"}}
+{"testRunStarted":{}}
+{"testRunFinished":{"success":true}}
+"#;
+
+const SHOWN_SPACES: &str =
+    r#"{"attempts":0,"line":3,"name":"a b\u00a0c\u1680d\u2000e\u200af\u202fg\u205fh\u3000i\u200bj\u2060k\ufeffl","status":"UNRUN","tags":[],"uri":"a.feature"}
+"#;
+
+const PLAIN_SPACES: &str =
+    "UNRUN a.feature:3 a b\u{a0}c\u{1680}d\u{2000}e\u{200a}f\u{202f}g\u{205f}h\u{3000}i\u{200b}j\u{2060}k\u{feff}l\n";
+
+#[test]
+fn objects_that_could_hide_a_line(rt: HostRuntime) -> Result<(), Fail> {
+    let words = ["cases", "--json"];
+    let hidden = Pieces::whole(HIDDEN.as_bytes());
+    expect_words(&rt, rt.alloc(), &words, hidden, SHOWN_OBJECTS, 0);
+    let spaces = Pieces::whole(SPACES.as_bytes());
+    expect_words(&rt, rt.alloc(), &words, spaces, SHOWN_SPACES, 0);
+    let plain = Pieces::whole(SPACES.as_bytes());
+    expect_words(&rt, rt.alloc(), &["cases"], plain, PLAIN_SPACES, 0);
+    Ok(())
+}
+
 // A stream of cucumber-ruby 12.0.0: two features in random order, of which a filter left out a scenario.
 pub(crate) const TWO_FEATURES: &str =
     r##"{"meta":{"protocolVersion":"34.2.1","implementation":{"name":"cucumber-ruby","version":"12.0.0"},"runtime":{"name":"ruby","version":"3.3.8"},"os":{"name":"linux-gnu","version":"#1 SMP PREEMPT_DYNAMIC @0"},"cpu":{"name":"x86_64"}}}
@@ -142,6 +199,20 @@ PASSED features/first.feature:3 one
 UNRUN features/first.feature:6 left out by a tag
 ";
     let words = ["cases", "--attempts-from", "1"];
+    let source = Pieces::whole(TWO_FEATURES.as_bytes());
+    expect_words(&rt, rt.alloc(), &words, source, text, 0);
+    Ok(())
+}
+
+#[test]
+fn objects_with_tags(rt: HostRuntime) -> Result<(), Fail> {
+    let text =
+        r#"{"attempts":1,"line":7,"name":"three","status":"PASSED","tags":["@wanted"],"uri":"features/second.feature"}
+{"attempts":1,"line":3,"name":"two","status":"SKIPPED","tags":["@wanted"],"uri":"features/second.feature"}
+{"attempts":1,"line":3,"name":"one","status":"PASSED","tags":["@wanted"],"uri":"features/first.feature"}
+{"attempts":0,"line":6,"name":"left out by a tag","status":"UNRUN","tags":[],"uri":"features/first.feature"}
+"#;
+    let words = ["cases", "--attempts-from=1", "--json"];
     let source = Pieces::whole(TWO_FEATURES.as_bytes());
     expect_words(&rt, rt.alloc(), &words, source, text, 0);
     Ok(())

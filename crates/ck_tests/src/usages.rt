@@ -16,7 +16,7 @@ const TEXTS: &str = "0 --help = Usage: parse compile audit gate results cases di
 0 gate --help = Usage: gate --allow-unrun --allow-unrun-tagged --strict --no-retries --no-skips --no-stepless --no-undefined --pending-passes --attempts-from stop release
 0 help gate = Usage: gate --allow-unrun --pending-passes --attempts-from stop
 0 results -h = Usage: results --attempts-from
-0 cases --help = Usage: cases --pending-passes --attempts-from UNRUN
+0 cases --help = Usage: cases --json --pending-passes --attempts-from UNRUN
 0 differs --help = Usage: differs --pending-passes --attempts-from expected found
 2 = Usage: parse compile audit gate results cases differs
 2 help x = Usage:
@@ -51,8 +51,18 @@ const TEXTS: &str = "0 --help = Usage: parse compile audit gate results cases di
 2 results x = Usage: results
 2 cases x = Usage: cases
 2 cases --allow-unrun = Usage: cases
+2 cases --json --json = Usage: cases --json
+2 cases --json=true = Usage: cases
+2 cases --json x = Usage: cases
+2 gate --json = Usage: gate
+2 audit --json = Usage: audit
+2 --json cases = Usage:
 2 differs x = Usage: differs
 2 differs --allow-unrun = Usage: differs
+2 differs --json = Usage: differs
+2 results --json = Usage: results
+2 parse --json = Usage: parse
+2 compile --json --uri u = Usage: compile
 2 results --pending-passes = Usage: results --pending-passes
 2 results --allow-unrun = Usage: results";
 

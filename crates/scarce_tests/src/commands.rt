@@ -95,6 +95,14 @@ fn run_cases(alloc: Global) -> Came {
     came_of_words(alloc, &["cases"], INTERLEAVED, told, ExitStatus::Done)
 }
 
+fn run_cases_json(alloc: Global) -> Came {
+    let told = r#"{"attempts":1,"line":3,"name":"s","status":"PASSED","tags":[],"uri":"a.feature"}
+{"attempts":1,"line":3,"name":"s","status":"SKIPPED","tags":[],"uri":"a.feature"}
+"#;
+    let words = ["cases", "--json"];
+    came_of_words(alloc, &words, INTERLEAVED, told, ExitStatus::Done)
+}
+
 fn run_gate(alloc: Global) -> Came {
     let released =
         "good sources=1 pickles=1 cases=2 attempts=2\nrelease retried=1 skipped=1 unrun=0\n";
@@ -139,6 +147,11 @@ fn runs_of_parse(rt: HostRuntime) -> Result<(), Fail> {
 #[test]
 fn runs_of_cases(rt: HostRuntime) -> Result<(), Fail> {
     meet_alone(rt.alloc(), RUNS, run_cases)
+}
+
+#[test]
+fn runs_of_cases_as_json(rt: HostRuntime) -> Result<(), Fail> {
+    meet_alone(rt.alloc(), RUNS, run_cases_json)
 }
 
 #[test]
