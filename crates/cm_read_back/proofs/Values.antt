@@ -126,7 +126,7 @@ byte_then : (x : ℕ) (s : List ℕ) → IsUtf8 (x ∷ []) → IsUtf8 s → IsUt
 byte_then x s u v = IsUtf8-append (x ∷ []) s u v
 
 mutual
-  text_utf8 : (d : Data) → IsPlain d → IsUtf8 (compact_text d)
+  pub text_utf8 : (d : Data) → IsPlain d → IsUtf8 (compact_text d)
   text_utf8 null h = IsUtf8-are_ascii _ refl
   text_utf8 (boolean b) h = IsUtf8-boolean b
   text_utf8 (number (unsigned n)) h = IsUtf8-from_ascii (decimal n) (IsAscii-decimal n h)
