@@ -9,7 +9,7 @@ good sources=1 pickles=1 cases=2 attempts=2/release retried=1 skipped=0 unrun=0/
 good sources=1 pickles=1 cases=1 attempts=1/release retried=0 skipped=1 unrun=0/ 0 = source document pickle run case:c1:t1 start:a1:c1:0 step:a1:t1 end:a1:t1:SKIPPED done:a1:false well
 good sources=1 pickles=1 cases=1 attempts=1/release retried=0 skipped=0 unrun=0/ 0 = stepless stepless_document stepless_pickle run stepless_case start:a1:c1:0 done:a1:false well
 good sources=1 pickles=1 cases=1 attempts=1/release retried=0 skipped=0 unrun=0/ 0 = source document pickle run unmatched_case start:a1:c1:0 step:a1:t1 end:a1:t1:PASSED done:a1:false well
-good sources=2 pickles=2 cases=1 attempts=1 unrun=1/stop Unrun/ 5 = source document pickle tagged tagged_document tagged_pickle run case:c1:t1 start:a1:c1:0 step:a1:t1 end:a1:t1:PASSED done:a1:false well";
+good sources=2 pickles=2 cases=1 attempts=1 unrun=1/stop Unrun/UNRUN w.feature:4 s/ 5 = source document pickle tagged tagged_document tagged_pickle run case:c1:t1 start:a1:c1:0 step:a1:t1 end:a1:t1:PASSED done:a1:false well";
 
 #[test]
 fn nothing_is_asked(rt: HostRuntime) -> Result<(), Fail> {
@@ -21,11 +21,11 @@ const TAGGED: &str =
     "good sources=2 pickles=2 cases=1 attempts=1 unrun=1/release retried=0 skipped=0 unrun=1/ 0 = source document pickle tagged tagged_document tagged_pickle run case:c1:t1 start:a1:c1:0 step:a1:t1 end:a1:t1:PASSED done:a1:false well";
 
 const HELD: &str =
-    "good sources=2 pickles=2 cases=1 attempts=1 unrun=1/stop Unrun/ 5 = source document pickle tagged tagged_document tagged_pickle run case:c1:t1 start:a1:c1:0 step:a1:t1 end:a1:t1:PASSED done:a1:false well";
+    "good sources=2 pickles=2 cases=1 attempts=1 unrun=1/stop Unrun/UNRUN w.feature:4 s/ 5 = source document pickle tagged tagged_document tagged_pickle run case:c1:t1 start:a1:c1:0 step:a1:t1 end:a1:t1:PASSED done:a1:false well";
 
 // Another scenario without a tag didn't run either.
 const UNTAGGED: &str =
-    "good sources=3 pickles=3 cases=1 attempts=1 unrun=2/stop Unrun/ 5 = source document pickle source_b document_b pickle_b tagged tagged_document tagged_pickle run case:c1:t1 start:a1:c1:0 step:a1:t1 end:a1:t1:PASSED done:a1:false well
+    "good sources=3 pickles=3 cases=1 attempts=1 unrun=2/stop Unrun/UNRUN b.feature:3 t/ 5 = source document pickle source_b document_b pickle_b tagged tagged_document tagged_pickle run case:c1:t1 start:a1:c1:0 step:a1:t1 end:a1:t1:PASSED done:a1:false well
 good sources=1 pickles=1 cases=0 attempts=0 unrun=1/stop Empty/ 5 = tagged tagged_document tagged_pickle run well
 good sources=1 pickles=1 cases=0 attempts=0 unrun=1/stop NotSuccessful/ 5 = tagged tagged_document tagged_pickle hook run hook_start hook_failed unwell";
 
@@ -64,9 +64,9 @@ fn pickles_that_may_be_unrun_by_their_tags(rt: HostRuntime) -> Result<(), Fail> 
 }
 
 const RETRIED: &str =
-    "good sources=1 pickles=1 cases=1 attempts=2/stop Retried/ 5 = source document pickle definition run matched_case start:a1:c1:0 step:a1:t1 end:a1:t1:FAILED done:a1:true start:a2:c1:1 step:a2:t1 end:a2:t1:PASSED done:a2:false well
-good sources=1 pickles=1 cases=2 attempts=2/stop Retried/ 5 = source document pickle run case:c1:t1 case:c2:u1 start:a1:c1:0 step:a1:t1 end:a1:t1:PASSED done:a1:false start:b1:c2:0 step:b1:u1 end:b1:u1:PASSED done:b1:false well
-good sources=2 pickles=2 cases=2 attempts=3/stop Retried/ 5 = source document pickle source_b document_b pickle_b run case:c1:t1 case_b start:a1:c1:0 step:a1:t1 end:a1:t1:PASSED done:a1:false start:b1:c2:0 step:b1:t1 end:b1:t1:FAILED done:b1:true start:b2:c2:1 step:b2:t1 end:b2:t1:PASSED done:b2:false well
+    "good sources=1 pickles=1 cases=1 attempts=2/stop Retried/RETRIED a.feature:3 s/ 5 = source document pickle definition run matched_case start:a1:c1:0 step:a1:t1 end:a1:t1:FAILED done:a1:true start:a2:c1:1 step:a2:t1 end:a2:t1:PASSED done:a2:false well
+good sources=1 pickles=1 cases=2 attempts=2/stop Retried/RETRIED a.feature:3 s/ 5 = source document pickle run case:c1:t1 case:c2:u1 start:a1:c1:0 step:a1:t1 end:a1:t1:PASSED done:a1:false start:b1:c2:0 step:b1:u1 end:b1:u1:PASSED done:b1:false well
+good sources=2 pickles=2 cases=2 attempts=3/stop Retried/RETRIED b.feature:3 t/ 5 = source document pickle source_b document_b pickle_b run case:c1:t1 case_b start:a1:c1:0 step:a1:t1 end:a1:t1:PASSED done:a1:false start:b1:c2:0 step:b1:t1 end:b1:t1:FAILED done:b1:true start:b2:c2:1 step:b2:t1 end:b2:t1:PASSED done:b2:false well
 good sources=2 pickles=2 cases=2 attempts=2/release retried=0 skipped=0 unrun=0/ 0 = source document pickle source_b document_b pickle_b run case:c1:t1 case_b start:a1:c1:0 step:a1:t1 end:a1:t1:PASSED done:a1:false start:b1:c2:0 step:b1:t1 end:b1:t1:PASSED done:b1:false well";
 
 #[test]
@@ -76,9 +76,9 @@ fn runs_with_a_retry(rt: HostRuntime) -> Result<(), Fail> {
 
 // A step of a hook was skipped, one after a pending step, and one of an attempt that was retried.
 const SKIPPED: &str =
-    "good sources=1 pickles=1 cases=1 attempts=1/stop Skipped/ 5 = source document pickle run case:c1:t1 start:a1:c1:0 step:a1:t1 end:a1:t1:SKIPPED done:a1:false well
-good sources=1 pickles=1 cases=1 attempts=1/stop Skipped/ 5 = source document pickle definition hook run hooked_case start:a1:c1:0 step:a1:h1 end:a1:h1:SKIPPED step:a1:t1 end:a1:t1:PASSED done:a1:false well
-good sources=1 pickles=1 cases=1 attempts=1/stop Skipped/ 5 = source document pickle definition hook run hooked_case start:a1:c1:0 step:a1:h1 end:a1:h1:PENDING step:a1:t1 end:a1:t1:SKIPPED done:a1:false well
+    "good sources=1 pickles=1 cases=1 attempts=1/stop Skipped/SKIPPED a.feature:3 s/ 5 = source document pickle run case:c1:t1 start:a1:c1:0 step:a1:t1 end:a1:t1:SKIPPED done:a1:false well
+good sources=1 pickles=1 cases=1 attempts=1/stop Skipped/SKIPPED a.feature:3 s/ 5 = source document pickle definition hook run hooked_case start:a1:c1:0 step:a1:h1 end:a1:h1:SKIPPED step:a1:t1 end:a1:t1:PASSED done:a1:false well
+good sources=1 pickles=1 cases=1 attempts=1/stop Skipped/SKIPPED a.feature:3 s/ 5 = source document pickle definition hook run hooked_case start:a1:c1:0 step:a1:h1 end:a1:h1:PENDING step:a1:t1 end:a1:t1:SKIPPED done:a1:false well
 good sources=1 pickles=1 cases=1 attempts=2/release retried=1 skipped=0 unrun=0/ 0 = source document pickle run case:c1:t1 start:a1:c1:0 step:a1:t1 end:a1:t1:SKIPPED done:a1:true start:a2:c1:1 step:a2:t1 end:a2:t1:PASSED done:a2:false well";
 
 #[test]
@@ -88,8 +88,8 @@ fn runs_with_a_skipped_step(rt: HostRuntime) -> Result<(), Fail> {
 }
 
 const STEPLESS: &str =
-    "good sources=1 pickles=1 cases=1 attempts=1/stop Stepless/ 5 = stepless stepless_document stepless_pickle run stepless_case start:a1:c1:0 done:a1:false well
-good sources=1 pickles=1 cases=1 attempts=1/stop Stepless/ 5 = stepless stepless_document stepless_pickle hook run hooked_stepless_case start:a1:c1:0 step:a1:h1 end:a1:h1:PASSED done:a1:false well
+    "good sources=1 pickles=1 cases=1 attempts=1/stop Stepless/STEPLESS r.feature:5 s/ 5 = stepless stepless_document stepless_pickle run stepless_case start:a1:c1:0 done:a1:false well
+good sources=1 pickles=1 cases=1 attempts=1/stop Stepless/STEPLESS r.feature:5 s/ 5 = stepless stepless_document stepless_pickle hook run hooked_stepless_case start:a1:c1:0 step:a1:h1 end:a1:h1:PASSED done:a1:false well
 good sources=1 pickles=1 cases=1 attempts=1/release retried=0 skipped=0 unrun=0/ 0 = source document pickle run case:c1:t1 start:a1:c1:0 step:a1:t1 end:a1:t1:PASSED done:a1:false well";
 
 #[test]
@@ -133,16 +133,16 @@ good sources=1 pickles=1 cases=1 attempts=1/stop NotSuccessful/ 5 = source docum
 good sources=1 pickles=1 cases=1 attempts=1/stop NotSuccessful/ 5 = stepless stepless_document stepless_pickle hook run hooked_stepless_case start:a1:c1:0 step:a1:h1 end:a1:h1:FAILED done:a1:false unwell
 good sources=1 pickles=1 cases=1 attempts=1/stop NotSuccessful/ 5 = source document pickle hook run hook_start hook_failed unmatched_case start:a1:c1:0 step:a1:t1 end:a1:t1:PASSED done:a1:false unwell
 good sources=1 pickles=1 cases=0 attempts=0 unrun=1/stop Empty/ 5 = source document pickle run well
-good sources=2 pickles=2 cases=1 attempts=2 unrun=1/stop Unrun/ 5 = source document pickle source_b document_b pickle_b definition run matched_case start:a1:c1:0 step:a1:t1 end:a1:t1:FAILED done:a1:true start:a2:c1:1 step:a2:t1 end:a2:t1:PASSED done:a2:false well
-good sources=2 pickles=2 cases=1 attempts=1 unrun=1/stop Unrun/ 5 = source document pickle source_b document_b pickle_b run case:c1:t1 start:a1:c1:0 step:a1:t1 end:a1:t1:SKIPPED done:a1:false well
-good sources=2 pickles=2 cases=1 attempts=1 unrun=1/stop Unrun/ 5 = stepless stepless_document stepless_pickle source_b document_b pickle_b run stepless_case start:a1:c1:0 done:a1:false well
-good sources=2 pickles=2 cases=1 attempts=1 unrun=1/stop Unrun/ 5 = source document pickle source_b document_b pickle_b run unmatched_case start:a1:c1:0 step:a1:t1 end:a1:t1:PASSED done:a1:false well
-good sources=1 pickles=1 cases=1 attempts=2/stop Retried/ 5 = source document pickle run case:c1:t1 start:a1:c1:0 step:a1:t1 end:a1:t1:FAILED done:a1:true start:a2:c1:1 step:a2:t1 end:a2:t1:SKIPPED done:a2:false well
-good sources=1 pickles=1 cases=1 attempts=2/stop Retried/ 5 = stepless stepless_document stepless_pickle run stepless_case start:a1:c1:0 done:a1:true start:a2:c1:1 done:a2:false well
-good sources=1 pickles=1 cases=1 attempts=2/stop Retried/ 5 = source document pickle run unmatched_case start:a1:c1:0 step:a1:t1 end:a1:t1:FAILED done:a1:true start:a2:c1:1 step:a2:t1 end:a2:t1:PASSED done:a2:false well
-good sources=1 pickles=1 cases=1 attempts=1/stop Skipped/ 5 = stepless stepless_document stepless_pickle hook run hooked_stepless_case start:a1:c1:0 step:a1:h1 end:a1:h1:SKIPPED done:a1:false well
-good sources=2 pickles=2 cases=2 attempts=2/stop Skipped/ 5 = source document pickle source_b document_b pickle_b run unmatched_case case_b start:a1:c1:0 step:a1:t1 end:a1:t1:PASSED done:a1:false start:b1:c2:0 step:b1:t1 end:b1:t1:SKIPPED done:b1:false well
-good sources=2 pickles=2 cases=2 attempts=2/stop Stepless/ 5 = stepless stepless_document stepless_pickle source_b document_b pickle_b run stepless_case case_b start:a1:c1:0 done:a1:false start:b1:c2:0 step:b1:t1 end:b1:t1:PASSED done:b1:false well";
+good sources=2 pickles=2 cases=1 attempts=2 unrun=1/stop Unrun/UNRUN b.feature:3 t/ 5 = source document pickle source_b document_b pickle_b definition run matched_case start:a1:c1:0 step:a1:t1 end:a1:t1:FAILED done:a1:true start:a2:c1:1 step:a2:t1 end:a2:t1:PASSED done:a2:false well
+good sources=2 pickles=2 cases=1 attempts=1 unrun=1/stop Unrun/UNRUN b.feature:3 t/ 5 = source document pickle source_b document_b pickle_b run case:c1:t1 start:a1:c1:0 step:a1:t1 end:a1:t1:SKIPPED done:a1:false well
+good sources=2 pickles=2 cases=1 attempts=1 unrun=1/stop Unrun/UNRUN b.feature:3 t/ 5 = stepless stepless_document stepless_pickle source_b document_b pickle_b run stepless_case start:a1:c1:0 done:a1:false well
+good sources=2 pickles=2 cases=1 attempts=1 unrun=1/stop Unrun/UNRUN b.feature:3 t/ 5 = source document pickle source_b document_b pickle_b run unmatched_case start:a1:c1:0 step:a1:t1 end:a1:t1:PASSED done:a1:false well
+good sources=1 pickles=1 cases=1 attempts=2/stop Retried/RETRIED a.feature:3 s/ 5 = source document pickle run case:c1:t1 start:a1:c1:0 step:a1:t1 end:a1:t1:FAILED done:a1:true start:a2:c1:1 step:a2:t1 end:a2:t1:SKIPPED done:a2:false well
+good sources=1 pickles=1 cases=1 attempts=2/stop Retried/RETRIED r.feature:5 s/ 5 = stepless stepless_document stepless_pickle run stepless_case start:a1:c1:0 done:a1:true start:a2:c1:1 done:a2:false well
+good sources=1 pickles=1 cases=1 attempts=2/stop Retried/RETRIED a.feature:3 s/ 5 = source document pickle run unmatched_case start:a1:c1:0 step:a1:t1 end:a1:t1:FAILED done:a1:true start:a2:c1:1 step:a2:t1 end:a2:t1:PASSED done:a2:false well
+good sources=1 pickles=1 cases=1 attempts=1/stop Skipped/SKIPPED r.feature:5 s/ 5 = stepless stepless_document stepless_pickle hook run hooked_stepless_case start:a1:c1:0 step:a1:h1 end:a1:h1:SKIPPED done:a1:false well
+good sources=2 pickles=2 cases=2 attempts=2/stop Skipped/SKIPPED b.feature:3 t/ 5 = source document pickle source_b document_b pickle_b run unmatched_case case_b start:a1:c1:0 step:a1:t1 end:a1:t1:PASSED done:a1:false start:b1:c2:0 step:b1:t1 end:b1:t1:SKIPPED done:b1:false well
+good sources=2 pickles=2 cases=2 attempts=2/stop Stepless/STEPLESS r.feature:5 s/ 5 = stepless stepless_document stepless_pickle source_b document_b pickle_b run stepless_case case_b start:a1:c1:0 done:a1:false start:b1:c2:0 step:b1:t1 end:b1:t1:PASSED done:b1:false well";
 
 #[test]
 fn the_first_reason_is_told(rt: HostRuntime) -> Result<(), Fail> {

@@ -17,7 +17,7 @@ good sources=1 pickles=0 cases=0 attempts=0/stop NotSuccessful/ 5 = refused refu
 good sources=2 pickles=2 cases=1 attempts=1 unrun=1/stop NotSuccessful/ 5 = source document pickle source_b document_b pickle_b run case:c1:t1 start:a1:c1:0 step:a1:t1 end:a1:t1:FAILED done:a1:false unwell
 good sources=0 pickles=0 cases=0 attempts=0/stop Empty/ 5 = run well
 good sources=1 pickles=1 cases=0 attempts=0 unrun=1/stop Empty/ 5 = source document pickle run well
-good sources=2 pickles=2 cases=1 attempts=1 unrun=1/stop Unrun/ 5 = source document pickle source_b document_b pickle_b run case:c1:t1 start:a1:c1:0 step:a1:t1 end:a1:t1:PASSED done:a1:false well
+good sources=2 pickles=2 cases=1 attempts=1 unrun=1/stop Unrun/UNRUN b.feature:3 t/ 5 = source document pickle source_b document_b pickle_b run case:c1:t1 start:a1:c1:0 step:a1:t1 end:a1:t1:PASSED done:a1:false well
 bad line 10: 21 SuccessDiffers/ 1 = source document pickle run case:c1:t1 start:a1:c1:0 step:a1:t1 end:a1:t1:PENDING done:a1:false well
 good sources=1 pickles=1 cases=1 attempts=1/stop NotSuccessful/ 5 = source document pickle run case:c1:t1 start:a1:c1:0 step:a1:t1 end:a1:t1:PENDING done:a1:false unwell
 bad line 6: 12 AttemptNumber/ 1 = source document pickle run case:c1:t1 start:a1:c1:1 step:a1:t1 end:a1:t1:PASSED done:a1:false well
