@@ -1,10 +1,10 @@
 -- The object of a case is plain, and has its six values alone.
-use Rattle.std.proofs.Common.{◌≡◌, ◌≤◌, ◌∙◌, ℕ, List, [], ◌∷◌, true, map, max, refl, sym, ap, arith}
+use Rattle.std.proofs.Common.{◌≡◌, ◌≤◌, ◌∙◌, ℕ, List, [], ◌∷◌, true, map, refl, sym, ap, arith}
 use Rattle.std.specs.List.{AllByRecursion}
 use Rattle.std.specs.Prelude.{codes}
 use Rattle.std.specs.Str.{IsUtf8}
 use Rattle.json.proofs.Printed.Utf8.{IsUtf8-are_ascii}
-use Rattle.serde_json.specs.Data.{Data, Items, array, depth, item, items_depth, member, no_items, no_members, number, object, string, unsigned}
+use Rattle.serde_json.specs.Data.{Data, Items, array, depth, item, items_depth, member, no_members, number, object, string, unsigned}
 use Rattle.serde_json.specs.Read.{max_depth}
 use Rattle.serde_json.specs.View.{items_of}
 use Rattle.cm_cases.specs.JsonLines.{CaseValues, case_data}

@@ -1,23 +1,24 @@
 -- A string that is shown within a line is read as that string.
-use Rattle.std.proofs.Common.{◌≡◌, ℕ, zero, suc, ◌+◌, ◌*◌, ◌/◌, ◌%◌, ◌<◌, ◌≤◌, Bool, true, false, cond, not, ◌&&◌, ◌||◌, ◌==◌, nat_lt, List, [], ◌∷◌, ◌++◌, length, get_or, Option, Some, None, IsUtf8, inl, inr, ◌⊎◌, refl, sym, ap, ap₂, ◌∙◌, subst, arith, append_assoc, append-nil, ltb-true}
-use Rattle.std.proofs.lemmas.Bool.{and_parts, cases_Bool, cases_eq, cases_lt, false≢true, le-leb, le-ltb, lt-leb, lt-ltb, ltb-false, ne_eqb, not-false, not-true, or_parts}
+use Rattle.std.proofs.Common.{◌≡◌, ℕ, zero, suc, ◌+◌, ◌*◌, ◌/◌, ◌%◌, ◌^◌, ◌<◌, ◌≤◌, Bool, true, false, cond, decimal, not, ◌&&◌, ◌||◌, ◌==◌, nat_lt, List, [], ◌∷◌, ◌++◌, length, get_or, Option, Some, None, IsUtf8, inl, inr, ◌⊎◌, refl, sym, ap, ap₂, ◌∙◌, subst, arith, append_assoc, append-nil, ltb-true}
+use Rattle.std.proofs.lemmas.Bool.{and_parts, cases_Bool, cases_eq, cases_lt, false≢true, le-leb, le-ltb, lt-leb, lt-ltb, ltb-false, ne_eqb, not-true, or_cases, or_parts}
 use Rattle.std.proofs.lemmas.Fmt.{decimal_is_IsNumeral}
 use Rattle.std.proofs.lemmas.Grind.{flat_map-append}
 use Rattle.std.proofs.lemmas.Slice.Eq.{bytes_eq-Decides}
 use Rattle.std.proofs.lemmas.Str.{IsUtf8-append, IsUtf8-nil, IsUtf8-encode, chars-append, chars-encodes, scalars-chars, digit_value-digit_char, encode_ascii, inside_one}
 use Rattle.std.proofs.lemmas.Str.Parse.{digit_from_value}
-use Rattle.std.specs.Char.{digit_char, digit_value, is_digit, is_whitespace}
+use Rattle.std.specs.Char.{digit_char, digit_value, is_digit}
 use Rattle.std.specs.List.{flat_map}
-use Rattle.std.specs.Prelude.{if◌then◌else◌, nat_le}
+use Rattle.std.specs.Prelude.{if◌then◌else◌}
 use Rattle.std.specs.Str.{bytes_eq, chars}
+use Rattle.std.specs.Str.Parse.{AllDigits}
 use lib.Utf8.{encode, encodes, low_scalar, scalar, scalar_cases, scalars}
-use Rattle.json.specs.Lex.{Lexeme, Mode, between, in_string, lex, lex_byte, operator, other, space}
+use Rattle.json.specs.Lex.{Lexeme, Mode, in_string, lex, lex_byte, operator, other, space}
 use Rattle.json.specs.Print.{escape, escape_byte, escape_letter}
 use Rattle.json.specs.Text.{code_unit, content, is_high_surrogate, is_low_surrogate, plain, prepend, short_escape}
 use Rattle.json.specs.Word.{is_operator, is_space}
 use Rattle.json.proofs.Printed.Strings.{escape_byte_plain}
 use Rattle.json.proofs.Printed.Utf8.{IsUtf8-are_ascii, are_ascii}
-use Rattle.cm_cases.specs.Shown.{four_digits, is_bidirectional, is_between, is_control, is_hidden, is_numbered_in_json, is_other_space, is_separator, is_widthless, json_char, numbered, shown_json}
+use Rattle.cm_cases.specs.Shown.{is_numbered_in_json, json_char, numbered, shown_json}
 
 -- ---- a test that holds of each number below another
 
@@ -176,7 +177,7 @@ all_ascii = refl
 ascii_shown : (c : ℕ) → c < 128 → shown_json (escape_byte c) ≡ ascii_text c
 ascii_shown c h = (bytes_eq-Decides (shown_json (escape_byte c)) (ascii_text c)).0 (below (λ d. bytes_eq (shown_json (escape_byte d)) (ascii_text d)) 128 all_ascii c h)
 
-LetterStands : ℕ → Type 0
+abbrev LetterStands : ℕ → Type 0
 LetterStands c = Stands (92 ∷ escape_letter c ∷ []) (c ∷ [])
 
 letter_stands : (c : ℕ) → nat_lt 0 (escape_letter c) ≡ true → LetterStands c
@@ -220,14 +221,14 @@ no_letter c e = (λ is. false≢true (sym e ∙ ap (λ d. nat_lt 0 (escape_lette
 ascii_stands : (c : ℕ) → c < 128 → Stands (ascii_text c) (c ∷ [])
 ascii_stands c h =
     elim (cases_Bool (nat_lt 0 (escape_letter c))) [
-      | inl yes ↦ rw yes (letter_stands c yes)
-      | inr no ↦
+      | inl is ↦ rw is (letter_stands c is)
+      | inr isnt ↦
           elim (cases_Bool (nat_lt c 32 || (c == 127))) [
-            | inl yes ↦ rw (no, yes) (subst (Stands (numbered c)) (encode_ascii c h) (number_stands c (inl (omega arith))))
+            | inl is ↦ rw (isnt, is) (subst (Stands (numbered c)) (encode_ascii c h) (number_stands c (inl (omega arith))))
             | inr none ↦
-                let both = no_letter c no in
+                let both = no_letter c isnt in
                 let large : 32 ≤ c = ltb-false c 32 (or_parts (nat_lt c 32) (c == 127) none).0 in
-                rw (no, none) (byte_stands c both.0 both.1 large)
+                rw (isnt, none) (byte_stands c both.0 both.1 large)
           ]
     ]
 
@@ -258,8 +259,8 @@ one_shown c ok = ap (flat_map json_char) (ap chars (sym (append-nil (encode c)))
 json_char_stands : (c : ℕ) → scalar c ≡ true → 128 ≤ c → Stands (json_char c) (encode c)
 json_char_stands c ok big =
     elim (cases_Bool (is_numbered_in_json c)) [
-      | inl yes ↦ rw yes (number_stands c (unit_if_numbered c ok yes))
-      | inr no ↦ rw no (high_stands (encode c) (high_bytes c big))
+      | inl is ↦ rw is (number_stands c (unit_if_numbered c ok is))
+      | inr isnt ↦ rw isnt (high_stands (encode c) (high_bytes c big))
     ]
 
 char_stands : (c : ℕ) → scalar c ≡ true → Stands (shown_json (escape (encode c))) (encode c)
@@ -303,6 +304,7 @@ pub escape_utf8 : (s : List ℕ) → IsUtf8 s → IsUtf8 (escape s)
 escape_utf8 s u = subst (λ (t : List ℕ). IsUtf8 (escape t)) u.1.1 (escapes_utf8 u.0 u.1.0)
 
 chars_stand : (cs : List ℕ) → scalars cs ≡ true → Stands (shown_json (escape (encodes cs))) (encodes cs)
+unfolding chars
 chars_stand [] ok = nothing_stands
 chars_stand (c ∷ cs) ok =
     let p = and_parts (scalar c) (scalars cs) ok in
@@ -326,8 +328,8 @@ number_ascii c = rw (digit_ascii (c / 4096), digit_ascii (c / 256), digit_ascii 
 json_char_utf8 : (c : ℕ) → scalar c ≡ true → IsUtf8 (json_char c)
 json_char_utf8 c ok =
     elim (cases_Bool (is_numbered_in_json c)) [
-      | inl yes ↦ rw yes (IsUtf8-are_ascii (numbered c) (number_ascii c))
-      | inr no ↦ rw no (IsUtf8-encode c ok)
+      | inl is ↦ rw is (IsUtf8-are_ascii (numbered c) (number_ascii c))
+      | inr isnt ↦ rw isnt (IsUtf8-encode c ok)
     ]
 
 each_utf8 : (cs : List ℕ) → scalars cs ≡ true → IsUtf8 (flat_map json_char cs)
@@ -344,7 +346,7 @@ shown_utf8 xs u = each_utf8 (chars xs) (scalars-chars xs u)
 -- nothing in it has a number
 abbrev pub are_bare : List ℕ → Bool
 are_bare [] = true
-are_bare (x ∷ xs) = nat_lt x 128 && not (is_numbered_in_json x) && are_bare xs
+are_bare (x ∷ xs) = nat_lt x 128 && (not (is_numbered_in_json x) && are_bare xs)
 
 pub bare_utf8 : (xs : List ℕ) → are_bare xs ≡ true → IsUtf8 xs
 bare_utf8 xs e = IsUtf8-are_ascii xs (go xs e)
@@ -369,7 +371,11 @@ digits_bare : all_below (λ c. nat_lt c 48 || are_bare (c ∷ [])) 58 ≡ true
 digits_bare = refl
 
 digit_bare : (c : ℕ) → 48 ≤ c → c ≤ 57 → are_bare (c ∷ []) ≡ true
-digit_bare c low high = rw (← le-ltb c 48 low) (below (λ d. nat_lt d 48 || are_bare (d ∷ [])) 58 digits_bare c (omega arith))
+digit_bare c low high =
+    elim (or_cases (nat_lt c 48) (are_bare (c ∷ [])) (below (λ d. nat_lt d 48 || are_bare (d ∷ [])) 58 digits_bare c (omega arith))) [
+      | inl less ↦ absurd (false≢true (sym (le-ltb c 48 low) ∙ less))
+      | inr bare ↦ bare
+    ]
 
 numeral_bare : (cs : List ℕ) → AllDigits 10 cs → are_bare cs ≡ true
 numeral_bare [] h = refl

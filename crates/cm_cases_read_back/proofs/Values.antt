@@ -2,21 +2,21 @@
 use Rattle.std.proofs.Common.{◌≡◌, ℕ, Bool, true, false, cond, List, [], ◌∷◌, ◌++◌, IsUtf8, Option, Some, refl, sym, ap, ap₂, ◌∙◌, append_assoc, append-nil, decimal}
 use Rattle.std.specs.Prelude.{if◌then◌else◌, option_and_then}
 use Rattle.std.proofs.lemmas.Str.{IsUtf8-nil}
-use Rattle.json.specs.Lex.{Lexeme, between, colon, comma, fresh, in_string, lex, punctuate, string_token, token}
+use Rattle.json.specs.Lex.{Lexeme, between, colon, comma, fresh, lex, punctuate, string_token, token}
 use Rattle.json.specs.Print.{escape, quoted, token_text}
 use Rattle.json.specs.Json as json
-use Rattle.json.specs.Text.{content, plain, prepend}
+use Rattle.json.specs.Text.{content, prepend}
 use Rattle.json.specs.Token.{Token, begin_array, begin_object, end_array, end_object}
 use Rattle.json.specs.Word.{ends_word, word}
 use Rattle.json.proofs.Printed.Decimals.{IsNumber-decimal}
 use Rattle.json.proofs.Printed.Numbers.{in_word-ended, lex-number}
 use Rattle.json.proofs.Printed.Strings.{content-escape, lex-escape}
 use Rattle.json.proofs.Printed.Utf8.{IsUtf8-are_ascii, IsUtf8-quoted}
-use Rattle.serde_json.specs.Data.{Data, Items, Members, array, boolean, depth, float, item, member, negative, no_items, no_members, null, number, object, string, unsigned}
+use Rattle.serde_json.specs.Data.{Data, Items, Members, array, boolean, float, item, member, negative, no_items, no_members, null, number, object, string, unsigned}
 use Rattle.serde_json.specs.Read.{max_depth, of_json, read}
 use Rattle.serde_json.specs.Written.{comma_if, compact_text, items_text, members_text, number_text}
 use Rattle.cm_cases.specs.Shown.{shown_json}
-use Rattle.cm_read_back.specs.Values.{IsPlain, ItemsArePlain, MembersArePlain, in_order}
+use Rattle.cm_read_back.specs.Values.{IsPlain, ItemsArePlain, MembersArePlain}
 use Rattle.cm_read_back.proofs.Values.{plain_have_lines, text_utf8}
 use Rattle.cm_cases_read_back.specs.Laws.{ShownHaveLines}
 use Rattle.cm_cases_read_back.proofs.Strings.{are_bare, bare_shown, bare_utf8, decimal_shown, escape_utf8, shown_both, shown_utf8, string_stands}
@@ -78,8 +78,9 @@ module _ (w : List ℕ → List ℕ) where
 
   module _ (strings : (s r : List ℕ) → IsUtf8 s → lex between (w s ++ r) ≡ token (Token.string s) ∷ lex between r) where
     mutual
-      lexed : (d : Data) → IsPlain d → (r : List ℕ) → ends_word r ≡ true → lex between (written d ++ r) ≡ lexemes d ++ lex between r
       unfolding lex word
+
+      lexed : (d : Data) → IsPlain d → (r : List ℕ) → ends_word r ≡ true → lex between (written d ++ r) ≡ lexemes d ++ lex between r
       lexed null h r ended = ap₂ (λ b l. token (cond b Token.null Token.bad) ∷ l) ended (in_word-ended r ended)
       lexed (boolean true) h r ended = ap₂ (λ b l. token (cond b (Token.boolean true) Token.bad) ∷ l) ended (in_word-ended r ended)
       lexed (boolean false) h r ended = ap₂ (λ b l. token (cond b (Token.boolean false) Token.bad) ∷ l) ended (in_word-ended r ended)
@@ -91,7 +92,6 @@ module _ (w : List ℕ → List ℕ) where
       lexed (object ms) h r ended = ap (λ l. token begin_object ∷ l) (members_lexed false ms h r)
 
       items_lexed : (later : Bool) (ds : Items) → ItemsArePlain ds → (r : List ℕ) → lex between (items_written later ds ++ r) ≡ items_lexemes later ds ++ lex between r
-      unfolding lex
       items_lexed later no_items h r = refl
       items_lexed later (item d ds) h r =
           ap (lex between) (append_assoc (comma_if later) _ r ∙ ap (λ l. comma_if later ++ l) (append_assoc (written d) _ r))
@@ -101,7 +101,6 @@ module _ (w : List ℕ → List ℕ) where
           ∙ sym (append_assoc (commas later) _ _)
 
       members_lexed : (later : Bool) (ms : Members) → MembersArePlain ms → (r : List ℕ) → lex between (members_written later ms ++ r) ≡ members_lexemes later ms ++ lex between r
-      unfolding lex
       members_lexed later no_members h r = refl
       members_lexed later (member k d ms) h r =
           ap (lex between) (append_assoc (comma_if later) _ r ∙ ap (λ l. comma_if later ++ l) (append_assoc (w k) _ r ∙ ap (λ l. w k ++ 58 ∷ l) (append_assoc (written d) _ r)))

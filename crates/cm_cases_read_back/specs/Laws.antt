@@ -1,5 +1,5 @@
 -- What is shown of JSON is read back.
-use Rattle.std.specs.Prelude.{◌≡◌, ◌<◌, ◌^◌, List, Some, true}
+use Rattle.std.specs.Prelude.{◌≡◌, ◌<◌, ◌^◌, Some, true}
 use Rattle.std.specs.List.{AllByRecursion}
 use Rattle.std.specs.Str.{IsUtf8}
 use Rattle.serde_json.specs.Data.{Data}
