@@ -19,19 +19,19 @@ not_held None e = refl
 not_held (Some h) e = cc
 
 module _ (settings : Settings) (asked : Conditions) (bytes : List ℕ) where
-  if_done : (first : FirstFault) (r : Report) → IsFirstFault settings bytes first → IsGateReport settings asked first r → r.status ≡ Done → (counts : Counts) × (found : ReleaseCounts) × IsReleasedStream settings asked bytes counts found
+  if_done : (first : FirstFault) (r : Report) → IsFirstFault settings bytes first → IsGateReport settings asked bytes first r → r.status ≡ Done → (counts : Counts) × (found : ReleaseCounts) × IsReleasedStream settings asked bytes counts found
   if_done (NoFault es) r is h done =
       let counts = counts_of es in
       let found = release_counts_of asked settings.policy es in
       (counts, found, (first_fault_releases settings asked bytes counts found (NoFault es) is).0 (es, refl, refl, refl, not_held (hold_in settings asked es) (sym (ap (λ (x : Report). x.status) h.2) ∙ done)))
-  if_done (At n (IsBad f)) r is h done = let no : Refused ≡ Done = sym (ap (λ (x : Report). x.status) h) ∙ done in cc
-  if_done (At n (IsUnsupported u)) r is h done = let no : Unsupported ≡ Done = sym (ap (λ (x : Report). x.status) h) ∙ done in cc
+  if_done (At n (IsBad f)) r is h done = let no : Refused ≡ Done = sym (ap (λ (x : Report). x.status) h.2) ∙ done in cc
+  if_done (At n (IsUnsupported u)) r is h done = let no : Unsupported ≡ Done = sym (ap (λ (x : Report). x.status) h.2) ∙ done in cc
   if_done (Troubled t) r is h done = let no : Trouble ≡ Done = sym (ap (λ (x : Report). x.status) h) ∙ done in cc
 
-  if_released : (first : FirstFault) (r : Report) → IsFirstFault settings bytes first → IsGateReport settings asked first r → (counts : Counts) (found : ReleaseCounts) → IsReleasedStream settings asked bytes counts found → r.status ≡ Done
+  if_released : (first : FirstFault) (r : Report) → IsFirstFault settings bytes first → IsGateReport settings asked bytes first r → (counts : Counts) (found : ReleaseCounts) → IsReleasedStream settings asked bytes counts found → r.status ≡ Done
   if_released first r is h counts found released =
       let k = (first_fault_releases settings asked bytes counts found first is).1 released in
-      let g : IsGateReport settings asked (NoFault k.0) r = subst (λ (f : FirstFault). IsGateReport settings asked f r) k.1 h in
+      let g : IsGateReport settings asked bytes (NoFault k.0) r = subst (λ (f : FirstFault). IsGateReport settings asked bytes f r) k.1 h in
       ap (λ (x : Report). x.status) g.2
       ∙ ap held_status (ap₂ (hold_of asked (run_succeeded k.0)) (sym k.2) (sym k.3) ∙ k.4)
 

@@ -1,5 +1,5 @@
 -- What the command `gate` reports.
-use Rattle.std.proofs.Common.{◌≡◌, ◌∙◌, ◌⊎◌, ℕ, List, Option, Result, Ok, Err, Bool, true, false, inl, inr, refl, string_bytes, subst, sym, ap}
+use Rattle.std.proofs.Common.{◌≡◌, ◌∙◌, ◌⊎◌, ℕ, List, Option, Result, Ok, Err, Bool, true, inl, inr, string_bytes, subst, sym, ap}
 use Rattle.std.specs.Prelude.{IfOk}
 use Rattle.std.specs.declared.alloc.AllocError.{AllocError}
 use Rattle.cm_attempt.specs.declared.settings.Settings.{Settings}
@@ -7,13 +7,12 @@ use Rattle.cm_envelope.specs.Device.{CountsFailure, Input, OfReads}
 use Rattle.cm_envelope.specs.declared.envelope.Envelope.{Envelope}
 use Rattle.cm_envelope.specs.declared.feed.Trouble.{Trouble}
 use Rattle.cm_envelope.specs.declared.feed.Trouble.TheVariants.{ReadFailed, LineTooLong, StreamTooLong, Memory}
-use Rattle.cm_envelope.proofs.Sources.{of_reads, reads_weaker}
 use Rattle.cm_reasons.specs.Reasons.{AreReasons}
 use Rattle.cm_stream.specs.References.{run_succeeded}
 use Rattle.cm_stream.specs.Release.{Conditions, hold_of, release_counts_of}
-use Rattle.cm_stream.specs.Stream.{Answer, At, Failed, FirstFault, GoodRunIn, GoodWith, NoFault, Troubled, answer_for, answer_of_audit, counts_of}
+use Rattle.cm_stream.specs.Findings.{Finding, IsBad, IsUnsupported, stream_fault_named}
+use Rattle.cm_stream.specs.Stream.{At, Failed, FirstFault, Found, GoodRunIn, GoodWith, NoFault, Troubled, answer_for, counts_of}
 use Rattle.cm_stream.specs.declared.conditions.ReleaseCounts.{ReleaseCounts}
-use Rattle.cm_stream.specs.declared.verdict.Counts.{Counts}
 use Rattle.cm_stream.specs.declared.verdict.Hold.{Hold}
 use Rattle.cm_stream.specs.declared.verdict.Verdict.{Verdict}
 use Rattle.cm_stream.specs.declared.verdict.Verdict.TheVariants as verdict
@@ -24,25 +23,34 @@ use Rattle.cm_envelope.specs.Feeds.{is_failed_read}
 use Rattle.cm_audit_release.specs.ReleaseAudit.{CountsGood, IsReleaseAuditOf, audited_in}
 use Rattle.cm_audit_release.specs.declared.audited_release.AuditedRelease.{AuditedRelease}
 use Rattle.ck_command_line.specs.CommandLine.{ask_gate}
-use Rattle.ck_commands.specs.Gate.{IsGateReport, ReleasesOrTells, ReportsHeld, ReportsRelease, held_report, hold_in}
+use Rattle.cm_fault_reasons.specs.AtLine.{IsToldUnder}
+use Rattle.ck_commands.specs.Gate.{IsGateReport, ReleasesOrTells, ReportsHeld, ReportsRelease, finding_told, held_report, hold_in}
 use Rattle.ck_commands.specs.Output.{IsReport, Report, report_made, trouble_report}
 use Rattle.ck_commands.specs.Run.{Reports}
-use Rattle.ck_commands.specs.Verdicts.{verdict_report}
 use Rattle.ck_commands.specs.declared.output.ExitStatus.TheVariants as exit
 use Rattle.ck_commands.specs.declared.output.Report as made
 use Rattle.ck_commands.proofs.AuditsBeside.{Shows, alone, audit_beside_is_reported, report_is}
 use Rattle.ck_commands.proofs.Ran.{Reported}
 
-module _ (settings : Settings) (asked : Conditions) where
-  -- an answer that isn't Good has the same report
-  same_report : (first : FirstFault) (a : Answer) (r : Report) → a ≡ answer_for first → ((es : List Envelope) → a ≡ answer_for (NoFault es) → ⊥) → r ≡ verdict_report a → IsGateReport settings asked first r
-  same_report (At n f) a r e none is = is ∙ ap verdict_report e
-  same_report (Troubled t) a r e none is = is ∙ ap verdict_report e
-  same_report (NoFault es) a r e none is = absurd (none es e)
+-- by what is answered
+finding_first : (first : FirstFault) (n : ℕ) (f : Finding) → Found n f ≡ answer_for first → At n f ≡ first
+finding_first (At m g) n f e = cc
+finding_first (Troubled t) n f e = cc
+finding_first (NoFault es) n f e = cc
 
-  told : (x : made.Report) (first : FirstFault) (a : Answer) → a ≡ answer_for first → ((es : List Envelope) → a ≡ answer_for (NoFault es) → ⊥) → IsReport (verdict_report a) x
-      → IsGateReport settings asked first (report_made (Ok x))
-  told x first a e none is = same_report first a (report_made (Ok x)) e none (report_is (verdict_report a) x is)
+trouble_first : (first : FirstFault) (t : Trouble) → Failed t ≡ answer_for first → Troubled t ≡ first
+trouble_first (At m g) t e = cc
+trouble_first (Troubled u) t e = cc
+trouble_first (NoFault es) t e = cc
+
+module _ (settings : Settings) (asked : Conditions) where
+  tells_finding : (bytes reasons : List ℕ) (first : FirstFault) (n : ℕ) (f : Finding) (x : made.Report) → Found n f ≡ answer_for first → IsToldUnder settings bytes n f reasons → IsReport (finding_told n f reasons) x
+      → IsGateReport settings asked bytes first (report_made (Ok x))
+  tells_finding bytes reasons first n f x e told is =
+      subst (λ (o : FirstFault). IsGateReport settings asked bytes o (report_made (Ok x))) (finding_first first n f e) (reasons, told, report_is (finding_told n f reasons) x is)
+
+  tells_trouble : (bytes : List ℕ) (first : FirstFault) (t : Trouble) (x : made.Report) → Failed t ≡ answer_for first → IsReport (trouble_report t) x → IsGateReport settings asked bytes first (report_made (Ok x))
+  tells_trouble bytes first t x e is = subst (λ (o : FirstFault). IsGateReport settings asked bytes o (report_made (Ok x))) (trouble_first first t e) (report_is (trouble_report t) x is)
 
   module _ (found : ReleaseCounts) (held : Option Hold) (reasons : List ℕ) where
     of_verdict : (bytes : List ℕ) (success : Bool) (v : Verdict) (x : made.Report) → ReportsHeld found held reasons (record { verdict = v; success = success }) v x
@@ -63,9 +71,8 @@ module _ (settings : Settings) (asked : Conditions) where
             report_is (held_report held counts found reasons) x r ∙ (λ j. held_report (same_hold j) (counts_are j) (c.is.counted j) reasons),
           ),
         )
-    of_verdict bytes success (verdict.Bad n b) x r c h = (h.first, h.is_first, told x h.first (answer_of_audit (Ok (record { verdict = verdict.Bad n b; success = success }))) h.answers (λ es e. cc) r)
-    of_verdict bytes success (verdict.Unsupported n u) x r c h =
-        (h.first, h.is_first, told x h.first (answer_of_audit (Ok (record { verdict = verdict.Unsupported n u; success = success }))) h.answers (λ es e. cc) r)
+    of_verdict bytes success (verdict.Bad n b) x r c h = (h.first, h.is_first, tells_finding bytes reasons h.first n (IsBad (stream_fault_named b)) x h.answers c r)
+    of_verdict bytes success (verdict.Unsupported n u) x r c h = (h.first, h.is_first, tells_finding bytes reasons h.first n (IsUnsupported u) x h.answers c r)
 
     releases_or_tells : (bytes : List ℕ) (success : Bool) (v : Verdict) (x : made.Report) → ReportsHeld found held reasons (record { verdict = v; success = success }) v x
         → CountsGood settings asked success found held reasons bytes v → GoodRunIn settings bytes v success → ReleasesOrTells settings asked bytes (record { verdict = v; success = success }) v (report_made (Ok x))
@@ -82,8 +89,8 @@ module _ (settings : Settings) (asked : Conditions) where
             report_is (held_report held counts found reasons) x r ∙ (λ j. held_report (same_hold j) counts (counted j) reasons),
           ),
         )
-    releases_or_tells bytes success (verdict.Bad n b) x r c run = report_is _ x r
-    releases_or_tells bytes success (verdict.Unsupported n u) x r c run = report_is _ x r
+    releases_or_tells bytes success (verdict.Bad n b) x r c run = (reasons, c, report_is _ x r)
+    releases_or_tells bytes success (verdict.Unsupported n u) x r c run = (reasons, c, report_is _ x r)
 
     done_at_end : (j : Input) (success : Bool) (v : Verdict) (x : made.Report) → ReportsHeld found held reasons (record { verdict = v; success = success }) v x → GoodAtEndIn j v → x.status ≡ exit.Done → j.is_over ≡ true
     done_at_end j success (verdict.Good counts) x r over done = over
@@ -91,8 +98,8 @@ module _ (settings : Settings) (asked : Conditions) where
     done_at_end j success (verdict.Unsupported n u) x r over done = let no : exit.Unsupported ≡ exit.Done = sym r.1 ∙ done in cc
 
   of_trouble : (t : Trouble) (x : made.Report) (bytes : List ℕ) → IsReport (trouble_report t) x → AnswersTold settings bytes (Err t) → (t ≡ LineTooLong) ⊎ (t ≡ StreamTooLong) → Reports (ask_gate settings asked) bytes (report_made (Ok x))
-  of_trouble LineTooLong x bytes is h e = (h.first, h.is_first, told x h.first (Failed LineTooLong) h.answers (λ es e. cc) is)
-  of_trouble StreamTooLong x bytes is h e = (h.first, h.is_first, told x h.first (Failed StreamTooLong) h.answers (λ es e. cc) is)
+  of_trouble LineTooLong x bytes is h e = (h.first, h.is_first, tells_trouble bytes h.first LineTooLong x h.answers is)
+  of_trouble StreamTooLong x bytes is h e = (h.first, h.is_first, tells_trouble bytes h.first StreamTooLong x h.answers is)
   of_trouble ReadFailed x bytes is h (inl e) = cc
   of_trouble ReadFailed x bytes is h (inr e) = cc
   of_trouble Memory x bytes is h (inl e) = cc

@@ -21,7 +21,7 @@ use Rattle.ck_command_line.specs.declared.command_line.CaseForm.{CaseForm}
 use Rattle.ck_commands.specs.Cases.{ListsOrTells, PrintsListed}
 use Rattle.ck_commands.specs.Differs.{PrintsBadDifference, difference_lines, differs_report}
 use Rattle.ck_commands.specs.Features.{IsFeatureOf, fault_report, parse_report}
-use Rattle.ck_commands.specs.Gate.{PrintsReleased, ReleasesOrTells, held_status, second_line}
+use Rattle.ck_commands.specs.Gate.{PrintsBadWhy, PrintsReleased, ReleasesOrTells, held_status, second_line}
 use Rattle.ck_commands.specs.Output.{Breaks, Delivers, DeliversOne, NoneFailed, Prints, Report, code_of, trouble_report}
 use Rattle.ck_commands.specs.Results.{results_report}
 use Rattle.ck_commands.specs.Run.{IsBadFor, IsDone, PrintsCompiled, PrintsDocument, PrintsFault, PrintsRefused, PrintsResults, Reports, ReportsCompiled, Runs, ShowsNone, Tells}
@@ -88,13 +88,13 @@ module _ (settings : Settings) (asked : Conditions) (code : ℕ) (before after :
         (released_is_not_held settings asked bytes counts found a.success h.0 refl).0 none,
         subst (Writes before after) (ap (λ (x : Report). x.text) h.1.2 ∙ ap (λ (o : Option Hold). counts_text counts ++ second_line o counts found h.1.0) none) p.written,
       )
-  released bytes a (verdict.Bad n b) r is h p zero = absurd (not_both 1 0 code (p.status ∙ ap (λ (x : Report). code_of x.status) h ∙ rw is refl) zero (λ e. cc))
-  released bytes a (verdict.Unsupported n u) r is h p zero = absurd (not_both 4 0 code (p.status ∙ ap (λ (x : Report). code_of x.status) h ∙ rw is refl) zero (λ e. cc))
+  released bytes a (verdict.Bad n b) r is h p zero = absurd (not_both 1 0 code (p.status ∙ ap (λ (x : Report). code_of x.status) h.2) zero (λ e. cc))
+  released bytes a (verdict.Unsupported n u) r is h p zero = absurd (not_both 4 0 code (p.status ∙ ap (λ (x : Report). code_of x.status) h.2) zero (λ e. cc))
 
-  not_released : (bytes : List ℕ) (a : Audited) (v : Verdict) (r : Report) → a.verdict ≡ v → ReleasesOrTells settings asked bytes a v r → NoneIsGood settings bytes (Ok v) → Prints r code before after → code ≡ 1 → PrintsBad settings before after bytes
+  not_released : (bytes : List ℕ) (a : Audited) (v : Verdict) (r : Report) → a.verdict ≡ v → ReleasesOrTells settings asked bytes a v r → NoneIsGood settings bytes (Ok v) → Prints r code before after → code ≡ 1 → PrintsBadWhy settings before after bytes
   not_released bytes a (verdict.Good counts) r is h none p one = absurd (held_or_done (hold_of asked a.success counts (release_counts_of asked settings.policy h.0.judged)) (sym (p.status ∙ ap (λ (x : Report). code_of x.status) h.1.2) ∙ one))
-  not_released bytes a (verdict.Bad n b) r is h none p one = (n, b, none, subst (Writes before after) (ap (λ (x : Report). x.text) h ∙ rw is refl) p.written)
-  not_released bytes a (verdict.Unsupported n u) r is h none p one = absurd (not_both 4 1 code (p.status ∙ ap (λ (x : Report). code_of x.status) h ∙ rw is refl) one (λ e. cc))
+  not_released bytes a (verdict.Bad n b) r is h none p one = (n, b, none, h.0, h.1, subst (Writes before after) (ap (λ (x : Report). x.text) h.2) p.written)
+  not_released bytes a (verdict.Unsupported n u) r is h none p one = absurd (not_both 4 1 code (p.status ∙ ap (λ (x : Report). code_of x.status) h.2) one (λ e. cc))
 
 -- ---- the lines of cases
 

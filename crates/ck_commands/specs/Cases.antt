@@ -1,5 +1,5 @@
 -- What the command `cases` prints, by the whole list of envelopes of a good stream.
-use Rattle.std.specs.Prelude.{◌≡◌, ℕ, List, ◌++◌, Option, Result, Ok, Err, string_bytes}
+use Rattle.std.specs.Prelude.{◌≡◌, ℕ, List, ◌++◌, Option, Result, Ok, string_bytes}
 use Rattle.cm_envelope.specs.Device.{Output, Writes}
 use Rattle.std.specs.List.{flat_map}
 use Rattle.cm_attempt.specs.Results.{case_results}

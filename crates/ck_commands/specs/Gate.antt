@@ -1,6 +1,7 @@
 -- What the command `gate` prints: the line of `audit`, and of a run that is truthfully reported a second line, with the reason why
--- it isn't to be released and the lines that say it, or with what was let pass.
-use Rattle.std.specs.Prelude.{◌≡◌, ℕ, Bool, List, [], ◌∷◌, ◌++◌, Option, Some, None, Result, Ok, Err, codes, decimal, string_bytes}
+-- it isn't to be released and the lines that say it, or with what was let pass. Of another stream it is what is told of the line
+-- that decides.
+use Rattle.std.specs.Prelude.{◌≡◌, ℕ, Bool, List, [], ◌∷◌, ◌++◌, Option, Some, None, Result, Ok, codes, decimal, string_bytes}
 use Rattle.cm_envelope.specs.Device.{Output, Writes}
 use Rattle.cm_envelope.specs.Lines.{line_feed}
 use Rattle.cm_envelope.specs.declared.feed.Trouble.{Trouble}
@@ -9,17 +10,20 @@ use Rattle.cm_envelope.specs.declared.envelope.Envelope.{Envelope}
 use Rattle.cm_reasons.specs.Reasons.{AreReasons}
 use Rattle.cm_stream.specs.References.{run_succeeded}
 use Rattle.cm_stream.specs.Release.{Conditions, IsReleasedStream, hold_of, release_counts_of}
-use Rattle.cm_stream.specs.Stream.{FirstFault, At, Troubled, NoFault, IsGoodRun, answer_for, answer_of_audit, counts_of}
+use Rattle.cm_stream.specs.Findings.{Finding, IsBad, IsUnsupported, stream_fault_named}
+use Rattle.cm_stream.specs.Stream.{FirstFault, At, Troubled, NoFault, IsGoodRun, NoneIsGood, counts_of}
 use Rattle.cm_stream.specs.declared.conditions.ReleaseCounts.{ReleaseCounts}
 use Rattle.cm_stream.specs.declared.verdict.Audited.{Audited}
 use Rattle.cm_stream.specs.declared.verdict.Counts.{Counts}
 use Rattle.cm_stream.specs.declared.verdict.Hold.{Hold}
 use Rattle.cm_stream.specs.declared.verdict.Hold.TheVariants as hold
+use Rattle.cm_stream.specs.declared.verdict.StreamFault.{StreamFault}
 use Rattle.cm_stream.specs.declared.verdict.Verdict.{Verdict}
 use Rattle.cm_stream.specs.declared.verdict.Verdict.TheVariants as verdict
 use Rattle.cm_audit_release.specs.declared.audited_release.AuditedRelease.{AuditedRelease}
+use Rattle.cm_fault_reasons.specs.AtLine.{IsToldUnder}
 use Rattle.ck_commands.specs.Output.{IsReport, Report, ReportsAnswer, trouble_report}
-use Rattle.ck_commands.specs.Verdicts.{counts_text, verdict_report}
+use Rattle.ck_commands.specs.Verdicts.{counts_text, finding_status, finding_text}
 use Rattle.ck_commands.specs.declared.output.ExitStatus.{ExitStatus}
 use Rattle.ck_commands.specs.declared.output.ExitStatus.TheVariants.{Done, Held}
 use Rattle.ck_commands.specs.declared.output.Report as made
@@ -60,14 +64,22 @@ abbrev pub hold_in : Settings → Conditions → List Envelope → Option Hold
 hold_in settings asked es =
     hold_of asked (run_succeeded es) (counts_of es) (release_counts_of asked settings.policy es)
 
--- Of a stream that isn't good it is the line of `audit` alone.
-abbrev pub IsGateReport : Settings → Conditions → FirstFault → Report → Type 0
-IsGateReport settings asked (NoFault es) r =
+-- the report of a finding: the line of `audit`, and below it what is told of the line that decides
+abbrev pub finding_told : ℕ → Finding → (reasons : List ℕ) → Report
+finding_told n f reasons =
+    record { text = finding_text n f ++ reasons; status = finding_status f }
+
+abbrev pub IsFindingReport : Settings → (bytes : List ℕ) → ℕ → Finding → Report → Type 0
+IsFindingReport settings bytes n f r =
+    (reasons : List ℕ) × IsToldUnder settings bytes n f reasons × (r ≡ finding_told n f reasons)
+
+abbrev pub IsGateReport : Settings → Conditions → (bytes : List ℕ) → FirstFault → Report → Type 0
+IsGateReport settings asked bytes (NoFault es) r =
     (reasons : List ℕ) × AreReasons settings.policy asked es (hold_in settings asked es) reasons
     × (r ≡ held_report (hold_in settings asked es) (counts_of es)
     (release_counts_of asked settings.policy es) reasons)
-IsGateReport settings asked (At n finding) r = r ≡ verdict_report (answer_for (At n finding))
-IsGateReport settings asked (Troubled t) r = r ≡ trouble_report t
+IsGateReport settings asked bytes (At n f) r = IsFindingReport settings bytes n f r
+IsGateReport settings asked bytes (Troubled t) r = r ≡ trouble_report t
 
 -- the report of a good run's envelopes
 abbrev pub IsReleaseReport : Settings → Conditions → List Envelope → (success : Bool) → Counts
@@ -83,7 +95,10 @@ ReleasesOrTells settings asked bytes a (verdict.Good counts) r =
     (run : IsGoodRun settings bytes counts a.success)
     × IsReleaseReport settings asked run.judged a.success counts
     (release_counts_of asked settings.policy run.judged) r
-ReleasesOrTells settings asked bytes a _ r = r ≡ verdict_report (answer_of_audit (Ok a))
+ReleasesOrTells settings asked bytes a (verdict.Bad n b) r =
+    IsFindingReport settings bytes n (IsBad (stream_fault_named b)) r
+ReleasesOrTells settings asked bytes a (verdict.Unsupported n u) r =
+    IsFindingReport settings bytes n (IsUnsupported u) r
 
 -- the counts of a released stream were printed
 abbrev pub PrintsReleased : Settings → Conditions → (before after : Output) → (bytes : List ℕ)
@@ -93,13 +108,23 @@ PrintsReleased settings asked before after bytes =
     × IsReleasedStream settings asked bytes counts found
     × Writes before after (counts_text counts ++ release_text counts found)
 
+-- a fault that no good stream begins with was printed, and what is told of its line
+abbrev pub PrintsBadWhy : Settings → (before after : Output) → (bytes : List ℕ) → Type 0
+PrintsBadWhy settings before after bytes =
+    (n : ℕ) × (b : StreamFault) × NoneIsGood settings bytes (Ok (verdict.Bad n b))
+    × (reasons : List ℕ) × IsToldUnder settings bytes n (IsBad (stream_fault_named b)) reasons
+    × Writes before after (finding_text n (IsBad (stream_fault_named b)) ++ reasons)
+
 -- ---- the report that the code makes
 
 abbrev pub ReportsHeld : ReleaseCounts → Option Hold → (reasons : List ℕ) → Audited → Verdict
     → made.Report → Type 0
 ReportsHeld found held reasons a (verdict.Good counts) r =
     IsReport (held_report held counts found reasons) r
-ReportsHeld found held reasons a _ r = IsReport (verdict_report (answer_of_audit (Ok a))) r
+ReportsHeld found held reasons a (verdict.Bad n b) r =
+    IsReport (finding_told n (IsBad (stream_fault_named b)) reasons) r
+ReportsHeld found held reasons a (verdict.Unsupported n u) r =
+    IsReport (finding_told n (IsUnsupported u) reasons) r
 
 abbrev pub ReportsRelease : Result AuditedRelease Trouble → made.Report → Type 0
 ReportsRelease =

@@ -24,7 +24,7 @@ use Rattle.ck_command_line.specs.declared.command_line.Refusal.TheVariants as re
 use Rattle.ck_commands.specs.Cases.{ListsOrTells, PrintsListed, cases_report}
 use Rattle.ck_commands.specs.Differs.{IsDifferenceOf, PrintsBadDifference, differs_report}
 use Rattle.ck_commands.specs.Features.{IsFaultOf, IsFeatureOf, IsReadableText, IsRefusedFeature, document_text, fault_report, parse_report, refused_text}
-use Rattle.ck_commands.specs.Gate.{IsGateReport, PrintsReleased, ReleasesOrTells}
+use Rattle.ck_commands.specs.Gate.{IsGateReport, PrintsBadWhy, PrintsReleased, ReleasesOrTells}
 use Rattle.ck_commands.specs.Output.{DeliversOne, NoneFailed, Prints, Report, code_of, trouble_report}
 use Rattle.ck_commands.specs.Results.{ResultsShowNoFault, result_text, results_report}
 use Rattle.ck_commands.specs.Verdicts.{PrintsBad, PrintsGood, finding_text, verdict_report}
@@ -60,7 +60,8 @@ ReportsDiffering settings bytes r =
 -- that of a gate
 abbrev pub ReportsGate : Settings → Conditions → List ℕ → Report → Type 0
 ReportsGate settings asked bytes r =
-    (first : FirstFault) × IsFirstFault settings bytes first × IsGateReport settings asked first r
+    (first : FirstFault) × IsFirstFault settings bytes first
+    × IsGateReport settings asked bytes first r
 
 -- what a command prints of these bytes, and the status
 abbrev pub Reports : Command → List ℕ → Report → Type 0
@@ -136,7 +137,7 @@ abbrev pub IsBadFor : Command → (before after : Output) → (bytes : List ℕ)
 IsBadFor ask_parse before after bytes = PrintsRefused before after bytes
 IsBadFor (ask_compile uri) before after bytes = PrintsRefused before after bytes
 IsBadFor (ask_audit s) before after bytes = PrintsBad s before after bytes
-IsBadFor (ask_gate s asked) before after bytes = PrintsBad s before after bytes
+IsBadFor (ask_gate s asked) before after bytes = PrintsBadWhy s before after bytes
 IsBadFor (ask_results n) before after bytes = PrintsFault n before after bytes
 IsBadFor (ask_cases s form) before after bytes = PrintsBad s before after bytes
 IsBadFor (ask_differs s) before after bytes = PrintsBadDifference s before after bytes

@@ -1,11 +1,13 @@
 //! The command `gate`: whether a run is to be released.
-ghost use Rattle.std.specs.Prelude.{◌≡◌, ◌++◌, IfOk, Some, string_bytes};
+ghost use Rattle.std.specs.Prelude.{◌≡◌, ◌++◌, IfOk, Ok, Some, string_bytes};
 ghost use Rattle.cm_stream.specs.Release.{conditions_of};
+ghost use Rattle.cm_stream.specs.Stream.{answer_of_audit};
 ghost use Rattle.ck_command_line.specs.CommandLine.{ask_gate};
 ghost use Rattle.ck_commands.specs.Output.{IsReport};
 ghost use Rattle.ck_commands.specs.Gate.{ReportsRelease, held_report, hold_name, release_text};
 ghost use Rattle.ck_commands.specs.Gate.{held_status, second_line};
 ghost use Rattle.ck_commands.specs.Run.{Runs};
+ghost use Rattle.ck_commands.specs.Verdicts.{verdict_report};
 
 use crate::output::{ExitStatus, Report, write_report};
 use crate::verdict_report::{good_text, verdict_report};
@@ -89,6 +91,19 @@ fn held_report(
     })
 }
 
+/// The report of an audit, with what is told of the line that decides below it.
+fn told_report(alloc: Global, release: &AuditedRelease) -> Result<Report, AllocError>
+    ensures text { IfOk result (λ report. string_bytes report.text
+        ≡ (verdict_report (answer_of_audit (Ok release.now.audited))).text
+        ++ string_bytes release.now.reasons) }
+    ensures status { IfOk result (λ report. report.status
+        ≡ (verdict_report (answer_of_audit (Ok release.now.audited))).status) }
+{
+    let Report { mut text, status } = verdict_report(alloc, &Ok(release.audited))?;
+    text.push_str(release.reasons.as_str())?;
+    Ok(Report { text, status })
+}
+
 /// The report of a stream that was audited.
 fn gate_report(
     alloc: Global,
@@ -97,21 +112,16 @@ fn gate_report(
     ensures { IfOk result (ReportsRelease answer.now) }
 {
     match answer {
-        Ok(release) => {
-            let audited = release.audited;
-            match audited.verdict {
-                Verdict::Good(counts) => held_report(alloc, counts, release),
-                Verdict::Bad { .. } | Verdict::Unsupported { .. } => {
-                    verdict_report(alloc, &Ok(audited))
-                }
-            }
-        }
+        Ok(release) => match release.audited.verdict {
+            Verdict::Good(counts) => held_report(alloc, counts, release),
+            Verdict::Bad { .. } | Verdict::Unsupported { .. } => told_report(alloc, release),
+        },
         Err(trouble) => verdict_report(alloc, &Err(*trouble)),
     }
 }
 
 /// Audits the source by the settings, prints the verdict and, of a good stream, why its run isn't to be released under these
-/// conditions, with its reasons, or what was let pass, and gives the exit code.
+/// conditions, with its reasons, or what was let pass; of another what is told of the line that decides. Gives the exit code.
 pub(crate) fn print_gate<R: ByteSource, W: ByteSink>(
     alloc: Global,
     settings: Settings,

@@ -1,6 +1,5 @@
 -- The audit with what is counted, from the audit that was watched.
-use Rattle.std.proofs.Common.{◌≡◌, sym, subst, string_bytes, ℕ, Bool, List, Option, Result, Ok, Err}
-use Rattle.cm_attempt.specs.Table.{Table}
+use Rattle.std.proofs.Common.{sym, subst, string_bytes, ℕ, List, Option, Result, Ok, Err}
 use Rattle.cm_attempt.specs.declared.settings.Settings.{Settings}
 use Rattle.cm_envelope.specs.Device.{Input, OfReads}
 use Rattle.cm_envelope.specs.declared.envelope.Envelope.{Envelope}
@@ -16,8 +15,9 @@ use Rattle.cm_stream.specs.declared.verdict.Verdict.{Verdict}
 use Rattle.cm_stream.specs.declared.verdict.Verdict.TheVariants as verdict
 use Rattle.cm_audit.specs.Audit.{IsAuditOf}
 use Rattle.cm_audit.specs.State.{summary_of}
-use Rattle.cm_audit.specs.Watched.{FollowsGood, IsWatchedAuditOf}
+use Rattle.cm_audit.specs.Watched.{DecidesVerdict, FollowsGood, IsWatchedAuditOf}
 use Rattle.cm_audit.specs.declared.auditing.WatchedAudit.{WatchedAudit}
+use Rattle.cm_fault_reasons.proofs.AtLine.{told_with}
 use Rattle.cm_audit_release.specs.ReleaseAudit.{CountsGood, CountsWatched, IsReleaseAuditOf, JudgesVerdict}
 use Rattle.cm_audit_release.specs.Watched.{Follows}
 use Rattle.cm_audit_release.specs.declared.audited_release.AuditedRelease.{AuditedRelease}
@@ -35,12 +35,12 @@ memory_too settings answer xs ys h = record {
   ahead = tt;
 }
 
-module _ (settings : Settings) (asked : Conditions) (success : Bool) (found : ReleaseCounts) (held : Option Hold) (reasons : List ℕ) where
-  counted_by : (watch : ReleaseWatch) (table : Table) (xs : List ℕ) (v : Verdict) → FollowsGood settings (Follows watch) table xs v → JudgesVerdict settings asked watch success found held reasons v
-      → CountsGood settings asked success found held reasons xs v
-  counted_by watch table xs (verdict.Good counts) h k = record { judged = h.judged; read = h.read; good = h.good; is = k h.judged h.followed h.good }
-  counted_by watch table xs (verdict.Bad n b) h k = tt
-  counted_by watch table xs (verdict.Unsupported n r) h k = tt
+module _ (settings : Settings) (asked : Conditions) (found : ReleaseCounts) (held : Option Hold) (reasons : List ℕ) where
+  counted_by : (w : WatchedAudit ReleaseWatch) (xs : List ℕ) (v : Verdict) → FollowsGood settings (Follows w.watch) (summary_of w.state).table xs v → DecidesVerdict settings (Follows w.watch) w.last (summary_of w.state) xs v
+      → JudgesVerdict settings asked w found held reasons v → CountsGood settings asked w.audited.success found held reasons xs v
+  counted_by w xs (verdict.Good counts) h d k = record { judged = h.judged; read = h.read; good = h.good; is = k h.judged h.followed h.good }
+  counted_by w xs (verdict.Bad n b) h d k = told_with settings (Follows w.watch) xs (verdict.Bad n b) (summary_of w.state) w.watch.trail reasons (λ es f. f.1) w.last d k
+  counted_by w xs (verdict.Unsupported n r) h d k = told_with settings (Follows w.watch) xs (verdict.Unsupported n r) (summary_of w.state) w.watch.trail reasons (λ es f. f.1) w.last d k
 
 module _ (settings : Settings) (asked : Conditions) (tells : ReleaseWatch → Summary → Envelope → Type 0) where
   told : (answer : Result (WatchedAudit ReleaseWatch) Trouble) (result : Result AuditedRelease Trouble) (xs ys : List ℕ) → CountsWatched settings asked answer result
@@ -48,7 +48,7 @@ module _ (settings : Settings) (asked : Conditions) (tells : ReleaseWatch → Su
   told (Ok w) (Ok a) xs ys k h = record {
     audit = subst (λ (x : Audited). IsAuditOf settings (Ok x) xs ys) (sym k.0) h.audit;
     counted = subst (λ (x : Audited). CountsGood settings asked x.success a.found a.hold (string_bytes a.reasons) xs x.verdict) (sym k.0)
-        (counted_by settings asked w.audited.success a.found a.hold (string_bytes a.reasons) w.watch (summary_of w.state).table xs w.audited.verdict h.followed k.1);
+        (counted_by settings asked a.found a.hold (string_bytes a.reasons) w xs w.audited.verdict h.followed h.decided k.1);
   }
   told (Ok w) (Err t) xs ys k h = record { audit = subst (λ (x : Trouble). IsAuditOf settings (Err x) xs ys) (sym k) (memory_too settings (Ok w.audited) xs ys h.audit); counted = tt }
   told (Err t) result xs ys k h =

@@ -14,7 +14,9 @@ use Rattle.cm_stream.specs.declared.verdict.Hold.{Hold}
 use Rattle.cm_stream.specs.declared.verdict.Verdict.{Verdict}
 use Rattle.cm_stream.specs.declared.verdict.Verdict.TheVariants as verdict
 use Rattle.cm_audit.specs.Audit.{IsAuditOf}
+use Rattle.cm_audit.specs.State.{summary_of}
 use Rattle.cm_audit.specs.declared.auditing.WatchedAudit.{WatchedAudit}
+use Rattle.cm_fault_reasons.specs.AtLine.{IsToldWith, TellsWith}
 use Rattle.cm_audit_release.specs.Judged.{IsJudged}
 use Rattle.cm_audit_release.specs.Watched.{Follows}
 use Rattle.cm_audit_release.specs.declared.audited_release.AuditedRelease.{AuditedRelease}
@@ -32,12 +34,12 @@ pub record IsCounted (settings : Settings) (asked : Conditions) (success : Bool)
   pub good : Good settings judged
   pub is : IsJudged settings asked judged success counts found held reasons
 
--- that, where the verdict is Good
+-- that, where the verdict is Good; else the lines tell what is wrong with the line that decides
 abbrev pub CountsGood : Settings → Conditions → (success : Bool) → ReleaseCounts → Option Hold
     → (reasons bytes : List ℕ) → Verdict → Type 0
 CountsGood settings asked success found held reasons bytes (verdict.Good counts) =
     IsCounted settings asked success counts found held reasons bytes
-CountsGood settings asked success found held reasons bytes _ = ⊤
+CountsGood settings asked success found held reasons bytes v = IsToldWith settings bytes v reasons
 
 -- that, where the answer is a verdict
 abbrev pub CountsRelease : Settings → Conditions → List ℕ → Result AuditedRelease Trouble → Type 0
@@ -54,21 +56,21 @@ pub record IsReleaseAuditOf (settings : Settings) (asked : Conditions)
 
 -- ---- what is said after the audit
 
--- what is said of a good run by what went along, where the verdict is Good
-abbrev pub JudgesVerdict : Settings → Conditions → ReleaseWatch → (success : Bool) → ReleaseCounts
+-- what is said of a good run by what went along, and of another stream by what was kept of the lines before the one that decides
+abbrev pub JudgesVerdict : Settings → Conditions → WatchedAudit ReleaseWatch → ReleaseCounts
     → Option Hold → (reasons : List ℕ) → Verdict → Type 0
-JudgesVerdict settings asked watch success found held reasons (verdict.Good counts) =
-    (es : List Envelope) → Follows watch es → Good settings es
-    → IsJudged settings asked es success counts found held reasons
-JudgesVerdict settings asked watch success found held reasons _ = ⊤
+JudgesVerdict settings asked w found held reasons (verdict.Good counts) =
+    (es : List Envelope) → Follows w.watch es → Good settings es
+    → IsJudged settings asked es w.audited.success counts found held reasons
+JudgesVerdict settings asked w found held reasons v =
+    TellsWith (summary_of w.state) w.watch.trail w.last v reasons
 
 -- of an audit that was watched, the audit with what is said
 abbrev pub JudgesWatched : Settings → Conditions → WatchedAudit ReleaseWatch → AuditedRelease
     → Type 0
 JudgesWatched settings asked w a =
     (a.audited ≡ w.audited)
-    × JudgesVerdict settings asked w.watch w.audited.success a.found a.hold (string_bytes a.reasons)
-    w.audited.verdict
+    × JudgesVerdict settings asked w a.found a.hold (string_bytes a.reasons) w.audited.verdict
 
 -- that, unless there was no memory for it
 abbrev pub CountsWatched : Settings → Conditions → Result (WatchedAudit ReleaseWatch) Trouble

@@ -11,11 +11,12 @@ use crate::release_watch::ReleaseWatch;
 use cm_attempt::Settings;
 use cm_audit::{WatchedAudit, audit_watched};
 use cm_envelope::{ByteSource, Trouble};
+use cm_fault_reasons::verdict_told;
 use cm_stream::{Audited, Conditions, Hold, ReleaseCounts, Verdict};
 use std::alloc::{AllocError, Global};
 
-/// An audit; and of a good stream what is counted of it for a release, why its run isn't to be released, and the lines below
-/// that. Of a stream that isn't good these say nothing.
+/// An audit; of a good stream what is counted of it for a release, why its run isn't to be released, and the lines below that; of
+/// another stream the lines that tell what is wrong with the one that decides, where something is told of it.
 #[derive(Debug, Drop)]
 pub struct AuditedRelease {
     /// What `audit_run` answers.
@@ -25,27 +26,33 @@ pub struct AuditedRelease {
     pub reasons: String,
 }
 
-/// What is said of the run for a release, where the verdict is Good.
+/// What is said of a good run for a release, or of the line that decides against the stream.
 fn judgement_of(
     alloc: Global,
     conditions: &Conditions<'_>,
     settings: Settings,
-    watch: &ReleaseWatch,
-    audited: Audited,
+    watched: &WatchedAudit<ReleaseWatch>,
 ) -> Result<Judgement, AllocError>
     ensures { IfOk result (λ judgement. JudgesVerdict settings (conditions_of conditions.now)
-        watch.now audited.success judgement.found judgement.hold (string_bytes judgement.reasons)
-        audited.verdict) }
+        watched.now judgement.found judgement.hold (string_bytes judgement.reasons)
+        watched.now.audited.verdict) }
 {
+    let audited = watched.audited;
     match audited.verdict {
         Verdict::Good(counts) => {
+            let watch = &watched.watch;
             Judgement::of(alloc, conditions, settings, watch, audited.success, counts)
         }
-        _ => Ok(Judgement::none(alloc)),
+        _ => {
+            let verdict = audited.verdict;
+            let trail = &watched.watch.trail;
+            let reasons = verdict_told(alloc, &watched.state, trail, &watched.last, verdict)?;
+            Ok(Judgement::told(reasons))
+        }
     }
 }
 
-/// An audit that was watched, with what is said of its run.
+/// An audit that was watched, with what is said of it.
 fn judged(
     alloc: Global,
     conditions: &Conditions<'_>,
@@ -54,15 +61,13 @@ fn judged(
 ) -> Result<AuditedRelease, AllocError>
     ensures { IfOk result (JudgesWatched settings (conditions_of conditions.now) watched.now) }
 {
-    let audited = watched.audited;
-    let judgement = judgement_of(alloc, conditions, settings, &watched.watch, audited)?;
     let Judgement {
         found,
         hold,
         reasons,
-    } = judgement;
+    } = judgement_of(alloc, conditions, settings, watched)?;
     Ok(AuditedRelease {
-        audited,
+        audited: watched.audited,
         found,
         hold,
         reasons,
@@ -98,7 +103,7 @@ pub fn audit_release<R: ByteSource>(
     settings: Settings,
     conditions: &Conditions<'_>,
 ) -> Result<AuditedRelease, Trouble>
-    // The audit, and for Good what is said of the stream's envelopes, all of the same bytes.
+    // The audit, and what is said of the stream's envelopes, or of the line that decides, all of the same bytes.
     ensures same_bytes { OfReads (R.input source.old) (R.input source.new)
         (IsReleaseAuditOf settings (conditions_of conditions.now) result) }
     ensures at_end { GoodAtEnd (R.input source.new) (audited_in result) }

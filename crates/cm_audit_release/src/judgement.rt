@@ -13,7 +13,8 @@ use cm_reasons::{Trail, retried_text, skipped_text, stepless_text, unrun_text};
 use cm_stream::{Conditions, Counts, Hold, ReleaseCounts};
 use std::alloc::{AllocError, Global};
 
-/// What is counted of a good run for its release, why it isn't to be released, and the lines below that.
+/// What is counted of a good run for its release, why it isn't to be released, and the lines below that; of a stream that isn't
+/// good the lines alone.
 #[derive(Debug, Drop)]
 pub(crate) struct Judgement {
     pub(crate) found: ReleaseCounts,
@@ -97,8 +98,10 @@ impl Judgement {
         })
     }
 
-    /// What is said of a stream that isn't good: nothing.
-    pub(crate) fn none(alloc: Global) -> Judgement {
+    /// What is said of a stream that isn't good: what is told of the line that decides.
+    pub(crate) fn told(reasons: String) -> Judgement
+        ensures { result.reasons ≡ reasons }
+    {
         Judgement {
             found: ReleaseCounts {
                 missed: 0,
@@ -108,7 +111,7 @@ impl Judgement {
                 undefined: 0,
             },
             hold: None,
-            reasons: String::new(alloc),
+            reasons,
         }
     }
 }

@@ -175,6 +175,6 @@ impl Watch for ReleaseWatch {
     }
 
     fn wants_last(&self) -> bool {
-        false
+        true
     }
 }

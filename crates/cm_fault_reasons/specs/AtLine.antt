@@ -5,7 +5,7 @@ use Rattle.cm_audit.specs.Watched.{is_of_envelope, judged_in}
 use Rattle.cm_envelope.specs.declared.envelope.Envelope.{Envelope}
 use Rattle.cm_state.specs.Summary.{Summary}
 use Rattle.cm_stream.specs.Checks.{fault_by}
-use Rattle.cm_stream.specs.Findings.{Finding, IsBad, IsUnsupported, stream_fault_named}
+use Rattle.cm_stream.specs.Findings.{Finding, IsBad, IsUnsupported, NoEnvelope, NoRunFinished, stream_fault_named}
 use Rattle.cm_stream.specs.Readings.{Reading, ReadsByTheGrammar}
 use Rattle.cm_stream.specs.Redeclared.{judged_as}
 use Rattle.cm_stream.specs.Stream.{envelope_unless_blank, feed_of}
@@ -13,9 +13,10 @@ use Rattle.cm_stream.specs.Texts.{Utf8}
 use Rattle.cm_stream.specs.declared.verdict.StreamFault.{StreamFault}
 use Rattle.cm_stream.specs.declared.verdict.Verdict.{Verdict}
 use Rattle.cm_stream.specs.declared.verdict.Verdict.TheVariants as verdict
-use Rattle.cm_fault_reasons.specs.ToldAt.{told_at}
+use Rattle.cm_reasons.specs.Trail.{trail_of}
+use Rattle.cm_reasons.specs.declared.trail.Trail.{Trail}
+use Rattle.cm_fault_reasons.specs.ToldAt.{all_lines, told_at}
 use Rattle.cm_fault_reasons.specs.ToldKept.{told_by}
-use Rattle.cm_fault_reasons.specs.Unknown.{told_lines}
 
 -- Line n of the bytes, counted from 1, is read as an envelope. What it is judged as has this finding, and the text is what is told
 -- of it after what the lines before are judged as. Texts are read by the grammar.
@@ -32,29 +33,39 @@ pub record IsToldOfLine (settings : Settings) (bytes : List ℕ) (n : ℕ) (f : 
   pub is_read : envelope_unless_blank line ≡ Some (Ok said)
   pub why : fault_by read settings (judged_in settings before)
       (judged_as settings (judged_in settings before) said) ≡ Some f
-  pub told : text ≡ told_lines (told_at (judged_in settings before) said f)
+  pub told : text ≡ all_lines (told_at (judged_in settings before) said f)
+      (judged_in settings before ++ judged_as settings (judged_in settings before) said ∷ []) said f
 
--- the text that is told with a verdict: nothing of a good stream, of a line without an envelope, and of the end
+-- the text that is told under a finding: nothing of a line that is no envelope, and of the end
+abbrev pub IsToldUnder : Settings → (bytes : List ℕ) → ℕ → Finding → (text : List ℕ) → Type 0
+IsToldUnder settings bytes n (IsBad (NoEnvelope fault)) text = text ≡ []
+IsToldUnder settings bytes n (IsBad NoRunFinished) text = text ≡ []
+IsToldUnder settings bytes n f text = IsToldOfLine settings bytes n f text
+
+-- that, by a verdict
 abbrev pub IsToldWith : Settings → (bytes : List ℕ) → Verdict → (text : List ℕ) → Type 0
 IsToldWith settings bytes (verdict.Good counts) text = ⊤
 IsToldWith settings bytes (verdict.Bad n b) text =
-    (is_of_envelope b ≡ true
-    → IsToldOfLine settings bytes n (IsBad (stream_fault_named b)) text)
-    × (is_of_envelope b ≡ false → text ≡ [])
+    IsToldUnder settings bytes n (IsBad (stream_fault_named b)) text
 IsToldWith settings bytes (verdict.Unsupported n r) text =
-    IsToldOfLine settings bytes n (IsUnsupported r) text
+    IsToldUnder settings bytes n (IsUnsupported r) text
 
--- ---- by what an audit keeps of the lines before, and the envelope of the line
+-- ---- by what an audit keeps of the lines before, the trail of the lines up to it, and the envelope of the line
 
-abbrev pub TellsOf : Summary → (last : Option Envelope) → Finding → (text : List ℕ) → Type 0
-TellsOf s last f text = IsSomeAnd last (λ e. text ≡ told_lines (told_by s e f))
+abbrev pub TellsOf : Summary → Trail → (last : Option Envelope) → Finding → (text : List ℕ)
+    → Type 0
+TellsOf s trail last f text =
+    IsSomeAnd last (λ e. (es : List Envelope) → trail ≡ trail_of es
+    → text ≡ all_lines (told_by s e f) es e f)
 
-abbrev pub TellsFault : Summary → (last : Option Envelope) → StreamFault → (text : List ℕ) → Type 0
-TellsFault s last b text =
-    (is_of_envelope b ≡ true → TellsOf s last (IsBad (stream_fault_named b)) text)
+abbrev pub TellsFault : Summary → Trail → (last : Option Envelope) → StreamFault
+    → (text : List ℕ) → Type 0
+TellsFault s trail last b text =
+    (is_of_envelope b ≡ true → TellsOf s trail last (IsBad (stream_fault_named b)) text)
     × (is_of_envelope b ≡ false → text ≡ [])
 
-abbrev pub TellsWith : Summary → (last : Option Envelope) → Verdict → (text : List ℕ) → Type 0
-TellsWith s last (verdict.Good counts) text = ⊤
-TellsWith s last (verdict.Bad n b) text = TellsFault s last b text
-TellsWith s last (verdict.Unsupported n r) text = TellsOf s last (IsUnsupported r) text
+abbrev pub TellsWith : Summary → Trail → (last : Option Envelope) → Verdict → (text : List ℕ)
+    → Type 0
+TellsWith s trail last (verdict.Good counts) text = ⊤
+TellsWith s trail last (verdict.Bad n b) text = TellsFault s trail last b text
+TellsWith s trail last (verdict.Unsupported n r) text = TellsOf s trail last (IsUnsupported r) text

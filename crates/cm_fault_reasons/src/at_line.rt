@@ -4,11 +4,13 @@ ghost use Rattle.cm_audit.specs.State.{summary_of};
 ghost use Rattle.cm_audit.specs.Watched.{is_of_envelope};
 ghost use Rattle.cm_state.specs.Summary.{Summary};
 ghost use Rattle.cm_stream.specs.Findings.{IsUnsupported};
+ghost use Rattle.cm_reasons.specs.declared.trail.Trail.{Trail as SomeTrail};
 ghost use Rattle.cm_fault_reasons.specs.AtLine.{TellsFault, TellsOf, TellsWith};
 
 use crate::told::{add_fault, add_reason};
 use cm_audit::State;
 use cm_envelope::Envelope;
+use cm_reasons::Trail;
 use cm_stream::{Reason, StreamFault, Verdict};
 use std::alloc::{AllocError, Global};
 
@@ -26,11 +28,12 @@ fn is_of_envelope(fault: StreamFault) -> bool
 fn fault_text(
     alloc: Global,
     state: &State,
+    trail: &Trail,
     last: &Option<Envelope>,
     fault: StreamFault,
 ) -> Result<String, AllocError>
-    ensures { IfOk result
-        (λ text. TellsFault (summary_of state.now) last.now fault (string_bytes text)) }
+    ensures { IfOk result (λ text. TellsFault (summary_of state.now) trail.now last.now fault
+        (string_bytes text)) }
 {
     let mut text = String::new(alloc);
     if !is_of_envelope(fault) {
@@ -39,14 +42,14 @@ fn fault_text(
     let Some(envelope) = last else {
         return Err(AllocError);
     };
-    add_fault(alloc, &mut text, state, envelope, fault)?;
+    add_fault(alloc, &mut text, state, trail, envelope, fault)?;
     Ok(text)
 }
 
 /// What is told of the line that shows why the stream isn't judged.
 fn reason_text(alloc: Global, last: &Option<Envelope>, reason: Reason) -> Result<String, AllocError>
-    ensures { IfOk result (λ text. (s : Summary)
-        → TellsOf s last.now (IsUnsupported reason) (string_bytes text)) }
+    ensures { IfOk result (λ text. (s : Summary) (t : SomeTrail)
+        → TellsOf s t last.now (IsUnsupported reason) (string_bytes text)) }
 {
     let mut text = String::new(alloc);
     let Some(envelope) = last else {
@@ -56,22 +59,24 @@ fn reason_text(alloc: Global, last: &Option<Envelope>, reason: Reason) -> Result
     Ok(text)
 }
 
-/// What is told of the line that decides, by what is kept of the lines before it and its envelope, read once more.
+/// What is told of the line that decides, by what is kept of the lines before it, the trail of the lines up to it, and its
+/// envelope, read once more.
 ///
 /// # Errors
 /// Only where there is no memory for it, or there was none to read the envelope.
 pub fn verdict_told(
     alloc: Global,
     state: &State,
+    trail: &Trail,
     last: &Option<Envelope>,
     verdict: Verdict,
 ) -> Result<String, AllocError>
-    ensures { IfOk result
-        (λ text. TellsWith (summary_of state.now) last.now verdict (string_bytes text)) }
+    ensures { IfOk result (λ text. TellsWith (summary_of state.now) trail.now last.now verdict
+        (string_bytes text)) }
 {
     match verdict {
         Verdict::Good(_) => Ok(String::new(alloc)),
-        Verdict::Bad { fault, .. } => fault_text(alloc, state, last, fault),
+        Verdict::Bad { fault, .. } => fault_text(alloc, state, trail, last, fault),
         Verdict::Unsupported { reason, .. } => reason_text(alloc, last, reason),
     }
 }

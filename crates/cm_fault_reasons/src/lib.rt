@@ -3,6 +3,7 @@
 
 mod at_line;
 mod duplicate;
+mod scenario;
 mod told;
 mod unknown;
 

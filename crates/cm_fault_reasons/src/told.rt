@@ -1,17 +1,21 @@
 //! What is told of the line that decides, beside the answer.
-ghost use Rattle.std.specs.Prelude.{◌≡◌, ◌++◌, IfOk, OnOk, option_map, string_bytes};
+ghost use Rattle.std.specs.Prelude.{◌≡◌, ◌++◌, IfOk, List, OnOk, option_map, string_bytes};
+ghost use Rattle.cm_envelope.specs.declared.envelope.Envelope.{Envelope as SomeEnvelope};
+ghost use Rattle.cm_reasons.specs.Trail.{trail_of};
 ghost use Rattle.cm_stream.specs.Findings.{IsBad, stream_fault_named};
 ghost use Rattle.cm_audit.specs.State.{summary_of};
-ghost use Rattle.cm_fault_reasons.specs.ToldAt.{told_reason, told_uri_of};
+ghost use Rattle.cm_fault_reasons.specs.ToldAt.{all_lines, told_reason, told_uri_of};
 ghost use Rattle.cm_fault_reasons.specs.ToldKept.{told_by};
 ghost use Rattle.cm_fault_reasons.specs.Unknown.{told_id, told_line, told_lines};
 ghost use Rattle.cm_fault_reasons.specs.UnknownKept.{told_view};
 
 use crate::duplicate::first_duplicate;
+use crate::scenario::{add_declared, add_started};
 use crate::unknown::{Told, first_unknown};
 use cm_audit::State;
 use cm_cases::add_shown;
 use cm_envelope::Envelope;
+use cm_reasons::Trail;
 use cm_stream::{Reason, StreamFault};
 use std::alloc::{AllocError, Global};
 
@@ -92,7 +96,8 @@ fn add_told(text: &mut String, told: &Option<Told<'_>>) -> Result<(), AllocError
     }
 }
 
-/// Adds what is told of an envelope that has the fault, after the lines of which this is kept.
+/// Adds what is told of an envelope that has the fault, after the lines of which this is kept, and of which with it this is the
+/// trail.
 ///
 /// # Errors
 /// Only where there is no memory for it.
@@ -100,15 +105,23 @@ pub(crate) fn add_fault(
     alloc: Global,
     text: &mut String,
     state: &State,
+    trail: &Trail,
     envelope: &Envelope,
     fault: StreamFault,
 ) -> Result<(), AllocError>
-    ensures { OnOk result (string_bytes text.new ≡ string_bytes text.old
-        ++ told_lines (told_by (summary_of state.now) envelope.now
-        (IsBad (stream_fault_named fault)))) }
+    ensures { OnOk result ((es : List SomeEnvelope) → trail.now ≡ trail_of es
+        → string_bytes text.new ≡ string_bytes text.old
+        ++ all_lines (told_by (summary_of state.now) envelope.now
+        (IsBad (stream_fault_named fault))) es envelope.now (IsBad (stream_fault_named fault))) }
 {
-    let told = told_at_fault(alloc, state, envelope, fault)?;
-    add_told(text, &told)
+    match fault {
+        StreamFault::CaseStepsDiffer => add_declared(alloc, text, trail, envelope),
+        StreamFault::AttemptOverlap => add_started(alloc, text, trail, envelope),
+        _ => {
+            let told = told_at_fault(alloc, state, envelope, fault)?;
+            add_told(text, &told)
+        }
+    }
 }
 
 /// Adds what is told of an envelope that shows why the stream isn't judged.

@@ -1,9 +1,10 @@
 //! What is kept of a stream's envelopes for its reasons.
-ghost use Rattle.std.specs.Prelude.{◌≡◌, ◌++◌, ◌∷◌, [], List, OnOk};
+ghost use Rattle.std.specs.Prelude.{◌≡◌, ◌++◌, ◌∷◌, [], IfOk, List, OnOk};
+ghost use Rattle.cm_cases.specs.Listed.{listing_of};
 ghost use Rattle.cm_envelope.specs.declared.envelope.Envelope.{Envelope as SomeEnvelope};
 ghost use Rattle.cm_reasons.specs.Trail.{trail_of};
 
-use cm_cases::Listing;
+use cm_cases::{Listing, Places};
 use cm_envelope::Envelope;
 use std::alloc::{AllocError, Global};
 
@@ -32,5 +33,16 @@ impl Trail {
             → self.new ≡ trail_of (es ++ envelope.now ∷ [])) }
     {
         self.listing.note(alloc, envelope)
+    }
+
+    /// The places of its pickles and test cases.
+    ///
+    /// # Errors
+    /// Only where there is no memory for them.
+    pub fn places(&self, alloc: Global) -> Result<Places<'_>, AllocError>
+        ensures { IfOk result (λ places. (es : List SomeEnvelope) → self.now ≡ trail_of es
+            → places ≡ listing_of es) }
+    {
+        Places::of(alloc, &self.listing)
     }
 }

@@ -1,4 +1,4 @@
-use Rattle.std.proofs.Common.{◌∙◌, ap, sym, ◌&&◌, not}
+use Rattle.std.proofs.Common.{◌∙◌, sym, ◌&&◌, not}
 use Rattle.std.specs.Prelude.{is_some}
 use Rattle.std.specs.List.{list_any}
 use Rattle.cm_cases.specs.Firsts.{value_at}
