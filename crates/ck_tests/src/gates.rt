@@ -22,11 +22,41 @@ bad line 10: 21 SuccessDiffers/ 1 = source document pickle run case:c1:t1 start:
 good sources=1 pickles=1 cases=1 attempts=1/stop NotSuccessful/ 5 = source document pickle run case:c1:t1 start:a1:c1:0 step:a1:t1 end:a1:t1:PENDING done:a1:false unwell
 bad line 6: 12 AttemptNumber/ 1 = source document pickle run case:c1:t1 start:a1:c1:1 step:a1:t1 end:a1:t1:PASSED done:a1:false well
 bad line 1: 17 OutsideRun/ 1 = well
-unsupported line 1: 1 Language/ 4 = french";
+unsupported line 1: 1 Language/uri f.feature/ 4 = french";
 
 #[test]
 fn runs_that_are_released_and_runs_that_are_not(rt: HostRuntime) -> Result<(), Fail> {
     expect_rows(&rt, rt.alloc(), &["gate"], PLAIN)
+}
+
+// What the gate tells of the line that decides.
+const TOLD: &str = "bad line 2: 4 DuplicateId/id h/ 1 = null_source null_source
+bad line 6: 4 DuplicateId/id c1/ 1 = source document pickle run case:c1:t1 case:c1:t1
+bad line 7: 4 DuplicateId/id a1/ 1 = source document pickle run case:c1:t1 start:a1:c1:0 start:a1:c1:1
+bad line 7: 4 DuplicateId/id r1/ 1 = source document pickle hook run hook_start hook_start
+bad line 2: 5 DuplicateUri/uri a.feature/ 1 = source source
+bad line 1: 6 UnknownReference/uri a.feature/ 1 = document
+bad line 2: 6 UnknownReference/uri a.feature/ 1 = source pickle
+bad line 3: 6 UnknownReference/id 3/ 1 = source document case:c1:t1
+bad line 5: 6 UnknownReference/id d/ 1 = source document pickle run matched_case
+bad line 6: 6 UnknownReference/id d/ 1 = source document pickle hook run hooked_case
+bad line 6: 6 UnknownReference/id d/ 1 = source document pickle definition run case_hooked_by_d
+bad line 6: 6 UnknownReference/id c2/ 1 = source document pickle run case:c1:t1 start:a1:c2:0
+bad line 7: 6 UnknownReference/id t9/ 1 = source document pickle run case:c1:t1 start:a1:c1:0 step:a1:t9
+bad line 7: 6 UnknownReference/id a9/ 1 = source document pickle run case:c1:t1 start:a1:c1:0 step:a9:t9
+bad line 2: 6 UnknownReference/id h/ 1 = run hook_start
+bad line 3: 6 UnknownReference/id r1/ 1 = hook run hook_passed
+bad line 4: 10 ParseErrorOfGoodSource/uri a.feature/ 1 = source document pickle error
+bad line 5: 11 CaseStepsDiffer/case a.feature:3 s/ 1 = source document pickle run case_without_steps
+bad line 7: 13 AttemptOverlap/case a.feature:3 s/attempt 1/ 1 = source document pickle run case:c1:t1 start:a1:c1:0 start:a2:c1:1
+bad line 12: 13 AttemptOverlap/case b.feature:3 t/attempt 1/ 1 = source document pickle source_b document_b pickle_b run case:c1:t1 case_b start:a1:c1:0 start:b1:c2:0 start:b2:c2:1
+bad line 2: 16 SecondRunStarted/ 1 = run run
+bad line 1: 1 NotJson/ 1 = brackets:200
+unsupported line 1: 2 MediaType/uri m.feature/ 4 = markdown";
+
+#[test]
+fn what_is_wrong_with_a_line(rt: HostRuntime) -> Result<(), Fail> {
+    expect_rows(&rt, rt.alloc(), &["gate"], TOLD)
 }
 
 const WITH_UNRUN: &str =

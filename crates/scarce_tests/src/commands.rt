@@ -109,6 +109,19 @@ fn run_gate(alloc: Global) -> Came {
     came_of_words(alloc, &["gate"], INTERLEAVED, released, ExitStatus::Done)
 }
 
+fn run_gate_held(alloc: Global) -> Came {
+    let held = "good sources=1 pickles=1 cases=2 attempts=2\nstop Retried\nRETRIED a.feature:3 s\n";
+    let words = ["gate", "--no-retries"];
+    came_of_words(alloc, &words, INTERLEAVED, held, ExitStatus::Held)
+}
+
+const HOOK_AGAIN: &str = "{\"hook\":{\"id\":\"h\"}}\n{\"hook\":{\"id\":\"h\"}}\n";
+
+fn run_gate_told(alloc: Global) -> Came {
+    let told = "bad line 2: 4 DuplicateId\nid h\n";
+    came_of_words(alloc, &["gate"], HOOK_AGAIN, told, ExitStatus::Refused)
+}
+
 fn run_parse(alloc: Global) -> Came {
     let told = "ok nodes=2 comments=0\n";
     came_of_words(alloc, &["parse"], PLAIN_TEXT, told, ExitStatus::Done)
@@ -137,6 +150,16 @@ fn runs_of_compile(rt: HostRuntime) -> Result<(), Fail> {
 #[test]
 fn runs_of_gate(rt: HostRuntime) -> Result<(), Fail> {
     meet_alone(rt.alloc(), RUNS, run_gate)
+}
+
+#[test]
+fn runs_of_gate_that_are_held(rt: HostRuntime) -> Result<(), Fail> {
+    meet_alone(rt.alloc(), RUNS, run_gate_held)
+}
+
+#[test]
+fn runs_of_gate_that_tell_of_a_line(rt: HostRuntime) -> Result<(), Fail> {
+    meet_alone(rt.alloc(), RUNS, run_gate_told)
 }
 
 #[test]
