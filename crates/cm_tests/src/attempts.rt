@@ -144,6 +144,34 @@ fn refuses_duplicates_and_unknown_ids(rt: HostRuntime) {
     assert!(rt; reported(&track, "c") == "Passed");
     assert!(rt; track.all_good());
     assert!(rt; track.has_attempt("a") && !track.has_attempt("b"));
+    assert!(rt; track.has_case("c") && !track.has_case("a"));
+    drop(track);
+}
+
+// Whether this step is due, and running or not.
+fn is_due(track: &Track, attempt: &str, step: &str, is_running: bool) -> bool {
+    match track.due_step(attempt) {
+        Some(due) => due.step == step && due.is_running == is_running,
+        None => false,
+    }
+}
+
+#[test]
+fn the_step_that_is_due(rt: HostRuntime) {
+    let alloc = rt.alloc();
+    let mut track = Track::new(alloc);
+    expect_answers(&rt, &mut track, alloc, "ok case c t u");
+    assert!(rt; track.due_step("a").is_none());
+    expect_answers(&rt, &mut track, alloc, "ok start a c 0");
+    assert!(rt; is_due(&track, "a", "t", false));
+    expect_answers(&rt, &mut track, alloc, "ok step a t");
+    assert!(rt; is_due(&track, "a", "t", true));
+    expect_answers(&rt, &mut track, alloc, "ok stepped a t Passed");
+    assert!(rt; is_due(&track, "a", "u", false));
+    expect_answers(&rt, &mut track, alloc, "ok step a u\nok stepped a u Passed");
+    assert!(rt; track.due_step("a").is_none());
+    expect_answers(&rt, &mut track, alloc, "ok final a");
+    assert!(rt; track.due_step("a").is_none());
     drop(track);
 }
 
