@@ -155,7 +155,9 @@ Prints the line that `audit` prints, and a second one where the report is true:
   stop Skipped               A step of a case's last attempt was skipped (with --no-skips).
   stop Stepless              A test case is of a pickle without steps (with --no-stepless).
   stop Undefined             A step passed that no step definition matches (with --no-undefined).
-Where more than one of these holds, the second line has the first of them.
+Where more than one of these holds, the second line has the first of them. Below it stand the
+scenarios that are unrun, retried, skipped or stepless, as `cukecheck cases` shows them; and below
+a line `bad` or `unsupported` the id, the uri or the scenario that it is about, where one is told.
 Of a run that is to be released the second line is `release retried=R skipped=S unrun=U`: how many
 pickles have more than one attempt, how many cases have a skipped step in their last attempt, and
 how many pickles have no test case.
