@@ -10,12 +10,12 @@ use Rattle.clap.specs.Words.{App, Text}
 use Rattle.clap.specs.Walk.{arg_by_long, bundle_met, walked}
 use Rattle.clap.specs.Faults.{flags_fault, walk_fault, defaults_fault}
 use Rattle.ck_command_line.specs.CommandLine.{Command, ask_parse, ask_compile, command_of, is_help_call}
-use Rattle.ck_command_line.specs.CommandLine.{gate_command, audit_command, cases_command, differs_command, results_command, parse_command, compile_command}
+use Rattle.ck_command_line.specs.CommandLine.{gate_command, audit_command, cases_command, results_command, parse_command, compile_command}
 use Rattle.ck_command_line.specs.Asked.{Ask, CallForHelp, TakesItsOptions, RefusesFiles, RefusesOtherOptions, FeaturesAreAsked, NothingIsAsked, ExamplesAreAsked}
 use Rattle.ck_command_line.specs.Asked.{all_words, usages, named_options, examples, mistakes, help_calls, is_option, words_of_line}
-use Rattle.ck_command_line.proofs.Leaves.{LineAnswers, leaf, gate_words, audit_words, cases_words, differs_words, results_words, parse_words, compile_words}
+use Rattle.ck_command_line.proofs.Leaves.{LineAnswers, leaf, gate_words, audit_words, cases_words, results_words, parse_words, compile_words}
 use Rattle.ck_command_line.proofs.Gate.{gate_takes}
-use Rattle.ck_command_line.proofs.AuditOptions.{audit_takes, differs_takes}
+use Rattle.ck_command_line.proofs.AuditOptions.{audit_takes}
 use Rattle.ck_command_line.proofs.CasesOptions.{cases_takes}
 use Rattle.ck_command_line.proofs.Options.{answers, results_takes}
 use Rattle.ck_command_line.proofs.Plain.{plain}
@@ -43,11 +43,8 @@ options_are_taken = (
     (
       λ options h k. ask (codes "cases" ∷ all_words options) _ (cases_words (all_words options) _ (answers _ _ _ (cases_takes options h k))),
       (
-        λ options h k. ask (codes "differs" ∷ all_words options) _ (differs_words (all_words options) _ (answers _ _ _ (differs_takes options h k))),
-        (
-          λ options h k. ask (codes "results" ∷ all_words options) _ (results_words (all_words options) _ (answers _ _ _ (results_takes options h k))),
-          tt,
-        ),
+        λ options h k. ask (codes "results" ∷ all_words options) _ (results_words (all_words options) _ (answers _ _ _ (results_takes options h k))),
+        tt,
       ),
     ),
   ),
@@ -67,11 +64,8 @@ files_are_refused = (
         (
           λ word plain_word options k others. ask (codes "cases" ∷ all_words options ++ word ∷ others) None (cases_words (all_words options ++ word ∷ others) None (file_is_refused (leaf cases_command) cases_leaf options k word plain_word others)),
           (
-            λ word plain_word options k others. ask (codes "differs" ∷ all_words options ++ word ∷ others) None (differs_words (all_words options ++ word ∷ others) None (file_is_refused (leaf differs_command) (leaf_like_audit (codes "differs")) options k word plain_word others)),
-            (
-              λ word plain_word options k others. ask (codes "results" ∷ all_words options ++ word ∷ others) None (results_words (all_words options ++ word ∷ others) None (file_is_refused (leaf results_command) results_leaf options k word plain_word others)),
-              tt,
-            ),
+            λ word plain_word options k others. ask (codes "results" ∷ all_words options ++ word ∷ others) None (results_words (all_words options ++ word ∷ others) None (file_is_refused (leaf results_command) results_leaf options k word plain_word others)),
+            tt,
           ),
         ),
       ),
@@ -128,11 +122,8 @@ other_options_are_refused = (
         (
           λ word name value long h options k others. ask (codes "cases" ∷ all_words options ++ word ∷ others) None (cases_words (all_words options ++ word ∷ others) None (option_is_refused (leaf cases_command) cases_leaf options k word name value long (not_cases name h.0 h.1.0 h.1.1.0 h.1.1.1.0 h.1.1.1.1.0) others)),
           (
-            λ word name value long h options k others. ask (codes "differs" ∷ all_words options ++ word ∷ others) None (differs_words (all_words options ++ word ∷ others) None (option_is_refused (leaf differs_command) (leaf_like_audit (codes "differs")) options k word name value long (not_audit name h.0 h.1.0 h.1.1.0 h.1.1.1.0) others)),
-            (
-              λ word name value long h options k others. ask (codes "results" ∷ all_words options ++ word ∷ others) None (results_words (all_words options ++ word ∷ others) None (option_is_refused (leaf results_command) results_leaf options k word name value long (not_results name h.0 h.1.0) others)),
-              tt,
-            ),
+            λ word name value long h options k others. ask (codes "results" ∷ all_words options ++ word ∷ others) None (results_words (all_words options ++ word ∷ others) None (option_is_refused (leaf results_command) results_leaf options k word name value long (not_results name h.0 h.1.0) others)),
+            tt,
           ),
         ),
       ),
@@ -150,15 +141,15 @@ no_uri = (refl, refl)
 
 -- a word that is no option and none of the names
 stray_word : (word : Text) (others : List Text) → is_option word ≡ false → bytes_eq (codes "help") word ≡ false → bytes_eq (codes "parse") word ≡ false → bytes_eq (codes "compile") word ≡ false
-    → bytes_eq (codes "gate") word ≡ false → bytes_eq (codes "audit") word ≡ false → bytes_eq (codes "cases") word ≡ false → bytes_eq (codes "differs") word ≡ false → bytes_eq (codes "results") word ≡ false
+    → bytes_eq (codes "gate") word ≡ false → bytes_eq (codes "audit") word ≡ false → bytes_eq (codes "cases") word ≡ false → bytes_eq (codes "results") word ≡ false
     → LineAnswers (word ∷ others) None
 unfolding command_of is_help_call bundle_met walked flags_fault walk_fault defaults_fault
-stray_word word others plain_word h p m g a k d r = let v = plain word plain_word in rw (p, m, g, a, k, d, r, h, v.0, v.1, v.2) (refl, refl)
+stray_word word others plain_word h p m g a k r = let v = plain word plain_word in rw (p, m, g, a, k, r, h, v.0, v.1, v.2) (refl, refl)
 
 no_command : (word : Text) (others : List Text) → is_option word ≡ false → codes "help" ≢ word → AllByRecursion (λ command. command.0 ≢ word) named_options → LineAnswers (word ∷ others) None
 no_command word others plain_word help h =
     stray_word word others plain_word (differ (codes "help") word help) (differ (codes "parse") word h.0) (differ (codes "compile") word h.1.0) (differ (codes "gate") word h.1.1.0)
-    (differ (codes "audit") word h.1.1.1.0) (differ (codes "cases") word h.1.1.1.1.0) (differ (codes "differs") word h.1.1.1.1.1.0) (differ (codes "results") word h.1.1.1.1.1.1.0)
+    (differ (codes "audit") word h.1.1.1.0) (differ (codes "cases") word h.1.1.1.1.0) (differ (codes "results") word h.1.1.1.1.1.0)
 
 help_word : (others : List Text) → (command_of (codes "cukecheck" ∷ codes "help" ∷ others) ≡ None) × (is_help_call (codes "cukecheck" ∷ codes "help" ∷ others) ≡ true)
 unfolding command_of is_help_call bundle_met walked flags_fault walk_fault defaults_fault

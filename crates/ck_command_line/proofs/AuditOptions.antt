@@ -9,7 +9,7 @@ use Rattle.clap.specs.Simple.{Shape}
 use Rattle.clap.specs.Faults.{flags_fault, walk_fault}
 use Rattle.cm_attempt.specs.declared.settings.Settings.{Settings}
 use Rattle.cm_stream.specs.Release.{Conditions}
-use Rattle.ck_command_line.specs.CommandLine.{Command, ask_audit, ask_differs, command_like_audit, command_named, is_given, settings_in}
+use Rattle.ck_command_line.specs.CommandLine.{Command, ask_audit, command_like_audit, command_named, is_given, settings_in}
 use Rattle.ck_command_line.specs.Asked.{Written, allow_unrun, allow_unrun_tagged, no_retries, no_skips, no_stepless, no_undefined, strict, as_json, pending_passes, attempts_from, allow_redeclared}
 use Rattle.ck_command_line.specs.Asked.{IsPlain, all_words, are_distinct, command_asked_with, has_name, is_there, number_of, settings_written, usage_like_audit}
 use Rattle.ck_command_line.proofs.Between.{between}
@@ -117,6 +117,3 @@ Reads s words command = (faults s words ≡ []) × (command_named s.name (rows_a
 module _ (options : List Written) (d : are_distinct own_names options ≡ true) (k : AllByRecursion IsPlain options) where
   pub audit_takes : Reads (leaf (command_like_audit (codes "audit"))) (all_words options) (command_asked_with (usage_like_audit (codes "audit") ask_audit) options)
   audit_takes = (no_faults (codes "audit") options d k, ap (option_map ask_audit) (settings_read (codes "audit") options d k) ∙ sym (asked_with (codes "audit") ask_audit options d))
-
-  pub differs_takes : Reads (leaf (command_like_audit (codes "differs"))) (all_words options) (command_asked_with (usage_like_audit (codes "differs") ask_differs) options)
-  differs_takes = (no_faults (codes "differs") options d k, ap (option_map ask_differs) (settings_read (codes "differs") options d k) ∙ sym (asked_with (codes "differs") ask_differs options d))

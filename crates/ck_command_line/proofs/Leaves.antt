@@ -10,7 +10,7 @@ use Rattle.clap.specs.Faults.{defaults_fault, flags_fault, level_fault, walk_fau
 use Rattle.clap.proofs.WalkLemmas.{walk_stopped}
 use Rattle.clap.proofs.FaultLemmas.{stopped_fault}
 use Rattle.ck_command_line.specs.CommandLine.{Command, command_app, command_of, command_named, is_help, is_help_call, subcommand_named, where_none}
-use Rattle.ck_command_line.specs.CommandLine.{gate_command, audit_command, cases_command, differs_command, results_command, compile_command, parse_command}
+use Rattle.ck_command_line.specs.CommandLine.{gate_command, audit_command, cases_command, results_command, compile_command, parse_command}
 
 -- the program, built
 abbrev program : App
@@ -86,17 +86,6 @@ module _ (others : List Text) where
 
   pub cases_words : (command : Option Command) → Answers (leaf cases_command) others command → LineAnswers (codes "cases" ∷ others) command
   cases_words = passed_on (leaf cases_command) cases_fault cases_rows
-
-  differs_fault : fault_of command_app (codes "cukecheck" ∷ codes "differs" ∷ others) ≡ faults (leaf differs_command) others
-  unfolding bundle_met walked flags_fault walk_fault defaults_fault
-  differs_fault = rw (left (codes "differs"), no_fault (codes "differs")) refl
-
-  differs_rows : subcommand_of command_app (codes "cukecheck" ∷ codes "differs" ∷ others) ≡ Some (codes "differs", rows_after (leaf differs_command).rules [] others)
-  unfolding walked
-  differs_rows = ap (λ (w : Walk). entered program w.stopped) (left (codes "differs"))
-
-  pub differs_words : (command : Option Command) → Answers (leaf differs_command) others command → LineAnswers (codes "differs" ∷ others) command
-  differs_words = passed_on (leaf differs_command) differs_fault differs_rows
 
   results_fault : fault_of command_app (codes "cukecheck" ∷ codes "results" ∷ others) ≡ faults (leaf results_command) others
   unfolding bundle_met walked flags_fault walk_fault defaults_fault

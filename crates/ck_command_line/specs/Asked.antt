@@ -12,7 +12,7 @@ use Rattle.cm_attempt.specs.Settings.{settings_of}
 use Rattle.cm_attempt.specs.declared.settings.Settings.{Settings}
 use Rattle.cm_stream.specs.Release.{Conditions, each_runs, strict_conditions}
 use Rattle.ck_command_line.specs.CommandLine.{AsksNothing, CallsForHelp, Command, command_asked_by, first_attempt_named, is_tag}
-use Rattle.ck_command_line.specs.CommandLine.{ask_audit, ask_cases, ask_compile, ask_differs, ask_gate, ask_parse}
+use Rattle.ck_command_line.specs.CommandLine.{ask_audit, ask_cases, ask_compile, ask_gate, ask_parse}
 use Rattle.ck_command_line.specs.CommandLine.{ask_results, asks_for_help}
 use Rattle.ck_command_line.specs.declared.command_line.CaseForm.{CaseForm}
 use Rattle.ck_command_line.specs.declared.command_line.CaseForm.TheVariants.{Plain, Json}
@@ -208,7 +208,7 @@ results_usage = record {
 abbrev pub usages : List Usage
 usages =
     gate_usage ∷ usage_like_audit (codes "audit") ask_audit ∷ cases_usage
-    ∷ usage_like_audit (codes "differs") ask_differs ∷ results_usage ∷ []
+    ∷ results_usage ∷ []
 
 -- what a command with these options asks for
 abbrev pub command_asked_with : Usage → List Written → Option Command
@@ -353,7 +353,6 @@ examples =
       codes "cases --json --allow-redeclared",
       ask_cases (allowing_redeclared (settings_by Strict 0)) Json,
     )
-    ∷ (codes "differs --attempts-from 1", ask_differs (settings_by Strict 1))
     ∷ (codes "results --attempts-from 1", ask_results 1)
     ∷ (codes "parse", ask_parse)
     ∷ (codes "compile --uri a.feature", ask_compile (codes "a.feature"))
@@ -392,12 +391,12 @@ mistakes =
     ∷ codes "cases --json run.ndjson"
     ∷ codes "gate --json"
     ∷ codes "audit --json"
-    ∷ codes "differs --json"
+    ∷ codes "differs"
+    ∷ codes "differs --attempts-from 1"
     ∷ codes "results --json"
     ∷ codes "parse --json"
     ∷ codes "--json cases"
     ∷ codes "results --no-skips"
-    ∷ codes "differs --allow-unrun-tagged @wip"
     ∷ codes "results --pending-passes"
     ∷ codes "results --allow-redeclared"
     ∷ codes "audit --allow-redeclared --allow-redeclared"

@@ -34,7 +34,6 @@ pub data Command : Type 0 where
   ask_gate : Settings → Conditions → Command
   ask_results : ℕ → Command
   ask_cases : Settings → CaseForm → Command
-  ask_differs : Settings → Command
 
 -- the command, as the code holds it
 abbrev pub command_of_choice : Choice → Command
@@ -44,7 +43,6 @@ command_of_choice (choice.Audit settings) = ask_audit settings
 command_of_choice (choice.Gate settings asked) = ask_gate settings (conditions_of asked)
 command_of_choice (choice.Results first_attempt) = ask_results first_attempt
 command_of_choice (choice.Cases settings form) = ask_cases settings form
-command_of_choice (choice.Differs settings) = ask_differs settings
 
 -- `--uri URI`, which must be given; its value has one name
 abbrev pub uri_rule : Rule
@@ -119,9 +117,6 @@ audit_command = command_like_audit (codes "audit")
 abbrev pub cases_command : App
 cases_command = with_rules (with_rule (new_app (codes "cases")) json_rule) settings_rules
 
-abbrev pub differs_command : App
-differs_command = command_like_audit (codes "differs")
-
 -- the command `results [--attempts-from N]`
 abbrev pub results_command : App
 results_command = with_rule (new_app (codes "results")) attempts_rule
@@ -143,8 +138,8 @@ bare_app =
 -- the commands, in the order in which `--help` lists them
 abbrev pub commands : List App
 commands =
-    gate_command ∷ audit_command ∷ cases_command ∷ differs_command ∷ results_command
-    ∷ parse_command ∷ compile_command ∷ []
+    gate_command ∷ audit_command ∷ cases_command ∷ results_command ∷ parse_command
+    ∷ compile_command ∷ []
 
 -- the program with these commands, one added after another
 abbrev pub with_commands : App → List App → App
@@ -246,7 +241,6 @@ command_named name rows =
     else if bytes_eq name (codes "gate") then gate_asked (settings_in rows) (conditions_in rows)
     else if bytes_eq name (codes "results") then option_map ask_results (first_attempt_in rows)
     else if bytes_eq name (codes "cases") then cases_asked (settings_in rows) (form_in rows)
-    else if bytes_eq name (codes "differs") then option_map ask_differs (settings_in rows)
     else None
 
 abbrev pub subcommand_named : Option (Text × List Row) → Option Command

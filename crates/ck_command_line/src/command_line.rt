@@ -6,7 +6,7 @@ ghost use Rattle.clap.specs.declared.builder.command.Command.TheViews.{out-Comma
 ghost use Rattle.ck_command_line.specs.CommandLine.{HelpsByKind, HelpsOnCall, IsNoHelp};
 ghost use Rattle.ck_command_line.specs.CommandLine.{Chooses, command_of_choice, attempts_rule, audit_command, bare_app, cases_command};
 ghost use Rattle.ck_command_line.specs.CommandLine.{cases_asked, form_in, json_rule};
-ghost use Rattle.ck_command_line.specs.CommandLine.{command_app, command_named, command_of, compile_command, differs_command};
+ghost use Rattle.ck_command_line.specs.CommandLine.{command_app, command_named, command_of, compile_command};
 ghost use Rattle.ck_command_line.specs.CommandLine.{Gives, conditions_in, first_attempt_in, is_tag, tagged_rule, tags_allowed};
 ghost use Rattle.ck_command_line.specs.CommandLine.{flag_rule, gate_command, is_given, subcommand_named, parse_command, policy_in, results_command};
 ghost use Rattle.ck_command_line.specs.CommandLine.{settings_in, settings_rules, uri_rule, with_rules};
@@ -43,8 +43,6 @@ pub enum Choice<'a> {
     Results(u64),
     /// The lines of the test cases of a good stream, by these settings, in this form.
     Cases(Settings, CaseForm),
-    /// The verdict on a stream, by these settings, and what differs from its sources.
-    Differs(Settings),
 }
 
 /// Why the words give no choice.
@@ -211,21 +209,6 @@ fn cases_command<'a>(alloc: Global) -> Result<Command<'a>, AllocError>
     with_settings(alloc, command)
 }
 
-/// `differs [--pending-passes] [--attempts-from N] [--allow-redeclared]`.
-fn differs_command<'a>(alloc: Global) -> Result<Command<'a>, AllocError>
-    ensures app { IfOk result (λ c. app_of c ≡ differs_command) }
-    ensures local { IfOk result (λ c. (fields_of c).has_globals ≡ false) }
-{
-    let command = new_command(
-        alloc,
-        "differs",
-        help::DIFFERS,
-        help::DIFFERS_USAGE,
-        help::AFTER_DIFFERS,
-    );
-    with_settings(alloc, command)
-}
-
 /// `results [--attempts-from N]`.
 fn results_command<'a>(alloc: Global) -> Result<Command<'a>, AllocError>
     ensures app { IfOk result (λ c. app_of c ≡ results_command) }
@@ -293,8 +276,7 @@ fn command<'a>(alloc: Global) -> Result<Command<'a>, AllocError>
     let with_gate = bare.subcommand(gate_command(alloc)?)?;
     let with_audit = with_gate.subcommand(audit_command(alloc)?)?;
     let with_cases = with_audit.subcommand(cases_command(alloc)?)?;
-    let with_differs = with_cases.subcommand(differs_command(alloc)?)?;
-    let with_results = with_differs.subcommand(results_command(alloc)?)?;
+    let with_results = with_cases.subcommand(results_command(alloc)?)?;
     let with_parse = with_results.subcommand(parse_command(alloc))?;
     with_parse.subcommand(compile_command(alloc)?)
 }
@@ -477,9 +459,6 @@ fn choice_named<'a>(
     if name == "cases" {
         let settings = settings_in(values)?;
         return Ok(Choice::Cases(settings, form_in(values)));
-    }
-    if name == "differs" {
-        return Ok(Choice::Differs(settings_in(values)?));
     }
     Err(NoChoice::NoCommand)
 }

@@ -17,11 +17,11 @@ pub(crate) const AFTER_PROGRAM: &str =
 Exit status:
   0  done; by gate: the stream is a true report, and its run is to be released;
      by audit: the stream is a true report, whether its tests passed or failed
-  1  gate, audit, cases, differs, results: the stream is bad;
+  1  gate, audit, cases, results: the stream is bad;
      parse, compile: the feature file is refused
   2  a mistake in the words
   3  trouble: a read or a write failed, the input is too long or no UTF-8, or there is no memory
-  4  gate, audit, cases, differs: the stream isn't judged
+  4  gate, audit, cases: the stream isn't judged
   5  gate: the report is true, and the run isn't to be released
 
 `cukecheck COMMAND --help` says what a command reads and prints.";
@@ -155,9 +155,12 @@ Prints the line that `audit` prints, and a second one where the report is true:
   stop Skipped               A step of a case's last attempt was skipped (with --no-skips).
   stop Stepless              A test case is of a pickle without steps (with --no-stepless).
   stop Undefined             A step passed that no step definition matches (with --no-undefined).
-Where more than one of these holds, the second line has the first of them. Below it stand the
-scenarios that are unrun, retried, skipped or stepless, as `cukecheck cases` shows them; and below
-a line `bad` or `unsupported` the id, the uri or the scenario that it is about, where one is told.
+Where more than one of these holds, the second line has the first of them. Below the answer stand
+its reasons, a line each: the id, the file, or the scenario with its attempt that a line is about;
+the step or hook that was due there, and the one that came; what the feature file has, and what the
+stream has; each scenario that is open, missing, unrun, retried, skipped or stepless, and each step
+that passed undefined; and each cause of a run without success, by its step, hook or file.
+Scenarios stand there as `cukecheck cases` shows them, and steps in the same way.
 Of a run that is to be released the second line is `release retried=R skipped=S unrun=U`: how many
 pickles have more than one attempt, how many cases have a skipped step in their last attempt, and
 how many pickles have no test case.
@@ -266,28 +269,3 @@ Of any other stream it prints the line of `audit`, with its exit status:
 
 pub(crate) const JSON: &str =
     "Each line is a JSON object, which has the tags and the number of attempts too";
-
-pub(crate) const DIFFERS: &str =
-    "Prints the verdict on a stream, and of a tree or a pickle that differs both sides.";
-
-pub(crate) const DIFFERS_USAGE: &str = "cukecheck differs [OPTIONS] < FILE";
-
-pub(crate) const AFTER_DIFFERS: &str =
-    "Reads a stream of Cucumber Messages (one JSON object a line) from standard input:
-
-  cukecheck differs < run.ndjson
-
-Prints the line of `audit`, with its exit status. Three lines more come after
-  bad line L: 8 TreeDiffers
-  bad line L: 9 PickleDiffers
-  bad line L: 20 SourceIncomplete
-  uri URI        the feature file
-  expected JSON  what its text compiles to: of a document the first node that differs, with its
-                 line; the pickle that is due; where something is missing, the document or the
-                 first pickle that is
-  found JSON     what the stream has there
-Either says `nothing` where there is none. Ids that are free are left out. In URI a backslash is
-`\\\\`; \\b, \\t, \\n, \\f and \\r are written so, and in both each other character that could break,
-turn or hide the line as \\u and four hexadecimal digits; in JSON so are white space other than the
-space, and what has no width.
-`cukecheck audit --help` explains the numbers and names.";

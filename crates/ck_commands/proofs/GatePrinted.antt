@@ -7,7 +7,6 @@ use Rattle.cm_envelope.specs.Device.{CountsFailure, Input, OfReads}
 use Rattle.cm_envelope.specs.declared.envelope.Envelope.{Envelope}
 use Rattle.cm_envelope.specs.declared.feed.Trouble.{Trouble}
 use Rattle.cm_envelope.specs.declared.feed.Trouble.TheVariants.{ReadFailed, LineTooLong, StreamTooLong, Memory}
-use Rattle.cm_reasons.specs.Reasons.{AreReasons}
 use Rattle.cm_stream.specs.References.{run_succeeded}
 use Rattle.cm_stream.specs.Release.{Conditions, hold_of, release_counts_of}
 use Rattle.cm_stream.specs.Findings.{Finding, IsBad, IsUnsupported, stream_fault_named}
@@ -20,6 +19,7 @@ use Rattle.cm_stream.proofs.ByGrammar.{is_first, reported}
 use Rattle.cm_stream.proofs.Streams.{read_is_told}
 use Rattle.cm_audit.specs.Audit.{AnswersTold, GoodAtEnd, GoodAtEndIn, IsAuditOf}
 use Rattle.cm_envelope.specs.Feeds.{is_failed_read}
+use Rattle.cm_audit_release.specs.Reasons.{AreReasons}
 use Rattle.cm_audit_release.specs.ReleaseAudit.{CountsGood, IsReleaseAuditOf, audited_in}
 use Rattle.cm_audit_release.specs.declared.audited_release.AuditedRelease.{AuditedRelease}
 use Rattle.ck_command_line.specs.CommandLine.{ask_gate}

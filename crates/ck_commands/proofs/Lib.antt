@@ -1,7 +1,6 @@
 pub mod Answered
 pub mod CasesPrinted
 pub mod Compiles
-pub mod DiffersPrinted
 pub mod Lines
 pub mod Printing
 pub mod TextLemmas

@@ -1,5 +1,5 @@
 -- What the status of a run says, from the report that was delivered.
-use Rattle.std.proofs.Common.{◌≡◌, ◌≢◌, ◌∙◌, ◌⊎◌, ◌++◌, [], ℕ, List, Option, Some, None, Result, Ok, Err, Bool, true, inl, inr, refl, sym, ap, subst, append-nil}
+use Rattle.std.proofs.Common.{◌≡◌, ◌≢◌, ◌∙◌, ◌⊎◌, ◌++◌, [], ℕ, List, Option, Some, None, Result, Ok, Err, Bool, true, inl, inr, refl, sym, ap, subst}
 use Rattle.cm_envelope.specs.Device.{Input, OfInput, OfReads, Output, Writes}
 use Rattle.cm_envelope.proofs.Sources.{input_weaker, of_any, of_reads, reads_weaker, whole_of}
 use Rattle.cm_envelope.specs.declared.feed.Trouble.TheVariants.{Memory, ReadFailed}
@@ -14,12 +14,9 @@ use Rattle.cm_stream.specs.declared.verdict.Hold.{Hold}
 use Rattle.cm_stream.specs.declared.verdict.Verdict.{Verdict}
 use Rattle.cm_stream.specs.declared.verdict.Verdict.TheVariants as verdict
 use Rattle.cm_stream.proofs.Released.{released_is_not_held}
-use Rattle.cm_audit_differs.specs.DifferenceAudit.{DiffersBy}
-use Rattle.cm_differs.specs.declared.difference.Difference.{Difference}
-use Rattle.ck_command_line.specs.CommandLine.{Command, ask_audit, ask_cases, ask_compile, ask_differs, ask_gate, ask_parse, ask_results}
+use Rattle.ck_command_line.specs.CommandLine.{Command, ask_audit, ask_cases, ask_compile, ask_gate, ask_parse, ask_results}
 use Rattle.ck_command_line.specs.declared.command_line.CaseForm.{CaseForm}
 use Rattle.ck_commands.specs.Cases.{ListsOrTells, PrintsListed}
-use Rattle.ck_commands.specs.Differs.{PrintsBadDifference, difference_lines, differs_report}
 use Rattle.ck_commands.specs.Features.{IsFeatureOf, fault_report, parse_report}
 use Rattle.ck_commands.specs.Gate.{PrintsBadWhy, PrintsReleased, ReleasesOrTells, held_status, second_line}
 use Rattle.ck_commands.specs.Output.{Breaks, Delivers, DeliversOne, NoneFailed, Prints, Report, code_of, trouble_report}
@@ -109,24 +106,6 @@ module _ (settings : Settings) (code : ℕ) (before after : Output) where
   not_listed form bytes a (verdict.Bad n b) r is h none p one = (n, b, none, subst (Writes before after) (ap (λ (x : Report). x.text) h ∙ rw is refl) p.written)
   not_listed form bytes a (verdict.Unsupported n u) r is h none p one = absurd (not_both 4 1 code (p.status ∙ ap (λ (x : Report). code_of x.status) h ∙ rw is refl) one (λ e. cc))
 
-  -- ---- differences
-
-  good_differs : (bytes : List ℕ) (v : Verdict) (success : Bool) (d : Option Difference) → GoodRunIn settings bytes v success → DiffersBy settings bytes v d
-      → Prints (differs_report d (answer_of_audit (Ok (record { verdict = v; success = success })))) code before after → code ≡ 0 → PrintsGood settings before after bytes
-  good_differs bytes (verdict.Good counts) success d run none p zero = (
-    counts,
-    (success, run),
-    subst (Writes before after) (ap (λ (o : Option Difference). counts_text counts ++ difference_lines o) none ∙ append-nil (counts_text counts)) p.written,
-  )
-  good_differs bytes (verdict.Bad n b) success d run h p zero = absurd (not_both 1 0 code p.status zero (λ e. cc))
-  good_differs bytes (verdict.Unsupported n r) success d run h p zero = absurd (not_both 4 0 code p.status zero (λ e. cc))
-
-  bad_differs : (bytes : List ℕ) (v : Verdict) (success : Bool) (d : Option Difference) → NoneIsGood settings bytes (Ok v) → DiffersBy settings bytes v d
-      → Prints (differs_report d (answer_of_audit (Ok (record { verdict = v; success = success })))) code before after → code ≡ 1 → PrintsBadDifference settings before after bytes
-  bad_differs bytes (verdict.Good counts) success d none h p one = absurd (not_both 0 1 code p.status one (λ e. cc))
-  bad_differs bytes (verdict.Bad n b) success d none h p one = (n, b, none, d, h, p.written)
-  bad_differs bytes (verdict.Unsupported n r) success d none h p one = absurd (not_both 4 1 code p.status one (λ e. cc))
-
 -- ---- features and results
 
 module _ (code : ℕ) (before after : Output) where
@@ -184,7 +163,6 @@ done_of (ask_audit s) bytes rest r code before after t p zero = good s code befo
 done_of (ask_gate s asked) bytes rest r code before after t p zero = released s asked code before after bytes t.0 t.0.verdict r refl t.2 p zero
 done_of (ask_results n) bytes rest r code before after t p zero = results code before after n bytes (first_results_fault n bytes) refl (subst (Printed code before after) t p) zero
 done_of (ask_cases s form) bytes rest r code before after t p zero = listed s code before after form bytes t.0 t.0.verdict r refl t.2 p zero
-done_of (ask_differs s) bytes rest r code before after t p zero = good_differs s code before after bytes t.0.verdict t.0.success t.2.0 t.1.good t.2.1 (subst (Printed code before after) t.2.2 p) zero
 
 bad_of : (c : Command) (bytes rest : List ℕ) (r : Report) (code : ℕ) (before after : Output) → Tells c bytes rest r → Prints r code before after → code ≡ 1 → IsBadFor c before after bytes
 bad_of ask_parse bytes rest r code before after t p one = no_document code before after bytes t.0 t.1 (subst (Printed code before after) t.2 p) one
@@ -193,7 +171,6 @@ bad_of (ask_audit s) bytes rest r code before after t p one = bad s code before 
 bad_of (ask_gate s asked) bytes rest r code before after t p one = not_released s asked code before after bytes t.0 t.0.verdict r refl t.2 t.1.bad p one
 bad_of (ask_results n) bytes rest r code before after t p one = no_results code before after n bytes (first_results_fault n bytes) refl (subst (Printed code before after) t p) one
 bad_of (ask_cases s form) bytes rest r code before after t p one = not_listed s code before after form bytes t.0 t.0.verdict r refl t.2 t.1.bad p one
-bad_of (ask_differs s) bytes rest r code before after t p one = bad_differs s code before after bytes t.0.verdict t.0.success t.2.0 t.1.bad t.2.1 (subst (Printed code before after) t.2.2 p) one
 
 -- ---- a run
 

@@ -2,6 +2,7 @@
 use Rattle.std.specs.Prelude.{◌≡◌, ◌<◌, ◌≤◌, ◌⊎◌, ⊤, ℕ, List, [], ◌∷◌, ◌++◌, length, Bool, true, false, Result, Ok, Err, codes, decimal}
 use Rattle.std.specs.Str.{IsUtf8}
 use Rattle.cm_envelope.specs.Lines.{line_feed}
+use Rattle.cm_reasons.specs.Words.{kind_label}
 use Rattle.gk_grammar.specs.Documents.{IsDocumentOf, HasFault, IsTooLong, max_bytes}
 use Rattle.gk_grammar.specs.Tree.{Document}
 use Rattle.gk_grammar.specs.declared.fault.FaultKind.{FaultKind}
@@ -49,16 +50,6 @@ IsFeatureOf bytes (Ok d) = IsReadableText bytes × IsDocumentOf bytes d
 IsFeatureOf bytes (Err fault) = IsFaultOf bytes fault
 
 -- ---- what is printed of it
-
--- the number and the name of a fault's kind
-abbrev pub kind_label : FaultKind → List ℕ
-kind_label kind.Unexpected = codes "1 Unexpected"
-kind_label kind.TagSpace = codes "2 TagSpace"
-kind_label kind.CellCount = codes "3 CellCount"
-kind_label kind.UnsupportedLanguage = codes "4 UnsupportedLanguage"
-kind_label kind.UnexpectedEnd = codes "5 UnexpectedEnd"
-kind_label kind.TooLong = codes "6 TooLong"
-kind_label kind.Memory = codes "7 Memory"
 
 -- `refused L:C N Name`
 abbrev pub refused_text : ParseFault → List ℕ

@@ -16,13 +16,10 @@ use Rattle.cm_stream.specs.Results.{first_results_fault, results_of}
 use Rattle.cm_stream.specs.Stream.{At, FirstFault, IsFirstFault, NoFault, answer_for, answer_of_audit}
 use Rattle.cm_stream.specs.declared.verdict.Audited.{Audited}
 use Rattle.cm_audit.specs.Audit.{IsAuditOf, ShowNoFault}
-use Rattle.cm_audit_differs.specs.DifferenceAudit.{DiffersBy}
-use Rattle.cm_differs.specs.declared.difference.Difference.{Difference}
-use Rattle.ck_command_line.specs.CommandLine.{Command, CallsForHelp, ask_audit, ask_cases, ask_compile, ask_differs, ask_gate, ask_parse, ask_results}
+use Rattle.ck_command_line.specs.CommandLine.{Command, CallsForHelp, ask_audit, ask_cases, ask_compile, ask_gate, ask_parse, ask_results}
 use Rattle.ck_command_line.specs.declared.command_line.Refusal.{Refusal}
 use Rattle.ck_command_line.specs.declared.command_line.Refusal.TheVariants as refusal
 use Rattle.ck_commands.specs.Cases.{ListsOrTells, PrintsListed, cases_report}
-use Rattle.ck_commands.specs.Differs.{IsDifferenceOf, PrintsBadDifference, differs_report}
 use Rattle.ck_commands.specs.Features.{IsFaultOf, IsFeatureOf, IsReadableText, IsRefusedFeature, document_text, fault_report, parse_report, refused_text}
 use Rattle.ck_commands.specs.Gate.{IsGateReport, PrintsBadWhy, PrintsReleased, ReleasesOrTells}
 use Rattle.ck_commands.specs.Output.{DeliversOne, NoneFailed, Prints, Report, code_of, trouble_report}
@@ -50,13 +47,6 @@ abbrev pub ReportsFirst : (FirstFault → Report) → Settings → List ℕ → 
 ReportsFirst report settings bytes r =
     (first : FirstFault) × IsFirstFault settings bytes first × (r ≡ report first)
 
--- that, with the difference at the fault
-abbrev pub ReportsDiffering : Settings → List ℕ → Report → Type 0
-ReportsDiffering settings bytes r =
-    (first : FirstFault) × IsFirstFault settings bytes first
-    × (d : Option Difference) × IsDifferenceOf settings bytes first d
-    × (r ≡ differs_report d (answer_for first))
-
 -- that of a gate
 abbrev pub ReportsGate : Settings → Conditions → List ℕ → Report → Type 0
 ReportsGate settings asked bytes r =
@@ -72,7 +62,6 @@ Reports (ask_audit s) bytes r = ReportsFirst (λ first. verdict_report (answer_f
 Reports (ask_gate s asked) bytes r = ReportsGate s asked bytes r
 Reports (ask_results n) bytes r = r ≡ results_report (first_results_fault n bytes)
 Reports (ask_cases s form) bytes r = ReportsFirst (cases_report form) s bytes r
-Reports (ask_differs s) bytes r = ReportsDiffering s bytes r
 
 -- ---- what a status says, whatever failed
 
@@ -80,12 +69,6 @@ Reports (ask_differs s) bytes r = ReportsDiffering s bytes r
 abbrev pub ReportsAudit : (Audited → Report → Type 0) → Settings → (bytes rest : List ℕ) → Report
     → Type 0
 ReportsAudit P s bytes rest r = (a : Audited) × IsAuditOf s (Ok a) bytes rest × P a r
-
--- a report of a verdict with its difference
-abbrev pub TellsDifference : Settings → List ℕ → Audited → Report → Type 0
-TellsDifference s bytes a r =
-    (d : Option Difference) × DiffersBy s bytes a.verdict d
-    × (r ≡ differs_report d (answer_of_audit (Ok a)))
 
 -- with a status other than 3: the report, and for an audit all that is said of audits, also how far it was read
 abbrev pub Tells : Command → (bytes rest : List ℕ) → Report → Type 0
@@ -95,7 +78,6 @@ Tells (ask_gate s asked) bytes rest r =
     ReportsAudit (λ a r. ReleasesOrTells s asked bytes a a.verdict r) s bytes rest r
 Tells (ask_cases s form) bytes rest r =
     ReportsAudit (λ a r. ListsOrTells s form bytes a a.verdict r) s bytes rest r
-Tells (ask_differs s) bytes rest r = ReportsAudit (TellsDifference s bytes) s bytes rest r
 Tells c bytes rest r = Reports c bytes r
 
 abbrev pub PrintsDocument : (before after : Output) → List ℕ → Type 0
@@ -121,7 +103,6 @@ IsDone (ask_audit s) before after bytes = PrintsGood s before after bytes
 IsDone (ask_gate s asked) before after bytes = PrintsReleased s asked before after bytes
 IsDone (ask_results n) before after bytes = PrintsResults n before after bytes
 IsDone (ask_cases s form) before after bytes = PrintsListed s form before after bytes
-IsDone (ask_differs s) before after bytes = PrintsGood s before after bytes
 
 abbrev pub PrintsRefused : (before after : Output) → List ℕ → Type 0
 PrintsRefused before after bytes =
@@ -140,7 +121,6 @@ IsBadFor (ask_audit s) before after bytes = PrintsBad s before after bytes
 IsBadFor (ask_gate s asked) before after bytes = PrintsBadWhy s before after bytes
 IsBadFor (ask_results n) before after bytes = PrintsFault n before after bytes
 IsBadFor (ask_cases s form) before after bytes = PrintsBad s before after bytes
-IsBadFor (ask_differs s) before after bytes = PrintsBadDifference s before after bytes
 
 -- What the status of a command says of the bytes heard from one state of its source to a later one.
 pub record IsRight (c : Command) (code : ℕ) (i j : Input) (before after : Output) : Type 0 where
@@ -158,7 +138,6 @@ abbrev pub ShowsNone : Command → (bytes rest : List ℕ) → Type 0
 ShowsNone (ask_audit s) bytes rest = ShowNoFault s bytes rest
 ShowsNone (ask_gate s asked) bytes rest = ShowNoFault s bytes rest
 ShowsNone (ask_cases s form) bytes rest = ShowNoFault s bytes rest
-ShowsNone (ask_differs s) bytes rest = ShowNoFault s bytes rest
 ShowsNone (ask_results n) bytes rest = ResultsShowNoFault n bytes rest
 ShowsNone c bytes rest = ⊤
 

@@ -8,7 +8,6 @@ ghost use Rattle.ck_commands.specs.Run.{IsRefusal, IsRight, Reports, Runs, Shows
 use crate::command_audit::print_audit;
 use crate::command_cases::print_cases;
 use crate::command_compile::print_compiled;
-use crate::command_differs::print_differs;
 use crate::command_gate::print_gate;
 use crate::command_parse::print_feature;
 use crate::command_results::print_results;
@@ -47,7 +46,6 @@ fn run_choice<R: ByteSource, W: ByteSink>(
         }
         Choice::Results(first_attempt) => print_results(alloc, first_attempt, source, sink),
         Choice::Cases(settings, form) => print_cases(alloc, settings, form, source, sink),
-        Choice::Differs(settings) => print_differs(alloc, settings, source, sink),
     }
 }
 

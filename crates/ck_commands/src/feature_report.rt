@@ -1,29 +1,14 @@
 //! The report of a feature file that gives no document.
 ghost use Rattle.std.specs.Prelude.{◌≡◌, IfOk, string_bytes};
-ghost use Rattle.ck_commands.specs.Features.{fault_report, kind_label, refused_text};
+ghost use Rattle.ck_commands.specs.Features.{fault_report, refused_text};
 ghost use Rattle.ck_commands.specs.Output.{DeliversOne};
 
 use crate::feature_input::FeatureFault;
 use crate::output::{ExitStatus, Report, trouble_text, write_report};
 use cm_envelope::{ByteSink, Trouble};
-use gk_grammar::FaultKind;
+use cm_reasons::kind_label;
 use gk_tree::ParseFault;
 use std::alloc::{AllocError, Global};
-
-/// The number and the name of a kind of fault.
-fn kind_label(kind: FaultKind) -> &'static str
-    ensures { result.now ≡ kind_label kind }
-{
-    match kind {
-        FaultKind::Unexpected => "1 Unexpected",
-        FaultKind::TagSpace => "2 TagSpace",
-        FaultKind::CellCount => "3 CellCount",
-        FaultKind::UnsupportedLanguage => "4 UnsupportedLanguage",
-        FaultKind::UnexpectedEnd => "5 UnexpectedEnd",
-        FaultKind::TooLong => "6 TooLong",
-        FaultKind::Memory => "7 Memory",
-    }
-}
 
 /// The line of a refused feature file: where its fault is, and which.
 fn refused_text(alloc: Global, fault: ParseFault) -> Result<String, AllocError>

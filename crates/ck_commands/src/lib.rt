@@ -16,7 +16,6 @@ mod attempts;
 mod command_audit;
 mod command_cases;
 mod command_compile;
-mod command_differs;
 mod command_gate;
 mod command_parse;
 mod command_results;

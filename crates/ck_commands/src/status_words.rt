@@ -3,19 +3,14 @@ ghost use Rattle.std.specs.Prelude.{◌≡◌};
 ghost use Rattle.ck_commands.specs.Statuses.{reported_word};
 
 use cm_attempt::Status;
+use cm_reasons::status_word;
 
 /// The word of a status, as the Cucumber Messages have it, and `NONE` where there is none.
 pub(crate) fn word_of(status: Option<Status>) -> &'static str
     ensures { result.now ≡ reported_word status }
 {
     match status {
-        Some(Status::Unknown) => "UNKNOWN",
-        Some(Status::Passed) => "PASSED",
-        Some(Status::Skipped) => "SKIPPED",
-        Some(Status::Pending) => "PENDING",
-        Some(Status::Undefined) => "UNDEFINED",
-        Some(Status::Ambiguous) => "AMBIGUOUS",
-        Some(Status::Failed) => "FAILED",
+        Some(status) => status_word(status),
         None => "NONE",
     }
 }

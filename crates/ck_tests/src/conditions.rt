@@ -27,7 +27,7 @@ const HELD: &str =
 const UNTAGGED: &str =
     "good sources=3 pickles=3 cases=1 attempts=1 unrun=2/stop Unrun/UNRUN b.feature:3 t/ 5 = source document pickle source_b document_b pickle_b tagged tagged_document tagged_pickle run case:c1:t1 start:a1:c1:0 step:a1:t1 end:a1:t1:PASSED done:a1:false well
 good sources=1 pickles=1 cases=0 attempts=0 unrun=1/stop Empty/ 5 = tagged tagged_document tagged_pickle run well
-good sources=1 pickles=1 cases=0 attempts=0 unrun=1/stop NotSuccessful/ 5 = tagged tagged_document tagged_pickle hook run hook_start hook_failed unwell";
+good sources=1 pickles=1 cases=0 attempts=0 unrun=1/stop NotSuccessful/RUNHOOK FAILED hook h/ 5 = tagged tagged_document tagged_pickle hook run hook_start hook_failed unwell";
 
 #[test]
 fn pickles_that_may_be_unrun_by_their_tags(rt: HostRuntime) -> Result<(), Fail> {
@@ -108,14 +108,17 @@ fn a_scenario_without_steps_that_may_be_unrun(rt: HostRuntime) -> Result<(), Fai
 
 // Definitions are absent, or an empty list; a hook needs none; a step that was skipped needs none.
 const UNDEFINED: &str =
-    "good sources=1 pickles=1 cases=1 attempts=1/stop Undefined/ 5 = source document pickle run unmatched_case start:a1:c1:0 step:a1:t1 end:a1:t1:PASSED done:a1:false well
-good sources=1 pickles=1 cases=1 attempts=1/stop Undefined/ 5 = source document pickle run case:c1:t1 start:a1:c1:0 step:a1:t1 end:a1:t1:PASSED done:a1:false well
-good sources=1 pickles=1 cases=1 attempts=2/stop Undefined/ 5 = source document pickle run case:c1:t1 start:a1:c1:0 step:a1:t1 end:a1:t1:PASSED done:a1:true start:a2:c1:1 step:a2:t1 end:a2:t1:SKIPPED done:a2:false well
+    "good sources=1 pickles=1 cases=1 attempts=1/stop Undefined/UNDEFINED a.feature:3 s step a.feature:4 a/ 5 = source document pickle run unmatched_case start:a1:c1:0 step:a1:t1 end:a1:t1:PASSED done:a1:false well
+good sources=1 pickles=1 cases=1 attempts=1/stop Undefined/UNDEFINED a.feature:3 s step a.feature:4 a/ 5 = source document pickle run case:c1:t1 start:a1:c1:0 step:a1:t1 end:a1:t1:PASSED done:a1:false well
+good sources=1 pickles=1 cases=1 attempts=2/stop Undefined/UNDEFINED a.feature:3 s step a.feature:4 a/ 5 = source document pickle run case:c1:t1 start:a1:c1:0 step:a1:t1 end:a1:t1:PASSED done:a1:true start:a2:c1:1 step:a2:t1 end:a2:t1:SKIPPED done:a2:false well
 good sources=1 pickles=1 cases=1 attempts=1/release retried=0 skipped=0 unrun=0/ 0 = source document pickle definition hook run hooked_case start:a1:c1:0 step:a1:h1 end:a1:h1:PASSED step:a1:t1 end:a1:t1:PASSED done:a1:false well
+good sources=1 pickles=1 cases=1 attempts=1/stop Undefined/UNDEFINED k.feature:4 s step k.feature:3 b/UNDEFINED k.feature:4 s step k.feature:5 a/ 5 = background background_document background_pickle run background_case start:a1:c1:0 step:a1:t1 end:a1:t1:PASSED step:a1:t2 end:a1:t2:PASSED done:a1:false well
+good sources=1 pickles=1 cases=1 attempts=1/stop Undefined/UNDEFINED k.feature:4 s step k.feature:3 b/ 5 = background background_document background_pickle run background_case start:a1:c1:0 step:a1:t1 end:a1:t1:PASSED step:a1:t2 end:a1:t2:SKIPPED done:a1:false well
+good sources=2 pickles=2 cases=2 attempts=2/stop Undefined/UNDEFINED b.feature:3 t step b.feature:4 b/ 5 = source document pickle source_b document_b pickle_b definition run matched_case case_b start:a1:c1:0 step:a1:t1 end:a1:t1:PASSED done:a1:false start:b1:c2:0 step:b1:t1 end:b1:t1:PASSED done:b1:false well
 good sources=1 pickles=1 cases=1 attempts=1/release retried=0 skipped=1 unrun=0/ 0 = source document pickle run unmatched_case start:a1:c1:0 step:a1:t1 end:a1:t1:SKIPPED done:a1:false well";
 
 const PENDING: &str =
-    "good sources=1 pickles=1 cases=1 attempts=1/stop Undefined/ 5 = source document pickle run unmatched_case start:a1:c1:0 step:a1:t1 end:a1:t1:PENDING done:a1:false well";
+    "good sources=1 pickles=1 cases=1 attempts=1/stop Undefined/UNDEFINED a.feature:3 s step a.feature:4 a/ 5 = source document pickle run unmatched_case start:a1:c1:0 step:a1:t1 end:a1:t1:PENDING done:a1:false well";
 
 #[test]
 fn runs_with_a_step_that_no_definition_matches(rt: HostRuntime) -> Result<(), Fail> {
@@ -126,12 +129,12 @@ fn runs_with_a_step_that_no_definition_matches(rt: HostRuntime) -> Result<(), Fa
 
 // Of two reasons the first is told: each two that hold together, and no third. A run without a test case has no attempt.
 const TWO_REASONS: &str =
-    "good sources=0 pickles=0 cases=0 attempts=0/stop NotSuccessful/ 5 = hook run hook_start hook_failed unwell
-good sources=2 pickles=2 cases=1 attempts=1 unrun=1/stop NotSuccessful/ 5 = source document pickle source_b document_b pickle_b run case:c1:t1 start:a1:c1:0 step:a1:t1 end:a1:t1:FAILED done:a1:false unwell
-good sources=1 pickles=1 cases=1 attempts=2/stop NotSuccessful/ 5 = source document pickle run case:c1:t1 start:a1:c1:0 step:a1:t1 end:a1:t1:FAILED done:a1:true start:a2:c1:1 step:a2:t1 end:a2:t1:FAILED done:a2:false unwell
-good sources=1 pickles=1 cases=1 attempts=1/stop NotSuccessful/ 5 = source document pickle definition hook run hooked_case start:a1:c1:0 step:a1:h1 end:a1:h1:FAILED step:a1:t1 end:a1:t1:SKIPPED done:a1:false unwell
-good sources=1 pickles=1 cases=1 attempts=1/stop NotSuccessful/ 5 = stepless stepless_document stepless_pickle hook run hooked_stepless_case start:a1:c1:0 step:a1:h1 end:a1:h1:FAILED done:a1:false unwell
-good sources=1 pickles=1 cases=1 attempts=1/stop NotSuccessful/ 5 = source document pickle hook run hook_start hook_failed unmatched_case start:a1:c1:0 step:a1:t1 end:a1:t1:PASSED done:a1:false unwell
+    "good sources=0 pickles=0 cases=0 attempts=0/stop NotSuccessful/RUNHOOK FAILED hook h/ 5 = hook run hook_start hook_failed unwell
+good sources=2 pickles=2 cases=1 attempts=1 unrun=1/stop NotSuccessful/FAILED a.feature:3 s step a.feature:4 a/ 5 = source document pickle source_b document_b pickle_b run case:c1:t1 start:a1:c1:0 step:a1:t1 end:a1:t1:FAILED done:a1:false unwell
+good sources=1 pickles=1 cases=1 attempts=2/stop NotSuccessful/FAILED a.feature:3 s step a.feature:4 a/ 5 = source document pickle run case:c1:t1 start:a1:c1:0 step:a1:t1 end:a1:t1:FAILED done:a1:true start:a2:c1:1 step:a2:t1 end:a2:t1:FAILED done:a2:false unwell
+good sources=1 pickles=1 cases=1 attempts=1/stop NotSuccessful/FAILED a.feature:3 s hook h/ 5 = source document pickle definition hook run hooked_case start:a1:c1:0 step:a1:h1 end:a1:h1:FAILED step:a1:t1 end:a1:t1:SKIPPED done:a1:false unwell
+good sources=1 pickles=1 cases=1 attempts=1/stop NotSuccessful/FAILED r.feature:5 s hook h/ 5 = stepless stepless_document stepless_pickle hook run hooked_stepless_case start:a1:c1:0 step:a1:h1 end:a1:h1:FAILED done:a1:false unwell
+good sources=1 pickles=1 cases=1 attempts=1/stop NotSuccessful/RUNHOOK FAILED hook h/ 5 = source document pickle hook run hook_start hook_failed unmatched_case start:a1:c1:0 step:a1:t1 end:a1:t1:PASSED done:a1:false unwell
 good sources=1 pickles=1 cases=0 attempts=0 unrun=1/stop Empty/ 5 = source document pickle run well
 good sources=2 pickles=2 cases=1 attempts=2 unrun=1/stop Unrun/UNRUN b.feature:3 t/ 5 = source document pickle source_b document_b pickle_b definition run matched_case start:a1:c1:0 step:a1:t1 end:a1:t1:FAILED done:a1:true start:a2:c1:1 step:a2:t1 end:a2:t1:PASSED done:a2:false well
 good sources=2 pickles=2 cases=1 attempts=1 unrun=1/stop Unrun/UNRUN b.feature:3 t/ 5 = source document pickle source_b document_b pickle_b run case:c1:t1 start:a1:c1:0 step:a1:t1 end:a1:t1:SKIPPED done:a1:false well

@@ -248,6 +248,9 @@ expected {"step":{"keyword":"Given ","location":{"line":4},"text":"a"}}
 found {"step":{"keyword":"Given ","location":{"line":5},"text":"a"}}
 "#;
 
+const NEVER_RAN: &str =
+    "good sources=1 pickles=1 cases=1 attempts=0\nstop NotSuccessful\nNONE a.feature:3 s\n";
+
 #[test]
 fn failures_of_audit(rt: HostRuntime) -> Result<(), Fail> {
     expect_stream(&rt, rt.alloc(), "audit", RETRIED, GOOD, 0)?;
@@ -273,6 +276,14 @@ fn failures_of_gate(rt: HostRuntime) -> Result<(), Fail> {
 }
 
 #[test]
+fn failures_of_a_gate_that_says_why(rt: HostRuntime) -> Result<(), Fail> {
+    let lines = "source document_moved";
+    expect_stream(&rt, rt.alloc(), "gate", lines, MOVED, 1)?;
+    let lines = "source document pickle run case:c1:t1 unwell";
+    expect_stream(&rt, rt.alloc(), "gate", lines, NEVER_RAN, 5)
+}
+
+#[test]
 fn failures_of_results(rt: HostRuntime) -> Result<(), Fail> {
     expect_stream(&rt, rt.alloc(), "results", RETRIED, "c1 PASSED\n", 0)
 }
@@ -281,11 +292,4 @@ fn failures_of_results(rt: HostRuntime) -> Result<(), Fail> {
 fn failures_of_cases(rt: HostRuntime) -> Result<(), Fail> {
     let text = "PASSED a.feature:3 s\n";
     expect_stream(&rt, rt.alloc(), "cases", RETRIED, text, 0)
-}
-
-#[test]
-fn failures_of_differs(rt: HostRuntime) -> Result<(), Fail> {
-    expect_stream(&rt, rt.alloc(), "differs", RETRIED, GOOD, 0)?;
-    let lines = "source document_moved";
-    expect_stream(&rt, rt.alloc(), "differs", lines, MOVED, 1)
 }

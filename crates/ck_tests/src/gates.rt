@@ -11,16 +11,16 @@ const PLAIN: &str =
 good sources=1 pickles=1 cases=1 attempts=1/release retried=0 skipped=1 unrun=0/ 0 = source document pickle run case:c1:t1 start:a1:c1:0 step:a1:t1 end:a1:t1:SKIPPED done:a1:false well
 good sources=1 pickles=1 cases=1 attempts=1/release retried=0 skipped=0 unrun=0/ 0 = stepless stepless_document stepless_pickle run stepless_case start:a1:c1:0 done:a1:false well
 good sources=1 pickles=1 cases=1 attempts=2/release retried=1 skipped=0 unrun=0/ 0 = source document pickle run case:c1:t1 start:a1:c1:0 step:a1:t1 end:a1:t1:FAILED done:a1:true start:a2:c1:1 step:a2:t1 end:a2:t1:PASSED done:a2:false well
-good sources=1 pickles=1 cases=1 attempts=1/stop NotSuccessful/ 5 = source document pickle run case:c1:t1 start:a1:c1:0 step:a1:t1 end:a1:t1:FAILED done:a1:false unwell
-good sources=1 pickles=1 cases=1 attempts=0/stop NotSuccessful/ 5 = source document pickle run case:c1:t1 unwell
-good sources=1 pickles=0 cases=0 attempts=0/stop NotSuccessful/ 5 = refused refused_error run unwell
-good sources=2 pickles=2 cases=1 attempts=1 unrun=1/stop NotSuccessful/ 5 = source document pickle source_b document_b pickle_b run case:c1:t1 start:a1:c1:0 step:a1:t1 end:a1:t1:FAILED done:a1:false unwell
+good sources=1 pickles=1 cases=1 attempts=1/stop NotSuccessful/FAILED a.feature:3 s step a.feature:4 a/ 5 = source document pickle run case:c1:t1 start:a1:c1:0 step:a1:t1 end:a1:t1:FAILED done:a1:false unwell
+good sources=1 pickles=1 cases=1 attempts=0/stop NotSuccessful/NONE a.feature:3 s/ 5 = source document pickle run case:c1:t1 unwell
+good sources=1 pickles=0 cases=0 attempts=0/stop NotSuccessful/refused b.feature:1:1 1 Unexpected/ 5 = refused refused_error run unwell
+good sources=2 pickles=2 cases=1 attempts=1 unrun=1/stop NotSuccessful/FAILED a.feature:3 s step a.feature:4 a/ 5 = source document pickle source_b document_b pickle_b run case:c1:t1 start:a1:c1:0 step:a1:t1 end:a1:t1:FAILED done:a1:false unwell
 good sources=0 pickles=0 cases=0 attempts=0/stop Empty/ 5 = run well
 good sources=1 pickles=1 cases=0 attempts=0 unrun=1/stop Empty/ 5 = source document pickle run well
 good sources=2 pickles=2 cases=1 attempts=1 unrun=1/stop Unrun/UNRUN b.feature:3 t/ 5 = source document pickle source_b document_b pickle_b run case:c1:t1 start:a1:c1:0 step:a1:t1 end:a1:t1:PASSED done:a1:false well
-bad line 10: 21 SuccessDiffers/ 1 = source document pickle run case:c1:t1 start:a1:c1:0 step:a1:t1 end:a1:t1:PENDING done:a1:false well
-good sources=1 pickles=1 cases=1 attempts=1/stop NotSuccessful/ 5 = source document pickle run case:c1:t1 start:a1:c1:0 step:a1:t1 end:a1:t1:PENDING done:a1:false unwell
-bad line 6: 12 AttemptNumber/ 1 = source document pickle run case:c1:t1 start:a1:c1:1 step:a1:t1 end:a1:t1:PASSED done:a1:false well
+bad line 10: 21 SuccessDiffers/PENDING a.feature:3 s step a.feature:4 a/ 1 = source document pickle run case:c1:t1 start:a1:c1:0 step:a1:t1 end:a1:t1:PENDING done:a1:false well
+good sources=1 pickles=1 cases=1 attempts=1/stop NotSuccessful/PENDING a.feature:3 s step a.feature:4 a/ 5 = source document pickle run case:c1:t1 start:a1:c1:0 step:a1:t1 end:a1:t1:PENDING done:a1:false unwell
+bad line 6: 12 AttemptNumber/case a.feature:3 s/attempt 1/due 0/ 1 = source document pickle run case:c1:t1 start:a1:c1:1 step:a1:t1 end:a1:t1:PASSED done:a1:false well
 bad line 1: 17 OutsideRun/ 1 = well
 unsupported line 1: 1 Language/uri f.feature/ 4 = french";
 
@@ -61,7 +61,7 @@ fn what_is_wrong_with_a_line(rt: HostRuntime) -> Result<(), Fail> {
 
 const WITH_UNRUN: &str =
     "good sources=2 pickles=2 cases=1 attempts=1 unrun=1/release retried=0 skipped=0 unrun=1/ 0 = source document pickle source_b document_b pickle_b run case:c1:t1 start:a1:c1:0 step:a1:t1 end:a1:t1:PASSED done:a1:false well
-good sources=2 pickles=2 cases=1 attempts=1 unrun=1/stop NotSuccessful/ 5 = source document pickle source_b document_b pickle_b run case:c1:t1 start:a1:c1:0 step:a1:t1 end:a1:t1:FAILED done:a1:false unwell
+good sources=2 pickles=2 cases=1 attempts=1 unrun=1/stop NotSuccessful/FAILED a.feature:3 s step a.feature:4 a/ 5 = source document pickle source_b document_b pickle_b run case:c1:t1 start:a1:c1:0 step:a1:t1 end:a1:t1:FAILED done:a1:false unwell
 good sources=1 pickles=1 cases=0 attempts=0 unrun=1/stop Empty/ 5 = source document pickle run well
 good sources=0 pickles=0 cases=0 attempts=0/stop Empty/ 5 = run well";
 
@@ -72,8 +72,8 @@ fn pickles_without_a_case_that_are_allowed(rt: HostRuntime) -> Result<(), Fail> 
 
 const WITH_PENDING: &str =
     "good sources=1 pickles=1 cases=1 attempts=1/release retried=0 skipped=0 unrun=0/ 0 = source document pickle run case:c1:t1 start:a1:c1:0 step:a1:t1 end:a1:t1:PENDING done:a1:false well
-bad line 10: 21 SuccessDiffers/ 1 = source document pickle run case:c1:t1 start:a1:c1:0 step:a1:t1 end:a1:t1:PENDING done:a1:false unwell
-good sources=1 pickles=1 cases=1 attempts=1/stop NotSuccessful/ 5 = source document pickle run case:c1:t1 start:a1:c1:0 step:a1:t1 end:a1:t1:UNDEFINED done:a1:false unwell
+bad line 10: 21 SuccessDiffers/nothing failed/ 1 = source document pickle run case:c1:t1 start:a1:c1:0 step:a1:t1 end:a1:t1:PENDING done:a1:false unwell
+good sources=1 pickles=1 cases=1 attempts=1/stop NotSuccessful/UNDEFINED a.feature:3 s step a.feature:4 a/ 5 = source document pickle run case:c1:t1 start:a1:c1:0 step:a1:t1 end:a1:t1:UNDEFINED done:a1:false unwell
 good sources=1 pickles=1 cases=0 attempts=0 unrun=1/stop Empty/ 5 = source document pickle hook run hook_start hook_pending well";
 
 #[test]
@@ -92,7 +92,7 @@ const RELEASED_FROM_ONE: &str =
 good sources=1 pickles=1 cases=1 attempts=2/release retried=1 skipped=0 unrun=0/ 0 = source document pickle run case:c1:t1 start:a1:c1:1 step:a1:t1 end:a1:t1:FAILED done:a1:true start:a2:c1:2 step:a2:t1 end:a2:t1:PASSED done:a2:false well
 good sources=2 pickles=2 cases=2 attempts=2/release retried=0 skipped=0 unrun=0/ 0 = source document pickle source_b document_b pickle_b run case:c1:t1 case_b start:a1:c1:1 step:a1:t1 end:a1:t1:PASSED done:a1:false start:b1:c2:1 step:b1:t1 end:b1:t1:PASSED done:b1:false well";
 
-// What both say.
+// Numbers that aren't due, by `audit` and by `gate`.
 const BAD_FROM_ONE: &str =
     "bad line 6: 12 AttemptNumber/ 1 = source document pickle run case:c1:t1 start:a1:c1:0
 bad line 6: 12 AttemptNumber/ 1 = source document pickle run case:c1:t1 start:a1:c1:2
@@ -100,6 +100,14 @@ bad line 6: 12 AttemptNumber/ 1 = source document pickle run case:c1:t1 start_wi
 bad line 10: 12 AttemptNumber/ 1 = source document pickle run case:c1:t1 start:a1:c1:1 step:a1:t1 end:a1:t1:FAILED done:a1:true start:a2:c1:1
 bad line 10: 12 AttemptNumber/ 1 = source document pickle run case:c1:t1 start:a1:c1:1 step:a1:t1 end:a1:t1:FAILED done:a1:true start:a2:c1:3
 bad line 13: 12 AttemptNumber/ 1 = source document pickle source_b document_b pickle_b run case:c1:t1 case_b start:a1:c1:1 step:a1:t1 end:a1:t1:PASSED start:b1:c2:0";
+
+const TOLD_FROM_ONE: &str =
+    "bad line 6: 12 AttemptNumber/case a.feature:3 s/attempt 0/due 1/ 1 = source document pickle run case:c1:t1 start:a1:c1:0
+bad line 6: 12 AttemptNumber/case a.feature:3 s/attempt 2/due 1/ 1 = source document pickle run case:c1:t1 start:a1:c1:2
+bad line 6: 12 AttemptNumber/case a.feature:3 s/attempt 0/due 1/ 1 = source document pickle run case:c1:t1 start_without_number
+bad line 10: 12 AttemptNumber/case a.feature:3 s/attempt 1/due 2/ 1 = source document pickle run case:c1:t1 start:a1:c1:1 step:a1:t1 end:a1:t1:FAILED done:a1:true start:a2:c1:1
+bad line 10: 12 AttemptNumber/case a.feature:3 s/attempt 3/due 2/ 1 = source document pickle run case:c1:t1 start:a1:c1:1 step:a1:t1 end:a1:t1:FAILED done:a1:true start:a2:c1:3
+bad line 13: 12 AttemptNumber/case b.feature:3 t/attempt 0/due 1/ 1 = source document pickle source_b document_b pickle_b run case:c1:t1 case_b start:a1:c1:1 step:a1:t1 end:a1:t1:PASSED start:b1:c2:0";
 
 // What `results` says of attempts from 1.
 const RESULTS_FROM_ONE: &str =
@@ -110,10 +118,13 @@ bad line 2: 12 AttemptNumber/ 1 = case:c1:t1 start_without_number";
 
 #[test]
 fn attempts_that_are_numbered_from_one(rt: HostRuntime) -> Result<(), Fail> {
-    for (command, good) in [("audit", AUDITED_FROM_ONE), ("gate", RELEASED_FROM_ONE)] {
+    for (command, good, bad) in [
+        ("audit", AUDITED_FROM_ONE, BAD_FROM_ONE),
+        ("gate", RELEASED_FROM_ONE, TOLD_FROM_ONE),
+    ] {
         let words = [command, "--attempts-from", "1"];
         expect_rows(&rt, rt.alloc(), &words, good)?;
-        expect_rows(&rt, rt.alloc(), &words, BAD_FROM_ONE)?;
+        expect_rows(&rt, rt.alloc(), &words, bad)?;
         expect_rows(&rt, rt.alloc(), &[command, "--attempts-from=1"], good)?;
     }
     let words = ["results", "--attempts-from", "1"];
@@ -130,14 +141,20 @@ const RELEASED_FROM_ZERO: &str =
 const BAD_FROM_ZERO: &str =
     "bad line 6: 12 AttemptNumber/ 1 = source document pickle run case:c1:t1 start:a1:c1:1";
 
+const TOLD_FROM_ZERO: &str =
+    "bad line 6: 12 AttemptNumber/case a.feature:3 s/attempt 1/due 0/ 1 = source document pickle run case:c1:t1 start:a1:c1:1";
+
 #[test]
 fn attempts_that_are_numbered_from_zero(rt: HostRuntime) -> Result<(), Fail> {
-    for (command, good) in [("audit", AUDITED_FROM_ZERO), ("gate", RELEASED_FROM_ZERO)] {
+    for (command, good, bad) in [
+        ("audit", AUDITED_FROM_ZERO, BAD_FROM_ZERO),
+        ("gate", RELEASED_FROM_ZERO, TOLD_FROM_ZERO),
+    ] {
         expect_rows(&rt, rt.alloc(), &[command], good)?;
-        expect_rows(&rt, rt.alloc(), &[command], BAD_FROM_ZERO)?;
+        expect_rows(&rt, rt.alloc(), &[command], bad)?;
         let words = [command, "--attempts-from", "0"];
         expect_rows(&rt, rt.alloc(), &words, good)?;
-        expect_rows(&rt, rt.alloc(), &words, BAD_FROM_ZERO)?;
+        expect_rows(&rt, rt.alloc(), &words, bad)?;
     }
     let bad = "bad line 2: 12 AttemptNumber/ 1 = case:c1:t1 start:a1:c1:1";
     expect_rows(&rt, rt.alloc(), &["results"], bad)?;

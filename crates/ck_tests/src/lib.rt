@@ -12,7 +12,7 @@ mod compiled;
 #[cfg(test)]
 mod conditions;
 #[cfg(test)]
-mod differs;
+mod differences;
 #[cfg(test)]
 mod failures;
 #[cfg(test)]
@@ -22,11 +22,15 @@ mod fronts;
 #[cfg(test)]
 mod gates;
 #[cfg(test)]
+mod hundreds;
+#[cfg(test)]
 mod limits;
 #[cfg(test)]
 mod lines;
 #[cfg(test)]
 mod producers;
+#[cfg(test)]
+mod reasons;
 #[cfg(test)]
 mod redeclared;
 #[cfg(test)]

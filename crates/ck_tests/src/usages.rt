@@ -7,9 +7,9 @@ use std::process::Abort;
 use std::test::Fail;
 
 // The status, the words, and what the text has for the user.
-const TEXTS: &str = "0 --help = Usage: parse compile audit gate results cases differs
-0 help = Usage: parse compile audit gate results cases differs
-0 -h = Usage: parse compile audit gate results cases differs
+const TEXTS: &str = "0 --help = Usage: parse compile audit gate results cases
+0 help = Usage: parse compile audit gate results cases
+0 -h = Usage: parse compile audit gate results cases
 0 parse --help = Usage: parse
 0 compile --help = Usage: compile --uri
 0 audit --help = Usage: audit --pending-passes --attempts-from
@@ -17,8 +17,7 @@ const TEXTS: &str = "0 --help = Usage: parse compile audit gate results cases di
 0 help gate = Usage: gate --allow-unrun --pending-passes --attempts-from stop
 0 results -h = Usage: results --attempts-from
 0 cases --help = Usage: cases --json --pending-passes --attempts-from UNRUN
-0 differs --help = Usage: differs --pending-passes --attempts-from expected found
-2 = Usage: parse compile audit gate results cases differs
+2 = Usage: parse compile audit gate results cases
 2 help x = Usage:
 2 parse x = Usage: parse
 2 parse --attempts-from 1 = Usage: parse
@@ -57,9 +56,9 @@ const TEXTS: &str = "0 --help = Usage: parse compile audit gate results cases di
 2 gate --json = Usage: gate
 2 audit --json = Usage: audit
 2 --json cases = Usage:
-2 differs x = Usage: differs
-2 differs --allow-unrun = Usage: differs
-2 differs --json = Usage: differs
+2 differs = error: Usage:
+2 differs --help = error: Usage:
+2 help differs = Usage:
 2 results --json = Usage: results
 2 parse --json = Usage: parse
 2 compile --json --uri u = Usage: compile
@@ -135,7 +134,7 @@ fn expect_all_wrong(rt: &impl Abort, alloc: Global, command: &str) -> Result<(),
 
 #[test]
 fn first_numbers_that_are_neither_0_nor_1(rt: HostRuntime) -> Result<(), Fail> {
-    for command in ["audit", "gate", "results", "cases", "differs"] {
+    for command in ["audit", "gate", "results", "cases"] {
         expect_all_wrong(&rt, rt.alloc(), command)?;
     }
     Ok(())

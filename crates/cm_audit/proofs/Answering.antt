@@ -16,7 +16,7 @@ use Rattle.cm_state.specs.ByOnePass.{answer_of_line, answer_of_lines}
 use Rattle.cm_state.specs.StateChecks.{line_judged_by}
 use Rattle.cm_state.specs.Summary.{Summary, empty_summary}
 use Rattle.cm_audit.specs.Audit.{AnswersAs, ReadsNoFurther, ReadsUpTo, TakesLine, audited_at, contents, judged_line}
-use Rattle.cm_audit.specs.Judging.{HoldNoFault, JudgesAs, JudgesLine, TellsLine, UnlessNoMemory, judged, judged_from_first}
+use Rattle.cm_audit.specs.Judging.{HoldNoFault, JudgesAs, JudgesLine, UnlessNoMemory, judged, judged_from_first}
 use Rattle.cm_audit.specs.Stops.{unread_line}
 use Rattle.cm_audit.specs.State.{AreFewer, summary_of}
 use Rattle.cm_audit.specs.Taking.{StopsAtLine, TakesEach, TakesUntil}
@@ -52,17 +52,7 @@ unread settings old shape.Memory (Err b) h = refl
 pub not_read : (settings : Settings) (old : State) (line : List ℕ) → is_blank line ≡ false → (fault : EnvelopeFault) → FailsAtLine fault (envelope_of_line line) → (why : Stop) → why ≡ unread_line fault → TakesLine settings old old (judged_line settings old line) (Err why)
 not_read settings old line filled fault h why e = rw (filled, e) (unread settings old fault (envelope_of_line line) h)
 
--- nothing is told of it
-told_unread : (tells : Summary → Envelope → Type 0) (settings : Settings) (s : Summary) (fault : EnvelopeFault) (r : Result Envelope LineFault) → FailsAtLine fault r → TellsLine tells s (line_judged_by settings s (Some r)) (Err (unread_line fault))
-told_unread tells settings s (shape.Line line) r h = rw h tt
-told_unread tells settings s shape.Memory (Ok e) h = tt
-told_unread tells settings s shape.Memory (Err b) h = tt
-
-pub not_told : (tells : Summary → Envelope → Type 0) (settings : Settings) (old : State) (line : List ℕ) → is_blank line ≡ false → (fault : EnvelopeFault) → FailsAtLine fault (envelope_of_line line) → (why : Stop) → why ≡ unread_line fault
-    → TellsLine tells (summary_of old) (judged_line settings old line) (Err why)
-not_told tells settings old line filled fault h why e = rw (filled, e) (told_unread tells settings (summary_of old) fault (envelope_of_line line) h)
-
--- and nothing more is followed
+-- nothing more is followed
 followed_unread : (follows : List Envelope → Type 0) (settings : Settings) (s : Summary) (fault : EnvelopeFault) (r : Result Envelope LineFault) → FailsAtLine fault r
     → UnlessNoMemory (Err (unread_line fault)) ((es : List Envelope) → follows es → follows (es ++ envelope_in (line_judged_by settings s (Some r))))
 followed_unread follows settings s (shape.Line line) r h = rw h (λ es f. subst follows (sym (append-nil es)) f)
@@ -94,14 +84,14 @@ up_to n stop.Memory xs zs r = tt
 
 -- ---- lines that are judged one by one
 
-module _ {W : Type 0} (follows : W → List Envelope → Type 0) (tells : W → Summary → Envelope → Type 0) where
+module _ {W : Type 0} (follows : W → List Envelope → Type 0) where
   -- the settings stay
-  pub same_settings : (old new : Judging W) (lines : List (List ℕ)) → TakesEach (JudgesLine follows tells) old lines new → new.settings ≡ old.settings
+  pub same_settings : (old new : Judging W) (lines : List (List ℕ)) → TakesEach (JudgesLine follows) old lines new → new.settings ≡ old.settings
   same_settings old new [] h = ap (λ (j : Judging W). j.settings) h
   same_settings old new (l ∷ ls) h = same_settings h.0 new ls h.2 ∙ h.1.settings
 
   -- what is answered of the lines after them, from line m on
-  judges_each : (settings : Settings) (old new : Judging W) (n m : ℕ) (lines more : List (List ℕ)) (t : Option Trouble) → old.settings ≡ settings → m ≡ n + length lines → TakesEach (JudgesLine follows tells) old lines new
+  judges_each : (settings : Settings) (old new : Judging W) (n m : ℕ) (lines more : List (List ℕ)) (t : Option Trouble) → old.settings ≡ settings → m ≡ n + length lines → TakesEach (JudgesLine follows) old lines new
       → answer_of_lines settings (summary_of old.state) n (lines ++ more) t ≡ answer_of_lines settings (summary_of new.state) m more t
   judges_each settings old new n m [] more t own count h =
       let here : n ≡ m = omega (arith, count) in
@@ -112,14 +102,14 @@ module _ {W : Type 0} (follows : W → List Envelope → Type 0) (tells : W → 
       ∙ judges_each settings h.0 new (n + 1) m ls more t (h.1.settings ∙ own) (omega (arith, count)) h.2
 
   module _ (first : Judging W) (nothing : summary_of first.state ≡ empty_summary first.settings.first_attempt) where
-    judges_first : (now : Judging W) (lines more : List (List ℕ)) (t : Option Trouble) → TakesEach (JudgesLine follows tells) first lines now
+    judges_first : (now : Judging W) (lines more : List (List ℕ)) (t : Option Trouble) → TakesEach (JudgesLine follows) first lines now
         → judged_from_first first.settings (lines ++ more) t ≡ answer_of_lines first.settings (summary_of now.state) (length lines + 1) more t
     judges_first now lines more t h =
         ap (λ (s : Summary). answer_of_lines first.settings s 1 (lines ++ more) t) (sym nothing)
         ∙ judges_each first.settings first now 1 (length lines + 1) lines more t refl (omega arith) h
 
     -- what is answered of bytes that have these lines first
-    pub judged_after : (now : Judging W) (bytes : List ℕ) (lines more : List (List ℕ)) (t : Option Trouble) → (feed_of bytes).lines ≡ lines ++ more → (feed_of bytes).trouble ≡ t → TakesEach (JudgesLine follows tells) first lines now
+    pub judged_after : (now : Judging W) (bytes : List ℕ) (lines more : List (List ℕ)) (t : Option Trouble) → (feed_of bytes).lines ≡ lines ++ more → (feed_of bytes).trouble ≡ t → TakesEach (JudgesLine follows) first lines now
         → judged first.settings bytes ≡ answer_of_lines first.settings (summary_of now.state) (length lines + 1) more t
     judged_after now bytes lines more t cut trouble h =
         ap (λ (ls : List (List ℕ)). judged_from_first first.settings ls (feed_of bytes).trouble) cut
@@ -127,13 +117,13 @@ module _ {W : Type 0} (follows : W → List Envelope → Type 0) (tells : W → 
         ∙ judges_first now lines more t h
 
     -- and no more lines
-    pub judged_all : (now : Judging W) (bytes : List ℕ) (t : Option Trouble) → (feed_of bytes).trouble ≡ t → TakesEach (JudgesLine follows tells) first (feed_of bytes).lines now
+    pub judged_all : (now : Judging W) (bytes : List ℕ) (t : Option Trouble) → (feed_of bytes).trouble ≡ t → TakesEach (JudgesLine follows) first (feed_of bytes).lines now
         → judged first.settings bytes ≡ answer_of_lines first.settings (summary_of now.state) (length (feed_of bytes).lines + 1) [] t
     judged_all now bytes t trouble h = judged_after now bytes (feed_of bytes).lines [] t (sym (append-nil (feed_of bytes).lines)) trouble h
 
     -- ---- a line that stops it
 
-    pub stops_at : (new : Judging W) (answer : Result Audited Trouble) (bytes rest : List ℕ) (h : StopsAtLine (JudgesLine follows tells) first new answer bytes rest)
+    pub stops_at : (new : Judging W) (answer : Result Audited Trouble) (bytes rest : List ℕ) (h : StopsAtLine (JudgesLine follows) first new answer bytes rest)
         → TakesLine first.settings h.last.state new.state (judged_line first.settings h.last.state h.line) (Err h.why) → JudgesAs first.settings (audited_at (length h.before + 1) h.why) bytes rest
     stops_at new answer bytes rest h k =
         let n = length h.before + 1 in
@@ -146,13 +136,13 @@ module _ {W : Type 0} (follows : W → List Envelope → Type 0) (tells : W → 
 
     -- ---- a trouble
 
-    trouble_told : (now : Judging W) (t : Trouble) (bytes rest : List ℕ) → TakesUntil (JudgesLine follows tells) first now t bytes rest → AnswersAs (judged first.settings bytes) (Err t)
+    trouble_told : (now : Judging W) (t : Trouble) (bytes rest : List ℕ) → TakesUntil (JudgesLine follows) first now t bytes rest → AnswersAs (judged first.settings bytes) (Err t)
     trouble_told now ReadFailed bytes rest h = tt
     trouble_told now LineTooLong bytes rest h = sym (judged_all now bytes (Some LineTooLong) h.1 h.0)
     trouble_told now StreamTooLong bytes rest h = sym (judged_all now bytes (Some StreamTooLong) h.1 h.0)
     trouble_told now Memory bytes rest h = tt
 
-    trouble_held : (now : Judging W) (t : Trouble) (bytes rest : List ℕ) → TakesUntil (JudgesLine follows tells) first now t bytes rest → t ≡ ReadFailed → HoldNoFault first.settings bytes rest
+    trouble_held : (now : Judging W) (t : Trouble) (bytes rest : List ℕ) → TakesUntil (JudgesLine follows) first now t bytes rest → t ≡ ReadFailed → HoldNoFault first.settings bytes rest
     trouble_held now ReadFailed bytes rest h e = record {
       lines = h.lines;
       ahead = h.ahead;
@@ -167,7 +157,7 @@ module _ {W : Type 0} (follows : W → List Envelope → Type 0) (tells : W → 
     same_trouble : (t u : Trouble) → (let answer : Result Audited Trouble = Err t in answer) ≡ Err u → t ≡ u
     same_trouble t u e = cc
 
-    pub troubled : (now : Judging W) (t : Trouble) (bytes rest : List ℕ) → TakesUntil (JudgesLine follows tells) first now t bytes rest → JudgesAs first.settings (Err t) bytes rest
+    pub troubled : (now : Judging W) (t : Trouble) (bytes rest : List ℕ) → TakesUntil (JudgesLine follows) first now t bytes rest → JudgesAs first.settings (Err t) bytes rest
     troubled now t bytes rest h = record {
       told = trouble_told now t bytes rest h;
       read_failed = λ e. trouble_held now t bytes rest h (same_trouble t ReadFailed e);

@@ -35,11 +35,11 @@ use Rattle.cm_state.proofs.Checked.{findings_are_faults}
 use Rattle.cm_state.proofs.Judged.{judged_is_told, none_yet, one_more_line, same_line}
 use Rattle.cm_state.proofs.Steps.{summaries_step}
 use Rattle.cm_audit.specs.Audit.{AnswersAs, GoodAtEnd, IsAuditOf, TakesLine, audited_at, judged_line, unsuccessful}
-use Rattle.cm_audit.specs.Judging.{DecidesAnswer, FollowsAnswer, JudgesLine, JudgesWith, ReadsAgain, TellsAnswer, TellsLine, UnlessNoMemory, judged}
+use Rattle.cm_audit.specs.Judging.{DecidesAnswer, FollowsAnswer, JudgesLine, JudgesWith, ReadsAgain, UnlessNoMemory, judged}
 use Rattle.cm_audit.specs.Taking.{StopsAtLine, TakesEach, TakesStream}
 use Rattle.cm_stream.specs.OnePass.{reads}
 use Rattle.cm_stream.proofs.OnePass.{is_read as reads_by_the_grammar}
-use Rattle.cm_audit.specs.Watched.{IsDecidedAt, IsFollowed, IsToldAt, IsWatchedAuditOf, audit_in, envelope_in, envelopes_in, is_of_envelope, judged_in, with_watch}
+use Rattle.cm_audit.specs.Watched.{IsDecidedAt, IsFollowed, IsWatchedAuditOf, audit_in, envelope_in, envelopes_in, is_of_envelope, judged_in, with_watch}
 use Rattle.cm_audit.specs.State.{summary_of}
 use Rattle.cm_audit.specs.declared.auditing.Judging.{Judging}
 use Rattle.cm_audit.specs.declared.auditing.WatchedAudit.{WatchedAudit}
@@ -102,8 +102,8 @@ record HasFollowed {W : Type 0} (settings : Settings) (follows : W → List Enve
   pub faultless : IsFaultless settings es
   pub kept : summary_of now.state ≡ summary_of_lines settings.first_attempt es
 
-module _ {W : Type 0} (settings : Settings) (follows : W → List Envelope → Type 0) (tells : W → Summary → Envelope → Type 0) where
-  follows_next : (old new : Judging W) (l : List ℕ) (es : List Envelope) → old.settings ≡ settings → JudgesLine follows tells old l (Ok tt) new → HasFollowed settings follows es old → HasFollowed settings follows (es ++ envelope_in (line_judged_as settings es (envelope_unless_blank l))) new
+module _ {W : Type 0} (settings : Settings) (follows : W → List Envelope → Type 0) where
+  follows_next : (old new : Judging W) (l : List ℕ) (es : List Envelope) → old.settings ≡ settings → JudgesLine follows old l (Ok tt) new → HasFollowed settings follows es old → HasFollowed settings follows (es ++ envelope_in (line_judged_as settings es (envelope_unless_blank l))) new
   follows_next old new l es own k h =
       let o = envelope_unless_blank l in
       let same : judged_line old.settings old.state l ≡ line_judged_as settings es o = ap (λ (s : Settings). judged_line s old.state l) own ∙ ap (λ (s : Summary). line_judged_by settings s o) h.kept ∙ same_line settings es o in
@@ -112,7 +112,7 @@ module _ {W : Type 0} (settings : Settings) (follows : W → List Envelope → T
       let kept = kept_next settings old.state new.state (line_judged_as settings es o) es taken h.faultless h.kept in
       record { followed = subst (λ (r : Option (Result Envelope LineFault)). follows new.watch (es ++ envelope_in r)) same (k.followed es h.followed); faultless = kept.0; kept = kept.1 }
 
-  follows_each : (old new : Judging W) (lines : List (List ℕ)) (es : List Envelope) → old.settings ≡ settings → TakesEach (JudgesLine follows tells) old lines new → HasFollowed settings follows es old → HasFollowed settings follows (es ++ judged_after settings es (envelopes_in lines)) new
+  follows_each : (old new : Judging W) (lines : List (List ℕ)) (es : List Envelope) → old.settings ≡ settings → TakesEach (JudgesLine follows) old lines new → HasFollowed settings follows es old → HasFollowed settings follows (es ++ judged_after settings es (envelopes_in lines)) new
   follows_each old new [] es own k h =
       subst (HasFollowed settings follows (es ++ [])) (sym k) (subst (λ (xs : List Envelope). HasFollowed settings follows xs old) (sym (append-nil es)) h)
   follows_each old new (l ∷ ls) es own k h =
@@ -147,49 +147,17 @@ not_followed settings follows table n (stop.Bad b) xs = tt
 not_followed settings follows table n (stop.Unsupported r) xs = tt
 not_followed settings follows table n stop.Memory xs = tt
 
-module _ {W : Type 0} (follows : W → List Envelope → Type 0) (tells : W → Summary → Envelope → Type 0) (first : Judging W) (nothing : summary_of first.state ≡ empty_summary first.settings.first_attempt) (start : follows first.watch []) where
+module _ {W : Type 0} (follows : W → List Envelope → Type 0) (first : Judging W) (nothing : summary_of first.state ≡ empty_summary first.settings.first_attempt) (start : follows first.watch []) where
   -- the lines so far were followed
-  so_far : (now : Judging W) (lines : List (List ℕ)) → TakesEach (JudgesLine follows tells) first lines now → HasFollowed first.settings follows (judged_in first.settings lines) now
-  so_far now lines k = follows_each first.settings follows tells first now lines [] refl k (record { followed = start; faultless = none_yet first.settings; kept = nothing })
-
-  told_at : (new : Judging W) (answer : Result Audited Trouble) (xs zs : List ℕ) (h : StopsAtLine (JudgesLine follows tells) first new answer xs zs) (why : Stop)
-      → TakesLine first.settings h.last.state new.state (judged_line first.settings h.last.state h.line) (Err why) → TellsLine (tells new.watch) (summary_of h.last.state) (judged_line first.settings h.last.state h.line) (Err why)
-      → TellsAnswer first.settings (tells new.watch) xs (audited_at (length h.before + 1) why)
-  told_at new answer xs zs h (stop.Unsupported r) k told = tt
-  told_at new answer xs zs h stop.Memory k told = tt
-  told_at new answer xs zs h (stop.Bad b) k told = go (judged_line first.settings h.last.state h.line) refl k told
-    where
-      es : List Envelope
-      es = judged_in first.settings h.before
-
-      go : (r : Option (Result Envelope LineFault)) → judged_line first.settings h.last.state h.line ≡ r → TakesLine first.settings h.last.state new.state r (Err (stop.Bad b)) → TellsLine (tells new.watch) (summary_of h.last.state) r (Err (stop.Bad b))
-          → is_of_envelope b ≡ true → IsToldAt first.settings (tells new.watch) xs (length h.before + 1) b
-      go None is k told some = absurd k
-      go (Some (Err f)) is k told some = absurd (not_of_envelope b f k.0 some)
-      go (Some (Ok e)) is k told some =
-          let followed = so_far h.last h.before h.taken in
-          let o = envelope_unless_blank h.line in
-          record {
-            read = reads;
-            by_the_grammar = reads_by_the_grammar;
-            before = h.before;
-            line = h.line;
-            after = h.after;
-            cut = h.cut;
-            count = refl;
-            said = e;
-            is_judged = sym (same_line first.settings es o) ∙ ap (λ (s : Summary). line_judged_by first.settings s o) (sym followed.kept) ∙ is;
-            faultless = followed.faultless;
-            why = sym (findings_are_faults first.settings es e followed.faultless) ∙ ap (λ (s : Summary). finding first.settings s e) (sym followed.kept) ∙ k.0;
-            told = subst (λ (s : Summary). tells new.watch s e) followed.kept told;
-          }
+  so_far : (now : Judging W) (lines : List (List ℕ)) → TakesEach (JudgesLine follows) first lines now → HasFollowed first.settings follows (judged_in first.settings lines) now
+  so_far now lines k = follows_each first.settings follows first now lines [] refl k (record { followed = start; faultless = none_yet first.settings; kept = nothing })
 
   -- what was read once more is what the line is read as
   same_envelope : (line : List ℕ) (said e : Envelope) (b : Bool) → is_blank line ≡ b → envelope_unless_blank line ≡ Some (Ok said) → envelope_of_line line ≡ Ok e → envelope_unless_blank line ≡ Some (Ok e)
   same_envelope line said e true blank is again = let no : (let nothing : Option (Result Envelope LineFault) = None in nothing) ≡ Some (Ok said) = rw blank at is in cc
   same_envelope line said e false blank is again = rw (blank, again) refl
 
-  decided_at : (new : Judging W) (answer : Result Audited Trouble) (xs zs : List ℕ) (h : StopsAtLine (JudgesLine follows tells) first new answer xs zs) (why : Stop) (f : Finding) (left : Summary → Type 0)
+  decided_at : (new : Judging W) (answer : Result Audited Trouble) (xs zs : List ℕ) (h : StopsAtLine (JudgesLine follows) first new answer xs zs) (why : Stop) (f : Finding) (left : Summary → Type 0)
       → ((x : Envelope) → TakesLine first.settings h.last.state new.state (Some (Ok x)) (Err why) → (finding first.settings (summary_of h.last.state) x ≡ Some f) × left (summary_of h.last.state))
       → ((b : LineFault) → TakesLine first.settings h.last.state new.state (Some (Err b)) (Err why) → ⊥)
       → TakesLine first.settings h.last.state new.state (judged_line first.settings h.last.state h.line) (Err why)
@@ -239,7 +207,7 @@ module _ {W : Type 0} (follows : W → List Envelope → Type 0) (tells : W → 
   within : (before after : List (List ℕ)) (line : List ℕ) (lines : List (List ℕ)) → lines ≡ before ++ line ∷ after → length lines < length before + 1 → ⊥
   within before after line lines cut less = let count = ap length cut ∙ length-append before (line ∷ after) in omega (arith, count, less)
 
-  decided_by : (new : Judging W) (answer : Result Audited Trouble) (xs zs : List ℕ) (h : StopsAtLine (JudgesLine follows tells) first new answer xs zs) (why : Stop)
+  decided_by : (new : Judging W) (answer : Result Audited Trouble) (xs zs : List ℕ) (h : StopsAtLine (JudgesLine follows) first new answer xs zs) (why : Stop)
       → TakesLine first.settings h.last.state new.state (judged_line first.settings h.last.state h.line) (Err why)
       → UnlessNoMemory (Err why) ((es : List Envelope) → follows h.last.watch es → follows new.watch (es ++ envelope_in (judged_line first.settings h.last.state h.line)))
       → ReadsAgain new.last h.line (Err why) → DecidesAnswer first.settings (follows new.watch) new.last (summary_of new.state) xs (audited_at (length h.before + 1) why)
@@ -251,46 +219,43 @@ module _ {W : Type 0} (follows : W → List Envelope → Type 0) (tells : W → 
       decided_at new answer xs zs h (stop.Unsupported r) (IsUnsupported r) (λ s. ⊤) (λ x t. (t, tt)) (λ fault t. cc) k goes new.last again
   decided_by new answer xs zs h stop.Memory k goes again = tt
 
-  stops_with : (new : Judging W) (answer : Result Audited Trouble) (xs zs : List ℕ) → StopsAtLine (JudgesLine follows tells) first new answer xs zs → JudgesWith first.settings (follows new.watch) (tells new.watch) new.last (summary_of new.state) answer xs zs
+  stops_with : (new : Judging W) (answer : Result Audited Trouble) (xs zs : List ℕ) → StopsAtLine (JudgesLine follows) first new answer xs zs → JudgesWith first.settings (follows new.watch) new.last (summary_of new.state) answer xs zs
   stops_with new answer xs zs h =
-      let own : h.last.settings ≡ first.settings = same_settings follows tells first h.last h.before h.taken in
+      let own : h.last.settings ≡ first.settings = same_settings follows first h.last h.before h.taken in
       let k : TakesLine first.settings h.last.state new.state (judged_line first.settings h.last.state h.line) (Err h.why) = subst (λ (s : Settings). TakesLine s h.last.state new.state (judged_line s h.last.state h.line) (Err h.why)) own h.stopped.taken in
-      let told = subst (λ (s : Settings). TellsLine (tells new.watch) (summary_of h.last.state) (judged_line s h.last.state h.line) (Err h.why)) own h.stopped.told in
       let goes = subst (λ (s : Settings). UnlessNoMemory (let stopped : Result ⊤ Stop = Err h.why in stopped) ((es : List Envelope) → follows h.last.watch es → follows new.watch (es ++ envelope_in (judged_line s h.last.state h.line)))) own h.stopped.followed in
-      subst (λ (a : Result Audited Trouble). JudgesWith first.settings (follows new.watch) (tells new.watch) new.last (summary_of new.state) a xs zs) (sym h.answers)
+      subst (λ (a : Result Audited Trouble). JudgesWith first.settings (follows new.watch) new.last (summary_of new.state) a xs zs) (sym h.answers)
       (record {
-        judges = stops_at follows tells first nothing new answer xs zs h k;
+        judges = stops_at follows first nothing new answer xs zs h k;
         follows_it = not_followed first.settings (follows new.watch) (summary_of new.state).table (length h.before + 1) h.why xs;
-        told = told_at new answer xs zs h h.why k told;
         decided = decided_by new answer xs zs h h.why k goes h.stopped.again;
       })
 
-  ended_with : (new : Judging W) (answer : Result Audited Trouble) (xs zs : List ℕ) → TakesStream (JudgesLine follows tells) first new (Err answer) xs zs → JudgesWith first.settings (follows new.watch) (tells new.watch) new.last (summary_of new.state) answer xs zs
+  ended_with : (new : Judging W) (answer : Result Audited Trouble) (xs zs : List ℕ) → TakesStream (JudgesLine follows) first new (Err answer) xs zs → JudgesWith first.settings (follows new.watch) new.last (summary_of new.state) answer xs zs
   ended_with new answer xs zs (inl h) = stops_with new answer xs zs h
   ended_with new answer xs zs (inr h) =
-      subst (λ (a : Result Audited Trouble). JudgesWith first.settings (follows new.watch) (tells new.watch) new.last (summary_of new.state) a xs zs) (sym h.1)
-      (record { judges = troubled follows tells first nothing new h.0 xs zs h.2; follows_it = tt; told = tt; decided = tt })
+      subst (λ (a : Result Audited Trouble). JudgesWith first.settings (follows new.watch) new.last (summary_of new.state) a xs zs) (sym h.1)
+      (record { judges = troubled follows first nothing new h.0 xs zs h.2; follows_it = tt; decided = tt })
 
   -- the answer at a line, or for a trouble
-  pub answers_with : (new : Judging W) (answer : Result Audited Trouble) (a c : Input) → OfReads a c (TakesStream (JudgesLine follows tells) first new (Err answer)) → OfReads a c (JudgesWith first.settings (follows new.watch) (tells new.watch) new.last (summary_of new.state) answer)
+  pub answers_with : (new : Judging W) (answer : Result Audited Trouble) (a c : Input) → OfReads a c (TakesStream (JudgesLine follows) first new (Err answer)) → OfReads a c (JudgesWith first.settings (follows new.watch) new.last (summary_of new.state) answer)
   answers_with new answer a c p =
-      reads_weaker {P = TakesStream (JudgesLine follows tells) first new (Err answer)} {Q = JudgesWith first.settings (follows new.watch) (tells new.watch) new.last (summary_of new.state) answer} a c p (ended_with new answer)
+      reads_weaker {P = TakesStream (JudgesLine follows) first new (Err answer)} {Q = JudgesWith first.settings (follows new.watch) new.last (summary_of new.state) answer} a c p (ended_with new answer)
 
   -- the end, before the run is over
-  pub ends_early_with : (new : Judging W) (n : ℕ) (a c : Input) → new.state.is_finished ≡ false → OfReads a c (TakesStream (JudgesLine follows tells) first new (Ok n))
-      → OfReads a c (JudgesWith first.settings (follows new.watch) (tells new.watch) new.last (summary_of new.state) (Ok (unsuccessful (verdict.Bad (n + 1) bad.NoRunFinished))))
+  pub ends_early_with : (new : Judging W) (n : ℕ) (a c : Input) → new.state.is_finished ≡ false → OfReads a c (TakesStream (JudgesLine follows) first new (Ok n))
+      → OfReads a c (JudgesWith first.settings (follows new.watch) new.last (summary_of new.state) (Ok (unsuccessful (verdict.Bad (n + 1) bad.NoRunFinished))))
   ends_early_with new n a c e p =
       let answer : Result Audited Trouble = Ok (unsuccessful (verdict.Bad (n + 1) bad.NoRunFinished)) in
-      reads_weaker {P = TakesStream (JudgesLine follows tells) first new (Ok n)} {Q = JudgesWith first.settings (follows new.watch) (tells new.watch) new.last (summary_of new.state) answer} a c p
+      reads_weaker {P = TakesStream (JudgesLine follows) first new (Ok n)} {Q = JudgesWith first.settings (follows new.watch) new.last (summary_of new.state) answer} a c p
       (λ xs zs h. record {
         judges = record {
-          told = let end : judged first.settings xs ≡ answer_at_end (length (feed_of xs).lines + 1) (summary_of new.state) (finding_at_end (summary_of new.state)) = judged_all follows tells first nothing new xs None h.whole h.taken in
+          told = let end : judged first.settings xs ≡ answer_at_end (length (feed_of xs).lines + 1) (summary_of new.state) (finding_at_end (summary_of new.state)) = judged_all follows first nothing new xs None h.whole h.taken in
               sym (end ∙ rw (e, ← h.count) refl);
           read_failed = λ failed. cc;
           ahead = inl (omega (arith, h.count));
         };
         follows_it = tt;
-        told = λ some. absurd cc;
         decided = (
           λ some. absurd cc,
           λ less.
@@ -300,49 +265,48 @@ module _ {W : Type 0} (follows : W → List Envelope → Type 0) (tells : W → 
       })
 
   -- the end, once the run is over
-  pub ends_well_with : (new : Judging W) (n : ℕ) (a c : Input) → new.state.is_finished ≡ true → OfReads a c (TakesStream (JudgesLine follows tells) first new (Ok n))
-      → OfReads a c (JudgesWith first.settings (follows new.watch) (tells new.watch) new.last (summary_of new.state) (Ok (record { verdict = verdict.Good new.state.counts; success = new.state.success })))
+  pub ends_well_with : (new : Judging W) (n : ℕ) (a c : Input) → new.state.is_finished ≡ true → OfReads a c (TakesStream (JudgesLine follows) first new (Ok n))
+      → OfReads a c (JudgesWith first.settings (follows new.watch) new.last (summary_of new.state) (Ok (record { verdict = verdict.Good new.state.counts; success = new.state.success })))
   ends_well_with new n a c e p =
       let s = summary_of new.state in
       let answer : Result Audited Trouble = Ok (record { verdict = verdict.Good s.counts; success = s.success }) in
-      reads_weaker {P = TakesStream (JudgesLine follows tells) first new (Ok n)} {Q = JudgesWith first.settings (follows new.watch) (tells new.watch) new.last s answer} a c p
+      reads_weaker {P = TakesStream (JudgesLine follows) first new (Ok n)} {Q = JudgesWith first.settings (follows new.watch) new.last s answer} a c p
       (λ xs zs h.
       let lines = (feed_of xs).lines in
       let end : answer_at_end (length lines + 1) s (finding_at_end s) ≡ answer_at_end (length lines + 1) s None = rw e refl in
-      let told : AnswersAs (judged first.settings xs) answer = sym (judged_all follows tells first nothing new xs None h.whole h.taken ∙ end) in
+      let told : AnswersAs (judged first.settings xs) answer = sym (judged_all follows first nothing new xs None h.whole h.taken ∙ end) in
       let followed = so_far new lines h.taken in
       record {
         judges = record { told = told; read_failed = λ failed. cc; ahead = tt };
         follows_it = followed_good first.settings (follows new.watch) xs s s.counts s.success lines told refl followed.followed (ap (λ (u : Summary). u.table) followed.kept);
-        told = tt;
         decided = tt;
       })
 
   -- no answer at a line or for a trouble is Good
-  not_good : (new : Judging W) (answer : Result Audited Trouble) (after : Input) (xs zs : List ℕ) → TakesStream (JudgesLine follows tells) first new (Err answer) xs zs → GoodAtEnd after answer
+  not_good : (new : Judging W) (answer : Result Audited Trouble) (after : Input) (xs zs : List ℕ) → TakesStream (JudgesLine follows) first new (Err answer) xs zs → GoodAtEnd after answer
   not_good new answer after xs zs (inl h) = subst (GoodAtEnd after) (sym h.answers) (none_at_end after (length h.before + 1) h.why)
   not_good new answer after xs zs (inr h) = subst (GoodAtEnd after) (sym h.1) tt
 
-  pub not_good_with : (new : Judging W) (answer : Result Audited Trouble) (a c : Input) → OfReads a c (TakesStream (JudgesLine follows tells) first new (Err answer)) → GoodAtEnd c answer
+  pub not_good_with : (new : Judging W) (answer : Result Audited Trouble) (a c : Input) → OfReads a c (TakesStream (JudgesLine follows) first new (Err answer)) → GoodAtEnd c answer
   not_good_with new answer a c p = not_good new answer c (p.0 ++ []) [] (p.2 [] (λ over. refl))
 
 -- ---- the audit
 
-module _ {W : Type 0} (settings : Settings) (follows : W → List Envelope → Type 0) (tells : W → Summary → Envelope → Type 0) where
-  watched : (watch : W) (last : Option Envelope) (state : State) (answer : Result Audited Trouble) (xs ys : List ℕ) → JudgesWith settings (follows watch) (tells watch) last (summary_of state) answer xs ys
-      → IsWatchedAuditOf settings follows tells (with_watch watch last state answer) xs ys
-  watched watch last state (Ok audited) xs ys h = record { audit = audit_of settings (Ok audited) xs ys h.judges; followed = h.follows_it; told = h.told; decided = h.decided }
-  watched watch last state (Err t) xs ys h = record { audit = audit_of settings (Err t) xs ys h.judges; followed = tt; told = tt; decided = tt }
+module _ {W : Type 0} (settings : Settings) (follows : W → List Envelope → Type 0) where
+  watched : (watch : W) (last : Option Envelope) (state : State) (answer : Result Audited Trouble) (xs ys : List ℕ) → JudgesWith settings (follows watch) last (summary_of state) answer xs ys
+      → IsWatchedAuditOf settings follows (with_watch watch last state answer) xs ys
+  watched watch last state (Ok audited) xs ys h = record { audit = audit_of settings (Ok audited) xs ys h.judges; followed = h.follows_it; decided = h.decided }
+  watched watch last state (Err t) xs ys h = record { audit = audit_of settings (Err t) xs ys h.judges; followed = tt; decided = tt }
 
   -- what was judged line by line is an audit that was watched
-  pub watched_audit : (watch : W) (last : Option Envelope) (state : State) (answer : Result Audited Trouble) (a b : Input) → OfReads a b (JudgesWith settings (follows watch) (tells watch) last (summary_of state) answer)
-      → OfReads a b (IsWatchedAuditOf settings follows tells (with_watch watch last state answer))
+  pub watched_audit : (watch : W) (last : Option Envelope) (state : State) (answer : Result Audited Trouble) (a b : Input) → OfReads a b (JudgesWith settings (follows watch) last (summary_of state) answer)
+      → OfReads a b (IsWatchedAuditOf settings follows (with_watch watch last state answer))
   watched_audit watch last state answer a b p =
-      reads_weaker {P = JudgesWith settings (follows watch) (tells watch) last (summary_of state) answer} {Q = IsWatchedAuditOf settings follows tells (with_watch watch last state answer)} a b p (watched watch last state answer)
+      reads_weaker {P = JudgesWith settings (follows watch) last (summary_of state) answer} {Q = IsWatchedAuditOf settings follows (with_watch watch last state answer)} a b p (watched watch last state answer)
 
   -- the audit alone
-  pub audit_alone : (answer : Result (WatchedAudit W) Trouble) (a b : Input) → OfReads a b (IsWatchedAuditOf settings follows tells answer) → OfReads a b (IsAuditOf settings (audit_in answer))
-  audit_alone answer a b p = reads_weaker {P = IsWatchedAuditOf settings follows tells answer} {Q = IsAuditOf settings (audit_in answer)} a b p (λ xs ys h. h.audit)
+  pub audit_alone : (answer : Result (WatchedAudit W) Trouble) (a b : Input) → OfReads a b (IsWatchedAuditOf settings follows answer) → OfReads a b (IsAuditOf settings (audit_in answer))
+  audit_alone answer a b p = reads_weaker {P = IsWatchedAuditOf settings follows answer} {Q = IsAuditOf settings (audit_in answer)} a b p (λ xs ys h. h.audit)
 
 pub at_end_with : {W : Type 0} (after : Input) (answer : Result Audited Trouble) (watch : W) (last : Option Envelope) (state : State) → GoodAtEnd after answer → GoodAtEnd after (audit_in (with_watch watch last state answer))
 at_end_with after (Ok audited) watch last state over = over

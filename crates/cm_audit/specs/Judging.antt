@@ -14,7 +14,7 @@ use Rattle.cm_state.specs.Summary.{Summary, empty_summary}
 use Rattle.cm_state.specs.ByOnePass.{answer_of_lines}
 use Rattle.cm_audit.specs.Audit.{AnswersAs, Begins, ReadsUpTo, TakesLine, all_written, contents, judged_line}
 use Rattle.cm_audit.specs.State.{summary_of}
-use Rattle.cm_audit.specs.Watched.{DecidesVerdict, FollowsGood, TellsVerdict, envelope_in}
+use Rattle.cm_audit.specs.Watched.{DecidesVerdict, FollowsGood, envelope_in}
 use Rattle.cm_audit.specs.declared.auditing.Judging.{Judging}
 use Rattle.cm_audit.specs.declared.stop.Stop.{Stop}
 use Rattle.cm_audit.specs.declared.stop.Stop.TheVariants as stop
@@ -44,12 +44,6 @@ pub record JudgesAs (settings : Settings) (answer : Result Audited Trouble)
 
 -- ---- with a watch
 
--- `tells` holds of what the lines before leave and of the envelope that a line is read as, where that has a fault
-abbrev pub TellsLine : (tells : Summary → Envelope → Type 0) → Summary
-    → Option (Result Envelope LineFault) → Result ⊤ Stop → Type 0
-TellsLine tells s (Some (Ok e)) (Err (stop.Bad b)) = tells s e
-TellsLine tells s _ _ = ⊤
-
 -- it holds, unless memory was refused
 abbrev pub UnlessNoMemory : Result ⊤ Stop → Type 0 → Type 0
 UnlessNoMemory (Err stop.Memory) P = ⊤
@@ -61,23 +55,14 @@ ReadsAgain last line (Ok done) = ⊤
 ReadsAgain last line (Err why) = IfSome last (λ e. envelope_of_line line ≡ Ok e)
 
 -- What an audit with a watch makes of a line: it is judged, and the watch is told of its envelope.
-pub record JudgesLine {W : Type 0} (follows : W → List Envelope → Type 0)
-    (tells : W → Summary → Envelope → Type 0) (old : Judging W) (line : List ℕ)
-    (result : Result ⊤ Stop) (new : Judging W) : Type 0 where
+pub record JudgesLine {W : Type 0} (follows : W → List Envelope → Type 0) (old : Judging W)
+    (line : List ℕ) (result : Result ⊤ Stop) (new : Judging W) : Type 0 where
   pub settings : new.settings ≡ old.settings
   pub taken : TakesLine old.settings old.state new.state
       (judged_line old.settings old.state line) result
   pub followed : UnlessNoMemory result ((es : List Envelope) → follows old.watch es
       → follows new.watch (es ++ envelope_in (judged_line old.settings old.state line)))
   pub again : ReadsAgain new.last line result
-  pub told : TellsLine (tells new.watch) (summary_of old.state)
-      (judged_line old.settings old.state line) result
-
--- what is told at a fault, where the answer is one
-abbrev pub TellsAnswer : Settings → (tells : Summary → Envelope → Type 0) → List ℕ
-    → Result Audited Trouble → Type 0
-TellsAnswer settings tells bytes (Ok a) = TellsVerdict settings tells bytes a.verdict
-TellsAnswer settings tells bytes (Err t) = ⊤
 
 -- `IsFollowed`, where the answer is Good
 abbrev pub FollowsAnswer : Settings → (List Envelope → Type 0) → Table → List ℕ
@@ -95,9 +80,8 @@ DecidesAnswer settings follows last kept bytes (Err t) = ⊤
 
 -- `IsWatchedAuditOf`, where the lines are judged one by one
 pub record JudgesWith (settings : Settings) (follows : List Envelope → Type 0)
-    (tells : Summary → Envelope → Type 0) (last : Option Envelope) (kept : Summary)
-    (answer : Result Audited Trouble) (bytes rest : List ℕ) : Type 0 where
+    (last : Option Envelope) (kept : Summary) (answer : Result Audited Trouble)
+    (bytes rest : List ℕ) : Type 0 where
   pub judges : JudgesAs settings answer bytes rest
   pub follows_it : FollowsAnswer settings follows kept.table bytes answer
-  pub told : TellsAnswer settings tells bytes answer
   pub decided : DecidesAnswer settings follows last kept bytes answer

@@ -1,4 +1,4 @@
--- What a watch is after an audit: of a good stream, and at the line that has a fault.
+-- What a watch is after an audit: of a good stream, and up to the line that decides.
 use Rattle.std.specs.Prelude.{◌≡◌, ◌<◌, ◌+◌, ⊤, ℕ, Bool, true, false, List, [], ◌∷◌, ◌++◌, Option, None, Some, IfSome, Result, Ok, Err, length}
 use Rattle.std.specs.List.{flat_map}
 use Rattle.cm_envelope.specs.Reading.{LineFault}
@@ -65,49 +65,13 @@ FollowsWatched settings follows bytes (Ok w) =
     FollowsGood settings (follows w.watch) (summary_of w.state).table bytes w.audited.verdict
 FollowsWatched settings follows bytes (Err t) = ⊤
 
--- ---- at a fault
-
--- Line n of the bytes, counted from 1, is judged as an envelope that has this fault, and no line before it has one. `tells`
--- holds of what those lines leave and of the envelope. Texts are read by the grammar.
-pub record IsToldAt (settings : Settings) (tells : Summary → Envelope → Type 0) (bytes : List ℕ)
-    (n : ℕ) (b : StreamFault) : Type 0 where
-  pub read : Utf8 → Reading
-  pub by_the_grammar : ReadsByTheGrammar read
-  pub before : List (List ℕ)
-  pub line : List ℕ
-  pub after : List (List ℕ)
-  pub cut : (feed_of bytes).lines ≡ before ++ line ∷ after
-  pub count : n ≡ length before + 1
-  pub said : Envelope
-  pub is_judged : line_judged_as settings (judged_in settings before) (envelope_unless_blank line)
-      ≡ Some (Ok said)
-  pub faultless : IsFaultlessBy read settings (judged_in settings before)
-  pub why : fault_by read settings (judged_in settings before) said
-      ≡ Some (IsBad (stream_fault_named b))
-  pub told : tells (summary_of_lines_by read settings.first_attempt (judged_in settings before))
-      said
+-- ---- up to the line that decides
 
 -- a fault of an envelope, and not of a line that is none, or of the end
 abbrev pub is_of_envelope : StreamFault → Bool
 is_of_envelope (bad.NoEnvelope fault) = false
 is_of_envelope bad.NoRunFinished = false
 is_of_envelope _ = true
-
--- that, where the verdict is such a fault
-abbrev pub TellsVerdict : Settings → (tells : Summary → Envelope → Type 0) → List ℕ → Verdict
-    → Type 0
-TellsVerdict settings tells bytes (verdict.Bad n b) =
-    is_of_envelope b ≡ true → IsToldAt settings tells bytes n b
-TellsVerdict settings tells bytes _ = ⊤
-
--- that, of the watch, where the answer is a verdict
-abbrev pub TellsWatched : {W : Type 0} → Settings → (tells : W → Summary → Envelope → Type 0)
-    → List ℕ → Result (WatchedAudit W) Trouble → Type 0
-TellsWatched settings tells bytes (Ok w) =
-    TellsVerdict settings (tells w.watch) bytes w.audited.verdict
-TellsWatched settings tells bytes (Err t) = ⊤
-
--- ---- up to the line that decides
 
 -- Line n of the bytes, counted from 1, is read as this envelope. What it is judged as has this finding, and no line before it has
 -- one. `follows` holds of what the lines up to it are judged as, and `left` of what the lines before it leave. Texts are read by
@@ -170,13 +134,12 @@ audit_in (Ok w) = Ok w.audited
 audit_in (Err t) = Err t
 
 -- What the answer says of all bytes of its stream, and of those that weren't read, where `follows` says what a watch is after
--- envelopes, and `tells` what it is once it was told of one.
+-- envelopes.
 pub record IsWatchedAuditOf {W : Type 0} (settings : Settings)
-    (follows : W → List Envelope → Type 0) (tells : W → Summary → Envelope → Type 0)
-    (answer : Result (WatchedAudit W) Trouble) (bytes rest : List ℕ) : Type 0 where
+    (follows : W → List Envelope → Type 0) (answer : Result (WatchedAudit W) Trouble)
+    (bytes rest : List ℕ) : Type 0 where
   pub audit : IsAuditOf settings (audit_in answer) bytes rest
   pub followed : FollowsWatched settings follows bytes answer
-  pub told : TellsWatched settings tells bytes answer
   pub decided : DecidesWatched settings follows bytes answer
 
 -- an audit of a stream that was read, with its watch, the last envelope and what is kept

@@ -9,7 +9,7 @@ ghost use Rattle.cm_audit.specs.Audit.{AnswersTold, Audits, DecidesGood, GoodAtE
 ghost use Rattle.cm_audit.specs.Audit.{ShowNoFault, ShowsUnsupported, TakesLine, judged_line};
 ghost use Rattle.cm_envelope.specs.Feeds.{is_failed_read};
 ghost use Rattle.cm_envelope.specs.Reading.{envelope_of_line};
-ghost use Rattle.cm_audit.specs.Judging.{JudgesLine, JudgesWith, TellsLine, UnlessNoMemory};
+ghost use Rattle.cm_audit.specs.Judging.{JudgesLine, JudgesWith, UnlessNoMemory};
 ghost use Rattle.cm_audit.specs.Watched.{IsWatchedAuditOf, audit_in, envelope_in, with_watch};
 ghost use Rattle.cm_audit.specs.State.{AreFewer, Takes, summary_of};
 ghost use Rattle.cm_state.specs.Summary.{empty_summary};
@@ -37,10 +37,8 @@ fn take_envelope<W: Watch>(
     ensures taken { Takes settings state.old state.new envelope result }
     ensures followed { UnlessNoMemory result ((es : List SomeEnvelope) → W.follows watch.old es
         → W.follows watch.new (es ++ envelope ∷ [])) }
-    ensures told { TellsLine (W.tells watch.new) (summary_of state.old) (Some (Ok envelope))
-        result }
 {
-    match watch.note(alloc, state, &envelope) {
+    match watch.note(alloc, &envelope) {
         Ok(()) => judge(state, envelope, settings),
         Err(error) => {
             drop(envelope);
@@ -62,8 +60,6 @@ fn take_line<W: Watch>(
         (judged_line settings state.old line.now) result }
     ensures followed { UnlessNoMemory result ((es : List SomeEnvelope) → W.follows watch.old es
         → W.follows watch.new (es ++ envelope_in (judged_line settings state.old line.now))) }
-    ensures told { TellsLine (W.tells watch.new) (summary_of state.old)
-        (judged_line settings state.old line.now) result }
 {
     if is_blank_line(line) {
         return Ok(());
@@ -100,7 +96,7 @@ struct Judging<W> {
 impl<W: Watch> TakeLines for Judging<W> {
     ghost is_ready = { λ n judging. AreFewer (n + 1) judging.state.counts };
 
-    ghost takes = { λ old line result new. JudgesLine W.follows W.tells old line result new };
+    ghost takes = { λ old line result new. JudgesLine W.follows old line result new };
 
     fn take_line(&mut self, alloc: Global, line: &[u8]) -> Result<(), Stop> {
         let taken = take_line(alloc, &mut self.state, &mut self.watch, line, self.settings);
@@ -123,8 +119,8 @@ fn judge_lines<R: ByteSource, W: Watch>(
         ≡ empty_summary judging.old.settings.first_attempt }
     requires starts { W.follows judging.old.watch [] }
     ensures judged { OfReads (R.input source.old) (R.input source.new)
-        (JudgesWith judging.old.settings (W.follows judging.new.watch)
-        (W.tells judging.new.watch) judging.new.last (summary_of judging.new.state) result) }
+        (JudgesWith judging.old.settings (W.follows judging.new.watch) judging.new.last
+        (summary_of judging.new.state) result) }
     ensures at_end { GoodAtEnd (R.input source.new) result }
     ensures failures { CountsFailure (is_failed_read result) (R.input source.old).failed_calls
         (R.input source.new).failed_calls }
@@ -175,8 +171,7 @@ fn with_watch<W: Drop>(
 }
 
 /// Audits a stream by the settings, as `audit_run` does, and tells the watch of each envelope before it is judged. What the
-/// watch is then: what it has to be after all envelopes of the stream, or after those up to the line that decides, and at the
-/// fault of an envelope what it tells of that envelope and of what is kept of the lines before it.
+/// watch is then: what it has to be after all envelopes of the stream, or after those up to the line that decides.
 ///
 /// # Errors
 /// As those of `audit_run`, and want of memory for the watch.
@@ -189,7 +184,7 @@ pub fn audit_watched<R: ByteSource, W: Watch + Drop>(
     requires starts { W.follows watch [] }
     // The audit, what the watch is, and for Good the results of the stream's cases, all of the same bytes.
     ensures same_bytes { OfReads (R.input source.old) (R.input source.new)
-        (IsWatchedAuditOf settings W.follows W.tells result) }
+        (IsWatchedAuditOf settings W.follows result) }
     ensures at_end { GoodAtEnd (R.input source.new) (audit_in result) }
     ensures failures { CountsFailure (is_failed_read result) (R.input source.old).failed_calls
         (R.input source.new).failed_calls }

@@ -1,5 +1,5 @@
 //! What an audit keeps of a source.
-ghost use Rattle.std.specs.Prelude.{◌≡◌, ℕ, List, [], IfOk, option_map, slice_get, true};
+ghost use Rattle.std.specs.Prelude.{◌≡◌, ℕ, List, [], IfOk, map, option_map, slice_get, true};
 ghost use Rattle.cm_stream.specs.Readings.{Accepted as accepted_text};
 ghost use Rattle.cm_stream.specs.OnePass.{reads};
 ghost use Rattle.cm_state.specs.StateChecks.{is_awaited_of, is_next_of, lacks_by};
@@ -69,6 +69,13 @@ impl AcceptedSource {
         }
     }
 
+    /// The pickles that didn't come.
+    fn due(&self, alloc: Global) -> Result<Vec<&DuePickle>, AllocError>
+        ensures { IfOk result (λ due. map (λ p. p.now) due.items ≡ (accepted_row [] self.now).due) }
+    {
+        self.due.iter().collect(alloc)
+    }
+
     /// The next pickle came, and isn't kept any longer.
     pub(crate) fn count_pickle(&mut self)
         ensures { (uri : List ℕ)
@@ -132,6 +139,19 @@ impl KeptSource {
         match self {
             KeptSource::Refused => None,
             KeptSource::Accepted(accepted) => accepted.due.front(),
+        }
+    }
+
+    /// The pickles that its text compiles to and that didn't come, in order.
+    ///
+    /// # Errors
+    /// Only where there is no memory for the list.
+    pub fn due(&self, alloc: Global) -> Result<Vec<&DuePickle>, AllocError>
+        ensures { IfOk result (λ due. map (λ p. p.now) due.items ≡ (kept_row [] self.now).due) }
+    {
+        match self {
+            KeptSource::Refused => Ok(Vec::new(alloc)),
+            KeptSource::Accepted(accepted) => accepted.due(alloc),
         }
     }
 

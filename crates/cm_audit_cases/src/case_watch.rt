@@ -1,8 +1,8 @@
 //! What goes along with the audit of a stream, for the lines of its cases.
-ghost use Rattle.std.specs.Prelude.{◌≡◌, ⊤};
+ghost use Rattle.std.specs.Prelude.{◌≡◌};
 ghost use Rattle.cm_cases.specs.Listed.{listing_of};
 
-use cm_audit::{State, Watch};
+use cm_audit::Watch;
 use cm_cases::Listing;
 use cm_envelope::Envelope;
 use std::alloc::{AllocError, Global};
@@ -16,14 +16,7 @@ pub(crate) struct CaseWatch {
 impl Watch for CaseWatch {
     ghost follows = { λ watch es. watch.listing ≡ listing_of es };
 
-    ghost tells = { λ _ _ _. ⊤ };
-
-    fn note(
-        &mut self,
-        alloc: Global,
-        _state: &State,
-        envelope: &Envelope,
-    ) -> Result<(), AllocError> {
+    fn note(&mut self, alloc: Global, envelope: &Envelope) -> Result<(), AllocError> {
         self.listing.note(alloc, envelope)
     }
 

@@ -1,28 +1,32 @@
 -- What maps find is what is found in what is kept.
 use Rattle.std.proofs.Common.{◌≡◌, ◌∙◌, ap, sym, refl, ℕ, ◌+◌, ◌<◌, Bool, true, false, cond, List, [], ◌∷◌, ◌++◌, ◌&&◌, ◌||◌, take, get_or, length, map, not, Option, None, Some, Bor, Result, Ok, Err, arith, add-zero, append-nil, ⊎_elim, zero, suc, ◌==◌}
 use Rattle.std.specs.Prelude.{IfOk, count_by, find, if◌then◌else◌, is_some, nat_lt, option_map}
-use Rattle.std.specs.List.{filter, list_any}
+use Rattle.std.specs.List.{filter, flat_map, list_any}
 use Rattle.std.specs.Option.{option_and_then, option_map_or}
 use Rattle.std.specs.Str.{bytes_eq}
 use Rattle.std.proofs.lemmas.Bool.{cases_Bool}
 use Rattle.std.proofs.lemmas.Bool.Decides.{nat_tests}
 use Rattle.std.proofs.lemmas.List.{map-append, take_more}
 use Rattle.std.proofs.lemmas.List.Elements.{filter-append}
+use Rattle.std.proofs.lemmas.List.Folds.{list_any-append}
 use Rattle.std.proofs.lemmas.List.Sums.{sum_by_more}
 use Rattle.std.proofs.lemmas.Slice.Eq.{bytes_eq-Decides}
 use Rattle.indexmap.specs.IndexMap.{IndexMap}
+use Rattle.indexmap.specs.IndexSet.{insert_key}
 use Rattle.cm_attempt.specs.Calls.{last_of}
 use Rattle.cm_attempt.specs.declared.policy.Policy.{Policy}
 use Rattle.cm_cases.specs.Firsts.{HasFirsts, value_at}
 use Rattle.cm_cases.proofs.FirstLemmas.{has_any}
+use Rattle.cm_reasons.specs.Reasons.{StepIds}
+use Rattle.cm_reasons.specs.declared.steps.CaseStep.{CaseStep}
 use Rattle.cm_state.proofs.OneMore.{same_count}
 use Rattle.cm_stream.specs.Release.{Conditions}
 use Rattle.cm_stream.specs.Texts.{Utf8}
 use Rattle.cm_stream.proofs.Declared.{same_any}
 use Rattle.cm_stream.proofs.Found.{eq_back}
-use Rattle.cm_stream.proofs.Lists.{keeps_none}
+use Rattle.cm_stream.proofs.Lists.{and_true, keeps_none, or_no}
 use Rattle.cm_stream.proofs.Steps.{never}
-use Rattle.cm_audit_release.specs.Counts.{attempts_in, case_in, case_of_attempt, has_skip_in, is_attempt_in, is_missed_in, is_retried_in, is_stepless_in, is_undefined_in, last_start, may_stay, missed_in, passes_in, retried_in, skipped_in, some_or_more, stepless_in, texts_of}
+use Rattle.cm_audit_release.specs.Counts.{attempts_in, case_in, case_of_attempt, has_skip_in, has_step, is_attempt_in, is_end_by, is_end_in, is_missed_in, is_retried_in, is_stepless_in, is_undefined_by, is_undefined_in, last_start, may_stay, missed_in, passes_in, passes_undefined_in, retried_in, skipped_in, some_or_more, stepless_in, steps_passing, texts_of, undefined_steps_in}
 use Rattle.cm_audit_release.specs.declared.kept.CaseEntry.{CaseEntry}
 use Rattle.cm_audit_release.specs.declared.kept.FinishEntry.{FinishEntry}
 use Rattle.cm_audit_release.specs.declared.kept.Kept.{Kept}
@@ -259,24 +263,95 @@ module _ {S : Type 0} where
 
 -- ---- undefined
 
-module _ {S T : Type 0} where
-  pub undefined_counted : (n : ℕ) (policy : Policy) (kept : Kept) (ss : List StartEntry) (cs : List CaseEntry) (fs : List FinishEntry) (starts : IndexMap (Bor Utf8) (Bor StartEntry) S) (cases : IndexMap (Bor Utf8) (List Utf8) T)
-      → ss ≡ kept.starts → cs ≡ kept.cases → fs ≡ kept.finishes
-      → HasFirsts (λ x. x.now) (λ x. x) (λ s. s.id) ss starts
-      → HasFirsts (λ x. x) (λ c. c.unmatched) (λ c. c.id) cs cases
-      → n ≡ count_by (λ f. passes_in policy f && option_map_or (list_any (bytes_eq f.step_id)) (option_and_then (λ s. value_at cases s.now.case_id) (value_at starts f.attempt_id)) false) fs
-      → n ≡ count_by (is_undefined_in policy kept) kept.finishes
-  undefined_counted n policy kept ss cs fs starts cases same_starts same_cases same_finishes h k count =
-      count ∙ same_count _ (is_undefined_in policy kept)
-      (λ f.
-      let start : option_map (λ s. s.now) (value_at starts f.attempt_id) ≡ find (λ s. bytes_eq f.attempt_id s.id) kept.starts =
-      h f.attempt_id ∙ same_option _ ∙ ap (find (λ s. bytes_eq f.attempt_id s.id)) same_starts in
+module _ {S T : Type 0} (policy : Policy) (kept : Kept) (ss : List StartEntry) (cs : List CaseEntry) (starts : IndexMap (Bor Utf8) (Bor StartEntry) S) (cases : IndexMap (Bor Utf8) (List Utf8) T)
+    (same_starts : ss ≡ kept.starts) (same_cases : cs ≡ kept.cases) (h : HasFirsts (λ x. x.now) (λ x. x) (λ s. s.id) ss starts) (k : HasFirsts (λ x. x) (λ c. c.unmatched) (λ c. c.id) cs cases) where
+  start_found : (attempt : Utf8) → option_map (λ s. s.now) (value_at starts attempt) ≡ find (λ s. bytes_eq attempt s.id) kept.starts
+  start_found attempt = h attempt ∙ same_option _ ∙ ap (find (λ s. bytes_eq attempt s.id)) same_starts
+
+  -- what the maps say of an end is so of what is kept
+  undefined_by : (f : FinishEntry) → is_undefined_by starts cases policy f ≡ is_undefined_in policy kept f
+  undefined_by f =
       let found : option_and_then (λ s. value_at cases s.now.case_id) (value_at starts f.attempt_id) ≡ option_map (λ c. c.unmatched) (case_of_attempt kept f.attempt_id) =
       then_of_map (λ (s : StartEntry). value_at cases s.case_id) (λ (s : Bor StartEntry). s.now) (value_at starts f.attempt_id)
-      ∙ ap (option_and_then (λ (s : StartEntry). value_at cases s.case_id)) start
+      ∙ ap (option_and_then (λ (s : StartEntry). value_at cases s.case_id)) (start_found f.attempt_id)
       ∙ then_same (λ (s : StartEntry). value_at cases s.case_id) (λ (s : StartEntry). option_map (λ c. c.unmatched) (case_in kept.cases s.case_id))
       (λ s. sym (same_option _) ∙ k s.case_id ∙ ap (λ l. option_map (λ (c : CaseEntry). c.unmatched) (case_in l s.case_id)) same_cases) (find (λ s. bytes_eq f.attempt_id s.id) kept.starts)
       ∙ map_of_then (λ (c : CaseEntry). c.unmatched) (λ (s : StartEntry). case_in kept.cases s.case_id) (find (λ s. bytes_eq f.attempt_id s.id) kept.starts) in
       ap (λ o. passes_in policy f && option_map_or (list_any (bytes_eq f.step_id)) o false) found
-      ∙ ap (λ b. passes_in policy f && b) (sym (or_of_map (list_any (bytes_eq f.step_id)) (λ (c : CaseEntry). c.unmatched) (case_of_attempt kept f.attempt_id) false)))
-      fs ∙ ap (count_by (is_undefined_in policy kept)) same_finishes
+      ∙ ap (λ b. passes_in policy f && b) (sym (or_of_map (list_any (bytes_eq f.step_id)) (λ (c : CaseEntry). c.unmatched) (case_of_attempt kept f.attempt_id) false))
+
+  end_by : (test_case step : Utf8) (f : FinishEntry) → is_end_by starts test_case step f ≡ is_end_in kept test_case step f
+  end_by test_case step f =
+      ap (λ b. bytes_eq step f.step_id && b)
+      (or_of_map (λ (s : StartEntry). bytes_eq test_case s.case_id) (λ (s : Bor StartEntry). s.now) (value_at starts f.attempt_id) false
+      ∙ ap (λ o. option_map_or (λ (s : StartEntry). bytes_eq test_case s.case_id) o false) (start_found f.attempt_id))
+
+  pub undefined_counted : (n : ℕ) (fs : List FinishEntry) → fs ≡ kept.finishes → n ≡ count_by (is_undefined_by starts cases policy) fs → n ≡ count_by (is_undefined_in policy kept) kept.finishes
+  undefined_counted n fs same_finishes count =
+      count ∙ same_count (is_undefined_by starts cases policy) (is_undefined_in policy kept) undefined_by fs ∙ ap (count_by (is_undefined_in policy kept)) same_finishes
+
+  pub undefined_found : (ids : List StepIds) (steps : List CaseStep) (fs : List FinishEntry) (walked : List CaseEntry) → fs ≡ kept.finishes → walked ≡ kept.cases
+      → ((test_case step : Utf8) → has_step steps test_case step ≡ list_any (λ f. is_undefined_by starts cases policy f && is_end_by starts test_case step f) fs)
+      → ids ≡ flat_map (steps_passing (has_step steps)) walked → ids ≡ undefined_steps_in policy kept
+  undefined_found ids steps fs walked same_finishes same_walked all found =
+      let same : (test_case step : Utf8) → has_step steps test_case step ≡ passes_undefined_in policy kept test_case step =
+      λ test_case step.
+      all test_case step
+      ∙ same_any (λ f. is_undefined_by starts cases policy f && is_end_by starts test_case step f) (λ f. is_undefined_in policy kept f && is_end_in kept test_case step f)
+      (λ f. λ j. undefined_by f j && end_by test_case step f j) fs
+      ∙ ap (list_any (λ f. is_undefined_in policy kept f && is_end_in kept test_case step f)) same_finishes in
+      found ∙ (λ j. flat_map (steps_passing (λ test_case step. same test_case step j)) (same_walked j))
+
+flat_nil : {X Y : Type 0} (g : X → List Y) → ((x : X) → g x ≡ []) → (xs : List X) → flat_map g xs ≡ []
+flat_nil g h [] = refl
+flat_nil g h (x ∷ xs) = rw (h x) (flat_nil g h xs)
+
+-- where no step that passed was kept there is none
+pub none_undefined : (policy : Policy) (kept : Kept) → kept.finishes ≡ [] → [] ≡ undefined_steps_in policy kept
+none_undefined policy kept none =
+    sym
+    (flat_nil (steps_passing (passes_undefined_in policy kept))
+    (λ c.
+    ap (map (λ step. record { test_case = c.id; step = step }))
+    (none_of (passes_undefined_in policy kept c.id) (λ step. ap (list_any (λ f. is_undefined_in policy kept f && is_end_in kept c.id step f)) none) c.unmatched))
+    kept.cases)
+
+-- ---- undefined: a set of steps
+
+and_yes : (b : Bool) → (b && true) ≡ b
+and_yes true = refl
+and_yes false = refl
+
+-- the two are one step of one case
+abbrev same_step : CaseStep → CaseStep → Bool
+same_step a b = bytes_eq a.case.now b.case.now && bytes_eq a.step.now b.step.now
+
+or_yes : (b : Bool) → (b || true) ≡ true
+or_yes true = refl
+or_yes false = refl
+
+-- a set with one step more has that, and what it had
+pub step_added : (keys : List CaseStep) (k : CaseStep) (test_case step : Utf8) → has_step (insert_key (λ a b. bytes_eq a.case.now b.case.now && bytes_eq a.step.now b.step.now) keys k) test_case step
+    ≡ (has_step keys test_case step || (bytes_eq step k.step.now && bytes_eq test_case k.case.now))
+step_added keys k test_case step = go (list_any (same_step k) keys) refl
+  where
+    turned : (s : CaseStep) → same_step k s ≡ (bytes_eq k.step.now s.step.now && bytes_eq k.case.now s.case.now)
+    turned s = ⊎_elim (λ yes. rw yes (sym (and_yes (bytes_eq k.step.now s.step.now)))) (λ no. rw no (sym (never (bytes_eq k.step.now s.step.now)))) (cases_Bool (bytes_eq k.case.now s.case.now))
+
+    there : (b : Bool) → (bytes_eq step k.step.now && bytes_eq test_case k.case.now) ≡ b → list_any (same_step k) keys ≡ true → has_step keys test_case step ≡ (has_step keys test_case step || b)
+    there false e h = sym (or_no (has_step keys test_case step))
+    there true e h =
+        let both = and_true (bytes_eq step k.step.now) (bytes_eq test_case k.case.now) e in
+        let has : has_step keys test_case step ≡ true =
+        (λ j. has_step keys ((bytes_eq-Decides test_case k.case.now).0 both.1 j) ((bytes_eq-Decides step k.step.now).0 both.0 j))
+        ∙ sym (same_any (same_step k) (λ s. bytes_eq k.step.now s.step.now && bytes_eq k.case.now s.case.now) turned keys) ∙ h in
+        has ∙ sym (or_yes (has_step keys test_case step))
+
+    go : (b : Bool) → list_any (same_step k) keys ≡ b → has_step (insert_key same_step keys k) test_case step ≡ (has_step keys test_case step || (bytes_eq step k.step.now && bytes_eq test_case k.case.now))
+    go true e =
+        ap (λ (b : Bool). has_step (if b then keys else keys ++ k ∷ []) test_case step) e
+        ∙ there (bytes_eq step k.step.now && bytes_eq test_case k.case.now) refl e
+    go false e =
+        ap (λ (b : Bool). has_step (if b then keys else keys ++ k ∷ []) test_case step) e
+        ∙ list_any-append (λ (s : CaseStep). bytes_eq step s.step.now && bytes_eq test_case s.case.now) keys (k ∷ [])
+        ∙ ap (λ b. has_step keys test_case step || b) (or_no (bytes_eq step k.step.now && bytes_eq test_case k.case.now))

@@ -5,9 +5,9 @@ use Rattle.cm_attempt.specs.declared.settings.Settings.{Settings}
 use Rattle.cm_attempt.specs.declared.policy.Policy.{Policy}
 use Rattle.cm_envelope.specs.declared.envelope.Envelope.{Envelope}
 use Rattle.cm_reasons.specs.Lines.{limited}
-use Rattle.cm_reasons.specs.Reasons.{AreReasons, case_lines, pickle_lines}
+use Rattle.cm_reasons.specs.Reasons.{StepIds, case_lines, pickle_lines, undefined_lines}
 use Rattle.cm_reasons.specs.Trail.{trail_of}
-use Rattle.cm_stream.specs.Good.{Good}
+use Rattle.cm_stream.specs.Good.{Good, Sound}
 use Rattle.cm_stream.specs.Release.{Conditions, hold_of}
 use Rattle.cm_stream.specs.Texts.{Utf8}
 use Rattle.cm_stream.specs.declared.conditions.ReleaseCounts.{ReleaseCounts}
@@ -18,32 +18,33 @@ use Rattle.cm_audit_release.specs.Counts.{counts_in}
 use Rattle.cm_audit_release.specs.Found.{IsFoundIn}
 use Rattle.cm_audit_release.specs.Judged.{AreLinesIn, IsJudged}
 use Rattle.cm_audit_release.specs.Kept.{kept_of}
+use Rattle.cm_audit_release.specs.Reasons.{AreReasons}
 use Rattle.cm_audit_release.specs.Watched.{Follows}
 use Rattle.cm_audit_release.specs.declared.counting.Found.{Found}
 use Rattle.cm_audit_release.specs.declared.kept.Kept.{Kept}
 use Rattle.cm_audit_release.specs.declared.release_watch.ReleaseWatch.{ReleaseWatch}
-use Rattle.cm_audit_release.proofs.WholeLemmas.{counts_same, missed_same, retried_same, skipped_same, stepless_same}
+use Rattle.cm_audit_release.proofs.WholeLemmas.{counts_same, missed_same, retried_same, skipped_same, stepless_same, undefined_same}
 
-module _ (policy : Policy) (asked : Conditions) (es : List Envelope) (found : Found) (is : IsFoundIn asked policy (kept_of es) found) where
+module _ (policy : Policy) (asked : Conditions) (es : List Envelope) (good : Sound es) (found : Found) (is : IsFoundIn asked policy (kept_of es) found) where
   -- the lines are the reasons
-  reasons : (held : Option Hold) (text : List ℕ) → AreLinesIn es found held text → AreReasons policy asked es held text
+  reasons : (held : Option Hold) (text : List ℕ) → AreLinesIn policy es found held text → AreReasons policy asked es held text
   reasons (Some hold.Unrun) text h = h ∙ ap (λ (ids : List Utf8). limited (pickle_lines (codes "UNRUN") es ids)) (is.missed ∙ missed_same asked es)
   reasons (Some hold.Retried) text h = h ∙ ap (λ (ids : List Utf8). limited (pickle_lines (codes "RETRIED") es ids)) (is.retried ∙ retried_same es)
   reasons (Some hold.Skipped) text h = h ∙ ap (λ (ids : List Utf8). limited (case_lines (codes "SKIPPED") es ids)) (is.skipped ∙ skipped_same es)
   reasons (Some hold.Stepless) text h = h ∙ ap (λ (ids : List Utf8). limited (case_lines (codes "STEPLESS") es ids)) (is.stepless ∙ stepless_same es)
+  reasons (Some hold.Undefined) text h = h ∙ ap (λ (steps : List StepIds). limited (undefined_lines es steps)) (is.undefined_steps ∙ undefined_same policy es good)
   reasons (Some hold.NotSuccessful) text h = h
   reasons (Some hold.Empty) text h = h
-  reasons (Some hold.Undefined) text h = h
   reasons None text h = h
 
 pub judged : (settings : Settings) (asked : Conditions) (es : List Envelope) (watch : ReleaseWatch) (found : Found) (success : Bool) (counts : Counts) (counted : ReleaseCounts) (held : Option Hold) (text : List ℕ)
     → Follows watch es → Good settings es → IsFoundIn asked settings.policy watch.keeping.kept found
     → ((asked : Conditions) (policy : Policy) (kept : Kept) → IsFoundIn asked policy kept found → counted ≡ counts_in asked policy kept)
-    → held ≡ hold_of asked success counts counted → (watch.trail ≡ trail_of es → AreLinesIn es found held text) → IsJudged settings asked es success counts counted held text
+    → held ≡ hold_of asked success counts counted → (watch.trail ≡ trail_of es → AreLinesIn settings.policy es found held text) → IsJudged settings asked es success counts counted held text
 judged settings asked es watch found success counts counted held text follows good is count first lines =
     let here : IsFoundIn asked settings.policy (kept_of es) found = subst (λ (k : Kept). IsFoundIn asked settings.policy k found) follows.0.0 is in
     record {
       counted = count asked settings.policy (kept_of es) here ∙ counts_same asked settings es good;
       first = first;
-      told = reasons settings.policy asked es found here held text (lines follows.1);
+      told = reasons settings.policy asked es good.sound found here held text (lines follows.1);
     }

@@ -6,7 +6,7 @@ use Rattle.std.specs.Option.{option_and_then, option_map_or}
 use Rattle.std.specs.Str.{bytes_eq}
 use Rattle.std.proofs.lemmas.Bool.{cases_Bool}
 use Rattle.std.proofs.lemmas.List.{length-map}
-use Rattle.std.proofs.lemmas.List.Folds.{list_any-append}
+use Rattle.std.proofs.lemmas.List.Folds.{flat_map-map, list_any-append}
 use Rattle.std.proofs.lemmas.List.Sums.{length-filter, sum_by-append, sum_by-cons}
 use Rattle.cm_attempt.specs.Calls.{last_of}
 use Rattle.cm_attempt.specs.Table.{has_repeat, has_text, passes_pending}
@@ -31,15 +31,16 @@ use Rattle.cm_stream.specs.Statuses.{kept_status}
 use Rattle.cm_stream.specs.Texts.{Utf8}
 use Rattle.cm_stream.proofs.Declared.{case_is, declarer, declares_attempt, declares_case, same_any, start_is}
 use Rattle.cm_stream.proofs.Found.{bytes_are, bytes_same, eq_back, still_found}
-use Rattle.cm_stream.proofs.Lists.{any_front, find_map, map_twice, or_false}
+use Rattle.cm_stream.proofs.Lists.{any_front, find_map, map_twice, or_false, or_no}
 use Rattle.cm_stream.proofs.Refuted.{declared_append, names_after}
-use Rattle.cm_audit_release.specs.Counts.{attempts_in, case_in, case_of_attempt, counts_in, has_skip_in, is_attempt_in, is_missed_in, is_retried_in, is_stepless_in, is_undefined_in, last_start, may_stay, missed_in, retried_in, skipped_in, stepless_in}
+use Rattle.cm_audit_release.specs.Counts.{attempts_in, case_in, case_of_attempt, counts_in, has_skip_in, is_attempt_in, is_end_in, is_missed_in, is_retried_in, is_stepless_in, is_undefined_in, last_start, may_stay, missed_in, passes_undefined_in, retried_in, skipped_in, stepless_in, steps_passing, undefined_steps_in}
 use Rattle.cm_audit_release.specs.Kept.{all_unmatched, case_entry, finish_after, finish_among, finish_entry, finishes_from, kept_of, pickle_entry, skip_of, skips_in, start_entry, unmatched_ids}
 use Rattle.cm_audit_release.specs.declared.kept.CaseEntry.{CaseEntry}
+use Rattle.cm_audit_release.specs.declared.kept.FinishEntry.{FinishEntry}
 use Rattle.cm_audit_release.specs.declared.kept.PickleEntry.{PickleEntry}
 use Rattle.cm_audit_release.specs.declared.kept.StartEntry.{StartEntry}
 use Rattle.cm_audit_release.proofs.CountLemmas.{any_map, or_of_map, same_picked}
-use Rattle.cm_reasons.specs.Reasons.{missed_pickles, retried_pickles, skipped_cases, stepless_cases}
+use Rattle.cm_reasons.specs.Reasons.{StepIds, is_end_of, is_undefined_step, missed_pickles, retried_pickles, skipped_cases, stepless_cases, undefined_steps, undefined_steps_of}
 
 count_map : {X Y : Type 0} (q : Y → Bool) (f : X → Y) (xs : List X) → count_by q (map f xs) ≡ count_by (λ x. q (f x)) xs
 count_map q f [] = refl
@@ -361,6 +362,95 @@ module _ (policy : Policy) (es : List Envelope) (good : Sound es) where
       sum_by-append (λ x. cond (is_undefined_in policy (kept_of es) x) 1 0) (finish_after before e) (finishes_from (before ++ e ∷ []) rest)
       ∙ (λ j. one_more before e rest cut j + from_there (before ++ e ∷ []) rest (cut ∙ sym (append_assoc before (e ∷ []) rest)) j)
       ∙ sym (sum_by-cons (λ x. cond (passes_unmatched policy es x) 1 0) e rest)
+
+-- ---- undefined: which steps
+
+one_any : {X : Type 0} (u r : X → Bool) (x : X) (here said ended : Bool) → u x ≡ said → r x ≡ ended → (said ≡ true → here ≡ true) → list_any (λ y. u y && r y) (if here then x ∷ [] else []) ≡ (said && ended)
+one_any u r x true said ended e k h = (λ j. (e j && k j) || false) ∙ or_no (said && ended)
+one_any u r x false true ended e k h = let no_way : false ≡ true = h refl in cc
+one_any u r x false false ended e k h = refl
+
+module _ (policy : Policy) (es : List Envelope) (good : Sound es) (test_case step : Utf8) where
+  ended_same : (f : TestStepFinished) (is_pending : Bool) → is_end_in (kept_of es) test_case step (finish_entry f is_pending) ≡ is_end_of es test_case step (envelope.TestStepFinished f)
+  ended_same f is_pending =
+      ap (λ b. bytes_eq step f.test_step_id && b)
+      (ap (λ o. option_map_or (λ (s : StartEntry). bytes_eq test_case s.case_id) o false) (find_map (λ (s : StartEntry). bytes_eq f.test_case_started_id s.id) start_entry (starts es))
+      ∙ sym (or_of_map (λ (s : StartEntry). bytes_eq test_case s.case_id) start_entry (find (λ s. bytes_eq f.test_case_started_id s.id) (starts es)) false)
+      ∙ or_of_map (bytes_eq test_case) (λ (s : TestCaseStarted). s.test_case_id) (find (λ s. bytes_eq f.test_case_started_id s.id) (starts es)) false)
+
+  abbrev told_in : FinishEntry → Bool
+  told_in f = is_undefined_in policy (kept_of es) f && is_end_in (kept_of es) test_case step f
+
+  abbrev told_of : Envelope → Bool
+  told_of e = passes_unmatched policy es e && is_end_of es test_case step e
+
+  finish_told : (before : List Envelope) (f : TestStepFinished) → HasCase es before f.test_case_started_id → (s : Status)
+      → list_any told_in (finish_among (all_unmatched (map case_entry (cases before))) f s)
+      ≡ ((is_passing policy (kept_status s) && of_envelopes es f) && is_end_of es test_case step (envelope.TestStepFinished f))
+  finish_told before f has status.Passed =
+      one_any (is_undefined_in policy (kept_of es)) (is_end_in (kept_of es) test_case step) (finish_entry f false) (has_text f.test_step_id (all_unmatched (map case_entry (cases before)))) (of_envelopes es f)
+      (is_end_of es test_case step (envelope.TestStepFinished f)) (same_step es before f has) (ended_same f false) (id_before es before f has)
+  finish_told before f has status.Pending =
+      one_any (is_undefined_in policy (kept_of es)) (is_end_in (kept_of es) test_case step) (finish_entry f true) (has_text f.test_step_id (all_unmatched (map case_entry (cases before)))) (passes_pending policy && of_envelopes es f)
+      (is_end_of es test_case step (envelope.TestStepFinished f)) (ap (λ b. passes_pending policy && b) (same_step es before f has)) (ended_same f true)
+      (λ h. id_before es before f has (and_second (passes_pending policy) (of_envelopes es f) h))
+  finish_told before f has status.Unknown = refl
+  finish_told before f has status.Skipped = refl
+  finish_told before f has status.Undefined = refl
+  finish_told before f has status.Ambiguous = refl
+  finish_told before f has status.Failed = refl
+
+  one_told : (before : List Envelope) (e : Envelope) (after : List Envelope) → es ≡ before ++ e ∷ after → list_any told_in (finish_after before e) ≡ told_of e
+  one_told before (envelope.TestStepFinished f) after cut =
+      finish_told before f (has_case es before (envelope.TestStepFinished f) after good cut f.test_case_started_id (good.references before (envelope.TestStepFinished f) after cut).0) f.test_step_result.status
+  one_told before (envelope.Pickle x) after cut = refl
+  one_told before (envelope.TestCase x) after cut = refl
+  one_told before (envelope.TestCaseStarted x) after cut = refl
+  one_told before (envelope.Source x) after cut = refl
+  one_told before (envelope.GherkinDocument x) after cut = refl
+  one_told before (envelope.ParseError x) after cut = refl
+  one_told before (envelope.StepDefinition x) after cut = refl
+  one_told before (envelope.Hook x) after cut = refl
+  one_told before (envelope.TestRunStarted x) after cut = refl
+  one_told before (envelope.TestStepStarted x) after cut = refl
+  one_told before (envelope.TestCaseFinished x) after cut = refl
+  one_told before (envelope.TestRunFinished x) after cut = refl
+  one_told before (envelope.Attachment x) after cut = refl
+  one_told before (envelope.TestRunHookStarted x) after cut = refl
+  one_told before (envelope.TestRunHookFinished x) after cut = refl
+  one_told before envelope.Other after cut = refl
+
+  told_from : (before rest : List Envelope) → es ≡ before ++ rest → list_any told_in (finishes_from before rest) ≡ list_any told_of rest
+  told_from before [] cut = refl
+  told_from before (e ∷ rest) cut =
+      list_any-append told_in (finish_after before e) (finishes_from (before ++ e ∷ []) rest)
+      ∙ (λ j. one_told before e rest cut j || told_from (before ++ e ∷ []) rest (cut ∙ sym (append_assoc before (e ∷ []) rest)) j)
+
+  passes_same : passes_undefined_in policy (kept_of es) test_case step ≡ list_any told_of es
+  passes_same = told_from [] es refl
+
+filter_twice : {X : Type 0} (p q : X → Bool) (xs : List X) → filter q (filter p xs) ≡ filter (λ x. p x && q x) xs
+filter_twice p q [] = refl
+filter_twice {X} p q (x ∷ xs) = ⊎_elim (λ yes. rw yes (ap (λ l. if q x then x ∷ l else l) (filter_twice p q xs))) (λ no. rw no (filter_twice p q xs)) (cases_Bool (p x))
+
+same_flat : {X Y : Type 0} (f g : X → List Y) → ((x : X) → f x ≡ g x) → (xs : List X) → flat_map f xs ≡ flat_map g xs
+same_flat f g h xs = λ j. flat_map (λ x. h x j) xs
+
+same_filtered : {X Y : Type 0} (f : X → Y) (p q : X → Bool) → ((x : X) → p x ≡ q x) → (xs : List X) → map f (filter p xs) ≡ map f (filter q xs)
+same_filtered f p q h xs = λ j. map f (filter (λ x. h x j) xs)
+
+module _ (policy : Policy) (es : List Envelope) (good : Sound es) where
+  steps_same : (c : TestCase) → steps_passing (passes_undefined_in policy (kept_of es)) (case_entry c) ≡ undefined_steps_of policy es c
+  steps_same c =
+      picked_map (λ (step : Utf8). record { test_case = c.id; step = step }) (passes_undefined_in policy (kept_of es) c.id) (λ (t : TestStep). t.id) (filter is_unmatched c.test_steps)
+      ∙ ap (map (λ (t : TestStep). record { test_case = c.id; step = t.id })) (filter_twice is_unmatched (λ (t : TestStep). passes_undefined_in policy (kept_of es) c.id t.id) c.test_steps)
+      ∙ same_filtered (λ (t : TestStep). record { test_case = c.id; step = t.id }) (λ t. is_unmatched t && passes_undefined_in policy (kept_of es) c.id t.id) (is_undefined_step policy es c)
+      (λ t. ap (λ b. is_unmatched t && b) (passes_same policy es good c.id t.id)) c.test_steps
+
+  pub undefined_same : undefined_steps_in policy (kept_of es) ≡ undefined_steps policy es
+  undefined_same =
+      flat_map-map (steps_passing (passes_undefined_in policy (kept_of es))) case_entry (cases es)
+      ∙ same_flat (λ c. steps_passing (passes_undefined_in policy (kept_of es)) (case_entry c)) (undefined_steps_of policy es) steps_same (cases es)
 
 -- ---- all
 

@@ -1,12 +1,16 @@
 -- What is counted of what is kept of a stream, for its release.
 use Rattle.std.specs.Prelude.{◌==◌, ◌&&◌, ◌||◌, ℕ, Bool, false, not, List, Option, Some, None, if◌then◌else◌, count_by, filter, find, length, map, nat_lt}
 use Rattle.std.specs.Borrow.{Bor}
-use Rattle.std.specs.List.{list_any}
+use Rattle.std.specs.List.{flat_map, list_any}
 use Rattle.std.specs.Option.{option_and_then, option_map_or}
 use Rattle.std.specs.Str.{bytes_eq}
+use Rattle.indexmap.specs.IndexMap.{IndexMap}
 use Rattle.cm_attempt.specs.Calls.{last_of}
 use Rattle.cm_attempt.specs.Table.{passes_pending}
 use Rattle.cm_attempt.specs.declared.policy.Policy.{Policy}
+use Rattle.cm_cases.specs.Firsts.{value_at}
+use Rattle.cm_reasons.specs.Reasons.{StepIds}
+use Rattle.cm_reasons.specs.declared.steps.CaseStep.{CaseStep}
 use Rattle.cm_stream.specs.Release.{Conditions}
 use Rattle.cm_stream.specs.Texts.{Utf8}
 use Rattle.cm_stream.specs.declared.conditions.ReleaseCounts.{ReleaseCounts}
@@ -81,6 +85,47 @@ is_undefined_in policy kept f =
     passes_in policy f
     && option_map_or (λ c. list_any (bytes_eq f.step_id) c.unmatched)
     (case_of_attempt kept f.attempt_id) false
+
+-- the end is that of the step in an attempt of the case
+abbrev pub is_end_in : Kept → (test_case step : Utf8) → FinishEntry → Bool
+is_end_in kept case step f =
+    bytes_eq step f.step_id
+    && option_map_or (λ s. bytes_eq case s.case_id)
+    (find (λ s. bytes_eq f.attempt_id s.id) kept.starts) false
+
+-- the step of the case passed, and is an unmatched one
+abbrev pub passes_undefined_in : Policy → Kept → (test_case step : Utf8) → Bool
+passes_undefined_in policy kept case step =
+    list_any (λ f. is_undefined_in policy kept f && is_end_in kept case step f) kept.finishes
+
+-- those of a case's unmatched steps that pass a test, and those of all cases
+abbrev pub steps_passing : (test : (test_case step : Utf8) → Bool) → CaseEntry → List StepIds
+steps_passing test c =
+    map (λ step. record { test_case = c.id; step = step }) (filter (test c.id) c.unmatched)
+
+abbrev pub undefined_steps_in : Policy → Kept → List StepIds
+undefined_steps_in policy kept =
+    flat_map (steps_passing (passes_undefined_in policy kept)) kept.cases
+
+-- the step of the case is one of these
+abbrev pub has_step : List CaseStep → (test_case step : Utf8) → Bool
+has_step steps case step =
+    list_any (λ s. bytes_eq step s.step.now && bytes_eq case s.case.now) steps
+
+module _ {S : Type 0} (starts : IndexMap (Bor Utf8) (Bor StartEntry) S) where
+  -- the same of an end, by a map of the attempts
+  abbrev pub is_end_by : (test_case step : Utf8) → FinishEntry → Bool
+  is_end_by case step f =
+      bytes_eq step f.step_id
+      && option_map_or (λ s. bytes_eq case s.now.case_id) (value_at starts f.attempt_id) false
+
+  -- and by one of the unmatched steps of each case
+  abbrev pub is_undefined_by : {T : Type 0} → IndexMap (Bor Utf8) (List Utf8) T → Policy
+      → FinishEntry → Bool
+  is_undefined_by cases policy f =
+      passes_in policy f
+      && option_map_or (list_any (bytes_eq f.step_id))
+      (option_and_then (λ s. value_at cases s.now.case_id) (value_at starts f.attempt_id)) false
 
 -- ---- all
 

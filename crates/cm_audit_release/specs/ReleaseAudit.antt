@@ -3,9 +3,11 @@ use Rattle.std.specs.Prelude.{◌≡◌, ⊤, ℕ, Bool, List, Option, Result, O
 use Rattle.cm_envelope.specs.declared.envelope.Envelope.{Envelope}
 use Rattle.cm_envelope.specs.declared.feed.Trouble.{Trouble}
 use Rattle.cm_envelope.specs.declared.feed.Trouble.TheVariants.{Memory}
+use Rattle.cm_attempt.specs.Results.{case_results}
 use Rattle.cm_attempt.specs.declared.settings.Settings.{Settings}
 use Rattle.cm_stream.specs.Good.{Good}
 use Rattle.cm_stream.specs.Release.{Conditions}
+use Rattle.cm_stream.specs.Results.{results_of}
 use Rattle.cm_stream.specs.Stream.{IsReadAs}
 use Rattle.cm_stream.specs.declared.conditions.ReleaseCounts.{ReleaseCounts}
 use Rattle.cm_stream.specs.declared.verdict.Audited.{Audited}
@@ -61,9 +63,10 @@ abbrev pub JudgesVerdict : Settings → Conditions → WatchedAudit ReleaseWatch
     → Option Hold → (reasons : List ℕ) → Verdict → Type 0
 JudgesVerdict settings asked w found held reasons (verdict.Good counts) =
     (es : List Envelope) → Follows w.watch es → Good settings es
+    → case_results (summary_of w.state).table ≡ results_of es
     → IsJudged settings asked es w.audited.success counts found held reasons
 JudgesVerdict settings asked w found held reasons v =
-    TellsWith (summary_of w.state) w.watch.trail w.last v reasons
+    TellsWith settings (summary_of w.state) w.watch.trail w.last v reasons
 
 -- of an audit that was watched, the audit with what is said
 abbrev pub JudgesWatched : Settings → Conditions → WatchedAudit ReleaseWatch → AuditedRelease

@@ -41,12 +41,16 @@ fn judgement_of(
     match audited.verdict {
         Verdict::Good(counts) => {
             let watch = &watched.watch;
-            Judgement::of(alloc, conditions, settings, watch, audited.success, counts)
+            let track = watched.state.attempts();
+            let success = audited.success;
+            Judgement::of(alloc, conditions, settings, watch, track, success, counts)
         }
         _ => {
             let verdict = audited.verdict;
             let trail = &watched.watch.trail;
-            let reasons = verdict_told(alloc, &watched.state, trail, &watched.last, verdict)?;
+            let state = &watched.state;
+            let last = &watched.last;
+            let reasons = verdict_told(alloc, settings, state, trail, last, verdict)?;
             Ok(Judgement::told(reasons))
         }
     }

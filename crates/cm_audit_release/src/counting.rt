@@ -13,9 +13,10 @@ ghost use Rattle.cm_audit_release.specs.declared.kept.Kept.{Kept as SomeKept};
 
 use crate::kept::{CaseEntry, Kept, PickleEntry, StartEntry};
 use crate::texts::{CaseId, CasePickle, PickleId, TextSet, Whole};
-use crate::undefined::count_undefined;
+use crate::undefined::Undefined;
 use cm_attempt::Policy;
 use cm_cases::{ByText, firsts_of};
+use cm_reasons::CaseStep;
 use cm_stream::{Conditions, ReleaseCounts};
 use gk_document::Text;
 use indexmap::IndexMap;
@@ -242,7 +243,7 @@ fn stepless_of<'a>(alloc: Global, kept: &'a Kept) -> Result<Vec<&'a str>, AllocE
 
 // ---- all
 
-/// What a release may be refused for: the ids of pickles and of cases, and how many steps.
+/// What a release may be refused for: the ids of pickles and of cases, how many steps, and which steps of each case.
 #[derive(Drop)]
 pub(crate) struct Found<'a> {
     pub(crate) missed: Vec<&'a str>,
@@ -250,6 +251,7 @@ pub(crate) struct Found<'a> {
     pub(crate) skipped: Vec<&'a str>,
     pub(crate) stepless: Vec<&'a str>,
     pub(crate) undefined: u64,
+    pub(crate) undefined_steps: Vec<CaseStep<'a>>,
 }
 
 impl<'a> Found<'a> {
@@ -262,12 +264,14 @@ impl<'a> Found<'a> {
     ) -> Result<Found<'a>, AllocError>
         ensures { IfOk result (IsFoundIn (conditions_of conditions.now) policy kept.now) }
     {
+        let Undefined { count, steps } = Undefined::of(alloc, policy, kept)?;
         Ok(Found {
             missed: missed_of(alloc, conditions, kept)?,
             retried: retried_of(alloc, kept)?,
             skipped: skipped_of(alloc, kept)?,
             stepless: stepless_of(alloc, kept)?,
-            undefined: count_undefined(alloc, policy, kept)?,
+            undefined: count,
+            undefined_steps: steps,
         })
     }
 

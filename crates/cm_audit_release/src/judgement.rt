@@ -1,15 +1,21 @@
 //! What is said of a good run for its release.
 ghost use Rattle.std.specs.Prelude.{◌≡◌, List, IfOk, string_bytes};
 ghost use Rattle.cm_envelope.specs.declared.envelope.Envelope.{Envelope as SomeEnvelope};
+ghost use Rattle.cm_attempt.specs.Results.{case_results};
+ghost use Rattle.cm_reasons.specs.Trail.{trail_of};
 ghost use Rattle.cm_stream.specs.Good.{Good};
 ghost use Rattle.cm_stream.specs.Release.{conditions_of, hold_of};
+ghost use Rattle.cm_stream.specs.Results.{results_of};
+ghost use Rattle.cm_causes.specs.Causes.{IsCauses};
+ghost use Rattle.cm_reasons.specs.Trail.{has_exception};
 ghost use Rattle.cm_audit_release.specs.Judged.{AreReasonsIn, IsJudged};
 ghost use Rattle.cm_audit_release.specs.Watched.{Follows};
 
 use crate::counting::Found;
 use crate::release_watch::ReleaseWatch;
-use cm_attempt::Settings;
-use cm_reasons::{Trail, retried_text, skipped_text, stepless_text, unrun_text};
+use cm_attempt::{Policy, Settings, Track};
+use cm_causes::add_causes;
+use cm_reasons::{Trail, retried_text, skipped_text, stepless_text, undefined_text, unrun_text};
 use cm_stream::{Conditions, Counts, Hold, ReleaseCounts};
 use std::alloc::{AllocError, Global};
 
@@ -55,21 +61,43 @@ fn hold_of(
     None
 }
 
+/// Why a run isn't successful.
+fn causes_of(
+    alloc: Global,
+    trail: &Trail,
+    track: &Track,
+    policy: Policy,
+) -> Result<String, AllocError>
+    ensures { IfOk result (λ text. (es : List SomeEnvelope) → trail.now ≡ trail_of es
+        → case_results track.now ≡ results_of es
+        → IsCauses policy es (has_exception es) (string_bytes text)) }
+{
+    let mut text = String::new(alloc);
+    let has_exception = trail.has_exception();
+    add_causes(alloc, &mut text, trail, track, policy, has_exception)?;
+    Ok(text)
+}
+
 /// The lines below that of a hold.
 fn reasons_of(
     alloc: Global,
     trail: &Trail,
+    track: &Track,
+    policy: Policy,
     found: &Found<'_>,
     hold: Option<Hold>,
 ) -> Result<String, AllocError>
-    ensures { IfOk result (λ text. AreReasonsIn trail.now found.now hold (string_bytes text)) }
+    ensures { IfOk result (λ text. AreReasonsIn policy trail.now track.now found.now hold
+        (string_bytes text)) }
 {
     match hold {
+        Some(Hold::NotSuccessful) => causes_of(alloc, trail, track, policy),
         Some(Hold::Unrun) => unrun_text(alloc, trail, found.missed.as_slice()),
         Some(Hold::Retried) => retried_text(alloc, trail, found.retried.as_slice()),
         Some(Hold::Skipped) => skipped_text(alloc, trail, found.skipped.as_slice()),
         Some(Hold::Stepless) => stepless_text(alloc, trail, found.stepless.as_slice()),
-        _ => Ok(String::new(alloc)),
+        Some(Hold::Undefined) => undefined_text(alloc, trail, found.undefined_steps.as_slice()),
+        Some(Hold::Empty) | None => Ok(String::new(alloc)),
     }
 }
 
@@ -80,17 +108,20 @@ impl Judgement {
         conditions: &Conditions<'_>,
         settings: Settings,
         watch: &ReleaseWatch,
+        track: &Track,
         success: bool,
         counts: Counts,
     ) -> Result<Judgement, AllocError>
         ensures { IfOk result (λ judgement. (es : List SomeEnvelope) → Follows watch.now es
-            → Good settings es → IsJudged settings (conditions_of conditions.now) es success counts
+            → Good settings es → case_results track.now ≡ results_of es
+            → IsJudged settings (conditions_of conditions.now) es success counts
             judgement.found judgement.hold (string_bytes judgement.reasons)) }
     {
         let found = Found::of(alloc, conditions, settings.policy, &watch.keeping.kept)?;
         let counted = found.counts();
         let hold = hold_of(conditions, success, counts, counted);
-        let reasons = reasons_of(alloc, &watch.trail, &found, hold)?;
+        let trail = &watch.trail;
+        let reasons = reasons_of(alloc, trail, track, settings.policy, &found, hold)?;
         Ok(Judgement {
             found: counted,
             hold,

@@ -1,5 +1,5 @@
 //! What goes along with the audit of a stream, for its release.
-ghost use Rattle.std.specs.Prelude.{◌≡◌, ◌++◌, ◌∷◌, [], ⊤, ℕ, List, OnOk, map};
+ghost use Rattle.std.specs.Prelude.{◌≡◌, ◌++◌, ◌∷◌, [], ℕ, List, OnOk, map};
 ghost use Rattle.std.specs.String.{string_bytes};
 ghost use Rattle.cm_attempt.specs.Table.{has_text};
 ghost use Rattle.cm_envelope.specs.declared.envelope.Envelope.{Envelope as SomeEnvelope};
@@ -7,7 +7,7 @@ ghost use Rattle.cm_audit_release.specs.Kept.{HasUnmatched, Keeps, case_entry, f
 ghost use Rattle.cm_audit_release.specs.Watched.{Follows};
 
 use crate::kept::{FinishEntry, Kept, case_entry, pickle_entry, start_entry};
-use cm_audit::{State, Watch};
+use cm_audit::Watch;
 use cm_envelope::{Envelope, Status, TestCase, TestStepFinished};
 use cm_reasons::Trail;
 use gk_document::Text;
@@ -162,14 +162,7 @@ impl ReleaseWatch {
 impl Watch for ReleaseWatch {
     ghost follows = { λ watch es. Follows watch es };
 
-    ghost tells = { λ _ _ _. ⊤ };
-
-    fn note(
-        &mut self,
-        alloc: Global,
-        _state: &State,
-        envelope: &Envelope,
-    ) -> Result<(), AllocError> {
+    fn note(&mut self, alloc: Global, envelope: &Envelope) -> Result<(), AllocError> {
         self.trail.note(alloc, envelope)?;
         self.keeping.note(alloc, envelope)
     }

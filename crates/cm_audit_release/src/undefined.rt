@@ -1,16 +1,18 @@
-//! The steps that passed and that no step definition matches, counted by maps.
-ghost use Rattle.std.specs.Prelude.{◌≡◌, ◌&&◌, IfOk, Some, count_by, false};
-ghost use Rattle.std.specs.List.{list_any};
+//! The steps that passed and that no step definition matches, found by maps.
+ghost use Rattle.std.specs.Prelude.{◌≡◌, ◌&&◌, ◌||◌, ◌++◌, IfOk, List, ℕ, OnOk, Some, count_by, false, map};
+ghost use Rattle.std.specs.List.{flat_map, list_any};
 ghost use Rattle.std.specs.Option.{option_and_then, option_map_or};
 ghost use Rattle.std.specs.Str.{bytes_eq};
 ghost use Rattle.cm_cases.specs.Firsts.{HasFirsts, value_at};
-ghost use Rattle.cm_audit_release.specs.Counts.{is_undefined_in, passes_in};
+ghost use Rattle.cm_reasons.specs.Reasons.{step_ids};
+ghost use Rattle.cm_audit_release.specs.Counts.{has_step, is_end_by, is_undefined_by, is_undefined_in, passes_in, steps_passing, undefined_steps_in};
 
 use crate::kept::{CaseEntry, FinishEntry, Kept, StartEntry};
 use crate::texts::{StartId, TextSet};
 use cm_attempt::Policy;
 use cm_cases::{ByText, add_first, firsts_of};
-use indexmap::IndexMap;
+use cm_reasons::CaseStep;
+use indexmap::{IndexMap, IndexSet};
 use std::alloc::{AllocError, Global};
 
 /// The unmatched steps of each case.
@@ -62,6 +64,18 @@ fn is_of_attempt(
     }
 }
 
+/// Whether the step passed, and is an unmatched one of the case of its attempt.
+fn is_undefined(
+    starts: &ByText<'_, &StartEntry>,
+    cases: &ByText<'_, TextSet<'_>>,
+    policy: Policy,
+    finish: &FinishEntry,
+) -> bool
+    ensures { result ≡ is_undefined_by starts.now cases.now policy finish.now }
+{
+    passes(policy, finish) && is_of_attempt(starts, cases, finish)
+}
+
 /// How many of the steps passed, and are unmatched ones of the cases of their attempts.
 fn count_passed(
     starts: &ByText<'_, &StartEntry>,
@@ -69,26 +83,143 @@ fn count_passed(
     policy: Policy,
     finishes: &[FinishEntry],
 ) -> u64
-    ensures { result ≡ count_by (λ f. passes_in policy f
-        && option_map_or (list_any (bytes_eq f.step_id))
-        (option_and_then (λ s. value_at cases.now s.now.case_id) (value_at starts.now f.attempt_id))
-        false) finishes.now }
+    ensures { result ≡ count_by (is_undefined_by starts.now cases.now policy) finishes.now }
 {
     finishes
         .iter()
-        .filter(|finish| passes(policy, finish) && is_of_attempt(starts, cases, finish))
+        .filter(|finish| is_undefined(starts, cases, policy, finish))
         .count() as u64
 }
 
-/// How many steps of pickles passed that no step definition matches.
-pub(crate) fn count_undefined(alloc: Global, policy: Policy, kept: &Kept) -> Result<u64, AllocError>
-    ensures { IfOk result
-        (λ n. n ≡ count_by (is_undefined_in policy kept.now) kept.now.finishes) }
+// ---- which steps
+
+/// Steps of cases, each once.
+type CaseSteps<'a> = IndexSet<CaseStep<'a>>;
+
+/// Adds a step of a case, where it isn't there yet.
+fn add_step<'a>(steps: &mut CaseSteps<'a>, case: &'a str, step: &'a str) -> Result<(), AllocError>
+    ensures { OnOk result ((test_case id : List ℕ) → has_step steps.new.keys test_case id
+        ≡ (has_step steps.old.keys test_case id
+        || (bytes_eq id step.now && bytes_eq test_case case.now))) }
 {
-    if kept.finishes.is_empty() {
-        return Ok(0);
+    steps.insert(CaseStep { case, step })?;
+    Ok(())
+}
+
+/// Adds the step that ended, in the case of its attempt.
+fn add_ended<'a>(
+    steps: &mut CaseSteps<'a>,
+    starts: &ByText<'_, &'a StartEntry>,
+    finish: &'a FinishEntry,
+) -> Result<(), AllocError>
+    ensures { OnOk result ((test_case id : List ℕ) → has_step steps.new.keys test_case id
+        ≡ (has_step steps.old.keys test_case id
+        || is_end_by starts.now test_case id finish.now)) }
+{
+    match starts.get(finish.attempt_id.as_str()) {
+        Some(start) => add_step(steps, start.case_id.as_str(), finish.step_id.as_str()),
+        None => Ok(()),
     }
-    let starts = firsts_of::<StartId, StartEntry>(alloc, kept.starts.as_slice())?;
-    let cases = unmatched_by_case(alloc, kept.cases.as_slice())?;
-    Ok(count_passed(&starts, &cases, policy, kept.finishes.as_slice()))
+}
+
+/// The steps that passed, and are unmatched ones of the cases of their attempts.
+fn passed_steps<'a>(
+    alloc: Global,
+    starts: &ByText<'_, &'a StartEntry>,
+    cases: &ByText<'_, TextSet<'_>>,
+    policy: Policy,
+    finishes: &'a [FinishEntry],
+) -> Result<CaseSteps<'a>, AllocError>
+    ensures { IfOk result (λ steps. (test_case id : List ℕ) → has_step steps.keys test_case id
+        ≡ list_any (λ f. is_undefined_by starts.now cases.now policy f
+        && is_end_by starts.now test_case id f) finishes.now) }
+{
+    let mut steps = IndexSet::new(alloc);
+    for finish in finishes {
+        if is_undefined(starts, cases, policy, finish) {
+            add_ended(&mut steps, starts, finish)?;
+        }
+    }
+    Ok(steps)
+}
+
+/// Whether the step of the case is among these.
+fn has_step(steps: &CaseSteps<'_>, case: &str, step: &str) -> bool
+    ensures { result ≡ has_step steps.now.keys case.now step.now }
+{
+    steps.contains(&CaseStep { case, step })
+}
+
+/// Adds those of a case's unmatched steps that are among these.
+fn add_of_case<'a>(
+    found: &mut Vec<CaseStep<'a>>,
+    steps: &CaseSteps<'_>,
+    case: &'a CaseEntry,
+) -> Result<(), AllocError>
+    ensures { OnOk result (map step_ids found.new.items
+        ≡ map step_ids found.old.items ++ steps_passing (has_step steps.now.keys) case.now) }
+{
+    for step in case.unmatched.as_slice() {
+        if has_step(steps, case.id.as_str(), step.as_str()) {
+            found.push(CaseStep {
+                case: case.id.as_str(),
+                step: step.as_str(),
+            })?;
+        }
+    }
+    Ok(())
+}
+
+/// Those of the cases' unmatched steps that are among these.
+fn steps_of_cases<'a>(
+    alloc: Global,
+    steps: &CaseSteps<'_>,
+    cases: &'a [CaseEntry],
+) -> Result<Vec<CaseStep<'a>>, AllocError>
+    ensures { IfOk result (λ found. map step_ids found.items
+        ≡ flat_map (steps_passing (has_step steps.now.keys)) cases.now) }
+{
+    let mut found = Vec::new(alloc);
+    for case in cases {
+        add_of_case(&mut found, steps, case)?;
+    }
+    Ok(found)
+}
+
+// ---- both
+
+/// The steps of pickles that passed and that no step definition matches: how many times one did, and which of each case.
+#[derive(Drop)]
+pub(crate) struct Undefined<'a> {
+    pub(crate) count: u64,
+    pub(crate) steps: Vec<CaseStep<'a>>,
+}
+
+impl<'a> Undefined<'a> {
+    /// Those of what was kept.
+    pub(crate) fn of(
+        alloc: Global,
+        policy: Policy,
+        kept: &'a Kept,
+    ) -> Result<Undefined<'a>, AllocError>
+        ensures count { IfOk result (λ undefined.
+            undefined.count ≡ count_by (is_undefined_in policy kept.now) kept.now.finishes) }
+        ensures steps { IfOk result (λ undefined.
+            map step_ids undefined.steps.items ≡ undefined_steps_in policy kept.now) }
+    {
+        if kept.finishes.is_empty() {
+            return Ok(Undefined {
+                count: 0,
+                steps: Vec::new(alloc),
+            });
+        }
+        let starts = firsts_of::<StartId, StartEntry>(alloc, kept.starts.as_slice())?;
+        let cases = unmatched_by_case(alloc, kept.cases.as_slice())?;
+        let finishes = kept.finishes.as_slice();
+        let passed = passed_steps(alloc, &starts, &cases, policy, finishes)?;
+        Ok(Undefined {
+            count: count_passed(&starts, &cases, policy, finishes),
+            steps: steps_of_cases(alloc, &passed, kept.cases.as_slice())?,
+        })
+    }
 }

@@ -13,9 +13,9 @@ use Rattle.cm_stream.specs.References.{as_document, cases, find_case, find_pickl
 use Rattle.cm_stream.specs.Release.{is_named}
 use Rattle.cm_stream.specs.Texts.{Utf8}
 use Rattle.cm_cases.specs.Firsts as listed
-use Rattle.cm_cases.specs.Firsts.{entry_of, entry_scenario, entry_text, line_in, unrun_entries_text}
+use Rattle.cm_cases.specs.Firsts.{entry_of, entry_scenario, entry_text, line_at_in, line_in, scenario_in, unrun_entries_text}
 use Rattle.cm_cases.specs.Listed.{case_entry, document_entry, listing_of, pickle_entry}
-use Rattle.cm_cases.specs.Places.{case_place, case_scenario, line_of, pickle_of, pickle_scenario, place_text, places_at, places_of, scenario_text, unrun_lines}
+use Rattle.cm_cases.specs.Places.{case_place, case_scenario, line_at, line_of, pickle_of, pickle_scenario, place_text, places_at, places_of, scenario_at, scenario_text, unrun_lines}
 use Rattle.cm_cases.specs.declared.listing.CaseEntry.{CaseEntry}
 use Rattle.cm_cases.specs.declared.listing.DocumentEntry.{DocumentEntry}
 use Rattle.cm_cases.specs.declared.listing.Listing.{Listing}
@@ -43,6 +43,13 @@ places_listed es uri =
 
 pub same_line : (es : List Envelope) (p : Pickle) → line_in (listing_of es) (pickle_entry p) ≡ line_of es p
 same_line es p = ap (λ (ps : List Place). option_map_or (λ x. x.line) (find (λ x. bytes_eq (pickle_entry p).node x.id) ps) 0) (places_listed es p.uri)
+
+same_line_at : (es : List Envelope) (uri node : Utf8) → line_at_in (listing_of es) uri node ≡ line_at es uri node
+same_line_at es uri node = ap (λ (ps : List Place). option_map_or (λ x. x.line) (find (λ x. bytes_eq node x.id) ps) 0) (places_listed es uri)
+
+-- a place, by its uri and its node
+pub place_shown : (l : Listing) (es : List Envelope) (uri name node : Utf8) → l ≡ listing_of es → scenario_in l uri name node ≡ scenario_at es uri name node
+place_shown l es uri name node is = ap (λ (k : Listing). scenario_in k uri name node) is ∙ rw (same_line_at es uri node) refl
 
 same_scenario : (es : List Envelope) (p : Pickle) → entry_scenario (listing_of es) (pickle_entry p) ≡ scenario_text es p
 same_scenario es p = rw (same_line es p) refl

@@ -41,16 +41,22 @@ or_else None other = other
 
 -- ---- the lines of a listing
 
-abbrev pub line_in : Listing → PickleEntry → ℕ
-line_in l p =
+abbrev pub line_at_in : Listing → (uri node : Utf8) → ℕ
+line_at_in l uri node =
     option_map_or (λ x. x.line)
-    (find (λ x. bytes_eq p.node x.id)
-    (option_map_or (λ d. d.places) (find (λ d. bytes_eq p.uri d.uri) l.documents) [])) 0
+    (find (λ x. bytes_eq node x.id)
+    (option_map_or (λ d. d.places) (find (λ d. bytes_eq uri d.uri) l.documents) [])) 0
+
+abbrev pub line_in : Listing → PickleEntry → ℕ
+line_in l p = line_at_in l p.uri p.node
+
+abbrev pub scenario_in : Listing → (uri name node : Utf8) → List ℕ
+scenario_in l uri name node =
+    codes " " ++ shown_text uri ++ codes ":" ++ decimal (line_at_in l uri node) ++ codes " "
+    ++ shown_text name
 
 abbrev pub entry_scenario : Listing → PickleEntry → List ℕ
-entry_scenario l p =
-    codes " " ++ shown_text p.uri ++ codes ":" ++ decimal (line_in l p) ++ codes " "
-    ++ shown_text p.name
+entry_scenario l p = scenario_in l p.uri p.name p.node
 
 abbrev pub entry_text : Listing → PickleEntry → List ℕ
 entry_text l p = entry_scenario l p ++ line_feed ∷ []

@@ -54,16 +54,23 @@ abbrev pub places_at : Utf8 → List Envelope → List Place
 places_at uri es =
     option_map_or places_of (find (λ d. bytes_eq uri d.uri) (filter_map as_document es)) []
 
+-- the line of the node with this id in the document of a uri, where it is that of a scenario or of a row of examples
+abbrev pub line_at : List Envelope → (uri node : Utf8) → ℕ
+line_at es uri node = option_map_or (λ x. x.line) (find (λ x. bytes_eq node x.id) (places_at uri es)) 0
+
 -- The line of the scenario or of the row of examples that a pickle is made of. In a good stream there is one.
 abbrev pub line_of : List Envelope → Pickle → ℕ
-line_of es p =
-    option_map_or (λ x. x.line) (find (λ x. bytes_eq (last_node p) x.id) (places_at p.uri es)) 0
+line_of es p = line_at es p.uri (last_node p)
 
 -- ` URI:LINE NAME`
+abbrev pub scenario_at : List Envelope → (uri name node : Utf8) → List ℕ
+scenario_at es uri name node =
+    codes " " ++ shown_text uri ++ codes ":" ++ decimal (line_at es uri node) ++ codes " "
+    ++ shown_text name
+
+-- that of a pickle
 abbrev pub scenario_text : List Envelope → Pickle → List ℕ
-scenario_text es p =
-    codes " " ++ shown_text p.uri ++ codes ":" ++ decimal (line_of es p) ++ codes " "
-    ++ shown_text p.name
+scenario_text es p = scenario_at es p.uri p.name (last_node p)
 
 -- that, and the end of the line
 abbrev pub place_text : List Envelope → Pickle → List ℕ

@@ -3,9 +3,9 @@ ghost use Rattle.std.specs.Prelude.{◌≡◌, ◌++◌, List, [], IfOk, OnOk, f
 ghost use Rattle.std.specs.Option.{option_map_or};
 ghost use Rattle.std.specs.Str.{bytes_eq};
 ghost use Rattle.cm_envelope.specs.declared.envelope.Envelope.{Envelope};
-ghost use Rattle.cm_cases.specs.Firsts.{HasFirsts, case_place_text, entry_of, entry_scenario, entry_text, is_named, line_in, unrun_entries_text};
+ghost use Rattle.cm_cases.specs.Firsts.{HasFirsts, case_place_text, entry_of, entry_scenario, entry_text, is_named, line_at_in, line_in, scenario_in, unrun_entries_text};
 ghost use Rattle.cm_cases.specs.Listed.{listing_of};
-ghost use Rattle.cm_cases.specs.Places.{case_place, case_scenario, pickle_scenario, unrun_lines};
+ghost use Rattle.cm_cases.specs.Places.{case_place, case_scenario, pickle_scenario, scenario_at, unrun_lines};
 
 use crate::firsts::{ByText, CaseId, CasePickle, PickleId, PlaceId, add_first, firsts_of};
 use crate::listing::{CaseEntry, DocumentEntry, Listing, PickleEntry, Place};
@@ -111,14 +111,21 @@ impl<'a> Places<'a> {
         })
     }
 
+    /// The line of the scenario or row of this id in the document of the uri, and 0 where it has none.
+    fn line_at(&self, uri: &str, node: &str) -> u32
+        ensures { result ≡ line_at_in self.now uri.now node.now }
+    {
+        match self.documents.get(uri) {
+            Some(lines) => lines.line(node),
+            None => 0,
+        }
+    }
+
     /// The line of the pickle's scenario or row, and 0 where no document has it.
     pub(crate) fn line(&self, pickle: &PickleEntry) -> u32
         ensures { result ≡ line_in self.now pickle.now }
     {
-        match self.documents.get(pickle.uri.as_str()) {
-            Some(lines) => lines.line(pickle.node.as_str()),
-            None => 0,
-        }
+        self.line_at(pickle.uri.as_str(), pickle.node.as_str())
     }
 
     /// The pickle of a case.
@@ -137,16 +144,28 @@ impl<'a> Places<'a> {
         self.named.contains_key(pickle.id.as_str())
     }
 
+    fn add_at(&self, text: &mut String, uri: &str, name: &str, node: &str) -> Result<(), AllocError>
+        ensures { OnOk result (string_bytes text.new
+            ≡ string_bytes text.old ++ scenario_in self.now uri.now name.now node.now) }
+    {
+        text.push_str(" ")?;
+        add_shown(text, uri)?;
+        text.push_str(":")?;
+        write!(text, "{}", self.line_at(uri, node))?;
+        text.push_str(" ")?;
+        add_shown(text, name)
+    }
+
     fn add_scenario(&self, text: &mut String, pickle: &PickleEntry) -> Result<(), AllocError>
         ensures { OnOk result (string_bytes text.new
             ≡ string_bytes text.old ++ entry_scenario self.now pickle.now) }
     {
-        text.push_str(" ")?;
-        add_shown(text, pickle.uri.as_str())?;
-        text.push_str(":")?;
-        write!(text, "{}", self.line(pickle))?;
-        text.push_str(" ")?;
-        add_shown(text, pickle.name.as_str())
+        self.add_at(
+            text,
+            pickle.uri.as_str(),
+            pickle.name.as_str(),
+            pickle.node.as_str(),
+        )
     }
 
     fn add_entry(&self, text: &mut String, pickle: &PickleEntry) -> Result<(), AllocError>
@@ -155,6 +174,24 @@ impl<'a> Places<'a> {
     {
         self.add_scenario(text, pickle)?;
         text.push_str("\n")
+    }
+
+    /// Adds where a scenario or a row of examples stands, by the uri and the id of its node, and the name that is given.
+    ///
+    /// # Errors
+    /// Only where there is no memory.
+    pub fn add_place(
+        &self,
+        text: &mut String,
+        uri: &str,
+        name: &str,
+        node: &str,
+    ) -> Result<(), AllocError>
+        ensures { OnOk result ((es : List Envelope) → self.now ≡ listing_of es
+            → string_bytes text.new
+            ≡ string_bytes text.old ++ scenario_at es uri.now name.now node.now) }
+    {
+        self.add_at(text, uri, name, node)
     }
 
     /// Adds where the scenario of a pickle stands, and its name.

@@ -1,4 +1,4 @@
-//! What `cases --json` and `differs` show of JSON is read back: a value that is shown within a line is still that value.
+//! What `cases --json` and a difference show of JSON is read back: a value that is shown within a line is still that value.
 #![tactic(auto)]
 
 mod laws;

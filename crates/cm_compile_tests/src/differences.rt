@@ -1,8 +1,6 @@
 //! In what streams differ from what their sources' texts compile to.
-use crate::compiled::{FULL_TEXT, PLAIN_TEXT};
-use cm_differs::{
-    Difference, missing_document, missing_pickle, pickle_difference, tree_difference,
-};
+use crate::compiled::PLAIN_TEXT;
+use cm_differs::{Difference, pickle_difference, tree_difference};
 use cm_envelope::{Envelope, EnvelopeFault, Pickle as FoundPickle, read_envelope};
 use gk_document::{Document, Text};
 use gk_pickle::{Pickle, compile};
@@ -34,9 +32,6 @@ fn two_ids(alloc: Global) -> Result<Vec<Text>, AllocError> {
     Ok(ids)
 }
 
-const DUE_PICKLE: &str =
-    r#"{"pickle":{"astNodeIds":["x0"],"language":"en","name":"s","steps":[{"astNodeIds":["x1"],"text":"a","type":"Context"}],"tags":[],"uri":"a.feature"}}"#;
-
 const UNTYPED_PICKLE: &str =
     r#"{"pickle":{"astNodeIds":["x0"],"language":"en","name":"s","steps":[{"astNodeIds":["x1"],"text":"a"}],"tags":[],"uri":"a.feature"}}"#;
 
@@ -46,7 +41,7 @@ const FOUND_LINE: &str =
 const FOUND_PICKLE: &str =
     "{\"pickle\":{\"astNodeIds\":[\"x1\"],\"language\":\"de\",\"name\":\"t\",\"steps\":[{\"argument\":{\"dataTable\":{\"rows\":[{\"cells\":[{\"value\":\"\u{202e}\"}]}]}},\"astNodeIds\":[],\"text\":\"b\"},{\"argument\":{\"docString\":{\"content\":\"c\",\"mediaType\":\"m\"}},\"astNodeIds\":[\"x0\"],\"text\":\"\",\"type\":\"Outcome\"}],\"tags\":[{\"astNodeId\":\"x0\",\"name\":\"@t\"}],\"uri\":\"a.feature\"}}";
 
-// What differs where a pickle is due and another is found, where nothing is due, and where nothing is found.
+// What differs where a pickle is due and another is found, and where nothing is due.
 fn beside_differs(
     alloc: Global,
     due: &Pickle,
@@ -62,22 +57,13 @@ fn surplus_differs(alloc: Global, ids: &[Text], found: &FoundPickle) -> Result<b
     Ok(is_difference(&surplus, None, Some(FOUND_PICKLE)))
 }
 
-fn missing_differs(alloc: Global, due: &Pickle, ids: &[Text]) -> Result<bool, AllocError> {
-    let missing = missing_pickle(alloc, URI, ids, due)?;
-    Ok(is_difference(&missing, Some(DUE_PICKLE), None))
-}
-
 fn pickles_differ(
     alloc: Global,
     due: &Pickle,
     ids: &[Text],
     found: &FoundPickle,
 ) -> Result<bool, AllocError> {
-    Ok(
-        beside_differs(alloc, due, ids, found)?
-            && surplus_differs(alloc, ids, found)?
-            && missing_differs(alloc, due, ids)?,
-    )
+    Ok(beside_differs(alloc, due, ids, found)? && surplus_differs(alloc, ids, found)?)
 }
 
 fn read_differs(
@@ -118,29 +104,6 @@ fn differences_of_pickles(rt: HostRuntime) -> Result<(), Fail> {
     let differs = differs_from_first(rt.alloc(), &document, FOUND_LINE);
     drop(document);
     assert!(rt; differs?);
-    Ok(())
-}
-
-const FULL_PARTS: &str =
-    r#"[{"feature":{"keyword":"Feature","language":"en","location":{"line":3},"name":"F 😀","tags":[{"location":{"line":2},"name":"@f"},{"location":{"line":2},"name":"@g"}]}},{"background":{"keyword":"Background","location":{"line":8},"name":"b"}},{"step":{"dataTable":{"rows":[{"cells":[{"value":"a|b"},{"value":""}],"location":{"line":10}}]},"keyword":"When ","location":{"line":9},"text":"x"}},{"rule":{"keyword":"Rule","location":{"line":12},"name":"r","tags":[]}},{"scenario":{"keyword":"Scenario Outline","location":{"line":14},"name":"<n> o","tags":[{"location":{"line":13},"name":"@s"}]}},{"step":{"docString":{"content":"tab\tq\n \"\"\"","location":{"line":16},"mediaType":"json <n>"},"keyword":"And ","location":{"line":15},"text":"<n>"}},{"examples":{"keyword":"Examples","location":{"line":21},"name":"E","tags":[{"location":{"line":20},"name":"@e"}]}},{"tableHeader":{"cells":[{"value":"n"}],"location":{"line":23}}},{"tableRow":{"cells":[{"value":"𝄞"}],"location":{"line":24}}},{"tableRow":{"cells":[{"value":""}],"location":{"line":25}}}]"#;
-
-// Whether the parts that are missing of the document are these.
-fn lacks_parts(alloc: Global, document: &Document, parts: &str) -> Result<bool, AllocError> {
-    let missing = missing_document(alloc, URI, document)?;
-    Ok(is_difference(&missing, Some(parts), None))
-}
-
-fn has_parts(alloc: Global, text: &str, parts: &str) -> Result<bool, Fail> {
-    let document = parse(alloc, text)?;
-    let has_parts = lacks_parts(alloc, &document, parts);
-    drop(document);
-    Ok(has_parts?)
-}
-
-#[test]
-fn missing_documents(rt: HostRuntime) -> Result<(), Fail> {
-    assert!(rt; has_parts(rt.alloc(), FULL_TEXT, FULL_PARTS)?);
-    assert!(rt; has_parts(rt.alloc(), "# c\n", "[]")?);
     Ok(())
 }
 

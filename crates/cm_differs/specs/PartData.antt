@@ -87,7 +87,3 @@ part_data (RowPart r) = object_of ((codes "tableRow", row_data r) ∷ [])
 
 abbrev pub part_text : Part → List ℕ
 part_text p = compact_text (part_data p)
-
--- an array of parts
-abbrev pub parts_text : List Part → List ℕ
-parts_text ps = compact_text (list_data part_data ps)

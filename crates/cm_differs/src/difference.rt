@@ -1,16 +1,16 @@
 //! What is due at a place of a stream, and what the stream has there.
 ghost use Rattle.std.specs.Prelude.{◌≡◌, ◌↔◌, IfOk, IfSome, IsNone, option_map};
 ghost use Rattle.gk_document.specs.Skeleton.{skeleton};
-ghost use Rattle.cm_differs.specs.Differences.{IsTreeDifference, missing_document, missing_pickle, pickle_difference};
+ghost use Rattle.cm_differs.specs.Differences.{IsTreeDifference, pickle_difference};
 ghost use Rattle.cm_differs.specs.DuePickles.{due_pickle};
 ghost use Rattle.cm_differs.specs.PickleData.{pickle_text};
 
 use crate::due_pickle::due_pickle;
-use crate::part_json::{parts_text, text_of_some};
+use crate::part_json::text_of_some;
 use crate::pickle_json::pickle_text;
 use cm_envelope::{Pickle, PickleStep};
 use gk_document::{Document, Text};
-use gk_parts::{first_difference, parts};
+use gk_parts::first_difference;
 use gk_pickle::Pickle as DuePickle;
 use std::alloc::{AllocError, Global};
 
@@ -48,21 +48,6 @@ pub fn tree_difference(
         expected: text_of_some(alloc, &first.expected)?,
         found: text_of_some(alloc, &first.found)?,
     }))
-}
-
-/// A document that is due, and that the stream doesn't have: an array of its parts, in the order of its tree.
-///
-/// # Errors
-/// Where there is no memory for the parts or their texts, as `serde_json` says of these.
-pub fn missing_document(alloc: Global, uri: &str, due: &Document) -> Result<Difference, AllocError>
-    ensures { IfOk result (λ d. d ≡ missing_document uri.now due.now) }
-{
-    let parts = parts(alloc, due)?;
-    Ok(Difference {
-        uri: Text::copy_of(alloc, uri)?,
-        expected: Some(parts_text(alloc, &parts)?),
-        found: None,
-    })
 }
 
 /// The text of a pickle that is due, beside steps of the stream.
@@ -116,25 +101,5 @@ pub fn pickle_difference(
         uri: Text::copy_of(alloc, uri)?,
         expected: due_text_of_some(alloc, uri, ids, found.steps.as_slice(), due)?,
         found: Some(pickle_text(alloc, found)?),
-    })
-}
-
-/// A pickle that is due, and that the stream doesn't have. `ids` are those that the stream's document gives its nodes, by their
-/// numbers.
-///
-/// # Errors
-/// Where there is no memory for the texts, as `serde_json` says.
-pub fn missing_pickle(
-    alloc: Global,
-    uri: &str,
-    ids: &[Text],
-    due: &DuePickle,
-) -> Result<Difference, AllocError>
-    ensures { IfOk result (λ d. d ≡ missing_pickle uri.now ids.now due.now) }
-{
-    Ok(Difference {
-        uri: Text::copy_of(alloc, uri)?,
-        expected: Some(due_text(alloc, uri, ids, &[], due)?),
-        found: None,
     })
 }

@@ -30,7 +30,5 @@ mod layout;
 mod part_json;
 mod pickle_json;
 
-pub use difference::{
-    Difference, missing_document, missing_pickle, pickle_difference, tree_difference,
-};
+pub use difference::{Difference, pickle_difference, tree_difference};
 pub use laws::due_is_equal;

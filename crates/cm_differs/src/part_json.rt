@@ -1,16 +1,16 @@
 //! Parts of documents as JSON, each without the parts within it.
-ghost use Rattle.std.specs.Prelude.{◌≡◌, IfOk, OnOk, codes, map, option_map};
+ghost use Rattle.std.specs.Prelude.{◌≡◌, IfOk, OnOk, codes, option_map};
 ghost use Rattle.serde_json.specs.Events.{SendsValue};
 ghost use Rattle.gk_parts.specs.Parts.{part_view, part_view_alone};
 ghost use Rattle.cm_messages.specs.Layout.{list_data};
 ghost use Rattle.cm_messages.specs.Sending.{SendsMember};
-ghost use Rattle.cm_differs.specs.PartData.{background_data, cell_data, doc_string_data, examples_data, feature_data, location_data, part_data, part_text, parts_text, row_data, rule_data, scenario_data, step_data, table_data, tag_data, tagged_data};
+ghost use Rattle.cm_differs.specs.PartData.{background_data, cell_data, doc_string_data, examples_data, feature_data, location_data, part_data, part_text, row_data, rule_data, scenario_data, step_data, table_data, tag_data, tagged_data};
 ghost use Rattle.cm_differs.specs.Sending.{SendsArgument};
 
 use crate::layout::{DifferenceLayout, text_of};
 use cm_messages::{
-    SendJson, one_if, send_list, send_list_member, send_member, send_number, send_only,
-    send_only_list, send_optional, send_text,
+    SendJson, one_if, send_list_member, send_member, send_number, send_only, send_only_list,
+    send_optional, send_text,
 };
 use gk_document::{
     Argument, Background, Cell, DocString, Examples, Feature, Location, Row, Rule, Scenario,
@@ -221,20 +221,6 @@ impl SendJson<DifferenceLayout> for Part<'_> {
     }
 }
 
-/// Parts, as an array.
-#[derive(Clone, Copy)]
-struct PartList<'a, 'b> {
-    parts: &'a [Part<'b>],
-}
-
-impl SendJson<DifferenceLayout> for PartList<'_, '_> {
-    ghost json = { λ l. list_data (λ p. part_data (part_view p)) l.parts.now };
-
-    fn send<S: Serializer>(&self, out: &mut S) -> Result<(), S::Error> {
-        send_list(self.parts, out)
-    }
-}
-
 /// A part without the parts within it, as compact JSON.
 fn part_text(alloc: Global, part: &Part<'_>) -> Result<Text, AllocError>
     ensures { IfOk result (λ t. t ≡ part_text (part_view_alone part.now)) }
@@ -254,12 +240,4 @@ pub(crate) fn text_of_some(
         Some(part) => Ok(Some(part_text(alloc, part)?)),
         None => Ok(None),
     }
-}
-
-/// Parts, each without the parts within it, as a compact JSON array.
-pub(crate) fn parts_text(alloc: Global, parts: &[Part<'_>]) -> Result<Text, AllocError>
-    ensures { IfOk result (λ t. t ≡ parts_text (map part_view parts.now)) }
-{
-    let text = text_of(alloc, &PartList { parts })?;
-    Ok(text)
 }

@@ -1,7 +1,7 @@
 -- What is told of the line of a stream that decides, under the answer.
-use Rattle.std.specs.Prelude.{◌≡◌, ◌+◌, ⊤, ℕ, true, false, List, [], ◌∷◌, ◌++◌, Option, Some, Result, Ok, IsSomeAnd, length}
+use Rattle.std.specs.Prelude.{◌≡◌, ◌+◌, ⊤, ℕ, true, false, List, [], ◌∷◌, ◌++◌, Option, None, Some, Result, Ok, IsSomeAnd, length}
 use Rattle.cm_attempt.specs.declared.settings.Settings.{Settings}
-use Rattle.cm_audit.specs.Watched.{is_of_envelope, judged_in}
+use Rattle.cm_audit.specs.Watched.{judged_in}
 use Rattle.cm_envelope.specs.declared.envelope.Envelope.{Envelope}
 use Rattle.cm_state.specs.Summary.{Summary}
 use Rattle.cm_stream.specs.Checks.{fault_by}
@@ -10,13 +10,16 @@ use Rattle.cm_stream.specs.Readings.{Reading, ReadsByTheGrammar}
 use Rattle.cm_stream.specs.Redeclared.{judged_as}
 use Rattle.cm_stream.specs.Stream.{envelope_unless_blank, feed_of}
 use Rattle.cm_stream.specs.Texts.{Utf8}
+use Rattle.cm_stream.specs.declared.verdict.Reason.{Reason}
 use Rattle.cm_stream.specs.declared.verdict.StreamFault.{StreamFault}
+use Rattle.cm_stream.specs.declared.verdict.StreamFault.TheVariants as fault
 use Rattle.cm_stream.specs.declared.verdict.Verdict.{Verdict}
 use Rattle.cm_stream.specs.declared.verdict.Verdict.TheVariants as verdict
 use Rattle.cm_reasons.specs.Trail.{trail_of}
 use Rattle.cm_reasons.specs.declared.trail.Trail.{Trail}
-use Rattle.cm_fault_reasons.specs.ToldAt.{all_lines, told_at}
-use Rattle.cm_fault_reasons.specs.ToldKept.{told_by}
+use Rattle.cm_source_reasons.specs.Deciding.{IsDeciding}
+use Rattle.cm_fault_reasons.specs.RunLines.{IsToldAtEnd}
+use Rattle.cm_fault_reasons.specs.ToldAt.{IsTold, reason_lines}
 
 -- Line n of the bytes, counted from 1, is read as an envelope. What it is judged as has this finding, and the text is what is told
 -- of it after what the lines before are judged as. Texts are read by the grammar.
@@ -33,13 +36,18 @@ pub record IsToldOfLine (settings : Settings) (bytes : List ℕ) (n : ℕ) (f : 
   pub is_read : envelope_unless_blank line ≡ Some (Ok said)
   pub why : fault_by read settings (judged_in settings before)
       (judged_as settings (judged_in settings before) said) ≡ Some f
-  pub told : text ≡ all_lines (told_at (judged_in settings before) said f)
-      (judged_in settings before ++ judged_as settings (judged_in settings before) said ∷ []) said f
+  pub told : IsTold read settings (judged_in settings before) said f text
 
--- the text that is told under a finding: nothing of a line that is no envelope, and of the end
+-- The bytes are lines without a trouble after them, and the text is what is told of all that they are judged as.
+pub record IsToldOfEnd (settings : Settings) (bytes text : List ℕ) : Type 0 where
+  pub whole : (feed_of bytes).trouble ≡ None
+  pub told : IsToldAtEnd (judged_in settings (feed_of bytes).lines) text
+
+-- the text that is told under a finding: nothing of a line that is no envelope, of the end what is told of the whole, and else
+-- what is told of the line
 abbrev pub IsToldUnder : Settings → (bytes : List ℕ) → ℕ → Finding → (text : List ℕ) → Type 0
 IsToldUnder settings bytes n (IsBad (NoEnvelope fault)) text = text ≡ []
-IsToldUnder settings bytes n (IsBad NoRunFinished) text = text ≡ []
+IsToldUnder settings bytes n (IsBad NoRunFinished) text = IsToldOfEnd settings bytes text
 IsToldUnder settings bytes n f text = IsToldOfLine settings bytes n f text
 
 -- that, by a verdict
@@ -52,20 +60,29 @@ IsToldWith settings bytes (verdict.Unsupported n r) text =
 
 -- ---- by what an audit keeps of the lines before, the trail of the lines up to it, and the envelope of the line
 
-abbrev pub TellsOf : Summary → Trail → (last : Option Envelope) → Finding → (text : List ℕ)
-    → Type 0
-TellsOf s trail last f text =
-    IsSomeAnd last (λ e. (es : List Envelope) → trail ≡ trail_of es
-    → text ≡ all_lines (told_by s e f) es e f)
-
-abbrev pub TellsFault : Summary → Trail → (last : Option Envelope) → StreamFault
+abbrev pub TellsOf : Settings → Summary → Trail → (last : Option Envelope) → Finding
     → (text : List ℕ) → Type 0
-TellsFault s trail last b text =
-    (is_of_envelope b ≡ true → TellsOf s trail last (IsBad (stream_fault_named b)) text)
-    × (is_of_envelope b ≡ false → text ≡ [])
+TellsOf settings s trail last f text =
+    IsSomeAnd last (λ e. (before : List Envelope) → (d : IsDeciding settings s trail before e f)
+    → IsTold d.read settings before e f text)
 
-abbrev pub TellsWith : Summary → Trail → (last : Option Envelope) → Verdict → (text : List ℕ)
-    → Type 0
-TellsWith s trail last (verdict.Good counts) text = ⊤
-TellsWith s trail last (verdict.Bad n b) text = TellsFault s trail last b text
-TellsWith s trail last (verdict.Unsupported n r) text = TellsOf s trail last (IsUnsupported r) text
+abbrev pub TellsFault : Settings → Summary → Trail → (last : Option Envelope) → StreamFault
+    → (text : List ℕ) → Type 0
+TellsFault settings s trail last (fault.NoEnvelope of) text = text ≡ []
+TellsFault settings s trail last fault.AfterRunFinished text =
+    IsSomeAnd last (λ e. text ≡ [])
+TellsFault settings s trail last fault.NoRunFinished text =
+    (es : List Envelope) → trail ≡ trail_of es → IsToldAtEnd es text
+TellsFault settings s trail last b text =
+    TellsOf settings s trail last (IsBad (stream_fault_named b)) text
+
+abbrev pub TellsReason : Trail → (last : Option Envelope) → Reason → (text : List ℕ) → Type 0
+TellsReason trail last r text =
+    IsSomeAnd last (λ e. (es : List Envelope) → trail ≡ trail_of es
+    → text ≡ reason_lines r es e)
+
+abbrev pub TellsWith : Settings → Summary → Trail → (last : Option Envelope) → Verdict
+    → (text : List ℕ) → Type 0
+TellsWith settings s trail last (verdict.Good counts) text = ⊤
+TellsWith settings s trail last (verdict.Bad n b) text = TellsFault settings s trail last b text
+TellsWith settings s trail last (verdict.Unsupported n r) text = TellsReason trail last r text

@@ -1,16 +1,23 @@
 -- What is told of the line that decides, beside the answer.
-use Rattle.std.specs.Prelude.{ℕ, List, [], ◌∷◌, ◌++◌, Option, Some, None, codes, decimal, option_map}
-use Rattle.cm_cases.specs.Places.{case_scenario, pickle_scenario}
-use Rattle.cm_envelope.specs.Lines.{line_feed}
+use Rattle.std.specs.Prelude.{◌≡◌, ℕ, List, [], ◌∷◌, ◌++◌, Option, Some, None, option_map}
+use Rattle.cm_attempt.specs.declared.settings.Settings.{Settings}
 use Rattle.cm_envelope.specs.declared.envelope.Envelope.{Envelope}
 use Rattle.cm_envelope.specs.declared.envelope.Envelope.TheVariants as envelope
 use Rattle.cm_stream.specs.Findings as bad
 use Rattle.cm_stream.specs.Findings.{Finding, IsBad, IsUnsupported}
+use Rattle.cm_stream.specs.Readings.{Reading}
 use Rattle.cm_stream.specs.Texts.{Utf8}
 use Rattle.cm_stream.specs.declared.verdict.Reason.{Reason}
 use Rattle.cm_stream.specs.declared.verdict.Reason.TheVariants as reason
+use Rattle.cm_stream.specs.declared.verdict.StreamFault.TheVariants as fault
+use Rattle.cm_source_reasons.specs.SourceReasons.{IsSourceReason}
+use Rattle.cm_fault_reasons.specs.AttemptLines.{declared_lines, due_number, number_lines, order_lines, started_lines, status_lines}
 use Rattle.cm_fault_reasons.specs.Duplicate.{first_duplicate}
+use Rattle.cm_fault_reasons.specs.NextMove.{next_step}
+use Rattle.cm_fault_reasons.specs.RunLines.{IsRefusedAt, IsTruthAt, ended_hook_lines, hook_open_lines, open_case_lines}
 use Rattle.cm_fault_reasons.specs.Unknown.{Told, first_unknown, told_lines, told_uri}
+
+-- ---- a uri, or an id
 
 -- the uri of the feature file that an envelope is of
 abbrev pub uri_of : Envelope → Option Utf8
@@ -23,11 +30,6 @@ uri_of _ = None
 abbrev pub told_uri_of : Envelope → Option Told
 told_uri_of e = option_map told_uri (uri_of e)
 
--- what is told of an envelope that shows why a stream isn't judged
-abbrev pub told_reason : Reason → Envelope → Option Told
-told_reason reason.UnknownStatus e = None
-told_reason _ e = told_uri_of e
-
 -- what is told of an envelope after these that has the finding: the uri, the first reference that isn't declared, or the id that
 -- is declared again
 abbrev pub told_at : (before : List Envelope) → Envelope → Finding → Option Told
@@ -35,31 +37,42 @@ told_at before e (IsBad bad.DuplicateUri) = told_uri_of e
 told_at before e (IsBad bad.ParseErrorOfGoodSource) = told_uri_of e
 told_at before e (IsBad bad.UnknownReference) = first_unknown before e
 told_at before e (IsBad bad.DuplicateId) = first_duplicate before e
-told_at before e (IsUnsupported r) = told_reason r e
 told_at before e _ = None
 
--- ---- the scenario of a test case
+-- ---- all that is told
 
--- `case URI:LINE NAME`, and `attempt N`
-abbrev pub case_line : (scenario : List ℕ) → List ℕ
-case_line scenario = codes "case" ++ scenario ++ line_feed ∷ []
+-- of an envelope that shows why a stream isn't judged
+abbrev pub reason_lines : Reason → (upto : List Envelope) → Envelope → List ℕ
+reason_lines reason.UnknownStatus upto e = status_lines upto e
+reason_lines _ upto e = told_lines (told_uri_of e)
 
-abbrev pub attempt_line : ℕ → List ℕ
-attempt_line n = codes "attempt " ++ decimal n ++ line_feed ∷ []
+-- the lines of an envelope after these that has the finding: of its test case, attempt, steps or run hooks, or else its uri or id
+abbrev pub lines_at : Settings → (before : List Envelope) → Envelope → Finding → List ℕ
+lines_at settings before e (IsBad bad.CaseStepsDiffer) = declared_lines (before ++ e ∷ []) e
+lines_at settings before e (IsBad bad.AttemptNumber) =
+    number_lines (due_number settings.first_attempt before) (before ++ e ∷ []) e
+lines_at settings before e (IsBad bad.AttemptOverlap) = started_lines (before ++ e ∷ []) e
+lines_at settings before e (IsBad bad.StepOrder) =
+    order_lines (λ attempt. next_step attempt before) (before ++ e ∷ []) e
+lines_at settings before e (IsBad bad.FinishedEarly) =
+    order_lines (λ attempt. next_step attempt before) (before ++ e ∷ []) e
+lines_at settings before e (IsBad bad.AttemptOpen) = open_case_lines (before ++ e ∷ [])
+lines_at settings before e (IsBad bad.RunHookOpen) = hook_open_lines (before ++ e ∷ [])
+lines_at settings before e (IsBad bad.RunHookTwice) = ended_hook_lines (before ++ e ∷ []) e
+lines_at settings before e (IsUnsupported r) = reason_lines r (before ++ e ∷ []) e
+lines_at settings before e f = told_lines (told_at before e f)
 
--- the scenario of the pickle that a test case names, by the envelopes up to it
-abbrev pub declared_lines : (upto : List Envelope) → Envelope → List ℕ
-declared_lines upto (envelope.TestCase c) = case_line (pickle_scenario upto c.pickle_id)
-declared_lines upto _ = []
-
--- the scenario of the test case at which an attempt starts, and the number of the attempt
-abbrev pub started_lines : (upto : List Envelope) → Envelope → List ℕ
-started_lines upto (envelope.TestCaseStarted s) =
-    case_line (case_scenario upto s.test_case_id) ++ attempt_line s.attempt
-started_lines upto _ = []
-
--- all lines: the scenario of a test case, or else what is told
-abbrev pub all_lines : Option Told → (upto : List Envelope) → Envelope → Finding → List ℕ
-all_lines told upto e (IsBad bad.CaseStepsDiffer) = declared_lines upto e
-all_lines told upto e (IsBad bad.AttemptOverlap) = started_lines upto e
-all_lines told upto e f = told_lines told
+-- the text that is told of an envelope after these that has the finding, where sources' texts are read so
+abbrev pub IsTold : (read : Utf8 → Reading) → Settings → (before : List Envelope) → Envelope
+    → Finding → (text : List ℕ) → Type 0
+IsTold read settings before e (IsBad bad.DocumentOfRefusedSource) text =
+    IsRefusedAt (before ++ e ∷ []) e text
+IsTold read settings before e (IsBad bad.TreeDiffers) text =
+    IsSourceReason read before e fault.TreeDiffers text
+IsTold read settings before e (IsBad bad.PickleDiffers) text =
+    IsSourceReason read before e fault.PickleDiffers text
+IsTold read settings before e (IsBad bad.SourceIncomplete) text =
+    IsSourceReason read before e fault.SourceIncomplete text
+IsTold read settings before e (IsBad bad.SuccessDiffers) text =
+    IsTruthAt settings.policy (before ++ e ∷ []) e text
+IsTold read settings before e f text = text ≡ lines_at settings before e f

@@ -1,82 +1,193 @@
 //! What is told of the line of a stream that decides, under the answer.
-ghost use Rattle.std.specs.Prelude.{◌≡◌, IfOk, string_bytes};
+ghost use Rattle.std.specs.Prelude.{◌≡◌, [], IfOk, IsSomeAnd, List, OnOk, string_bytes};
 ghost use Rattle.cm_audit.specs.State.{summary_of};
-ghost use Rattle.cm_audit.specs.Watched.{is_of_envelope};
-ghost use Rattle.cm_state.specs.Summary.{Summary};
-ghost use Rattle.cm_stream.specs.Findings.{IsUnsupported};
-ghost use Rattle.cm_reasons.specs.declared.trail.Trail.{Trail as SomeTrail};
-ghost use Rattle.cm_fault_reasons.specs.AtLine.{TellsFault, TellsOf, TellsWith};
+ghost use Rattle.cm_envelope.specs.declared.envelope.Envelope.{Envelope as SomeEnvelope};
+ghost use Rattle.cm_stream.specs.Findings.{IsBad, stream_fault_named};
+ghost use Rattle.cm_fault_reasons.specs.Added.{Adds};
+ghost use Rattle.cm_reasons.specs.Trail.{trail_of};
+ghost use Rattle.cm_source_reasons.specs.Deciding.{IsDeciding};
+ghost use Rattle.cm_fault_reasons.specs.AtLine.{TellsFault, TellsOf, TellsReason, TellsWith};
+ghost use Rattle.cm_fault_reasons.specs.RunLines.{IsToldAtEnd};
+ghost use Rattle.cm_fault_reasons.specs.ToldAt.{IsTold};
+ghost use Rattle.cm_fault_reasons.specs.ToldKept.{is_of_refused, is_of_source, is_of_success};
 
-use crate::told::{add_fault, add_reason};
+use crate::run::{add_at_end, add_refused_at, add_truth_at};
+use crate::told::{add_lines, add_reason};
+use cm_attempt::Settings;
 use cm_audit::State;
 use cm_envelope::Envelope;
 use cm_reasons::Trail;
+use cm_source_reasons::add_source_reasons;
 use cm_stream::{Reason, StreamFault, Verdict};
 use std::alloc::{AllocError, Global};
 
-/// Whether the fault is that of an envelope, and not of a line that is none, or of the end.
-fn is_of_envelope(fault: StreamFault) -> bool
-    ensures { result ≡ is_of_envelope fault }
+/// Whether a source isn't what it compiles to.
+fn is_of_source(fault: StreamFault) -> bool
+    ensures { result ≡ is_of_source fault }
 {
-    !matches!(
+    matches!(
         fault,
-        StreamFault::NoEnvelope(_) | StreamFault::NoRunFinished
+        StreamFault::TreeDiffers | StreamFault::PickleDiffers | StreamFault::SourceIncomplete
     )
 }
 
-/// What is told of a fault.
-fn fault_text(
+/// Whether the end of the run says of its success what isn't so.
+fn is_of_success(fault: StreamFault) -> bool
+    ensures { result ≡ is_of_success fault }
+{
+    matches!(fault, StreamFault::SuccessDiffers)
+}
+
+/// Whether the source of a document is refused.
+fn is_of_refused(fault: StreamFault) -> bool
+    ensures { result ≡ is_of_refused fault }
+{
+    matches!(fault, StreamFault::DocumentOfRefusedSource)
+}
+
+/// Adds what is told of an envelope that has the fault, after the lines of which this is kept, and of which with it this is the
+/// trail.
+fn add_fault(
     alloc: Global,
+    text: &mut String,
+    settings: Settings,
+    state: &State,
+    trail: &Trail,
+    envelope: &Envelope,
+    fault: StreamFault,
+) -> Result<(), AllocError>
+    ensures { OnOk result ((before : List SomeEnvelope)
+        → (d : IsDeciding settings (summary_of state.now) trail.now before envelope.now
+        (IsBad (stream_fault_named fault)))
+        → Adds (string_bytes text.old) (string_bytes text.new)
+        (IsTold d.read settings before envelope.now (IsBad (stream_fault_named fault)))) }
+{
+    if is_of_source(fault) {
+        add_source_reasons(alloc, text, state, trail, envelope, fault)
+    } else if is_of_success(fault) {
+        add_truth_at(alloc, text, settings.policy, state, trail, envelope)
+    } else if is_of_refused(fault) {
+        add_refused_at(alloc, text, trail, envelope)
+    } else {
+        add_lines(alloc, text, settings, state, trail, envelope, fault)
+    }
+}
+
+/// What is told of an envelope that has the fault.
+fn envelope_text(
+    alloc: Global,
+    settings: Settings,
+    state: &State,
+    trail: &Trail,
+    envelope: &Envelope,
+    fault: StreamFault,
+) -> Result<String, AllocError>
+    ensures { IfOk result (λ text. (before : List SomeEnvelope)
+        → (d : IsDeciding settings (summary_of state.now) trail.now before envelope.now
+        (IsBad (stream_fault_named fault)))
+        → IsTold d.read settings before envelope.now (IsBad (stream_fault_named fault))
+        (string_bytes text)) }
+{
+    let mut text = String::new(alloc);
+    add_fault(alloc, &mut text, settings, state, trail, envelope, fault)?;
+    Ok(text)
+}
+
+/// What is told of the last envelope, which has the fault.
+fn last_text(
+    alloc: Global,
+    settings: Settings,
     state: &State,
     trail: &Trail,
     last: &Option<Envelope>,
     fault: StreamFault,
 ) -> Result<String, AllocError>
-    ensures { IfOk result (λ text. TellsFault (summary_of state.now) trail.now last.now fault
-        (string_bytes text)) }
+    ensures { IfOk result (λ text. TellsOf settings (summary_of state.now) trail.now last.now
+        (IsBad (stream_fault_named fault)) (string_bytes text)) }
+{
+    match last {
+        Some(envelope) => envelope_text(alloc, settings, state, trail, envelope, fault),
+        None => Err(AllocError),
+    }
+}
+
+/// What is told of a run that doesn't end.
+fn end_text(alloc: Global, trail: &Trail) -> Result<String, AllocError>
+    ensures { IfOk result (λ text. (es : List SomeEnvelope) → trail.now ≡ trail_of es
+        → IsToldAtEnd es (string_bytes text)) }
 {
     let mut text = String::new(alloc);
-    if !is_of_envelope(fault) {
-        return Ok(text);
-    }
-    let Some(envelope) = last else {
-        return Err(AllocError);
-    };
-    add_fault(alloc, &mut text, state, trail, envelope, fault)?;
+    add_at_end(alloc, &mut text, trail)?;
     Ok(text)
+}
+
+/// Nothing is told of an envelope after the end of the run.
+fn after_text(alloc: Global, last: &Option<Envelope>) -> Result<String, AllocError>
+    ensures { IfOk result (λ text. IsSomeAnd last.now (λ e. string_bytes text ≡ [])) }
+{
+    match last {
+        Some(_) => Ok(String::new(alloc)),
+        None => Err(AllocError),
+    }
+}
+
+/// What is told of a fault.
+fn fault_text(
+    alloc: Global,
+    settings: Settings,
+    state: &State,
+    trail: &Trail,
+    last: &Option<Envelope>,
+    fault: StreamFault,
+) -> Result<String, AllocError>
+    ensures { IfOk result (λ text. TellsFault settings (summary_of state.now) trail.now last.now
+        fault (string_bytes text)) }
+{
+    match fault {
+        StreamFault::NoEnvelope(_) => Ok(String::new(alloc)),
+        StreamFault::AfterRunFinished => after_text(alloc, last),
+        StreamFault::NoRunFinished => end_text(alloc, trail),
+        _ => last_text(alloc, settings, state, trail, last, fault),
+    }
 }
 
 /// What is told of the line that shows why the stream isn't judged.
-fn reason_text(alloc: Global, last: &Option<Envelope>, reason: Reason) -> Result<String, AllocError>
-    ensures { IfOk result (λ text. (s : Summary) (t : SomeTrail)
-        → TellsOf s t last.now (IsUnsupported reason) (string_bytes text)) }
+fn reason_text(
+    alloc: Global,
+    trail: &Trail,
+    last: &Option<Envelope>,
+    reason: Reason,
+) -> Result<String, AllocError>
+    ensures { IfOk result
+        (λ text. TellsReason trail.now last.now reason (string_bytes text)) }
 {
     let mut text = String::new(alloc);
     let Some(envelope) = last else {
         return Err(AllocError);
     };
-    add_reason(&mut text, envelope, reason)?;
+    add_reason(alloc, &mut text, trail, envelope, reason)?;
     Ok(text)
 }
 
-/// What is told of the line that decides, by what is kept of the lines before it, the trail of the lines up to it, and its
-/// envelope, read once more.
+/// What is told of the line that decides, where a stream is judged by these settings, by what is kept of the lines before it, the
+/// trail of the lines up to it, and its envelope, read once more.
 ///
 /// # Errors
 /// Only where there is no memory for it, or there was none to read the envelope.
 pub fn verdict_told(
     alloc: Global,
+    settings: Settings,
     state: &State,
     trail: &Trail,
     last: &Option<Envelope>,
     verdict: Verdict,
 ) -> Result<String, AllocError>
-    ensures { IfOk result (λ text. TellsWith (summary_of state.now) trail.now last.now verdict
-        (string_bytes text)) }
+    ensures { IfOk result (λ text. TellsWith settings (summary_of state.now) trail.now last.now
+        verdict (string_bytes text)) }
 {
     match verdict {
         Verdict::Good(_) => Ok(String::new(alloc)),
-        Verdict::Bad { fault, .. } => fault_text(alloc, state, trail, last, fault),
-        Verdict::Unsupported { reason, .. } => reason_text(alloc, last, reason),
+        Verdict::Bad { fault, .. } => fault_text(alloc, settings, state, trail, last, fault),
+        Verdict::Unsupported { reason, .. } => reason_text(alloc, trail, last, reason),
     }
 }

@@ -4,18 +4,21 @@ ghost use Rattle.cm_envelope.specs.declared.envelope.Envelope.{Envelope as SomeE
 ghost use Rattle.cm_reasons.specs.Trail.{trail_of};
 ghost use Rattle.cm_stream.specs.Findings.{IsBad, stream_fault_named};
 ghost use Rattle.cm_audit.specs.State.{summary_of};
-ghost use Rattle.cm_fault_reasons.specs.ToldAt.{all_lines, told_reason, told_uri_of};
-ghost use Rattle.cm_fault_reasons.specs.ToldKept.{told_by};
+ghost use Rattle.cm_fault_reasons.specs.ToldAt.{reason_lines, told_uri_of};
+ghost use Rattle.cm_fault_reasons.specs.ToldKept.{lines_by, told_by};
 ghost use Rattle.cm_fault_reasons.specs.Unknown.{told_id, told_line, told_lines};
 ghost use Rattle.cm_fault_reasons.specs.UnknownKept.{told_view};
 
 use crate::duplicate::first_duplicate;
-use crate::scenario::{add_declared, add_started};
+use crate::run::{add_ended_hook, add_open_cases};
+use crate::scenario::{add_declared, add_misnumbered, add_started};
+use crate::steps::{add_order, add_status};
 use crate::unknown::{Told, first_unknown};
+use cm_attempt::Settings;
 use cm_audit::State;
 use cm_cases::add_shown;
 use cm_envelope::Envelope;
-use cm_reasons::Trail;
+use cm_reasons::{Trail, add_open_hooks};
 use cm_stream::{Reason, StreamFault};
 use std::alloc::{AllocError, Global};
 
@@ -47,7 +50,7 @@ fn told_id(id: Option<&str>) -> Option<Told<'_>>
     })
 }
 
-/// What is told of an envelope that has the fault.
+/// The uri or the id that is told of an envelope that has the fault.
 fn told_at_fault<'a>(
     alloc: Global,
     state: &State,
@@ -62,16 +65,6 @@ fn told_at_fault<'a>(
         StreamFault::UnknownReference => Ok(first_unknown(state, envelope)),
         StreamFault::DuplicateId => Ok(told_id(first_duplicate(alloc, state, envelope)?)),
         _ => Ok(None),
-    }
-}
-
-/// What is told of an envelope that shows why the stream isn't judged.
-fn told_at_reason(envelope: &Envelope, reason: Reason) -> Option<Told<'_>>
-    ensures { option_map told_view result ≡ told_reason reason envelope.now }
-{
-    match reason {
-        Reason::Language | Reason::MediaType | Reason::SourceTooLong => uri_of(envelope),
-        Reason::UnknownStatus => None,
     }
 }
 
@@ -96,14 +89,15 @@ fn add_told(text: &mut String, told: &Option<Told<'_>>) -> Result<(), AllocError
     }
 }
 
-/// Adds what is told of an envelope that has the fault, after the lines of which this is kept, and of which with it this is the
-/// trail.
+/// Adds the lines of an envelope that has the fault, after the lines of which this is kept, and of which with it this is the
+/// trail: of its test case, attempt, steps or run hooks, or else its uri or id.
 ///
 /// # Errors
-/// Only where there is no memory for it.
-pub(crate) fn add_fault(
+/// Only where there is no memory for them.
+pub(crate) fn add_lines(
     alloc: Global,
     text: &mut String,
+    settings: Settings,
     state: &State,
     trail: &Trail,
     envelope: &Envelope,
@@ -111,12 +105,19 @@ pub(crate) fn add_fault(
 ) -> Result<(), AllocError>
     ensures { OnOk result ((es : List SomeEnvelope) → trail.now ≡ trail_of es
         → string_bytes text.new ≡ string_bytes text.old
-        ++ all_lines (told_by (summary_of state.now) envelope.now
-        (IsBad (stream_fault_named fault))) es envelope.now (IsBad (stream_fault_named fault))) }
+        ++ lines_by settings (summary_of state.now) es envelope.now
+        (IsBad (stream_fault_named fault))) }
 {
+    let first = settings.first_attempt;
     match fault {
         StreamFault::CaseStepsDiffer => add_declared(alloc, text, trail, envelope),
+        StreamFault::AttemptNumber => add_misnumbered(alloc, text, first, trail, envelope),
         StreamFault::AttemptOverlap => add_started(alloc, text, trail, envelope),
+        StreamFault::StepOrder => add_order(alloc, text, state, trail, envelope),
+        StreamFault::FinishedEarly => add_order(alloc, text, state, trail, envelope),
+        StreamFault::AttemptOpen => add_open_cases(alloc, text, trail),
+        StreamFault::RunHookOpen => add_open_hooks(alloc, text, trail),
+        StreamFault::RunHookTwice => add_ended_hook(text, trail, envelope),
         _ => {
             let told = told_at_fault(alloc, state, envelope, fault)?;
             add_told(text, &told)
@@ -124,18 +125,23 @@ pub(crate) fn add_fault(
     }
 }
 
-/// Adds what is told of an envelope that shows why the stream isn't judged.
+/// Adds what is told of an envelope that shows why the stream isn't judged, of which with the lines before it this is the trail.
 ///
 /// # Errors
 /// Only where there is no memory for it.
 pub(crate) fn add_reason(
+    alloc: Global,
     text: &mut String,
+    trail: &Trail,
     envelope: &Envelope,
     reason: Reason,
 ) -> Result<(), AllocError>
-    ensures { OnOk result (string_bytes text.new
-        ≡ string_bytes text.old ++ told_lines (told_reason reason envelope.now)) }
+    ensures { OnOk result ((es : List SomeEnvelope) → trail.now ≡ trail_of es
+        → string_bytes text.new
+        ≡ string_bytes text.old ++ reason_lines reason es envelope.now) }
 {
-    let told = told_at_reason(envelope, reason);
-    add_told(text, &told)
+    match reason {
+        Reason::UnknownStatus => add_status(alloc, text, trail, envelope),
+        _ => add_told(text, &uri_of(envelope)),
+    }
 }

@@ -1,4 +1,4 @@
-//! The lines that say why the run of a good stream of Cucumber Messages is held.
+//! The lines that say why a stream of Cucumber Messages isn't released.
 //!
 //! ```
 //! use cm_envelope::Envelope;
@@ -15,13 +15,30 @@
 //! }
 //! ```
 //!
-//! `Trail` keeps what the lines name, envelope by envelope. The functions write the lines of what is held, a hundred of each
-//! kind at most. What the lines say is defined over the whole list of envelopes, in `specs/Reasons`.
+//! `Trail` keeps what the lines name, envelope by envelope; its `RunListing` what those of sources and run hooks name. The
+//! functions write the lines of what is held, of sources that are refused and of run hooks, a hundred of each kind at most, and
+//! `add_limited` writes those of any other kind in the same way. What the lines say is defined over the whole list of envelopes,
+//! in `specs/Reasons` and `specs/RunReasons`; `specs/Words` has the words of statuses and of faults.
 #![tactic(auto)]
 
+mod laws;
 mod lines;
+mod refused;
+mod run_hooks;
+mod run_listing;
 mod scenarios;
+mod steps;
 mod trail;
+mod words;
 
+pub use laws::{
+    hook_causes_are_of_bad_hooks, refused_lines_are_determined, undefined_steps_are_told,
+};
+pub use lines::{AddLine, add_limited};
+pub use refused::{add_refused, add_refused_of};
+pub use run_hooks::{add_hook_causes, add_open_hooks, add_run_hook};
+pub use run_listing::RunListing;
 pub use scenarios::{retried_text, skipped_text, stepless_text, unrun_text};
+pub use steps::{CaseStep, undefined_text};
 pub use trail::Trail;
+pub use words::{kind_label, status_word};

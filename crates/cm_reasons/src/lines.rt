@@ -9,7 +9,7 @@ use std::alloc::AllocError;
 const MOST_LINES: usize = 100;
 
 /// Writes a line for an item, by what it keeps of a stream's envelopes.
-pub(crate) trait AddLine<T> {
+pub trait AddLine<T> {
     /// Whether it is of these envelopes.
     ghost of: { Self → List SomeEnvelope → Type 0 };
 
@@ -50,7 +50,7 @@ fn add_more(text: &mut String, count: usize) -> Result<(), AllocError>
 ///
 /// # Errors
 /// Only where there is no memory for them.
-pub(crate) fn add_limited<T, L: AddLine<T>>(
+pub fn add_limited<T, L: AddLine<T>>(
     text: &mut String,
     lines: &L,
     items: &[T],

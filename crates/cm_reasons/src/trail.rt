@@ -2,16 +2,42 @@
 ghost use Rattle.std.specs.Prelude.{◌≡◌, ◌++◌, ◌∷◌, [], IfOk, List, OnOk};
 ghost use Rattle.cm_cases.specs.Listed.{listing_of};
 ghost use Rattle.cm_envelope.specs.declared.envelope.Envelope.{Envelope as SomeEnvelope};
-ghost use Rattle.cm_reasons.specs.Trail.{trail_of};
+ghost use Rattle.cm_reasons.specs.Trail.{ends_with_exception, has_exception, trail_of};
 
+use crate::run_listing::RunListing;
 use cm_cases::{Listing, Places};
 use cm_envelope::Envelope;
+use cm_steps::StepListing;
 use std::alloc::{AllocError, Global};
 
 /// What the reasons of a stream name, kept envelope by envelope.
 #[derive(Debug, Drop)]
 pub struct Trail {
     pub(crate) listing: Listing,
+    pub(crate) steps: StepListing,
+    pub(crate) run: RunListing,
+    pub(crate) has_exception: bool,
+}
+
+/// Whether the run ends with an exception.
+fn ends_with_exception(envelope: &Envelope) -> bool
+    ensures { result ≡ ends_with_exception envelope.now }
+{
+    match envelope {
+        Envelope::TestRunFinished(end) => end.has_exception,
+        _ => false,
+    }
+}
+
+/// Whether a run that ended with an exception, or not, does so with one envelope more.
+fn noted_exception(before: bool, envelope: &Envelope) -> bool
+    ensures { (es : List SomeEnvelope) → before ≡ has_exception es
+        → result ≡ has_exception (es ++ envelope.now ∷ []) }
+{
+    if before {
+        return true;
+    }
+    ends_with_exception(envelope)
 }
 
 impl Trail {
@@ -21,6 +47,9 @@ impl Trail {
     {
         Trail {
             listing: Listing::new(alloc),
+            steps: StepListing::new(alloc),
+            run: RunListing::new(alloc),
+            has_exception: false,
         }
     }
 
@@ -32,7 +61,25 @@ impl Trail {
         ensures { OnOk result ((es : List SomeEnvelope) → self.old ≡ trail_of es
             → self.new ≡ trail_of (es ++ envelope.now ∷ [])) }
     {
-        self.listing.note(alloc, envelope)
+        self.listing.note(alloc, envelope)?;
+        self.steps.note(alloc, envelope)?;
+        self.run.note(alloc, envelope)?;
+        self.has_exception = noted_exception(self.has_exception, envelope);
+        Ok(())
+    }
+
+    /// What is kept of the steps and attempts.
+    pub fn steps(&self) -> &StepListing
+        ensures { result.now ≡ self.now.steps }
+    {
+        &self.steps
+    }
+
+    /// Whether the run ended with an exception.
+    pub fn has_exception(&self) -> bool
+        ensures { (es : List SomeEnvelope) → self.now ≡ trail_of es → result ≡ has_exception es }
+    {
+        self.has_exception
     }
 
     /// The places of its pickles and test cases.

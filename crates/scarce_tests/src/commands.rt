@@ -22,11 +22,68 @@ const INCOMPLETE: &str =
 {"testRunFinished":{"success":true}}
 "#;
 
-const DIFFERENCE: &str = r#"bad line 4: 20 SourceIncomplete
+const MISSING: &str = "bad line 4: 20 SourceIncomplete
 uri a.feature
-expected {"pickle":{"astNodeIds":["0"],"language":"en","name":"s","steps":[{"astNodeIds":["1"],"text":"a","type":"Context"}],"tags":[],"uri":"a.feature"}}
-found nothing
+missing a.feature:3 s
+";
+
+// A stream whose document has a step in another line, and what is said of it.
+const MOVED: &str =
+    r#"{"source":{"data":"Feature: f\n\n  Scenario: s\n    Given a\n","mediaType":"text/x.cucumber.gherkin+plain","uri":"a.feature"}}
+{"gherkinDocument":{"comments":[],"feature":{"children":[{"scenario":{"description":"","examples":[],"id":"0","keyword":"Scenario","location":{"column":3,"line":3},"name":"s","steps":[{"id":"1","keyword":"Given ","keywordType":"Context","location":{"column":5,"line":5},"text":"a"}],"tags":[]}}],"description":"","keyword":"Feature","language":"en","location":{"column":1,"line":1},"name":"f","tags":[]},"uri":"a.feature"}}
 "#;
+
+const DIFFERENCE: &str = r#"bad line 2: 8 TreeDiffers
+uri a.feature
+expected {"step":{"keyword":"Given ","location":{"line":4},"text":"a"}}
+found {"step":{"keyword":"Given ","location":{"line":5},"text":"a"}}
+"#;
+
+// A run that failed in each way, and what is said of it.
+const FAILED: &str =
+    r#"{"source":{"data":"Feature: f\n\n  Scenario: s\n    Given a\n","mediaType":"text/x.cucumber.gherkin+plain","uri":"a.feature"}}
+{"gherkinDocument":{"comments":[],"feature":{"children":[{"scenario":{"description":"","examples":[],"id":"0","keyword":"Scenario","location":{"column":3,"line":3},"name":"s","steps":[{"id":"1","keyword":"Given ","keywordType":"Context","location":{"column":5,"line":4},"text":"a"}],"tags":[]}}],"description":"","keyword":"Feature","language":"en","location":{"column":1,"line":1},"name":"f","tags":[]},"uri":"a.feature"}}
+{"pickle":{"astNodeIds":["0"],"id":"3","language":"en","name":"s","steps":[{"astNodeIds":["1"],"id":"2","text":"a","type":"Context"}],"tags":[],"uri":"a.feature"}}
+{"source":{"data":"Given x","mediaType":"text/x.cucumber.gherkin+plain","uri":"b.feature"}}
+{"hook":{"id":"h"}}
+{"testRunStarted":{}}
+{"testRunHookStarted":{"id":"r1","hookId":"h"}}
+{"testRunHookFinished":{"testRunHookStartedId":"r1","result":{"status":"FAILED"}}}
+{"testCase":{"id":"c1","pickleId":"3","testSteps":[{"id":"t1","pickleStepId":"2"}]}}
+{"testCase":{"id":"c2","pickleId":"3","testSteps":[{"id":"t1","pickleStepId":"2"}]}}
+{"testCaseStarted":{"id":"a1","testCaseId":"c1","attempt":0}}
+{"testStepStarted":{"testCaseStartedId":"a1","testStepId":"t1"}}
+{"testStepFinished":{"testCaseStartedId":"a1","testStepId":"t1","testStepResult":{"status":"FAILED"}}}
+{"testCaseFinished":{"testCaseStartedId":"a1","willBeRetried":false}}
+{"testRunFinished":{"success":false,"exception":{"type":"E"}}}
+"#;
+
+const CAUSES: &str = "good sources=2 pickles=1 cases=2 attempts=1
+stop NotSuccessful
+FAILED a.feature:3 s step a.feature:4 a
+NONE a.feature:3 s
+RUNHOOK FAILED hook h
+refused b.feature:1:1 1 Unexpected
+exception
+";
+
+// The start of an attempt whose step ends before it starts, and what is said of it.
+const NOT_DUE: &str =
+    r#"{"source":{"data":"Feature: f\n\n  Scenario: s\n    Given a\n","mediaType":"text/x.cucumber.gherkin+plain","uri":"a.feature"}}
+{"gherkinDocument":{"comments":[],"feature":{"children":[{"scenario":{"description":"","examples":[],"id":"0","keyword":"Scenario","location":{"column":3,"line":3},"name":"s","steps":[{"id":"1","keyword":"Given ","keywordType":"Context","location":{"column":5,"line":4},"text":"a"}],"tags":[]}}],"description":"","keyword":"Feature","language":"en","location":{"column":1,"line":1},"name":"f","tags":[]},"uri":"a.feature"}}
+{"pickle":{"astNodeIds":["0"],"id":"3","language":"en","name":"s","steps":[{"astNodeIds":["1"],"id":"2","text":"a","type":"Context"}],"tags":[],"uri":"a.feature"}}
+{"testRunStarted":{}}
+{"testCase":{"id":"c1","pickleId":"3","testSteps":[{"id":"t1","pickleStepId":"2"}]}}
+{"testCaseStarted":{"id":"a1","testCaseId":"c1","attempt":0}}
+{"testStepFinished":{"testCaseStartedId":"a1","testStepId":"t1","testStepResult":{"status":"PASSED"}}}
+"#;
+
+const DUE: &str = "bad line 7: 14 StepOrder
+case a.feature:3 s
+attempt 0
+due start a.feature:4 a
+found finish a.feature:4 a
+";
 
 const OUTLINE_TEXT: &str =
     "Feature: f\n  Scenario: s\n    Given <a>\n    Examples:\n      | a |\n      | x |\n      | x |\n      | y |\n";
@@ -127,9 +184,20 @@ fn run_parse(alloc: Global) -> Came {
     came_of_words(alloc, &["parse"], PLAIN_TEXT, told, ExitStatus::Done)
 }
 
-fn run_differs(alloc: Global) -> Came {
-    let words = ["differs"];
-    came_of_words(alloc, &words, INCOMPLETE, DIFFERENCE, ExitStatus::Refused)
+fn run_gate_missing(alloc: Global) -> Came {
+    came_of_words(alloc, &["gate"], INCOMPLETE, MISSING, ExitStatus::Refused)
+}
+
+fn run_gate_difference(alloc: Global) -> Came {
+    came_of_words(alloc, &["gate"], MOVED, DIFFERENCE, ExitStatus::Refused)
+}
+
+fn run_gate_causes(alloc: Global) -> Came {
+    came_of_words(alloc, &["gate"], FAILED, CAUSES, ExitStatus::Held)
+}
+
+fn run_gate_due(alloc: Global) -> Came {
+    came_of_words(alloc, &["gate"], NOT_DUE, DUE, ExitStatus::Refused)
 }
 
 #[test]
@@ -163,6 +231,26 @@ fn runs_of_gate_that_tell_of_a_line(rt: HostRuntime) -> Result<(), Fail> {
 }
 
 #[test]
+fn runs_of_gate_that_tell_what_is_missing(rt: HostRuntime) -> Result<(), Fail> {
+    meet_alone(rt.alloc(), RUNS, run_gate_missing)
+}
+
+#[test]
+fn runs_of_gate_that_tell_a_difference(rt: HostRuntime) -> Result<(), Fail> {
+    meet_alone(rt.alloc(), RUNS, run_gate_difference)
+}
+
+#[test]
+fn runs_of_gate_that_tell_causes(rt: HostRuntime) -> Result<(), Fail> {
+    meet_alone(rt.alloc(), RUNS, run_gate_causes)
+}
+
+#[test]
+fn runs_of_gate_that_tell_what_is_due(rt: HostRuntime) -> Result<(), Fail> {
+    meet_alone(rt.alloc(), RUNS, run_gate_due)
+}
+
+#[test]
 fn runs_of_parse(rt: HostRuntime) -> Result<(), Fail> {
     meet_alone(rt.alloc(), RUNS, run_parse)
 }
@@ -175,9 +263,4 @@ fn runs_of_cases(rt: HostRuntime) -> Result<(), Fail> {
 #[test]
 fn runs_of_cases_as_json(rt: HostRuntime) -> Result<(), Fail> {
     meet_alone(rt.alloc(), RUNS, run_cases_json)
-}
-
-#[test]
-fn runs_of_differs(rt: HostRuntime) -> Result<(), Fail> {
-    meet_alone(rt.alloc(), RUNS, run_differs)
 }

@@ -1,9 +1,7 @@
 //! What differs of documents and pickles, in want of memory.
 use crate::meeting::{Came, SMALL, meet, right_if};
 use crate::streams::PLAIN_TEXT;
-use cm_differs::{
-    Difference, missing_document, missing_pickle, pickle_difference, tree_difference,
-};
+use cm_differs::{Difference, pickle_difference, tree_difference};
 use cm_envelope::{Envelope, EnvelopeFault, Pickle, read_envelope};
 use gk_document::{Document, Text};
 use gk_pickle::{Pickle as DuePickle, compile};
@@ -26,12 +24,6 @@ const DUE_PICKLE: &str =
 
 const FOUND_PICKLE: &str =
     r#"{"pickle":{"astNodeIds":["0"],"language":"en","name":"s","steps":[{"astNodeIds":["1"],"text":"b"}],"tags":[],"uri":"u"}}"#;
-
-const MISSING_PICKLE: &str =
-    r#"{"pickle":{"astNodeIds":[""],"language":"en","name":"s","steps":[{"astNodeIds":[""],"text":"a","type":"Context"}],"tags":[],"uri":"u"}}"#;
-
-const PARTS: &str =
-    r#"[{"feature":{"keyword":"Feature","language":"en","location":{"line":1},"name":"f","tags":[]}},{"scenario":{"keyword":"Scenario","location":{"line":3},"name":"s","tags":[]}},{"step":{"keyword":"Given ","location":{"line":4},"text":"a"}}]"#;
 
 fn is_text(text: &Option<Text>, json: Option<&str>) -> bool {
     match (text, json) {
@@ -64,19 +56,9 @@ fn compare_trees(alloc: Global, due: &Document, found: &Document) -> Came {
     }
 }
 
-fn list_missing(alloc: Global, due: &Document) -> Came {
-    let made = missing_document(alloc, "u", due);
-    came_of(&made, Some(PARTS), None)
-}
-
 fn compare_pickles(alloc: Global, due: &DuePickle, found: &Pickle) -> Came {
     let made = pickle_difference(alloc, &[], Some(due), found);
     came_of(&made, Some(DUE_PICKLE), Some(FOUND_PICKLE))
-}
-
-fn write_missing(alloc: Global, due: &DuePickle) -> Came {
-    let made = missing_pickle(alloc, "u", &[], due);
-    came_of(&made, Some(MISSING_PICKLE), None)
 }
 
 fn meet_trees(
@@ -90,8 +72,7 @@ fn meet_trees(
         shortage,
         SMALL,
         |alloc| compare_trees(alloc, due, found),
-    )?;
-    meet(alloc, shortage, SMALL, |alloc| list_missing(alloc, due))
+    )
 }
 
 fn meet_documents(alloc: Global, due: &Document, found: &Document) -> Result<(), Fail> {
@@ -128,8 +109,7 @@ fn meet_lines(
         shortage,
         SMALL,
         |alloc| compare_pickles(alloc, due, found),
-    )?;
-    meet(alloc, shortage, SMALL, |alloc| write_missing(alloc, due))
+    )
 }
 
 fn meet_pickles(alloc: Global, due: &DuePickle, found: &Pickle) -> Result<(), Fail> {

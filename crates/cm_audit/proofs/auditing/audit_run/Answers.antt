@@ -10,7 +10,7 @@ returns-clause-all g c =
     let watched = c.audit_watched-watched in
     rw c.audit_in.ensures
     (record {
-      heard = audit_alone c.args.settings _ _ watched.result _ _ watched.ensures.same_bytes;
+      heard = audit_alone c.args.settings _ watched.result _ _ watched.ensures.same_bytes;
       at_end = watched.ensures.at_end;
       failures = rw (failed_alone watched.result) watched.ensures.failures;
     })
@@ -18,27 +18,27 @@ returns-clause-all g c =
 pub returns-clause-good : goal.returns-clause-good
 returns-clause-good g c =
     let watched = c.audit_watched-watched in
-    rw c.audit_in.ensures (good_heard c.args.settings _ _ _ (audit_alone c.args.settings _ _ watched.result _ _ watched.ensures.same_bytes) watched.ensures.at_end)
+    rw c.audit_in.ensures (good_heard c.args.settings _ _ _ (audit_alone c.args.settings _ watched.result _ _ watched.ensures.same_bytes) watched.ensures.at_end)
 
 pub returns-clause-bad : goal.returns-clause-bad
 returns-clause-bad g c =
     let watched = c.audit_watched-watched in
-    rw c.audit_in.ensures (of_reads {P = IsAuditOf c.args.settings (audit_in watched.result)} _ _ (audit_alone c.args.settings _ _ watched.result _ _ watched.ensures.same_bytes) (λ xs ys h. h.bad))
+    rw c.audit_in.ensures (of_reads {P = IsAuditOf c.args.settings (audit_in watched.result)} _ _ (audit_alone c.args.settings _ watched.result _ _ watched.ensures.same_bytes) (λ xs ys h. h.bad))
 
 pub returns-clause-told : goal.returns-clause-told
 returns-clause-told g c =
     let watched = c.audit_watched-watched in
-    rw c.audit_in.ensures (of_reads {P = IsAuditOf c.args.settings (audit_in watched.result)} _ _ (audit_alone c.args.settings _ _ watched.result _ _ watched.ensures.same_bytes) (λ xs ys h. h.told))
+    rw c.audit_in.ensures (of_reads {P = IsAuditOf c.args.settings (audit_in watched.result)} _ _ (audit_alone c.args.settings _ watched.result _ _ watched.ensures.same_bytes) (λ xs ys h. h.told))
 
 pub returns-clause-decided : goal.returns-clause-decided
 returns-clause-decided g c =
     let watched = c.audit_watched-watched in
-    rw c.audit_in.ensures (of_reads {P = IsAuditOf c.args.settings (audit_in watched.result)} _ _ (audit_alone c.args.settings _ _ watched.result _ _ watched.ensures.same_bytes) (λ xs ys h. h.decided))
+    rw c.audit_in.ensures (of_reads {P = IsAuditOf c.args.settings (audit_in watched.result)} _ _ (audit_alone c.args.settings _ watched.result _ _ watched.ensures.same_bytes) (λ xs ys h. h.decided))
 
 pub returns-clause-unsupported : goal.returns-clause-unsupported
 returns-clause-unsupported g c =
     let watched = c.audit_watched-watched in
-    rw c.audit_in.ensures (of_reads {P = IsAuditOf c.args.settings (audit_in watched.result)} _ _ (audit_alone c.args.settings _ _ watched.result _ _ watched.ensures.same_bytes) (λ xs ys h. h.unsupported))
+    rw c.audit_in.ensures (of_reads {P = IsAuditOf c.args.settings (audit_in watched.result)} _ _ (audit_alone c.args.settings _ watched.result _ _ watched.ensures.same_bytes) (λ xs ys h. h.unsupported))
 
 pub returns-clause-failures : goal.returns-clause-failures
 returns-clause-failures g c =
@@ -48,9 +48,9 @@ returns-clause-failures g c =
 pub returns-clause-read_failed : goal.returns-clause-read_failed
 returns-clause-read_failed g c =
     let watched = c.audit_watched-watched in
-    rw c.audit_in.ensures (λ failed. reads_weaker {P = IsAuditOf c.args.settings (audit_in watched.result)} _ _ (audit_alone c.args.settings _ _ watched.result _ _ watched.ensures.same_bytes) (λ xs ys h. h.read_failed failed))
+    rw c.audit_in.ensures (λ failed. reads_weaker {P = IsAuditOf c.args.settings (audit_in watched.result)} _ _ (audit_alone c.args.settings _ watched.result _ _ watched.ensures.same_bytes) (λ xs ys h. h.read_failed failed))
 
 pub returns-clause-ahead : goal.returns-clause-ahead
 returns-clause-ahead g c =
     let watched = c.audit_watched-watched in
-    rw c.audit_in.ensures (reads_weaker {P = IsAuditOf c.args.settings (audit_in watched.result)} _ _ (audit_alone c.args.settings _ _ watched.result _ _ watched.ensures.same_bytes) (λ xs ys h. h.ahead))
+    rw c.audit_in.ensures (reads_weaker {P = IsAuditOf c.args.settings (audit_in watched.result)} _ _ (audit_alone c.args.settings _ watched.result _ _ watched.ensures.same_bytes) (λ xs ys h. h.ahead))

@@ -1,3 +1,0 @@
-mod DifferenceAudit
-mod DifferenceFaults
-mod DifferenceRows

@@ -1,0 +1,120 @@
+//! The causes of test cases.
+ghost use Rattle.std.specs.Prelude.{◌≡◌, ◌++◌, List, OnOk, codes, string_bytes, false, Some};
+ghost use Rattle.cm_attempt.specs.Results.{case_results};
+ghost use Rattle.cm_cases.specs.Listed.{listing_of};
+ghost use Rattle.cm_cases.specs.Places.{case_scenario};
+ghost use Rattle.cm_envelope.specs.declared.envelope.Envelope.{Envelope as SomeEnvelope};
+ghost use Rattle.cm_stream.specs.Results.{results_of};
+ghost use Rattle.cm_steps.specs.Attempts.{is_quiet};
+ghost use Rattle.cm_steps.specs.Kept.{step_listing_of};
+ghost use Rattle.cm_reasons.specs.Lines.{limited};
+ghost use Rattle.cm_reasons.specs.Trail.{trail_of};
+ghost use Rattle.cm_reasons.specs.Words.{status_word};
+ghost use Rattle.cm_causes.specs.Causes.{case_causes, last_step_cause};
+ghost use Rattle.cm_causes.specs.Told.{told_result};
+
+use crate::results::bad_results;
+use cm_attempt::{CaseResult, Policy, Status, Track};
+use cm_cases::Places;
+use cm_reasons::{AddLine, Trail, add_limited, status_word};
+use cm_steps::StepListing;
+use std::alloc::{AllocError, Global};
+
+/// Adds the first step of the last attempt of a test case that has the status, with a word before it.
+fn add_last_step(
+    text: &mut String,
+    steps: &StepListing,
+    case: &str,
+    status: Status,
+) -> Result<(), AllocError>
+    ensures { OnOk result ((es : List SomeEnvelope) → steps.now ≡ step_listing_of es
+        → is_quiet status ≡ false
+        → string_bytes text.new ≡ string_bytes text.old ++ last_step_cause es case.now status) }
+{
+    let Some(attempt) = steps.last_attempt(case) else {
+        return Ok(());
+    };
+    let Some(step) = steps.step_with(attempt, status) else {
+        return Ok(());
+    };
+    text.push_str(" ")?;
+    steps.add_named_step(text, case, step)
+}
+
+/// Whether the status holds nothing up, whatever the policy.
+fn is_quiet(status: Status) -> bool
+    ensures { result ≡ is_quiet status }
+{
+    matches!(status, Status::Passed | Status::Skipped)
+}
+
+/// Lines of the results of test cases.
+#[derive(Drop)]
+struct ResultLines<'a, 'p> {
+    places: &'a Places<'p>,
+    steps: &'a StepListing,
+}
+
+impl<'a, 'p> ResultLines<'a, 'p> {
+    /// That of a test case whose final attempt has the status at worst.
+    fn add_status(&self, text: &mut String, case: &str, status: Status) -> Result<(), AllocError>
+        ensures { OnOk result ((es : List SomeEnvelope) → self.now.places.now ≡ listing_of es
+            → self.now.steps.now ≡ step_listing_of es
+            → string_bytes text.new
+            ≡ string_bytes text.old ++ told_result es case.now (Some status)) }
+    {
+        text.push_str(status_word(status))?;
+        self.places.add_case_scenario(text, case)?;
+        if !is_quiet(status) {
+            add_last_step(text, self.steps, case, status)?;
+        }
+        Ok(())
+    }
+
+    /// That of a test case without a final attempt.
+    fn add_none(&self, text: &mut String, case: &str) -> Result<(), AllocError>
+        ensures { OnOk result ((es : List SomeEnvelope) → self.now.places.now ≡ listing_of es
+            → string_bytes text.new
+            ≡ string_bytes text.old ++ codes "NONE" ++ case_scenario es case.now) }
+    {
+        text.push_str("NONE")?;
+        self.places.add_case_scenario(text, case)
+    }
+}
+
+impl<'a, 'b, 'p> AddLine<CaseResult<'b>> for ResultLines<'a, 'p> {
+    ghost of = { λ s es. (s.places.now ≡ listing_of es) × (s.steps.now ≡ step_listing_of es) };
+
+    ghost line = { λ s es r. told_result es r.id.now r.status };
+
+    fn add(&self, text: &mut String, item: &CaseResult<'b>) -> Result<(), AllocError> {
+        match item.status {
+            Some(status) => self.add_status(text, item.id, status),
+            None => self.add_none(text, item.id),
+        }
+    }
+}
+
+/// Adds the line of each test case that isn't good, a hundred at most.
+///
+/// # Errors
+/// Only where there is no memory for them.
+pub(crate) fn add_case_causes(
+    alloc: Global,
+    text: &mut String,
+    trail: &Trail,
+    track: &Track,
+    policy: Policy,
+) -> Result<(), AllocError>
+    ensures { OnOk result ((es : List SomeEnvelope) → trail.now ≡ trail_of es
+        → case_results track.now ≡ results_of es
+        → string_bytes text.new ≡ string_bytes text.old ++ limited (case_causes policy es)) }
+{
+    let bad = bad_results(alloc, track, policy)?;
+    let places = trail.places(alloc)?;
+    let lines = ResultLines {
+        places: &places,
+        steps: trail.steps(),
+    };
+    add_limited(text, &lines, bad.as_slice())
+}

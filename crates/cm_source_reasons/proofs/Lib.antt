@@ -1,0 +1,3 @@
+mod SourceArms
+mod SourceRows
+mod SourceFaults

@@ -1,0 +1,22 @@
+use Rattle.std.proofs.Common.{◌≡◌, ◌∙◌, ◌++◌, append_assoc, string_bytes, Bor, List, ℕ, Option}
+use Rattle.std.specs.Prelude.{option_map}
+use Rattle.cm_envelope.specs.declared.envelope.Envelope.{Envelope}
+use Rattle.cm_envelope.specs.declared.pickle.Pickle.{Pickle}
+use Rattle.cm_stream.specs.Sources.{DuePickle}
+use Rattle.cm_stream.specs.Texts.{Utf8}
+use Rattle.cm_differs.specs.Differences.{pickle_difference}
+use Rattle.cm_differs.specs.declared.difference.Difference.{Difference}
+use Rattle.cm_source_reasons.specs.SourceReasons.{due_line, pickle_lines, sides_text}
+use Rattle.cm_source_reasons.proofs.pickle_reason.add_next.Goals as goal
+
+next_told : (es : List Envelope) (p : Pickle) (old mid new : List ℕ) (uri : Utf8) (ids kept : List Utf8) (due next : Option DuePickle) (d : Difference)
+    → mid ≡ old ++ due_line es uri ids due → new ≡ mid ++ sides_text d → d ≡ pickle_difference ids due p → uri ≡ p.uri → ids ≡ kept → due ≡ next
+    → new ≡ old ++ pickle_lines es kept next p
+next_told es p old mid new uri ids kept due next d a b c u i n =
+    b ∙ (λ j. a j ++ sides_text (c j)) ∙ append_assoc old (due_line es uri ids due) (sides_text (pickle_difference ids due p))
+    ∙ (λ j. old ++ (due_line es (u j) (i j) (n j) ++ sides_text (pickle_difference (i j) (n j) p)))
+
+pub returns : goal.returns
+returns c es is =
+    next_told es c.args.pickle.now (string_bytes c.args.text.now) _ _ c.as_str.result.now c.ids-ids.result.now _ (option_map (λ (x : Bor DuePickle). x.now) c.next_due-due.result) _ c.in_ok-difference.difference
+    (c.in_ok-add_due.ensures es is) c.in_ok-add_sides.ensures c.in_ok-difference.ensures c.as_str.ensures c.ids-ids.ensures c.next_due-due.ensures

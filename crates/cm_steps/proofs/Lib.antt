@@ -1,0 +1,4 @@
+pub mod ListingLemmas
+pub mod StepLemmas
+pub mod AttemptLemmas
+mod CountLemmas
