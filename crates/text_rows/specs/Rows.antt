@@ -1,0 +1,8 @@
+-- The rows that begin with a text.
+use Rattle.std.specs.Prelude.{ℕ, Bool, false, List, slice_get}
+use Rattle.std.specs.Option.{option_map_or}
+use Rattle.std.specs.Str.{bytes_eq}
+
+-- there is a first text, and it is this one
+abbrev pub begins_with : (text : List ℕ) → List (List ℕ) → Bool
+begins_with text row = option_map_or (bytes_eq text) (slice_get row 0) false
