@@ -5,7 +5,7 @@ use Rattle.std.specs.List.{filter, filter_map, list_any}
 use Rattle.std.specs.Option.{option_map_or}
 use Rattle.std.specs.Str.{bytes_eq}
 use Rattle.std.proofs.lemmas.Bool.{eqb-true}
-use Rattle.std.proofs.lemmas.List.{map-append, take_more}
+use Rattle.std.proofs.lemmas.List.{take_more}
 use Rattle.std.proofs.lemmas.List.Elements.{filter-append}
 use Rattle.indexmap.specs.IndexMap.{IndexMap}
 use Rattle.cm_attempt.specs.Calls.{Move, Started, StepStarted, StepFinished, Ended, is_end, last_of}
@@ -19,12 +19,10 @@ use Rattle.cm_envelope.specs.declared.envelope.TestStepFinished.{TestStepFinishe
 use Rattle.cm_stream.specs.References.{cases, is_ended, move_of, starts, starts_of}
 use Rattle.cm_stream.specs.Texts.{Utf8}
 use Rattle.cm_stream.proofs.Lists.{any_found, find_map}
-use Rattle.cm_cases.specs.Firsts.{HasFirsts, value_at}
-use Rattle.cm_cases.proofs.FirstLemmas.{has_any}
+use Rattle.cm_cases.specs.Firsts.{or_else, value_at}
 use Rattle.cm_steps.specs.Attempts.{as_finish, finish_status, has_open_attempt, is_quiet, is_status, last_attempt, open_cases, start_facts, start_of, step_finishes, step_with}
-use Rattle.cm_steps.specs.Entries.{has_open_in, is_open_in, last_in, open_in, step_in}
-use Rattle.cm_steps.specs.Kept.{finish_entry, plan_entry, start_entry, step_listing_of}
-use Rattle.cm_steps.specs.declared.listing.PlanEntry.{PlanEntry}
+use Rattle.cm_steps.specs.Entries.{has_open_in, ids_of, is_open_in, last_in, open_in, step_in}
+use Rattle.cm_steps.specs.Kept.{finish_entry, plan_row, start_entry, step_listing_of}
 use Rattle.cm_steps.specs.declared.listing.StartEntry.{StartEntry}
 use Rattle.cm_steps.specs.declared.listing.StepListing.{StepListing}
 
@@ -73,14 +71,6 @@ find_among {X} p q passes (x ∷ xs) = go (p x) refl (q x) refl (find_among p q 
     go false d true e rec = rw (e, d) rec
     go false d false e rec = rw (e, d) rec
 
-kept_mapped : {X Y Z : Type 0} (q : Y → Bool) (r : X → Bool) (f : X → Y) (g : Y → Z) → ((x : X) → q (f x) ≡ r x) → (xs : List X) → map g (filter q (map f xs)) ≡ map (λ x. g (f x)) (filter r xs)
-kept_mapped q r f g same [] = refl
-kept_mapped {X} q r f g same (x ∷ xs) = go (r x) refl (kept_mapped q r f g same xs)
-  where
-    go : (b : Bool) → r x ≡ b → map g (filter q (map f xs)) ≡ map (λ z. g (f z)) (filter r xs) → map g (filter q (map f (x ∷ xs))) ≡ map (λ z. g (f z)) (filter r (x ∷ xs))
-    go true e rec = rw (same x, e) (ap (λ zs. g (f x) ∷ zs) rec)
-    go false e rec = rw (same x, e) rec
-
 filter_mapped : {X Y : Type 0} (q : Y → Bool) (f : X → Y) (xs : List X) → filter q (map f xs) ≡ map f (filter (λ x. q (f x)) xs)
 filter_mapped q f [] = refl
 filter_mapped {X} q f (x ∷ xs) = go (q (f x)) refl (filter_mapped q f xs)
@@ -120,12 +110,6 @@ kept_none q xs i x less at e =
 
 pub last_kept : {X : Type 0} (q : X → Bool) (xs : List X) (i : ℕ) (x : X) → i < length xs → x ≡ get_or xs i x → q x ≡ true → last_of (filter q (take (i + 1) xs)) ≡ Some x
 last_kept q xs i x less at e = ap last_of (kept_one q xs i x less at e) ∙ last_push (filter q (take i xs)) x
-
--- one more name of those that are kept
-pub named_one : {X : Type 0} (q : X → Bool) (name : X → Utf8) (xs : List X) (i : ℕ) (x : X) (old new : List (Bor Utf8)) (t : Bor Utf8) → i < length xs → x ≡ get_or xs i x → q x ≡ true
-    → map (λ b. b.now) old ≡ map name (filter q (take i xs)) → new ≡ old ++ t ∷ [] → t.now ≡ name x → map (λ b. b.now) new ≡ map name (filter q (take (i + 1) xs))
-named_one q name xs i x old new t less at e before pushed same =
-    ap (map (λ (b : Bor Utf8). b.now)) pushed ∙ map-append (λ (b : Bor Utf8). b.now) old (t ∷ []) ∙ (λ j. before j ++ same j ∷ []) ∙ sym (map-append name (filter q (take i xs)) (x ∷ [])) ∙ ap (map name) (sym (kept_one q xs i x less at e))
 
 -- ---- attempts that are finished
 
@@ -169,17 +153,43 @@ open_case es c =
     ∙ any_kept (λ s. is_open_in (step_listing_of es) (start_entry s)) (λ s. bytes_eq c.id s.test_case_id) (starts es)
     ∙ any_same (λ s. is_open_in (step_listing_of es) (start_entry s)) (λ s. not (is_ended s.id es)) (λ s. ap not (ended_listed s.id es)) (starts_of c.id es)
 
+ids_kept : (cs : List TestCase) → ids_of (map plan_row cs) ≡ map (λ c. c.id) cs
+ids_kept [] = refl
+ids_kept (c ∷ cs) = ap (λ ids. c.id ∷ ids) (ids_kept cs)
+
+filter_same : {X : Type 0} (p q : X → Bool) → ((x : X) → p x ≡ q x) → (xs : List X) → filter p xs ≡ filter q xs
+filter_same p q same [] = refl
+filter_same p q same (x ∷ xs) = λ j. if same x j then x ∷ filter_same p q same xs j else filter_same p q same xs j
+
 pub open_listed : (l : StepListing) (es : List Envelope) → l ≡ step_listing_of es → open_in l ≡ open_cases es
-open_listed l es is = ap open_in is ∙ kept_mapped (λ c. has_open_in (step_listing_of es) c.id) (has_open_attempt es) plan_entry (λ c. c.id) (open_case es) (cases es)
+open_listed l es is =
+    ap open_in is ∙ ap (filter (has_open_in (step_listing_of es))) (ids_kept (cases es)) ∙ filter_mapped (has_open_in (step_listing_of es)) (λ c. c.id) (cases es)
+    ∙ ap (map (λ c. c.id)) (filter_same (λ c. has_open_in (step_listing_of es) c.id) (has_open_attempt es) (open_case es) (cases es))
 
 -- the test cases that are in a map of those with an open attempt
-pub open_by : {V W S T : Type 0} (seen : V → Utf8) (l : StepListing) (ended : IndexMap (Bor Utf8) V S) (opened : IndexMap (Bor Utf8) W T) (ends : List Utf8) (ss : List StartEntry) (cs : List PlanEntry) → ends ≡ l.ends → ss ≡ l.starts
-    → cs ≡ l.plans → HasFirsts seen (λ x. x) (λ x. x) ends ended → ((case : Utf8) → is_some (value_at opened case) ≡ list_any (λ s. not (is_some (value_at ended s.id)) && bytes_eq case s.case_id) ss)
-    → map (λ c. c.id) (filter (λ c. is_some (value_at opened c.id)) cs) ≡ open_in l
-open_by seen l ended opened ends ss cs es is ps firsts opens =
-    let ended_is : (a : Utf8) → is_some (value_at ended a) ≡ list_any (bytes_eq a) l.ends = λ a. has_any seen (λ x. x) (λ x. x) ends ended a firsts ∙ ap (list_any (bytes_eq a)) es in
+pub open_by : {V W S T : Type 0} (l : StepListing) (ended : IndexMap (Bor Utf8) V S) (opened : IndexMap (Bor Utf8) W T) (ss : List StartEntry) → ss ≡ l.starts → ((id : Utf8) → is_some (value_at ended id) ≡ list_any (bytes_eq id) l.ends)
+    → ((case : Utf8) → is_some (value_at opened case) ≡ list_any (λ s. not (is_some (value_at ended s.id)) && bytes_eq case s.case_id) ss)
+    → filter (λ id. is_some (value_at opened id)) (ids_of l.plans) ≡ open_in l
+open_by l ended opened ss is ended_is opens =
     let open_is : (case : Utf8) → is_some (value_at opened case) ≡ has_open_in l case = λ case. opens case ∙ (λ j. list_any (λ s. not (ended_is s.id j) && bytes_eq case s.case_id) (is j)) in
-    λ j. map (λ c. c.id) (filter (λ c. open_is c.id j) (ps j))
+    filter_same (λ id. is_some (value_at opened id)) (has_open_in l) open_is (ids_of l.plans)
+
+-- one id more in a map
+one_asked : {V : Type 0} (o : Option V) (b : Bool) (v : V) → is_some (or_else o (if b then Some v else None)) ≡ (is_some o || b)
+one_asked None true v = refl
+one_asked None false v = refl
+one_asked (Some w) true v = refl
+one_asked (Some w) false v = refl
+
+or_again : (a b c : Bool) → ((a || b) || c) ≡ (a || (b || c))
+or_again true b c = refl
+or_again false b c = refl
+
+pub one_ended : {V S : Type 0} (old new : IndexMap (Bor Utf8) V S) (text : Utf8) (v : V) (rest : List Utf8) (id : Utf8) → value_at new id ≡ or_else (value_at old id) (if bytes_eq id text then Some v else None)
+    → (is_some (value_at new id) || list_any (bytes_eq id) rest) ≡ (is_some (value_at old id) || list_any (bytes_eq id) (text ∷ rest))
+one_ended {V} old new text v rest id e =
+    ap (λ (o : Option V). is_some o || list_any (bytes_eq id) rest) e ∙ ap (λ b. b || list_any (bytes_eq id) rest) (one_asked (value_at old id) (bytes_eq id text) v)
+    ∙ or_again (is_some (value_at old id)) (bytes_eq id text) (list_any (bytes_eq id) rest)
 
 pub open_given : {V E : Type 0} (r : Result V E) (names : V → List Utf8) (l : StepListing) (given : List Utf8) → IfOk r (λ v. names v ≡ given) → given ≡ open_in l → IfOk r (λ v. (es : List Envelope) → l ≡ step_listing_of es → names v ≡ open_cases es)
 open_given (Ok v) names l given h e = λ es is. h ∙ e ∙ open_listed l es is

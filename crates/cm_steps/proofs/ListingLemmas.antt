@@ -1,6 +1,6 @@
 -- What a listing keeps: one envelope more.
 use Rattle.std.proofs.Common.{◌≡◌, ◌∙◌, ap, sym, refl, Bool, true, false, not, List, [], ◌∷◌, ◌++◌, map, append-nil, Option, None, Some}
-use Rattle.std.specs.List.{filter, filter_map}
+use Rattle.std.specs.List.{filter, filter_map, flat_map}
 use Rattle.std.proofs.lemmas.List.{map-append}
 use Rattle.std.proofs.lemmas.List.Elements.{filter-append}
 use Rattle.std.specs.Option.{option_map_or}
@@ -15,18 +15,14 @@ use Rattle.cm_envelope.specs.declared.envelope.TestStepFinished.{TestStepFinishe
 use Rattle.cm_envelope.specs.declared.pickle.Pickle.{Pickle}
 use Rattle.cm_stream.specs.References.{as_case, as_document, as_pickle, as_start}
 use Rattle.cm_stream.specs.Texts.{Utf8}
-use Rattle.cm_stream.proofs.Lists.{found_more, found_push, map_twice}
+use Rattle.cm_stream.proofs.Lists.{found_more, found_push}
 use Rattle.cm_cases.specs.Places.{place}
 use Rattle.cm_steps.specs.Attempts.{as_finish, as_step_finish, finish_status, is_quiet, step_finishes}
-use Rattle.cm_steps.specs.Kept.{document_entry, finish_entry, pickle_entry, place_entry, plan_entry, start_entry, step_listing_of}
-use Rattle.cm_steps.specs.Steps.{step_places, steps_of_feature}
-use Rattle.cm_steps.specs.declared.listing.DocumentEntry.{DocumentEntry}
+use Rattle.cm_steps.specs.Kept.{document_row, finish_entry, pickle_row, place_texts, plan_row, start_entry, step_listing_of}
+use Rattle.cm_steps.specs.Steps.{steps_of_feature}
 use Rattle.cm_steps.specs.declared.listing.FinishEntry.{FinishEntry}
-use Rattle.cm_steps.specs.declared.listing.PickleEntry.{PickleEntry}
-use Rattle.cm_steps.specs.declared.listing.PlanEntry.{PlanEntry}
 use Rattle.cm_steps.specs.declared.listing.StartEntry.{StartEntry}
 use Rattle.cm_steps.specs.declared.listing.StepListing.{StepListing}
-use Rattle.cm_steps.specs.declared.listing.StepPlace.{StepPlace}
 
 one_noted : {X Y : Type 0} (h : Envelope → Option X) (f : X → Y) (es : List Envelope) (e : Envelope) (x : X) → h e ≡ Some x → map f (filter_map h es) ++ f x ∷ [] ≡ map f (filter_map h (es ++ e ∷ []))
 one_noted h f es e x is = sym (ap (map f) (found_push h es e x is) ∙ map-append f (filter_map h es) (x ∷ []))
@@ -43,23 +39,29 @@ is_told f = not (is_quiet (finish_status f))
 abbrev told : List TestStepFinished → List FinishEntry
 told fs = map finish_entry (filter is_told fs)
 
--- the places of the steps of a document that has a feature
-pub feature_places : (d : GherkinDocument) (f : Feature) (ids : List Utf8) (start all : List StepPlace) → start ≡ [] → ids ≡ d.ids → d.document.feature ≡ Some f
-    → all ≡ start ++ map (λ s. place_entry (place ids s.node s.location)) (steps_of_feature f) → all ≡ map place_entry (step_places d)
-feature_places d f ids start all none same has is =
-    is ∙ (λ j. none j ++ map (λ s. place_entry (place (same j) s.node s.location)) (steps_of_feature f)) ∙ sym (map_twice place_entry (λ s. place d.ids s.node s.location) (steps_of_feature f))
-    ∙ ap (λ (o : Option Feature). map place_entry (map (λ s. place d.ids s.node s.location) (option_map_or steps_of_feature o []))) (sym has)
+-- the texts of what is changed are those of the changes
+flat_mapped : {X Y A : Type 0} (f : Y → List A) (g : X → Y) (xs : List X) → flat_map f (map g xs) ≡ flat_map (λ x. f (g x)) xs
+flat_mapped f g [] = refl
+flat_mapped f g (x ∷ xs) = ap (λ ys. f (g x) ++ ys) (flat_mapped f g xs)
+
+-- the row of a document that has a feature
+pub feature_row : (d : GherkinDocument) (f : Feature) (ids : List Utf8) (start all : List Utf8) → start ≡ d.uri ∷ [] → ids ≡ d.ids → d.document.feature ≡ Some f
+    → all ≡ start ++ flat_map (λ s. place_texts (place ids s.node s.location)) (steps_of_feature f) → all ≡ document_row d
+feature_row d f ids start all begun same has is =
+    is ∙ (λ j. begun j ++ flat_map (λ s. place_texts (place (same j) s.node s.location)) (steps_of_feature f))
+    ∙ ap (λ ts. d.uri ∷ ts) (sym (flat_mapped place_texts (λ s. place d.ids s.node s.location) (steps_of_feature f)))
+    ∙ ap (λ (o : Option Feature). d.uri ∷ flat_map place_texts (map (λ s. place d.ids s.node s.location) (option_map_or steps_of_feature o []))) (sym has)
 
 -- ---- one part of what is kept, where the envelope says nothing of it
 
 plans_stay : (l : StepListing) (es : List Envelope) (e : Envelope) → l ≡ step_listing_of es → as_case e ≡ None → l.plans ≡ (step_listing_of (es ++ e ∷ [])).plans
-plans_stay l es e is none = ap (λ (k : StepListing). k.plans) is ∙ none_noted as_case plan_entry es e none
+plans_stay l es e is none = ap (λ (k : StepListing). k.plans) is ∙ none_noted as_case plan_row es e none
 
 pickles_stay : (l : StepListing) (es : List Envelope) (e : Envelope) → l ≡ step_listing_of es → as_pickle e ≡ None → l.pickles ≡ (step_listing_of (es ++ e ∷ [])).pickles
-pickles_stay l es e is none = ap (λ (k : StepListing). k.pickles) is ∙ none_noted as_pickle pickle_entry es e none
+pickles_stay l es e is none = ap (λ (k : StepListing). k.pickles) is ∙ none_noted as_pickle pickle_row es e none
 
 documents_stay : (l : StepListing) (es : List Envelope) (e : Envelope) → l ≡ step_listing_of es → as_document e ≡ None → l.documents ≡ (step_listing_of (es ++ e ∷ [])).documents
-documents_stay l es e is none = ap (λ (k : StepListing). k.documents) is ∙ none_noted as_document document_entry es e none
+documents_stay l es e is none = ap (λ (k : StepListing). k.documents) is ∙ none_noted as_document document_row es e none
 
 starts_stay : (l : StepListing) (es : List Envelope) (e : Envelope) → l ≡ step_listing_of es → as_start e ≡ None → l.starts ≡ (step_listing_of (es ++ e ∷ [])).starts
 starts_stay l es e is none = ap (λ (k : StepListing). k.starts) is ∙ none_noted as_start start_entry es e none
@@ -72,10 +74,10 @@ finishes_stay l es e is none = ap (λ (k : StepListing). k.finishes) is ∙ sym 
 
 -- ---- one envelope more
 
-pub case_noted : (l : StepListing) (es : List Envelope) (c : TestCase) (cs : List PlanEntry) → l ≡ step_listing_of es → cs ≡ l.plans ++ plan_entry c ∷ [] → record l { plans = cs } ≡ step_listing_of (es ++ envelope.TestCase c ∷ [])
+pub case_noted : (l : StepListing) (es : List Envelope) (c : TestCase) (cs : List (List Utf8)) → l ≡ step_listing_of es → cs ≡ l.plans ++ plan_row c ∷ [] → record l { plans = cs } ≡ step_listing_of (es ++ envelope.TestCase c ∷ [])
 case_noted l es c cs is e =
     let env = envelope.TestCase c in
-    let plans = e ∙ ap (λ (k : StepListing). k.plans ++ plan_entry c ∷ []) is ∙ one_noted as_case plan_entry es env c refl in
+    let plans = e ∙ ap (λ (k : StepListing). k.plans ++ plan_row c ∷ []) is ∙ one_noted as_case plan_row es env c refl in
     λ j. record {
       plans = plans j;
       pickles = pickles_stay l es env is refl j;
@@ -85,10 +87,10 @@ case_noted l es c cs is e =
       finishes = finishes_stay l es env is refl j;
     }
 
-pub pickle_noted : (l : StepListing) (es : List Envelope) (p : Pickle) (ps : List PickleEntry) → l ≡ step_listing_of es → ps ≡ l.pickles ++ pickle_entry p ∷ [] → record l { pickles = ps } ≡ step_listing_of (es ++ envelope.Pickle p ∷ [])
+pub pickle_noted : (l : StepListing) (es : List Envelope) (p : Pickle) (ps : List (List Utf8)) → l ≡ step_listing_of es → ps ≡ l.pickles ++ pickle_row p ∷ [] → record l { pickles = ps } ≡ step_listing_of (es ++ envelope.Pickle p ∷ [])
 pickle_noted l es p ps is e =
     let env = envelope.Pickle p in
-    let pickles = e ∙ ap (λ (k : StepListing). k.pickles ++ pickle_entry p ∷ []) is ∙ one_noted as_pickle pickle_entry es env p refl in
+    let pickles = e ∙ ap (λ (k : StepListing). k.pickles ++ pickle_row p ∷ []) is ∙ one_noted as_pickle pickle_row es env p refl in
     λ j. record {
       plans = plans_stay l es env is refl j;
       pickles = pickles j;
@@ -98,10 +100,10 @@ pickle_noted l es p ps is e =
       finishes = finishes_stay l es env is refl j;
     }
 
-pub document_noted : (l : StepListing) (es : List Envelope) (d : GherkinDocument) (ds : List DocumentEntry) → l ≡ step_listing_of es → ds ≡ l.documents ++ document_entry d ∷ [] → record l { documents = ds } ≡ step_listing_of (es ++ envelope.GherkinDocument d ∷ [])
+pub document_noted : (l : StepListing) (es : List Envelope) (d : GherkinDocument) (ds : List (List Utf8)) → l ≡ step_listing_of es → ds ≡ l.documents ++ document_row d ∷ [] → record l { documents = ds } ≡ step_listing_of (es ++ envelope.GherkinDocument d ∷ [])
 document_noted l es d ds is e =
     let env = envelope.GherkinDocument d in
-    let documents = e ∙ ap (λ (k : StepListing). k.documents ++ document_entry d ∷ []) is ∙ one_noted as_document document_entry es env d refl in
+    let documents = e ∙ ap (λ (k : StepListing). k.documents ++ document_row d ∷ []) is ∙ one_noted as_document document_row es env d refl in
     λ j. record {
       plans = plans_stay l es env is refl j;
       pickles = pickles_stay l es env is refl j;

@@ -3,19 +3,19 @@ ghost use Rattle.std.specs.Prelude.{◌≡◌, ◌&&◌, List, ℕ, IfOk, find, 
 ghost use Rattle.std.specs.List.{filter, list_any};
 ghost use Rattle.std.specs.Str.{bytes_eq};
 ghost use Rattle.cm_attempt.specs.Calls.{last_of};
-ghost use Rattle.cm_cases.specs.Firsts.{HasFirsts, value_at};
+ghost use Rattle.cm_cases.specs.Firsts.{value_at};
 ghost use Rattle.cm_envelope.specs.declared.envelope.Envelope.{Envelope};
 ghost use Rattle.cm_stream.specs.References.{starts_of};
 ghost use Rattle.cm_steps.specs.Attempts.{is_quiet, is_status, last_attempt, open_cases, start_facts, start_of, started_facts, step_with};
-ghost use Rattle.cm_steps.specs.Entries.{last_in, step_in};
+ghost use Rattle.cm_steps.specs.Entries.{ids_of, last_in, step_in};
 ghost use Rattle.cm_steps.specs.Kept.{step_listing_of};
 
-use crate::listing::{FinishEntry, PlanEntry, StartEntry, StepListing};
+use crate::listing::{FinishEntry, StartEntry, StepListing};
 use cm_attempt::Status;
-use cm_cases::{ByText, Key, add_first, firsts_of};
-use gk_document::Text;
+use cm_cases::{ByText, add_first};
 use indexmap::IndexMap;
 use std::alloc::{AllocError, Global};
+use text_rows::{TextRows, Texts};
 
 /// The start of an attempt: its test case, and its number from 0.
 #[derive(Clone, Copy, Debug)]
@@ -24,28 +24,29 @@ pub struct Started<'a> {
     pub number: u64,
 }
 
-/// The id of an attempt that is finished.
-pub(crate) struct EndId;
-
-impl Key<Text> for EndId {
-    ghost text = { λ t. t };
-
-    fn of(item: &Text) -> &str {
-        item.as_str()
-    }
-}
-
 fn started_as<'a>(starts: &'a [StartEntry], attempt: &str) -> Option<&'a StartEntry>
     ensures { option_map (λ s. s.now) result ≡ find (λ s. bytes_eq attempt.now s.id) starts.now }
 {
     starts.iter().find(|start| attempt == start.id.as_str())
 }
 
+/// The ids of the attempts that are finished.
+fn ended_of<'a>(alloc: Global, ends: &'a Texts) -> Result<ByText<'a, ()>, AllocError>
+    ensures { IfOk result (λ m. (id : List ℕ) → is_some (value_at m id)
+        ≡ list_any (bytes_eq id) ends.now) }
+{
+    let mut ended = IndexMap::new(alloc);
+    for id in ends.iter() {
+        add_first(&mut ended, id, ())?;
+    }
+    Ok(ended)
+}
+
 /// The first attempt of each test case that isn't finished.
 fn open_of<'a>(
     alloc: Global,
     starts: &'a [StartEntry],
-    ended: &ByText<'_, &Text>,
+    ended: &ByText<'_, ()>,
 ) -> Result<ByText<'a, &'a StartEntry>, AllocError>
     ensures { IfOk result (λ m. (case : List ℕ) → is_some (value_at m case)
         ≡ list_any (λ s. not (is_some (value_at ended.now s.id)) && bytes_eq case s.case_id)
@@ -60,19 +61,22 @@ fn open_of<'a>(
     Ok(open)
 }
 
-/// The ids of the test cases that are in the map, in order.
+/// The ids that rows begin with and that are in the map, in order.
 fn plans_in<'a>(
     alloc: Global,
-    plans: &'a [PlanEntry],
+    plans: &'a TextRows,
     open: &ByText<'_, &StartEntry>,
 ) -> Result<Vec<&'a str>, AllocError>
     ensures { IfOk result (λ ids. map (λ t. t.now) ids.items
-        ≡ map (λ c. c.id) (filter (λ c. is_some (value_at open.now c.id)) plans.now)) }
+        ≡ filter (λ id. is_some (value_at open.now id)) (ids_of plans.now)) }
 {
     let mut ids = Vec::new(alloc);
-    for plan in plans {
-        if open.contains_key(plan.id.as_str()) {
-            ids.push(plan.id.as_str())?;
+    for plan in plans.iter() {
+        let Some(id) = plan.first() else {
+            continue;
+        };
+        if open.contains_key(id) {
+            ids.push(id)?;
         }
     }
     Ok(ids)
@@ -142,9 +146,9 @@ impl StepListing {
         ensures { IfOk result (λ ids. (es : List Envelope) → self.now ≡ step_listing_of es
             → map (λ t. t.now) ids.items ≡ open_cases es) }
     {
-        let ended = firsts_of::<EndId, Text>(alloc, self.ends.as_slice())?;
+        let ended = ended_of(alloc, &self.ends)?;
         let open = open_of(alloc, self.starts.as_slice(), &ended)?;
-        plans_in(alloc, self.plans.as_slice(), &open)
+        plans_in(alloc, &self.plans, &open)
     }
 
     /// How many attempts of a test case started.

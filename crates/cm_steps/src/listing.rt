@@ -1,13 +1,13 @@
 //! What is kept of a stream's envelopes for its steps and attempts.
-ghost use Rattle.std.specs.Prelude.{◌≡◌, ◌++◌, ◌∷◌, [], List, IfOk, OnOk, map, slice_get, unwrap_or};
+ghost use Rattle.std.specs.Prelude.{◌≡◌, ◌++◌, ◌∷◌, [], List, IfOk, OnOk, slice_get, unwrap_or};
 ghost use Rattle.std.specs.List.{flat_map};
 ghost use Rattle.std.specs.Option.{option_map_or};
 ghost use Rattle.cm_envelope.specs.declared.envelope.Envelope.{Envelope as SomeEnvelope};
 ghost use Rattle.cm_cases.specs.Places.{place};
 ghost use Rattle.cm_stream.specs.Statuses.{kept_status as kept};
 ghost use Rattle.cm_steps.specs.Attempts.{is_quiet};
-ghost use Rattle.cm_steps.specs.Kept.{document_entry, finish_entry, pickle_entry, place_entry, plan_entry, plan_step, start_entry, step_entry, step_listing_of};
-ghost use Rattle.cm_steps.specs.Steps.{step_places, steps_of_feature, steps_within};
+ghost use Rattle.cm_steps.specs.Kept.{document_row, finish_entry, pickle_row, place_texts, plan_row, plan_texts, source_id, source_kind, start_entry, step_listing_of, step_texts};
+ghost use Rattle.cm_steps.specs.Steps.{steps_of_feature, steps_within};
 
 use cm_attempt::Status;
 use cm_envelope::{
@@ -15,53 +15,14 @@ use cm_envelope::{
     TestStep, TestStepFinished,
 };
 use gk_document::{Background, Feature, Rule, Scenario, Sequence, Step, Text, id_of};
+use itoa::Buffer;
 use std::alloc::{AllocError, Global};
+use text_rows::{TextRows, Texts};
 
-/// A step of a test case: of a hook, or of a step of its pickle.
-#[derive(Debug, Drop)]
-pub(crate) struct PlanStep {
-    pub(crate) id: Text,
-    pub(crate) hook_id: Option<Text>,
-    pub(crate) pickle_step_id: Option<Text>,
-}
+/// What a test step is of, beside its id: a hook, a step of its pickle, or neither.
+pub(crate) const HOOK: &str = "h";
 
-/// A test case, by the pickle that it names, and its steps.
-#[derive(Debug, Drop)]
-pub(crate) struct PlanEntry {
-    pub(crate) id: Text,
-    pub(crate) pickle_id: Text,
-    pub(crate) steps: Sequence<PlanStep>,
-}
-
-/// A step of a pickle, with the step node that it is made of.
-#[derive(Debug, Drop)]
-pub(crate) struct StepEntry {
-    pub(crate) id: Text,
-    pub(crate) text: Text,
-    pub(crate) node: Text,
-}
-
-/// A pickle, by its steps.
-#[derive(Debug, Drop)]
-pub(crate) struct PickleEntry {
-    pub(crate) id: Text,
-    pub(crate) uri: Text,
-    pub(crate) steps: Sequence<StepEntry>,
-}
-
-/// A step of a document.
-#[derive(Debug, Drop)]
-pub(crate) struct StepPlace {
-    pub(crate) id: Text,
-    pub(crate) line: u32,
-}
-
-/// A document, by its steps.
-#[derive(Debug, Drop)]
-pub(crate) struct DocumentEntry {
-    pub(crate) uri: Text,
-    pub(crate) places: Sequence<StepPlace>,
-}
+pub(crate) const PICKLE_STEP: &str = "s";
 
 /// An attempt, by its test case and its number.
 #[derive(Debug, Drop)]
@@ -79,15 +40,19 @@ pub(crate) struct FinishEntry {
     pub(crate) status: Status,
 }
 
-/// What is told of a stream's steps and attempts, kept envelope by envelope. `ends` are the attempts that are finished; of the
-/// steps that passed or were skipped no end is kept.
+/// What is told of a stream's steps and attempts, kept envelope by envelope.
 #[derive(Debug, Drop)]
 pub struct StepListing {
-    pub(crate) plans: Sequence<PlanEntry>,
-    pub(crate) pickles: Sequence<PickleEntry>,
-    pub(crate) documents: Sequence<DocumentEntry>,
+    /// Of each test case its id and its pickle's, and of each step its id, what it is of, and the id of that.
+    pub(crate) plans: TextRows,
+    /// Of each pickle its id and its uri, and of each step its id, its text, and the step node that it is made of.
+    pub(crate) pickles: TextRows,
+    /// Of each document its uri, and of each step its node and its line.
+    pub(crate) documents: TextRows,
     pub(crate) starts: Sequence<StartEntry>,
-    pub(crate) ends: Sequence<Text>,
+    /// The attempts that are finished.
+    pub(crate) ends: Texts,
+    /// The ends of steps, but for those that passed or were skipped.
     pub(crate) finishes: Sequence<FinishEntry>,
 }
 
@@ -97,139 +62,87 @@ fn copy(alloc: Global, text: &Text) -> Result<Text, AllocError>
     Text::copy_of(alloc, text.as_str())
 }
 
-fn copy_if(alloc: Global, text: &Option<Text>) -> Result<Option<Text>, AllocError>
-    ensures { IfOk result (λ t. t ≡ text.now) }
-{
-    match text {
-        Some(text) => Ok(Some(copy(alloc, text)?)),
-        None => Ok(None),
-    }
-}
-
-fn add_steps(
-    alloc: Global,
-    places: &mut Sequence<StepPlace>,
-    ids: &[Text],
-    steps: &[Step],
-) -> Result<(), AllocError>
-    ensures { OnOk result (places.new ≡ places.old
-        ++ map (λ s. place_entry (place ids.now s.node s.location)) steps.now) }
+fn add_steps(row: &mut Texts, ids: &[Text], steps: &[Step]) -> Result<(), AllocError>
+    ensures { OnOk result (row.new ≡ row.old
+        ++ flat_map (λ s. place_texts (place ids.now s.node s.location)) steps.now) }
 {
     for step in steps {
-        let id = Text::copy_of(alloc, id_of(ids, step.node))?;
-        let line = step.location.line;
-        places.push(StepPlace { id, line })?;
+        row.add(id_of(ids, step.node))?;
+        row.add(Buffer::new().format(step.location.line))?;
     }
     Ok(())
 }
 
 fn add_background(
-    alloc: Global,
-    places: &mut Sequence<StepPlace>,
+    row: &mut Texts,
     ids: &[Text],
     background: &Option<Background>,
 ) -> Result<(), AllocError>
-    ensures { OnOk result (places.new ≡ places.old
-        ++ map (λ s. place_entry (place ids.now s.node s.location))
+    ensures { OnOk result (row.new ≡ row.old
+        ++ flat_map (λ s. place_texts (place ids.now s.node s.location))
         (option_map_or (λ b. b.steps) background.now [])) }
 {
     match background {
-        Some(background) => add_steps(alloc, places, ids, background.steps.as_slice()),
+        Some(background) => add_steps(row, ids, background.steps.as_slice()),
         None => Ok(()),
     }
 }
 
-fn add_scenarios(
-    alloc: Global,
-    places: &mut Sequence<StepPlace>,
-    ids: &[Text],
-    scenarios: &[Scenario],
-) -> Result<(), AllocError>
-    ensures { OnOk result (places.new ≡ places.old
-        ++ map (λ s. place_entry (place ids.now s.node s.location))
+fn add_scenarios(row: &mut Texts, ids: &[Text], scenarios: &[Scenario]) -> Result<(), AllocError>
+    ensures { OnOk result (row.new ≡ row.old
+        ++ flat_map (λ s. place_texts (place ids.now s.node s.location))
         (flat_map (λ s. s.steps) scenarios.now)) }
 {
     for scenario in scenarios {
-        add_steps(alloc, places, ids, scenario.steps.as_slice())?;
+        add_steps(row, ids, scenario.steps.as_slice())?;
     }
     Ok(())
 }
 
 fn add_within(
-    alloc: Global,
-    places: &mut Sequence<StepPlace>,
+    row: &mut Texts,
     ids: &[Text],
     background: &Option<Background>,
     scenarios: &[Scenario],
 ) -> Result<(), AllocError>
-    ensures { OnOk result (places.new ≡ places.old
-        ++ map (λ s. place_entry (place ids.now s.node s.location))
+    ensures { OnOk result (row.new ≡ row.old
+        ++ flat_map (λ s. place_texts (place ids.now s.node s.location))
         (steps_within background.now scenarios.now)) }
 {
-    add_background(alloc, places, ids, background)?;
-    add_scenarios(alloc, places, ids, scenarios)
+    add_background(row, ids, background)?;
+    add_scenarios(row, ids, scenarios)
 }
 
-fn add_rules(
-    alloc: Global,
-    places: &mut Sequence<StepPlace>,
-    ids: &[Text],
-    rules: &[Rule],
-) -> Result<(), AllocError>
-    ensures { OnOk result (places.new ≡ places.old
-        ++ map (λ s. place_entry (place ids.now s.node s.location))
+fn add_rules(row: &mut Texts, ids: &[Text], rules: &[Rule]) -> Result<(), AllocError>
+    ensures { OnOk result (row.new ≡ row.old
+        ++ flat_map (λ s. place_texts (place ids.now s.node s.location))
         (flat_map (λ r. steps_within r.background r.scenarios) rules.now)) }
 {
     for rule in rules {
-        add_within(
-            alloc,
-            places,
-            ids,
-            &rule.background,
-            rule.scenarios.as_slice(),
-        )?;
+        add_within(row, ids, &rule.background, rule.scenarios.as_slice())?;
     }
     Ok(())
 }
 
-fn add_feature(
-    alloc: Global,
-    places: &mut Sequence<StepPlace>,
-    ids: &[Text],
-    feature: &Feature,
-) -> Result<(), AllocError>
-    ensures { OnOk result (places.new ≡ places.old
-        ++ map (λ s. place_entry (place ids.now s.node s.location))
+fn add_feature(row: &mut Texts, ids: &[Text], feature: &Feature) -> Result<(), AllocError>
+    ensures { OnOk result (row.new ≡ row.old
+        ++ flat_map (λ s. place_texts (place ids.now s.node s.location))
         (steps_of_feature feature.now)) }
 {
-    add_within(
-        alloc,
-        places,
-        ids,
-        &feature.background,
-        feature.scenarios.as_slice(),
-    )?;
-    add_rules(alloc, places, ids, feature.rules.as_slice())
+    add_within(row, ids, &feature.background, feature.scenarios.as_slice())?;
+    add_rules(row, ids, feature.rules.as_slice())
 }
 
-fn places_of(alloc: Global, document: &GherkinDocument) -> Result<Sequence<StepPlace>, AllocError>
-    ensures { IfOk result (λ places. places ≡ map place_entry (step_places document.now)) }
+fn document_row(alloc: Global, document: &GherkinDocument) -> Result<Texts, AllocError>
+    ensures { IfOk result (λ row. row ≡ document_row document.now) }
 {
-    let mut places = Sequence::new(alloc);
+    let mut row = Texts::new(alloc);
+    row.add(document.uri.as_str())?;
     let Some(feature) = &document.document.feature else {
-        return Ok(places);
+        return Ok(row);
     };
-    add_feature(alloc, &mut places, document.ids.as_slice(), feature)?;
-    Ok(places)
-}
-
-fn document_entry(alloc: Global, document: &GherkinDocument) -> Result<DocumentEntry, AllocError>
-    ensures { IfOk result (λ entry. entry ≡ document_entry document.now) }
-{
-    Ok(DocumentEntry {
-        uri: copy(alloc, &document.uri)?,
-        places: places_of(alloc, document)?,
-    })
+    add_feature(&mut row, document.ids.as_slice(), feature)?;
+    Ok(row)
 }
 
 // The first of the texts, and an empty one where there is none.
@@ -242,64 +155,62 @@ fn first_text(texts: &[Text]) -> &str
     }
 }
 
-fn step_entry(alloc: Global, step: &PickleStep) -> Result<StepEntry, AllocError>
-    ensures { IfOk result (λ entry. entry ≡ step_entry step.now) }
+fn add_pickle_steps(row: &mut Texts, steps: &[PickleStep]) -> Result<(), AllocError>
+    ensures { OnOk result (row.new ≡ row.old ++ flat_map step_texts steps.now) }
 {
-    Ok(StepEntry {
-        id: copy(alloc, &step.id)?,
-        text: copy(alloc, &step.text)?,
-        node: Text::copy_of(alloc, first_text(step.ast_node_ids.as_slice()))?,
-    })
-}
-
-fn step_entries(alloc: Global, steps: &[PickleStep]) -> Result<Sequence<StepEntry>, AllocError>
-    ensures { IfOk result (λ entries. entries ≡ map step_entry steps.now) }
-{
-    let mut entries = Sequence::new(alloc);
     for step in steps {
-        entries.push(step_entry(alloc, step)?)?;
+        row.add(step.id.as_str())?;
+        row.add(step.text.as_str())?;
+        row.add(first_text(step.ast_node_ids.as_slice()))?;
     }
-    Ok(entries)
+    Ok(())
 }
 
-fn pickle_entry(alloc: Global, pickle: &Pickle) -> Result<PickleEntry, AllocError>
-    ensures { IfOk result (λ entry. entry ≡ pickle_entry pickle.now) }
+fn pickle_row(alloc: Global, pickle: &Pickle) -> Result<Texts, AllocError>
+    ensures { IfOk result (λ row. row ≡ pickle_row pickle.now) }
 {
-    Ok(PickleEntry {
-        id: copy(alloc, &pickle.id)?,
-        uri: copy(alloc, &pickle.uri)?,
-        steps: step_entries(alloc, pickle.steps.as_slice())?,
-    })
+    let mut row = Texts::new(alloc);
+    row.add(pickle.id.as_str())?;
+    row.add(pickle.uri.as_str())?;
+    add_pickle_steps(&mut row, pickle.steps.as_slice())?;
+    Ok(row)
 }
 
-fn plan_step(alloc: Global, step: &TestStep) -> Result<PlanStep, AllocError>
-    ensures { IfOk result (λ entry. entry ≡ plan_step step.now) }
+/// Adds what a test step is of: its hook, or else its pickle's step.
+fn add_source(row: &mut Texts, hook: &Option<Text>, step: &Option<Text>) -> Result<(), AllocError>
+    ensures { OnOk result (row.new ≡ row.old
+        ++ source_kind hook.now step.now ∷ source_id hook.now step.now ∷ []) }
 {
-    Ok(PlanStep {
-        id: copy(alloc, &step.id)?,
-        hook_id: copy_if(alloc, &step.hook_id)?,
-        pickle_step_id: copy_if(alloc, &step.pickle_step_id)?,
-    })
+    if let Some(id) = hook {
+        row.add(HOOK)?;
+        return row.add(id.as_str());
+    }
+    if let Some(id) = step {
+        row.add(PICKLE_STEP)?;
+        return row.add(id.as_str());
+    }
+    row.add("")?;
+    row.add("")
 }
 
-fn plan_steps(alloc: Global, steps: &[TestStep]) -> Result<Sequence<PlanStep>, AllocError>
-    ensures { IfOk result (λ entries. entries ≡ map plan_step steps.now) }
+fn add_plan_steps(row: &mut Texts, steps: &[TestStep]) -> Result<(), AllocError>
+    ensures { OnOk result (row.new ≡ row.old ++ flat_map plan_texts steps.now) }
 {
-    let mut entries = Sequence::new(alloc);
     for step in steps {
-        entries.push(plan_step(alloc, step)?)?;
+        row.add(step.id.as_str())?;
+        add_source(row, &step.hook_id, &step.pickle_step_id)?;
     }
-    Ok(entries)
+    Ok(())
 }
 
-fn plan_entry(alloc: Global, case: &TestCase) -> Result<PlanEntry, AllocError>
-    ensures { IfOk result (λ entry. entry ≡ plan_entry case.now) }
+fn plan_row(alloc: Global, case: &TestCase) -> Result<Texts, AllocError>
+    ensures { IfOk result (λ row. row ≡ plan_row case.now) }
 {
-    Ok(PlanEntry {
-        id: copy(alloc, &case.id)?,
-        pickle_id: copy(alloc, &case.pickle_id)?,
-        steps: plan_steps(alloc, case.test_steps.as_slice())?,
-    })
+    let mut row = Texts::new(alloc);
+    row.add(case.id.as_str())?;
+    row.add(case.pickle_id.as_str())?;
+    add_plan_steps(&mut row, case.test_steps.as_slice())?;
+    Ok(row)
 }
 
 fn start_entry(alloc: Global, start: &TestCaseStarted) -> Result<StartEntry, AllocError>
@@ -350,11 +261,11 @@ impl StepListing {
         ensures { result ≡ step_listing_of [] }
     {
         StepListing {
-            plans: Sequence::new(alloc),
-            pickles: Sequence::new(alloc),
-            documents: Sequence::new(alloc),
+            plans: TextRows::new(alloc),
+            pickles: TextRows::new(alloc),
+            documents: TextRows::new(alloc),
             starts: Sequence::new(alloc),
-            ends: Sequence::new(alloc),
+            ends: Texts::new(alloc),
             finishes: Sequence::new(alloc),
         }
     }
@@ -373,21 +284,19 @@ impl StepListing {
     /// Keeps what is told of one envelope more.
     ///
     /// # Errors
-    /// Only where there is no memory for it.
+    /// Only where there is no memory for it, or where a text of it takes 4 GiB or more.
     pub fn note(&mut self, alloc: Global, envelope: &Envelope) -> Result<(), AllocError>
         ensures { OnOk result ((es : List SomeEnvelope) → self.old ≡ step_listing_of es
             → self.new ≡ step_listing_of (es ++ envelope.now ∷ [])) }
     {
         match envelope {
-            Envelope::TestCase(case) => self.plans.push(plan_entry(alloc, case)?),
-            Envelope::Pickle(pickle) => self.pickles.push(pickle_entry(alloc, pickle)?),
+            Envelope::TestCase(case) => self.plans.push(&plan_row(alloc, case)?),
+            Envelope::Pickle(pickle) => self.pickles.push(&pickle_row(alloc, pickle)?),
             Envelope::GherkinDocument(document) => {
-                self.documents.push(document_entry(alloc, document)?)
+                self.documents.push(&document_row(alloc, document)?)
             }
             Envelope::TestCaseStarted(start) => self.starts.push(start_entry(alloc, start)?),
-            Envelope::TestCaseFinished(end) => {
-                self.ends.push(copy(alloc, &end.test_case_started_id)?)
-            }
+            Envelope::TestCaseFinished(end) => self.ends.add(end.test_case_started_id.as_str()),
             Envelope::TestStepFinished(finish) => self.note_finish(alloc, finish),
             _ => Ok(()),
         }

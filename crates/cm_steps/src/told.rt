@@ -1,88 +1,89 @@
 //! What a test step is told as.
-ghost use Rattle.std.specs.Prelude.{◌≡◌, ◌++◌, List, OnOk, find, option_map, string_bytes};
-ghost use Rattle.std.specs.Str.{bytes_eq};
+ghost use Rattle.std.specs.Prelude.{◌≡◌, ◌++◌, List, OnOk, option_map, string_bytes};
 ghost use Rattle.cm_envelope.specs.declared.envelope.Envelope.{Envelope};
-ghost use Rattle.cm_steps.specs.Entries.{entry_text, entry_text_of, line_in, told_in, told_plan_step};
+ghost use Rattle.cm_steps.specs.Entries.{entry_text, entry_text_of, find_line, find_step, line_in, row_step, step_of_row, told_entry, told_in};
 ghost use Rattle.cm_steps.specs.Kept.{step_listing_of};
 ghost use Rattle.cm_steps.specs.Steps.{case_step_text, named_case_step};
 
-use crate::listing::{
-    DocumentEntry, PickleEntry, PlanEntry, PlanStep, StepEntry, StepListing, StepPlace,
-};
+use crate::listing::{HOOK, PICKLE_STEP, StepListing};
 use cm_cases::add_shown;
 use std::alloc::AllocError;
+use text_rows::{TextIter, TextRows};
 
-fn plan_of<'a>(plans: &'a [PlanEntry], id: &str) -> Option<&'a PlanEntry>
-    ensures { option_map (λ c. c.now) result ≡ find (λ c. bytes_eq id.now c.id) plans.now }
+/// The two texts that stand beside a step's id, of three texts of each step.
+fn find_step<'a>(steps: TextIter<'a>, id: &str) -> Option<(&'a str, &'a str)>
+    ensures { option_map (λ s. (s.0.now, s.1.now)) result ≡ find_step id.now steps.entry }
 {
-    plans.iter().find(|plan| id == plan.id.as_str())
+    let mut texts = steps;
+    while let Some(step) = texts.next() {
+        let one = texts.next()?;
+        let two = texts.next()?;
+        if id == step {
+            return Some((one, two));
+        }
+    }
+    None
 }
 
-fn plan_step_of<'a>(steps: &'a [PlanStep], id: &str) -> Option<&'a PlanStep>
-    ensures { option_map (λ s. s.now) result ≡ find (λ s. bytes_eq id.now s.id) steps.now }
+/// The second text of a row, and the two that stand beside a step's id.
+fn step_of_row<'a>(row: TextIter<'a>, id: &str) -> Option<(&'a str, &'a str, &'a str)>
+    ensures { option_map (λ s. (s.0.now, s.1.now, s.2.now)) result ≡ step_of_row id.now row.entry }
 {
-    steps.iter().find(|step| id == step.id.as_str())
+    let mut texts = row;
+    texts.next()?;
+    let of = texts.next()?;
+    let (one, two) = find_step(texts, id)?;
+    Some((of, one, two))
 }
 
-fn pickle_of<'a>(pickles: &'a [PickleEntry], id: &str) -> Option<&'a PickleEntry>
-    ensures { option_map (λ p. p.now) result ≡ find (λ p. bytes_eq id.now p.id) pickles.now }
+/// The same of the first row of an id.
+fn row_step<'a>(rows: &'a TextRows, id: &str, step: &str) -> Option<(&'a str, &'a str, &'a str)>
+    ensures { option_map (λ s. (s.0.now, s.1.now, s.2.now)) result
+        ≡ row_step rows.now id.now step.now }
 {
-    pickles.iter().find(|pickle| id == pickle.id.as_str())
+    step_of_row(rows.find(id)?, step)
 }
 
-fn step_of<'a>(steps: &'a [StepEntry], id: &str) -> Option<&'a StepEntry>
-    ensures { option_map (λ s. s.now) result ≡ find (λ s. bytes_eq id.now s.id) steps.now }
+/// The line that stands beside a node, and 0 where the node is not there.
+fn find_line<'a>(places: TextIter<'a>, node: &str) -> &'a str
+    ensures { result.now ≡ find_line node.now places.entry }
 {
-    steps.iter().find(|step| id == step.id.as_str())
-}
-
-fn document_of<'a>(documents: &'a [DocumentEntry], uri: &str) -> Option<&'a DocumentEntry>
-    ensures { option_map (λ d. d.now) result ≡ find (λ d. bytes_eq uri.now d.uri) documents.now }
-{
-    documents
-        .iter()
-        .find(|document| uri == document.uri.as_str())
-}
-
-fn place_of<'a>(places: &'a [StepPlace], node: &str) -> Option<&'a StepPlace>
-    ensures { option_map (λ x. x.now) result ≡ find (λ x. bytes_eq node.now x.id) places.now }
-{
-    places.iter().find(|place| node == place.id.as_str())
+    let mut texts = places;
+    while let Some(id) = texts.next() {
+        let Some(line) = texts.next() else {
+            return "0";
+        };
+        if node == id {
+            return line;
+        }
+    }
+    "0"
 }
 
 impl StepListing {
     /// The line of the step, and 0 where no document has it.
-    fn line(&self, uri: &str, node: &str) -> u32
-        ensures { result ≡ line_in self.now uri.now node.now }
+    fn line(&self, uri: &str, node: &str) -> &str
+        ensures { result.now ≡ line_in self.now uri.now node.now }
     {
-        let Some(document) = document_of(self.documents.as_slice(), uri) else {
-            return 0;
+        let Some(mut row) = self.documents.find(uri) else {
+            return "0";
         };
-        match place_of(document.places.as_slice(), node) {
-            Some(place) => place.line,
-            None => 0,
-        }
+        row.next();
+        find_line(row, node)
     }
 
-    /// Adds a step of a pickle.
-    fn add_entry(
-        &self,
-        text: &mut String,
-        pickle: &PickleEntry,
-        step: &StepEntry,
-    ) -> Result<(), AllocError>
+    /// Adds a step of a pickle, by its uri, its text and its node.
+    fn add_entry(&self, text: &mut String, step: (&str, &str, &str)) -> Result<(), AllocError>
         ensures { OnOk result (string_bytes text.new
-            ≡ string_bytes text.old ++ entry_text self.now pickle.now step.now) }
+            ≡ string_bytes text.old ++ entry_text self.now
+            (step.entry.0.now, step.entry.1.now, step.entry.2.now)) }
     {
-        add_shown(text, pickle.uri.as_str())?;
+        let (uri, words, node) = step;
+        add_shown(text, uri)?;
         text.push_str(":")?;
-        write!(
-            text,
-            "{}",
-            self.line(pickle.uri.as_str(), step.node.as_str())
-        )?;
+        text.push_str(self.line(uri, node))?;
         text.push_str(" ")?;
-        add_shown(text, step.text.as_str())
+        add_shown(text, words)
     }
 
     /// Adds the step of an id of a pickle.
@@ -90,11 +91,8 @@ impl StepListing {
         ensures { OnOk result (string_bytes text.new
             ≡ string_bytes text.old ++ entry_text_of self.now pickle.now step.now) }
     {
-        let Some(pickle) = pickle_of(self.pickles.as_slice(), pickle) else {
-            return Ok(());
-        };
-        match step_of(pickle.steps.as_slice(), step) {
-            Some(step) => self.add_entry(text, pickle, step),
+        match row_step(&self.pickles, pickle, step) {
+            Some(step) => self.add_entry(text, step),
             None => Ok(()),
         }
     }
@@ -104,23 +102,23 @@ impl StepListing {
         &self,
         text: &mut String,
         word: &str,
-        plan: &PlanEntry,
-        step: &PlanStep,
+        step: (&str, &str, &str),
     ) -> Result<(), AllocError>
         ensures { OnOk result (string_bytes text.new
-            ≡ string_bytes text.old ++ told_plan_step word.now self.now plan.now step.now) }
+            ≡ string_bytes text.old
+            ++ told_entry word.now self.now
+            (step.entry.0.now, step.entry.1.now, step.entry.2.now)) }
     {
-        if let Some(hook) = &step.hook_id {
+        let (pickle, kind, id) = step;
+        if kind == HOOK {
             text.push_str("hook ")?;
-            return add_shown(text, hook.as_str());
+            return add_shown(text, id);
         }
-        match &step.pickle_step_id {
-            Some(id) => {
-                text.push_str(word)?;
-                self.add_pickle_step(text, plan.pickle_id.as_str(), id.as_str())
-            }
-            None => Ok(()),
+        if kind == PICKLE_STEP {
+            text.push_str(word)?;
+            return self.add_pickle_step(text, pickle, id);
         }
+        Ok(())
     }
 
     /// Adds the test step of an id of a test case, after the word where it is a pickle's step.
@@ -134,11 +132,8 @@ impl StepListing {
         ensures { OnOk result (string_bytes text.new
             ≡ string_bytes text.old ++ told_in word.now self.now case.now step.now) }
     {
-        let Some(plan) = plan_of(self.plans.as_slice(), case) else {
-            return Ok(());
-        };
-        match plan_step_of(plan.steps.as_slice(), step) {
-            Some(step) => self.add_planned(text, word, plan, step),
+        match row_step(&self.plans, case, step) {
+            Some(step) => self.add_planned(text, word, step),
             None => Ok(()),
         }
     }

@@ -41,8 +41,7 @@ texts_more (n ∷ ns) bs text are =
 
 pub are_texts_more : (ns bs text : List ℕ) → AreTexts ns bs → IsUtf8 text → AreTexts (ns ++ length text ∷ []) (bs ++ text)
 are_texts_more [] bs text none utf8 =
-    rw none
-    (
+    rw none (
       omega arith,
       subst (λ t. IsTrue (is_utf8 t)) (sym (take_whole text)) (is_utf8-from_IsUtf8 text utf8),
       drop_whole text,
@@ -81,8 +80,7 @@ rows_more (r ∷ rs) ns bs ms cs are =
 
 pub are_rows_more : (rs : List RowSize) (ns bs ms cs : List ℕ) → AreRows rs ns bs → AreTexts ms cs → AreRows (rs ++ size_of ms cs ∷ []) (ns ++ ms) (bs ++ cs)
 are_rows_more [] ns bs ms cs none texts =
-    rw (none.0, none.1)
-    (
+    rw (none.0, none.1) (
       omega arith,
       omega arith,
       subst (λ ls. AreTexts ls (take (length cs) cs)) (sym (take_whole ms)) (subst (AreTexts ms) (sym (take_whole cs)) texts),
@@ -92,7 +90,7 @@ are_rows_more (r ∷ rs) ns bs ms cs are texts = (
   within r.texts ns ms are.0,
   within r.bytes bs cs are.1,
   subst (λ ls. AreTexts ls (take r.bytes (bs ++ cs))) (sym (take-append-le r.texts ns ms are.0))
-  (subst (AreTexts (take r.texts ns)) (sym (take-append-le r.bytes bs cs are.1)) are.2),
+      (subst (AreTexts (take r.texts ns)) (sym (take-append-le r.bytes bs cs are.1)) are.2),
   subst (λ ls. AreRows (rs ++ size_of ms cs ∷ []) ls (drop r.bytes (bs ++ cs))) (sym (drop-append-le r.texts ns ms are.0))
-  (subst (AreRows (rs ++ size_of ms cs ∷ []) (drop r.texts ns ++ ms)) (sym (drop-append-le r.bytes bs cs are.1)) (are_rows_more rs (drop r.texts ns) (drop r.bytes bs) ms cs are.3 texts)),
+      (subst (AreRows (rs ++ size_of ms cs ∷ []) (drop r.texts ns ++ ms)) (sym (drop-append-le r.bytes bs cs are.1)) (are_rows_more rs (drop r.texts ns) (drop r.bytes bs) ms cs are.3 texts)),
 )

@@ -16,6 +16,8 @@
 #![tactic(auto)]
 
 mod rows;
+#[cfg(test)]
+mod tests;
 mod texts;
 
 pub use rows::{RowIter, TextRows};
