@@ -6,6 +6,7 @@ use std::test::Fail;
 
 // Each line is a row, and its texts are parted by bars; and the same with a bar after each, and an empty row.
 const ADDED: &str = "id|uri|é|日本\n\n|\nlast||text";
+
 const WANTED: &str = "id|uri|é|日本|\n|\n||\nlast||text|\n\n";
 
 fn row_of(alloc: Global, line: &str) -> Result<Texts, Fail> {
