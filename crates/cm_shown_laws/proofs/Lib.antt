@@ -6,3 +6,13 @@ mod Found
 mod Parts
 mod PickleTexts
 mod ToldApart
+mod JsonStrings
+mod JsonTexts
+mod Readings
+mod ReadTrees
+mod ReadPickles
+mod ReadLines
+mod PlainParts
+mod PlainPickles
+mod Plain
+mod ToldLines

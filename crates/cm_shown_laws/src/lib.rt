@@ -9,7 +9,7 @@ mod texts;
 
 pub use differences::{
     pickles_are_told_apart, trees_are_told_apart, unlike_parts_are_shown_unlike,
-    unlike_pickles_are_shown_unlike, unlike_values_are_shown_unlike,
+    unlike_pickles_are_shown_unlike, unlike_values_are_shown_unlike, what_is_read_is_plain,
 };
 pub use scenarios::scenarios_are_found;
 pub use texts::{shown_json_is_plain, shown_texts_are_plain, unlike_texts_are_shown_unlike};
