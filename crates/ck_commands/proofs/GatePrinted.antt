@@ -19,7 +19,7 @@ use Rattle.cm_stream.proofs.ByGrammar.{is_first, reported}
 use Rattle.cm_stream.proofs.Streams.{read_is_told}
 use Rattle.cm_audit.specs.Audit.{AnswersTold, GoodAtEnd, GoodAtEndIn, IsAuditOf}
 use Rattle.cm_envelope.specs.Feeds.{is_failed_read}
-use Rattle.cm_audit_release.specs.Reasons.{AreReasons}
+use Rattle.cm_release.specs.Reasons.{AreReasons}
 use Rattle.cm_audit_release.specs.ReleaseAudit.{CountsGood, IsReleaseAuditOf, audited_in}
 use Rattle.cm_audit_release.specs.declared.audited_release.AuditedRelease.{AuditedRelease}
 use Rattle.ck_command_line.specs.CommandLine.{ask_gate}

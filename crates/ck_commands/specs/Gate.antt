@@ -19,7 +19,7 @@ use Rattle.cm_stream.specs.declared.verdict.Hold.TheVariants as hold
 use Rattle.cm_stream.specs.declared.verdict.StreamFault.{StreamFault}
 use Rattle.cm_stream.specs.declared.verdict.Verdict.{Verdict}
 use Rattle.cm_stream.specs.declared.verdict.Verdict.TheVariants as verdict
-use Rattle.cm_audit_release.specs.Reasons.{AreReasons}
+use Rattle.cm_release.specs.Reasons.{AreReasons}
 use Rattle.cm_audit_release.specs.declared.audited_release.AuditedRelease.{AuditedRelease}
 use Rattle.cm_fault_reasons.specs.AtLine.{IsToldUnder}
 use Rattle.ck_commands.specs.Output.{IsReport, Report, ReportsAnswer, trouble_report}

@@ -1,5 +1,1 @@
-pub mod KeptLemmas
-pub mod CountLemmas
-pub mod WholeLemmas
 pub mod ReleaseAudit
-pub mod Judging

@@ -38,8 +38,8 @@ module _ (settings : Settings) (asked : Conditions) (found : ReleaseCounts) (hel
   counted_by : (w : WatchedAudit ReleaseWatch) (xs : List ℕ) (v : Verdict) (first : FirstFault) → IsFirstFault settings xs first → answer_in v w.audited.success ≡ answer_for first → FollowsGood settings (Follows w.watch) (summary_of w.state).table xs v → DecidesVerdict settings (Follows w.watch) w.last (summary_of w.state) xs v
       → JudgesVerdict settings asked w found held reasons v → CountsGood settings asked w.audited.success found held reasons xs v
   counted_by w xs (verdict.Good counts) first is answers h d k = record { judged = h.judged; read = h.read; good = h.good; is = k h.judged h.followed h.good h.results }
-  counted_by w xs (verdict.Bad n b) first is answers h d k = told_with settings (Follows w.watch) xs (verdict.Bad n b) w.audited.success (summary_of w.state) w.watch.trail reasons (λ es f. f.1) w.last first is answers d k
-  counted_by w xs (verdict.Unsupported n r) first is answers h d k = told_with settings (Follows w.watch) xs (verdict.Unsupported n r) w.audited.success (summary_of w.state) w.watch.trail reasons (λ es f. f.1) w.last first is answers d k
+  counted_by w xs (verdict.Bad n b) first is answers h d k = told_with settings (Follows w.watch) xs (verdict.Bad n b) w.audited.success (summary_of w.state) w.watch.tally.trail reasons (λ es f. f.1) w.last first is answers d k
+  counted_by w xs (verdict.Unsupported n r) first is answers h d k = told_with settings (Follows w.watch) xs (verdict.Unsupported n r) w.audited.success (summary_of w.state) w.watch.tally.trail reasons (λ es f. f.1) w.last first is answers d k
 
 module _ (settings : Settings) (asked : Conditions) where
   told : (answer : Result (WatchedAudit ReleaseWatch) Trouble) (result : Result AuditedRelease Trouble) (xs ys : List ℕ) → CountsWatched settings asked answer result

@@ -19,7 +19,7 @@ use Rattle.cm_audit.specs.Audit.{IsAuditOf}
 use Rattle.cm_audit.specs.State.{summary_of}
 use Rattle.cm_audit.specs.declared.auditing.WatchedAudit.{WatchedAudit}
 use Rattle.cm_fault_reasons.specs.AtLine.{IsToldWith, TellsWith}
-use Rattle.cm_audit_release.specs.Judged.{IsJudged}
+use Rattle.cm_release.specs.Judged.{IsJudged}
 use Rattle.cm_audit_release.specs.Watched.{Follows}
 use Rattle.cm_audit_release.specs.declared.audited_release.AuditedRelease.{AuditedRelease}
 use Rattle.cm_audit_release.specs.declared.release_watch.ReleaseWatch.{ReleaseWatch}
@@ -66,7 +66,7 @@ JudgesVerdict settings asked w found held reasons (verdict.Good counts) =
     → case_results (summary_of w.state).table ≡ results_of es
     → IsJudged settings asked es w.audited.success counts found held reasons
 JudgesVerdict settings asked w found held reasons v =
-    TellsWith settings (summary_of w.state) w.watch.trail w.last v reasons
+    TellsWith settings (summary_of w.state) w.watch.tally.trail w.last v reasons
 
 -- of an audit that was watched, the audit with what is said
 abbrev pub JudgesWatched : Settings → Conditions → WatchedAudit ReleaseWatch → AuditedRelease

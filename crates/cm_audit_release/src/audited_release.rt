@@ -6,12 +6,12 @@ ghost use Rattle.cm_audit.specs.Audit.{GoodAtEnd};
 ghost use Rattle.cm_stream.specs.Release.{conditions_of};
 ghost use Rattle.cm_audit_release.specs.ReleaseAudit.{CountsWatched, IsReleaseAuditOf, JudgesVerdict, JudgesWatched, audited_in};
 
-use crate::judgement::Judgement;
 use crate::release_watch::ReleaseWatch;
 use cm_attempt::Settings;
 use cm_audit::{WatchedAudit, audit_watched};
 use cm_envelope::{ByteSource, Trouble};
 use cm_fault_reasons::verdict_told;
+use cm_release::{Judgement, Tally};
 use cm_stream::{Audited, Conditions, Hold, ReleaseCounts, Verdict};
 use std::alloc::{AllocError, Global};
 
@@ -40,14 +40,14 @@ fn judgement_of(
     let audited = watched.audited;
     match audited.verdict {
         Verdict::Good(counts) => {
-            let watch = &watched.watch;
+            let tally = &watched.watch.tally;
             let track = watched.state.attempts();
             let success = audited.success;
-            Judgement::of(alloc, conditions, settings, watch, track, success, counts)
+            Judgement::of(alloc, conditions, settings, tally, track, success, counts)
         }
         _ => {
             let verdict = audited.verdict;
-            let trail = &watched.watch.trail;
+            let trail = watched.watch.tally.trail();
             let state = &watched.state;
             let last = &watched.last;
             let reasons = verdict_told(alloc, settings, state, trail, last, verdict)?;
@@ -114,7 +114,9 @@ pub fn audit_release<R: ByteSource>(
     ensures failures { CountsFailure (is_failed_read result) (R.input source.old).failed_calls
         (R.input source.new).failed_calls }
 {
-    let watch = ReleaseWatch::new(alloc);
+    let watch = ReleaseWatch {
+        tally: Tally::new(alloc),
+    };
     let watched = audit_watched(alloc, source, settings, watch);
     let release = with_judgement(alloc, conditions, settings, &watched);
     drop(watched);

@@ -20,17 +20,11 @@
 //! }
 //! ```
 //!
-//! `audit_release` is `audit_watched` of `cm_audit`, with a watch that keeps lists of what the envelopes name (`specs/Kept`);
-//! after the audit they are counted by maps (`specs/Counts`). The lists are functions of all envelopes, and what is counted of
-//! those of a good stream is what `cm_stream` says of its envelopes for a release.
+//! `audit_release` is `audit_watched` of `cm_audit`, with a watch that keeps the `Tally` of `cm_release`; after the audit of a good
+//! stream this is judged, and of another stream `cm_fault_reasons` tells what is wrong with the line that decides.
 #![tactic(auto)]
 
 mod audited_release;
-mod counting;
-mod judgement;
-mod kept;
 mod release_watch;
-mod texts;
-mod undefined;
 
 pub use audited_release::{AuditedRelease, audit_release};

@@ -1,0 +1,4 @@
+pub mod KeptLemmas
+pub mod CountLemmas
+pub mod WholeLemmas
+pub mod Judging

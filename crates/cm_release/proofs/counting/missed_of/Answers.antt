@@ -1,0 +1,16 @@
+use Rattle.std.proofs.Common.{◌∙◌, ap, sym, map, Bor}
+use Rattle.cm_stream.specs.Release.{conditions_of}
+use Rattle.cm_stream.specs.Texts.{Utf8}
+use Rattle.cm_release.specs.Counts.{texts_of}
+use Rattle.cm_release.proofs.CountLemmas.{if_ok, missed_found, none_missed}
+use Rattle.cm_release.proofs.counting.missed_of.Goals as goal
+
+pub returns-then-conditions : goal.returns-then-conditions
+returns-then-conditions c = ap texts_of c.new.ensures.items ∙ none_missed (conditions_of c.args.conditions.now) c.args.kept.now c.if-conditions.true
+
+pub returns : goal.returns
+returns c =
+    if_ok _ _ c.unnamed_of.result c.unnamed_of.ensures
+    (λ ids found.
+    missed_found (texts_of ids.items) (conditions_of c.args.conditions.now) c.args.kept.now c.as_slice-2.result.now c.as_slice.result.now c.as_slice-3.result.now c.in_ok-named.named c.in_ok-allowed.allowed
+    c.if-conditions.false (ap (map (λ (t : Bor Utf8). t.now)) (sym c.as_slice-2.ensures.value)) c.as_slice.ensures c.as_slice-3.ensures c.in_ok-named.ensures c.in_ok-allowed.ensures found)

@@ -1,0 +1,135 @@
+//! What is kept of a stream's envelopes for its release.
+ghost use Rattle.std.specs.Prelude.{◌≡◌, ◌++◌, ◌∷◌, [], List, IfOk, OnOk, filter, map};
+ghost use Rattle.cm_stream.specs.Release.{is_unmatched};
+ghost use Rattle.cm_release.specs.Kept.{case_entry, kept_nothing, pickle_entry, start_entry, unmatched_ids};
+
+use cm_envelope::{Pickle, PickleTag, TestCase, TestCaseStarted, TestStep};
+use gk_document::{Sequence, Text};
+use std::alloc::{AllocError, Global};
+
+/// A pickle, with the names of its tags.
+#[derive(Debug, Drop)]
+pub(crate) struct PickleEntry {
+    pub(crate) id: Text,
+    pub(crate) tags: Sequence<Text>,
+    pub(crate) is_stepless: bool,
+}
+
+/// A test case, by the pickle that it names, with the ids of those of its steps that are of a pickle and that no step
+/// definition matches.
+#[derive(Debug, Drop)]
+pub(crate) struct CaseEntry {
+    pub(crate) id: Text,
+    pub(crate) pickle_id: Text,
+    pub(crate) unmatched: Sequence<Text>,
+}
+
+/// The start of an attempt at a case.
+#[derive(Debug, Drop)]
+pub(crate) struct StartEntry {
+    pub(crate) id: Text,
+    pub(crate) case_id: Text,
+}
+
+/// The end of a step of an attempt that passed, or that is pending.
+#[derive(Debug, Drop)]
+pub(crate) struct FinishEntry {
+    pub(crate) attempt_id: Text,
+    pub(crate) step_id: Text,
+    pub(crate) is_pending: bool,
+}
+
+/// What is kept of a stream's envelopes for its release. `skips` are the attempts of the steps that were skipped.
+#[derive(Debug, Drop)]
+pub(crate) struct Kept {
+    pub(crate) pickles: Sequence<PickleEntry>,
+    pub(crate) cases: Sequence<CaseEntry>,
+    pub(crate) starts: Sequence<StartEntry>,
+    pub(crate) skips: Sequence<Text>,
+    pub(crate) finishes: Sequence<FinishEntry>,
+}
+
+impl Kept {
+    /// What is kept of no envelope. It takes no memory.
+    pub(crate) fn new(alloc: Global) -> Kept
+        ensures { result ≡ kept_nothing }
+    {
+        Kept {
+            pickles: Sequence::new(alloc),
+            cases: Sequence::new(alloc),
+            starts: Sequence::new(alloc),
+            skips: Sequence::new(alloc),
+            finishes: Sequence::new(alloc),
+        }
+    }
+}
+
+/// The text again.
+fn copy(alloc: Global, text: &Text) -> Result<Text, AllocError>
+    ensures { IfOk result (λ t. t ≡ text.now) }
+{
+    Text::copy_of(alloc, text.as_str())
+}
+
+/// The names of the tags.
+fn names_of(alloc: Global, tags: &[PickleTag]) -> Result<Sequence<Text>, AllocError>
+    ensures { IfOk result (λ names. names ≡ map (λ t. t.name) tags.now) }
+{
+    let mut names = Sequence::new(alloc);
+    for tag in tags {
+        names.push(copy(alloc, &tag.name)?)?;
+    }
+    Ok(names)
+}
+
+/// What is kept of a pickle.
+pub(crate) fn pickle_entry(alloc: Global, pickle: &Pickle) -> Result<PickleEntry, AllocError>
+    ensures { IfOk result (λ entry. entry ≡ pickle_entry pickle.now) }
+{
+    Ok(PickleEntry {
+        id: copy(alloc, &pickle.id)?,
+        tags: names_of(alloc, pickle.tags.as_slice())?,
+        is_stepless: pickle.steps.len() == 0,
+    })
+}
+
+/// Whether the step is of a pickle's step, and no step definition matches it.
+fn is_unmatched(step: &TestStep) -> bool
+    ensures { result ≡ is_unmatched step.now }
+{
+    step.pickle_step_id.is_some() && step.step_definition_ids.len() == 0
+}
+
+/// The ids of the steps that are of a pickle and that no step definition matches.
+fn unmatched_of(alloc: Global, steps: &[TestStep]) -> Result<Sequence<Text>, AllocError>
+    ensures { IfOk result (λ ids. ids ≡ unmatched_ids steps.now) }
+{
+    let mut ids = Sequence::new(alloc);
+    for step in steps {
+        if is_unmatched(step) {
+            ids.push(copy(alloc, &step.id)?)?;
+        }
+    }
+    Ok(ids)
+}
+
+/// What is kept of a case.
+pub(crate) fn case_entry(alloc: Global, case: &TestCase) -> Result<CaseEntry, AllocError>
+    ensures { IfOk result (λ entry. entry ≡ case_entry case.now) }
+{
+    Ok(CaseEntry {
+        id: copy(alloc, &case.id)?,
+        pickle_id: copy(alloc, &case.pickle_id)?,
+        unmatched: unmatched_of(alloc, case.test_steps.as_slice())?,
+    })
+}
+
+/// What is kept of the start of an attempt.
+pub(crate) fn start_entry(alloc: Global, start: &TestCaseStarted) -> Result<StartEntry, AllocError>
+    ensures { IfOk result (λ entry. entry ≡ start_entry start.now) }
+{
+    Ok(StartEntry {
+        id: copy(alloc, &start.id)?,
+        case_id: copy(alloc, &start.test_case_id)?,
+    })
+}
