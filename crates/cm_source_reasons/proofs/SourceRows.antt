@@ -1,5 +1,6 @@
 -- In what an envelope differs from the row of its source.
-use Rattle.std.proofs.Common.{◌≡◌, refl, sym, ap, ◌∙◌, subst, true, false, List, [], Option, Some, None, Result, Ok, Err, String}
+use Rattle.std.proofs.Common.{◌≡◌, refl, sym, ap, ◌∙◌, subst, Bool, true, false, if◌then◌else◌, List, [], ◌∷◌, Option, Some, None, Result, Ok, Err, String}
+use Rattle.std.specs.Option.{option_or}
 use Rattle.std.proofs.Math.Path.{fun_ext}
 use Rattle.std.specs.Prelude.{◌↔◌, IfOk, IfSome, IsNone, find, option_map}
 use Rattle.std.specs.String.{string_bytes}
@@ -59,3 +60,19 @@ lacks_bare uri (kept.Accepted a) = refl
 
 pub first_row : (entries : List (String Global × KeptSource)) → find lacks_by (kept_rows entries) ≡ option_map entry_row (find (λ e. lacks_by (kept_row [] e.1)) entries)
 first_row entries = find_map lacks_by entry_row entries ∙ ap (λ q. option_map entry_row (find q entries)) (fun_ext (λ e. lacks_bare (string_bytes e.0) e.1))
+
+-- entries that are looked at one after the other, as a loop does
+module _ {X Y : Type 0} (shown : X → Y) (test : Y → Bool) (all : List Y) where
+  pub one_looked_at : (found here : Option X) (x : X) (ys rest : List Y) → ys ≡ shown x ∷ rest → here ≡ (if test (shown x) then Some x else None) → option_or (option_map shown found) (find test ys) ≡ find test all
+      → option_or (option_map shown (option_or found here)) (find test rest) ≡ find test all
+  one_looked_at (Some y) here x ys rest is passes so_far = so_far
+  one_looked_at None here x ys rest is passes so_far =
+      ap (λ (o : Option X). option_or (option_map shown o) (find test rest)) passes ∙ first (test (shown x)) ∙ sym (ap (find test) is) ∙ so_far
+    where
+      first : (b : Bool) → option_or (option_map shown (if b then Some x else None)) (find test rest) ≡ (if b then Some (shown x) else find test rest)
+      first true = refl
+      first false = refl
+
+  pub all_looked_at : (found : Option X) (ys : List Y) → ys ≡ [] → option_or (option_map shown found) (find test ys) ≡ find test all → option_map shown found ≡ find test all
+  all_looked_at (Some x) ys is so_far = so_far
+  all_looked_at None ys is so_far = sym (ap (find test) is) ∙ so_far

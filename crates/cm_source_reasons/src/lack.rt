@@ -1,5 +1,5 @@
 //! What is told at the end of a run of the first source of which something didn't come.
-ghost use Rattle.std.specs.Prelude.{◌≡◌, ◌++◌, List, [], OnOk, codes, find, map, option_map, string_bytes};
+ghost use Rattle.std.specs.Prelude.{◌≡◌, ◌++◌, List, [], OnOk, Some, None, codes, find, if◌then◌else◌, map, option_map, string_bytes};
 ghost use Rattle.cm_cases.specs.Listed.{listing_of};
 ghost use Rattle.cm_envelope.specs.declared.envelope.Envelope.{Envelope as SomeEnvelope};
 ghost use Rattle.cm_state.specs.StateChecks.{lacks_by};
@@ -80,12 +80,31 @@ fn add_lack(
     }
 }
 
+/// The source with its uri, where something of it is missing.
+fn if_incomplete<'a>(
+    uri: &'a String,
+    source: &'a KeptSource,
+) -> Option<(&'a String, &'a KeptSource)>
+    ensures { result
+        ≡ (if lacks_by (kept_row [] source.now) then Some (uri.entry, source.entry) else None) }
+{
+    if source.lacks_some() {
+        Some((uri, source))
+    } else {
+        None
+    }
+}
+
 /// The first source of which something is missing, with its uri.
 fn first_incomplete(sources: &Sources) -> Option<(&String, &KeptSource)>
     ensures { option_map (λ e. (e.0.now, e.1.now)) result
         ≡ find (λ e. lacks_by (kept_row [] e.1)) sources.now.entries }
 {
-    sources.iter().find(|(_, source)| source.lacks_some())
+    let mut found = None;
+    for (uri, source) in sources.iter() {
+        found = found.or(if_incomplete(uri, source));
+    }
+    found
 }
 
 /// Adds the first source of which something is missing, and what of it is.

@@ -1,11 +1,25 @@
-use Rattle.std.proofs.Common.{[], rules}
-use Rattle.std.proofs.lemmas.Iterator.Consumers.{YieldsList-from_rest}
-use Rattle.std.proofs.lemmas.Iterator.Search.{find_from_yields_List}
+use Rattle.std.proofs.Common.{◌∙◌, ap, [], Bool, Bor, Global, Option, String, find, option_map}
+use Rattle.std.specs.Option.{option_or}
 use Rattle.cm_state.specs.StateChecks.{lacks_by}
 use Rattle.cm_audit.specs.Kept.{kept_row}
+use Rattle.cm_audit.specs.declared.source.KeptSource.{KeptSource}
+use Rattle.cm_source_reasons.proofs.SourceRows.{all_looked_at, one_looked_at}
 use Rattle.cm_source_reasons.proofs.lack.first_incomplete.Goals as goal
-use borrow.Author.Tests.{tests}
+
+abbrev shown : Bor (String Global) × Bor KeptSource → String Global × KeptSource
+shown e = (e.0.now, e.1.now)
+
+abbrev is_incomplete : String Global × KeptSource → Bool
+is_incomplete e = lacks_by (kept_row [] e.1)
+
+pub loop-uri-init : goal.loop-uri-init
+loop-uri-init c = ap (find is_incomplete) (c.into_iter-uri-iterator.ensures.into_iter_gives ∙ c.iter-uri-items.ensures.rest)
+
+pub loop-uri-preserved : goal.loop-uri-preserved
+loop-uri-preserved c =
+    ap (λ (o : Option (Bor (String Global) × Bor KeptSource)). option_or (option_map shown o) (find is_incomplete c.next.new.self)) c.or-found.ensures
+    ∙ one_looked_at shown is_incomplete c.args.sources.now.entries c.loop-uri.found c.if_incomplete.result (c.in-Some.uri, c.in-Some.source) _ _ c.in-Some.ensures.steps c.if_incomplete.ensures
+    c.loop-uri.invariant
 
 pub returns : goal.returns
-returns c =
-    find_from_yields_List (λ e. lacks_by (kept_row [] e.1)) _ _ c.find.result c.find.ensures.ran (YieldsList-from_rest c.args.sources.now.entries c.iter.ensures.rest) (λ x b q k. search (rules, tests))
+returns c = all_looked_at shown is_incomplete c.args.sources.now.entries c.loop-uri.found _ c.in-None.ensures.steps.0 c.loop-uri.invariant
