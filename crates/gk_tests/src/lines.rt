@@ -160,6 +160,11 @@ fn tags_of_a_line(rt: HostRuntime) -> Result<(), Fail> {
 }
 
 #[test]
+fn white_space_before_the_word_of_a_tag(rt: HostRuntime) -> Result<(), Fail> {
+    check_tags(&rt, rt.alloc(), "@ a@\u{3000} b\t@c", "1:a;4:b;9:c;")
+}
+
+#[test]
 fn white_space_in_a_tag(rt: HostRuntime) -> Result<(), Fail> {
     let line = line("  @a b")?;
     if !is_tags(line) {
