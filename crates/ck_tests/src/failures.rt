@@ -293,3 +293,17 @@ fn failures_of_cases(rt: HostRuntime) -> Result<(), Fail> {
     let text = "PASSED a.feature:3 s\n";
     expect_stream(&rt, rt.alloc(), "cases", RETRIED, text, 0)
 }
+
+#[test]
+fn failures_of_cases_as_json(rt: HostRuntime) -> Result<(), Fail> {
+    let stream = stream_of(rt.alloc(), RETRIED)?;
+    let case = Case {
+        words: &["cases", "--json"],
+        input: stream.as_str(),
+        text: r#"{"attempts":2,"line":3,"name":"s","status":"PASSED","tags":[],"uri":"a.feature"}
+"#,
+        status: 0,
+    };
+    expect_failures(&rt, rt.alloc(), case);
+    Ok(())
+}
