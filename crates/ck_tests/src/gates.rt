@@ -34,6 +34,11 @@ const TOLD: &str = "bad line 2: 4 DuplicateId/id h/ 1 = null_source null_source
 bad line 6: 4 DuplicateId/id c1/ 1 = source document pickle run case:c1:t1 case:c1:t1
 bad line 7: 4 DuplicateId/id a1/ 1 = source document pickle run case:c1:t1 start:a1:c1:0 start:a1:c1:1
 bad line 7: 4 DuplicateId/id r1/ 1 = source document pickle hook run hook_start hook_start
+bad line 2: 4 DuplicateId/id d/ 1 = definition definition
+bad line 2: 4 DuplicateId/id 0/ 1 = source document_with_one_id
+bad line 3: 4 DuplicateId/id 21/ 1 = background background_document background_pickle_with_one_id
+bad line 6: 4 DuplicateId/id 3/ 1 = source document pickle source_b document_b pickle_b_with_id_3
+bad line 6: 4 DuplicateId/id t1/ 1 = source document pickle hook run case_with_one_id
 bad line 2: 5 DuplicateUri/uri a.feature/ 1 = source source
 bad line 1: 6 UnknownReference/uri a.feature/ 1 = document
 bad line 2: 6 UnknownReference/uri a.feature/ 1 = source pickle
