@@ -85,6 +85,35 @@ due start a.feature:4 a
 found finish a.feature:4 a
 ";
 
+// A pickle that isn't the next one of its source, and what is said of it.
+const OTHER_PICKLE: &str =
+    r#"{"source":{"data":"Feature: f\n\n  Scenario: s\n    Given a\n","mediaType":"text/x.cucumber.gherkin+plain","uri":"a.feature"}}
+{"gherkinDocument":{"comments":[],"feature":{"children":[{"scenario":{"description":"","examples":[],"id":"0","keyword":"Scenario","location":{"column":3,"line":3},"name":"s","steps":[{"id":"1","keyword":"Given ","keywordType":"Context","location":{"column":5,"line":4},"text":"a"}],"tags":[]}}],"description":"","keyword":"Feature","language":"en","location":{"column":1,"line":1},"name":"f","tags":[]},"uri":"a.feature"}}
+{"pickle":{"astNodeIds":["0"],"id":"3","language":"en","name":"s","steps":[{"astNodeIds":["1"],"id":"2","text":"b","type":"Context"}],"tags":[],"uri":"a.feature"}}
+"#;
+
+const DUE_PICKLE: &str = r#"bad line 3: 9 PickleDiffers
+due a.feature:3 s
+expected {"pickle":{"astNodeIds":["0"],"language":"en","name":"s","steps":[{"astNodeIds":["1"],"text":"a","type":"Context"}],"tags":[],"uri":"a.feature"}}
+found {"pickle":{"astNodeIds":["0"],"language":"en","name":"s","steps":[{"astNodeIds":["1"],"text":"b","type":"Context"}],"tags":[],"uri":"a.feature"}}
+"#;
+
+// A run that ends within an attempt, beside a source that is refused, and what is said of it.
+const CUT_OFF: &str =
+    r#"{"source":{"data":"Feature: f\n\n  Scenario: s\n    Given a\n","mediaType":"text/x.cucumber.gherkin+plain","uri":"a.feature"}}
+{"gherkinDocument":{"comments":[],"feature":{"children":[{"scenario":{"description":"","examples":[],"id":"0","keyword":"Scenario","location":{"column":3,"line":3},"name":"s","steps":[{"id":"1","keyword":"Given ","keywordType":"Context","location":{"column":5,"line":4},"text":"a"}],"tags":[]}}],"description":"","keyword":"Feature","language":"en","location":{"column":1,"line":1},"name":"f","tags":[]},"uri":"a.feature"}}
+{"pickle":{"astNodeIds":["0"],"id":"3","language":"en","name":"s","steps":[{"astNodeIds":["1"],"id":"2","text":"a","type":"Context"}],"tags":[],"uri":"a.feature"}}
+{"source":{"data":"Given x","mediaType":"text/x.cucumber.gherkin+plain","uri":"b.feature"}}
+{"testRunStarted":{}}
+{"testCase":{"id":"c1","pickleId":"3","testSteps":[{"id":"t1","pickleStepId":"2"}]}}
+{"testCaseStarted":{"id":"a1","testCaseId":"c1","attempt":0}}
+"#;
+
+const OPEN: &str = "bad line 8: 22 NoRunFinished
+refused b.feature:1:1 1 Unexpected
+case a.feature:3 s
+";
+
 const OUTLINE_TEXT: &str =
     "Feature: f\n  Scenario: s\n    Given <a>\n    Examples:\n      | a |\n      | x |\n      | x |\n      | y |\n";
 
@@ -200,6 +229,28 @@ fn run_gate_due(alloc: Global) -> Came {
     came_of_words(alloc, &["gate"], NOT_DUE, DUE, ExitStatus::Refused)
 }
 
+fn run_gate_skipped(alloc: Global) -> Came {
+    let held = "good sources=1 pickles=1 cases=2 attempts=2\nstop Skipped\nSKIPPED a.feature:3 s\n";
+    let words = ["gate", "--no-skips"];
+    came_of_words(alloc, &words, INTERLEAVED, held, ExitStatus::Held)
+}
+
+fn run_gate_undefined(alloc: Global) -> Came {
+    let held =
+        "good sources=1 pickles=1 cases=2 attempts=2\nstop Undefined\nUNDEFINED a.feature:3 s step a.feature:4 a\n";
+    let words = ["gate", "--no-undefined"];
+    came_of_words(alloc, &words, INTERLEAVED, held, ExitStatus::Held)
+}
+
+fn run_gate_pickle(alloc: Global) -> Came {
+    let told = ExitStatus::Refused;
+    came_of_words(alloc, &["gate"], OTHER_PICKLE, DUE_PICKLE, told)
+}
+
+fn run_gate_open(alloc: Global) -> Came {
+    came_of_words(alloc, &["gate"], CUT_OFF, OPEN, ExitStatus::Refused)
+}
+
 #[test]
 fn runs_of_results(rt: HostRuntime) -> Result<(), Fail> {
     meet_alone(rt.alloc(), RUNS, run_results)
@@ -248,6 +299,26 @@ fn runs_of_gate_that_tell_causes(rt: HostRuntime) -> Result<(), Fail> {
 #[test]
 fn runs_of_gate_that_tell_what_is_due(rt: HostRuntime) -> Result<(), Fail> {
     meet_alone(rt.alloc(), RUNS, run_gate_due)
+}
+
+#[test]
+fn runs_of_gate_that_tell_of_skipped_cases(rt: HostRuntime) -> Result<(), Fail> {
+    meet_alone(rt.alloc(), RUNS, run_gate_skipped)
+}
+
+#[test]
+fn runs_of_gate_that_tell_of_undefined_steps(rt: HostRuntime) -> Result<(), Fail> {
+    meet_alone(rt.alloc(), RUNS, run_gate_undefined)
+}
+
+#[test]
+fn runs_of_gate_that_tell_of_a_pickle(rt: HostRuntime) -> Result<(), Fail> {
+    meet_alone(rt.alloc(), RUNS, run_gate_pickle)
+}
+
+#[test]
+fn runs_of_gate_that_tell_what_is_open(rt: HostRuntime) -> Result<(), Fail> {
+    meet_alone(rt.alloc(), RUNS, run_gate_open)
 }
 
 #[test]
