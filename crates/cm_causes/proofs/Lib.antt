@@ -3,6 +3,7 @@ mod CaseLemmas
 mod Shown
 mod Known
 mod Well
+mod Exceptions
 mod NothingFailed
 mod EachLine
 mod AtFault

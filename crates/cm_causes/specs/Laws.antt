@@ -22,6 +22,7 @@ use Rattle.cm_stream.specs.References.{cases, is_good_case, run_ends, run_hook_e
 use Rattle.cm_stream.specs.Results.{results_of}
 use Rattle.cm_stream.specs.Texts.{Utf8}
 use Rattle.cm_reasons.specs.RunReasons.{AreRefusedLines, bad_end, bad_hook_line, hook_causes, line_of_refused}
+use Rattle.cm_reasons.specs.Trail.{has_exception}
 use Rattle.cm_causes.specs.Causes.{IsCauses, IsTruthTold, case_causes, cause_of_case, exception_line, nothing_failed}
 
 -- ---- there is a cause exactly where not all is well
@@ -64,6 +65,12 @@ GoodWithoutSuccessHasCause =
     (settings : Settings) (es : List Envelope) (f : TestRunFinished) (text : List ℕ)
     → Good settings es → run_succeeded es ≡ false → run_ends es ≡ f ∷ []
     → IsCauses settings.policy es f.has_exception text → text ≢ []
+
+-- a run that ends once has the exception of this end
+abbrev pub TheEndHasTheException : Type 0
+TheEndHasTheException =
+    (es : List Envelope) (f : TestRunFinished) → run_ends es ≡ f ∷ []
+    → has_exception es ≡ f.has_exception
 
 -- Where a run says of its success what isn't so, it is told that nothing failed exactly where the run doesn't say success.
 abbrev pub TruthIsToldBy : (Utf8 → Reading) → Type 0

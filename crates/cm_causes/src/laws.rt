@@ -1,7 +1,7 @@
 //! Laws of the causes.
 ghost use Rattle.cm_causes.specs.Laws.{CasesHaveLines, EndsAreKnown, EndsHaveNoResult, ExceptionsHaveLines, FaultlessAreKnown};
 ghost use Rattle.cm_causes.specs.Laws.{GoodWithoutSuccessHasCause, HooksHaveLines, KeptResults, NoCauseIsAllWell};
-ghost use Rattle.cm_causes.specs.Laws.{NothingFailedIsAllWell, SourcesHaveLines, TruthIsTold};
+ghost use Rattle.cm_causes.specs.Laws.{NothingFailedIsAllWell, SourcesHaveLines, TheEndHasTheException, TruthIsTold};
 
 /// In lines without a fault each source is accepted or refused, and each run hook that ended was started; the end of the run
 /// changes nothing of it.
@@ -25,6 +25,11 @@ pub fn nothing_failed_is_all_well()
 /// A good stream whose run doesn't say success has a cause.
 pub fn good_without_success_has_cause()
     ensures { GoodWithoutSuccessHasCause }
+{}
+
+/// A run that ends once has an exception, by which its causes are told, exactly where this end has.
+pub fn the_end_has_the_exception()
+    ensures { TheEndHasTheException }
 {}
 
 /// What an audit keeps of lines without a fault has the results by which `add_causes` tells the causes of test cases; the end of the

@@ -25,3 +25,7 @@ mod laws;
 mod results;
 
 pub use causes::{add_causes, add_truth};
+pub use laws::{
+    each_has_its_line, faultless_are_known, good_without_success_has_cause, kept_results,
+    no_cause_is_all_well, nothing_failed_is_all_well, the_end_has_the_exception,
+};
