@@ -59,7 +59,8 @@ fn append(
     more_bytes: &str,
     more_lengths: &[u32],
 ) -> Result<(), AllocError>
-    ensures bytes { OnOk result (string_bytes bytes.new ≡ string_bytes bytes.old ++ more_bytes.now) }
+    ensures bytes { OnOk result
+        (string_bytes bytes.new ≡ string_bytes bytes.old ++ more_bytes.now) }
     ensures lengths { OnOk result (lengths.new.items ≡ lengths.old.items ++ more_lengths.now) }
     ensures err { OnErr result ((string_bytes bytes.new ≡ string_bytes bytes.old)
         × (lengths.new.items ≡ lengths.old.items)) }
