@@ -1,24 +1,23 @@
 -- Each list of the options of `audit` is read, by each command that has them.
-use Rattle.std.proofs.Common.{◌≡◌, ◌∙◌, ℕ, true, false, List, [], ◌∷◌, Option, refl, ap, inl, inr, sym, fold, option_map}
+use Rattle.std.proofs.Common.{◌≡◌, ◌∙◌, true, false, List, [], ◌∷◌, Option, refl, ap, ap₂, inl, inr, sym, fold, option_map}
 use Rattle.std.proofs.lemmas.Bool.{false≢true, or_right}
 use Rattle.std.specs.Prelude.{codes, option_and_then}
 use Rattle.std.specs.List.{AllByRecursion}
 use Rattle.clap.specs.Words.{Row, Text, first_of}
-use Rattle.clap.specs.Walk.{Held, bundle_met, nothing_held, reading_by, rows_after, walked, with_default}
+use Rattle.clap.specs.Walk.{Held, bundle_met, nothing_held, reading_by, rows_after, walk_from, walked, with_default}
 use Rattle.clap.specs.Simple.{Shape}
 use Rattle.clap.specs.Faults.{flags_fault, walk_fault}
 use Rattle.cm_attempt.specs.declared.settings.Settings.{Settings}
 use Rattle.cm_stream.specs.Release.{Conditions}
-use Rattle.ck_command_line.specs.CommandLine.{Command, ask_audit, command_like_audit, command_named, is_given, settings_in}
-use Rattle.ck_command_line.specs.Asked.{Written, allow_unrun, allow_unrun_tagged, no_retries, no_skips, no_stepless, no_undefined, strict, as_json, pending_passes, attempts_from, allow_redeclared}
-use Rattle.ck_command_line.specs.Asked.{IsPlain, all_words, are_distinct, command_asked_with, has_name, is_there, number_of, settings_written, usage_like_audit}
-use Rattle.ck_command_line.proofs.Between.{between}
+use Rattle.ck_command_line.specs.CommandLine.{Asked, Command, ask_audit, command_like_audit, command_named, is_given, over_input, settings_in}
+use Rattle.ck_command_line.specs.Asked.{Written, allow_unrun, allow_unrun_tagged, no_retries, no_skips, no_stepless, no_undefined, strict, as_json, pending_passes, attempts_from, allow_redeclared, run}
+use Rattle.ck_command_line.specs.Asked.{IsPlain, all_words, are_distinct, asked_with, has_name, is_there, number_of, settings_written, usage_like_audit}
 use Rattle.ck_command_line.proofs.Gate.{same_settings}
 use Rattle.ck_command_line.proofs.Leaves.{faults, leaf}
 use Rattle.ck_command_line.proofs.Plain.{plain}
 use Rattle.ck_command_line.proofs.Rows.{IsFit, IsOff, Keeps, defaults_fit, defaults_keep, defaults_off, first_is, first_text, is_on, set_told}
 use Rattle.ck_command_line.proofs.Said.{IsFlag, flag_said, number_said}
-use Rattle.ck_command_line.proofs.Unconditional.{AreFree, unconditional}
+use Rattle.ck_command_line.proofs.Unconditional.{AreFree, runless, unconditional}
 use Rattle.ck_command_line.proofs.Using.{AreUsed, IsNew, ReadsEach, Told, Used, again, all_own, conflict, is_new, is_own, no_faults_found, once, rows_now, rule_for, settling, use_all, waiting}
 
 abbrev own_names : List Text
@@ -30,9 +29,10 @@ wider : (options : List Written) → AllByRecursion (λ option. is_own own_names
 wider [] h = tt
 wider (option ∷ options) h = (or_right (has_name (codes "json") option) (is_own own_names option) h.0, wider options h.1)
 
-asked_with : (name : Text) (asks : Settings → Command) (options : List Written) → are_distinct own_names options ≡ true → command_asked_with (usage_like_audit name asks) options ≡ option_map asks (settings_written options)
-asked_with name asks options d =
-    ap (λ (o : Option Conditions). option_and_then (λ conditions. option_map asks (settings_written options)) o) (unconditional options (wider options (all_own own_names options d)))
+asked : (name : Text) (asks : Settings → Command) (options : List Written) → are_distinct own_names options ≡ true → asked_with (usage_like_audit name asks) options ≡ option_map (λ s. over_input (asks s)) (settings_written options)
+asked name asks options d =
+    let free = wider options (all_own own_names options d) in
+    ap₂ (λ (conditions : Option Conditions) (runs : Option (List Text)). option_and_then (λ c. option_and_then (λ r. option_map (λ s. over_input (asks s)) (settings_written options)) runs) conditions) (unconditional options free) (runless options free)
 
 -- ---- one option
 
@@ -40,20 +40,21 @@ module _ (name : Text) where
   abbrev audit : Shape
   audit = leaf (command_like_audit name)
 
-  use_one : (option : Written) → is_own own_names option ≡ true → IsPlain option → (h : Held) (p : ℕ) → settling audit h ≡ [] → IsNew option (rows_now audit h) → Used audit option h p
+  use_one : (option : Written) → is_own own_names option ≡ true → IsPlain option → (h : Held) → settling audit h ≡ [] → IsNew option (rows_now audit h) → Used audit option h
   unfolding bundle_met walked flags_fault walk_fault
-  use_one allow_unrun own k h p n new = absurd (false≢true own)
-  use_one (allow_unrun_tagged w t) own k h p n new = absurd (false≢true own)
-  use_one no_retries own k h p n new = absurd (false≢true own)
-  use_one no_skips own k h p n new = absurd (false≢true own)
-  use_one no_stepless own k h p n new = absurd (false≢true own)
-  use_one no_undefined own k h p n new = absurd (false≢true own)
-  use_one strict own k h p n new = absurd (false≢true own)
-  use_one as_json own k h p n new = absurd (false≢true own)
-  use_one pending_passes own k h p n new = ((refl, refl, refl), refl, once (settling audit h) (again audit (codes "pending-passes") (rows_now audit h)) n (is_new audit (codes "pending-passes") (rows_now audit h) (new refl)), refl)
-  use_one (attempts_from true m) own k h p n new = ((refl, refl, refl), refl, once (settling audit h) (again audit (codes "attempts-from") (rows_now audit h)) n (is_new audit (codes "attempts-from") (rows_now audit h) (new refl)), refl)
-  use_one (attempts_from false m) own k h p n new = let v = plain m k in rw (v.0, v.1, v.2) (((refl, refl, refl), refl, waiting (settling audit h) n, conflict (again audit (codes "attempts-from") (rows_now audit h)) (is_new audit (codes "attempts-from") (rows_now audit h) (new refl))))
-  use_one allow_redeclared own k h p n new = ((refl, refl, refl), refl, once (settling audit h) (again audit (codes "allow-redeclared") (rows_now audit h)) n (is_new audit (codes "allow-redeclared") (rows_now audit h) (new refl)), refl)
+  use_one allow_unrun own k h n new = absurd (false≢true own)
+  use_one (allow_unrun_tagged w t) own k h n new = absurd (false≢true own)
+  use_one no_retries own k h n new = absurd (false≢true own)
+  use_one no_skips own k h n new = absurd (false≢true own)
+  use_one no_stepless own k h n new = absurd (false≢true own)
+  use_one no_undefined own k h n new = absurd (false≢true own)
+  use_one strict own k h n new = absurd (false≢true own)
+  use_one as_json own k h n new = absurd (false≢true own)
+  use_one pending_passes own k h n new = ((refl, refl, refl, refl), refl, once (settling audit h) (again audit (codes "pending-passes") (rows_now audit h)) n (is_new audit (codes "pending-passes") (rows_now audit h) (new refl)), refl)
+  use_one (attempts_from true m) own k h n new = ((refl, refl, refl, refl), refl, once (settling audit h) (again audit (codes "attempts-from") (rows_now audit h)) n (is_new audit (codes "attempts-from") (rows_now audit h) (new refl)), refl)
+  use_one (attempts_from false m) own k h n new = let v = plain m k in rw (v.0, v.1, v.2) (((refl, refl, refl, refl), refl, waiting (settling audit h) n, conflict (again audit (codes "attempts-from") (rows_now audit h)) (is_new audit (codes "attempts-from") (rows_now audit h) (new refl))))
+  use_one allow_redeclared own k h n new = ((refl, refl, refl, refl), refl, once (settling audit h) (again audit (codes "allow-redeclared") (rows_now audit h)) n (is_new audit (codes "allow-redeclared") (rows_now audit h) (new refl)), refl)
+  use_one (run w) own k h n new = absurd (false≢true own)
 
   told : (option : Written) → is_own own_names option ≡ true → Told audit option
   told allow_unrun own row rows new = absurd (false≢true own)
@@ -67,6 +68,7 @@ module _ (name : Text) where
   told pending_passes own row rows new = set_told (codes "pending-passes") row (reading_by (rule_for audit pending_passes)) (codes "true" ∷ []) rows (new refl)
   told (attempts_from w n) own row rows new = set_told (codes "attempts-from") row (reading_by (rule_for audit (attempts_from w n))) (n ∷ []) rows (new refl)
   told allow_redeclared own row rows new = set_told (codes "allow-redeclared") row (reading_by (rule_for audit allow_redeclared)) (codes "true" ∷ []) rows (new refl)
+  told (run w) own row rows new = absurd (false≢true own)
 
   audit_reads : ReadsEach audit own_names
   audit_reads = record { uses = use_one; told = told }
@@ -74,12 +76,12 @@ module _ (name : Text) where
   -- ---- any list of options
 
   module _ (options : List Written) (d : are_distinct own_names options ≡ true) (k : AllByRecursion IsPlain options) where
-    all_used : AreUsed audit options nothing_held 1
+    all_used : AreUsed audit options nothing_held
     all_used = use_all audit own_names audit_reads options d k refl refl
 
     -- where the walk ends
     abbrev end : Held
-    end = (fold (walked audit.rules []) (between nothing_held 1) (all_words options)).held
+    end = (fold (walked audit.rules []) (walk_from nothing_held) (all_words options)).held
 
     abbrev rows_at_end : List Row
     rows_at_end = fold with_default (rows_now audit end) audit.rules
@@ -106,14 +108,14 @@ module _ (name : Text) where
         ∙ number_said options
 
     pub settings_read : settings_in (rows_after audit.rules [] (all_words options)) ≡ settings_written options
-    settings_read = same_settings (flag_read (codes "pending-passes") (refl, refl)) (flag_read (codes "allow-redeclared") (refl, refl)) number_read
+    settings_read = same_settings (flag_read (codes "pending-passes") (refl, refl, refl)) (flag_read (codes "allow-redeclared") (refl, refl, refl)) number_read
 
 -- ---- the two commands
 
 -- the command finds no fault, and this is what its values ask for
-abbrev pub Reads : Shape → List Text → Option Command → Type 0
-Reads s words command = (faults s words ≡ []) × (command_named s.name (rows_after s.rules [] words) ≡ command)
+abbrev pub Reads : Shape → List Text → Option Asked → Type 0
+Reads s words asked = (faults s words ≡ []) × (command_named s.name (rows_after s.rules [] words) ≡ asked)
 
 module _ (options : List Written) (d : are_distinct own_names options ≡ true) (k : AllByRecursion IsPlain options) where
-  pub audit_takes : Reads (leaf (command_like_audit (codes "audit"))) (all_words options) (command_asked_with (usage_like_audit (codes "audit") ask_audit) options)
-  audit_takes = (no_faults (codes "audit") options d k, ap (option_map ask_audit) (settings_read (codes "audit") options d k) ∙ sym (asked_with (codes "audit") ask_audit options d))
+  pub audit_takes : Reads (leaf (command_like_audit (codes "audit"))) (all_words options) (asked_with (usage_like_audit (codes "audit") ask_audit) options)
+  audit_takes = (no_faults (codes "audit") options d k, ap (option_map (λ s. over_input (ask_audit s))) (settings_read (codes "audit") options d k) ∙ sym (asked (codes "audit") ask_audit options d))

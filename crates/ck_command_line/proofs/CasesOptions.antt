@@ -1,50 +1,51 @@
 -- Each list of the options of `cases` is read.
-use Rattle.std.proofs.Common.{◌≡◌, ◌∙◌, ℕ, Bool, true, false, List, [], ◌∷◌, Option, refl, ap, inl, inr, sym, fold}
+use Rattle.std.proofs.Common.{◌≡◌, ◌∙◌, Bool, true, false, List, [], ◌∷◌, Option, refl, ap, ap₂, inl, inr, sym, fold}
 use Rattle.std.proofs.lemmas.Bool.{false≢true}
 use Rattle.std.specs.Prelude.{codes, if◌then◌else◌, option_and_then}
 use Rattle.std.specs.List.{AllByRecursion}
 use Rattle.clap.specs.Words.{Row, Text, first_of}
-use Rattle.clap.specs.Walk.{Held, bundle_met, nothing_held, reading_by, rows_after, walked, with_default}
+use Rattle.clap.specs.Walk.{Held, bundle_met, nothing_held, reading_by, rows_after, walk_from, walked, with_default}
 use Rattle.clap.specs.Simple.{Shape}
 use Rattle.clap.specs.Faults.{flags_fault, walk_fault}
 use Rattle.cm_stream.specs.Release.{Conditions}
 use Rattle.ck_command_line.specs.CommandLine.{cases_asked, cases_command, form_in, is_given, settings_in}
-use Rattle.ck_command_line.specs.Asked.{Written, allow_unrun, allow_unrun_tagged, no_retries, no_skips, no_stepless, no_undefined, strict, as_json, pending_passes, attempts_from, allow_redeclared}
-use Rattle.ck_command_line.specs.Asked.{IsPlain, all_words, are_distinct, cases_usage, command_asked_with, form_of, is_there, number_of, settings_written}
+use Rattle.ck_command_line.specs.Asked.{Written, allow_unrun, allow_unrun_tagged, no_retries, no_skips, no_stepless, no_undefined, strict, as_json, pending_passes, attempts_from, allow_redeclared, run}
+use Rattle.ck_command_line.specs.Asked.{IsPlain, all_words, are_distinct, cases_usage, asked_with, form_of, is_there, number_of, settings_written}
 use Rattle.ck_command_line.specs.declared.command_line.CaseForm.TheVariants.{Plain, Json}
 use Rattle.ck_command_line.proofs.AuditOptions.{Reads}
-use Rattle.ck_command_line.proofs.Between.{between}
 use Rattle.ck_command_line.proofs.Gate.{same_settings}
 use Rattle.ck_command_line.proofs.Leaves.{faults, leaf}
 use Rattle.ck_command_line.proofs.Plain.{plain}
 use Rattle.ck_command_line.proofs.Rows.{IsFit, IsOff, Keeps, defaults_fit, defaults_keep, defaults_off, first_is, first_text, is_on, set_told}
 use Rattle.ck_command_line.proofs.Said.{IsFlag, flag_said, number_said}
-use Rattle.ck_command_line.proofs.Unconditional.{unconditional}
+use Rattle.ck_command_line.proofs.Unconditional.{runless, unconditional}
 use Rattle.ck_command_line.proofs.Using.{AreUsed, IsNew, ReadsEach, Told, Used, again, all_own, conflict, is_new, is_own, no_faults_found, once, rows_now, rule_for, settling, use_all, waiting}
 
 abbrev listed : Shape
 listed = leaf cases_command
 
-asked_with : (options : List Written) → are_distinct cases_usage.options options ≡ true → command_asked_with cases_usage options ≡ cases_asked (settings_written options) (form_of options)
-asked_with options d =
-    ap (λ (o : Option Conditions). option_and_then (λ conditions. cases_asked (settings_written options) (form_of options)) o) (unconditional options (all_own cases_usage.options options d))
+asked : (options : List Written) → are_distinct cases_usage.options options ≡ true → asked_with cases_usage options ≡ cases_asked (settings_written options) (form_of options)
+asked options d =
+    let free = all_own cases_usage.options options d in
+    ap₂ (λ (conditions : Option Conditions) (runs : Option (List Text)). option_and_then (λ c. option_and_then (λ r. cases_asked (settings_written options) (form_of options)) runs) conditions) (unconditional options free) (runless options free)
 
 -- ---- one option
 
-use_one : (option : Written) → is_own cases_usage.options option ≡ true → IsPlain option → (h : Held) (p : ℕ) → settling listed h ≡ [] → IsNew option (rows_now listed h) → Used listed option h p
+use_one : (option : Written) → is_own cases_usage.options option ≡ true → IsPlain option → (h : Held) → settling listed h ≡ [] → IsNew option (rows_now listed h) → Used listed option h
 unfolding bundle_met walked flags_fault walk_fault
-use_one allow_unrun own k h p n new = absurd (false≢true own)
-use_one (allow_unrun_tagged w t) own k h p n new = absurd (false≢true own)
-use_one no_retries own k h p n new = absurd (false≢true own)
-use_one no_skips own k h p n new = absurd (false≢true own)
-use_one no_stepless own k h p n new = absurd (false≢true own)
-use_one no_undefined own k h p n new = absurd (false≢true own)
-use_one strict own k h p n new = absurd (false≢true own)
-use_one as_json own k h p n new = ((refl, refl, refl), refl, once (settling listed h) (again listed (codes "json") (rows_now listed h)) n (is_new listed (codes "json") (rows_now listed h) (new refl)), refl)
-use_one pending_passes own k h p n new = ((refl, refl, refl), refl, once (settling listed h) (again listed (codes "pending-passes") (rows_now listed h)) n (is_new listed (codes "pending-passes") (rows_now listed h) (new refl)), refl)
-use_one (attempts_from true m) own k h p n new = ((refl, refl, refl), refl, once (settling listed h) (again listed (codes "attempts-from") (rows_now listed h)) n (is_new listed (codes "attempts-from") (rows_now listed h) (new refl)), refl)
-use_one (attempts_from false m) own k h p n new = let v = plain m k in rw (v.0, v.1, v.2) (((refl, refl, refl), refl, waiting (settling listed h) n, conflict (again listed (codes "attempts-from") (rows_now listed h)) (is_new listed (codes "attempts-from") (rows_now listed h) (new refl))))
-use_one allow_redeclared own k h p n new = ((refl, refl, refl), refl, once (settling listed h) (again listed (codes "allow-redeclared") (rows_now listed h)) n (is_new listed (codes "allow-redeclared") (rows_now listed h) (new refl)), refl)
+use_one allow_unrun own k h n new = absurd (false≢true own)
+use_one (allow_unrun_tagged w t) own k h n new = absurd (false≢true own)
+use_one no_retries own k h n new = absurd (false≢true own)
+use_one no_skips own k h n new = absurd (false≢true own)
+use_one no_stepless own k h n new = absurd (false≢true own)
+use_one no_undefined own k h n new = absurd (false≢true own)
+use_one strict own k h n new = absurd (false≢true own)
+use_one as_json own k h n new = ((refl, refl, refl, refl), refl, once (settling listed h) (again listed (codes "json") (rows_now listed h)) n (is_new listed (codes "json") (rows_now listed h) (new refl)), refl)
+use_one pending_passes own k h n new = ((refl, refl, refl, refl), refl, once (settling listed h) (again listed (codes "pending-passes") (rows_now listed h)) n (is_new listed (codes "pending-passes") (rows_now listed h) (new refl)), refl)
+use_one (attempts_from true m) own k h n new = ((refl, refl, refl, refl), refl, once (settling listed h) (again listed (codes "attempts-from") (rows_now listed h)) n (is_new listed (codes "attempts-from") (rows_now listed h) (new refl)), refl)
+use_one (attempts_from false m) own k h n new = let v = plain m k in rw (v.0, v.1, v.2) (((refl, refl, refl, refl), refl, waiting (settling listed h) n, conflict (again listed (codes "attempts-from") (rows_now listed h)) (is_new listed (codes "attempts-from") (rows_now listed h) (new refl))))
+use_one allow_redeclared own k h n new = ((refl, refl, refl, refl), refl, once (settling listed h) (again listed (codes "allow-redeclared") (rows_now listed h)) n (is_new listed (codes "allow-redeclared") (rows_now listed h) (new refl)), refl)
+use_one (run w) own k h n new = absurd (false≢true own)
 
 told : (option : Written) → is_own cases_usage.options option ≡ true → Told listed option
 told allow_unrun own row rows new = absurd (false≢true own)
@@ -58,6 +59,7 @@ told as_json own row rows new = set_told (codes "json") row (reading_by (rule_fo
 told pending_passes own row rows new = set_told (codes "pending-passes") row (reading_by (rule_for listed pending_passes)) (codes "true" ∷ []) rows (new refl)
 told (attempts_from w n) own row rows new = set_told (codes "attempts-from") row (reading_by (rule_for listed (attempts_from w n))) (n ∷ []) rows (new refl)
 told allow_redeclared own row rows new = set_told (codes "allow-redeclared") row (reading_by (rule_for listed allow_redeclared)) (codes "true" ∷ []) rows (new refl)
+told (run w) own row rows new = absurd (false≢true own)
 
 cases_read : ReadsEach listed cases_usage.options
 cases_read = record { uses = use_one; told = told }
@@ -65,12 +67,12 @@ cases_read = record { uses = use_one; told = told }
 -- ---- any list of options
 
 module _ (options : List Written) (d : are_distinct cases_usage.options options ≡ true) (k : AllByRecursion IsPlain options) where
-  all_used : AreUsed listed options nothing_held 1
+  all_used : AreUsed listed options nothing_held
   all_used = use_all listed cases_usage.options cases_read options d k refl refl
 
   -- where the walk ends
   abbrev end : Held
-  end = (fold (walked listed.rules []) (between nothing_held 1) (all_words options)).held
+  end = (fold (walked listed.rules []) (walk_from nothing_held) (all_words options)).held
 
   abbrev rows_at_end : List Row
   rows_at_end = fold with_default (rows_now listed end) listed.rules
@@ -97,10 +99,10 @@ module _ (options : List Written) (d : are_distinct cases_usage.options options 
       ∙ number_said options
 
   settings_read : settings_in (rows_after listed.rules [] (all_words options)) ≡ settings_written options
-  settings_read = same_settings (flag_read (codes "pending-passes") (refl, refl)) (flag_read (codes "allow-redeclared") (refl, refl)) number_read
+  settings_read = same_settings (flag_read (codes "pending-passes") (refl, refl, refl)) (flag_read (codes "allow-redeclared") (refl, refl, refl)) number_read
 
   form_read : form_in (rows_after listed.rules [] (all_words options)) ≡ form_of options
-  form_read = ap (λ (b : Bool). if b then Json else Plain) (flag_read (codes "json") (refl, refl))
+  form_read = ap (λ (b : Bool). if b then Json else Plain) (flag_read (codes "json") (refl, refl, refl))
 
-  pub cases_takes : Reads listed (all_words options) (command_asked_with cases_usage options)
-  cases_takes = (no_faults, (λ j. cases_asked (settings_read j) (form_read j)) ∙ sym (asked_with options d))
+  pub cases_takes : Reads listed (all_words options) (asked_with cases_usage options)
+  cases_takes = (no_faults, (λ j. cases_asked (settings_read j) (form_read j)) ∙ sym (asked options d))

@@ -1,48 +1,49 @@
--- Each list of the gate's own options is read.
-use Rattle.std.proofs.Common.{◌≡◌, ◌∙◌, ℕ, Bool, true, false, List, [], ◌∷◌, Option, Some, None, refl, ap, inl, inr, fold, option_map}
+-- Each list of the gate's own options and runs is read.
+use Rattle.std.proofs.Common.{◌≡◌, ◌∙◌, Bool, true, false, List, [], ◌∷◌, Option, Some, None, refl, ap, ap₂, inl, inr, fold, option_map}
 use Rattle.std.proofs.lemmas.Bool.{false≢true}
 use Rattle.std.specs.Prelude.{codes, if◌then◌else◌}
 use Rattle.std.specs.List.{AllByRecursion, list_all}
 use Rattle.clap.specs.Words.{Row, Text, all_of, first_of}
 use Rattle.clap.specs.Kinds.{or_else}
-use Rattle.clap.specs.Walk.{Held, bundle_met, nothing_held, reading_by, rows_after, walked, with_default}
+use Rattle.clap.specs.Walk.{Held, bundle_met, is_pending, nothing_held, reading_by, rows_after, walk_from, walked, with_default}
 use Rattle.clap.specs.Simple.{Shape}
 use Rattle.clap.specs.Faults.{flags_fault, walk_fault}
 use Rattle.cm_attempt.specs.declared.policy.Policy.TheVariants.{Strict, PendingPasses}
 use Rattle.cm_attempt.specs.declared.settings.Settings.{Settings}
 use Rattle.cm_stream.specs.Release.{Conditions}
-use Rattle.ck_command_line.specs.CommandLine.{Command, command_named, conditions_by, first_attempt_named, gate_asked, gate_command, is_given, is_tag, tags_allowed}
-use Rattle.ck_command_line.specs.Asked.{Written, allow_unrun, allow_unrun_tagged, no_retries, no_skips, no_stepless, no_undefined, strict, as_json, pending_passes, attempts_from, allow_redeclared}
-use Rattle.ck_command_line.specs.Asked.{IsPlain, all_words, are_distinct, asked_of_run, command_asked_with, conditions_written, gate_usage, has_both_unrun, is_there, number_of, tags_of}
-use Rattle.ck_command_line.proofs.Between.{between}
+use Rattle.ck_command_line.specs.CommandLine.{Asked, command_named, conditions_by, first_attempt_named, gate_asked, gate_command, is_given, is_tag, runs_named, tags_allowed}
+use Rattle.ck_command_line.specs.Asked.{Written, allow_unrun, allow_unrun_tagged, no_retries, no_skips, no_stepless, no_undefined, strict, as_json, pending_passes, attempts_from, allow_redeclared, run}
+use Rattle.ck_command_line.specs.Asked.{IsPlain, all_words, are_distinct, asked_of_run, asked_with, conditions_written, gate_usage, has_both_unrun, is_there, names_taken, number_of, tags_of}
+use Rattle.ck_command_line.proofs.Between.{never}
 use Rattle.ck_command_line.proofs.Leaves.{faults, leaf}
 use Rattle.ck_command_line.proofs.Plain.{plain}
 use Rattle.ck_command_line.proofs.Rows.{IsFit, IsOff, Keeps, add_told, defaults_fit, defaults_keep, defaults_off, first_is, first_text, is_on, set_told}
-use Rattle.ck_command_line.proofs.Said.{IsFlag, flag_said, number_said, said_all, tags_taken}
-use Rattle.ck_command_line.proofs.Using.{AreUsed, IsNew, ReadsEach, Told, Used, again, conflict, is_new, is_own, no_faults_found, once, rows_now, rule_for, settling, use_all, waiting}
+use Rattle.ck_command_line.proofs.Said.{IsFlag, flag_said, number_said, runs_taken, said_all, tags_taken}
+use Rattle.ck_command_line.proofs.Using.{AreUsed, IsNew, ReadsEach, Told, Used, again, conflict, is_new, is_own, no_faults_found, once, rows_now, rule_for, settled_alone, settling, use_all, waiting}
 
 abbrev gate : Shape
 gate = leaf gate_command
 
 -- ---- one option
 
-use_one : (option : Written) → is_own gate_usage.options option ≡ true → IsPlain option → (h : Held) (p : ℕ) → settling gate h ≡ [] → IsNew option (rows_now gate h) → Used gate option h p
+use_one : (option : Written) → is_own (names_taken gate_usage) option ≡ true → IsPlain option → (h : Held) → settling gate h ≡ [] → IsNew option (rows_now gate h) → Used gate option h
 unfolding bundle_met walked flags_fault walk_fault
-use_one allow_unrun own k h p n new = ((refl, refl, refl), refl, once (settling gate h) (again gate (codes "allow-unrun") (rows_now gate h)) n (is_new gate (codes "allow-unrun") (rows_now gate h) (new refl)), refl)
-use_one (allow_unrun_tagged true t) own k h p n new = ((refl, refl, refl), refl, waiting (or_else (settling gate h) []) (rw n refl), refl)
-use_one (allow_unrun_tagged false t) own k h p n new = let v = plain t k in rw (v.0, v.1, v.2) (((refl, refl, refl), refl, waiting (settling gate h) n, refl))
-use_one no_retries own k h p n new = ((refl, refl, refl), refl, once (settling gate h) (again gate (codes "no-retries") (rows_now gate h)) n (is_new gate (codes "no-retries") (rows_now gate h) (new refl)), refl)
-use_one no_skips own k h p n new = ((refl, refl, refl), refl, once (settling gate h) (again gate (codes "no-skips") (rows_now gate h)) n (is_new gate (codes "no-skips") (rows_now gate h) (new refl)), refl)
-use_one no_stepless own k h p n new = ((refl, refl, refl), refl, once (settling gate h) (again gate (codes "no-stepless") (rows_now gate h)) n (is_new gate (codes "no-stepless") (rows_now gate h) (new refl)), refl)
-use_one no_undefined own k h p n new = ((refl, refl, refl), refl, once (settling gate h) (again gate (codes "no-undefined") (rows_now gate h)) n (is_new gate (codes "no-undefined") (rows_now gate h) (new refl)), refl)
-use_one strict own k h p n new = ((refl, refl, refl), refl, once (settling gate h) (again gate (codes "strict") (rows_now gate h)) n (is_new gate (codes "strict") (rows_now gate h) (new refl)), refl)
-use_one as_json own k h p n new = absurd (false≢true own)
-use_one pending_passes own k h p n new = ((refl, refl, refl), refl, once (settling gate h) (again gate (codes "pending-passes") (rows_now gate h)) n (is_new gate (codes "pending-passes") (rows_now gate h) (new refl)), refl)
-use_one (attempts_from true m) own k h p n new = ((refl, refl, refl), refl, once (settling gate h) (again gate (codes "attempts-from") (rows_now gate h)) n (is_new gate (codes "attempts-from") (rows_now gate h) (new refl)), refl)
-use_one (attempts_from false m) own k h p n new = let v = plain m k in rw (v.0, v.1, v.2) (((refl, refl, refl), refl, waiting (settling gate h) n, conflict (again gate (codes "attempts-from") (rows_now gate h)) (is_new gate (codes "attempts-from") (rows_now gate h) (new refl))))
-use_one allow_redeclared own k h p n new = ((refl, refl, refl), refl, once (settling gate h) (again gate (codes "allow-redeclared") (rows_now gate h)) n (is_new gate (codes "allow-redeclared") (rows_now gate h) (new refl)), refl)
+use_one allow_unrun own k h n new = ((refl, refl, refl, refl), refl, once (settling gate h) (again gate (codes "allow-unrun") (rows_now gate h)) n (is_new gate (codes "allow-unrun") (rows_now gate h) (new refl)), refl)
+use_one (allow_unrun_tagged true t) own k h n new = ((refl, refl, refl, refl), refl, waiting (or_else (settling gate h) []) (rw n refl), refl)
+use_one (allow_unrun_tagged false t) own k h n new = let v = plain t k in rw (v.0, v.1, v.2) (((refl, refl, refl, refl), refl, waiting (settling gate h) n, refl))
+use_one no_retries own k h n new = ((refl, refl, refl, refl), refl, once (settling gate h) (again gate (codes "no-retries") (rows_now gate h)) n (is_new gate (codes "no-retries") (rows_now gate h) (new refl)), refl)
+use_one no_skips own k h n new = ((refl, refl, refl, refl), refl, once (settling gate h) (again gate (codes "no-skips") (rows_now gate h)) n (is_new gate (codes "no-skips") (rows_now gate h) (new refl)), refl)
+use_one no_stepless own k h n new = ((refl, refl, refl, refl), refl, once (settling gate h) (again gate (codes "no-stepless") (rows_now gate h)) n (is_new gate (codes "no-stepless") (rows_now gate h) (new refl)), refl)
+use_one no_undefined own k h n new = ((refl, refl, refl, refl), refl, once (settling gate h) (again gate (codes "no-undefined") (rows_now gate h)) n (is_new gate (codes "no-undefined") (rows_now gate h) (new refl)), refl)
+use_one strict own k h n new = ((refl, refl, refl, refl), refl, once (settling gate h) (again gate (codes "strict") (rows_now gate h)) n (is_new gate (codes "strict") (rows_now gate h) (new refl)), refl)
+use_one as_json own k h n new = absurd (false≢true own)
+use_one pending_passes own k h n new = ((refl, refl, refl, refl), refl, once (settling gate h) (again gate (codes "pending-passes") (rows_now gate h)) n (is_new gate (codes "pending-passes") (rows_now gate h) (new refl)), refl)
+use_one (attempts_from true m) own k h n new = ((refl, refl, refl, refl), refl, once (settling gate h) (again gate (codes "attempts-from") (rows_now gate h)) n (is_new gate (codes "attempts-from") (rows_now gate h) (new refl)), refl)
+use_one (attempts_from false m) own k h n new = let v = plain m k in rw (v.0, v.1, v.2) (((refl, refl, refl, refl), refl, waiting (settling gate h) n, conflict (again gate (codes "attempts-from") (rows_now gate h)) (is_new gate (codes "attempts-from") (rows_now gate h) (new refl))))
+use_one allow_redeclared own k h n new = ((refl, refl, refl, refl), refl, once (settling gate h) (again gate (codes "allow-redeclared") (rows_now gate h)) n (is_new gate (codes "allow-redeclared") (rows_now gate h) (new refl)), refl)
+use_one (run w) own k h n new = let v = plain w k in rw (v.0, v.1, v.2, never (is_pending (rule_for gate (run w)) h.pending)) ((refl, refl, refl, refl), refl, settled_alone (settling gate h) n, refl)
 
-told : (option : Written) → is_own gate_usage.options option ≡ true → Told gate option
+told : (option : Written) → is_own (names_taken gate_usage) option ≡ true → Told gate option
 told allow_unrun own name rows new = set_told (codes "allow-unrun") name (reading_by (rule_for gate allow_unrun)) (codes "true" ∷ []) rows (new refl)
 told (allow_unrun_tagged w t) own name rows new = add_told (codes "allow-unrun-tagged") name (reading_by (rule_for gate (allow_unrun_tagged w t))) (t ∷ []) rows
 told no_retries own name rows new = set_told (codes "no-retries") name (reading_by (rule_for gate no_retries)) (codes "true" ∷ []) rows (new refl)
@@ -54,8 +55,9 @@ told as_json own name rows new = absurd (false≢true own)
 told pending_passes own name rows new = set_told (codes "pending-passes") name (reading_by (rule_for gate pending_passes)) (codes "true" ∷ []) rows (new refl)
 told (attempts_from w n) own name rows new = set_told (codes "attempts-from") name (reading_by (rule_for gate (attempts_from w n))) (n ∷ []) rows (new refl)
 told allow_redeclared own name rows new = set_told (codes "allow-redeclared") name (reading_by (rule_for gate allow_redeclared)) (codes "true" ∷ []) rows (new refl)
+told (run w) own name rows new = add_told (codes "run") name (reading_by (rule_for gate (run w))) (w ∷ []) rows
 
-gate_reads : ReadsEach gate gate_usage.options
+gate_reads : ReadsEach gate (names_taken gate_usage)
 gate_reads = record { uses = use_one; told = told }
 
 -- ---- any list of options
@@ -64,16 +66,16 @@ gate_reads = record { uses = use_one; told = told }
 abbrev pub settings_by : (pending again : Bool) → Option Text → Option Settings
 settings_by pending again number = option_map (λ n. record { policy = if pending then PendingPasses else Strict; first_attempt = n; allows_redeclared = again }) (first_attempt_named number)
 
-abbrev asked_by : Option Settings → (unrun four retries skips stepless undefined : Bool) → Option (List Text) → Option Command
-asked_by settings unrun four retries skips stepless undefined tags =
-    gate_asked settings (option_map (conditions_by unrun four retries skips stepless undefined) (tags_allowed unrun tags))
+abbrev gate_by : Option Settings → (unrun four retries skips stepless undefined : Bool) → (tags runs : Option (List Text)) → Option Asked
+gate_by settings unrun four retries skips stepless undefined tags runs =
+    gate_asked settings (option_map (conditions_by unrun four retries skips stepless undefined) (tags_allowed unrun tags)) (runs_named runs)
 
 pub same_settings : {p q a b : Bool} {n m : Option Text} → p ≡ q → a ≡ b → n ≡ m → settings_by p a n ≡ settings_by q b m
 same_settings e f g = rw (e, f, g) refl
 
-same_asked : {x y : Option Settings} {u v s t r r' k k' l l' d d' : Bool} {tags more : Option (List Text)} → x ≡ y → u ≡ v → s ≡ t → r ≡ r' → k ≡ k' → l ≡ l' → d ≡ d' → tags ≡ more
-    → asked_by x u s r k l d tags ≡ asked_by y v t r' k' l' d' more
-same_asked a c e f g i j k = rw (a, c, e, f, g, i, j, k) refl
+same_asked : {x y : Option Settings} {u v s t r r' k k' l l' d d' : Bool} {tags more runs others : Option (List Text)} → x ≡ y → u ≡ v → s ≡ t → r ≡ r' → k ≡ k' → l ≡ l' → d ≡ d' → tags ≡ more → runs ≡ others
+    → gate_by x u s r k l d tags runs ≡ gate_by y v t r' k' l' d' more others
+same_asked a c e f g i j k m = rw (a, c, e, f, g, i, j, k, m) refl
 
 -- what the flags that are there ask, with these tags
 abbrev by_flags : List Written → List Text → Conditions
@@ -98,32 +100,32 @@ conditions_read options =
     go false true = refl
     go false false = refl
 
-module _ (options : List Written) (d : are_distinct gate_usage.options options ≡ true) (k : AllByRecursion IsPlain options) where
-  all_used : AreUsed gate options nothing_held 1
-  all_used = use_all gate gate_usage.options gate_reads options d k refl refl
+module _ (options : List Written) (d : are_distinct (names_taken gate_usage) options ≡ true) (k : AllByRecursion IsPlain options) where
+  all_used : AreUsed gate options nothing_held
+  all_used = use_all gate (names_taken gate_usage) gate_reads options d k refl refl
 
   -- where the walk ends
   abbrev end : Held
-  end = (fold (walked gate.rules []) (between nothing_held 1) (all_words options)).held
+  end = (fold (walked gate.rules []) (walk_from nothing_held) (all_words options)).held
 
   abbrev rows_at_end : List Row
   rows_at_end = fold with_default (rows_now gate end) gate.rules
 
   all_fit : AllByRecursion IsFit gate.rules
-  all_fit = (refl, (refl, (refl, (refl, (refl, (refl, (refl, (refl, (refl, (refl, (refl, tt)))))))))))
+  all_fit = (refl, (refl, (refl, (refl, (refl, (refl, (refl, (refl, (refl, (refl, (refl, (refl, tt))))))))))))
 
   no_faults : faults gate (all_words options) ≡ []
   no_faults = no_faults_found _ _ _ _ all_used.no_fault all_used.settles (defaults_fit gate.rules (rows_now gate end) all_fit) refl
 
   all_off : AllByRecursion IsOff gate.rules
-  all_off = (inr refl, (inl refl, (inr refl, (inr refl, (inr refl, (inr refl, (inr refl, (inr refl, (inl refl, (inr refl, (inl refl, tt)))))))))))
+  all_off = (inl refl, (inr refl, (inl refl, (inr refl, (inr refl, (inr refl, (inr refl, (inr refl, (inr refl, (inl refl, (inr refl, (inl refl, tt))))))))))))
 
   flag_read : (name : Text) → IsFlag name → is_given (first_of name rows_at_end) ≡ is_there name options
   flag_read name flag =
       ap is_given (first_is name rows_at_end) ∙ defaults_off name gate.rules (rows_now gate end) all_off ∙ ap is_on (all_used.rows name) ∙ flag_said name flag options
 
   keeps_number : AllByRecursion (Keeps (codes "attempts-from")) gate.rules
-  keeps_number = (inl refl, (inl refl, (inl refl, (inl refl, (inl refl, (inl refl, (inl refl, (inl refl, (inr refl, (inl refl, (inl refl, tt)))))))))))
+  keeps_number = (inl refl, (inl refl, (inl refl, (inl refl, (inl refl, (inl refl, (inl refl, (inl refl, (inl refl, (inr refl, (inl refl, (inl refl, tt))))))))))))
 
   number_read : first_of (codes "attempts-from") rows_at_end ≡ number_of options
   number_read =
@@ -131,16 +133,22 @@ module _ (options : List Written) (d : are_distinct gate_usage.options options �
       ∙ number_said options
 
   keeps_tags : AllByRecursion (Keeps (codes "allow-unrun-tagged")) gate.rules
-  keeps_tags = (inl refl, (inr refl, (inl refl, (inl refl, (inl refl, (inl refl, (inl refl, (inl refl, (inl refl, (inl refl, (inl refl, tt)))))))))))
+  keeps_tags = (inl refl, (inl refl, (inr refl, (inl refl, (inl refl, (inl refl, (inl refl, (inl refl, (inl refl, (inl refl, (inl refl, (inl refl, tt))))))))))))
 
   tags_read : all_of (codes "allow-unrun-tagged") rows_at_end ≡ said_all (codes "allow-unrun-tagged") options None
   tags_read = defaults_keep (codes "allow-unrun-tagged") gate.rules (rows_now gate end) keeps_tags ∙ all_used.rows (codes "allow-unrun-tagged")
 
-  command_read : command_named gate.name rows_at_end ≡ command_asked_with gate_usage options
-  command_read =
-      same_asked (same_settings (flag_read (codes "pending-passes") (refl, refl)) (flag_read (codes "allow-redeclared") (refl, refl)) number_read) (flag_read (codes "allow-unrun") (refl, refl)) (flag_read (codes "strict") (refl, refl)) (flag_read (codes "no-retries") (refl, refl))
-      (flag_read (codes "no-skips") (refl, refl)) (flag_read (codes "no-stepless") (refl, refl)) (flag_read (codes "no-undefined") (refl, refl)) tags_read
-      ∙ ap (gate_asked (settings_by (is_there (codes "pending-passes") options) (is_there (codes "allow-redeclared") options) (number_of options))) (conditions_read options)
+  keeps_runs : AllByRecursion (Keeps (codes "run")) gate.rules
+  keeps_runs = (inr refl, (inl refl, (inl refl, (inl refl, (inl refl, (inl refl, (inl refl, (inl refl, (inl refl, (inl refl, (inl refl, (inl refl, tt))))))))))))
 
-  pub gate_takes : (faults gate (all_words options) ≡ []) × (command_named gate.name (rows_after gate.rules [] (all_words options)) ≡ command_asked_with gate_usage options)
+  runs_read : all_of (codes "run") rows_at_end ≡ said_all (codes "run") options None
+  runs_read = defaults_keep (codes "run") gate.rules (rows_now gate end) keeps_runs ∙ all_used.rows (codes "run")
+
+  command_read : command_named gate.name rows_at_end ≡ asked_with gate_usage options
+  command_read =
+      same_asked (same_settings (flag_read (codes "pending-passes") (refl, refl, refl)) (flag_read (codes "allow-redeclared") (refl, refl, refl)) number_read) (flag_read (codes "allow-unrun") (refl, refl, refl)) (flag_read (codes "strict") (refl, refl, refl)) (flag_read (codes "no-retries") (refl, refl, refl))
+      (flag_read (codes "no-skips") (refl, refl, refl)) (flag_read (codes "no-stepless") (refl, refl, refl)) (flag_read (codes "no-undefined") (refl, refl, refl)) tags_read runs_read
+      ∙ ap₂ (gate_asked (settings_by (is_there (codes "pending-passes") options) (is_there (codes "allow-redeclared") options) (number_of options))) (conditions_read options) (runs_taken options)
+
+  pub gate_takes : (faults gate (all_words options) ≡ []) × (command_named gate.name (rows_after gate.rules [] (all_words options)) ≡ asked_with gate_usage options)
   gate_takes = (no_faults, command_read)

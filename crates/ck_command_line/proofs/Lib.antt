@@ -1,4 +1,5 @@
 pub mod Choosing
+pub mod Named
 pub mod Tags
 pub mod Plain
 pub mod Rows

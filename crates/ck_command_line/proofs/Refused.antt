@@ -1,5 +1,5 @@
 -- Words after which a command asks for nothing.
-use Rattle.std.proofs.Common.{◌≡◌, ◌∙◌, ℕ, Bool, true, false, List, [], ◌∷◌, ◌++◌, Option, Some, None, refl, ap, sym, subst, fold, is_some}
+use Rattle.std.proofs.Common.{◌≡◌, ◌∙◌, Bool, true, false, List, [], ◌∷◌, ◌++◌, Option, Some, None, refl, ap, sym, fold, is_some, append_assoc}
 use Rattle.std.proofs.lemmas.Slice.Eq.{bytes_eq-Decides}
 use Rattle.std.specs.Prelude.{codes, if◌then◌else◌, not, ◌&&◌}
 use Rattle.std.specs.List.{AllByRecursion, list_any}
@@ -7,19 +7,19 @@ use Rattle.std.specs.Str.{bytes_eq}
 use Rattle.clap.specs.Words.{Kinds, Text}
 use Rattle.clap.specs.Kinds.{or_else}
 use Rattle.clap.specs.Lexer.{long_of}
-use Rattle.clap.specs.Walk.{Held, Walk, arg_by_index, arg_by_long, bundle_met, has_row, nothing_held, settled, walk_from, walked}
+use Rattle.clap.specs.Walk.{Held, arg_by_index, arg_by_long, bundle_met, has_row, is_pending, nothing_held, settled, walk_from, walked}
 use Rattle.clap.specs.Simple.{Shape}
 use Rattle.clap.specs.Faults.{flags_fault, settle_fault, turn_fault, walk_fault}
 use Rattle.clap.specs.declared.error.kind.ErrorKind.TheVariants.{ArgumentConflict, UnknownArgument}
-use Rattle.std.proofs.lemmas.List.Sums.{fold-append}
 use Rattle.std.proofs.lemmas.Bool.{false_from_ne_true, true≢false}
-use Rattle.ck_command_line.specs.CommandLine.{Command, is_help, where_none}
+use Rattle.ck_command_line.specs.CommandLine.{Asked, is_help, where_none}
 use Rattle.ck_command_line.specs.CommandLine.{cases_command, command_like_audit, compile_command, gate_command, parse_command, results_command}
-use Rattle.ck_command_line.specs.Asked.{Written, allow_unrun, allow_unrun_tagged, no_retries, no_skips, no_stepless, no_undefined, strict, as_json, pending_passes, attempts_from, allow_redeclared}
+use Rattle.ck_command_line.specs.Asked.{Written, allow_unrun, allow_unrun_tagged, no_retries, no_skips, no_stepless, no_undefined, strict, as_json, pending_passes, attempts_from, allow_redeclared, run}
 use Rattle.ck_command_line.specs.Asked.{IsPlain, words_of, all_words, is_option}
 use Rattle.ck_command_line.proofs.Leaves.{Answers, leaf}
-use Rattle.ck_command_line.proofs.Between.{IsBetween, between, is_between, walk_fault-append}
+use Rattle.ck_command_line.proofs.Between.{IsBetween, goes_on, never, or_else-assoc, walk_fault-append}
 use Rattle.ck_command_line.proofs.Plain.{plain}
+use Rattle.ck_command_line.proofs.Using.{rule_for}
 
 -- the faults hold no call for help
 abbrev NoHelp : Kinds → Type 0
@@ -34,57 +34,51 @@ conflict : (b : Bool) → NoHelp (or_else (if b then ArgumentConflict ∷ [] els
 conflict true = refl
 conflict false = refl
 
--- What one option does in a command, be it the command's or not: it leaves the walk between two.
-abbrev Step : Shape → Written → Held → ℕ → Type 0
-Step s option h p = IsBetween (fold (walked s.rules []) (between h p) (words_of option))
-    × NoHelp (walk_fault s [] (between h p) (words_of option))
-    × NoHelp (settle_fault s.rules s.args_override_self (fold (walked s.rules []) (between h p) (words_of option)).held)
+-- What one option or run does in a command, be it the command's or not: it leaves the walk between two.
+abbrev Step : Shape → Written → Held → Type 0
+Step s option h = IsBetween (fold (walked s.rules []) (walk_from h) (words_of option))
+    × NoHelp (walk_fault s [] (walk_from h) (words_of option))
+    × NoHelp (settle_fault s.rules s.args_override_self (fold (walked s.rules []) (walk_from h) (words_of option)).held)
 
--- a command that has neither positionals nor commands of its own
+-- a command that has no commands of its own
 pub record IsPlainLeaf (s : Shape) : Type 0 where
-  step : (option : Written) → IsPlain option → (h : Held) (p : ℕ) → NoHelp (settle_fault s.rules s.args_override_self h) → Step s option h p
-  no_positional : (i : ℕ) → arg_by_index s.rules i ≡ None
+  step : (option : Written) → IsPlain option → (h : Held) → NoHelp (settle_fault s.rules s.args_override_self h) → Step s option h
   is_leaf : s.is_leaf ≡ true
 
 module _ (s : Shape) (leaf : IsPlainLeaf s) where
-  -- where the walk stands after options, whichever they are
-  after : (options : List Written) → AllByRecursion IsPlain options → (h : Held) (p : ℕ) → NoHelp (settle_fault s.rules s.args_override_self h)
-      → IsBetween (fold (walked s.rules []) (between h p) (all_words options)) × NoHelp (walk_fault s [] (between h p) (all_words options))
-  unfolding walk_fault
-  after [] k h p n = ((refl, refl, refl), refl)
-  after (option ∷ options) k h p n =
-      let w = fold (walked s.rules []) (between h p) (words_of option) in
-      let one = leaf.step option k.0 h p n in
-      let here : w ≡ between w.held w.position = is_between w one.0 in
-      let more = after options k.1 w.held w.position one.2 in (
-        subst IsBetween (sym (fold-append (walked s.rules []) (between h p) (words_of option) (all_words options) ∙ ap (λ (v : Walk). fold (walked s.rules []) v (all_words options)) here)) more.0,
-        subst NoHelp (sym (walk_fault-append s [] (between h p) (words_of option) (all_words options)))
-            (both (walk_fault s [] (between h p) (words_of option)) (walk_fault s [] w (all_words options)) one.1 (subst (λ (v : Walk). NoHelp (walk_fault s [] v (all_words options))) (sym here) more.1)),
-      )
-
   -- a fault at a word, after faults that hold no call for help
-  found : (before more : Kinds) (command : Option Command) → NoHelp before
-      → (where_none (or_else (or_else (or_else before (UnknownArgument ∷ [])) more) []) command ≡ None) × NoHelp (or_else (or_else (or_else before (UnknownArgument ∷ [])) more) [])
-  found [] more command n = (refl, refl)
-  found (k ∷ ks) more command n = (refl, n)
+  abbrev Stopped : Kinds → Type 0
+  Stopped kinds = (before : Kinds) × NoHelp before × (kinds ≡ or_else before (UnknownArgument ∷ []))
 
-  module _ (options : List Written) (k : AllByRecursion IsPlain options) (word : Text) (others : List Text) (unknown : (h : Held) (p : ℕ) → turn_fault s [] (between h p) word ≡ UnknownArgument ∷ []) where
-    at_word : (w : Walk) → IsBetween w → walk_fault s [] w (word ∷ others) ≡ UnknownArgument ∷ []
+  found : (kinds more : Kinds) (asked : Option Asked) → Stopped kinds
+      → (where_none (or_else (or_else kinds more) []) asked ≡ None) × NoHelp (or_else (or_else kinds more) [])
+  found kinds more asked ([], n, is) = rw is (refl, refl)
+  found kinds more asked (k ∷ ks, n, is) = rw is (refl, n)
+
+  module _ (word : Text) (others : List Text) (unknown : (h : Held) → turn_fault s [] (walk_from h) word ≡ UnknownArgument ∷ []) where
+    -- the walk over options stops at the word
+    stops : (options : List Written) → AllByRecursion IsPlain options → (h : Held) → NoHelp (settle_fault s.rules s.args_override_self h) → Stopped (walk_fault s [] (walk_from h) (all_words options ++ word ∷ others))
     unfolding walk_fault
-    at_word w b =
-        ap (λ (v : Walk). walk_fault s [] v (word ∷ others)) (is_between w b)
-        ∙ ap (λ (kinds : Kinds). or_else kinds (walk_fault s [] (walked s.rules [] (between w.held w.position) word) others)) (unknown w.held w.position)
+    stops [] k h n = ([], refl, ap (λ (kinds : Kinds). or_else kinds (walk_fault s [] (walked s.rules [] (walk_from h) word) others)) (unknown h))
+    stops (option ∷ options) k h n =
+        let w = fold (walked s.rules []) (walk_from h) (words_of option) in
+        let one = leaf.step option k.0 h n in
+        let here = walk_fault s [] (walk_from h) (words_of option) in
+        let rest = all_words options ++ word ∷ others in
+        let more = stops options k.1 w.held one.2 in (
+          or_else here more.0,
+          both here more.0 one.1 more.1,
+          ap (walk_fault s [] (walk_from h)) (append_assoc (words_of option) (all_words options) (word ∷ others))
+              ∙ walk_fault-append s [] (walk_from h) (words_of option) rest
+              ∙ ap (or_else here) ((goes_on s w one.0 rest).1 ∙ more.2)
+              ∙ sym (or_else-assoc here more.0 (UnknownArgument ∷ [])),
+        )
 
-    unknown_word : walk_fault s [] (walk_from nothing_held) (all_words options ++ word ∷ others) ≡ or_else (walk_fault s [] (walk_from nothing_held) (all_words options)) (UnknownArgument ∷ [])
-    unknown_word =
-        walk_fault-append s [] (walk_from nothing_held) (all_words options) (word ∷ others)
-        ∙ ap (or_else (walk_fault s [] (walk_from nothing_held) (all_words options))) (at_word (fold (walked s.rules []) (walk_from nothing_held) (all_words options)) (after options k nothing_held 1 refl).0)
+    nothing : (options : List Written) → AllByRecursion IsPlain options → Answers s (all_words options ++ word ∷ others) None
+    nothing options k = found _ _ _ (stops options k nothing_held refl)
 
-    nothing : Answers s (all_words options ++ word ∷ others) None
-    nothing = rw unknown_word (found _ _ _ (after options k nothing_held 1 refl).1)
-
-  file_turn : (word : Text) → is_option word ≡ false → (h : Held) (p : ℕ) → turn_fault s [] (between h p) word ≡ UnknownArgument ∷ []
-  file_turn word plain_word h p = let v = plain word plain_word in rw (v.0, v.1, v.2, leaf.no_positional p, leaf.is_leaf) refl
+  file_turn : (word : Text) → is_option word ≡ false → arg_by_index s.rules 1 ≡ None → (h : Held) → turn_fault s [] (walk_from h) word ≡ UnknownArgument ∷ []
+  file_turn word plain_word none h = let v = plain word plain_word in rw (v.0, v.1, v.2, none, leaf.is_leaf) refl
 
   -- `--` has no name
   no_dashes : (word name : Text) (value : Option Text) → long_of word ≡ Some (name, value) → bytes_eq word (codes "--") ≡ false
@@ -93,15 +87,15 @@ module _ (s : Shape) (leaf : IsPlainLeaf s) where
       let is : word ≡ codes "--" = (bytes_eq-Decides word (codes "--")).0 same in
       true≢false (sym (ap is_some (sym (ap long_of is) ∙ long))))
 
-  other_turn : (word name : Text) (value : Option Text) → long_of word ≡ Some (name, value) → arg_by_long s.rules name ≡ None → (h : Held) (p : ℕ) → turn_fault s [] (between h p) word ≡ UnknownArgument ∷ []
-  other_turn word name value long none h p = let dashes = no_dashes word name value long in rw (dashes, long, none) refl
+  other_turn : (word name : Text) (value : Option Text) → long_of word ≡ Some (name, value) → arg_by_long s.rules name ≡ None → (h : Held) → turn_fault s [] (walk_from h) word ≡ UnknownArgument ∷ []
+  other_turn word name value long none h = let dashes = no_dashes word name value long in rw (dashes, long, none) refl
 
-  pub file_is_refused : (options : List Written) → AllByRecursion IsPlain options → (word : Text) → is_option word ≡ false → (others : List Text) → Answers s (all_words options ++ word ∷ others) None
-  file_is_refused options k word plain_word others = nothing options k word others (file_turn word plain_word)
+  pub file_is_refused : arg_by_index s.rules 1 ≡ None → (options : List Written) → AllByRecursion IsPlain options → (word : Text) → is_option word ≡ false → (others : List Text) → Answers s (all_words options ++ word ∷ others) None
+  file_is_refused none options k word plain_word others = nothing word others (file_turn word plain_word none) options k
 
   pub option_is_refused : (options : List Written) → AllByRecursion IsPlain options → (word name : Text) (value : Option Text) → long_of word ≡ Some (name, value) → arg_by_long s.rules name ≡ None
       → (others : List Text) → Answers s (all_words options ++ word ∷ others) None
-  option_is_refused options k word name value long none others = nothing options k word others (other_turn word name value long none)
+  option_is_refused options k word name value long none others = nothing word others (other_turn word name value long none) options k
 
 module _ (s : Shape) (h : Held) where
   -- the faults of what waits for its value, and whether the option is there already
@@ -127,115 +121,121 @@ module _ (s : Shape) (h : Held) where
 
 pub gate_leaf : IsPlainLeaf (leaf gate_command)
 unfolding bundle_met walked flags_fault walk_fault
-gate_leaf = record { step = step; no_positional = λ i. refl; is_leaf = refl }
+gate_leaf = record { step = step; is_leaf = refl }
   where
-    step : (option : Written) → IsPlain option → (h : Held) (p : ℕ) → NoHelp (settle_fault (leaf gate_command).rules (leaf gate_command).args_override_self h) → Step (leaf gate_command) option h p
-    step allow_unrun k h p n = ((refl, refl, refl), once (leaf gate_command) h (codes "allow-unrun") n, refl)
-    step (allow_unrun_tagged true t) k h p n = ((refl, refl, refl), adding (leaf gate_command) h n, refl)
-    step (allow_unrun_tagged false t) k h p n = let v = plain t k in rw (v.0, v.1, v.2) ((refl, refl, refl), waiting (leaf gate_command) h n, refl)
-    step no_retries k h p n = ((refl, refl, refl), once (leaf gate_command) h (codes "no-retries") n, refl)
-    step no_skips k h p n = ((refl, refl, refl), once (leaf gate_command) h (codes "no-skips") n, refl)
-    step no_stepless k h p n = ((refl, refl, refl), once (leaf gate_command) h (codes "no-stepless") n, refl)
-    step no_undefined k h p n = ((refl, refl, refl), once (leaf gate_command) h (codes "no-undefined") n, refl)
-    step strict k h p n = ((refl, refl, refl), once (leaf gate_command) h (codes "strict") n, refl)
-    step as_json k h p n = ((refl, refl, refl), refl, n)
-    step pending_passes k h p n = ((refl, refl, refl), once (leaf gate_command) h (codes "pending-passes") n, refl)
-    step (attempts_from true m) k h p n = ((refl, refl, refl), once (leaf gate_command) h (codes "attempts-from") n, refl)
-    step (attempts_from false m) k h p n = let v = plain m k in rw (v.0, v.1, v.2) ((refl, refl, refl), waiting (leaf gate_command) h n, conflict (is_there (leaf gate_command) h (codes "attempts-from")))
-    step allow_redeclared k h p n = ((refl, refl, refl), once (leaf gate_command) h (codes "allow-redeclared") n, refl)
+    step : (option : Written) → IsPlain option → (h : Held) → NoHelp (settle_fault (leaf gate_command).rules (leaf gate_command).args_override_self h) → Step (leaf gate_command) option h
+    step allow_unrun k h n = ((refl, refl, refl, refl), once (leaf gate_command) h (codes "allow-unrun") n, refl)
+    step (allow_unrun_tagged true t) k h n = ((refl, refl, refl, refl), adding (leaf gate_command) h n, refl)
+    step (allow_unrun_tagged false t) k h n = let v = plain t k in rw (v.0, v.1, v.2) ((refl, refl, refl, refl), waiting (leaf gate_command) h n, refl)
+    step no_retries k h n = ((refl, refl, refl, refl), once (leaf gate_command) h (codes "no-retries") n, refl)
+    step no_skips k h n = ((refl, refl, refl, refl), once (leaf gate_command) h (codes "no-skips") n, refl)
+    step no_stepless k h n = ((refl, refl, refl, refl), once (leaf gate_command) h (codes "no-stepless") n, refl)
+    step no_undefined k h n = ((refl, refl, refl, refl), once (leaf gate_command) h (codes "no-undefined") n, refl)
+    step strict k h n = ((refl, refl, refl, refl), once (leaf gate_command) h (codes "strict") n, refl)
+    step as_json k h n = rw (never (is_pending (rule_for (leaf gate_command) (run [])) h.pending)) ((refl, refl, refl, refl), refl, refl)
+    step pending_passes k h n = ((refl, refl, refl, refl), once (leaf gate_command) h (codes "pending-passes") n, refl)
+    step (attempts_from true m) k h n = ((refl, refl, refl, refl), once (leaf gate_command) h (codes "attempts-from") n, refl)
+    step (attempts_from false m) k h n = let v = plain m k in rw (v.0, v.1, v.2) ((refl, refl, refl, refl), waiting (leaf gate_command) h n, conflict (is_there (leaf gate_command) h (codes "attempts-from")))
+    step allow_redeclared k h n = ((refl, refl, refl, refl), once (leaf gate_command) h (codes "allow-redeclared") n, refl)
+    step (run w) k h n = let v = plain w k in rw (v.0, v.1, v.2, never (is_pending (rule_for (leaf gate_command) (run w)) h.pending)) ((refl, refl, refl, refl), both (settle (leaf gate_command) h) [] n refl, refl)
 
 -- each command with the options of `audit`
 pub leaf_like_audit : (name : Text) → IsPlainLeaf (leaf (command_like_audit name))
 unfolding bundle_met walked flags_fault walk_fault
-leaf_like_audit name = record { step = step; no_positional = λ i. refl; is_leaf = refl }
+leaf_like_audit name = record { step = step; is_leaf = refl }
   where
-    step : (option : Written) → IsPlain option → (h : Held) (p : ℕ) → NoHelp (settle_fault (leaf (command_like_audit name)).rules (leaf (command_like_audit name)).args_override_self h) → Step (leaf (command_like_audit name)) option h p
-    step allow_unrun k h p n = ((refl, refl, refl), refl, n)
-    step (allow_unrun_tagged true t) k h p n = ((refl, refl, refl), refl, n)
-    step (allow_unrun_tagged false t) k h p n = let v = plain t k in rw (v.0, v.1, v.2) ((refl, refl, refl), refl, n)
-    step no_retries k h p n = ((refl, refl, refl), refl, n)
-    step no_skips k h p n = ((refl, refl, refl), refl, n)
-    step no_stepless k h p n = ((refl, refl, refl), refl, n)
-    step no_undefined k h p n = ((refl, refl, refl), refl, n)
-    step strict k h p n = ((refl, refl, refl), refl, n)
-    step as_json k h p n = ((refl, refl, refl), refl, n)
-    step pending_passes k h p n = ((refl, refl, refl), once (leaf (command_like_audit name)) h (codes "pending-passes") n, refl)
-    step (attempts_from true m) k h p n = ((refl, refl, refl), once (leaf (command_like_audit name)) h (codes "attempts-from") n, refl)
-    step (attempts_from false m) k h p n = let v = plain m k in rw (v.0, v.1, v.2) ((refl, refl, refl), waiting (leaf (command_like_audit name)) h n, conflict (is_there (leaf (command_like_audit name)) h (codes "attempts-from")))
-    step allow_redeclared k h p n = ((refl, refl, refl), once (leaf (command_like_audit name)) h (codes "allow-redeclared") n, refl)
+    step : (option : Written) → IsPlain option → (h : Held) → NoHelp (settle_fault (leaf (command_like_audit name)).rules (leaf (command_like_audit name)).args_override_self h) → Step (leaf (command_like_audit name)) option h
+    step allow_unrun k h n = ((refl, refl, refl, refl), refl, n)
+    step (allow_unrun_tagged true t) k h n = ((refl, refl, refl, refl), refl, n)
+    step (allow_unrun_tagged false t) k h n = let v = plain t k in rw (v.0, v.1, v.2) ((refl, refl, refl, refl), refl, n)
+    step no_retries k h n = ((refl, refl, refl, refl), refl, n)
+    step no_skips k h n = ((refl, refl, refl, refl), refl, n)
+    step no_stepless k h n = ((refl, refl, refl, refl), refl, n)
+    step no_undefined k h n = ((refl, refl, refl, refl), refl, n)
+    step strict k h n = ((refl, refl, refl, refl), refl, n)
+    step as_json k h n = ((refl, refl, refl, refl), refl, n)
+    step pending_passes k h n = ((refl, refl, refl, refl), once (leaf (command_like_audit name)) h (codes "pending-passes") n, refl)
+    step (attempts_from true m) k h n = ((refl, refl, refl, refl), once (leaf (command_like_audit name)) h (codes "attempts-from") n, refl)
+    step (attempts_from false m) k h n = let v = plain m k in rw (v.0, v.1, v.2) ((refl, refl, refl, refl), waiting (leaf (command_like_audit name)) h n, conflict (is_there (leaf (command_like_audit name)) h (codes "attempts-from")))
+    step allow_redeclared k h n = ((refl, refl, refl, refl), once (leaf (command_like_audit name)) h (codes "allow-redeclared") n, refl)
+    step (run w) k h n = let v = plain w k in rw (v.0, v.1, v.2) ((refl, refl, refl, refl), refl, n)
 
 pub cases_leaf : IsPlainLeaf (leaf cases_command)
 unfolding bundle_met walked flags_fault walk_fault
-cases_leaf = record { step = step; no_positional = λ i. refl; is_leaf = refl }
+cases_leaf = record { step = step; is_leaf = refl }
   where
-    step : (option : Written) → IsPlain option → (h : Held) (p : ℕ) → NoHelp (settle_fault (leaf cases_command).rules (leaf cases_command).args_override_self h) → Step (leaf cases_command) option h p
-    step allow_unrun k h p n = ((refl, refl, refl), refl, n)
-    step (allow_unrun_tagged true t) k h p n = ((refl, refl, refl), refl, n)
-    step (allow_unrun_tagged false t) k h p n = let v = plain t k in rw (v.0, v.1, v.2) ((refl, refl, refl), refl, n)
-    step no_retries k h p n = ((refl, refl, refl), refl, n)
-    step no_skips k h p n = ((refl, refl, refl), refl, n)
-    step no_stepless k h p n = ((refl, refl, refl), refl, n)
-    step no_undefined k h p n = ((refl, refl, refl), refl, n)
-    step strict k h p n = ((refl, refl, refl), refl, n)
-    step as_json k h p n = ((refl, refl, refl), once (leaf cases_command) h (codes "json") n, refl)
-    step pending_passes k h p n = ((refl, refl, refl), once (leaf cases_command) h (codes "pending-passes") n, refl)
-    step (attempts_from true m) k h p n = ((refl, refl, refl), once (leaf cases_command) h (codes "attempts-from") n, refl)
-    step (attempts_from false m) k h p n = let v = plain m k in rw (v.0, v.1, v.2) ((refl, refl, refl), waiting (leaf cases_command) h n, conflict (is_there (leaf cases_command) h (codes "attempts-from")))
-    step allow_redeclared k h p n = ((refl, refl, refl), once (leaf cases_command) h (codes "allow-redeclared") n, refl)
+    step : (option : Written) → IsPlain option → (h : Held) → NoHelp (settle_fault (leaf cases_command).rules (leaf cases_command).args_override_self h) → Step (leaf cases_command) option h
+    step allow_unrun k h n = ((refl, refl, refl, refl), refl, n)
+    step (allow_unrun_tagged true t) k h n = ((refl, refl, refl, refl), refl, n)
+    step (allow_unrun_tagged false t) k h n = let v = plain t k in rw (v.0, v.1, v.2) ((refl, refl, refl, refl), refl, n)
+    step no_retries k h n = ((refl, refl, refl, refl), refl, n)
+    step no_skips k h n = ((refl, refl, refl, refl), refl, n)
+    step no_stepless k h n = ((refl, refl, refl, refl), refl, n)
+    step no_undefined k h n = ((refl, refl, refl, refl), refl, n)
+    step strict k h n = ((refl, refl, refl, refl), refl, n)
+    step as_json k h n = ((refl, refl, refl, refl), once (leaf cases_command) h (codes "json") n, refl)
+    step pending_passes k h n = ((refl, refl, refl, refl), once (leaf cases_command) h (codes "pending-passes") n, refl)
+    step (attempts_from true m) k h n = ((refl, refl, refl, refl), once (leaf cases_command) h (codes "attempts-from") n, refl)
+    step (attempts_from false m) k h n = let v = plain m k in rw (v.0, v.1, v.2) ((refl, refl, refl, refl), waiting (leaf cases_command) h n, conflict (is_there (leaf cases_command) h (codes "attempts-from")))
+    step allow_redeclared k h n = ((refl, refl, refl, refl), once (leaf cases_command) h (codes "allow-redeclared") n, refl)
+    step (run w) k h n = let v = plain w k in rw (v.0, v.1, v.2) ((refl, refl, refl, refl), refl, n)
 
 pub results_leaf : IsPlainLeaf (leaf results_command)
 unfolding bundle_met walked flags_fault walk_fault
-results_leaf = record { step = step; no_positional = λ i. refl; is_leaf = refl }
+results_leaf = record { step = step; is_leaf = refl }
   where
-    step : (option : Written) → IsPlain option → (h : Held) (p : ℕ) → NoHelp (settle_fault (leaf results_command).rules (leaf results_command).args_override_self h) → Step (leaf results_command) option h p
-    step allow_unrun k h p n = ((refl, refl, refl), refl, n)
-    step (allow_unrun_tagged true t) k h p n = ((refl, refl, refl), refl, n)
-    step (allow_unrun_tagged false t) k h p n = let v = plain t k in rw (v.0, v.1, v.2) ((refl, refl, refl), refl, n)
-    step no_retries k h p n = ((refl, refl, refl), refl, n)
-    step no_skips k h p n = ((refl, refl, refl), refl, n)
-    step no_stepless k h p n = ((refl, refl, refl), refl, n)
-    step no_undefined k h p n = ((refl, refl, refl), refl, n)
-    step strict k h p n = ((refl, refl, refl), refl, n)
-    step as_json k h p n = ((refl, refl, refl), refl, n)
-    step pending_passes k h p n = ((refl, refl, refl), refl, n)
-    step (attempts_from true m) k h p n = ((refl, refl, refl), once (leaf results_command) h (codes "attempts-from") n, refl)
-    step (attempts_from false m) k h p n = let v = plain m k in rw (v.0, v.1, v.2) ((refl, refl, refl), waiting (leaf results_command) h n, conflict (is_there (leaf results_command) h (codes "attempts-from")))
-    step allow_redeclared k h p n = ((refl, refl, refl), refl, n)
+    step : (option : Written) → IsPlain option → (h : Held) → NoHelp (settle_fault (leaf results_command).rules (leaf results_command).args_override_self h) → Step (leaf results_command) option h
+    step allow_unrun k h n = ((refl, refl, refl, refl), refl, n)
+    step (allow_unrun_tagged true t) k h n = ((refl, refl, refl, refl), refl, n)
+    step (allow_unrun_tagged false t) k h n = let v = plain t k in rw (v.0, v.1, v.2) ((refl, refl, refl, refl), refl, n)
+    step no_retries k h n = ((refl, refl, refl, refl), refl, n)
+    step no_skips k h n = ((refl, refl, refl, refl), refl, n)
+    step no_stepless k h n = ((refl, refl, refl, refl), refl, n)
+    step no_undefined k h n = ((refl, refl, refl, refl), refl, n)
+    step strict k h n = ((refl, refl, refl, refl), refl, n)
+    step as_json k h n = ((refl, refl, refl, refl), refl, n)
+    step pending_passes k h n = ((refl, refl, refl, refl), refl, n)
+    step (attempts_from true m) k h n = ((refl, refl, refl, refl), once (leaf results_command) h (codes "attempts-from") n, refl)
+    step (attempts_from false m) k h n = let v = plain m k in rw (v.0, v.1, v.2) ((refl, refl, refl, refl), waiting (leaf results_command) h n, conflict (is_there (leaf results_command) h (codes "attempts-from")))
+    step allow_redeclared k h n = ((refl, refl, refl, refl), refl, n)
+    step (run w) k h n = let v = plain w k in rw (v.0, v.1, v.2) ((refl, refl, refl, refl), refl, n)
 
 pub parse_leaf : IsPlainLeaf (leaf parse_command)
 unfolding bundle_met walked flags_fault walk_fault
-parse_leaf = record { step = step; no_positional = λ i. refl; is_leaf = refl }
+parse_leaf = record { step = step; is_leaf = refl }
   where
-    step : (option : Written) → IsPlain option → (h : Held) (p : ℕ) → NoHelp (settle_fault (leaf parse_command).rules (leaf parse_command).args_override_self h) → Step (leaf parse_command) option h p
-    step allow_unrun k h p n = ((refl, refl, refl), refl, n)
-    step (allow_unrun_tagged true t) k h p n = ((refl, refl, refl), refl, n)
-    step (allow_unrun_tagged false t) k h p n = let v = plain t k in rw (v.0, v.1, v.2) ((refl, refl, refl), refl, n)
-    step no_retries k h p n = ((refl, refl, refl), refl, n)
-    step no_skips k h p n = ((refl, refl, refl), refl, n)
-    step no_stepless k h p n = ((refl, refl, refl), refl, n)
-    step no_undefined k h p n = ((refl, refl, refl), refl, n)
-    step strict k h p n = ((refl, refl, refl), refl, n)
-    step as_json k h p n = ((refl, refl, refl), refl, n)
-    step pending_passes k h p n = ((refl, refl, refl), refl, n)
-    step (attempts_from true m) k h p n = ((refl, refl, refl), refl, n)
-    step (attempts_from false m) k h p n = let v = plain m k in rw (v.0, v.1, v.2) ((refl, refl, refl), refl, n)
-    step allow_redeclared k h p n = ((refl, refl, refl), refl, n)
+    step : (option : Written) → IsPlain option → (h : Held) → NoHelp (settle_fault (leaf parse_command).rules (leaf parse_command).args_override_self h) → Step (leaf parse_command) option h
+    step allow_unrun k h n = ((refl, refl, refl, refl), refl, n)
+    step (allow_unrun_tagged true t) k h n = ((refl, refl, refl, refl), refl, n)
+    step (allow_unrun_tagged false t) k h n = let v = plain t k in rw (v.0, v.1, v.2) ((refl, refl, refl, refl), refl, n)
+    step no_retries k h n = ((refl, refl, refl, refl), refl, n)
+    step no_skips k h n = ((refl, refl, refl, refl), refl, n)
+    step no_stepless k h n = ((refl, refl, refl, refl), refl, n)
+    step no_undefined k h n = ((refl, refl, refl, refl), refl, n)
+    step strict k h n = ((refl, refl, refl, refl), refl, n)
+    step as_json k h n = ((refl, refl, refl, refl), refl, n)
+    step pending_passes k h n = ((refl, refl, refl, refl), refl, n)
+    step (attempts_from true m) k h n = ((refl, refl, refl, refl), refl, n)
+    step (attempts_from false m) k h n = let v = plain m k in rw (v.0, v.1, v.2) ((refl, refl, refl, refl), refl, n)
+    step allow_redeclared k h n = ((refl, refl, refl, refl), refl, n)
+    step (run w) k h n = let v = plain w k in rw (v.0, v.1, v.2) ((refl, refl, refl, refl), refl, n)
 
 pub compile_leaf : IsPlainLeaf (leaf compile_command)
 unfolding bundle_met walked flags_fault walk_fault
-compile_leaf = record { step = step; no_positional = λ i. refl; is_leaf = refl }
+compile_leaf = record { step = step; is_leaf = refl }
   where
-    step : (option : Written) → IsPlain option → (h : Held) (p : ℕ) → NoHelp (settle_fault (leaf compile_command).rules (leaf compile_command).args_override_self h) → Step (leaf compile_command) option h p
-    step allow_unrun k h p n = ((refl, refl, refl), refl, n)
-    step (allow_unrun_tagged true t) k h p n = ((refl, refl, refl), refl, n)
-    step (allow_unrun_tagged false t) k h p n = let v = plain t k in rw (v.0, v.1, v.2) ((refl, refl, refl), refl, n)
-    step no_retries k h p n = ((refl, refl, refl), refl, n)
-    step no_skips k h p n = ((refl, refl, refl), refl, n)
-    step no_stepless k h p n = ((refl, refl, refl), refl, n)
-    step no_undefined k h p n = ((refl, refl, refl), refl, n)
-    step strict k h p n = ((refl, refl, refl), refl, n)
-    step as_json k h p n = ((refl, refl, refl), refl, n)
-    step pending_passes k h p n = ((refl, refl, refl), refl, n)
-    step (attempts_from true m) k h p n = ((refl, refl, refl), refl, n)
-    step (attempts_from false m) k h p n = let v = plain m k in rw (v.0, v.1, v.2) ((refl, refl, refl), refl, n)
-    step allow_redeclared k h p n = ((refl, refl, refl), refl, n)
+    step : (option : Written) → IsPlain option → (h : Held) → NoHelp (settle_fault (leaf compile_command).rules (leaf compile_command).args_override_self h) → Step (leaf compile_command) option h
+    step allow_unrun k h n = ((refl, refl, refl, refl), refl, n)
+    step (allow_unrun_tagged true t) k h n = ((refl, refl, refl, refl), refl, n)
+    step (allow_unrun_tagged false t) k h n = let v = plain t k in rw (v.0, v.1, v.2) ((refl, refl, refl, refl), refl, n)
+    step no_retries k h n = ((refl, refl, refl, refl), refl, n)
+    step no_skips k h n = ((refl, refl, refl, refl), refl, n)
+    step no_stepless k h n = ((refl, refl, refl, refl), refl, n)
+    step no_undefined k h n = ((refl, refl, refl, refl), refl, n)
+    step strict k h n = ((refl, refl, refl, refl), refl, n)
+    step as_json k h n = ((refl, refl, refl, refl), refl, n)
+    step pending_passes k h n = ((refl, refl, refl, refl), refl, n)
+    step (attempts_from true m) k h n = ((refl, refl, refl, refl), refl, n)
+    step (attempts_from false m) k h n = let v = plain m k in rw (v.0, v.1, v.2) ((refl, refl, refl, refl), refl, n)
+    step allow_redeclared k h n = ((refl, refl, refl, refl), refl, n)
+    step (run w) k h n = let v = plain w k in rw (v.0, v.1, v.2) ((refl, refl, refl, refl), refl, n)

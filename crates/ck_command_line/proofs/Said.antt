@@ -5,15 +5,16 @@ use Rattle.std.specs.Prelude.{codes, if◌then◌else◌}
 use Rattle.std.specs.List.{list_all}
 use Rattle.std.specs.Str.{bytes_eq}
 use Rattle.clap.specs.Words.{Text}
-use Rattle.ck_command_line.specs.CommandLine.{is_given, is_tag, tags_allowed}
-use Rattle.ck_command_line.specs.Asked.{Written, allow_unrun, allow_unrun_tagged, no_retries, no_skips, no_stepless, no_undefined, strict, as_json, pending_passes, attempts_from, allow_redeclared}
-use Rattle.ck_command_line.specs.Asked.{has_name, is_there, number_of, tags_of}
+use Rattle.ck_command_line.specs.CommandLine.{has_two_inputs, is_given, is_tag, runs_named, tags_allowed}
+use Rattle.ck_command_line.specs.Asked.{Written, allow_unrun, allow_unrun_tagged, no_retries, no_skips, no_stepless, no_undefined, strict, as_json, pending_passes, attempts_from, allow_redeclared, run}
+use Rattle.ck_command_line.specs.Asked.{has_name, is_there, number_of, runs_of, runs_written, tags_of}
 use Rattle.ck_command_line.proofs.Rows.{first_text, is_on, said_by}
 
 -- the value of an option
 abbrev pub text_of : Written → Text
 text_of (allow_unrun_tagged is_one_word tag) = tag
 text_of (attempts_from is_one_word number) = number
+text_of (run word) = word
 text_of _ = codes "true"
 
 -- what is there after the options, of what was there before
@@ -47,9 +48,9 @@ first_all name (option ∷ options) = go (has_name name option) (stays name opti
 
 -- ---- flags
 
--- the name is none of an option with a value
+-- the name is neither that of an option with a value nor that of a run
 abbrev pub IsFlag : Text → Type 0
-IsFlag name = (bytes_eq name (codes "allow-unrun-tagged") ≡ false) × (bytes_eq name (codes "attempts-from") ≡ false)
+IsFlag name = (bytes_eq name (codes "allow-unrun-tagged") ≡ false) × (bytes_eq name (codes "attempts-from") ≡ false) × (bytes_eq name (codes "run") ≡ false)
 
 says_true : (name : Text) → IsFlag name → (option : Written) → has_name name option ≡ true → text_of option ≡ codes "true"
 says_true name flag allow_unrun h = refl
@@ -63,6 +64,7 @@ says_true name flag as_json h = refl
 says_true name flag pending_passes h = refl
 says_true name flag (attempts_from w n) h = absurd (false≢true (sym flag.1 ∙ h))
 says_true name flag allow_redeclared h = refl
+says_true name flag (run w) h = absurd (false≢true (sym flag.2 ∙ h))
 
 flag_first : (name : Text) → IsFlag name → (options : List Written) → is_given (first_said name options) ≡ is_there name options
 flag_first name flag [] = refl
@@ -91,57 +93,60 @@ number_first (as_json ∷ options) = number_first options
 number_first (pending_passes ∷ options) = number_first options
 number_first (attempts_from w n ∷ options) = refl
 number_first (allow_redeclared ∷ options) = number_first options
+number_first (run w ∷ options) = number_first options
 
 pub number_said : (options : List Written) → first_text (said_all (codes "attempts-from") options None) ≡ number_of options
 number_said options = first_all (codes "attempts-from") options ∙ number_first options
 
+-- ---- the values of what may come again
+
+-- the values of the name, in their order
+abbrev values_said : Text → List Written → List Text
+values_said name [] = []
+values_said name (option ∷ options) = if has_name name option then text_of option ∷ values_said name options else values_said name options
+
+more_said : (name : Text) (options : List Written) (values : List Text) → said_all name options (Some values) ≡ Some (values ++ values_said name options)
+more_said name [] values = ap Some (sym (append-nil values))
+more_said name (option ∷ options) values = go (has_name name option) (more_said name options values) (more_said name options (values ++ text_of option ∷ []))
+  where
+    go : (here : Bool) → said_all name options (Some values) ≡ Some (values ++ values_said name options) → said_all name options (Some (values ++ text_of option ∷ [])) ≡ Some ((values ++ text_of option ∷ []) ++ values_said name options)
+        → said_all name options (said_by here (text_of option ∷ []) (Some values)) ≡ Some (values ++ (if here then text_of option ∷ values_said name options else values_said name options))
+    go true a b = b ∙ ap Some (append_assoc values (text_of option ∷ []) (values_said name options))
+    go false a b = a
+
+all_said : (name : Text) (options : List Written) → said_all name options None ≡ (if is_there name options then Some (values_said name options) else None)
+all_said name [] = refl
+all_said name (option ∷ options) = go (has_name name option) (more_said name options (text_of option ∷ [])) (all_said name options)
+  where
+    go : (here : Bool) → said_all name options (Some (text_of option ∷ [])) ≡ Some (text_of option ∷ values_said name options) → said_all name options None ≡ (if is_there name options then Some (values_said name options) else None)
+        → said_all name options (said_by here (text_of option ∷ []) None) ≡ (if here || is_there name options then Some (if here then text_of option ∷ values_said name options else values_said name options) else None)
+    go true a b = a
+    go false a b = b
+
+none_said : (name : Text) (options : List Written) → is_there name options ≡ false → values_said name options ≡ []
+none_said name [] h = refl
+none_said name (option ∷ options) h = go (has_name name option) h (none_said name options)
+  where
+    go : (here : Bool) → (here || is_there name options) ≡ false → (is_there name options ≡ false → values_said name options ≡ []) → (if here then text_of option ∷ values_said name options else values_said name options) ≡ []
+    go true e more = absurd (false≢true (sym e))
+    go false e more = more e
+
 -- ---- the tags
 
-more_tags : (options : List Written) (tags : List Text) → said_all (codes "allow-unrun-tagged") options (Some tags) ≡ Some (tags ++ tags_of options)
-more_tags [] tags = ap Some (sym (append-nil tags))
-more_tags (allow_unrun ∷ options) tags = more_tags options tags
-more_tags (allow_unrun_tagged w tag ∷ options) tags = more_tags options (tags ++ tag ∷ []) ∙ ap Some (append_assoc tags (tag ∷ []) (tags_of options))
-more_tags (no_retries ∷ options) tags = more_tags options tags
-more_tags (no_skips ∷ options) tags = more_tags options tags
-more_tags (no_stepless ∷ options) tags = more_tags options tags
-more_tags (no_undefined ∷ options) tags = more_tags options tags
-more_tags (strict ∷ options) tags = more_tags options tags
-more_tags (as_json ∷ options) tags = more_tags options tags
-more_tags (pending_passes ∷ options) tags = more_tags options tags
-more_tags (attempts_from w n ∷ options) tags = more_tags options tags
-more_tags (allow_redeclared ∷ options) tags = more_tags options tags
-
--- whether a tag is there, and which tags
-abbrev has_tags : List Written → Bool
-has_tags options = is_there (codes "allow-unrun-tagged") options
-
-pub tags_said : (options : List Written) → said_all (codes "allow-unrun-tagged") options None ≡ (if has_tags options then Some (tags_of options) else None)
-tags_said [] = refl
-tags_said (allow_unrun ∷ options) = tags_said options
-tags_said (allow_unrun_tagged w tag ∷ options) = more_tags options (tag ∷ [])
-tags_said (no_retries ∷ options) = tags_said options
-tags_said (no_skips ∷ options) = tags_said options
-tags_said (no_stepless ∷ options) = tags_said options
-tags_said (no_undefined ∷ options) = tags_said options
-tags_said (strict ∷ options) = tags_said options
-tags_said (as_json ∷ options) = tags_said options
-tags_said (pending_passes ∷ options) = tags_said options
-tags_said (attempts_from w n ∷ options) = tags_said options
-tags_said (allow_redeclared ∷ options) = tags_said options
-
-no_tags : (options : List Written) → has_tags options ≡ false → tags_of options ≡ []
-no_tags [] h = refl
-no_tags (allow_unrun ∷ options) h = no_tags options h
-no_tags (allow_unrun_tagged w tag ∷ options) h = absurd (false≢true (sym h))
-no_tags (no_retries ∷ options) h = no_tags options h
-no_tags (no_skips ∷ options) h = no_tags options h
-no_tags (no_stepless ∷ options) h = no_tags options h
-no_tags (no_undefined ∷ options) h = no_tags options h
-no_tags (strict ∷ options) h = no_tags options h
-no_tags (as_json ∷ options) h = no_tags options h
-no_tags (pending_passes ∷ options) h = no_tags options h
-no_tags (attempts_from w n ∷ options) h = no_tags options h
-no_tags (allow_redeclared ∷ options) h = no_tags options h
+tags_are : (options : List Written) → values_said (codes "allow-unrun-tagged") options ≡ tags_of options
+tags_are [] = refl
+tags_are (allow_unrun ∷ options) = tags_are options
+tags_are (allow_unrun_tagged w tag ∷ options) = ap (λ (tags : List Text). tag ∷ tags) (tags_are options)
+tags_are (no_retries ∷ options) = tags_are options
+tags_are (no_skips ∷ options) = tags_are options
+tags_are (no_stepless ∷ options) = tags_are options
+tags_are (no_undefined ∷ options) = tags_are options
+tags_are (strict ∷ options) = tags_are options
+tags_are (as_json ∷ options) = tags_are options
+tags_are (pending_passes ∷ options) = tags_are options
+tags_are (attempts_from w n ∷ options) = tags_are options
+tags_are (allow_redeclared ∷ options) = tags_are options
+tags_are (run w ∷ options) = tags_are options
 
 allowed : (unrun has : Bool) (tags : List Text) → (has ≡ false → tags ≡ []) → tags_allowed unrun (if has then Some tags else None) ≡ (if unrun && has then None else if list_all is_tag tags then Some tags else None)
 allowed true true tags none = refl
@@ -149,6 +154,39 @@ allowed false true tags none = refl
 allowed true false tags none = rw (none refl) refl
 allowed false false tags none = rw (none refl) refl
 
+-- whether a tag is there
+abbrev has_tags : List Written → Bool
+has_tags options = is_there (codes "allow-unrun-tagged") options
+
 pub tags_taken : (unrun : Bool) (options : List Written)
     → tags_allowed unrun (said_all (codes "allow-unrun-tagged") options None) ≡ (if unrun && has_tags options then None else if list_all is_tag (tags_of options) then Some (tags_of options) else None)
-tags_taken unrun options = ap (tags_allowed unrun) (tags_said options) ∙ allowed unrun (has_tags options) (tags_of options) (no_tags options)
+tags_taken unrun options =
+    ap (tags_allowed unrun) (all_said (codes "allow-unrun-tagged") options)
+    ∙ allowed unrun (has_tags options) (values_said (codes "allow-unrun-tagged") options) (none_said (codes "allow-unrun-tagged") options)
+    ∙ ap (λ (tags : List Text). if unrun && has_tags options then None else if list_all is_tag tags then Some tags else None) (tags_are options)
+
+-- ---- the runs
+
+runs_are : (options : List Written) → values_said (codes "run") options ≡ runs_of options
+runs_are [] = refl
+runs_are (allow_unrun ∷ options) = runs_are options
+runs_are (allow_unrun_tagged w tag ∷ options) = runs_are options
+runs_are (no_retries ∷ options) = runs_are options
+runs_are (no_skips ∷ options) = runs_are options
+runs_are (no_stepless ∷ options) = runs_are options
+runs_are (no_undefined ∷ options) = runs_are options
+runs_are (strict ∷ options) = runs_are options
+runs_are (as_json ∷ options) = runs_are options
+runs_are (pending_passes ∷ options) = runs_are options
+runs_are (attempts_from w n ∷ options) = runs_are options
+runs_are (allow_redeclared ∷ options) = runs_are options
+runs_are (run w ∷ options) = ap (λ (runs : List Text). w ∷ runs) (runs_are options)
+
+taken : (has : Bool) (runs : List Text) → (has ≡ false → runs ≡ []) → runs_named (if has then Some runs else None) ≡ (if has_two_inputs runs then None else Some runs)
+taken true runs none = refl
+taken false runs none = rw (none refl) refl
+
+pub runs_taken : (options : List Written) → runs_named (said_all (codes "run") options None) ≡ runs_written options
+runs_taken options =
+    ap runs_named (all_said (codes "run") options) ∙ taken (is_there (codes "run") options) (values_said (codes "run") options) (none_said (codes "run") options)
+    ∙ ap (λ (runs : List Text). if has_two_inputs runs then None else Some runs) (runs_are options)

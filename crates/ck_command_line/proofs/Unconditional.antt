@@ -1,11 +1,12 @@
--- The options of `cases`, and so those of `audit`, write no conditions.
+-- The options of `cases`, and so those of `audit`, write no conditions and name no runs.
 use Rattle.std.proofs.Common.{◌≡◌, Bool, true, false, List, [], ◌∷◌, Some, None, refl, ap, sym}
 use Rattle.std.proofs.lemmas.Bool.{false≢true}
 use Rattle.std.specs.Prelude.{codes, if◌then◌else◌}
 use Rattle.std.specs.List.{AllByRecursion, list_all}
-use Rattle.ck_command_line.specs.CommandLine.{is_tag}
-use Rattle.ck_command_line.specs.Asked.{Written, allow_unrun, allow_unrun_tagged, no_retries, no_skips, no_stepless, no_undefined, strict, as_json, pending_passes, attempts_from, allow_redeclared}
-use Rattle.ck_command_line.specs.Asked.{asked_of_run, cases_usage, conditions_written, has_both_unrun, is_there, tags_of}
+use Rattle.clap.specs.Words.{Text}
+use Rattle.ck_command_line.specs.CommandLine.{has_two_inputs, is_tag}
+use Rattle.ck_command_line.specs.Asked.{Written, allow_unrun, allow_unrun_tagged, no_retries, no_skips, no_stepless, no_undefined, strict, as_json, pending_passes, attempts_from, allow_redeclared, run}
+use Rattle.ck_command_line.specs.Asked.{asked_of_run, cases_usage, conditions_written, has_both_unrun, is_there, runs_of, runs_written, tags_of}
 use Rattle.ck_command_line.proofs.Using.{is_own}
 
 -- each is an option of `cases`
@@ -25,6 +26,7 @@ no_tags (as_json ∷ options) h = no_tags options h.1
 no_tags (pending_passes ∷ options) h = no_tags options h.1
 no_tags (attempts_from w n ∷ options) h = no_tags options h.1
 no_tags (allow_redeclared ∷ options) h = no_tags options h.1
+no_tags (run w ∷ options) h = absurd (false≢true h.0)
 
 none_unrun : (options : List Written) → AreFree options → is_there (codes "allow-unrun") options ≡ false
 none_unrun [] h = refl
@@ -39,6 +41,7 @@ none_unrun (as_json ∷ options) h = none_unrun options h.1
 none_unrun (pending_passes ∷ options) h = none_unrun options h.1
 none_unrun (attempts_from w n ∷ options) h = none_unrun options h.1
 none_unrun (allow_redeclared ∷ options) h = none_unrun options h.1
+none_unrun (run w ∷ options) h = absurd (false≢true h.0)
 
 -- so the conditions have no mistake
 pub unconditional : (options : List Written) → AreFree options → conditions_written options ≡ Some (asked_of_run options)
@@ -49,3 +52,21 @@ unconditional options h =
     go true all e f = absurd (false≢true (sym e))
     go false true e f = refl
     go false false e f = absurd (false≢true f)
+
+no_runs : (options : List Written) → AreFree options → runs_of options ≡ []
+no_runs [] h = refl
+no_runs (allow_unrun ∷ options) h = absurd (false≢true h.0)
+no_runs (allow_unrun_tagged w t ∷ options) h = absurd (false≢true h.0)
+no_runs (no_retries ∷ options) h = absurd (false≢true h.0)
+no_runs (no_skips ∷ options) h = absurd (false≢true h.0)
+no_runs (no_stepless ∷ options) h = absurd (false≢true h.0)
+no_runs (no_undefined ∷ options) h = absurd (false≢true h.0)
+no_runs (strict ∷ options) h = absurd (false≢true h.0)
+no_runs (as_json ∷ options) h = no_runs options h.1
+no_runs (pending_passes ∷ options) h = no_runs options h.1
+no_runs (attempts_from w n ∷ options) h = no_runs options h.1
+no_runs (allow_redeclared ∷ options) h = no_runs options h.1
+no_runs (run w ∷ options) h = absurd (false≢true h.0)
+
+pub runless : (options : List Written) → AreFree options → runs_written options ≡ Some []
+runless options h = ap (λ (runs : List Text). if has_two_inputs runs then None else Some runs) (no_runs options h)

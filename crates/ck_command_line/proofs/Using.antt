@@ -1,21 +1,21 @@
 -- A list of a command's own options is read, where each of them is.
-use Rattle.std.proofs.Common.{◌≡◌, ◌∙◌, ◌&&◌, ◌||◌, ℕ, Bool, true, false, not, List, [], ◌∷◌, refl, ap, sym, subst, fold, None}
+use Rattle.std.proofs.Common.{◌≡◌, ◌∙◌, ◌&&◌, ◌||◌, Bool, true, false, not, List, [], ◌∷◌, refl, ap, sym, subst, fold, None}
 use Rattle.std.proofs.lemmas.Bool.{false_from_ne_true, false≢true, true≢false}
 use Rattle.std.proofs.lemmas.List.Sums.{fold-append}
 use Rattle.std.proofs.lemmas.Slice.Eq.{bytes_eq-Decides}
-use Rattle.std.specs.Prelude.{filter, if◌then◌else◌}
+use Rattle.std.specs.Prelude.{codes, filter, if◌then◌else◌}
 use Rattle.std.specs.Option.{unwrap_or}
 use Rattle.std.specs.List.{AllByRecursion, list_any}
 use Rattle.std.specs.Str.{bytes_eq}
 use Rattle.clap.specs.Words.{Kinds, Row, Rule, Text, all_of, new_rule}
 use Rattle.clap.specs.Kinds.{or_else}
-use Rattle.clap.specs.Walk.{Held, Walk, arg_by_long, has_row, nothing_held, settled, used, walked}
+use Rattle.clap.specs.Walk.{Held, Walk, arg_by_id, has_row, nothing_held, settled, used, walk_from, walked}
 use Rattle.clap.specs.Simple.{Shape}
 use Rattle.clap.specs.Faults.{settle_fault, walk_fault}
 use Rattle.clap.specs.declared.error.kind.ErrorKind.TheVariants.{ArgumentConflict}
-use Rattle.ck_command_line.specs.Asked.{Written, allow_unrun, allow_unrun_tagged, no_retries, no_skips, no_stepless, no_undefined, strict, as_json, pending_passes, attempts_from, allow_redeclared}
+use Rattle.ck_command_line.specs.Asked.{Written, allow_unrun, allow_unrun_tagged, no_retries, no_skips, no_stepless, no_undefined, strict, as_json, pending_passes, attempts_from, allow_redeclared, run}
 use Rattle.ck_command_line.specs.Asked.{IsPlain, all_words, are_distinct, has_name, may_come_again, name_of, names_after, words_of}
-use Rattle.ck_command_line.proofs.Between.{IsBetween, between, is_between, walk_fault-append}
+use Rattle.ck_command_line.proofs.Between.{IsBetween, goes_on, walk_fault-append}
 use Rattle.ck_command_line.proofs.Rows.{not_there, said_by}
 use Rattle.ck_command_line.proofs.Said.{said_all, text_of}
 
@@ -27,6 +27,7 @@ is_own names option = list_any (λ name. has_name name option) names
 abbrev pub values_for : Written → List Text
 values_for (allow_unrun_tagged is_one_word tag) = tag ∷ []
 values_for (attempts_from is_one_word number) = number ∷ []
+values_for (run word) = word ∷ []
 values_for _ = []
 
 -- the option is there for the first time, or may come again
@@ -40,6 +41,9 @@ conflict there e = rw e refl
 
 pub once : (settle : Kinds) (there : Bool) → settle ≡ [] → there ≡ false → or_else (or_else (or_else settle (or_else (if there then ArgumentConflict ∷ [] else []) [])) []) [] ≡ []
 once settle there n e = rw (n, e) refl
+
+pub settled_alone : (settle : Kinds) → settle ≡ [] → or_else settle [] ≡ []
+settled_alone settle n = rw n refl
 
 pub waiting : (settle : Kinds) → settle ≡ [] → or_else (or_else settle []) [] ≡ []
 waiting settle n = rw n refl
@@ -78,18 +82,19 @@ other_name gone option names h =
     false≢true (sym (none_left (λ name. bytes_eq name (name_of gone)) names) ∙ subst (λ (n : Text). list_any (λ name. bytes_eq name n) (filter (λ name. not (has_name name gone)) names) ≡ true) is h))
 
 -- an option that may not come again has another name than one that may
-not_again : (option : Written) (w : Bool) (t : Text) → may_come_again option ≡ false → has_name (name_of option) (allow_unrun_tagged w t) ≡ false
-not_again allow_unrun w t h = refl
-not_again (allow_unrun_tagged v u) w t h = absurd (true≢false h)
-not_again no_retries w t h = refl
-not_again no_skips w t h = refl
-not_again no_stepless w t h = refl
-not_again no_undefined w t h = refl
-not_again strict w t h = refl
-not_again as_json w t h = refl
-not_again pending_passes w t h = refl
-not_again (attempts_from v n) w t h = refl
-not_again allow_redeclared w t h = refl
+not_again : (option : Written) → may_come_again option ≡ false → (bytes_eq (name_of option) (codes "allow-unrun-tagged") ≡ false) × (bytes_eq (name_of option) (codes "run") ≡ false)
+not_again allow_unrun h = (refl, refl)
+not_again (allow_unrun_tagged w t) h = absurd (true≢false h)
+not_again no_retries h = (refl, refl)
+not_again no_skips h = (refl, refl)
+not_again no_stepless h = (refl, refl)
+not_again no_undefined h = (refl, refl)
+not_again strict h = (refl, refl)
+not_again as_json h = (refl, refl)
+not_again pending_passes h = (refl, refl)
+not_again (attempts_from w n) h = (refl, refl)
+not_again allow_redeclared h = (refl, refl)
+not_again (run w) h = absurd (true≢false h)
 
 -- the names are some of these
 abbrev IsWithin : List Text → List Text → Type 0
@@ -122,9 +127,9 @@ pub all_own : (own : List Text) (options : List Written) → are_distinct own op
 all_own own options d = own_each own own options (λ option h. h) d
 
 module _ (s : Shape) where
-  -- the rule of an option
+  -- the rule of an option, or of the runs
   abbrev pub rule_for : Written → Rule
-  rule_for option = unwrap_or (arg_by_long s.rules (name_of option)) (new_rule [])
+  rule_for option = unwrap_or (arg_by_id s.rules (name_of option)) (new_rule [])
 
   -- the rows so far, with the use of the option that is pending
   abbrev pub rows_now : Held → List Row
@@ -141,10 +146,10 @@ module _ (s : Shape) where
   is_new name rows none = ap (λ b. b && not s.args_override_self) (not_there name rows none)
 
   -- what one option does: it is used, without a fault
-  abbrev pub Used : Written → Held → ℕ → Type 0
-  Used option h p = IsBetween (fold (walked s.rules []) (between h p) (words_of option))
-      × (rows_now (fold (walked s.rules []) (between h p) (words_of option)).held ≡ used (rule_for option) (values_for option) (rows_now h))
-      × (walk_fault s [] (between h p) (words_of option) ≡ []) × (settling (fold (walked s.rules []) (between h p) (words_of option)).held ≡ [])
+  abbrev pub Used : Written → Held → Type 0
+  Used option h = IsBetween (fold (walked s.rules []) (walk_from h) (words_of option))
+      × (rows_now (fold (walked s.rules []) (walk_from h) (words_of option)).held ≡ used (rule_for option) (values_for option) (rows_now h))
+      × (walk_fault s [] (walk_from h) (words_of option) ≡ []) × (settling (fold (walked s.rules []) (walk_from h) (words_of option)).held ≡ [])
 
   -- what the rows hold of a name after it
   abbrev pub Told : Written → Type 0
@@ -153,14 +158,14 @@ module _ (s : Shape) where
 
   -- each of the options with these names is read
   pub record ReadsEach (own : List Text) : Type 0 where
-    pub uses : (option : Written) → is_own own option ≡ true → IsPlain option → (h : Held) (p : ℕ) → settling h ≡ [] → IsNew option (rows_now h) → Used option h p
+    pub uses : (option : Written) → is_own own option ≡ true → IsPlain option → (h : Held) → settling h ≡ [] → IsNew option (rows_now h) → Used option h
     pub told : (option : Written) → is_own own option ≡ true → Told option
 
   -- what a list of options does: each is used, without a fault
-  pub record AreUsed (options : List Written) (h : Held) (p : ℕ) : Type 0 where
-    pub rows : (name : Text) → all_of name (rows_now (fold (walked s.rules []) (between h p) (all_words options)).held) ≡ said_all name options (all_of name (rows_now h))
-    pub no_fault : walk_fault s [] (between h p) (all_words options) ≡ []
-    pub settles : settling (fold (walked s.rules []) (between h p) (all_words options)).held ≡ []
+  pub record AreUsed (options : List Written) (h : Held) : Type 0 where
+    pub rows : (name : Text) → all_of name (rows_now (fold (walked s.rules []) (walk_from h) (all_words options)).held) ≡ said_all name options (all_of name (rows_now h))
+    pub no_fault : walk_fault s [] (walk_from h) (all_words options) ≡ []
+    pub settles : settling (fold (walked s.rules []) (walk_from h) (all_words options)).held ≡ []
 
   -- what one option leaves of another name
   untouched : (option : Written) → Told option → (name : Text) (rows : List Row) → IsNew option rows → has_name name option ≡ false → all_of name rows ≡ None → all_of name (used (rule_for option) (values_for option) rows) ≡ None
@@ -173,7 +178,7 @@ module _ (s : Shape) where
 
   left_new : (option : Written) → Told option → (names : List Text) (rows : List Row) → IsNew option rows → AreNew names rows → AreNew (names_after option names) (used (rule_for option) (values_for option) rows)
   left_new allow_unrun told names rows new all = by_filter allow_unrun told names rows new all
-  left_new (allow_unrun_tagged w t) told names rows new all = λ option h first. untouched (allow_unrun_tagged w t) told (name_of option) rows new (not_again option w t first) (all option h first)
+  left_new (allow_unrun_tagged w t) told names rows new all = λ option h first. untouched (allow_unrun_tagged w t) told (name_of option) rows new (not_again option first).0 (all option h first)
   left_new no_retries told names rows new all = by_filter no_retries told names rows new all
   left_new no_skips told names rows new all = by_filter no_skips told names rows new all
   left_new no_stepless told names rows new all = by_filter no_stepless told names rows new all
@@ -183,35 +188,36 @@ module _ (s : Shape) where
   left_new pending_passes told names rows new all = by_filter pending_passes told names rows new all
   left_new (attempts_from w n) told names rows new all = by_filter (attempts_from w n) told names rows new all
   left_new allow_redeclared told names rows new all = by_filter allow_redeclared told names rows new all
+  left_new (run w) told names rows new all = λ option h first. untouched (run w) told (name_of option) rows new (not_again option first).1 (all option h first)
 
-  use_each : (own : List Text) → ReadsEach own → (options : List Written) → AllByRecursion IsPlain options → (names : List Text) → IsWithin names own → are_distinct names options ≡ true → (h : Held) (p : ℕ) → settling h ≡ [] → AreNew names (rows_now h) → AreUsed options h p
+  use_each : (own : List Text) → ReadsEach own → (options : List Written) → AllByRecursion IsPlain options → (names : List Text) → IsWithin names own → are_distinct names options ≡ true → (h : Held) → settling h ≡ [] → AreNew names (rows_now h) → AreUsed options h
   unfolding walk_fault
-  use_each own reads [] k names within d h p n all = record { rows = λ name. refl; no_fault = refl; settles = n }
-  use_each own reads (option ∷ options) k names within d h p n all =
+  use_each own reads [] k names within d h n all = record { rows = λ name. refl; no_fault = refl; settles = n }
+  use_each own reads (option ∷ options) k names within d h n all =
       let here_own = and_left (is_own names option) (are_distinct (names_after option names) options) d in
       let rest = and_right (is_own names option) (are_distinct (names_after option names) options) d in
-      let w = fold (walked s.rules []) (between h p) (words_of option) in
+      let w = fold (walked s.rules []) (walk_from h) (words_of option) in
       let told = reads.told option (within option here_own) in
-      let one = reads.uses option (within option here_own) k.0 h p n (all option here_own) in
-      let here : w ≡ between w.held w.position = is_between w one.0 in
+      let one = reads.uses option (within option here_own) k.0 h n (all option here_own) in
+      let on = goes_on s w one.0 (all_words options) in
       let new = subst (AreNew (names_after option names)) (sym one.1) (left_new option told names (rows_now h) (all option here_own) all) in
-      let more = use_each own reads options k.1 (names_after option names) (within_after option names own within) rest w.held w.position one.3 new in
-      let end : fold (walked s.rules []) (between h p) (all_words (option ∷ options)) ≡ fold (walked s.rules []) (between w.held w.position) (all_words options) =
-      fold-append (walked s.rules []) (between h p) (words_of option) (all_words options) ∙ ap (λ (v : Walk). fold (walked s.rules []) v (all_words options)) here in
+      let more = use_each own reads options k.1 (names_after option names) (within_after option names own within) rest w.held one.3 new in
+      let end : (fold (walked s.rules []) (walk_from h) (all_words (option ∷ options))).held ≡ (fold (walked s.rules []) (walk_from w.held) (all_words options)).held =
+      ap (λ (v : Walk). v.held) (fold-append (walked s.rules []) (walk_from h) (words_of option) (all_words options)) ∙ on.0 in
       record {
         rows = λ name.
-            ap (λ (v : Walk). all_of name (rows_now v.held)) end ∙ more.rows name
+            ap (λ (held : Held). all_of name (rows_now held)) end ∙ more.rows name
             ∙ ap (said_all name options) (ap (all_of name) one.1 ∙ told name (rows_now h) (all option here_own));
         no_fault =
-            walk_fault-append s [] (between h p) (words_of option) (all_words options)
+            walk_fault-append s [] (walk_from h) (words_of option) (all_words options)
             ∙ ap (λ (kinds : Kinds). or_else kinds (walk_fault s [] w (all_words options))) one.2
-            ∙ ap (λ (v : Walk). walk_fault s [] v (all_words options)) here ∙ more.no_fault;
-        settles = ap (λ (v : Walk). settling v.held) end ∙ more.settles;
+            ∙ on.1 ∙ more.no_fault;
+        settles = ap settling end ∙ more.settles;
       }
 
   -- any list of them, from the first word on
-  pub use_all : (own : List Text) → ReadsEach own → (options : List Written) → are_distinct own options ≡ true → AllByRecursion IsPlain options → settling nothing_held ≡ [] → rows_now nothing_held ≡ [] → AreUsed options nothing_held 1
-  use_all own reads options d k n none = use_each own reads options k own (λ option h. h) d nothing_held 1 n (none_held own (rows_now nothing_held) none)
+  pub use_all : (own : List Text) → ReadsEach own → (options : List Written) → are_distinct own options ≡ true → AllByRecursion IsPlain options → settling nothing_held ≡ [] → rows_now nothing_held ≡ [] → AreUsed options nothing_held
+  use_all own reads options d k n none = use_each own reads options k own (λ option h. h) d nothing_held n (none_held own (rows_now nothing_held) none)
 
 pub no_faults_found : (a b c d : Kinds) → a ≡ [] → b ≡ [] → c ≡ [] → d ≡ [] → or_else (or_else a (or_else [] (or_else b (or_else c d)))) [] ≡ []
 no_faults_found a b c d e f g i = rw (e, f, g, i) refl

@@ -11,26 +11,28 @@ use Rattle.cm_attempt.specs.declared.policy.Policy.TheVariants.{Strict, PendingP
 use Rattle.cm_attempt.specs.Settings.{settings_of}
 use Rattle.cm_attempt.specs.declared.settings.Settings.{Settings}
 use Rattle.cm_stream.specs.Release.{Conditions, each_runs, strict_conditions}
-use Rattle.ck_command_line.specs.CommandLine.{AsksNothing, CallsForHelp, Command, command_asked_by, first_attempt_named, is_tag}
-use Rattle.ck_command_line.specs.CommandLine.{ask_audit, ask_cases, ask_compile, ask_gate, ask_parse}
-use Rattle.ck_command_line.specs.CommandLine.{ask_results, asks_for_help}
+use Rattle.ck_command_line.specs.CommandLine.{Asked, AsksNothing, AsksRuns, CallsForHelp}
+use Rattle.ck_command_line.specs.CommandLine.{Command, RunsGate, ask_audit, ask_cases, ask_compile}
+use Rattle.ck_command_line.specs.CommandLine.{ask_gate, ask_parse, ask_results, asked_by}
+use Rattle.ck_command_line.specs.CommandLine.{asks_for_help, first_attempt_named, gate_over}
+use Rattle.ck_command_line.specs.CommandLine.{has_two_inputs, is_tag, over_input, over_runs}
 use Rattle.ck_command_line.specs.declared.command_line.CaseForm.{CaseForm}
 use Rattle.ck_command_line.specs.declared.command_line.CaseForm.TheVariants.{Plain, Json}
 
--- words that are these texts ask for this command, or for none, and don't call for help
-abbrev pub Ask : List Text → Option Command → Type 0
-Ask texts command = (words : List (Bor Text)) → map (λ w. w.now) words ≡ texts
-    → (command_asked_by words ≡ command) × (asks_for_help words ≡ false)
+-- words that are these texts ask for this, or for nothing, and don't call for help
+abbrev pub Ask : List Text → Option Asked → Type 0
+Ask texts asked = (words : List (Bor Text)) → map (λ w. w.now) words ≡ texts
+    → (asked_by words ≡ asked) × (asks_for_help words ≡ false)
 
 -- words that are these texts call for help or for the version
 abbrev pub CallForHelp : List Text → Type 0
 CallForHelp texts = (words : List (Bor Text)) → map (λ w. w.now) words ≡ texts
     → AsksNothing words × CallsForHelp words
 
--- ---- the commands that read a stream, with their options
+-- ---- the commands that read a stream, with their options and runs
 
--- an option as it is written; a tag or the number follows `=` in the same word, or is a word of its
--- own
+-- an option as it is written, or the name of a run; a tag or the number follows `=` in the same
+-- word, or is a word of its own
 pub data Written : Type 0 where
   allow_unrun : Written
   allow_unrun_tagged : (is_one_word : Bool) → (tag : Text) → Written
@@ -43,6 +45,7 @@ pub data Written : Type 0 where
   pending_passes : Written
   attempts_from : (is_one_word : Bool) → (number : Text) → Written
   allow_redeclared : Written
+  run : (word : Text) → Written
 
 abbrev pub name_of : Written → Text
 name_of allow_unrun = codes "allow-unrun"
@@ -56,6 +59,7 @@ name_of as_json = codes "json"
 name_of pending_passes = codes "pending-passes"
 name_of (attempts_from is_one_word number) = codes "attempts-from"
 name_of allow_redeclared = codes "allow-redeclared"
+name_of (run word) = codes "run"
 
 -- its words
 abbrev pub words_of : Written → List Text
@@ -72,6 +76,7 @@ words_of pending_passes = codes "--pending-passes" ∷ []
 words_of (attempts_from true number) = (codes "--attempts-from=" ++ number) ∷ []
 words_of (attempts_from false number) = codes "--attempts-from" ∷ number ∷ []
 words_of allow_redeclared = codes "--allow-redeclared" ∷ []
+words_of (run word) = word ∷ []
 
 abbrev pub all_words : List Written → List Text
 all_words = flat_map words_of
@@ -79,9 +84,10 @@ all_words = flat_map words_of
 abbrev pub has_name : Text → Written → Bool
 has_name name option = bytes_eq name (name_of option)
 
--- `--allow-unrun-tagged` alone may be given several times
+-- `--allow-unrun-tagged` and runs alone may be given several times
 abbrev pub may_come_again : Written → Bool
 may_come_again (allow_unrun_tagged is_one_word tag) = true
+may_come_again (run word) = true
 may_come_again _ = false
 
 -- the names that options may have after this one
@@ -102,10 +108,11 @@ is_option [] = false
 is_option (c ∷ []) = false
 is_option (c ∷ d ∷ cs) = c == 45
 
--- a tag or a number that is a word of its own isn't written like an option
+-- a tag, a number or a run that is a word of its own isn't written like an option
 abbrev pub IsPlain : Written → Type 0
 IsPlain (allow_unrun_tagged false tag) = is_option tag ≡ false
 IsPlain (attempts_from false number) = is_option number ≡ false
+IsPlain (run word) = is_option word ≡ false
 IsPlain _ = ⊤
 
 -- an option of this name is there
@@ -140,6 +147,7 @@ tags_of (option ∷ options) = tags_of options
 -- what they ask of a run: `--strict` is four options at once
 abbrev pub asked_of_run : List Written → Conditions
 asked_of_run options = record {
+  is_part = false;
   allows_unrun = is_there (codes "allow-unrun") options;
   allowed_tags = tags_of options;
   no_retries = is_there (codes "strict") options || is_there (codes "no-retries") options;
@@ -160,16 +168,27 @@ conditions_written options =
     else if list_all is_tag (tags_of options) then Some (asked_of_run options)
     else None
 
+-- the runs that they name, in their order
+abbrev pub runs_of : List Written → List Text
+runs_of [] = []
+runs_of (run word ∷ options) = word ∷ runs_of options
+runs_of (option ∷ options) = runs_of options
+
+-- the runs that they ask for: none where two are `-`
+abbrev pub runs_written : List Written → Option (List Text)
+runs_written options = if has_two_inputs (runs_of options) then None else Some (runs_of options)
+
 -- the form that they ask for
 abbrev pub form_of : List Written → CaseForm
 form_of options = if is_there (codes "json") options then Json else Plain
 
--- how a command is used: its name, the names of its options, and what it asks for by the settings,
--- the conditions and the form
+-- how a command is used: its name, the names of its options, whether it takes runs, and what it
+-- asks for by the settings, the conditions, the form and the runs
 pub record Usage : Type 0 where
   pub name : Text
   pub options : List Text
-  pub asks : Settings → Conditions → CaseForm → Command
+  pub takes_runs : Bool
+  pub asks : Settings → Conditions → CaseForm → (runs : List Text) → Asked
 
 abbrev pub gate_usage : Usage
 gate_usage = record {
@@ -178,7 +197,8 @@ gate_usage = record {
       codes "allow-unrun" ∷ codes "allow-unrun-tagged" ∷ codes "no-retries" ∷ codes "no-skips"
       ∷ codes "no-stepless" ∷ codes "no-undefined" ∷ codes "strict" ∷ codes "pending-passes"
       ∷ codes "attempts-from" ∷ codes "allow-redeclared" ∷ [];
-  asks = λ settings conditions form. ask_gate settings conditions;
+  takes_runs = true;
+  asks = λ settings conditions form runs. gate_over settings conditions runs;
 }
 
 -- a command with the options of `audit`
@@ -186,7 +206,8 @@ abbrev pub usage_like_audit : Text → (Settings → Command) → Usage
 usage_like_audit name asks = record {
   name = name;
   options = codes "pending-passes" ∷ codes "attempts-from" ∷ codes "allow-redeclared" ∷ [];
-  asks = λ settings conditions form. asks settings;
+  takes_runs = false;
+  asks = λ settings conditions form runs. over_input (asks settings);
 }
 
 -- that, and `--json`
@@ -195,54 +216,73 @@ cases_usage = record {
   name = codes "cases";
   options =
       codes "json" ∷ codes "pending-passes" ∷ codes "attempts-from" ∷ codes "allow-redeclared" ∷ [];
-  asks = λ settings conditions form. ask_cases settings form;
+  takes_runs = false;
+  asks = λ settings conditions form runs. over_input (ask_cases settings form);
 }
 
 abbrev pub results_usage : Usage
 results_usage = record {
   name = codes "results";
   options = codes "attempts-from" ∷ [];
-  asks = λ settings conditions form. ask_results settings.first_attempt;
+  takes_runs = false;
+  asks = λ settings conditions form runs. over_input (ask_results settings.first_attempt);
 }
 
+-- the commands over standard input alone
+abbrev pub input_usages : List Usage
+input_usages = usage_like_audit (codes "audit") ask_audit ∷ cases_usage ∷ results_usage ∷ []
+
 abbrev pub usages : List Usage
-usages =
-    gate_usage ∷ usage_like_audit (codes "audit") ask_audit ∷ cases_usage
-    ∷ results_usage ∷ []
+usages = gate_usage ∷ input_usages
 
--- what a command with these options asks for
-abbrev pub command_asked_with : Usage → List Written → Option Command
-command_asked_with usage options =
-    option_and_then (λ conditions. option_map
-    (λ settings. usage.asks settings conditions (form_of options))
-    (settings_written options)) (conditions_written options)
+-- the names that its options and runs have
+abbrev pub names_taken : Usage → List Text
+names_taken usage =
+    if usage.takes_runs then codes "run" ∷ usage.options else usage.options
 
--- A command's own options may come in any order, none twice but for `--allow-unrun-tagged`. They ask
--- for it with what they say, or for nothing where the number is neither 0 nor 1, a tag has no `@`,
--- or `--allow-unrun` is there beside a tag.
+-- what a command with these options and runs asks for
+abbrev pub asked_with : Usage → List Written → Option Asked
+asked_with usage options =
+    option_and_then (λ conditions. option_and_then (λ runs. option_map
+    (λ settings. usage.asks settings conditions (form_of options) runs)
+    (settings_written options)) (runs_written options)) (conditions_written options)
+
+-- A command's own options may come in any order, none twice but for `--allow-unrun-tagged`, and its
+-- runs among them. They ask for it with what they say, or for nothing where the number is neither 0
+-- nor 1, a tag has no `@`, `--allow-unrun` is there beside a tag, or two runs are `-`.
 abbrev pub TakesItsOptions : Usage → Type 0
-TakesItsOptions usage = (options : List Written) → are_distinct usage.options options ≡ true
+TakesItsOptions usage = (options : List Written) → are_distinct (names_taken usage) options ≡ true
     → AllByRecursion IsPlain options
-    → Ask (usage.name ∷ all_words options) (command_asked_with usage options)
+    → Ask (usage.name ∷ all_words options) (asked_with usage options)
+
+-- A gate over named runs has at least one of them, and no two are standard input.
+abbrev pub RunsAreNamed : Type 0
+RunsAreNamed = (words : List (Bor Text)) (gate : RunsGate) → AsksRuns words gate
+    → (gate.runs ≢ []) × (has_two_inputs gate.runs ≡ false)
 
 -- ---- words that ask for nothing
 
--- the commands, with the names of their options
-abbrev pub named_options : List (Text × List Text)
-named_options =
+-- the commands over standard input alone, with the names of their options
+abbrev pub named_options_over_input : List (Text × List Text)
+named_options_over_input =
     (codes "parse", []) ∷ (codes "compile", codes "uri" ∷ [])
-    ∷ map (λ usage. (usage.name, usage.options)) usages
+    ∷ map (λ usage. (usage.name, usage.options)) input_usages
 
--- with this word after the command and any of the options, nothing is asked for, whatever follows
+-- the same of all commands
+abbrev pub named_options : List (Text × List Text)
+named_options = (gate_usage.name, gate_usage.options) ∷ named_options_over_input
+
+-- with this word after the command, any of the options and any runs, nothing is asked for, whatever
+-- follows
 abbrev pub Refuses : (command word : Text) → Type 0
 Refuses command word = (options : List Written) → AllByRecursion IsPlain options
     → (others : List Text) → Ask (command ∷ all_words options ++ word ∷ others) None
 
--- A command refuses a word that is no option, as the name of a file.
+-- A command over standard input alone refuses a word that is no option, as the name of a run.
 abbrev pub RefusesFiles : Text × List Text → Type 0
 RefusesFiles command = (word : Text) → is_option word ≡ false → Refuses command.0 word
 
--- It refuses `--NAME` and `--NAME=VALUE` where NAME is neither its own option's nor `help`.
+-- A command refuses `--NAME` and `--NAME=VALUE` where NAME is neither its own option's nor `help`.
 abbrev pub RefusesOtherOptions : Text × List Text → Type 0
 RefusesOtherOptions command = (word name : Text) (value : Option Text)
     → long_of word ≡ Some (name, value)
@@ -262,11 +302,11 @@ pub record NothingIsAsked : Type 0 where
 -- `parse`, and `compile` with a uri: one that is no option may be a word of its own, and any uri
 -- may follow `--uri=`
 pub record FeaturesAreAsked : Type 0 where
-  pub parse : Ask (codes "parse" ∷ []) (Some ask_parse)
+  pub parse : Ask (codes "parse" ∷ []) (Some (over_input ask_parse))
   pub compile : (uri : Text) → is_option uri ≡ false
-      → Ask (codes "compile" ∷ codes "--uri" ∷ uri ∷ []) (Some (ask_compile uri))
+      → Ask (codes "compile" ∷ codes "--uri" ∷ uri ∷ []) (Some (over_input (ask_compile uri)))
   pub compile_by : (uri : Text)
-      → Ask (codes "compile" ∷ (codes "--uri=" ++ uri) ∷ []) (Some (ask_compile uri))
+      → Ask (codes "compile" ∷ (codes "--uri=" ++ uri) ∷ []) (Some (over_input (ask_compile uri)))
 
 -- ---- examples
 
@@ -292,7 +332,7 @@ allowing_redeclared settings = record settings { allows_redeclared = true }
 abbrev pub ask_gate_for : Conditions → Command
 ask_gate_for asked = ask_gate (settings_by Strict 0) asked
 
--- words, and the command that they ask for
+-- words, and the command over standard input that they ask for
 abbrev pub examples : List (Text × Command)
 examples =
     (codes "gate", ask_gate_for each_runs)
@@ -358,10 +398,57 @@ examples =
     ∷ (codes "compile --uri a.feature", ask_compile (codes "a.feature"))
     ∷ []
 
+-- the gate over these runs, without `--pending-passes` and `--attempts-from`
+abbrev pub over_runs_for : Conditions → (runs : List Text) → RunsGate
+over_runs_for asked runs = record { settings = settings_by Strict 0; asked = asked; runs = runs }
+
+-- words, and the gate over named runs that they ask for; after `--` each word is one
+abbrev pub runs_examples : List (Text × RunsGate)
+runs_examples =
+    (codes "gate a.ndjson", over_runs_for each_runs (codes "a.ndjson" ∷ []))
+    ∷ (codes "gate -", over_runs_for each_runs (codes "-" ∷ []))
+    ∷ (
+      codes "gate a.ndjson - b.ndjson",
+      over_runs_for each_runs (codes "a.ndjson" ∷ codes "-" ∷ codes "b.ndjson" ∷ []),
+    )
+    ∷ (
+      codes "gate a.ndjson a.ndjson",
+      over_runs_for each_runs (codes "a.ndjson" ∷ codes "a.ndjson" ∷ []),
+    )
+    ∷ (codes "gate --strict a.ndjson", over_runs_for strict_conditions (codes "a.ndjson" ∷ []))
+    ∷ (
+      codes "gate a.ndjson --strict b.ndjson",
+      over_runs_for strict_conditions (codes "a.ndjson" ∷ codes "b.ndjson" ∷ []),
+    )
+    ∷ (
+      codes "gate a.ndjson --attempts-from 1 b.ndjson --pending-passes",
+      record {
+        settings = settings_by PendingPasses 1;
+        asked = each_runs;
+        runs = codes "a.ndjson" ∷ codes "b.ndjson" ∷ [];
+      },
+    )
+    ∷ (
+      codes "gate --allow-unrun-tagged @wip @slow",
+      over_runs_for (record each_runs { allowed_tags = codes "@wip" ∷ [] }) (codes "@slow" ∷ []),
+    )
+    ∷ (
+      codes "gate -- a.ndjson --strict -",
+      over_runs_for each_runs (codes "a.ndjson" ∷ codes "--strict" ∷ codes "-" ∷ []),
+    )
+    ∷ []
+
 -- words with a mistake
 abbrev pub mistakes : List Text
 mistakes =
-    codes "gate run.ndjson"
+    codes "gate - -"
+    ∷ codes "gate - a.ndjson --strict -"
+    ∷ codes "gate - -- -"
+    ∷ codes "gate a.ndjson --alow-unrun"
+    ∷ codes "gate a.ndjson --attempts-from"
+    ∷ codes "gate a.ndjson --attempts-from 2"
+    ∷ codes "gate a.ndjson --strict b.ndjson --strict"
+    ∷ codes "gate --run a.ndjson"
     ∷ codes "gate --alow-unrun"
     ∷ codes "gate --allow-unrun=true"
     ∷ codes "gate --allow-unrun --allow-unrun"
@@ -376,7 +463,6 @@ mistakes =
     ∷ codes "gate --allow-unrun-tagged=wip"
     ∷ codes "gate --allow-unrun-tagged="
     ∷ codes "gate --allow-unrun-tagged @wip --allow-unrun-tagged slow"
-    ∷ codes "gate --allow-unrun-tagged @wip @slow"
     ∷ codes "gate --allow-unrun --allow-unrun-tagged @wip"
     ∷ codes "gate --allow-unrun-tagged=@wip --allow-unrun"
     ∷ codes "gate --no-retries --no-retries"
@@ -388,7 +474,15 @@ mistakes =
     ∷ codes "cases --strict"
     ∷ codes "cases --json --json"
     ∷ codes "cases --json=true"
-    ∷ codes "cases --json run.ndjson"
+    ∷ codes "cases --json a.ndjson"
+    ∷ codes "audit a.ndjson"
+    ∷ codes "audit -"
+    ∷ codes "audit -- a.ndjson"
+    ∷ codes "results a.ndjson"
+    ∷ codes "parse a.feature"
+    ∷ codes "compile --uri a.feature a.feature"
+    ∷ codes "a.ndjson"
+    ∷ codes "a.ndjson gate"
     ∷ codes "gate --json"
     ∷ codes "audit --json"
     ∷ codes "differs"
@@ -409,11 +503,14 @@ abbrev pub help_calls : List Text
 help_calls =
     codes "help" ∷ codes "help gate" ∷ codes "--help" ∷ codes "-h"
     ∷ codes "gate --help" ∷ codes "gate -h" ∷ codes "gate --allow-unrun --help"
-    ∷ codes "gate --strict --help"
+    ∷ codes "gate --strict --help" ∷ codes "gate a.ndjson --help"
     ∷ codes "cases --json --help"
     ∷ codes "--version" ∷ codes "-V" ∷ []
 
 pub record ExamplesAreAsked : Type 0 where
-  pub commands : AllByRecursion (λ row. Ask (words_of_line row.0) (Some row.1)) examples
+  pub commands : AllByRecursion (λ row. Ask (words_of_line row.0) (Some (over_input row.1)))
+      examples
+  pub runs : AllByRecursion (λ row. Ask (words_of_line row.0) (Some (over_runs row.1)))
+      runs_examples
   pub mistakes : AllByRecursion (λ text. Ask (words_of_line text) None) mistakes
   pub help : AllByRecursion (λ text. CallForHelp (words_of_line text)) help_calls

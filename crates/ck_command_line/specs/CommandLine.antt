@@ -1,7 +1,8 @@
 -- The command line `cukecheck COMMAND`, as the crate `clap` reads it.
 use Rattle.std.specs.Prelude.{◌≡◌, ◌⊎◌, ◌==◌, ◌||◌, ⊤, true, false, ℕ, Bool, List, [], ◌∷◌}
 use Rattle.std.specs.Prelude.{Option, Some, None, Result, Ok, Err, IsErr, codes}
-use Rattle.std.specs.Prelude.{if◌then◌else◌, fold, map, option_and_then, option_map}
+use Rattle.std.specs.Prelude.{if◌then◌else◌, count_by, fold, map, nat_lt, option_and_then}
+use Rattle.std.specs.Prelude.{option_map}
 use Rattle.std.specs.List.{list_all, list_any}
 use Rattle.std.specs.Borrow.{Bor}
 use Rattle.std.specs.Option.{option_map_or}
@@ -25,7 +26,7 @@ use Rattle.ck_command_line.specs.declared.command_line.NoChoice.TheVariants as n
 use Rattle.ck_command_line.specs.declared.command_line.Refusal.{Refusal}
 use Rattle.ck_command_line.specs.declared.command_line.Refusal.TheVariants as refusal
 
--- what the words may ask for; `compile` has its uri, `results` the number of each case's first
+-- a command over standard input; `compile` has its uri, `results` the number of each case's first
 -- attempt, `gate` what it asks of a run that is to be released, `cases` the form of its lines
 pub data Command : Type 0 where
   ask_parse : Command
@@ -35,14 +36,31 @@ pub data Command : Type 0 where
   ask_results : ℕ → Command
   ask_cases : Settings → CaseForm → Command
 
--- the command, as the code holds it
-abbrev pub command_of_choice : Choice → Command
-command_of_choice choice.Parse = ask_parse
-command_of_choice (choice.Compile uri) = ask_compile uri.now
-command_of_choice (choice.Audit settings) = ask_audit settings
-command_of_choice (choice.Gate settings asked) = ask_gate settings (conditions_of asked)
-command_of_choice (choice.Results first_attempt) = ask_results first_attempt
-command_of_choice (choice.Cases settings form) = ask_cases settings form
+-- a gate over named runs, of which there is at least one: each is the file of a stream, and `-` is
+-- standard input
+pub record RunsGate : Type 0 where
+  pub settings : Settings
+  pub asked : Conditions
+  pub runs : List Text
+
+-- what the words may ask for
+pub data Asked : Type 0 where
+  over_input : Command → Asked
+  over_runs : RunsGate → Asked
+
+-- what is asked for, as the code holds it
+abbrev pub asked_of_choice : Choice → Asked
+asked_of_choice choice.Parse = over_input ask_parse
+asked_of_choice (choice.Compile uri) = over_input (ask_compile uri.now)
+asked_of_choice (choice.Audit settings) = over_input (ask_audit settings)
+asked_of_choice (choice.Gate settings asked) = over_input (ask_gate settings (conditions_of asked))
+asked_of_choice (choice.GateRuns settings asked runs) = over_runs (record {
+  settings = settings;
+  asked = conditions_of asked;
+  runs = map (λ run. run.now) runs.items;
+})
+asked_of_choice (choice.Results first_attempt) = over_input (ask_results first_attempt)
+asked_of_choice (choice.Cases settings form) = over_input (ask_cases settings form)
 
 -- `--uri URI`, which must be given; its value has one name
 abbrev pub uri_rule : Rule
@@ -79,6 +97,10 @@ tagged_rule = record (new_rule (codes "allow-unrun-tagged")) {
   action = Some Append;
 }
 
+-- `RUN`, any number of times; it is no option, and has one name
+abbrev pub run_rule : Rule
+run_rule = record (new_rule (codes "run")) { value_names = 1; action = Some Append }
+
 -- whether hooks and step definitions may be declared again
 abbrev pub redeclared_rule : Rule
 redeclared_rule = flag_rule (codes "allow-redeclared")
@@ -102,9 +124,10 @@ release_rules =
     ∷ flag_rule (codes "no-stepless") ∷ flag_rule (codes "no-undefined")
     ∷ flag_rule (codes "strict") ∷ []
 
--- the command `gate`, with its options in the order in which `--help` lists them
+-- the command `gate`, with its runs, and its options in the order in which `--help` lists them
 abbrev pub gate_command : App
-gate_command = with_rules (with_rules (new_app (codes "gate")) release_rules) settings_rules
+gate_command =
+    with_rules (with_rules (new_app (codes "gate")) (run_rule ∷ release_rules)) settings_rules
 
 -- a command with the options of `audit`
 abbrev pub command_like_audit : Text → App
@@ -206,6 +229,7 @@ tags_allowed false (Some tags) = if list_all is_tag tags then Some tags else Non
 abbrev pub conditions_by : (allows_unrun strict retries skips stepless undefined : Bool)
     → (tags : List Text) → Conditions
 conditions_by allows_unrun strict retries skips stepless undefined tags = record {
+  is_part = false;
   allows_unrun = allows_unrun;
   allowed_tags = tags;
   no_retries = strict || retries;
@@ -222,56 +246,88 @@ conditions_in rows = option_map
     (has_flag (codes "no-stepless") rows) (has_flag (codes "no-undefined") rows))
     (tags_allowed (has_flag (codes "allow-unrun") rows) (all_of (codes "allow-unrun-tagged") rows))
 
--- what `gate` asks by its settings and conditions, where there is no mistake in either
-abbrev pub gate_asked : Option Settings → Option Conditions → Option Command
-gate_asked settings asked =
-    option_and_then (λ conditions. option_map (λ s. ask_gate s conditions) settings) asked
+-- the word stands for standard input
+abbrev pub is_input : Text → Bool
+is_input run = bytes_eq run (codes "-")
+
+-- standard input stands there more than once
+abbrev pub has_two_inputs : List Text → Bool
+has_two_inputs runs = nat_lt 1 (count_by is_input runs)
+
+-- The runs that are named, in their order: none where no word is given. Standard input can be read
+-- once, so that two `-` are a mistake.
+abbrev pub runs_named : Option (List Text) → Option (List Text)
+runs_named None = Some []
+runs_named (Some runs) = if has_two_inputs runs then None else Some runs
+
+abbrev pub runs_in : List Row → Option (List Text)
+runs_in rows = runs_named (all_of (codes "run") rows)
+
+-- a gate over these runs; where there is none it is over standard input
+abbrev pub gate_over : Settings → Conditions → (runs : List Text) → Asked
+gate_over settings asked [] = over_input (ask_gate settings asked)
+gate_over settings asked (run ∷ runs) =
+    over_runs (record { settings = settings; asked = asked; runs = run ∷ runs })
+
+-- what `gate` asks by its settings, its conditions and its runs, where there is no mistake in them
+abbrev pub gate_asked : Option Settings → Option Conditions → (runs : Option (List Text))
+    → Option Asked
+gate_asked settings asked runs =
+    option_and_then (λ conditions. option_and_then (λ named.
+    option_map (λ s. gate_over s conditions named) settings) runs) asked
 
 -- what `cases` asks by its settings and in this form, where there is no mistake
-abbrev pub cases_asked : Option Settings → CaseForm → Option Command
-cases_asked settings form = option_map (λ s. ask_cases s form) settings
+abbrev pub cases_asked : Option Settings → CaseForm → Option Asked
+cases_asked settings form = option_map (λ s. over_input (ask_cases s form)) settings
 
--- the command of this name, with the values that come after it
-abbrev pub command_named : Text → List Row → Option Command
+-- what the command of this name asks for, with the values that come after it
+abbrev pub command_named : Text → List Row → Option Asked
 command_named name rows =
-    if bytes_eq name (codes "parse") then Some ask_parse
-    else if bytes_eq name (codes "compile") then option_map ask_compile
+    if bytes_eq name (codes "parse") then Some (over_input ask_parse)
+    else if bytes_eq name (codes "compile") then option_map (λ uri. over_input (ask_compile uri))
     (first_of (codes "uri") rows)
-    else if bytes_eq name (codes "audit") then option_map ask_audit (settings_in rows)
+    else if bytes_eq name (codes "audit") then option_map (λ s. over_input (ask_audit s))
+    (settings_in rows)
     else if bytes_eq name (codes "gate") then gate_asked (settings_in rows) (conditions_in rows)
-    else if bytes_eq name (codes "results") then option_map ask_results (first_attempt_in rows)
+    (runs_in rows)
+    else if bytes_eq name (codes "results") then option_map (λ n. over_input (ask_results n))
+    (first_attempt_in rows)
     else if bytes_eq name (codes "cases") then cases_asked (settings_in rows) (form_in rows)
     else None
 
-abbrev pub subcommand_named : Option (Text × List Row) → Option Command
+abbrev pub subcommand_named : Option (Text × List Row) → Option Asked
 subcommand_named sub = option_and_then (λ s. command_named s.0 s.1) sub
 
 abbrev pub where_none : {A B : Type 0} → List A → Option B → Option B
 where_none [] found = found
 where_none (x ∷ xs) found = None
 
--- What the words ask for, the program's name first: the command that they name, where the command
--- line has no fault.
-unfoldable pub command_of : List Text → Option Command
-command_of words =
+-- What the words ask for, the program's name first: that of the command that they name, where the
+-- command line has no fault.
+unfoldable pub asked_of : List Text → Option Asked
+asked_of words =
     where_none (fault_of command_app words) (subcommand_named (subcommand_of command_app words))
 
 -- what the words after the program's name ask for
-abbrev pub command_asked_by : List (Bor Text) → Option Command
-command_asked_by words = command_of (codes "cukecheck" ∷ map (λ w. w.now) words)
+abbrev pub asked_by : List (Bor Text) → Option Asked
+asked_by words = asked_of (codes "cukecheck" ∷ map (λ w. w.now) words)
 
--- they ask for this command
+-- they ask for this command over standard input
 abbrev pub Asks : List (Bor Text) → Command → Type 0
-Asks words command = command_asked_by words ≡ Some command
+Asks words command = asked_by words ≡ Some (over_input command)
 
--- they ask for no command
+-- they ask for this gate over named runs
+abbrev pub AsksRuns : List (Bor Text) → RunsGate → Type 0
+AsksRuns words gate = asked_by words ≡ Some (over_runs gate)
+
+-- they ask for nothing
 abbrev pub AsksNothing : List (Bor Text) → Type 0
-AsksNothing words = command_asked_by words ≡ None
+AsksNothing words = asked_by words ≡ None
 
--- the words gave this command, or memory ran out; words that ask for no command gave none
-abbrev pub Chooses : Option Command → Result Choice Refusal → Type 0
-Chooses (Some c) (Ok d) = command_of_choice d ≡ c
-Chooses (Some c) (Err r) = r ≡ refusal.Memory
+-- the words gave this, or memory ran out; words that ask for nothing gave nothing
+abbrev pub Chooses : Option Asked → Result Choice Refusal → Type 0
+Chooses (Some a) (Ok d) = asked_of_choice d ≡ a
+Chooses (Some a) (Err r) = r ≡ refusal.Memory
 Chooses None result = IsErr result
 
 -- The result shows what was asked for, or memory ran out; where nothing was, it is a mistake.

@@ -4,12 +4,12 @@ ghost use Rattle.std.specs.Prelude.{◌≡◌, IfOk, codes, false, map, option_m
 ghost use Rattle.clap.specs.Words.{all_of, app_of, first_of, found_of, kind_of, new_app, rows_of, rule_of, subcommand_rows_of};
 ghost use Rattle.clap.specs.declared.builder.command.Command.TheViews.{out-Command as fields_of};
 ghost use Rattle.ck_command_line.specs.CommandLine.{HelpsByKind, HelpsOnCall, IsNoHelp};
-ghost use Rattle.ck_command_line.specs.CommandLine.{Chooses, command_of_choice, attempts_rule, audit_command, bare_app, cases_command};
-ghost use Rattle.ck_command_line.specs.CommandLine.{cases_asked, form_in, json_rule};
-ghost use Rattle.ck_command_line.specs.CommandLine.{command_app, command_named, command_of, compile_command};
-ghost use Rattle.ck_command_line.specs.CommandLine.{Gives, conditions_in, first_attempt_in, is_tag, tagged_rule, tags_allowed};
+ghost use Rattle.ck_command_line.specs.CommandLine.{Chooses, asked_of, asked_of_choice, attempts_rule, audit_command, bare_app, cases_command};
+ghost use Rattle.ck_command_line.specs.CommandLine.{cases_asked, form_in, gate_asked, gate_over, has_two_inputs, json_rule};
+ghost use Rattle.ck_command_line.specs.CommandLine.{command_app, command_named, compile_command};
+ghost use Rattle.ck_command_line.specs.CommandLine.{Gives, conditions_in, first_attempt_in, is_input, is_tag, tagged_rule, tags_allowed};
 ghost use Rattle.ck_command_line.specs.CommandLine.{flag_rule, gate_command, is_given, subcommand_named, parse_command, policy_in, results_command};
-ghost use Rattle.ck_command_line.specs.CommandLine.{settings_in, settings_rules, uri_rule, with_rules};
+ghost use Rattle.ck_command_line.specs.CommandLine.{run_rule, runs_in, runs_named, settings_in, settings_rules, uri_rule, with_rules};
 ghost use Rattle.cm_stream.specs.Release.{conditions_of};
 
 use crate::help;
@@ -39,6 +39,9 @@ pub enum Choice<'a> {
     Audit(Settings),
     /// The verdict on a stream, and whether its run is to be released, which is asked by these conditions.
     Gate(Settings, Conditions<'a>),
+    /// The same of each of these runs, of which there is at least one: the file of a stream, or `-` for standard input,
+    /// which stands there at most once.
+    GateRuns(Settings, Conditions<'a>, Vec<&'a str>),
     /// The table of the test cases of a stream, with the number of each test case's first attempt.
     Results(u64),
     /// The lines of the test cases of a good stream, by these settings, in this form.
@@ -67,6 +70,8 @@ enum NoChoice {
     WrongTag,
     /// `--allow-unrun` stands beside `--allow-unrun-tagged`.
     BothUnrun,
+    /// `-` stands twice among the runs.
+    TwoInputs,
     /// There was no memory.
     Memory,
 }
@@ -113,6 +118,15 @@ fn tagged_argument<'a>(alloc: Global) -> Arg<'a>
     explained(tagged, "TAG", help::ALLOW_UNRUN_TAGGED)
 }
 
+/// The argument `RUN`, which may be given several times.
+fn run_argument<'a>(alloc: Global) -> Arg<'a>
+    ensures rule { rule_of result ≡ run_rule }
+    ensures local { result.global ≡ false }
+{
+    let run = Arg::new(alloc, "run").action(ArgAction::Append);
+    explained(run, "RUN", help::RUN)
+}
+
 /// A flag, with what its help says.
 fn flag<'a>(alloc: Global, name: &'a str, text: &'a str) -> Arg<'a>
     ensures rule { rule_of result ≡ flag_rule name.entry.now }
@@ -155,7 +169,7 @@ fn with_settings<'a>(alloc: Global, command: Command<'a>) -> Result<Command<'a>,
 }
 
 /// `gate [--allow-unrun] [--allow-unrun-tagged TAG].. [--no-retries] [--no-skips] [--no-stepless] [--no-undefined] [--strict]
-/// [--pending-passes] [--attempts-from N] [--allow-redeclared]`.
+/// [--pending-passes] [--attempts-from N] [--allow-redeclared] [RUN]..`.
 fn gate_command<'a>(alloc: Global) -> Result<Command<'a>, AllocError>
     ensures app { IfOk result (λ c. app_of c ≡ gate_command) }
     ensures local { IfOk result (λ c. (fields_of c).has_globals ≡ false) }
@@ -168,6 +182,7 @@ fn gate_command<'a>(alloc: Global) -> Result<Command<'a>, AllocError>
         help::AFTER_GATE,
     );
     let command = bare
+        .arg(run_argument(alloc))?
         .arg(flag(alloc, "allow-unrun", help::ALLOW_UNRUN))?
         .arg(tagged_argument(alloc))?
         .arg(flag(alloc, "no-retries", help::NO_RETRIES))?
@@ -381,12 +396,12 @@ fn are_tags(texts: &[&str]) -> bool
     texts.iter().all(|text| is_tag(text))
 }
 
-/// The texts after `--allow-unrun-tagged`, in their order.
-fn tagged_in<'v, 'a>(values: &'v ArgMatches<'a>) -> Option<&'v [&'a str]>
+/// The texts of an argument that may be given several times, in their order.
+fn texts_of<'v, 'a>(values: &'v ArgMatches<'a>, name: &str) -> Option<&'v [&'a str]>
     ensures { option_map (λ texts. map (λ text. text.now) texts.now) result
-        ≡ all_of (codes "allow-unrun-tagged") (rows_of (found_of values.now)) }
+        ≡ all_of name.now (rows_of (found_of values.now)) }
 {
-    values.get_raw("allow-unrun-tagged")
+    values.get_raw(name)
 }
 
 /// The tags of the pickles that may be without a test case, in their order. Where each pickle may, none is to be given.
@@ -399,7 +414,7 @@ fn tags_in<'a>(
         (all_of (codes "allow-unrun-tagged") (rows_of (found_of values.now)))) result }
 {
     let mut allowed = Vec::new(alloc);
-    let Some(tags) = tagged_in(values) else {
+    let Some(tags) = texts_of(values, "allow-unrun-tagged") else {
         return Ok(allowed);
     };
     if allows_unrun {
@@ -422,6 +437,7 @@ fn conditions_in<'a>(alloc: Global, values: &ArgMatches<'a>) -> Result<Condition
     let allowed_tags = tags_in(alloc, values, allows_unrun)?;
     let strict = has_flag(values, "strict");
     Ok(Conditions {
+        is_part: false,
         allows_unrun,
         allowed_tags,
         no_retries: strict || has_flag(values, "no-retries"),
@@ -431,13 +447,68 @@ fn conditions_in<'a>(alloc: Global, values: &ArgMatches<'a>) -> Result<Condition
     })
 }
 
+/// The text stands for standard input.
+fn is_input(text: &str) -> bool
+    ensures { result ≡ is_input text.now }
+{
+    text == "-"
+}
+
+/// Standard input stands there more than once.
+fn has_two_inputs(runs: &[&str]) -> bool
+    ensures { result ≡ has_two_inputs (map (λ run. run.now) runs.now) }
+{
+    runs.iter().filter(|run| is_input(run)).count() > 1
+}
+
+/// The runs that are named, in their order.
+fn runs_in<'a>(alloc: Global, values: &ArgMatches<'a>) -> Result<Vec<&'a str>, NoChoice>
+    ensures { Gives (λ runs. map (λ run. run.now) runs.items)
+        (runs_in (rows_of (found_of values.now))) result }
+{
+    let mut runs = Vec::new(alloc);
+    let Some(texts) = texts_of(values, "run") else {
+        return Ok(runs);
+    };
+    if has_two_inputs(texts) {
+        return Err(NoChoice::TwoInputs);
+    }
+    match runs.extend_from_slice(texts) {
+        Ok(()) => Ok(runs),
+        Err(AllocError) => Err(NoChoice::Memory),
+    }
+}
+
+/// A gate over these runs, or over standard input where there is none.
+fn gate_over<'a>(settings: Settings, conditions: Conditions<'a>, runs: Vec<&'a str>) -> Choice<'a>
+    ensures { asked_of_choice result ≡ gate_over settings (conditions_of conditions.entry)
+        (map (λ run. run.now) runs.entry.items) }
+{
+    if runs.is_empty() {
+        Choice::Gate(settings, conditions)
+    } else {
+        Choice::GateRuns(settings, conditions, runs)
+    }
+}
+
+/// What the values after `gate` ask for.
+fn gate_in<'a>(alloc: Global, values: &ArgMatches<'a>) -> Result<Choice<'a>, NoChoice>
+    ensures { Gives asked_of_choice (gate_asked (settings_in (rows_of (found_of values.now)))
+        (conditions_in (rows_of (found_of values.now)))
+        (runs_in (rows_of (found_of values.now)))) result }
+{
+    let settings = settings_in(values)?;
+    let conditions = conditions_in(alloc, values)?;
+    Ok(gate_over(settings, conditions, runs_in(alloc, values)?))
+}
+
 /// The command of this name, with the values that come after it.
 fn choice_named<'a>(
     alloc: Global,
     name: &str,
     values: &ArgMatches<'a>,
 ) -> Result<Choice<'a>, NoChoice>
-    ensures { Gives command_of_choice
+    ensures { Gives asked_of_choice
         (command_named name.now (rows_of (found_of values.now))) result }
 {
     if name == "parse" {
@@ -450,8 +521,7 @@ fn choice_named<'a>(
         return Ok(Choice::Audit(settings_in(values)?));
     }
     if name == "gate" {
-        let settings = settings_in(values)?;
-        return Ok(Choice::Gate(settings, conditions_in(alloc, values)?));
+        return gate_in(alloc, values);
     }
     if name == "results" {
         return Ok(Choice::Results(first_attempt_in(values)?));
@@ -465,7 +535,7 @@ fn choice_named<'a>(
 
 /// What the command in the matches asks for.
 fn chosen<'a>(alloc: Global, matches: &ArgMatches<'a>) -> Result<Choice<'a>, NoChoice>
-    ensures { Gives command_of_choice (subcommand_named (subcommand_rows_of matches.now)) result }
+    ensures { Gives asked_of_choice (subcommand_named (subcommand_rows_of matches.now)) result }
 {
     match matches.subcommand() {
         Some((name, values)) => choice_named(alloc, name, values),
@@ -483,6 +553,7 @@ fn wrong_values(alloc: Global, why: NoChoice) -> Refusal
         NoChoice::WrongAttempts => help::WRONG_ATTEMPTS,
         NoChoice::WrongTag => help::WRONG_TAG,
         NoChoice::BothUnrun => help::BOTH_UNRUN,
+        NoChoice::TwoInputs => help::TWO_INPUTS,
         NoChoice::Memory => return Refusal::Memory,
     };
     match String::from_str(alloc, text) {
@@ -494,9 +565,9 @@ fn wrong_values(alloc: Global, why: NoChoice) -> Refusal
 /// Reads the words, of which the first is the program's name.
 ///
 /// # Errors
-/// The text for the user where the words ask for no command: of a mistake, or the help or the version that they call for.
+/// The text for the user where the words ask for nothing: of a mistake, or the help or the version that they call for.
 pub fn choose<'a>(alloc: Global, words: &'a [&'a str]) -> Result<Choice<'a>, Refusal>
-    ensures chosen { Chooses (command_of (map (λ w. w.now) words.entry.now)) result }
+    ensures chosen { Chooses (asked_of (map (λ w. w.now) words.entry.now)) result }
     ensures help { HelpsOnCall (map (λ w. w.now) words.entry.now) result }
 {
     let Ok(command) = command(alloc) else {

@@ -8,7 +8,8 @@ pub(crate) const PROGRAM: &str =
 pub(crate) const PROGRAM_USAGE: &str = "cukecheck <COMMAND> [OPTIONS] < FILE";
 
 pub(crate) const AFTER_PROGRAM: &str =
-    "Every command reads standard input and prints on standard output. Give it a file by a redirect:
+    "Every command reads standard input and prints on standard output. Give it a file by a redirect;
+`gate` takes the names of files too:
 
   cukecheck gate < run.ndjson && deploy
   cukecheck audit < run.ndjson
@@ -132,10 +133,10 @@ trouble:
 pub(crate) const GATE: &str =
     "Says whether to release a run: its report is true and says success, and each scenario ran.";
 
-pub(crate) const GATE_USAGE: &str = "cukecheck gate [OPTIONS] < FILE";
+pub(crate) const GATE_USAGE: &str = "cukecheck gate [OPTIONS] [RUN]..";
 
 pub(crate) const AFTER_GATE: &str =
-    "Reads a stream of Cucumber Messages (one JSON object a line) from standard input:
+    "Reads a stream of Cucumber Messages (one JSON object a line) from standard input or each RUN:
 
   cukecheck gate < run.ndjson && deploy
 
@@ -164,9 +165,13 @@ Scenarios stand there as `cukecheck cases` shows them, and steps in the same way
 Of a run that is to be released the second line is `release retried=R skipped=S unrun=U`: how many
 pickles have more than one attempt, how many cases have a skipped step in their last attempt, and
 how many pickles have no test case.
+With RUN each line begins with its name and `: `.
 Status 2 is for a mistake in the words. `cukecheck audit --help` explains the numbers and names.
 Without these options a scenario without steps counts as passed, and a run whose every step was
 skipped is released.";
+
+pub(crate) const RUN: &str =
+    "The file of a stream; `-` is standard input, which is read where no RUN is given";
 
 pub(crate) const ALLOW_UNRUN: &str =
     "A run may be released that has pickles without a test case, as where a filter was used";
@@ -201,7 +206,7 @@ For more information, try '--help'.
 
 pub(crate) const WRONG_TAG: &str = "error: the value of '--allow-unrun-tagged <TAG>' begins with '@'
 
-Usage: cukecheck gate --allow-unrun-tagged <TAG> < FILE
+Usage: cukecheck gate --allow-unrun-tagged <TAG> [RUN]..
 
 For more information, try '--help'.
 ";
@@ -209,7 +214,14 @@ For more information, try '--help'.
 pub(crate) const BOTH_UNRUN: &str =
     "error: '--allow-unrun' can't be used with '--allow-unrun-tagged <TAG>'
 
-Usage: cukecheck gate [--allow-unrun | --allow-unrun-tagged <TAG>] < FILE
+Usage: cukecheck gate [--allow-unrun | --allow-unrun-tagged <TAG>] [RUN]..
+
+For more information, try '--help'.
+";
+
+pub(crate) const TWO_INPUTS: &str = "error: '-' is standard input, which can be read once
+
+Usage: cukecheck gate [OPTIONS] [RUN]..
 
 For more information, try '--help'.
 ";

@@ -1,14 +1,17 @@
 //! What the words after the program's name ask for, on the definition of the command line.
 ghost use Rattle.std.specs.List.{AllByRecursion};
-ghost use Rattle.ck_command_line.specs.Asked.{ExamplesAreAsked, FeaturesAreAsked, NothingIsAsked, RefusesFiles};
-ghost use Rattle.ck_command_line.specs.Asked.{RefusesOtherOptions, TakesItsOptions, named_options, usages};
+ghost use Rattle.ck_command_line.specs.Asked.{ExamplesAreAsked, FeaturesAreAsked, NothingIsAsked, RefusesFiles, RunsAreNamed};
+ghost use Rattle.ck_command_line.specs.Asked.{RefusesOtherOptions, TakesItsOptions, named_options, named_options_over_input};
+ghost use Rattle.ck_command_line.specs.Asked.{usages};
 
 /// Which words ask for which command, and which for none.
 pub fn words_ask_for_their_command()
-    // A command takes any list of its own options, in any order and none twice but for `--allow-unrun-tagged`.
+    // A command takes any list of its own options, in any order and none twice but for `--allow-unrun-tagged`, and `gate`
+    // takes runs among them.
     ensures options { AllByRecursion TakesItsOptions usages }
-    // It refuses the name of a file, and an option that it hasn't.
-    ensures files { AllByRecursion RefusesFiles named_options }
+    ensures runs { RunsAreNamed }
+    // The other commands refuse the name of a file, and each refuses an option that it hasn't.
+    ensures files { AllByRecursion RefusesFiles named_options_over_input }
     ensures other_options { AllByRecursion RefusesOtherOptions named_options }
     ensures features { FeaturesAreAsked }
     ensures nothing { NothingIsAsked }

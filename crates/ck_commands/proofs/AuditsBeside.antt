@@ -16,7 +16,7 @@ use Rattle.ck_commands.specs.Run.{Reports, ShowsNone, Tells}
 use Rattle.ck_commands.specs.declared.output.ExitStatus.TheVariants as exit
 use Rattle.ck_commands.specs.declared.output.Report as made
 use Rattle.ck_commands.proofs.Printing.{none_failed, some_failed}
-use Rattle.ck_commands.proofs.Ran.{Reported}
+use Rattle.ck_commands.specs.Run.{Reported}
 
 -- the report that was made is the one that is asked for
 pub report_is : (report : Report) (x : made.Report) → IsReport report x → report_made (Ok x) ≡ report

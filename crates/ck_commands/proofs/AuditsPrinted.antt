@@ -16,7 +16,7 @@ use Rattle.ck_commands.specs.Output.{Report}
 use Rattle.ck_commands.specs.Verdicts.{verdict_report}
 use Rattle.ck_commands.specs.declared.output.ExitStatus.TheVariants as exit
 use Rattle.ck_commands.proofs.Printing.{IsOne, audit_reported, failed_answer, first_reported, none_failed, read_failed_reported, some_failed}
-use Rattle.ck_commands.proofs.Ran.{Reported}
+use Rattle.ck_commands.specs.Run.{Reported}
 
 not_done : (n : ℕ) (f : Finding) → (verdict_report (Found n f)).status ≡ exit.Done → ⊥
 not_done n (IsBad f) e = cc

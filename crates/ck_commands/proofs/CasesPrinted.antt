@@ -29,7 +29,7 @@ use Rattle.ck_commands.specs.Verdicts.{verdict_report}
 use Rattle.ck_commands.specs.declared.output.ExitStatus.TheVariants as exit
 use Rattle.ck_commands.specs.declared.output.Report as made
 use Rattle.ck_commands.proofs.AuditsBeside.{Shows, alone, audit_beside_is_reported, report_is}
-use Rattle.ck_commands.proofs.Ran.{Reported}
+use Rattle.ck_commands.specs.Run.{Reported}
 
 -- an answer that isn't Good has the same report
 same_report : (form : CaseForm) (first : FirstFault) (a : Answer) → a ≡ answer_for first → ((es : List Envelope) → a ≡ answer_for (NoFault es) → ⊥) → verdict_report a ≡ cases_report form first

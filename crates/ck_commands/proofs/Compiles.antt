@@ -19,7 +19,7 @@ use Rattle.ck_commands.specs.declared.text_input.TextFault.TheVariants as text
 use Rattle.ck_commands.specs.declared.feature_input.FeatureFault.{FeatureFault}
 use Rattle.ck_commands.specs.declared.feature_input.FeatureFault.TheVariants.{Memory, NotUtf8, ReadFailed, Refused}
 use Rattle.ck_commands.proofs.Printing.{IsOne, none_failed, some_failed}
-use Rattle.ck_commands.proofs.Ran.{Reported}
+use Rattle.ck_commands.specs.Run.{Reported}
 use Rattle.ck_commands.proofs.TextLemmas.{failed_fault, input_of_whole, other_fault}
 
 -- the parser's refusal of a text is that of its bytes

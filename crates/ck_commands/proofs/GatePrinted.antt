@@ -30,7 +30,7 @@ use Rattle.ck_commands.specs.Run.{Reports}
 use Rattle.ck_commands.specs.declared.output.ExitStatus.TheVariants as exit
 use Rattle.ck_commands.specs.declared.output.Report as made
 use Rattle.ck_commands.proofs.AuditsBeside.{Shows, alone, audit_beside_is_reported, report_is}
-use Rattle.ck_commands.proofs.Ran.{Reported}
+use Rattle.ck_commands.specs.Run.{Reported}
 
 -- by what is answered
 finding_first : (first : FirstFault) (n : ℕ) (f : Finding) → Found n f ≡ answer_for first → At n f ≡ first

@@ -1,4 +1,3 @@
-pub mod Answered
 pub mod CasesPrinted
 pub mod Compiles
 pub mod Lines
@@ -13,3 +12,5 @@ pub mod Shown
 pub mod Exactly
 mod GatePrinted
 mod AuditsBeside
+pub mod RunsLemmas
+pub mod RunsReleased

@@ -1,6 +1,7 @@
 -- Which report a run of `audit`, `gate` or `results` delivers.
-use Rattle.std.proofs.Common.{◌≡◌, ◌∙◌, ◌⊎◌, ℕ, ◌<◌, List, Result, Ok, Err, Bool, true, false, inl, inr, refl, sym, ap, arith, string_bytes}
+use Rattle.std.proofs.Common.{◌≡◌, ◌∙◌, ◌⊎◌, ℕ, ◌<◌, List, Option, Some, Result, Ok, Err, Bool, true, false, inl, inr, refl, sym, ap, arith, string_bytes}
 use Rattle.std.specs.Prelude.{IfOk}
+use Rattle.std.specs.List.{flat_map}
 use Rattle.std.specs.declared.alloc.AllocError.{AllocError}
 use Rattle.cm_envelope.specs.Device.{CountsFailure, Input, OfInput, OfReads, count_up, greatest_count}
 use Rattle.cm_envelope.proofs.Sources.{input_weaker, reads_weaker}
@@ -8,19 +9,20 @@ use Rattle.cm_envelope.specs.declared.feed.Trouble.{Trouble}
 use Rattle.cm_envelope.specs.declared.feed.Trouble.TheVariants.{ReadFailed, LineTooLong, StreamTooLong, Memory}
 use Rattle.cm_attempt.specs.Table.{Table}
 use Rattle.cm_attempt.specs.declared.settings.Settings.{Settings}
+use Rattle.cm_attempt.specs.declared.status.Status.{Status}
 use Rattle.cm_audit.specs.Audit.{AnswersAs, AnswersTold, IsAuditOf}
 use Rattle.cm_envelope.specs.Feeds.{is_failed_read}
 use Rattle.cm_stream.specs.Results.{first_results_fault}
-use Rattle.cm_stream.specs.Stream.{Answer, Failed, FirstFault, IsFirstFault, answer_for, answer_of_audit}
+use Rattle.cm_stream.specs.Stream.{Answer, At, Failed, FirstFault, Found, IsFirstFault, NoFault, Troubled, answer_for, answer_of_audit}
+use Rattle.cm_stream.specs.Texts.{Utf8}
 use Rattle.cm_stream.specs.declared.verdict.Audited.{Audited}
-use Rattle.ck_commands.specs.Outcome.{outcome_of, outcome_report}
 use Rattle.ck_commands.specs.Output.{NoneFailed, Report, report_made, trouble_report}
-use Rattle.ck_commands.specs.Reading.{HasOutcome, held_outcome, is_failed_attempts_read as results_failed}
-use Rattle.ck_commands.specs.Results.{results_report}
+use Rattle.ck_commands.specs.Reading.{HasOutcome, fault_answer, is_failed_attempts_read as results_failed, report_of_read}
+use Rattle.ck_commands.specs.Results.{result_text, results_report}
 use Rattle.ck_commands.specs.Run.{ReportsAudit, ReportsFirst}
+use Rattle.ck_commands.specs.Verdicts.{verdict_report}
 use Rattle.ck_commands.specs.declared.output.ExitStatus.TheVariants as exit
 use Rattle.ck_commands.specs.declared.output.Report as made
-use Rattle.ck_commands.proofs.Answered.{outcome_is_reported}
 
 -- this report, or that of no memory
 abbrev pub IsOne : Report → Report → Type 0
@@ -99,22 +101,28 @@ failed_read (Err (Err LineTooLong)) e = cc
 failed_read (Err (Err StreamTooLong)) e = cc
 failed_read (Err (Err Memory)) e = cc
 
-pub failed_outcome : (held : Result Table (Result Audited Trouble)) (r : Report) → results_failed held ≡ true → IsOne (outcome_report (held_outcome held)) r → IsOne (trouble_report ReadFailed) r
+pub failed_outcome : (held : Result Table (Result Audited Trouble)) (r : Report) → results_failed held ≡ true → IsOne (report_of_read held) r → IsOne (trouble_report ReadFailed) r
 failed_outcome held r failed (inr e) = inr e
-failed_outcome held r failed (inl e) = inl (e ∙ ap (λ (h : Result Table (Result Audited Trouble)). outcome_report (held_outcome h)) (failed_read held failed))
+failed_outcome held r failed (inl e) = inl (e ∙ ap report_of_read (failed_read held failed))
 
--- an outcome is reported as the one that the code holds, but where a read failed
-outcome_is : (first : ℕ) (bytes : List ℕ) (held : Result Table (Result Audited Trouble)) (r : Report) → HasOutcome (outcome_of first bytes) held → results_failed held ≡ false
-    → IsOne (outcome_report (held_outcome held)) r → IsOne (results_report (first_results_fault first bytes)) r
-outcome_is first bytes held r is none (inr e) = inr e
-outcome_is first bytes (Ok t) r is none (inl e) = inl (e ∙ ap outcome_report (sym is) ∙ outcome_is_reported first bytes)
-outcome_is first bytes (Err (Ok a)) r is none (inl e) = inl (e ∙ ap outcome_report (sym is) ∙ outcome_is_reported first bytes)
-outcome_is first bytes (Err (Err ReadFailed)) r is none (inl e) = cc
-outcome_is first bytes (Err (Err LineTooLong)) r is none (inl e) = inl (e ∙ ap outcome_report (sym is) ∙ outcome_is_reported first bytes)
-outcome_is first bytes (Err (Err StreamTooLong)) r is none (inl e) = inl (e ∙ ap outcome_report (sym is) ∙ outcome_is_reported first bytes)
-outcome_is first bytes (Err (Err Memory)) r is none (inl e) = inr e
+-- the report of a first fault is that of its answer
+answer_reported : (told : FirstFault) (a : Answer) → fault_answer told ≡ Some a → verdict_report a ≡ results_report told
+answer_reported (At n f) a e = let same : a ≡ Found n f = cc in ap verdict_report same
+answer_reported (Troubled t) a e = let same : a ≡ Failed t = cc in ap verdict_report same
+answer_reported (NoFault es) a e = cc
 
-pub outcome_reported : (first : ℕ) (i j : Input) (held : Result Table (Result Audited Trouble)) (r : Report) → OfInput i j (λ bytes. HasOutcome (outcome_of first bytes) held) → results_failed held ≡ false
-    → IsOne (outcome_report (held_outcome held)) r → OfInput i j (λ bytes. IsOne (results_report (first_results_fault first bytes)) r)
+-- what is reported is that of the stream, but where a read failed
+outcome_is : (told : FirstFault) (held : Result Table (Result Audited Trouble)) (r : Report) → HasOutcome told held → results_failed held ≡ false → IsOne (report_of_read held) r → IsOne (results_report told) r
+outcome_is told held r is none (inr e) = inr e
+outcome_is told (Ok t) r is none (inl e) =
+    inl (e ∙ ap (λ (rs : List (Utf8 × Option Status)). let x : Report = record { text = flat_map result_text rs; status = exit.Done } in x) is.2 ∙ ap results_report (sym is.1))
+outcome_is told (Err (Ok a)) r is none (inl e) = inl (e ∙ answer_reported told (answer_of_audit (Ok a)) is)
+outcome_is told (Err (Err ReadFailed)) r is none (inl e) = cc
+outcome_is told (Err (Err LineTooLong)) r is none (inl e) = inl (e ∙ answer_reported told (Failed LineTooLong) is)
+outcome_is told (Err (Err StreamTooLong)) r is none (inl e) = inl (e ∙ answer_reported told (Failed StreamTooLong) is)
+outcome_is told (Err (Err Memory)) r is none (inl e) = inr e
+
+pub outcome_reported : (first : ℕ) (i j : Input) (held : Result Table (Result Audited Trouble)) (r : Report) → OfInput i j (λ bytes. HasOutcome (first_results_fault first bytes) held) → results_failed held ≡ false
+    → IsOne (report_of_read held) r → OfInput i j (λ bytes. IsOne (results_report (first_results_fault first bytes)) r)
 outcome_reported first i j held r is none one =
-    input_weaker {P = λ bytes. HasOutcome (outcome_of first bytes) held} {Q = λ bytes. IsOne (results_report (first_results_fault first bytes)) r} i j is (λ xs h. outcome_is first xs held r h none one)
+    input_weaker {P = λ bytes. HasOutcome (first_results_fault first bytes) held} {Q = λ bytes. IsOne (results_report (first_results_fault first bytes)) r} i j is (λ xs h. outcome_is (first_results_fault first xs) held r h none one)

@@ -21,7 +21,7 @@ use Rattle.ck_commands.specs.Features.{IsFeatureOf, fault_report, parse_report}
 use Rattle.ck_commands.specs.Gate.{PrintsBadWhy, PrintsReleased, ReleasesOrTells, held_status, second_line}
 use Rattle.ck_commands.specs.Output.{Breaks, Delivers, DeliversOne, NoneFailed, Prints, Report, code_of, trouble_report}
 use Rattle.ck_commands.specs.Results.{results_report}
-use Rattle.ck_commands.specs.Run.{IsBadFor, IsDone, PrintsCompiled, PrintsDocument, PrintsFault, PrintsRefused, PrintsResults, Reports, ReportsCompiled, Runs, ShowsNone, Tells}
+use Rattle.ck_commands.specs.Run.{IsBadFor, IsDone, PrintsCompiled, PrintsDocument, PrintsFault, PrintsRefused, PrintsResults, Reported, Reports, ReportsCompiled, Runs, ShowsNone, Tells}
 use Rattle.ck_commands.specs.Verdicts.{PrintsBad, PrintsGood, counts_text, verdict_report}
 use Rattle.ck_commands.specs.declared.feature_input.FeatureFault.{FeatureFault}
 use Rattle.ck_commands.specs.declared.feature_input.FeatureFault.TheVariants as fault
@@ -40,7 +40,7 @@ is_done exit.Unsupported e = cc
 is_done exit.Held e = cc
 
 -- a report that was delivered, with a code other than that of trouble
-was_printed : (r : Report) (code : ℕ) (before after : Output) → Delivers r code before after → (code ≡ 3 → ⊥) → Prints r code before after
+pub was_printed : (r : Report) (code : ℕ) (before after : Output) → Delivers r code before after → (code ≡ 3 → ⊥) → Prints r code before after
 was_printed r code before after d other = go d.one
   where
     go : Prints r code before after ⊎ Breaks r.text code before after → Prints r code before after
@@ -156,7 +156,7 @@ module _ (code : ℕ) (before after : Output) where
 abbrev Printed : ℕ → Output → Output → Report → Type 0
 Printed code before after r = Prints r code before after
 
-done_of : (c : Command) (bytes rest : List ℕ) (r : Report) (code : ℕ) (before after : Output) → Tells c bytes rest r → Prints r code before after → code ≡ 0 → IsDone c before after bytes
+pub done_of : (c : Command) (bytes rest : List ℕ) (r : Report) (code : ℕ) (before after : Output) → Tells c bytes rest r → Prints r code before after → code ≡ 0 → IsDone c before after bytes
 done_of ask_parse bytes rest r code before after t p zero = document code before after bytes t.0 t.1 (subst (Printed code before after) t.2 p) zero
 done_of (ask_compile uri) bytes rest r code before after t p zero = compiled code before after uri bytes r t p zero
 done_of (ask_audit s) bytes rest r code before after t p zero = good s code before after bytes t.0.verdict t.0.success t.1.good (subst (Printed code before after) t.2 p) zero
@@ -173,16 +173,6 @@ bad_of (ask_results n) bytes rest r code before after t p one = no_results code 
 bad_of (ask_cases s form) bytes rest r code before after t p one = not_listed s code before after form bytes t.0 t.0.verdict r refl t.2 t.1.bad p one
 
 -- ---- a run
-
--- What a run leaves, by its report: what it reports where no read failed; what its status says; that it was read to the end
--- where the status is 0; and what is left of a failed read.
-pub record Reported (c : Command) (r : Report) (i j : Input) : Type 0 where
-  pub answer : NoneFailed i.failed_calls j.failed_calls → OfInput i j (λ bytes. Reports c bytes r ⊎ (r ≡ trouble_report Memory))
-  pub tells : (r.status ≡ exit.Trouble → ⊥) → OfReads i j (λ bytes rest. Tells c bytes rest r)
-  pub over : r.status ≡ exit.Done → j.is_over ≡ true
-  pub no_fault : j.failed_calls ≢ i.failed_calls → OfReads i j (ShowsNone c)
-  pub read_failed : j.failed_calls ≢ i.failed_calls → (r ≡ trouble_report ReadFailed) ⊎ (r ≡ trouble_report Memory)
-  pub unread : r.status ≡ exit.Done → j.failed_calls ≡ i.failed_calls
 
 pub runs_of : (c : Command) (r : Report) (code : ℕ) (i j : Input) (before after : Output) → Delivers r code before after → Reported c r i j → Runs c code i j before after
 runs_of c r code i j before after d h =

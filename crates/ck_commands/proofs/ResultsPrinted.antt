@@ -11,16 +11,15 @@ use Rattle.cm_audit.specs.Audit.{audited_at}
 use Rattle.cm_audit.specs.declared.stop.Stop.{Stop}
 use Rattle.cm_audit.specs.declared.stop.Stop.TheVariants as stop
 use Rattle.ck_command_line.specs.CommandLine.{ask_results}
-use Rattle.ck_commands.specs.Outcome.{outcome_of, outcome_report}
 use Rattle.ck_commands.specs.Output.{Report}
-use Rattle.ck_commands.specs.Reading.{HasOutcome, held_outcome, is_failed_attempts_read}
+use Rattle.ck_commands.specs.Reading.{HasOutcome, is_failed_attempts_read, report_of_read}
 use Rattle.ck_commands.specs.Results.{ResultsShowNoFault, results_report}
 use Rattle.ck_commands.specs.declared.output.ExitStatus.TheVariants as exit
 use Rattle.ck_commands.proofs.Printing.{IsOne, failed_outcome, failed_read, none_failed, outcome_reported, some_failed}
-use Rattle.ck_commands.proofs.Ran.{Reported}
+use Rattle.ck_commands.specs.Run.{Reported}
 
 -- with another status than that of trouble no read failed
-was_read : (held : Result Table (Result Audited Trouble)) (r : Report) → IsOne (outcome_report (held_outcome held)) r → (r.status ≡ exit.Trouble → ⊥) → is_failed_attempts_read held ≡ false
+was_read : (held : Result Table (Result Audited Trouble)) (r : Report) → IsOne (report_of_read held) r → (r.status ≡ exit.Trouble → ⊥) → is_failed_attempts_read held ≡ false
 was_read held r (inr e) other = absurd (other (ap (λ (x : Report). x.status) e))
 was_read (Ok t) r (inl e) other = refl
 was_read (Err (Ok a)) r (inl e) other = refl
@@ -33,7 +32,7 @@ made : (first : ℕ) (bytes : List ℕ) (r : Report) → IsOne (results_report (
 made first bytes r (inl e) other = e
 made first bytes r (inr e) other = absurd (other (ap (λ (x : Report). x.status) e))
 
-not_counted : (held : Result Table (Result Audited Trouble)) (old new : ℕ) → CountsFailure (is_failed_attempts_read held) old new → (outcome_report (held_outcome held)).status ≡ exit.Done → new ≡ old
+not_counted : (held : Result Table (Result Audited Trouble)) (old new : ℕ) → CountsFailure (is_failed_attempts_read held) old new → (report_of_read held).status ≡ exit.Done → new ≡ old
 not_counted (Ok t) old new counts done = counts
 not_counted (Err (Ok a)) old new counts done = counts
 not_counted (Err (Err ReadFailed)) old new counts done = cc
@@ -41,13 +40,13 @@ not_counted (Err (Err LineTooLong)) old new counts done = counts
 not_counted (Err (Err StreamTooLong)) old new counts done = counts
 not_counted (Err (Err Memory)) old new counts done = counts
 
-done_of : (held : Result Table (Result Audited Trouble)) (r : Report) → IsOne (outcome_report (held_outcome held)) r → r.status ≡ exit.Done → (outcome_report (held_outcome held)).status ≡ exit.Done
+done_of : (held : Result Table (Result Audited Trouble)) (r : Report) → IsOne (report_of_read held) r → r.status ≡ exit.Done → (report_of_read held).status ≡ exit.Done
 done_of held r (inl e) done = sym (ap (λ (x : Report). x.status) e) ∙ done
 done_of held r (inr e) done = let no : exit.Trouble ≡ exit.Done = sym (ap (λ (x : Report). x.status) e) ∙ done in cc
 
-pub results_are_reported : (first : ℕ) (held : Result Table (Result Audited Trouble)) (r : Report) (i j : Input) → OfInput i j (λ bytes. HasOutcome (outcome_of first bytes) held)
-    → ((outcome_report (held_outcome held)).status ≡ exit.Done → j.is_over ≡ true) → CountsFailure (is_failed_attempts_read held) i.failed_calls j.failed_calls
-    → (held ≡ Err (Err ReadFailed) → OfReads i j (ResultsShowNoFault first)) → IsOne (outcome_report (held_outcome held)) r → Reported (ask_results first) r i j
+pub results_are_reported : (first : ℕ) (held : Result Table (Result Audited Trouble)) (r : Report) (i j : Input) → OfInput i j (λ bytes. HasOutcome (first_results_fault first bytes) held)
+    → ((report_of_read held).status ≡ exit.Done → j.is_over ≡ true) → CountsFailure (is_failed_attempts_read held) i.failed_calls j.failed_calls
+    → (held ≡ Err (Err ReadFailed) → OfReads i j (ResultsShowNoFault first)) → IsOne (report_of_read held) r → Reported (ask_results first) r i j
 results_are_reported first held r i j is over counts none one = record {
   answer = λ all. outcome_reported first i j held r is (none_failed _ _ _ counts all) one;
   tells = λ other.
@@ -60,7 +59,7 @@ results_are_reported first held r i j is over counts none one = record {
 }
 
 -- the answer at a line isn't Good
-pub not_good_at : (n : ℕ) (why : Stop) → (let held : Result Table (Result Audited Trouble) = Err (audited_at n why) in (outcome_report (held_outcome held)).status) ≡ exit.Done → ⊥
+pub not_good_at : (n : ℕ) (why : Stop) → (let held : Result Table (Result Audited Trouble) = Err (audited_at n why) in (report_of_read held).status) ≡ exit.Done → ⊥
 not_good_at n (stop.Bad b) e = cc
 not_good_at n (stop.Unsupported r) e = cc
 not_good_at n stop.Memory e = cc

@@ -2,11 +2,12 @@
 -- Features: what the bytes of a source are as a feature file, and what is printed of it
 -- Gate: what the command `gate` prints
 -- Cases: what the command `cases` prints, by the whole list of envelopes of a good stream
--- Outcome: the outcome of a stream for the command `results`, as a fold over the table of the record of attempts
 -- Output: what a command prints, the status that it ends with, and how a run shows both
--- Reading: what the functions of `results` leave on the way to an outcome
+-- Reading: what the functions of `results` leave on the way to a report
 -- Results: what the command `results` prints, by the whole list of envelopes of a stream
 -- Run: what a run leaves, one line a command
+-- Runs: a gate over named runs
+-- Asked: what a run leaves, by what the words ask for
 -- Statuses: the words of the statuses of cases
 -- TextInput: what the bytes of a source are as a text
 -- Verdicts: what the command `audit` prints of a verdict
@@ -15,11 +16,12 @@
 pub mod Features
 pub mod Gate
 pub mod Cases
-pub mod Outcome
 pub mod Output
 pub mod Reading
 pub mod Results
 pub mod Run
+pub mod Runs
+pub mod Asked
 pub mod Statuses
 pub mod TextInput
 pub mod Verdicts

@@ -1,5 +1,5 @@
 -- What a run leaves, one line a command: the report that it prints of the bytes of its source, and what its status says of them.
-use Rattle.std.specs.Prelude.{◌≡◌, ◌≢◌, ◌⊎◌, ⊤, ℕ, List, Option, Result, Ok, string_bytes}
+use Rattle.std.specs.Prelude.{◌≡◌, ◌≢◌, ◌⊎◌, ⊤, ℕ, List, Option, Result, Ok, string_bytes, true}
 use Rattle.std.specs.List.{flat_map}
 use Rattle.std.specs.Borrow.{Bor}
 use Rattle.gk_grammar.specs.Documents.{IsDocumentOf}
@@ -145,6 +145,20 @@ ShowsNone c bytes rest = ⊤
 abbrev pub TellsFailedRead : ℕ → (before after : Output) → Type 0
 TellsFailedRead code before after =
     DeliversOne (λ r. r ≡ trouble_report ReadFailed) code before after
+
+-- ---- a report
+
+-- What a report is of what was heard from one state of a source to a later one: what is reported where no read failed; what any
+-- status but that of trouble says; that the source was at its end where all was done; and what is left of a failed read.
+pub record Reported (c : Command) (r : Report) (i j : Input) : Type 0 where
+  pub answer : NoneFailed i.failed_calls j.failed_calls
+      → OfInput i j (λ bytes. Reports c bytes r ⊎ (r ≡ trouble_report Memory))
+  pub tells : (r.status ≡ exit.Trouble → ⊥) → OfReads i j (λ bytes rest. Tells c bytes rest r)
+  pub over : r.status ≡ exit.Done → j.is_over ≡ true
+  pub no_fault : j.failed_calls ≢ i.failed_calls → OfReads i j (ShowsNone c)
+  pub read_failed : j.failed_calls ≢ i.failed_calls
+      → (r ≡ trouble_report ReadFailed) ⊎ (r ≡ trouble_report Memory)
+  pub unread : r.status ≡ exit.Done → j.failed_calls ≡ i.failed_calls
 
 -- ---- a run
 

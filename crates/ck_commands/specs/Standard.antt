@@ -1,10 +1,13 @@
 -- What a run over a reader of std says of the bytes that the reader gave.
-use Rattle.std.specs.Prelude.{◌≡◌, true}
+use Rattle.std.specs.Prelude.{◌≡◌, ℕ, List, [], Option, false, true}
 use Rattle.cm_envelope.specs.Device.{Input}
 use Rattle.cm_attempt.specs.declared.settings.Settings.{Settings}
 use Rattle.cm_stream.specs.Release.{Conditions, IsReleasedStream}
 use Rattle.cm_stream.specs.declared.conditions.ReleaseCounts.{ReleaseCounts}
 use Rattle.cm_stream.specs.declared.verdict.Counts.{Counts}
+use Rattle.files.specs.Openings.{Opening}
+use Rattle.ck_command_line.specs.CommandLine.{RunsGate}
+use Rattle.ck_commands.specs.Asked.{ReleasesEach}
 
 -- the source was at its end, and the bytes that it gave are a released stream
 abbrev pub GaveReleased : Settings → Conditions → Input → Type 0
@@ -12,3 +15,10 @@ GaveReleased settings asked i =
     (i.is_over ≡ true)
     × ((counts : Counts) × (found : ReleaseCounts)
     × IsReleasedStream settings asked i.heard counts found)
+
+-- Of each run the same holds: of the file that was opened by its name, and of what standard input gave.
+abbrev pub GaveReleasedEach : RunsGate → (old new : List Opening) → Input → Type 0
+GaveReleasedEach g old new i =
+    (shown : Option (List ℕ))
+    × ReleasesEach g old new
+    (record { heard = []; is_over = false; to_come = shown; failed_calls = 0 }) i

@@ -2,9 +2,8 @@
 ghost use Rattle.std.specs.Prelude.{◌≡◌, true, Err, ⊤};
 ghost use Rattle.cm_envelope.specs.Device.{CountsFailure, OfInput, OfReads};
 ghost use Rattle.cm_envelope.specs.declared.feed.Trouble.TheVariants.{ReadFailed};
-ghost use Rattle.ck_commands.specs.Outcome.{after_line, outcome_of, outcome_report};
-ghost use Rattle.ck_commands.specs.Reading.{HasOutcome, LeavesTable, held_outcome};
-ghost use Rattle.ck_commands.specs.Reading.{is_failed_attempts_read};
+ghost use Rattle.cm_stream.specs.Results.{first_results_fault};
+ghost use Rattle.ck_commands.specs.Reading.{HasOutcome, LeavesTable, after_line, is_failed_attempts_read, report_of_read};
 ghost use Rattle.ck_commands.specs.Results.{ResultsShowNoFault};
 ghost use Rattle.ck_commands.specs.declared.output.ExitStatus.TheVariants.{Done};
 
@@ -26,7 +25,7 @@ impl TakeLines for Attempts {
     ghost takes = { λ old line result new. LeavesTable (after_line old.track line) new.track
         result };
 
-    // The call of the record that the line's envelope makes, if it makes one.
+    /// The call of the record that the line's envelope makes, if it makes one.
     fn take_line(&mut self, alloc: Global, line: &[u8]) -> Result<(), Stop> {
         if is_blank_line(line) {
             return Ok(());
@@ -52,9 +51,8 @@ pub(crate) fn read_attempts<S: ByteSource>(
     source: &mut S,
 ) -> Result<Track, Result<Audited, Trouble>>
     ensures outcome { OfInput (S.input source.old) (S.input source.new)
-        (λ bytes. HasOutcome (outcome_of first_attempt bytes) result) }
-    ensures whole { (outcome_report (held_outcome result)).status ≡ Done
-        → (S.input source.new).is_over ≡ true }
+        (λ bytes. HasOutcome (first_results_fault first_attempt bytes) result) }
+    ensures whole { (report_of_read result).status ≡ Done → (S.input source.new).is_over ≡ true }
     ensures failures { CountsFailure (is_failed_attempts_read result)
         (S.input source.old).failed_calls (S.input source.new).failed_calls }
     ensures no_fault { result ≡ Err (Err ReadFailed)

@@ -22,7 +22,7 @@ use cm_envelope::{ByteSink, ByteSource, Trouble};
 use cm_stream::Verdict;
 use std::alloc::{AllocError, Global};
 
-// One line for each of these cases, and then one for each pickle that no case names.
+/// One line for each of these cases, and then one for each pickle that no case names.
 fn lines_of(
     alloc: Global,
     places: &Places<'_>,
@@ -41,7 +41,7 @@ fn lines_of(
     Ok(text)
 }
 
-// The same lines as JSON.
+/// The same lines as JSON.
 fn json_of(
     alloc: Global,
     lines: &JsonLines<'_>,
@@ -59,7 +59,7 @@ fn json_of(
     Ok(text)
 }
 
-// One line for each case, in order of declaration, and then one for each pickle that no case names.
+/// One line for each case, in order of declaration, and then one for each pickle that no case names.
 fn cases_text(alloc: Global, listing: &Listing, attempts: &Track) -> Result<String, AllocError>
     ensures { IfOk result
         (λ text. IsCasesText CaseForm.Plain listing.now attempts.now (string_bytes text)) }
@@ -71,7 +71,7 @@ fn cases_text(alloc: Global, listing: &Listing, attempts: &Track) -> Result<Stri
     text
 }
 
-// The same as JSON.
+/// The same as JSON.
 fn cases_json(alloc: Global, listing: &Listing, attempts: &Track) -> Result<String, AllocError>
     ensures { IfOk result
         (λ text. IsCasesText CaseForm.Json listing.now attempts.now (string_bytes text)) }
@@ -83,7 +83,7 @@ fn cases_json(alloc: Global, listing: &Listing, attempts: &Track) -> Result<Stri
     text
 }
 
-// The lines in this form.
+/// The lines in this form.
 fn lines_in(
     alloc: Global,
     form: CaseForm,
@@ -98,7 +98,7 @@ fn lines_in(
     }
 }
 
-// The report of a stream that was audited.
+/// The report of a stream that was audited.
 fn cases_report(
     alloc: Global,
     form: CaseForm,

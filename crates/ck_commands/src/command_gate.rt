@@ -3,10 +3,10 @@ ghost use Rattle.std.specs.Prelude.{◌≡◌, ◌++◌, IfOk, Ok, Some, string_
 ghost use Rattle.cm_stream.specs.Release.{conditions_of};
 ghost use Rattle.cm_stream.specs.Stream.{answer_of_audit};
 ghost use Rattle.ck_command_line.specs.CommandLine.{ask_gate};
-ghost use Rattle.ck_commands.specs.Output.{IsReport};
+ghost use Rattle.ck_commands.specs.Output.{IsReport, report_made};
 ghost use Rattle.ck_commands.specs.Gate.{ReportsRelease, held_report, hold_name, release_text};
 ghost use Rattle.ck_commands.specs.Gate.{held_status, second_line};
-ghost use Rattle.ck_commands.specs.Run.{Runs};
+ghost use Rattle.ck_commands.specs.Run.{Reported, Runs};
 ghost use Rattle.ck_commands.specs.Verdicts.{verdict_report};
 
 use crate::output::{ExitStatus, Report, write_report};
@@ -105,7 +105,7 @@ fn told_report(alloc: Global, release: &AuditedRelease) -> Result<Report, AllocE
 }
 
 /// The report of a stream that was audited.
-fn gate_report(
+fn answer_report(
     alloc: Global,
     answer: &Result<AuditedRelease, Trouble>,
 ) -> Result<Report, AllocError>
@@ -120,8 +120,24 @@ fn gate_report(
     }
 }
 
-/// Audits the source by the settings, prints the verdict and, of a good stream, why its run isn't to be released under these
-/// conditions, with its reasons, or what was let pass; of another what is told of the line that decides. Gives the exit code.
+/// Audits the source by the settings. The report has the verdict and, of a good stream, why its run isn't to be released under these
+/// conditions, with its reasons, or what was let pass; of another what is told of the line that decides.
+pub(crate) fn gate_report<R: ByteSource>(
+    alloc: Global,
+    settings: Settings,
+    conditions: &Conditions<'_>,
+    source: &mut R,
+) -> Result<Report, AllocError>
+    ensures { Reported (ask_gate settings (conditions_of conditions.now)) (report_made result)
+        (R.input source.old) (R.input source.new) }
+{
+    let answer = audit_release(alloc, source, settings, conditions);
+    let report = answer_report(alloc, &answer);
+    drop(answer);
+    report
+}
+
+/// Prints that report, and gives the exit code.
 pub(crate) fn print_gate<R: ByteSource, W: ByteSink>(
     alloc: Global,
     settings: Settings,
@@ -132,8 +148,6 @@ pub(crate) fn print_gate<R: ByteSource, W: ByteSink>(
     ensures { Runs (ask_gate settings (conditions_of conditions.now)) result
         (R.input source.old) (R.input source.new) (W.output sink.old) (W.output sink.new) }
 {
-    let answer = audit_release(alloc, source, settings, conditions);
-    let report = gate_report(alloc, &answer);
-    drop(answer);
+    let report = gate_report(alloc, settings, conditions, source);
     write_report(sink, report)
 }

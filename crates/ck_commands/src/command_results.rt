@@ -1,8 +1,10 @@
 //! The command `results`: the status of each test case of a stream.
 ghost use Rattle.std.specs.Prelude.{◌≡◌, IfOk, string_bytes};
+ghost use Rattle.std.specs.List.{flat_map};
+ghost use Rattle.cm_attempt.specs.Results.{case_results};
 ghost use Rattle.ck_command_line.specs.CommandLine.{ask_results};
-ghost use Rattle.ck_commands.specs.Outcome.{outcome_report, table_text};
-ghost use Rattle.ck_commands.specs.Reading.{held_outcome};
+ghost use Rattle.ck_commands.specs.Reading.{report_of_read};
+ghost use Rattle.ck_commands.specs.Results.{result_text};
 ghost use Rattle.ck_commands.specs.Run.{Runs};
 
 use crate::attempts::read_attempts;
@@ -14,9 +16,10 @@ use cm_envelope::{ByteSink, ByteSource, Trouble};
 use cm_stream::Audited;
 use std::alloc::{AllocError, Global};
 
-// One line for each case, in order of declaration.
+/// One line for each case, in order of declaration.
 fn table_text(alloc: Global, attempts: &Track) -> Result<String, AllocError>
-    ensures { IfOk result (λ text. string_bytes text ≡ table_text attempts.now) }
+    ensures { IfOk result
+        (λ text. string_bytes text ≡ flat_map result_text (case_results attempts.now)) }
 {
     let results = attempts.results()?;
     let mut text = String::new(alloc);
@@ -29,15 +32,14 @@ fn table_text(alloc: Global, attempts: &Track) -> Result<String, AllocError>
     Ok(text)
 }
 
-// The report of a stream that was read.
+/// The report of a stream that was read.
 fn results_report(
     alloc: Global,
     read: &Result<Track, Result<Audited, Trouble>>,
 ) -> Result<Report, AllocError>
-    ensures text { IfOk result (λ report. string_bytes report.text
-        ≡ (outcome_report (held_outcome read.now)).text) }
-    ensures status { IfOk result (λ report. report.status
-        ≡ (outcome_report (held_outcome read.now)).status) }
+    ensures text { IfOk result
+        (λ report. string_bytes report.text ≡ (report_of_read read.now).text) }
+    ensures status { IfOk result (λ report. report.status ≡ (report_of_read read.now).status) }
 {
     match read {
         Ok(attempts) => Ok(Report {

@@ -1,9 +1,10 @@
 //! One command, from the words to the exit code.
 ghost use Rattle.std.specs.Prelude.{◌≡◌, ◌≢◌, ◌∷◌, IfOk, codes, map};
 ghost use Rattle.cm_envelope.specs.Device.{OfInput, OfReads};
-ghost use Rattle.ck_command_line.specs.CommandLine.{Asks, AsksNothing, Command, command_of_choice};
+ghost use Rattle.ck_command_line.specs.CommandLine.{Asked, Asks, AsksNothing, AsksRuns, Command, RunsGate, asked_of_choice};
+ghost use Rattle.ck_commands.specs.Asked.{AsksFor, Leaves, LeavesAlone, ReleasesEach};
 ghost use Rattle.ck_commands.specs.Output.{Delivers, DeliversOne, NoneFailed, code_of};
-ghost use Rattle.ck_commands.specs.Run.{IsRefusal, IsRight, Reports, Runs, ShowsNone, TellsFailedRead, report_of_refusal};
+ghost use Rattle.ck_commands.specs.Run.{IsRefusal, IsRight, Reports, ShowsNone, TellsFailedRead, report_of_refusal};
 
 use crate::command_audit::print_audit;
 use crate::command_cases::print_cases;
@@ -11,9 +12,11 @@ use crate::command_compile::print_compiled;
 use crate::command_gate::print_gate;
 use crate::command_parse::print_feature;
 use crate::command_results::print_results;
+use crate::command_runs::print_runs;
 use crate::output::{ExitStatus, write_no_memory, write_text};
 use ck_command_line::{Choice, Refusal, choose};
 use cm_envelope::{ByteSink, ByteSource, Trouble};
+use files::{Files, NoOpener, OpenedFiles};
 use std::alloc::{AllocError, Global};
 
 /// The words with the program's name before them.
@@ -27,14 +30,16 @@ fn with_name<'a>(alloc: Global, words: &[&'a str]) -> Result<Vec<&'a str>, Alloc
     Ok(all)
 }
 
-/// Runs the command that the words chose, and gives its exit code.
-fn run_choice<R: ByteSource, W: ByteSink>(
+/// Runs what the words chose, and gives its exit code.
+fn run_choice<F: Files, R: ByteSource, W: ByteSink>(
     alloc: Global,
     choice: Choice<'_>,
+    files: &mut F,
     source: &mut R,
     sink: &mut W,
 ) -> u8
-    ensures { Runs (command_of_choice choice.entry) result (R.input source.old) (R.input source.new)
+    ensures { Leaves (asked_of_choice choice.entry) result (F.openings files.old)
+        (F.openings files.new) (R.input source.old) (R.input source.new)
         (W.output sink.old) (W.output sink.new) }
 {
     match choice {
@@ -43,6 +48,10 @@ fn run_choice<R: ByteSource, W: ByteSink>(
         Choice::Audit(settings) => print_audit(alloc, settings, source, sink),
         Choice::Gate(settings, conditions) => {
             print_gate(alloc, settings, &conditions, source, sink)
+        }
+        Choice::GateRuns(settings, conditions, runs) => {
+            let runs = runs.as_slice();
+            print_runs(alloc, settings, &conditions, runs, files, source, sink)
         }
         Choice::Results(first_attempt) => print_results(alloc, first_attempt, source, sink),
         Choice::Cases(settings, form) => print_cases(alloc, settings, form, source, sink),
@@ -61,8 +70,47 @@ fn print_refusal<W: ByteSink>(refusal: Refusal, sink: &mut W) -> u8
     }
 }
 
-/// Runs the command that the words after the program's name ask for, and gives the code of its `ExitStatus`. The output is
-/// built whole, then written, then flushed, and no read and no write is repeated.
+/// Runs what the words after the program's name ask for, and gives the code of its `ExitStatus`. The output is built whole, then
+/// written, then flushed, and no read and no write is repeated. Each file is opened once, and closed before the next is opened.
+pub fn run_with<F: Files, R: ByteSource, W: ByteSink>(
+    alloc: Global,
+    words: &[&str],
+    files: &mut F,
+    source: &mut R,
+    sink: &mut W,
+) -> u8
+    // Of a command over standard input all that `run` says; of a gate over runs the report of each.
+    ensures asked { (a : Asked) → AsksFor words.now a
+        → Leaves a result (F.openings files.old) (F.openings files.new)
+        (R.input source.old) (R.input source.new) (W.output sink.old) (W.output sink.new) }
+
+    // Words that ask for nothing are told the usage; help, and status 0, only where they call for help or for the version.
+    ensures nothing { AsksNothing words.now
+        → LeavesAlone words.now result (F.openings files.old) (F.openings files.new)
+        (R.input source.old) (R.input source.new) (W.output sink.old) (W.output sink.new) }
+    ensures refused { AsksNothing words.now → source.new ≡ source.old }
+
+    // With status 0 of a gate over runs each of them was read to its end, and gave a released stream.
+    ensures released { (g : RunsGate) → AsksRuns words.now g → result ≡ code_of ExitStatus.Done
+        → ReleasesEach g (F.openings files.old) (F.openings files.new)
+        (R.input source.old) (R.input source.new) }
+
+    // A failed write or flush is seen in the status, and so is a failed read.
+    ensures unwritten { (W.output sink.new).failed_calls ≢ (W.output sink.old).failed_calls
+        → result ≡ code_of ExitStatus.Trouble }
+    ensures unread { result ≡ code_of ExitStatus.Done
+        → (R.input source.new).failed_calls ≡ (R.input source.old).failed_calls }
+{
+    let Ok(all) = with_name(alloc, words) else {
+        return write_no_memory(sink);
+    };
+    match choose(alloc, all.as_slice()) {
+        Ok(choice) => run_choice(alloc, choice, files, source, sink),
+        Err(refusal) => print_refusal(refusal, sink),
+    }
+}
+
+/// Runs what the words ask for, as `run_with` does, where there are no files: none can be opened.
 pub fn run<R: ByteSource, W: ByteSink>(
     alloc: Global,
     words: &[&str],
@@ -86,10 +134,11 @@ pub fn run<R: ByteSource, W: ByteSink>(
     ensures no_fault { (c : Command) → Asks words.now c
         → (R.input source.new).failed_calls ≢ (R.input source.old).failed_calls
         → OfReads (R.input source.old) (R.input source.new) (ShowsNone c) }
-    ensures read_failed { (R.input source.new).failed_calls ≢ (R.input source.old).failed_calls
+    ensures read_failed { (c : Command) → Asks words.now c
+        → (R.input source.new).failed_calls ≢ (R.input source.old).failed_calls
         → TellsFailedRead result (W.output sink.old) (W.output sink.new) }
 
-    // Words that ask for no command leave the source alone. They are told the usage; help, and status 0, only where they call
+    // Words that ask for nothing leave the source alone. They are told the usage; help, and status 0, only where they call
     // for help or for the version.
     ensures refused { AsksNothing words.now → source.new ≡ source.old }
     ensures usage { AsksNothing words.now
@@ -101,11 +150,8 @@ pub fn run<R: ByteSource, W: ByteSink>(
     ensures unread { result ≡ code_of ExitStatus.Done
         → (R.input source.new).failed_calls ≡ (R.input source.old).failed_calls }
 {
-    let Ok(all) = with_name(alloc, words) else {
-        return write_no_memory(sink);
-    };
-    match choose(alloc, all.as_slice()) {
-        Ok(choice) => run_choice(alloc, choice, source, sink),
-        Err(refusal) => print_refusal(refusal, sink),
-    }
+    let mut files = OpenedFiles::new(alloc, NoOpener);
+    let code = run_with(alloc, words, &mut files, source, sink);
+    drop(files);
+    code
 }

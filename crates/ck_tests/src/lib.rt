@@ -28,6 +28,8 @@ mod limits;
 #[cfg(test)]
 mod lines;
 #[cfg(test)]
+mod named_runs;
+#[cfg(test)]
 mod producers;
 #[cfg(test)]
 mod reasons;

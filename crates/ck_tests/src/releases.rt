@@ -18,6 +18,7 @@ fn conditions_with<'a>(alloc: Global, tag: &'a str) -> Result<Conditions<'a>, Fa
     let mut allowed_tags = Vec::new(alloc);
     allowed_tags.push(tag)?;
     Ok(Conditions {
+        is_part: false,
         allows_unrun: false,
         allowed_tags,
         no_retries: false,

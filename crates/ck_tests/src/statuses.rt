@@ -1,7 +1,7 @@
 //! The statuses that a table keeps.
 use cm_attempt::Status;
-use cm_audit::kept_status;
 use cm_envelope::Status as LineStatus;
+use cm_stream::kept_status;
 
 #[test]
 fn each_status_is_kept(rt: HostRuntime) {

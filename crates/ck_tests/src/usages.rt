@@ -30,7 +30,7 @@ const TEXTS: &str = "0 --help = Usage: parse compile audit gate results cases
 2 audit --pending-passes --pending-passes = Usage: audit --pending-passes
 2 audit --allow-unrun = Usage: audit
 2 audit --version = Usage: audit
-2 gate x = Usage: gate
+2 gate - - = Usage: gate
 2 gate --uri u = Usage: gate
 2 gate --allow-unrun --allow-unrun = Usage: gate --allow-unrun
 2 gate --allow-unrun=true = Usage: gate

@@ -13,7 +13,7 @@ use Rattle.cm_attempt.specs.declared.status.Status.{Status}
 use Rattle.cm_attempt.specs.declared.rows.Last.{Last}
 use Rattle.cm_attempt.specs.Calls.{Call, AddCase, Start, StartStep, FinishStep, Finish, call_fault, after_call, table_after_calls, table_after, DeclaredCase, StartedAttempt, as_case, as_start, cases, starts, declared_case, start_of, starts_of, steps_of_attempt, Move, Started, StepStarted, StepFinished, Ended, move_of, moves, step_moves, all_moves, ends_of, is_retried}
 use Rattle.cm_attempt.specs.CallLaws.{IsFront, ComeInOrder}
-use Rattle.cm_attempt.proofs.Growing.{bytes_same, by_id, or_false, at_end, kept_cut}
+use Rattle.cm_attempt.proofs.Growing.{bytes_same, by_id, or_false, at_end, found_cut}
 use Rattle.cm_attempt.proofs.Standing.{cursor_at, Stands, between, inside, over, rest_of, left_is}
 use Rattle.cm_attempt.proofs.Tracked.{AttemptIs, unstarted, begun, Begun, Latest, none_yet, one_open, last_over, CaseIs, undeclared, known, Tracked, start_still, declared_still}
 use Rattle.cm_attempt.proofs.NextCall.{steps_are}
@@ -127,7 +127,7 @@ goes_on first xs c cs t h order a m moved later = go (h.of_attempts a)
     front = order.steps a
 
     all : all_moves (steps_of_attempt a (xs ++ c ∷ cs)) ≡ moves a xs ++ m ∷ (moves a cs ++ front.0)
-    all = front.1 ∙ ap (λ ms. ms ++ front.0) (kept_cut (move_of a) xs c cs m moved) ∙ append_assoc (moves a xs) (m ∷ moves a cs) front.0
+    all = front.1 ∙ ap (λ ms. ms ++ front.0) (found_cut (move_of a) xs c cs m moved) ∙ append_assoc (moves a xs) (m ∷ moves a cs) front.0
 
     go : AttemptIs xs t a → GoesOn xs t a m
     go (unstarted n u) =
@@ -160,7 +160,7 @@ case_accepted first xs id steps cs t h order = go (h.of_cases id)
     d = record { id = id; steps = steps }
 
     cut : cases (xs ++ AddCase id steps ∷ cs) ≡ cases xs ++ d ∷ cases cs
-    cut = kept_cut as_case xs (AddCase id steps) cs d refl
+    cut = found_cut as_case xs (AddCase id steps) cs d refl
 
     distinct : has_repeat steps ≡ false
     distinct = all_here (λ (x : DeclaredCase). has_repeat x.steps ≡ false) (cases xs) d (cases cs) (subst (AllByRecursion (λ (x : DeclaredCase). has_repeat x.steps ≡ false)) cut order.distinct.of_steps)
@@ -179,7 +179,7 @@ start_accepted first xs id case number cs t counts h order = go (h.of_cases case
     s = record { id = id; case_id = case; number = number }
 
     cut : starts (xs ++ Start id case number ∷ cs) ≡ starts xs ++ s ∷ starts cs
-    cut = kept_cut as_start xs (Start id case number) cs s refl
+    cut = found_cut as_start xs (Start id case number) cs s refl
 
     new : start_of id xs ≡ None
     new = no_repeat_found (λ (x : StartedAttempt). x.id) (starts xs) s (starts cs) (ap (λ ss. has_repeat (map (λ (x : StartedAttempt). x.id) ss)) (sym cut) ∙ order.distinct.of_attempts)

@@ -15,7 +15,7 @@ use Rattle.indexmap.proofs.MapLemmas.{some_index}
 use Rattle.cm_refs.proofs.EntryLemmas.{Key, absent_get, is_key, no_entry}
 use Rattle.cm_attempt.specs.Table.{Utf8, change_first}
 
-none_of : {X : Type 0} (o : Option X) → is_some o ≡ false → o ≡ None
+pub none_of : {X : Type 0} (o : Option X) → is_some o ≡ false → o ≡ None
 none_of None h = refl
 none_of (Some x) h = cc
 

@@ -1,16 +1,13 @@
 -- What a call finds in the table that doesn't refuse it.
-use Rattle.std.proofs.Common.{◌≡◌, ℕ, refl, List, Option, Some, None, true, false, Bool, not, ◌||◌, ◌==◌, ◌+◌, arith}
+use Rattle.std.proofs.Common.{◌≡◌, ℕ, refl, List, Option, Some, None, true, false, Bool, not, ◌||◌, ◌==◌, ◌+◌}
 use Rattle.std.specs.Prelude.{is_some, if◌then◌else◌}
-use Rattle.std.proofs.lemmas.Bool.Decides.{nat_tests}
+use Rattle.std.proofs.lemmas.Bool.{eqb-true}
 use Rattle.cm_attempt.specs.Table.{Utf8, CaseRow, AttemptRow, Table, has_text, has_repeat, find_case, find_attempt, steps_of, add_case_fault, start_fault, start_fault_at, is_closed_to_new, step_fault_at, step_fault_of, end_fault_of, finish_fault, finish_fault_at}
 use Rattle.cm_attempt.specs.declared.rows.Cursor.{Cursor}
 use Rattle.cm_attempt.specs.declared.fault.TrackFault.{TrackFault}
 use Rattle.cm_attempt.specs.declared.fault.TrackFault.TheVariants as fault
 use Rattle.cm_attempt.proofs.Growing.{or_false}
-
-pub is_none_of : {X : Type 0} (o : Option X) → is_some o ≡ false → o ≡ None
-is_none_of None e = refl
-is_none_of (Some x) e = cc
+use Rattle.cm_attempt.proofs.EntryLemmas.{none_of}
 
 not_so : (b : Bool) (f : TrackFault) → (if b then Some f else None) ≡ None → b ≡ false
 not_so true f e = cc
@@ -23,7 +20,7 @@ pub record CaseFits (t : Table) (id : Utf8) (steps : List Utf8) : Type 0 where
 pub case_fits : (t : Table) (id : Utf8) (steps : List Utf8) → add_case_fault t id steps ≡ None → CaseFits t id steps
 case_fits t id steps h =
     let parts = or_false (is_some (find_case t id)) (has_repeat steps) (not_so (is_some (find_case t id) || has_repeat steps) fault.DuplicateId h) in
-    record { new = is_none_of (find_case t id) parts.0; distinct = parts.1 }
+    record { new = none_of (find_case t id) parts.0; distinct = parts.1 }
 
 pub record StartFits (t : Table) (id case : Utf8) (number : ℕ) : Type 0 where
   pub row : CaseRow
@@ -38,9 +35,6 @@ three false false c h = cc
 three false true true h = cc
 three false true false h = (refl, refl, refl)
 
-same_number : (m n : ℕ) → (m == n) ≡ true → m ≡ n
-same_number m n e = grind (arith, nat_tests)
-
 pub start_fits : (t : Table) (id case : Utf8) (number : ℕ) → start_fault t id case number ≡ None → StartFits t id case number
 start_fits t id case number h = go (find_case t case) refl h
   where
@@ -51,8 +45,8 @@ start_fits t id case number h = go (find_case t case) refl h
         record {
           row = row;
           found = e;
-          new = is_none_of (find_attempt t id) parts.0;
-          count = same_number number (t.first + row.attempts) parts.1;
+          new = none_of (find_attempt t id) parts.0;
+          count = eqb-true number (t.first + row.attempts) parts.1;
           closed = parts.2;
         }
 

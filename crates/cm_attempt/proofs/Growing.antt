@@ -28,14 +28,14 @@ or_false false b h = (refl, h)
 
 -- ---- what a map keeps of a list with one more
 
-pub kept_more : {X Y : Type 0} (h : X → Option Y) (xs : List X) (x : X) → h x ≡ None → filter_map h (xs ++ x ∷ []) ≡ filter_map h xs
-kept_more h xs x e = filter_map-append h xs (x ∷ []) ∙ rw e (append-nil (filter_map h xs))
+pub found_more : {X Y : Type 0} (h : X → Option Y) (xs : List X) (x : X) → h x ≡ None → filter_map h (xs ++ x ∷ []) ≡ filter_map h xs
+found_more h xs x e = filter_map-append h xs (x ∷ []) ∙ rw e (append-nil (filter_map h xs))
 
-pub kept_push : {X Y : Type 0} (h : X → Option Y) (xs : List X) (x : X) (y : Y) → h x ≡ Some y → filter_map h (xs ++ x ∷ []) ≡ filter_map h xs ++ y ∷ []
-kept_push h xs x y e = filter_map-append h xs (x ∷ []) ∙ rw e refl
+pub found_push : {X Y : Type 0} (h : X → Option Y) (xs : List X) (x : X) (y : Y) → h x ≡ Some y → filter_map h (xs ++ x ∷ []) ≡ filter_map h xs ++ y ∷ []
+found_push h xs x y e = filter_map-append h xs (x ∷ []) ∙ rw e refl
 
-pub kept_cut : {X Y : Type 0} (h : X → Option Y) (xs : List X) (x : X) (ys : List X) (y : Y) → h x ≡ Some y → filter_map h (xs ++ x ∷ ys) ≡ filter_map h xs ++ y ∷ filter_map h ys
-kept_cut h xs x ys y e = filter_map-append h xs (x ∷ ys) ∙ rw e refl
+pub found_cut : {X Y : Type 0} (h : X → Option Y) (xs : List X) (x : X) (ys : List X) (y : Y) → h x ≡ Some y → filter_map h (xs ++ x ∷ ys) ≡ filter_map h xs ++ y ∷ filter_map h ys
+found_cut h xs x ys y e = filter_map-append h xs (x ∷ ys) ∙ rw e refl
 
 pub all_weaker : {X : Type 0} (P Q : X → Type 0) → ((x : X) → P x → Q x) → (xs : List X) → AllByRecursion P xs → AllByRecursion Q xs
 all_weaker P Q f [] h = tt

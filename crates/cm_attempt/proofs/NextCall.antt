@@ -16,7 +16,7 @@ use Rattle.cm_attempt.specs.declared.rows.Cursor.{Cursor}
 use Rattle.cm_attempt.specs.declared.rows.Last.{Last}
 use Rattle.cm_attempt.specs.declared.rows.Last.TheVariants as last
 use Rattle.cm_attempt.specs.Calls.{Call, AddCase, Start, StartStep, FinishStep, Finish, DeclaredCase, StartedAttempt, as_case, as_start, cases, starts, start_of, starts_of, Move, Started, StepStarted, StepFinished, Ended, move_of, moves, retry_in, ends_of, status_in, statuses}
-use Rattle.cm_attempt.proofs.Growing.{bytes_same, bytes_are, by_id, kept_more, kept_push, all_push, still_found, found_new, found_past, find_all, find_passes, find_kept, found_changed, found_elsewhere, same_ids}
+use Rattle.cm_attempt.proofs.Growing.{bytes_same, bytes_are, by_id, found_more, found_push, all_push, still_found, found_new, found_past, find_all, find_passes, find_kept, found_changed, found_elsewhere, same_ids}
 use Rattle.cm_attempt.proofs.IdLaws.{distinct_after_change, distinct_after_push}
 use Rattle.cm_attempt.proofs.Standing.{Stands, between, step_starts, step_finishes, attempt_ends, not_over}
 use Rattle.cm_attempt.proofs.Fits.{CaseFits, case_fits, StartFits, start_fits, step_fits, end_fits}
@@ -32,7 +32,7 @@ case_known xs t id steps h new =
     let none : starts_of id (xs ++ c ∷ []) ≡ [] = starts_same id xs c refl ∙ was.no_start in
     known (new_case id steps) (found_new (λ r. bytes_eq id r.id) t.cases (new_case id steps) new (bytes_same id)) (record {
       found = record { id = id; steps = steps };
-      is_declared = ap (find (λ (d : DeclaredCase). bytes_eq id d.id)) (kept_push as_case xs c (record { id = id; steps = steps }) refl) ∙ found_new (λ (d : DeclaredCase). bytes_eq id d.id) (cases xs) (record { id = id; steps = steps }) was.no_case (bytes_same id);
+      is_declared = ap (find (λ (d : DeclaredCase). bytes_eq id d.id)) (found_push as_case xs c (record { id = id; steps = steps }) refl) ∙ found_new (λ (d : DeclaredCase). bytes_eq id d.id) (cases xs) (record { id = id; steps = steps }) was.no_case (bytes_same id);
       steps = refl;
       count = ap length (sym none);
       latest = none_yet none refl;
@@ -44,11 +44,11 @@ case_added xs t id steps h accepted = record {
       (λ k. carry_case xs c t u case (found_past (λ (r : CaseRow). bytes_eq case r.id) t.cases (new_case id steps) k) (rw k refl) refl (record { ended = λ b r e. (refl, refl); still_open = λ s st cs e. refl }) (h.of_cases case))
       (λ k. subst (CaseIs (xs ++ c ∷ []) u) (sym k) (case_known xs t id steps h fits.new));
   of_attempts = λ a. carry_attempt xs c t u a refl (λ case r e. (r, still_found (λ (x : CaseRow). bytes_eq case x.id) t.cases (new_case id steps ∷ []) r e, refl)) refl refl refl refl (h.of_attempts a);
-  case_ids = map-append (λ (r : CaseRow). r.id) t.cases (new_case id steps ∷ []) ∙ ap (λ ids. ids ++ id ∷ []) h.case_ids ∙ sym (ap (map (λ (d : DeclaredCase). d.id)) (kept_push as_case xs c (record { id = id; steps = steps }) refl) ∙ map-append (λ (d : DeclaredCase). d.id) (cases xs) (record { id = id; steps = steps } ∷ []));
-  attempt_ids = h.attempt_ids ∙ ap (map (λ (s : StartedAttempt). s.id)) (sym (kept_more as_start xs c refl));
+  case_ids = map-append (λ (r : CaseRow). r.id) t.cases (new_case id steps ∷ []) ∙ ap (λ ids. ids ++ id ∷ []) h.case_ids ∙ sym (ap (map (λ (d : DeclaredCase). d.id)) (found_push as_case xs c (record { id = id; steps = steps }) refl) ∙ map-append (λ (d : DeclaredCase). d.id) (cases xs) (record { id = id; steps = steps } ∷ []));
+  attempt_ids = h.attempt_ids ∙ ap (map (λ (s : StartedAttempt). s.id)) (sym (found_more as_start xs c refl));
   cases_distinct = distinct_after_push {X = CaseRow} (λ r. r.id) (new_case id steps) t.cases (t.cases ++ new_case id steps ∷ []) refl fits.new h.cases_distinct;
   attempts_distinct = h.attempts_distinct;
-  steps_distinct = subst (AllByRecursion (λ (d : DeclaredCase). has_repeat d.steps ≡ false)) (sym (kept_push as_case xs c (record { id = id; steps = steps }) refl)) (all_push (λ (d : DeclaredCase). has_repeat d.steps ≡ false) (cases xs) (record { id = id; steps = steps }) h.steps_distinct fits.distinct);
+  steps_distinct = subst (AllByRecursion (λ (d : DeclaredCase). has_repeat d.steps ≡ false)) (sym (found_push as_case xs c (record { id = id; steps = steps }) refl)) (all_push (λ (d : DeclaredCase). has_repeat d.steps ≡ false) (cases xs) (record { id = id; steps = steps }) h.steps_distinct fits.distinct);
 }
   where
     c : Call
@@ -66,20 +66,20 @@ abbrev start_with : Utf8 → Utf8 → ℕ → StartedAttempt
 start_with id case number = record { id = id; case_id = case; number = number }
 
 is_first : (xs : List Call) (id case : Utf8) (number : ℕ) → start_of id xs ≡ None → start_of id (xs ++ Start id case number ∷ []) ≡ Some (start_with id case number)
-is_first xs id case number new = ap (find (is_of id)) (kept_push as_start xs (Start id case number) (start_with id case number) refl) ∙ found_new (is_of id) (starts xs) (start_with id case number) new (bytes_same id)
+is_first xs id case number new = ap (find (is_of id)) (found_push as_start xs (Start id case number) (start_with id case number) refl) ∙ found_new (is_of id) (starts xs) (start_with id case number) new (bytes_same id)
 
 -- the attempts so far are retried, and the new one is open
 next_open : (xs : List Call) (id case : Utf8) (number : ℕ) → start_of id xs ≡ None → ends_of id xs ≡ [] → (l : Last) → is_closed_to_new l ≡ false → Latest xs case (starts_of case xs) l
     → Latest (xs ++ Start id case number ∷ []) case (starts_of case xs ++ start_with id case number ∷ []) last.Open
 next_open xs id case number new none l closed (none_yet a b) =
     let c = Start id case number in
-    one_open [] (start_with id case number) (ap (λ ss. ss ++ start_with id case number ∷ []) a) tt (is_first xs id case number new) refl (kept_more (retry_in id) xs c refl ∙ none) refl
+    one_open [] (start_with id case number) (ap (λ ss. ss ++ start_with id case number ∷ []) a) tt (is_first xs id case number new) refl (found_more (retry_in id) xs c refl ∙ none) refl
 next_open xs id case number new none l closed (one_open front s cut all st cs ends e) = let no : true ≡ false = ap is_closed_to_new (sym e) ∙ closed in cc
 next_open xs id case number new none l closed (last_over front s false cut all ends e) = let no : true ≡ false = ap is_closed_to_new (sym e) ∙ closed in cc
 next_open xs id case number new none l closed (last_over front s true cut all ends e) =
     let c = Start id case number in
     let retried : AllByRecursion (Retried xs) (front ++ s ∷ []) = all_push (Retried xs) front s all ends in
-    one_open (front ++ s ∷ []) (start_with id case number) (ap (λ ss. ss ++ start_with id case number ∷ []) cut) (still_retried xs c (λ b r k. refl) (front ++ s ∷ []) retried) (is_first xs id case number new) refl (kept_more (retry_in id) xs c refl ∙ none) refl
+    one_open (front ++ s ∷ []) (start_with id case number) (ap (λ ss. ss ++ start_with id case number ∷ []) cut) (still_retried xs c (λ b r k. refl) (front ++ s ∷ []) retried) (is_first xs id case number new) refl (found_more (retry_in id) xs c refl ∙ none) refl
 
 attempt_begins : (xs : List Call) (t : Table) (id case : Utf8) (number : ℕ) → Tracked xs t → StartFits t id case number → AttemptIs (xs ++ Start id case number ∷ []) (with_attempt id case t) id
 attempt_begins xs t id case number h fits =
@@ -91,8 +91,8 @@ attempt_begins xs t id case number h fits =
       is_start = is_first xs id case number was.start;
       of_case = refl;
       has_case = found_changed (λ (r : CaseRow). r.id) with_open_attempt (λ r. refl) case t.cases ∙ ap (option_map with_open_attempt) fits.found;
-      stands = between [] fits.row.steps refl (kept_push (move_of id) xs c Started (rw (bytes_same id) refl) ∙ ap (λ ms. ms ++ Started ∷ []) was.moves) (kept_more (retry_in id) xs c refl ∙ was.ends) refl;
-      worst = ap worst_so_far (sym (kept_more (status_in id) xs c refl ∙ was.statuses));
+      stands = between [] fits.row.steps refl (found_push (move_of id) xs c Started (rw (bytes_same id) refl) ∙ ap (λ ms. ms ++ Started ∷ []) was.moves) (found_more (retry_in id) xs c refl ∙ was.ends) refl;
+      worst = ap worst_so_far (sym (found_more (status_in id) xs c refl ∙ was.statuses));
     })
 
 case_opens : (xs : List Call) (t : Table) (id case : Utf8) (number : ℕ) → Tracked xs t → StartFits t id case number → CaseIs (xs ++ Start id case number ∷ []) (with_attempt id case t) case
@@ -118,11 +118,11 @@ attempt_started xs t id case number h accepted = record {
   of_attempts = λ a. by_id a id
       (λ k. carry_attempt xs c t u a (found_past (λ (r : AttemptRow). bytes_eq a r.id) t.attempts (new_attempt id case) k) (keeps_changed t u case with_open_attempt (λ r. refl) (λ r. refl) refl) (rw k refl) (rw k refl) refl refl (h.of_attempts a))
       (λ k. subst (AttemptIs (xs ++ c ∷ []) u) (sym k) (attempt_begins xs t id case number h fits));
-  case_ids = same_ids (λ (r : CaseRow). r.id) with_open_attempt (λ r. refl) (λ r. bytes_eq case r.id) t.cases ∙ h.case_ids ∙ ap (map (λ (d : DeclaredCase). d.id)) (sym (kept_more as_case xs c refl));
-  attempt_ids = map-append (λ (r : AttemptRow). r.id) t.attempts (new_attempt id case ∷ []) ∙ ap (λ ids. ids ++ id ∷ []) h.attempt_ids ∙ sym (ap (map (λ (s : StartedAttempt). s.id)) (kept_push as_start xs c (start_with id case number) refl) ∙ map-append (λ (s : StartedAttempt). s.id) (starts xs) (start_with id case number ∷ []));
+  case_ids = same_ids (λ (r : CaseRow). r.id) with_open_attempt (λ r. refl) (λ r. bytes_eq case r.id) t.cases ∙ h.case_ids ∙ ap (map (λ (d : DeclaredCase). d.id)) (sym (found_more as_case xs c refl));
+  attempt_ids = map-append (λ (r : AttemptRow). r.id) t.attempts (new_attempt id case ∷ []) ∙ ap (λ ids. ids ++ id ∷ []) h.attempt_ids ∙ sym (ap (map (λ (s : StartedAttempt). s.id)) (found_push as_start xs c (start_with id case number) refl) ∙ map-append (λ (s : StartedAttempt). s.id) (starts xs) (start_with id case number ∷ []));
   cases_distinct = distinct_after_change {X = CaseRow} (λ r. r.id) (λ r. bytes_eq case r.id) with_open_attempt (λ r. refl) t.cases (change_first (λ r. bytes_eq case r.id) with_open_attempt t.cases) refl h.cases_distinct;
   attempts_distinct = distinct_after_push {X = AttemptRow} (λ r. r.id) (new_attempt id case) t.attempts (t.attempts ++ new_attempt id case ∷ []) refl fits.new h.attempts_distinct;
-  steps_distinct = subst (AllByRecursion (λ (d : DeclaredCase). has_repeat d.steps ≡ false)) (sym (kept_more as_case xs c refl)) h.steps_distinct;
+  steps_distinct = subst (AllByRecursion (λ (d : DeclaredCase). has_repeat d.steps ≡ false)) (sym (found_more as_case xs c refl)) h.steps_distinct;
 }
   where
     c : Call
@@ -149,7 +149,7 @@ moved_on xs c t u a row new m b found case_id keeps no_start moved stands worst 
       is_start = start_still a xs (c ∷ []) b.start b.is_start;
       of_case = case_id ∙ b.of_case;
       has_case = k.1;
-      stands = stands_as b.its_case.steps k.0.steps (moves a xs ++ m ∷ []) (moves a (xs ++ c ∷ [])) (ends_of a (xs ++ c ∷ [])) (ends_of a (xs ++ c ∷ [])) new.cursor new.cursor (sym k.2) (sym (kept_push (move_of a) xs c m moved)) refl refl stands;
+      stands = stands_as b.its_case.steps k.0.steps (moves a xs ++ m ∷ []) (moves a (xs ++ c ∷ [])) (ends_of a (xs ++ c ∷ [])) (ends_of a (xs ++ c ∷ [])) new.cursor new.cursor (sym k.2) (sym (found_push (move_of a) xs c m moved)) refl refl stands;
       worst = worst;
     })
 
@@ -166,11 +166,11 @@ changed_alone xs c t a f ids no_case no_start quiet no_end open_yet h own = reco
   of_attempts = λ b. by_id b a
       (λ k. carry_attempt xs c t u b (found_elsewhere (λ (r : AttemptRow). r.id) f ids b a k t.attempts) (keeps_same t u refl) (rw no_start refl) (quiet b k).0 (no_end b) (quiet b k).1 (h.of_attempts b))
       (λ k. subst (AttemptIs (xs ++ c ∷ []) u) (sym k) own);
-  case_ids = h.case_ids ∙ ap (map (λ (d : DeclaredCase). d.id)) (sym (kept_more as_case xs c no_case));
-  attempt_ids = same_ids (λ (r : AttemptRow). r.id) f ids (λ r. bytes_eq a r.id) t.attempts ∙ h.attempt_ids ∙ ap (map (λ (s : StartedAttempt). s.id)) (sym (kept_more as_start xs c no_start));
+  case_ids = h.case_ids ∙ ap (map (λ (d : DeclaredCase). d.id)) (sym (found_more as_case xs c no_case));
+  attempt_ids = same_ids (λ (r : AttemptRow). r.id) f ids (λ r. bytes_eq a r.id) t.attempts ∙ h.attempt_ids ∙ ap (map (λ (s : StartedAttempt). s.id)) (sym (found_more as_start xs c no_start));
   cases_distinct = h.cases_distinct;
   attempts_distinct = distinct_after_change {X = AttemptRow} (λ r. r.id) (λ r. bytes_eq a r.id) f ids t.attempts (change_first (λ r. bytes_eq a r.id) f t.attempts) refl h.attempts_distinct;
-  steps_distinct = subst (AllByRecursion (λ (d : DeclaredCase). has_repeat d.steps ≡ false)) (sym (kept_more as_case xs c no_case)) h.steps_distinct;
+  steps_distinct = subst (AllByRecursion (λ (d : DeclaredCase). has_repeat d.steps ≡ false)) (sym (found_more as_case xs c no_case)) h.steps_distinct;
 }
   where
     u : Table
@@ -190,8 +190,8 @@ step_started xs t a step h accepted =
     changed_alone xs c t a with_running_step (λ r. refl) refl refl (λ b k. (rw k refl, refl)) (λ b. refl) open_yet h
     (moved_on xs c t (change_attempt a with_running_step t) a fits.row (with_running_step fits.row) (StepStarted step) b
     (found_changed (λ (r : AttemptRow). r.id) with_running_step (λ r. refl) a t.attempts ∙ ap (option_map with_running_step) fits.found) refl (keeps_same t (change_attempt a with_running_step t) refl) refl (rw (bytes_same a) refl)
-    (subst (λ rs. Stands b.its_case.steps (moves a xs ++ StepStarted step ∷ []) rs (option_map running_cursor fits.row.cursor)) (sym (kept_more (retry_in a) xs c refl)) stands)
-    (b.worst ∙ ap worst_so_far (sym (kept_more (status_in a) xs c refl))))
+    (subst (λ rs. Stands b.its_case.steps (moves a xs ++ StepStarted step ∷ []) rs (option_map running_cursor fits.row.cursor)) (sym (found_more (retry_in a) xs c refl)) stands)
+    (b.worst ∙ ap worst_so_far (sym (found_more (status_in a) xs c refl))))
 
 pub step_finished : (xs : List Call) (t : Table) (a step : Utf8) (status : Status) → Tracked xs t → step_finish_fault t a step ≡ None → Tracked (xs ++ FinishStep a step status ∷ []) (change_attempt a (with_finished_step status) t)
 step_finished xs t a step status h accepted =
@@ -205,8 +205,8 @@ step_finished xs t a step status h accepted =
     changed_alone xs c t a (with_finished_step status) (λ r. refl) refl refl (λ b k. (rw k refl, rw k refl)) (λ b. refl) open_yet h
     (moved_on xs c t (change_attempt a (with_finished_step status) t) a fits.row (with_finished_step status fits.row) (StepFinished step) b
     (found_changed (λ (r : AttemptRow). r.id) (with_finished_step status) (λ r. refl) a t.attempts ∙ ap (option_map (with_finished_step status)) fits.found) refl (keeps_same t (change_attempt a (with_finished_step status) t) refl) refl (rw (bytes_same a) refl)
-    (subst (λ rs. Stands b.its_case.steps (moves a xs ++ StepFinished step ∷ []) rs (option_map cursor_after_step fits.row.cursor)) (sym (kept_more (retry_in a) xs c refl)) stands)
-    (ap (λ w. with_status w status) b.worst ∙ sym (ap worst_so_far (kept_push (status_in a) xs c status told) ∙ fold_push with_status None (statuses a xs) status)))
+    (subst (λ rs. Stands b.its_case.steps (moves a xs ++ StepFinished step ∷ []) rs (option_map cursor_after_step fits.row.cursor)) (sym (found_more (retry_in a) xs c refl)) stands)
+    (ap (λ w. with_status w status) b.worst ∙ sym (ap worst_so_far (found_push (status_in a) xs c status told) ∙ fold_push with_status None (statuses a xs) status)))
 
 -- ---- an attempt ends
 
@@ -246,7 +246,7 @@ module _ (xs : List Call) (t : Table) (a : Utf8) (r : Bool) (h : Tracked xs t) (
   told = rw (bytes_same a) refl
 
   ended_once : ends_of a (xs ++ c ∷ []) ≡ r ∷ []
-  ended_once = kept_push (retry_in a) xs c r told ∙ ap (λ rs. rs ++ r ∷ []) open_yet
+  ended_once = found_push (retry_in a) xs c r told ∙ ap (λ rs. rs ++ r ∷ []) open_yet
 
   quiet : (q : Utf8) (s : Bool) → ends_of q xs ≡ s ∷ [] → retry_in q c ≡ None
   quiet q s e = by_id q a (λ k. rw k refl) (λ k. let no : [] ≡ s ∷ [] = sym open_yet ∙ ap (λ z. ends_of z xs) (sym k) ∙ e in cc)
@@ -259,7 +259,7 @@ module _ (xs : List Call) (t : Table) (a : Utf8) (r : Bool) (h : Tracked xs t) (
   closes ss l among (one_open front s cut all st cs ends e) =
       let same : a ≡ s.id = is_latest xs a front s b.start open_yet all (ap (find (is_of a)) (sym cut) ∙ among) in
       last_over front s r cut (still_retried xs c quiet front all) (ap (λ z. ends_of z (xs ++ c ∷ [])) (sym same) ∙ ended_once)
-      (outcome_is row r (statuses a xs) b.worst ∙ ap (λ ws. left_as r (worst_of ws)) (sym (kept_more (status_in a) xs c refl)) ∙ ap (λ z. left_as r (worst_of (statuses z (xs ++ c ∷ [])))) same)
+      (outcome_is row r (statuses a xs) b.worst ∙ ap (λ ws. left_as r (worst_of ws)) (sym (found_more (status_in a) xs c refl)) ∙ ap (λ z. left_as r (worst_of (statuses z (xs ++ c ∷ [])))) same)
   closes ss l among (last_over front s q cut all ends e) =
       let same : a ≡ s.id = is_latest xs a front s b.start open_yet all (ap (find (is_of a)) (sym cut) ∙ among) in
       let no : [] ≡ q ∷ [] = sym open_yet ∙ ap (λ z. ends_of z xs) same ∙ ends in
@@ -300,13 +300,13 @@ module _ (xs : List Call) (t : Table) (a : Utf8) (r : Bool) (h : Tracked xs t) (
             (λ k. carry_attempt xs c t u q (found_elsewhere (λ (x : AttemptRow). x.id) ended_attempt (λ x. refl) q a k t.attempts) keeps refl (rw k refl) (rw k refl) refl (h.of_attempts q))
             (λ k. subst (AttemptIs (xs ++ c ∷ []) u) (sym k)
             (moved_on xs c t u a row (ended_attempt row) Ended b (found_changed (λ (x : AttemptRow). x.id) ended_attempt (λ x. refl) a t.attempts ∙ ap (option_map ended_attempt) found) refl keeps refl (rw (bytes_same a) refl)
-            (subst (λ rs. Stands b.its_case.steps (moves a xs ++ Ended ∷ []) rs None) (sym (kept_push (retry_in a) xs c r told)) stands)
-            (b.worst ∙ ap worst_so_far (sym (kept_more (status_in a) xs c refl)))));
-        case_ids = same_ids (λ (x : CaseRow). x.id) (with_last state) (λ x. refl) (λ x. bytes_eq row.case_id x.id) t.cases ∙ h.case_ids ∙ ap (map (λ (d : DeclaredCase). d.id)) (sym (kept_more as_case xs c refl));
-        attempt_ids = same_ids (λ (x : AttemptRow). x.id) ended_attempt (λ x. refl) (λ x. bytes_eq a x.id) t.attempts ∙ h.attempt_ids ∙ ap (map (λ (s : StartedAttempt). s.id)) (sym (kept_more as_start xs c refl));
+            (subst (λ rs. Stands b.its_case.steps (moves a xs ++ Ended ∷ []) rs None) (sym (found_push (retry_in a) xs c r told)) stands)
+            (b.worst ∙ ap worst_so_far (sym (found_more (status_in a) xs c refl)))));
+        case_ids = same_ids (λ (x : CaseRow). x.id) (with_last state) (λ x. refl) (λ x. bytes_eq row.case_id x.id) t.cases ∙ h.case_ids ∙ ap (map (λ (d : DeclaredCase). d.id)) (sym (found_more as_case xs c refl));
+        attempt_ids = same_ids (λ (x : AttemptRow). x.id) ended_attempt (λ x. refl) (λ x. bytes_eq a x.id) t.attempts ∙ h.attempt_ids ∙ ap (map (λ (s : StartedAttempt). s.id)) (sym (found_more as_start xs c refl));
         cases_distinct = distinct_after_change {X = CaseRow} (λ x. x.id) (λ x. bytes_eq row.case_id x.id) (with_last state) (λ x. refl) t.cases (change_first (λ x. bytes_eq row.case_id x.id) (with_last state) t.cases) refl h.cases_distinct;
         attempts_distinct = distinct_after_change {X = AttemptRow} (λ x. x.id) (λ x. bytes_eq a x.id) ended_attempt (λ x. refl) t.attempts (change_first (λ x. bytes_eq a x.id) ended_attempt t.attempts) refl h.attempts_distinct;
-        steps_distinct = subst (AllByRecursion (λ (d : DeclaredCase). has_repeat d.steps ≡ false)) (sym (kept_more as_case xs c refl)) h.steps_distinct;
+        steps_distinct = subst (AllByRecursion (λ (d : DeclaredCase). has_repeat d.steps ≡ false)) (sym (found_more as_case xs c refl)) h.steps_distinct;
       }
 
 can_end : (o : Option Cursor) (steps : List Utf8) → end_fault_of o steps ≡ None → is_some o ≡ true

@@ -92,7 +92,7 @@ end_is steps ms rs o (between done (x ∷ more) a b c d) = rw (d, a, some_left d
 end_is steps ms rs o (inside done x more a b c d) = rw (d, a, some_left done x more) refl
 end_is steps ms rs o (over r a b c) = rw c refl
 
-not_twice : (b : Bool) → not (not b) ≡ b
+pub not_twice : (b : Bool) → not (not b) ≡ b
 not_twice true = refl
 not_twice false = refl
 

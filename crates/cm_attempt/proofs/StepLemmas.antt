@@ -1,14 +1,11 @@
 -- A step in order is one of the steps.
-use Rattle.std.proofs.Common.{◌≡◌, if◌then◌else◌, refl, ℕ, zero, suc, Bool, true, false, List, [], ◌∷◌, ◌||◌, ◌&&◌, not, Option, None, Some}
+use Rattle.std.proofs.Common.{◌≡◌, if◌then◌else◌, refl, ℕ, zero, suc, Bool, true, false, List, [], ◌∷◌, ◌&&◌, not, Option, None, Some}
+use Rattle.std.proofs.lemmas.Bool.{or_right}
 use Rattle.std.specs.Prelude.{slice_get}
 use Rattle.std.specs.Option.{option_map_or}
 use Rattle.std.specs.Str.{bytes_eq}
 use Rattle.cm_attempt.specs.Table.{Utf8, has_text, is_next, may_finish, may_start, step_fault_of}
 use Rattle.cm_attempt.specs.declared.rows.Cursor.{Cursor}
-
-or_second : (a b : Bool) → b ≡ true → (a || b) ≡ true
-or_second true b h = refl
-or_second false b h = h
 
 and_second : (a b : Bool) → (a && b) ≡ true → b ≡ true
 and_second true b h = h
@@ -17,7 +14,7 @@ and_second false b h = cc
 known_at : (step : Utf8) (steps : List Utf8) (n : ℕ) → option_map_or (bytes_eq step) (slice_get steps n) false ≡ true → has_text step steps ≡ true
 known_at step [] n h = cc
 known_at step (s ∷ steps) zero h = rw h refl
-known_at step (s ∷ steps) (suc n) h = or_second (bytes_eq step s) (has_text step steps) (known_at step steps n h)
+known_at step (s ∷ steps) (suc n) h = or_right (bytes_eq step s) (has_text step steps) (known_at step steps n h)
 
 in_order : (known ordered : Bool) → ordered ≡ true → known ≡ true → step_fault_of known ordered ≡ None
 in_order known ordered o k = rw (k, o) refl

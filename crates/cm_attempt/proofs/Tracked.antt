@@ -12,7 +12,7 @@ use Rattle.cm_attempt.specs.declared.rows.Cursor.{Cursor}
 use Rattle.cm_attempt.specs.declared.rows.Last.{Last}
 use Rattle.cm_attempt.specs.declared.rows.Last.TheVariants as last
 use Rattle.cm_attempt.specs.Calls.{Call, DeclaredCase, StartedAttempt, as_case, as_start, cases, starts, declared_case, start_of, starts_of, Move, move_of, moves, retry_in, ends_of, status_in, statuses}
-use Rattle.cm_attempt.proofs.Growing.{by_id, kept_more, all_weaker, still_found, found_changed, found_elsewhere}
+use Rattle.cm_attempt.proofs.Growing.{by_id, found_more, all_weaker, still_found, found_changed, found_elsewhere}
 use Rattle.cm_attempt.proofs.Standing.{Stands}
 
 abbrev pub is_of : Utf8 → StartedAttempt → Bool
@@ -140,9 +140,9 @@ pub carry_attempt : (xs : List Call) (c : Call) (t u : Table) (a : Utf8) → fin
 carry_attempt xs c t u a same keeps start move retry status (unstarted n h) =
     unstarted (same ∙ n) (record {
       start = start_past a xs (c ∷ []) h.start start;
-      moves = kept_more (move_of a) xs c move ∙ h.moves;
-      ends = kept_more (retry_in a) xs c retry ∙ h.ends;
-      statuses = kept_more (status_in a) xs c status ∙ h.statuses;
+      moves = found_more (move_of a) xs c move ∙ h.moves;
+      ends = found_more (retry_in a) xs c retry ∙ h.ends;
+      statuses = found_more (status_in a) xs c status ∙ h.statuses;
     })
 carry_attempt xs c t u a same keeps start move retry status (begun row f b) =
     let k = keeps b.start.case_id b.its_case b.has_case in
@@ -152,8 +152,8 @@ carry_attempt xs c t u a same keeps start move retry status (begun row f b) =
       is_start = start_still a xs (c ∷ []) b.start b.is_start;
       of_case = b.of_case;
       has_case = k.1;
-      stands = stands_as b.its_case.steps k.0.steps (moves a xs) (moves a (xs ++ c ∷ [])) (ends_of a xs) (ends_of a (xs ++ c ∷ [])) row.cursor row.cursor (sym k.2) (sym (kept_more (move_of a) xs c move)) (sym (kept_more (retry_in a) xs c retry)) refl b.stands;
-      worst = b.worst ∙ ap worst_so_far (sym (kept_more (status_in a) xs c status));
+      stands = stands_as b.its_case.steps k.0.steps (moves a xs) (moves a (xs ++ c ∷ [])) (ends_of a xs) (ends_of a (xs ++ c ∷ [])) row.cursor row.cursor (sym k.2) (sym (found_more (move_of a) xs c move)) (sym (found_more (retry_in a) xs c retry)) refl b.stands;
+      worst = b.worst ∙ ap worst_so_far (sym (found_more (status_in a) xs c status));
     })
 
 -- the call ends no attempt that has ended and adds no status to it, and ends no open attempt of the case
@@ -162,15 +162,15 @@ pub record LeavesLatest (xs : List Call) (c : Call) (case : Utf8) : Type 0 where
   pub still_open : (s : StartedAttempt) → start_of s.id xs ≡ Some s → s.case_id ≡ case → ends_of s.id xs ≡ [] → retry_in s.id c ≡ None
 
 pub still_retried : (xs : List Call) (c : Call) → ((b : Utf8) (r : Bool) → ends_of b xs ≡ r ∷ [] → retry_in b c ≡ None) → (ss : List StartedAttempt) → AllByRecursion (Retried xs) ss → AllByRecursion (Retried (xs ++ c ∷ [])) ss
-still_retried xs c quiet ss h = all_weaker (Retried xs) (Retried (xs ++ c ∷ [])) (λ s k. kept_more (retry_in s.id) xs c (quiet s.id true k) ∙ k) ss h
+still_retried xs c quiet ss h = all_weaker (Retried xs) (Retried (xs ++ c ∷ [])) (λ s k. found_more (retry_in s.id) xs c (quiet s.id true k) ∙ k) ss h
 
 pub latest_kept : (xs : List Call) (c : Call) (case : Utf8) → LeavesLatest xs c case → (ss : List StartedAttempt) (l : Last) → Latest xs case ss l → Latest (xs ++ c ∷ []) case ss l
 latest_kept xs c case q ss l (none_yet a b) = none_yet a b
 latest_kept xs c case q ss l (one_open front s cut all st cs none e) =
-    one_open front s cut (still_retried xs c (λ b r k. (q.ended b r k).0) front all) (start_still s.id xs (c ∷ []) s st) cs (kept_more (retry_in s.id) xs c (q.still_open s st cs none) ∙ none) e
+    one_open front s cut (still_retried xs c (λ b r k. (q.ended b r k).0) front all) (start_still s.id xs (c ∷ []) s st) cs (found_more (retry_in s.id) xs c (q.still_open s st cs none) ∙ none) e
 latest_kept xs c case q ss l (last_over front s r cut all ends e) =
     let k = q.ended s.id r ends in
-    last_over front s r cut (still_retried xs c (λ b r k. (q.ended b r k).0) front all) (kept_more (retry_in s.id) xs c k.0 ∙ ends) (e ∙ ap (λ ws. left_as r (worst_of ws)) (sym (kept_more (status_in s.id) xs c k.1)))
+    last_over front s r cut (still_retried xs c (λ b r k. (q.ended b r k).0) front all) (found_more (retry_in s.id) xs c k.0 ∙ ends) (e ∙ ap (λ ws. left_as r (worst_of ws)) (sym (found_more (status_in s.id) xs c k.1)))
 
 pub carry_case : (xs : List Call) (c : Call) (t u : Table) (case : Utf8) → find_case u case ≡ find_case t case → declared_case case (c ∷ []) ≡ None → starts_of case (c ∷ []) ≡ [] → LeavesLatest xs c case → CaseIs xs t case → CaseIs (xs ++ c ∷ []) u case
 carry_case xs c t u case same no_case no_start q (undeclared n h) =

@@ -3,6 +3,7 @@ use Rattle.std.proofs.Common.{◌≡◌, refl, ap, ◌∙◌, ℕ, ◌<◌, ◌�
 use Rattle.std.specs.Prelude.{fold, unwrap_or}
 use Rattle.std.specs.List.{list_all}
 use Rattle.std.proofs.lemmas.Bool.Decides.{nat_tests}
+use Rattle.std.proofs.lemmas.Bool.{and_parts}
 use Rattle.std.proofs.lemmas.List.Elements.{All-cons, All-nil}
 use Rattle.cm_attempt.specs.Worst.{rank, with_status, worst_of}
 use Rattle.cm_attempt.specs.Table.{is_good_status}
@@ -128,10 +129,6 @@ known_later w s h k = go (nat_lt (rank w) (rank s)) refl
     go : (b : Bool) → nat_lt (rank w) (rank s) ≡ b → is_known (later w s) ≡ true
     go true e = rw e k
     go false e = rw e h
-
-and_parts : (a b : Bool) → (a && b) ≡ true → (a ≡ true) × (b ≡ true)
-and_parts true b h = (refl, h)
-and_parts false b h = cc
 
 and_yes : (b : Bool) → b ≡ (b && true)
 and_yes true = refl

@@ -1,5 +1,5 @@
 //! What a call has to find before it changes anything.
-ghost use Rattle.std.specs.Prelude.{◌≡◌, ◌<◌, if◌then◌else◌, [], false, IfOk, IfSome, MatchOption, None, Ok, Some, length, map, option_map};
+ghost use Rattle.std.specs.Prelude.{◌≡◌, ◌<◌, if◌then◌else◌, [], false, IfOk, IfSome, None, Some, length, map, option_map};
 ghost use Rattle.std.specs.String.{string_bytes};
 ghost use Rattle.indexmap.specs.IndexMap.{index_map_len};
 ghost use Rattle.cm_refs.specs.Due.{RefusesExactly};
@@ -108,9 +108,9 @@ pub(crate) fn check_new(
 
 /// Whether the step of the attempt may start.
 pub(crate) fn check_start(cases: &Cases, attempt: &Attempt, step: &str) -> Result<(), TrackFault>
-    ensures { MatchOption (step_fault_at (table_of 0 cases.now.entries []) step.now
-        (starts_in_order step.now) (Some (attempt_row [] attempt.now)))
-        (result ≡ Ok tt) (λ fault. result ≡ Err fault) }
+    ensures { RefusesExactly
+        (step_fault_at (table_of 0 cases.now.entries []) step.now
+        (starts_in_order step.now) (Some (attempt_row [] attempt.now))) result }
 {
     let Some((_, case)) = find_case(cases, attempt.case_id.as_str()) else {
         return Err(TrackFault::UnknownStep);

@@ -1,8 +1,8 @@
 //! The record of test cases and attempts.
-ghost use Rattle.std.specs.Prelude.{◌≡◌, ◌+◌, ◌⊎◌, IfOk, IfSome, IsErrAnd, IsOkUnless, MatchOption, OnErr, OnOk, is_some, map, option_map};
+ghost use Rattle.std.specs.Prelude.{◌≡◌, ◌+◌, IfOk, IfSome, OnErr, OnOk, is_some, map, option_map};
 ghost use Rattle.std.specs.List.{list_all};
 ghost use Rattle.std.specs.String.{string_bytes};
-ghost use Rattle.cm_refs.specs.Due.{RefusesExactly, RefusesExactlyUnless};
+ghost use Rattle.cm_refs.specs.Due.{RefusesExactly, RefusesExactlyUnless, RefusesUnless};
 ghost use Rattle.cm_attempt.specs.Results.{case_results, result_view};
 ghost use Rattle.cm_attempt.specs.Table.{HasDistinctIds, add_case_fault, change_attempt, empty_table, table_from};
 ghost use Rattle.cm_attempt.specs.Table.{find_attempt as row_of, find_case as case_of};
@@ -98,10 +98,9 @@ impl Track {
         // Equal steps are found with memory, so want of it may be reported in their place.
         ensures repeated_id { IfSome (case_of self.old (string_bytes id))
             (λ _. result ≡ Err TrackFault.DuplicateId) }
-        ensures answer { MatchOption
+        ensures answer { RefusesUnless
             (add_case_fault self.old (string_bytes id) (map string_bytes steps.items))
-            (IsOkUnless result TrackFault.Memory)
-            (λ fault. IsErrAnd result (λ e. (e ≡ fault) ⊎ (e ≡ TrackFault.Memory))) }
+            result TrackFault.Memory }
         ensures ok { OnOk result
             (self.new ≡ with_case (string_bytes id) (map string_bytes steps.items) self.old) }
         ensures err { OnErr result (self.new ≡ self.old) }

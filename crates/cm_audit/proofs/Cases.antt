@@ -10,6 +10,7 @@ use Rattle.indexmap.specs.IndexSet.{insert_key}
 use Rattle.cm_stream.specs.Texts.{Utf8, same_texts}
 use Rattle.cm_envelope.specs.declared.envelope.TestStep.{TestStep}
 use Rattle.cm_attempt.specs.Table.{has_text}
+use Rattle.cm_attempt.proofs.Refused.{not_twice}
 use Rattle.cm_refs.proofs.EntryLemmas.{Key, list_any-map}
 use Rattle.cm_state.specs.Summary.{with_name}
 
@@ -66,9 +67,5 @@ with_inserted keys k = go (list_any (string_eq k) keys) refl (list_any-map (byte
     go true e same = rw (same, e) refl
     go false e same = rw (same, e) (map-append string_bytes keys (k ∷ []))
 
-not_not : (b : Bool) → not (not b) ≡ b
-not_not true = refl
-not_not false = refl
-
 pub not_new : (keys : List Key) (k : Key) (is_new : Bool) → is_new ≡ not (list_any (string_eq k) keys) → not is_new ≡ has_text (string_bytes k) (map string_bytes keys)
-not_new keys k is_new e = ap not e ∙ not_not (list_any (string_eq k) keys) ∙ sym (list_any-map (bytes_eq (string_bytes k)) string_bytes keys)
+not_new keys k is_new e = ap not e ∙ not_twice (list_any (string_eq k) keys) ∙ sym (list_any-map (bytes_eq (string_bytes k)) string_bytes keys)

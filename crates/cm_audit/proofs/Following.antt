@@ -139,6 +139,7 @@ module _ (settings : Settings) (follows : List Envelope → Type 0) where
         read = run.read;
         good = run.good;
         followed = subst follows (sym same) follow;
+        kept = here;
         results = ap case_results here ∙ (tables_have_results settings.first_attempt es (table_of_envelopes settings.first_attempt es) accepted).1;
       }
 

@@ -1,7 +1,7 @@
 -- What is found at a line, by the tests that its judge makes in order.
 use Rattle.std.proofs.Common.{◌≡◌, ◌∙◌, refl, sym, ap, subst, inl, inr, Bool, true, false, not, ◌&&◌, ◌||◌, List, [], map, Option, Some, None, Result, Ok, Err, if◌then◌else◌}
 use Rattle.std.specs.Prelude.{◌⊎◌, ⊤, IsErrAnd, IsOk, MatchOption, OnOk, is_some, is_none}
-use Rattle.std.specs.Option.{option_map_or}
+use Rattle.std.specs.Option.{option_map_or, option_or}
 use Rattle.std.specs.Str.{bytes_eq}
 use Rattle.cm_attempt.specs.Table.{has_text, has_repeat}
 use Rattle.cm_refs.specs.declared.fault.RefFault.{RefFault}
@@ -23,7 +23,7 @@ use Rattle.cm_envelope.specs.declared.envelope.ParseError.{ParseError}
 use Rattle.cm_envelope.specs.declared.envelope.TestRunHookStarted.{TestRunHookStarted}
 use Rattle.cm_envelope.specs.declared.pickle.Pickle.{Pickle}
 use Rattle.cm_state.specs.Summary.{Summary, new_row}
-use Rattle.cm_state.specs.StateChecks.{find_source, is_accepted_by, is_awaited_of, is_next_by, knows_run_hook, or_else}
+use Rattle.cm_state.specs.StateChecks.{find_source, is_accepted_by, is_awaited_of, is_next_by, knows_run_hook}
 use Rattle.cm_state.specs.ByOnePass.{new_source, plain_finding}
 use Rattle.cm_audit.specs.Kept.{ReadsAs, accepted_row, kept_row}
 use Rattle.cm_audit.specs.State.{Checks, Judges, Refuses, summary_of}
@@ -71,7 +71,7 @@ abbrev pub done : Result ⊤ RefFault
 done = Ok tt
 
 pub told_by : (b : Bool) (f : RefFault) → MatchOption (if b then Some reference.DuplicateId else None) (f ≡ reference.Memory) (λ fault. failed f ≡ failed fault)
-    → StopsFor (or_else (if b then Some (IsBad bad.DuplicateId) else None) None) (refused_reference f)
+    → StopsFor (option_or (if b then Some (IsBad bad.DuplicateId) else None) None) (refused_reference f)
 told_by true f a = let same : f ≡ reference.DuplicateId = cc in rw same refl
 told_by false f a = rw a tt
 
@@ -97,7 +97,7 @@ module _ (s : Summary) (x : Source) where
 
     module _ (media : bytes_eq x.media_type plain ≡ true) where
       of_reading : Reading → Option Finding
-      of_reading r = or_else (if is_too_long r then Some (IsUnsupported reason.SourceTooLong) else (if is_other_language r then Some (IsUnsupported reason.Language) else None)) None
+      of_reading r = option_or (if is_too_long r then Some (IsUnsupported reason.SourceTooLong) else (if is_other_language r then Some (IsUnsupported reason.Language) else None)) None
 
       unread : (r : Reading) (why : Stop) → ReadsAs r (Err why) → StopsFor (of_reading r) why
       unfolding of_reading
@@ -177,13 +177,13 @@ module _ (s : Summary) (d : GherkinDocument) where
 -- ---- a pickle
 
 told_pickle : (b : Bool) (f : RefFault) → MatchOption (if b then Some reference.DuplicateId else None) (f ≡ reference.Memory) (λ fault. (f ≡ fault) ⊎ (f ≡ reference.Memory))
-    → StopsFor (or_else (if is_some (if b then Some reference.DuplicateId else None) then Some (IsBad bad.DuplicateId) else None) None) (refused_reference f)
+    → StopsFor (option_or (if is_some (if b then Some reference.DuplicateId else None) then Some (IsBad bad.DuplicateId) else None) None) (refused_reference f)
 told_pickle true f (inl e) = rw e refl
 told_pickle true f (inr e) = rw e tt
 told_pickle false f e = rw e tt
 
 free_pickle : (b : Bool) → MatchOption (if b then Some reference.DuplicateId else None) ⊤ (λ fault. ⊥)
-    → or_else (if is_some (if b then Some reference.DuplicateId else None) then Some (IsBad bad.DuplicateId) else None) None ≡ None
+    → option_or (if is_some (if b then Some reference.DuplicateId else None) then Some (IsBad bad.DuplicateId) else None) None ≡ None
 free_pickle true h = absurd h
 free_pickle false h = refl
 
@@ -224,12 +224,12 @@ module _ (s : Summary) (x : TestRunHookStarted) where
 -- what is found at an end, by what is kept of the run hook and whether the status is unknown
 abbrev pub end_found : Option RunHookRow → Bool → Option Finding
 end_found row unknown =
-    or_else (if not (is_some row) then Some (IsBad bad.UnknownReference)
+    option_or (if not (is_some row) then Some (IsBad bad.UnknownReference)
     else (if option_map_or (λ r. r.is_finished) row false then Some (IsBad bad.RunHookTwice)
     else (if unknown then Some (IsUnsupported reason.UnknownStatus) else None))) None
 
 marked_told : (b unknown : Bool) (f : RefFault) → MatchOption (if b then Some reference.RunHookTwice else None) (IsOk (failed f)) (λ fault. failed f ≡ failed fault)
-    → StopsFor (or_else (if b then Some (IsBad bad.RunHookTwice) else (if unknown then Some (IsUnsupported reason.UnknownStatus) else None)) None) (refused_reference f)
+    → StopsFor (option_or (if b then Some (IsBad bad.RunHookTwice) else (if unknown then Some (IsUnsupported reason.UnknownStatus) else None)) None) (refused_reference f)
 marked_told true unknown f a = let same : f ≡ reference.RunHookTwice = cc in rw same refl
 marked_told false unknown f a = cc
 
@@ -242,7 +242,7 @@ marked_fits : (b unknown : Bool) → MatchOption (if b then Some reference.RunHo
 marked_fits true unknown a = cc
 marked_fits false unknown a = refl
 
-found_first : (b unknown : Bool) → b ≡ false → or_else (if b then Some (IsBad bad.RunHookTwice) else (if unknown then Some (IsUnsupported reason.UnknownStatus) else None)) None
+found_first : (b unknown : Bool) → b ≡ false → option_or (if b then Some (IsBad bad.RunHookTwice) else (if unknown then Some (IsUnsupported reason.UnknownStatus) else None)) None
     ≡ (if unknown then Some (IsUnsupported reason.UnknownStatus) else None)
 found_first b true e = rw e refl
 found_first b false e = rw e refl

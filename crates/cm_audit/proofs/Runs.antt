@@ -11,7 +11,7 @@ use Rattle.cm_audit.specs.Kept.{kept_row, kept_rows}
 use Rattle.cm_audit.specs.declared.source.KeptSource.{KeptSource}
 use Rattle.cm_audit.specs.declared.source.KeptSource.TheVariants as kept
 
-lacks_anywhere : (uri : Utf8) (k : KeptSource) → lacks_by (kept_row uri k) ≡ lacks_by (kept_row [] k)
+pub lacks_anywhere : (uri : Utf8) (k : KeptSource) → lacks_by (kept_row uri k) ≡ lacks_by (kept_row [] k)
 lacks_anywhere uri kept.Refused = refl
 lacks_anywhere uri (kept.Accepted a) = refl
 

@@ -13,6 +13,7 @@ use Rattle.cm_stream.specs.Readings.{Reading, ReadsByTheGrammar}
 use Rattle.cm_stream.specs.Texts.{Utf8}
 use Rattle.cm_stream.specs.Findings.{Finding, IsBad, IsUnsupported, stream_fault_named}
 use Rattle.cm_stream.specs.Good.{Good}
+use Rattle.cm_stream.specs.Record.{table_of_envelopes}
 use Rattle.cm_stream.specs.Results.{results_of}
 use Rattle.cm_stream.specs.Redeclared.{judged_after, judged_as, line_judged_as}
 use Rattle.cm_stream.specs.Stream.{IsReadAs, feed_of, envelope_unless_blank}
@@ -42,14 +43,15 @@ judged_in settings lines = judged_after settings [] (envelopes_in lines)
 
 -- ---- of a good stream
 
--- The bytes are those of a good stream. `follows` holds of its envelopes as they are judged, and the table has the results of
--- their cases.
+-- The bytes are those of a good stream. `follows` holds of its envelopes as they are judged; the table is what they leave, and has
+-- the results of their cases.
 pub record IsFollowed (settings : Settings) (follows : List Envelope → Type 0) (table : Table)
     (bytes : List ℕ) : Type 0 where
   pub judged : List Envelope
   pub read : IsReadAs settings bytes judged
   pub good : Good settings judged
   pub followed : follows judged
+  pub kept : table ≡ table_of_envelopes settings.first_attempt judged
   pub results : case_results table ≡ results_of judged
 
 -- that, where the verdict is Good

@@ -10,7 +10,7 @@ ghost use Rattle.cm_audit.specs.Kept.{kept_row};
 ghost use Rattle.cm_audit.specs.State.{AreFewer, Judges, JudgesBy, summary_of};
 
 use crate::limits::MOST;
-use crate::record::{finish_attempt, finish_step, kept_status, start_attempt, start_step};
+use crate::record::{finish_attempt, finish_step, start_attempt, start_step};
 use crate::source::KeptSource;
 use crate::state::{Sources, State, knows_run};
 use crate::stop::Stop;
@@ -19,7 +19,7 @@ use cm_envelope::{
     Attachment, TestCaseFinished, TestCaseStarted, TestRunFinished, TestRunHookFinished,
     TestRunHookStarted, TestRunStarted, TestStepFinished, TestStepStarted,
 };
-use cm_stream::{Reason, StreamFault};
+use cm_stream::{Reason, StreamFault, kept_status};
 
 /// A run starts once.
 pub(crate) fn judge_run_started(state: &mut State, run: TestRunStarted) -> Result<(), Stop>

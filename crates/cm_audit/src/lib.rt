@@ -17,7 +17,7 @@
 //! `audit_watched` is the same audit, which a `Watch` goes along with: it is told of each envelope before that is judged, and
 //! sees the `State`, what the audit keeps of the lines before. `take_lines` reads a stream line by line for anything that takes
 //! lines (`TakeLines`), as an audit does; a line ends the reading by a `Stop`. `track` takes an envelope into a record of
-//! attempts, and `kept_status` gives the status that such a record keeps.
+//! attempts.
 #![tactic(auto)]
 
 mod auditing;
@@ -39,8 +39,8 @@ pub use auditing::{WatchedAudit, audit, audit_run, audit_watched, audit_with};
 pub use cm_attempt::{Policy, Settings};
 pub use cm_stream::{Audited, Counts, Reason, StreamFault, Verdict};
 pub use lines::{TakeLines, take_lines};
-pub use record::{kept_status, track};
+pub use record::track;
 pub use source::{AcceptedSource, KeptSource};
-pub use state::{Names, Sources, State};
+pub use state::{Sources, State};
 pub use stop::Stop;
 pub use watch::Watch;

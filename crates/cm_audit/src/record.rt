@@ -1,34 +1,20 @@
 //! The record of attempts, and what each envelope changes in it.
-ghost use Rattle.std.specs.Prelude.{◌≡◌, ◌⊎◌, IsErrAnd, IsOkUnless, MatchOption, OnErr, OnOk, map};
+ghost use Rattle.std.specs.Prelude.{◌≡◌, OnErr, OnOk, map};
+ghost use Rattle.cm_refs.specs.Due.{RefusesUnless};
 ghost use Rattle.cm_attempt.specs.Table.{add_case_fault, with_case};
 ghost use Rattle.cm_stream.specs.CallFaults.{call_fault_of_envelope};
 ghost use Rattle.cm_stream.specs.Record.{table_after_envelope};
-ghost use Rattle.cm_stream.specs.Statuses.{kept_status as kept};
 ghost use Rattle.cm_audit.specs.Record.{AnswersRefusal};
 
 use crate::ids::step_ids;
-use cm_attempt::{Status, Track, TrackFault};
+use cm_attempt::{Track, TrackFault};
 use cm_envelope::{
-    Envelope, Status as LineStatus, TestCase, TestCaseFinished, TestCaseStarted, TestStep,
-    TestStepFinished, TestStepStarted,
+    Envelope, TestCase, TestCaseFinished, TestCaseStarted, TestStep, TestStepFinished,
+    TestStepStarted,
 };
+use cm_stream::kept_status;
 use gk_document::{Sequence, Text};
 use std::alloc::Global;
-
-/// The status that the record of attempts keeps of a line's status.
-pub fn kept_status(status: LineStatus) -> Status
-    ensures { result ≡ kept status }
-{
-    match status {
-        LineStatus::Unknown => Status::Unknown,
-        LineStatus::Passed => Status::Passed,
-        LineStatus::Skipped => Status::Skipped,
-        LineStatus::Pending => Status::Pending,
-        LineStatus::Undefined => Status::Undefined,
-        LineStatus::Ambiguous => Status::Ambiguous,
-        LineStatus::Failed => Status::Failed,
-    }
-}
 
 /// A test case is declared with its steps, in order.
 ///
@@ -40,10 +26,8 @@ pub(crate) fn add_case(
     id: Text,
     steps: Sequence<TestStep>,
 ) -> Result<(), TrackFault>
-    ensures answer { MatchOption
-        (add_case_fault attempts.old id (map (λ step. step.id) steps))
-        (IsOkUnless result TrackFault.Memory)
-        (λ fault. IsErrAnd result (λ e. (e ≡ fault) ⊎ (e ≡ TrackFault.Memory))) }
+    ensures answer { RefusesUnless
+        (add_case_fault attempts.old id (map (λ step. step.id) steps)) result TrackFault.Memory }
     ensures ok { OnOk result (attempts.new
         ≡ with_case id (map (λ step. step.id) steps) attempts.old) }
     ensures err { OnErr result (attempts.new ≡ attempts.old) }

@@ -112,16 +112,6 @@ impl KeptSource {
         }
     }
 
-    /// Whether the document that is awaited has the skeleton of this one.
-    pub fn is_awaited(&self, document: &Document) -> bool
-        ensures { result ≡ is_awaited_of document.now (kept_row [] self.now) }
-    {
-        match self {
-            KeptSource::Refused => false,
-            KeptSource::Accepted(accepted) => accepted.is_awaited(document),
-        }
-    }
-
     /// The ids of the stream's document, once it came.
     pub fn ids(&self) -> &[Text]
         ensures { result.now ≡ (kept_row [] self.now).ids }

@@ -1,7 +1,6 @@
 //! What an audit keeps of the lines so far.
-ghost use Rattle.std.specs.Prelude.{◌≡◌, find, map, option_map};
+ghost use Rattle.std.specs.Prelude.{◌≡◌, find, option_map};
 ghost use Rattle.std.specs.Str.{bytes_eq};
-ghost use Rattle.std.specs.String.{string_bytes};
 ghost use Rattle.cm_state.specs.StateChecks.{find_source, knows_run};
 ghost use Rattle.cm_state.specs.Summary.{empty_summary};
 ghost use Rattle.cm_audit.specs.Kept.{kept_row, kept_rows};
@@ -20,7 +19,7 @@ use std::alloc::Global;
 pub type Sources = IndexMap<String, KeptSource>;
 
 /// The ids of pickles that test cases name, each once.
-pub type Names = IndexSet<String>;
+pub(crate) type Names = IndexSet<String>;
 
 /// What an audit keeps: each source by its uri, what else was declared, the record of attempts, the pickles that cases name,
 /// what the run's envelopes said, its success among it, and the worst status of its hooks.
@@ -93,32 +92,11 @@ impl State {
         find_source(&self.sources, uri)
     }
 
-    /// The pickles that test cases name.
-    pub fn named(&self) -> &Names
-        ensures { map string_bytes result.now.keys ≡ (summary_of self.now).named }
-    {
-        &self.named
-    }
-
     /// The start of the run, once it came.
     pub fn run(&self) -> Option<&TestRunStarted>
         ensures { option_map (λ r. r.now) result ≡ (summary_of self.now).run }
     {
         self.run.as_ref()
-    }
-
-    /// The worst status of the run hooks that are finished.
-    pub fn hooks_worst(&self) -> Option<Status>
-        ensures { result ≡ (summary_of self.now).hooks_worst }
-    {
-        self.hooks_worst
-    }
-
-    /// What was counted.
-    pub fn counts(&self) -> Counts
-        ensures { result ≡ (summary_of self.now).counts }
-    {
-        self.counts
     }
 
     /// The record of attempts alone.

@@ -15,7 +15,8 @@ abbrev pub audited_in : Result AuditedCases Trouble → Result Audited Trouble
 audited_in (Ok a) = Ok a.audited
 audited_in (Err t) = Err t
 
--- where the answer is Good, the listing is that of the stream's envelopes, and the attempts have the results of its cases
+-- where the answer is Good, the listing is that of the stream's envelopes, and the attempts are what they leave, with the results
+-- of its cases
 abbrev pub ListsCases : Settings → List ℕ → Result AuditedCases Trouble → Type 0
 ListsCases settings bytes (Ok a) =
     FollowsGood settings (λ es. a.listing ≡ listing_of es) a.attempts bytes a.audited.verdict

@@ -1,1 +1,2 @@
 pub mod ReleaseAudit
+pub mod PartAudit

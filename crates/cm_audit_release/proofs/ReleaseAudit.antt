@@ -23,7 +23,7 @@ use Rattle.cm_audit_release.specs.declared.audited_release.AuditedRelease.{Audit
 use Rattle.cm_audit_release.specs.declared.release_watch.ReleaseWatch.{ReleaseWatch}
 
 -- want of memory after an audit
-memory_too : (settings : Settings) (answer : Result Audited Trouble) (xs ys : List ℕ) → IsAuditOf settings answer xs ys → IsAuditOf settings (Err Memory) xs ys
+pub memory_too : (settings : Settings) (answer : Result Audited Trouble) (xs ys : List ℕ) → IsAuditOf settings answer xs ys → IsAuditOf settings (Err Memory) xs ys
 memory_too settings answer xs ys h = record {
   good = tt;
   bad = tt;
@@ -42,7 +42,7 @@ module _ (settings : Settings) (asked : Conditions) (found : ReleaseCounts) (hel
   counted_by w xs (verdict.Unsupported n r) first is answers h d k = told_with settings (Follows w.watch) xs (verdict.Unsupported n r) w.audited.success (summary_of w.state) w.watch.tally.trail reasons (λ es f. f.1) w.last first is answers d k
 
 module _ (settings : Settings) (asked : Conditions) where
-  told : (answer : Result (WatchedAudit ReleaseWatch) Trouble) (result : Result AuditedRelease Trouble) (xs ys : List ℕ) → CountsWatched settings asked answer result
+  pub told : (answer : Result (WatchedAudit ReleaseWatch) Trouble) (result : Result AuditedRelease Trouble) (xs ys : List ℕ) → CountsWatched settings asked answer result
       → IsWatchedAuditOf settings Follows answer xs ys → IsReleaseAuditOf settings asked result xs ys
   told (Ok w) (Ok a) xs ys k h = record {
     audit = subst (λ (x : Audited). IsAuditOf settings (Ok x) xs ys) (sym k.0) h.audit;

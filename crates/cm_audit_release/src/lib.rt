@@ -21,10 +21,11 @@
 //! ```
 //!
 //! `audit_release` is `audit_watched` of `cm_audit`, with a watch that keeps the `Tally` of `cm_release`; after the audit of a good
-//! stream this is judged, and of another stream `cm_fault_reasons` tells what is wrong with the line that decides.
+//! stream this is judged, and of another stream `cm_fault_reasons` tells what is wrong with the line that decides. `audit_part` does
+//! the same, and marks which scenarios of some texts ran, by `Marks` of `cm_ran`.
 #![tactic(auto)]
 
 mod audited_release;
 mod release_watch;
 
-pub use audited_release::{AuditedRelease, audit_release};
+pub use audited_release::{AuditedRelease, audit_part, audit_release};

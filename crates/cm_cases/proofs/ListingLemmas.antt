@@ -9,9 +9,9 @@ use Rattle.cm_envelope.specs.declared.envelope.GherkinDocument.{GherkinDocument}
 use Rattle.cm_envelope.specs.declared.envelope.TestCase.{TestCase}
 use Rattle.cm_envelope.specs.declared.envelope.TestCaseStarted.{TestCaseStarted}
 use Rattle.cm_envelope.specs.declared.pickle.Pickle.{Pickle}
-use Rattle.cm_stream.specs.References.{as_case, as_document, as_pickle, as_start}
-use Rattle.cm_stream.proofs.Lists.{found_more, found_push}
-use Rattle.cm_cases.specs.Listed.{case_entry, document_entry, listing_of, pickle_entry}
+use Rattle.cm_stream.specs.References.{as_case, as_document, as_pickle, as_start, cases, pickles}
+use Rattle.cm_stream.proofs.Lists.{found_more, found_push, map_twice}
+use Rattle.cm_cases.specs.Listed.{case_entry, document_entry, id_and_uri, listing_of, pickle_entry}
 use Rattle.cm_cases.specs.declared.listing.CaseEntry.{CaseEntry}
 use Rattle.cm_cases.specs.declared.listing.DocumentEntry.{DocumentEntry}
 use Rattle.cm_cases.specs.declared.listing.Listing.{Listing}
@@ -104,3 +104,17 @@ other_noted es (envelope.Attachment x) c p d s = not_noted es (envelope.Attachme
 other_noted es (envelope.TestRunHookStarted x) c p d s = not_noted es (envelope.TestRunHookStarted x) refl refl refl refl
 other_noted es (envelope.TestRunHookFinished x) c p d s = not_noted es (envelope.TestRunHookFinished x) refl refl refl refl
 other_noted es envelope.Other c p d s = not_noted es envelope.Other refl refl refl refl
+
+-- ---- what is told of a listing
+
+abbrev pub entry_ids : PickleEntry → Utf8 × Utf8
+entry_ids p = (p.id, p.uri)
+
+pub ids_of_pickles : (found : List (Utf8 × Utf8)) (l : Listing) → found ≡ map entry_ids l.pickles → (es : List Envelope) → l ≡ listing_of es → found ≡ map id_and_uri (pickles es)
+ids_of_pickles found l h es is = h ∙ ap (λ (x : Listing). map entry_ids x.pickles) is ∙ map_twice entry_ids pickle_entry (pickles es)
+
+abbrev pub entry_named : CaseEntry → Utf8
+entry_named c = c.pickle_id
+
+pub named_by_cases : (found : List Utf8) (l : Listing) → found ≡ map entry_named l.cases → (es : List Envelope) → l ≡ listing_of es → found ≡ map (λ c. c.pickle_id) (cases es)
+named_by_cases found l h es is = h ∙ ap (λ (x : Listing). map entry_named x.cases) is ∙ map_twice entry_named case_entry (cases es)

@@ -2,7 +2,8 @@
 ghost use Rattle.std.specs.Prelude.{◌≡◌, ◌++◌, ◌∷◌, [], List, IfOk, OnErr, OnOk, map, option_map};
 ghost use Rattle.std.specs.List.{flat_map};
 ghost use Rattle.cm_envelope.specs.declared.envelope.Envelope.{Envelope as SomeEnvelope};
-ghost use Rattle.cm_cases.specs.Listed.{case_entry, document_entry, listing_of, pickle_entry};
+ghost use Rattle.cm_stream.specs.References.{cases, pickles};
+ghost use Rattle.cm_cases.specs.Listed.{both_texts, case_entry, document_entry, id_and_uri, listing_of, pickle_entry};
 ghost use Rattle.cm_cases.specs.Places.{example_rows, last_node, place, places_of, rows_of, scenario_places};
 
 use cm_envelope::{Envelope, GherkinDocument, Pickle, PickleTag, TestCase};
@@ -221,5 +222,35 @@ impl Listing {
             Envelope::TestCaseStarted(start) => self.starts.push(copy(alloc, &start.test_case_id)?),
             _ => Ok(()),
         }
+    }
+
+    /// The id and the uri of each of its pickles.
+    ///
+    /// # Errors
+    /// Only where there is no memory for the list.
+    pub fn pickle_uris(&self, alloc: Global) -> Result<Vec<(&str, &str)>, AllocError>
+        ensures { IfOk result (λ found. (es : List SomeEnvelope) → self.now ≡ listing_of es
+            → map both_texts found.items ≡ map id_and_uri (pickles es)) }
+    {
+        let mut found = Vec::new(alloc);
+        for pickle in self.pickles.as_slice() {
+            found.push((pickle.id.as_str(), pickle.uri.as_str()))?;
+        }
+        Ok(found)
+    }
+
+    /// The id of the pickle that each of its test cases names.
+    ///
+    /// # Errors
+    /// Only where there is no memory for the list.
+    pub fn named_pickles(&self, alloc: Global) -> Result<Vec<&str>, AllocError>
+        ensures { IfOk result (λ found. (es : List SomeEnvelope) → self.now ≡ listing_of es
+            → map (λ id. id.now) found.items ≡ map (λ c. c.pickle_id) (cases es)) }
+    {
+        let mut found = Vec::new(alloc);
+        for case in self.cases.as_slice() {
+            found.push(case.pickle_id.as_str())?;
+        }
+        Ok(found)
     }
 }

@@ -4,6 +4,7 @@ use Rattle.std.specs.Prelude.{find, is_some}
 use Rattle.std.specs.List.{AllByRecursion, filter_map, list_any}
 use Rattle.std.specs.Str.{bytes_eq}
 use Rattle.std.proofs.lemmas.List.Elements.{filter_map-append}
+use Rattle.std.proofs.lemmas.Bool.{not-false}
 use Rattle.cm_attempt.specs.declared.settings.Settings.{Settings}
 use Rattle.cm_envelope.specs.declared.envelope.Envelope.{Envelope}
 use Rattle.cm_envelope.specs.declared.envelope.Envelope.TheVariants as envelope
@@ -22,7 +23,7 @@ use Rattle.cm_stream.proofs.Declared.{declares_run_hook, known, source_is}
 use Rattle.cm_stream.proofs.Found.{each_found}
 use Rattle.cm_stream.proofs.Lists.{found_any, found_more, or_no}
 use Rattle.cm_stream.proofs.OnePass.{is_read}
-use Rattle.cm_stream.proofs.Passing.{AllPass, LinePasses, no_unknown, plain_passes, was_not}
+use Rattle.cm_stream.proofs.Passing.{AllPass, LinePasses, no_unknown, plain_passes}
 use Rattle.cm_causes.specs.Laws.{AreKnown, EndsAreKnown, FaultlessAreKnown, FaultlessAreKnownBy}
 use Rattle.cm_causes.proofs.CauseLists.{any_more}
 
@@ -58,7 +59,7 @@ at_end before f h =
     let unknown : refers_to_unknown before (envelope.TestRunHookFinished f) ≡ false = no_unknown before (envelope.TestRunHookFinished f) h in
     let k = known (RunHook id) as_run_hook (its_start f) (declares_run_hook id) before in
     let there : not (is_some (find (its_start f) (run_hooks before))) ≡ false = sym k.0 ∙ sym (or_no (times_declared (RunHook id) before == 0)) ∙ unknown in
-    sym (found_any (its_start f) (run_hooks before)) ∙ was_not (is_some (find (its_start f) (run_hooks before))) there
+    sym (found_any (its_start f) (run_hooks before)) ∙ not-false (is_some (find (its_start f) (run_hooks before))) there
 
 known_ends : (es : List Envelope) → AllPass es → AllByRecursion (λ f. list_any (its_start f) (run_hooks es) ≡ true) (run_hook_ends es)
 known_ends es pass =

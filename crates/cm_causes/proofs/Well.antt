@@ -3,13 +3,14 @@ use Rattle.std.proofs.Common.{◌≡◌, ◌∙◌, refl, sym, ap, subst, ℕ, B
 use Rattle.std.specs.Prelude.{◌↔◌, find}
 use Rattle.std.specs.List.{AllByRecursion, filter, list_any}
 use Rattle.std.specs.Str.{bytes_eq}
-use Rattle.std.proofs.lemmas.Bool.{cases_Bool}
+use Rattle.std.proofs.lemmas.Bool.{cases_Bool, not-false}
 use Rattle.std.proofs.lemmas.List.{map-append}
 use Rattle.std.proofs.lemmas.List.Elements.{filter-append}
 use Rattle.cm_attempt.specs.Table.{is_good_status}
 use Rattle.cm_attempt.specs.declared.policy.Policy.{Policy}
 use Rattle.cm_attempt.specs.declared.settings.Settings.{Settings}
 use Rattle.cm_attempt.specs.declared.status.Status.{Status}
+use Rattle.cm_attempt.proofs.Growing.{all_weaker}
 use Rattle.cm_envelope.specs.declared.envelope.Envelope.{Envelope}
 use Rattle.cm_envelope.specs.declared.envelope.Envelope.TheVariants as envelope
 use Rattle.cm_envelope.specs.declared.envelope.Source.{Source}
@@ -36,10 +37,6 @@ use Rattle.cm_causes.proofs.Shown.{both_empty, shown_empty}
 
 -- ---- run hooks
 
-not_true : (b : Bool) → not b ≡ false → b ≡ true
-not_true true h = refl
-not_true false h = cc
-
 -- what is found among what passes
 none_passing : {X Y : Type 0} (q : Y → Bool) (g : X → Y) (p : X → Bool) (front : List X) (x : X) (back : List X) → p x ≡ true → find q (map g (filter p (front ++ x ∷ back))) ≡ None → q (g x) ≡ false
 none_passing {X} {Y} q g p front x back passes none =
@@ -61,10 +58,6 @@ each_mapped : {X Y : Type 0} (P : Y → Type 0) (g : X → Y) (xs : List X) → 
 each_mapped P g [] h = tt
 each_mapped P g (x ∷ xs) h = (h.0, each_mapped P g xs h.1)
 
-each_so : {X : Type 0} (P Q : X → Type 0) → ((x : X) → P x → Q x) → (xs : List X) → AllByRecursion P xs → AllByRecursion Q xs
-each_so P Q f [] h = tt
-each_so P Q f (x ∷ xs) h = (f x h.0, each_so P Q f xs h.1)
-
 abbrev status_at : TestRunHookFinished → Status
 status_at f = kept_status f.result.status
 
@@ -84,7 +77,7 @@ module _ (policy : Policy) (es : List Envelope) where
       all_here (λ (s : TestRunHookStarted). bad_end policy es s ≡ None) at.front at.here at.back (subst (AllByRecursion (λ (s : TestRunHookStarted). bad_end policy es s ≡ None)) at.cut none) in
       let ends : find fails (map status_at (filter (λ (x : TestRunHookFinished). bytes_eq at.here.id x.test_run_hook_started_id) (front ++ f ∷ back))) ≡ None =
       ap (λ (xs : List TestRunHookFinished). find fails (map status_at (filter (λ (x : TestRunHookFinished). bytes_eq at.here.id x.test_run_hook_started_id) xs))) (sym cut) ∙ its in
-      not_true (is_good_status policy (status_at f))
+      not-false (is_good_status policy (status_at f))
       (none_passing fails status_at (λ (x : TestRunHookFinished). bytes_eq at.here.id x.test_run_hook_started_id) front f back (eq_back at.here.id id ∙ at.passes) ends)
 
   good_hooks : AreKnown es → hook_causes policy es ≡ [] → AllByRecursion (λ status. is_good_status policy status ≡ true) (hook_statuses es)
@@ -95,7 +88,7 @@ module _ (policy : Policy) (es : List Envelope) where
 
   no_hooks : AllByRecursion (λ status. is_good_status policy status ≡ true) (hook_statuses es) → hook_causes policy es ≡ []
   no_hooks good =
-      let passes : AllByRecursion (λ (status : Status). fails status ≡ false) (hook_statuses es) = each_so (λ (status : Status). is_good_status policy status ≡ true) (λ (status : Status). fails status ≡ false) (λ status h. ap not h) (hook_statuses es) good in
+      let passes : AllByRecursion (λ (status : Status). fails status ≡ false) (hook_statuses es) = all_weaker (λ (status : Status). is_good_status policy status ≡ true) (λ (status : Status). fails status ≡ false) (λ status h. ap not h) (hook_statuses es) good in
       gives_none (λ (s : TestRunHookStarted). bad_hook_line s.hook_id) (bad_end policy es) (run_hooks es)
       (each_cut (λ (s : TestRunHookStarted). bad_end policy es s ≡ None) (run_hooks es)
       (λ front s back cut. never_found fails status_at (λ (x : TestRunHookFinished). bytes_eq s.id x.test_run_hook_started_id) (run_hook_ends es) passes))

@@ -17,7 +17,7 @@ use crate::results::bad_results;
 use cm_attempt::{CaseResult, Policy, Status, Track};
 use cm_cases::Places;
 use cm_reasons::{AddLine, Trail, add_limited, status_word};
-use cm_steps::StepListing;
+use cm_steps::{StepListing, is_quiet};
 use std::alloc::{AllocError, Global};
 
 /// Adds the first step of the last attempt of a test case that has the status, with a word before it.
@@ -39,13 +39,6 @@ fn add_last_step(
     };
     text.push_str(" ")?;
     steps.add_named_step(text, case, step)
-}
-
-/// Whether the status holds nothing up, whatever the policy.
-fn is_quiet(status: Status) -> bool
-    ensures { result ≡ is_quiet status }
-{
-    matches!(status, Status::Passed | Status::Skipped)
 }
 
 /// Lines of the results of test cases.

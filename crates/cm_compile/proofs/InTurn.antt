@@ -8,18 +8,18 @@ use Rattle.gk_pickle.specs.declared.pickle.Pickle.{Pickle}
 use Rattle.gk_pickle.specs.InFeature.{ScenarioInFeature}
 use Rattle.gk_pickle.specs.Scenarios.{pickles_of_one}
 use Rattle.cm_messages.specs.PickleLayout.{pickle_data}
-use Rattle.cm_compile.specs.Compiled.{json_line, id_count, pickle_lines}
+use Rattle.cm_compile.specs.Compiled.{data_line, id_count, compiled_pickle_lines}
 
 -- the lines of pickles in two parts
 in_parts : (uri : List ℕ) (id : ℕ) (ps qs : List Pickle)
-    → pickle_lines uri id (ps ++ qs) ≡ pickle_lines uri id ps ++ pickle_lines uri (id + sum_by id_count ps) qs
+    → compiled_pickle_lines uri id (ps ++ qs) ≡ compiled_pickle_lines uri id ps ++ compiled_pickle_lines uri (id + sum_by id_count ps) qs
 in_parts uri id [] qs =
     let same : id ≡ id + sum_by id_count [] = omega arith in
-    ap (λ n. pickle_lines uri n qs) same
+    ap (λ n. compiled_pickle_lines uri n qs) same
 in_parts uri id (p ∷ ps) qs =
     let next : (id + id_count p) + sum_by id_count ps ≡ id + sum_by id_count (p ∷ ps) = omega (arith, sum_by-cons id_count p ps) in
-    ap (λ ls. json_line (pickle_data uri id p) ∷ ls)
-    (in_parts uri (id + id_count p) ps qs ∙ ap (λ n. pickle_lines uri (id + id_count p) ps ++ pickle_lines uri n qs) next)
+    ap (λ ls. data_line (pickle_data uri id p) ∷ ls)
+    (in_parts uri (id + id_count p) ps qs ∙ ap (λ n. compiled_pickle_lines uri (id + id_count p) ps ++ compiled_pickle_lines uri n qs) next)
 
 -- the pickles of the scenarios from one of them on
 from_here : (xs : List ScenarioInFeature) (i : ℕ) (x : ScenarioInFeature) → i < length xs → x ≡ get_or xs i x
@@ -34,21 +34,21 @@ ids_from_here xs i x l e =
 
 -- what is left once the lines of a scenario are added
 pub one_added : (lines new uri : List ℕ) (id next : ℕ) (xs : List ScenarioInFeature) (i : ℕ) (x : ScenarioInFeature) (all : List ℕ)
-    → new ≡ lines ++ concat (pickle_lines uri id (pickles_of_one x)) → next ≡ id + sum_by id_count (pickles_of_one x)
-    → i < length xs → x ≡ get_or xs i x → lines ++ concat (pickle_lines uri id (flat_map pickles_of_one (drop i xs))) ≡ all
-    → new ++ concat (pickle_lines uri next (flat_map pickles_of_one (drop (i + 1) xs))) ≡ all
+    → new ≡ lines ++ concat (compiled_pickle_lines uri id (pickles_of_one x)) → next ≡ id + sum_by id_count (pickles_of_one x)
+    → i < length xs → x ≡ get_or xs i x → lines ++ concat (compiled_pickle_lines uri id (flat_map pickles_of_one (drop i xs))) ≡ all
+    → new ++ concat (compiled_pickle_lines uri next (flat_map pickles_of_one (drop (i + 1) xs))) ≡ all
 one_added lines new uri id next xs i x all n after l e h =
     let here : List Pickle = pickles_of_one x in
     let rest : List Pickle = flat_map pickles_of_one (drop (i + 1) xs) in
-    let first : List (List ℕ) = pickle_lines uri id here in
-    let left : List (List ℕ) = pickle_lines uri (id + sum_by id_count here) rest in
-    ap (λ ls. ls ++ concat (pickle_lines uri next rest)) n ∙ ap (λ m. (lines ++ concat first) ++ concat (pickle_lines uri m rest)) after
+    let first : List (List ℕ) = compiled_pickle_lines uri id here in
+    let left : List (List ℕ) = compiled_pickle_lines uri (id + sum_by id_count here) rest in
+    ap (λ ls. ls ++ concat (compiled_pickle_lines uri next rest)) n ∙ ap (λ m. (lines ++ concat first) ++ concat (compiled_pickle_lines uri m rest)) after
     ∙ append_assoc lines (concat first) (concat left) ∙ ap (λ ls. lines ++ ls) (sym (concat-append first left))
     ∙ ap (λ ls. lines ++ concat ls) (sym (in_parts uri id here rest))
-    ∙ ap (λ ps. lines ++ concat (pickle_lines uri id ps)) (sym (from_here xs i x l e)) ∙ h
+    ∙ ap (λ ps. lines ++ concat (compiled_pickle_lines uri id ps)) (sym (from_here xs i x l e)) ∙ h
 
 -- no scenario is left
 pub all_added : (lines uri : List ℕ) (id : ℕ) (xs : List ScenarioInFeature) (i : ℕ) (all : List ℕ)
-    → length xs ≤ i → lines ++ concat (pickle_lines uri id (flat_map pickles_of_one (drop i xs))) ≡ all → lines ≡ all
+    → length xs ≤ i → lines ++ concat (compiled_pickle_lines uri id (flat_map pickles_of_one (drop i xs))) ≡ all → lines ≡ all
 all_added lines uri id xs i all l h =
-    sym (ap (λ ls. lines ++ ls) (at_drop_all (λ ys. concat (pickle_lines uri id (flat_map pickles_of_one ys))) xs i l) ∙ append-nil lines) ∙ h
+    sym (ap (λ ls. lines ++ ls) (at_drop_all (λ ys. concat (compiled_pickle_lines uri id (flat_map pickles_of_one ys))) xs i l) ∙ append-nil lines) ∙ h

@@ -12,24 +12,24 @@ use Rattle.cm_messages.specs.DocumentLayout.{document_data}
 use Rattle.cm_messages.specs.PickleLayout.{pickle_data}
 
 -- a value without spaces, as `serde_json` writes it, and a line feed
-abbrev pub json_line : Data → List ℕ
-json_line d = compact_text d ++ codes "\n"
+abbrev pub data_line : Data → List ℕ
+data_line d = compact_text d ++ codes "\n"
 
 -- a pickle takes an id for each of its steps, in order, and then one for itself
 abbrev pub id_count : Pickle → ℕ
 id_count p = length p.steps + 1
 
 -- the lines of pickles, whose ids go on from this one
-abbrev pub pickle_lines : List ℕ → ℕ → List Pickle → List (List ℕ)
-pickle_lines uri id [] = []
-pickle_lines uri id (p ∷ ps) =
-    json_line (pickle_data uri id p) ∷ pickle_lines uri (id + id_count p) ps
+abbrev pub compiled_pickle_lines : List ℕ → ℕ → List Pickle → List (List ℕ)
+compiled_pickle_lines uri id [] = []
+compiled_pickle_lines uri id (p ∷ ps) =
+    data_line (pickle_data uri id p) ∷ compiled_pickle_lines uri (id + id_count p) ps
 
 -- the lines of a document with this text: the nodes have the ids 0, 1, .., and those of the pickles go on from there
 abbrev pub compiled_lines : (uri text : List ℕ) → Document → List (List ℕ)
 compiled_lines uri text d =
-    json_line (source_data uri text) ∷ json_line (document_data uri d)
-    ∷ pickle_lines uri d.nodes (pickles d)
+    data_line (source_data uri text) ∷ data_line (document_data uri d)
+    ∷ compiled_pickle_lines uri d.nodes (pickles d)
 
 -- the bytes that a text of the grammar compiles to
 abbrev pub IsCompiledOf : (uri text bytes : List ℕ) → Type 0

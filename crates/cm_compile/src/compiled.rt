@@ -10,7 +10,7 @@ ghost use Rattle.cm_messages.specs.SourceLayout.{source_data};
 ghost use Rattle.cm_messages.specs.DocumentLayout.{document_data};
 ghost use Rattle.cm_envelope.specs.Device.{Writes, count_up};
 ghost use Rattle.cm_compile.specs.declared.fault.CompileFault.TheVariants.{Parse, WriteFailed};
-ghost use Rattle.cm_compile.specs.Compiled.{json_line, id_count, pickle_lines, compiled_lines, IsCompiledOf};
+ghost use Rattle.cm_compile.specs.Compiled.{data_line, id_count, compiled_pickle_lines, compiled_lines, IsCompiledOf};
 ghost use Rattle.cm_compile.specs.Faults.{IsRefusedWith};
 ghost use Rattle.cm_envelope.specs.Writing.{WritesFront};
 
@@ -40,8 +40,8 @@ fn add_pickle_lines(
     lines: &mut Vec<u8>,
 ) -> Result<u64, AllocError>
     requires { first_id + sum_by id_count pickles.now < 2 ^ 64 }
-    ensures added { OnOk result
-        (lines.new.items ≡ lines.old.items ++ concat (pickle_lines uri.now first_id pickles.now)) }
+    ensures added { OnOk result (lines.new.items ≡ lines.old.items
+        ++ concat (compiled_pickle_lines uri.now first_id pickles.now)) }
     ensures next { IfOk result (λ id. id ≡ first_id + sum_by id_count pickles.now) }
 {
     let mut id = first_id;
@@ -64,7 +64,7 @@ fn add_scenario_lines(
 ) -> Result<u64, AllocError>
     requires { first_id + sum_by id_count (pickles_of_one scenario.now) < 2 ^ 64 }
     ensures added { OnOk result (lines.new.items ≡ lines.old.items
-        ++ concat (pickle_lines uri.now first_id (pickles_of_one scenario.now))) }
+        ++ concat (compiled_pickle_lines uri.now first_id (pickles_of_one scenario.now))) }
     ensures next { IfOk result
         (λ id. id ≡ first_id + sum_by id_count (pickles_of_one scenario.now)) }
 {
@@ -79,8 +79,8 @@ fn lines_of_tree(
     text: &str,
     document: &Document,
 ) -> Result<Vec<u8>, AllocError>
-    ensures { IfOk result (λ lines. lines.items ≡ json_line (source_data uri.now text.now)
-        ++ json_line (document_data uri.now document.now)) }
+    ensures { IfOk result (λ lines. lines.items ≡ data_line (source_data uri.now text.now)
+        ++ data_line (document_data uri.now document.now)) }
 {
     let mut lines = source_text(alloc, uri, text)?;
     lines.push(b'\n')?;

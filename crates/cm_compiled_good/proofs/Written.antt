@@ -22,7 +22,7 @@ use Rattle.cm_read_back.specs.Values.{IsPlain}
 use Rattle.cm_read_back.proofs.Lines.{read_as}
 use Rattle.cm_read_back.proofs.Pickles.{source_is, pickle_is}
 use Rattle.cm_read_back.proofs.Trees.{document_is}
-use Rattle.cm_compile.specs.Compiled.{json_line, id_count, pickle_lines, compiled_lines}
+use Rattle.cm_compile.specs.Compiled.{data_line, id_count, compiled_pickle_lines, compiled_lines}
 use Rattle.cm_compiled_good.specs.Law.{run_lines}
 use Rattle.cm_compiled_good.proofs.Compact.{text_no_feed}
 use Rattle.cm_compiled_good.proofs.Feeding.{IsLineWith, AreLinesWith, more_lines}
@@ -55,23 +55,23 @@ pub record ArePlain (uri text : List ℕ) (d : Document) : Type 0 where
   pub document : IsPlain (document_data uri d)
   pub each : AllByRecursion (λ (p : Pickle). (id : ℕ) → IsPlain (pickle_data uri id p)) (pickles d)
 
-value_line : (d : Data) (e : Envelope) → is_blank (compact_text d) ≡ false → IsPlain d → envelope_of_line (compact_text d) ≡ Ok e → IsLineWith (json_line d) e
+value_line : (d : Data) (e : Envelope) → is_blank (compact_text d) ≡ false → IsPlain d → envelope_of_line (compact_text d) ≡ Ok e → IsLineWith (data_line d) e
 value_line d e filled plain read = record { line = compact_text d; cut = refl; read = read; filled = filled; one = text_no_feed d plain }
 
-source_line : (uri text : List ℕ) → IsPlain (source_data uri text) → IsLineWith (json_line (source_data uri text)) (envelope.Source (source_read uri text))
+source_line : (uri text : List ℕ) → IsPlain (source_data uri text) → IsLineWith (data_line (source_data uri text)) (envelope.Source (source_read uri text))
 unfolding source_data
 source_line uri text plain = value_line (source_data uri text) _ refl plain ((source_is uri text).text plain)
 
-document_line : (uri : List ℕ) (d : Document) → IsReadable d → IsPlain (document_data uri d) → IsLineWith (json_line (document_data uri d)) (envelope.GherkinDocument (document_read uri d))
+document_line : (uri : List ℕ) (d : Document) → IsReadable d → IsPlain (document_data uri d) → IsLineWith (data_line (document_data uri d)) (envelope.GherkinDocument (document_read uri d))
 unfolding document_data
 document_line uri d readable plain = value_line (document_data uri d) _ refl plain ((document_is uri d readable).text plain)
 
-pickle_line : (uri : List ℕ) (id : ℕ) (p : Pickle) → IsPlain (pickle_data uri id p) → IsLineWith (json_line (pickle_data uri id p)) (envelope.Pickle (pickle_read uri id p))
+pickle_line : (uri : List ℕ) (id : ℕ) (p : Pickle) → IsPlain (pickle_data uri id p) → IsLineWith (data_line (pickle_data uri id p)) (envelope.Pickle (pickle_read uri id p))
 unfolding pickle_data
 pickle_line uri id p plain = value_line (pickle_data uri id p) _ refl plain ((pickle_is uri id p).text plain)
 
 pickles_lines : (uri : List ℕ) (id : ℕ) (ps : List Pickle) → AllByRecursion (λ (p : Pickle). (n : ℕ) → IsPlain (pickle_data uri n p)) ps
-    → AreLinesWith (pickle_lines uri id ps) (pickle_envelopes uri id ps)
+    → AreLinesWith (compiled_pickle_lines uri id ps) (pickle_envelopes uri id ps)
 pickles_lines uri id [] h = tt
 pickles_lines uri id (p ∷ ps) h = (pickle_line uri id p (h.0 id), pickles_lines uri (id + id_count p) ps h.1)
 
@@ -111,7 +111,7 @@ all_lines uri text d readable plain = (
   source_line uri text plain.source,
   (
     document_line uri d readable plain.document,
-    more_lines (pickle_lines uri d.nodes (pickles d)) run_texts (pickle_envelopes uri d.nodes (pickles d)) run_envelopes (pickles_lines uri d.nodes (pickles d) plain.each)
+    more_lines (compiled_pickle_lines uri d.nodes (pickles d)) run_texts (pickle_envelopes uri d.nodes (pickles d)) run_envelopes (pickles_lines uri d.nodes (pickles d) plain.each)
         (started_line, (finished_line, tt)),
   ),
 )

@@ -21,7 +21,7 @@ use Rattle.cm_stream.specs.Texts.{Utf8, same_list, same_option, same_texts}
 use Rattle.cm_stream.proofs.Lists.{and_true}
 use Rattle.cm_stream.proofs.Found.{bytes_are}
 use Rattle.cm_stream.proofs.Tells.{Tells, five, four, maybe_texts, text_lists, texts, whole_lists, whole_options}
-use Rattle.cm_differs.specs.DuePickles.{DueIsEqual, argument_of, due_cell, due_pickle, due_row, due_step, due_steps, due_tag, kind_of, without_id, without_ids}
+use Rattle.cm_differs.specs.DuePickles.{DueIsEqual, argument_of, due_cell, due_pickle, due_row, due_pickle_step, due_pickle_steps, due_tag, step_kind, without_id, without_ids}
 
 -- ---- tables and doc strings
 
@@ -67,7 +67,7 @@ arguments = record { is = are; by = back }
 
 -- ---- steps
 
-type_is : (k : StepKind) (due : StepType) → is_type k due ≡ true → k ≡ kind_of due
+type_is : (k : StepKind) (due : StepType) → is_type k due ≡ true → k ≡ step_kind due
 type_is line.Unknown due_kind.Unknown h = refl
 type_is line.Context due_kind.Context h = refl
 type_is line.Action due_kind.Action h = refl
@@ -85,21 +85,21 @@ type_is line.Outcome due_kind.Unknown h = cc
 type_is line.Outcome due_kind.Context h = cc
 type_is line.Outcome due_kind.Action h = cc
 
-is_own_type : (due : StepType) → is_type (kind_of due) due ≡ true
+is_own_type : (due : StepType) → is_type (step_kind due) due ≡ true
 is_own_type due_kind.Unknown = refl
 is_own_type due_kind.Context = refl
 is_own_type due_kind.Action = refl
 is_own_type due_kind.Outcome = refl
 
-fits_is : (k : Option StepKind) (due : StepType) → fits_type k due ≡ true → k ≡ option_map (λ kind. kind_of due) k
+fits_is : (k : Option StepKind) (due : StepType) → fits_type k due ≡ true → k ≡ option_map (λ kind. step_kind due) k
 fits_is None due h = refl
 fits_is (Some k) due h = ap Some (type_is k due h)
 
-is_fit : (k : Option StepKind) (due : StepType) → k ≡ option_map (λ kind. kind_of due) k → fits_type k due ≡ true
+is_fit : (k : Option StepKind) (due : StepType) → k ≡ option_map (λ kind. step_kind due) k → fits_type k due ≡ true
 is_fit None due e = refl
-is_fit (Some k) due e = let same : k ≡ kind_of due = cc in ap (λ x. is_type x due) same ∙ is_own_type due
+is_fit (Some k) due e = let same : k ≡ step_kind due = cc in ap (λ x. is_type x due) same ∙ is_own_type due
 
-step_is : (ids : List Utf8) (s : PickleStep) (due : DueStep) → is_due_step ids s due ≡ true → without_id s ≡ due_step ids (Some s) due
+step_is : (ids : List Utf8) (s : PickleStep) (due : DueStep) → is_due_step ids s due ≡ true → without_id s ≡ due_pickle_step ids (Some s) due
 step_is ids s due h =
     let k = four (bytes_eq s.text due.text) (fits_type s.kind due.kind) (same_texts s.ast_node_ids (ids_at ids due.nodes)) (same_option is_argument s.argument due.argument) h in
     let t = bytes_are s.text due.text k.0 in
@@ -108,7 +108,7 @@ step_is ids s due h =
     let a = (whole_options arguments).is s.argument due.argument k.3 in
     λ i. record { id = []; text = t i; kind = f i; ast_node_ids = n i; argument = a i }
 
-step_by : (ids : List Utf8) (s : PickleStep) (due : DueStep) → without_id s ≡ due_step ids (Some s) due → is_due_step ids s due ≡ true
+step_by : (ids : List Utf8) (s : PickleStep) (due : DueStep) → without_id s ≡ due_pickle_step ids (Some s) due → is_due_step ids s due ≡ true
 step_by ids s due e =
     rw (
       texts.by s.text due.text (ap (λ (x : PickleStep). x.text) e),
@@ -117,7 +117,7 @@ step_by ids s due e =
       (whole_options arguments).by s.argument due.argument (ap (λ (x : PickleStep). x.argument) e),
     ) refl
 
-steps_are : (ids : List Utf8) (ss : List PickleStep) (due : List DueStep) → same_list (is_due_step ids) ss due ≡ true → map without_id ss ≡ due_steps ids ss due
+steps_are : (ids : List Utf8) (ss : List PickleStep) (due : List DueStep) → same_list (is_due_step ids) ss due ≡ true → map without_id ss ≡ due_pickle_steps ids ss due
 steps_are ids [] [] h = refl
 steps_are ids [] (d ∷ ds) h = cc
 steps_are ids (s ∷ ss) [] h = cc
@@ -127,13 +127,13 @@ steps_are ids (s ∷ ss) (d ∷ ds) h =
     let rest = steps_are ids ss ds k.1 in
     λ i. first i ∷ rest i
 
-steps_by : (ids : List Utf8) (ss : List PickleStep) (due : List DueStep) → map without_id ss ≡ due_steps ids ss due → same_list (is_due_step ids) ss due ≡ true
+steps_by : (ids : List Utf8) (ss : List PickleStep) (due : List DueStep) → map without_id ss ≡ due_pickle_steps ids ss due → same_list (is_due_step ids) ss due ≡ true
 steps_by ids [] [] e = refl
 steps_by ids [] (d ∷ ds) e = cc
 steps_by ids (s ∷ ss) [] e = cc
 steps_by ids (s ∷ ss) (d ∷ ds) e =
-    let first : without_id s ≡ due_step ids (Some s) d = cc in
-    let rest : map without_id ss ≡ due_steps ids ss ds = cc in
+    let first : without_id s ≡ due_pickle_step ids (Some s) d = cc in
+    let rest : map without_id ss ≡ due_pickle_steps ids ss ds = cc in
     rw (step_by ids s d first, steps_by ids ss ds rest) refl
 
 -- ---- tags and pickles

@@ -23,16 +23,16 @@ abbrev pub without_ids : Pickle → Pickle
 without_ids p = record p { id = []; steps = map without_id p.steps }
 
 -- a step's type, as messages have it (Messages, `PickleStepType`)
-abbrev pub kind_of : StepType → StepKind
-kind_of due_kind.Unknown = line.Unknown
-kind_of due_kind.Context = line.Context
-kind_of due_kind.Action = line.Action
-kind_of due_kind.Outcome = line.Outcome
+abbrev pub step_kind : StepType → StepKind
+step_kind due_kind.Unknown = line.Unknown
+step_kind due_kind.Context = line.Context
+step_kind due_kind.Action = line.Action
+step_kind due_kind.Outcome = line.Outcome
 
 -- The type that is due beside a step of the stream. Where that step has none, none is due.
 abbrev pub kind_beside : Option PickleStep → StepType → Option StepKind
-kind_beside None due = Some (kind_of due)
-kind_beside (Some s) due = option_map (λ kind. kind_of due) s.kind
+kind_beside None due = Some (step_kind due)
+kind_beside (Some s) due = option_map (λ kind. step_kind due) s.kind
 
 abbrev pub due_cell : Utf8 → PickleCell
 due_cell value = record { value = value }
@@ -46,8 +46,8 @@ argument_of (due_argument.Table rows) = argument.Table (record { rows = map due_
 argument_of (due_argument.Text d) =
     argument.Text (record { content = d.content; media_type = d.media })
 
-abbrev pub due_step : (ids : List Utf8) → (beside : Option PickleStep) → DueStep → PickleStep
-due_step ids beside due = record {
+abbrev pub due_pickle_step : (ids : List Utf8) → (beside : Option PickleStep) → DueStep → PickleStep
+due_pickle_step ids beside due = record {
   id = [];
   text = due.text;
   kind = kind_beside beside due.kind;
@@ -56,11 +56,11 @@ due_step ids beside due = record {
 }
 
 -- the steps that are due, each beside the stream's step at its place, where there is one
-abbrev pub due_steps : (ids : List Utf8) → (beside : List PickleStep) → List DueStep
+abbrev pub due_pickle_steps : (ids : List Utf8) → (beside : List PickleStep) → List DueStep
     → List PickleStep
-due_steps ids beside [] = []
-due_steps ids [] (d ∷ ds) = due_step ids None d ∷ due_steps ids [] ds
-due_steps ids (s ∷ ss) (d ∷ ds) = due_step ids (Some s) d ∷ due_steps ids ss ds
+due_pickle_steps ids beside [] = []
+due_pickle_steps ids [] (d ∷ ds) = due_pickle_step ids None d ∷ due_pickle_steps ids [] ds
+due_pickle_steps ids (s ∷ ss) (d ∷ ds) = due_pickle_step ids (Some s) d ∷ due_pickle_steps ids ss ds
 
 abbrev pub due_tag : (ids : List Utf8) → DueTag → PickleTag
 due_tag ids due = record { name = due.name; ast_node_id = unwrap_or (slice_get ids due.node) [] }
@@ -75,7 +75,7 @@ due_pickle uri ids beside due = record {
   language = english;
   ast_node_ids = ids_at ids due.nodes;
   tags = map (due_tag ids) due.tags;
-  steps = due_steps ids beside due.steps;
+  steps = due_pickle_steps ids beside due.steps;
 }
 
 -- A pickle of the stream is the one that is due exactly where both are equal without what is free.

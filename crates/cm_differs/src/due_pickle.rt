@@ -1,13 +1,13 @@
 //! A pickle that is due, as the stream would have it.
-ghost use Rattle.std.specs.Prelude.{◌≡◌, [], IfOk, map, option_map, slice_get, unwrap_or};
+ghost use Rattle.std.specs.Prelude.{◌≡◌, [], IfOk, map, option_map};
 ghost use Rattle.cm_stream.specs.Sources.{ids_at};
-ghost use Rattle.cm_differs.specs.DuePickles.{argument_of, due_pickle, due_row, due_step, due_steps, due_tag, kind_beside, kind_of};
+ghost use Rattle.cm_differs.specs.DuePickles.{argument_of, due_pickle, due_row, due_pickle_step, due_pickle_steps, due_tag, kind_beside, step_kind};
 
 use cm_envelope::{
     Pickle, PickleArgument, PickleCell, PickleDocString, PickleRow, PickleStep, PickleTable,
     PickleTag, StepKind,
 };
-use gk_document::{Sequence, Text};
+use gk_document::{Sequence, Text, id_of};
 use gk_pickle::{
     Pickle as DuePickle, PickleArgument as DueArgument, PickleStep as DueStep, PickleTag as DueTag,
     StepType,
@@ -24,16 +24,6 @@ fn no_id(alloc: Global) -> Text
     Text::from(String::new(alloc))
 }
 
-/// The id of a node.
-fn id_of<'a>(ids: &'a [Text], node: u64) -> &'a str
-    ensures { result.now ≡ unwrap_or (slice_get ids.now node) [] }
-{
-    match ids.get(node as usize) {
-        Some(id) => id.as_str(),
-        None => "",
-    }
-}
-
 /// The ids of the nodes.
 fn ids_at(alloc: Global, ids: &[Text], nodes: &[u64]) -> Result<Sequence<Text>, AllocError>
     ensures { IfOk result (λ texts. texts ≡ ids_at ids.now nodes.now) }
@@ -47,8 +37,8 @@ fn ids_at(alloc: Global, ids: &[Text], nodes: &[u64]) -> Result<Sequence<Text>, 
 }
 
 /// A step's type, as messages have it.
-fn kind_of(kind: StepType) -> StepKind
-    ensures { result ≡ kind_of kind }
+fn step_kind(kind: StepType) -> StepKind
+    ensures { result ≡ step_kind kind }
 {
     match kind {
         StepType::Unknown => StepKind::Unknown,
@@ -64,7 +54,7 @@ fn kind_beside(beside: Option<&PickleStep>, due: StepType) -> Option<StepKind>
 {
     match beside {
         Some(PickleStep { kind: None, .. }) => None,
-        _ => Some(kind_of(due)),
+        _ => Some(step_kind(due)),
     }
 }
 
@@ -132,14 +122,14 @@ fn argument_of_some(
 }
 
 /// A step that is due, beside a step of the stream.
-fn due_step(
+fn due_pickle_step(
     alloc: Global,
     ids: &[Text],
     beside: Option<&PickleStep>,
     due: &DueStep,
 ) -> Result<PickleStep, AllocError>
     ensures { IfOk result
-        (λ s. s ≡ due_step ids.now (option_map (λ s. s.now) beside.entry) due.now) }
+        (λ s. s ≡ due_pickle_step ids.now (option_map (λ s. s.now) beside.entry) due.now) }
 {
     Ok(PickleStep {
         id: no_id(alloc),
@@ -151,17 +141,17 @@ fn due_step(
 }
 
 /// The steps that are due, each beside the stream's step at its place.
-fn due_steps(
+fn due_pickle_steps(
     alloc: Global,
     ids: &[Text],
     beside: &[PickleStep],
     due: &[DueStep],
 ) -> Result<Sequence<PickleStep>, AllocError>
-    ensures { IfOk result (λ ss. ss ≡ due_steps ids.now beside.now due.now) }
+    ensures { IfOk result (λ ss. ss ≡ due_pickle_steps ids.now beside.now due.now) }
 {
     let mut steps = Sequence::new(alloc);
     for (i, step) in due.iter().enumerate() {
-        let step = due_step(alloc, ids, beside.get(i), step)?;
+        let step = due_pickle_step(alloc, ids, beside.get(i), step)?;
         steps.push(step)?;
     }
     Ok(steps)
@@ -206,6 +196,6 @@ pub(crate) fn due_pickle(
         language: Text::copy_of(alloc, ENGLISH)?,
         ast_node_ids: ids_at(alloc, ids, due.nodes.as_slice())?,
         tags: due_tags(alloc, ids, due.tags.as_slice())?,
-        steps: due_steps(alloc, ids, beside, due.steps.as_slice())?,
+        steps: due_pickle_steps(alloc, ids, beside, due.steps.as_slice())?,
     })
 }

@@ -238,9 +238,9 @@ abbrev pub is_empty : Items → Bool
 is_empty no_items = true
 is_empty (item d ds) = false
 
-abbrev pub table_of : Option Row → List Row → Option ExampleTable
-table_of None body = None
-table_of (Some header) body = Some (record { header = header; body = body })
+abbrev pub table_of_rows : Option Row → List Row → Option ExampleTable
+table_of_rows None body = None
+table_of_rows (Some header) body = Some (record { header = header; body = body })
 
 abbrev pub is_object : Data → Bool
 is_object d = is_some (as_object d)
@@ -258,7 +258,7 @@ example_table ids d = do
   header ← optional_node row (codes "tableHeader") ids d
   rows ← body_rows (is_some header.0) d
   body ← each_node (node_in (codes "tableBody") row) header.1 rows
-  Ok (table_of header.0 body.0, body.1)
+  Ok (table_of_rows header.0 body.0, body.1)
 
 -- what an examples block, a scenario and a rule begin with
 abbrev pub tagged_heading : Ids → Data → NodeRead TaggedHeading

@@ -4,7 +4,7 @@ ghost use Rattle.std.specs.Borrow.{sem};
 ghost use Rattle.std.specs.Io.BufRead.{Rests};
 ghost use Rattle.cm_envelope.specs.Device.{CountsFailure, Hears, OfInput};
 ghost use Rattle.cm_envelope.specs.Feeds.{has_line_feed, new_feed, answer_of, last_answer, feed_left, is_failed_read, NeedsNoRead, AnswersFirst, OnLine, IsLineWithin, EndsWithSource, Leaves};
-ghost use Rattle.cm_envelope.specs.Held.{items, FindsEnd, Judges, Finds};
+ghost use Rattle.cm_envelope.specs.Held.{items, FindsEnd, JudgesLength, Finds};
 ghost use Rattle.cm_envelope.specs.Lines.{max_line_bytes, max_piece_bytes, max_stream_bytes};
 ghost use Rattle.cm_envelope.specs.contracts.feed.Feed.{the_row};
 
@@ -38,14 +38,14 @@ pub enum Trouble {
     Memory,
 }
 
-// What a feed answers for good.
+/// What a feed answers for good.
 #[derive(Clone, Copy)]
 pub enum Over {
     Ended,
     Failed(Trouble),
 }
 
-// A line of this length that a LF ends, or that the end of the bytes ends, or no line.
+/// A line of this length that a LF ends, or that the end of the bytes ends, or no line.
 #[derive(Clone, Copy)]
 enum Found {
     Whole(usize),
@@ -182,7 +182,7 @@ impl Feed {
     }
 }
 
-// Finds the next line in the window, and reads only while it holds no whole line. `room` bytes of the stream are left.
+/// Finds the next line in the window, and reads only while it holds no whole line. `room` bytes of the stream are left.
 fn find_line<S: ByteSource>(
     window: &mut Window,
     source: &mut S,
@@ -229,16 +229,16 @@ fn find_line<S: ByteSource>(
     }
 }
 
-// Where the first LF is.
+/// Where the first LF is.
 fn find_line_feed(bytes: &[u8]) -> Option<usize>
     ensures { FindsEnd bytes.now result }
 {
     memchr(b'\n', bytes)
 }
 
-// The trouble of a line of this length, with or without its LF, where `room` bytes of the stream are left.
+/// The trouble of a line of this length, with or without its LF, where `room` bytes of the stream are left.
 fn judge(len: usize, has_end: bool, line_limit: u64, room: u64) -> Option<Trouble>
-    ensures { Judges line_limit room len has_end result }
+    ensures { JudgesLength line_limit room len has_end result }
 {
     let len = len as u64;
     if len > line_limit && line_limit < room {

@@ -3,7 +3,7 @@ ghost use Rattle.std.specs.Prelude.{◌≡◌, [], codes};
 ghost use Rattle.serde_json.specs.Data.{Data};
 ghost use Rattle.serde_json.specs.View.{view, items_view};
 ghost use Rattle.cm_envelope.specs.Member.{GivesMember, GivesMemberOf, all_items, required_member};
-ghost use Rattle.cm_envelope.specs.Documents.{GivesNode, NodeRead, Ids, node_in, optional_node_in, optional_node as optional_node_of, each_node, nodes_of as nodes_of_member, children_of, background_in, rank_of as rank_of_child, are_in_order as children_are_in_order, children_in as children_in_member, as_line, location, cell, doc_string, mark, title, node_number, tag, row, data_table, argument_of, argument, heading, step, background, is_empty, is_object, table_of, body_rows, example_table as example_table_of, tagged_heading, examples, scenario, body, rule_node, feature_heading, feature_body, feature, gherkin_document};
+ghost use Rattle.cm_envelope.specs.Documents.{GivesNode, NodeRead, Ids, node_in, optional_node_in, optional_node as optional_node_of, each_node, nodes_of as nodes_of_member, children_of, background_in, rank_of as rank_of_child, are_in_order as children_are_in_order, children_in as children_in_member, as_line, location, cell, doc_string, mark, title, node_number, tag, row, data_table, argument_of, argument, heading, step, background, is_empty, is_object, table_of_rows, body_rows, example_table as example_table_of, tagged_heading, examples, scenario, body, rule_node, feature_heading, feature_body, feature, gherkin_document};
 
 use crate::envelope::GherkinDocument;
 use crate::fault::MemberFault;
@@ -439,8 +439,8 @@ fn are_objects(values: &[Value]) -> bool
     true
 }
 
-fn table_of(header: Option<Row>, body: Sequence<Row>) -> Option<ExampleTable>
-    ensures { result ≡ table_of header body }
+fn table_of_rows(header: Option<Row>, body: Sequence<Row>) -> Option<ExampleTable>
+    ensures { result ≡ table_of_rows header body }
 {
     match header {
         Some(header) => Some(ExampleTable { header, body }),
@@ -473,7 +473,7 @@ fn example_table(
     let header = optional_node(alloc, object, "tableHeader", ids)?;
     let rows = body_rows(object, header.is_some())?;
     let body = nodes(alloc, rows, "tableBody", ids)?;
-    Ok(table_of(header, body))
+    Ok(table_of_rows(header, body))
 }
 
 impl ReadNode for Examples {

@@ -30,7 +30,7 @@ use Rattle.cm_messages.specs.DocumentLayout.{cell_data, row_data, tag_data, comm
 use Rattle.cm_messages.specs.PickleLayout.{pickle_cell_data, pickle_row_data, pickle_tag_data, pickle_doc_string_data, argument_data, pickle_step_data, pickle_steps_data, pickle_data}
 use Rattle.cm_read_back.specs.Values.{in_order, items_in_order}
 
-items_are : {A : Type 0} (written : A → Data) → ((x : A) → in_order (written x) ≡ true) → (xs : List A) → items_in_order (items_of (map written xs)) ≡ true
+pub items_are : {A : Type 0} (written : A → Data) → ((x : A) → in_order (written x) ≡ true) → (xs : List A) → items_in_order (items_of (map written xs)) ≡ true
 items_are written one [] = refl
 items_are written one (x ∷ xs) = rw (one x, items_are written one xs) refl
 

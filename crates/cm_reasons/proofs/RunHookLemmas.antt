@@ -4,7 +4,7 @@ use Rattle.std.specs.Prelude.{find, if◌then◌else◌, option_map}
 use Rattle.std.specs.List.{filter, filter_map, list_any}
 use Rattle.std.specs.Str.{bytes_eq}
 use Rattle.std.proofs.lemmas.List.{map-append, take_more}
-use Rattle.std.proofs.lemmas.List.Elements.{filter-append}
+use Rattle.std.proofs.lemmas.List.Elements.{filter-append, filter_agree}
 use Rattle.cm_attempt.specs.Table.{is_good_status}
 use Rattle.cm_attempt.specs.declared.policy.Policy.{Policy}
 use Rattle.cm_attempt.specs.declared.status.Status.{Status}
@@ -35,14 +35,6 @@ kept_map {X} p f g (x ∷ xs) = go (p (f x)) refl (kept_map p f g xs)
     go true e rec = rw e (ap (λ zs. g (f x) ∷ zs) rec)
     go false e rec = rw e rec
 
-filter_same : {X : Type 0} (p q : X → Bool) → ((x : X) → p x ≡ q x) → (xs : List X) → filter p xs ≡ filter q xs
-filter_same p q h [] = refl
-filter_same {X} p q h (x ∷ xs) = go (q x) (h x) refl (filter_same p q h xs)
-  where
-    go : (b : Bool) → p x ≡ b → q x ≡ b → filter p xs ≡ filter q xs → filter p (x ∷ xs) ≡ filter q (x ∷ xs)
-    go true e d rec = rw e (rw d (ap (λ zs. x ∷ zs) rec))
-    go false e d rec = rw e (rw d rec)
-
 found_map : {X Y Z : Type 0} (h : Y → Option Z) (f : X → Y) (xs : List X) → filter_map h (map f xs) ≡ filter_map (λ x. h (f x)) xs
 found_map h f [] = refl
 found_map {X} {Y} {Z} h f (x ∷ xs) = go (h (f x)) refl (found_map h f xs)
@@ -68,7 +60,7 @@ pub open_lines : (l : RunListing) (es : List Envelope) → l ≡ run_listing_of 
 open_lines l es is =
     ap (λ (k : RunListing). map entry_line (open_entries k)) is
     ∙ kept_map (λ h. not (is_finished_in (run_listing_of es) h)) run_hook_entry entry_line (run_hooks es)
-    ∙ ap (map run_hook_line) (filter_same (λ s. not (is_finished_in (run_listing_of es) (run_hook_entry s))) (λ s. not (is_hook_finished s.id es)) (finished_kept es) (run_hooks es))
+    ∙ ap (map run_hook_line) (filter_agree (λ s. not (is_finished_in (run_listing_of es) (run_hook_entry s))) (λ s. not (is_hook_finished s.id es)) (finished_kept es) (run_hooks es))
 
 -- ---- the first run hook with an id
 

@@ -1,4 +1,4 @@
--- What a listing of sources and run hooks keeps: one envelope more.
+-- What a listing of sources and run hooks keeps: one envelope more; and what is told of it.
 use Rattle.std.proofs.Common.{◌≡◌, ◌∙◌, ap, sym, refl, List, [], ◌∷◌, ◌++◌, map, Option, None, Some}
 use Rattle.std.specs.List.{filter_map}
 use Rattle.std.proofs.lemmas.List.{map-append}
@@ -7,9 +7,10 @@ use Rattle.cm_envelope.specs.declared.envelope.Envelope.TheVariants as envelope
 use Rattle.cm_envelope.specs.declared.envelope.Source.{Source}
 use Rattle.cm_envelope.specs.declared.envelope.TestRunHookFinished.{TestRunHookFinished}
 use Rattle.cm_envelope.specs.declared.envelope.TestRunHookStarted.{TestRunHookStarted}
-use Rattle.cm_stream.specs.References.{as_run_hook, as_run_hook_end, as_source}
-use Rattle.cm_stream.proofs.Lists.{found_more, found_push}
-use Rattle.cm_reasons.specs.Run.{run_hook_end, run_hook_entry, run_listing_of, source_entry}
+use Rattle.cm_stream.specs.References.{as_run_hook, as_run_hook_end, as_source, sources}
+use Rattle.cm_stream.specs.Texts.{Utf8}
+use Rattle.cm_stream.proofs.Lists.{found_more, found_push, map_twice}
+use Rattle.cm_reasons.specs.Run.{run_hook_end, run_hook_entry, run_listing_of, source_entry, uri_and_text}
 use Rattle.cm_reasons.specs.declared.run_listing.RunHookEnd.{RunHookEnd}
 use Rattle.cm_reasons.specs.declared.run_listing.RunHookEntry.{RunHookEntry}
 use Rattle.cm_reasons.specs.declared.run_listing.RunListing.{RunListing}
@@ -72,3 +73,11 @@ other_noted es (envelope.TestCaseFinished x) s h f = not_noted es (envelope.Test
 other_noted es (envelope.TestRunFinished x) s h f = not_noted es (envelope.TestRunFinished x) refl refl refl
 other_noted es (envelope.Attachment x) s h f = not_noted es (envelope.Attachment x) refl refl refl
 other_noted es envelope.Other s h f = not_noted es envelope.Other refl refl refl
+
+-- ---- what is told of it
+
+abbrev pub entry_texts : SourceEntry → Utf8 × Utf8
+entry_texts s = (s.uri, s.content)
+
+pub texts_of_sources : (found : List (Utf8 × Utf8)) (l : RunListing) → found ≡ map entry_texts l.sources → (es : List Envelope) → l ≡ run_listing_of es → found ≡ map uri_and_text (sources es)
+texts_of_sources found l h es is = h ∙ ap (λ (x : RunListing). map entry_texts x.sources) is ∙ map_twice entry_texts source_entry (sources es)

@@ -18,7 +18,8 @@ use Rattle.cm_stream.specs.Release.{is_passing, is_unmatched, passes_unmatched, 
 use Rattle.cm_stream.specs.Statuses.{kept_status}
 use Rattle.cm_stream.specs.Texts.{Utf8}
 use Rattle.cm_stream.proofs.Found.{eq_back}
-use Rattle.cm_stream.proofs.Lists.{and_true, any_here, count_none, keeps_none, none_counted, none_kept, or_false}
+use Rattle.cm_stream.proofs.Lists.{and_true, any_here, count_none, keeps_none, none_counted, none_kept}
+use Rattle.cm_stream.proofs.Steps.{both_none, never}
 use Rattle.cm_reasons.specs.Laws.{UndefinedStepsAreTold}
 use Rattle.cm_reasons.specs.Reasons.{is_end_of, is_undefined_step, undefined_steps, undefined_steps_of}
 
@@ -69,14 +70,6 @@ all_fail : {X : Type 0} (p : X → Bool) → ((x : X) → p x ≡ false) → (xs
 all_fail p h [] = refl
 all_fail p h (x ∷ xs) = rw (h x) (all_fail p h xs)
 
-any_less : {X : Type 0} (p q : X → Bool) (xs : List X) → list_any p xs ≡ false → list_any (λ x. p x && q x) xs ≡ false
-any_less p q [] h = refl
-any_less p q (x ∷ xs) h = let k = or_false (p x) (list_any p xs) h in rw (k.0) (any_less p q xs k.1)
-
-and_no : (b : Bool) → (b && false) ≡ false
-and_no true = refl
-and_no false = refl
-
 -- ---- no step is counted
 
 none_told : (policy : Policy) (es : List Envelope) → list_any (passes_unmatched policy es) es ≡ false → undefined_steps policy es ≡ []
@@ -84,7 +77,7 @@ none_told policy es none =
     flat_nil (undefined_steps_of policy es)
     (λ c.
     let each : (t : TestStep) → is_undefined_step policy es c t ≡ false =
-    λ t. ap (λ b. is_unmatched t && b) (any_less (passes_unmatched policy es) (is_end_of es c.id t.id) es none) ∙ and_no (is_unmatched t) in
+    λ t. ap (λ b. is_unmatched t && b) (both_none (passes_unmatched policy es) (is_end_of es c.id t.id) es none) ∙ never (is_unmatched t) in
     ap (map (λ (t : TestStep). record { test_case = c.id; step = t.id }))
     (keeps_none (is_undefined_step policy es c) c.test_steps (all_fail (is_undefined_step policy es c) each c.test_steps)))
     (cases es)
@@ -132,15 +125,15 @@ module _ (policy : Policy) (es : List Envelope) (none : undefined_steps policy e
 
     at_case : (id : Utf8) → case_of f.test_case_started_id es ≡ Some id → (c : TestCase) → find_case id es ≡ Some c
         → (o : Option TestStep) → find (λ t. bytes_eq f.test_step_id t.id) c.test_steps ≡ o → (passing && option_map_or is_unmatched o false) ≡ false
-    at_case id of c is None found = and_no passing
+    at_case id of c is None found = never passing
     at_case id of c is (Some t) found = at_step id of c is t found
 
     at_id : (id : Utf8) → case_of f.test_case_started_id es ≡ Some id → (o : Option TestCase) → find_case id es ≡ o → (passing && option_map_or is_unmatched (of_case o) false) ≡ false
-    at_id id of None is = and_no passing
+    at_id id of None is = never passing
     at_id id of (Some c) is = at_case id of c is (find (λ t. bytes_eq f.test_step_id t.id) c.test_steps) refl
 
     at_attempt : (o : Option Utf8) → case_of f.test_case_started_id es ≡ o → (passing && option_map_or is_unmatched (of_case (of_id o)) false) ≡ false
-    at_attempt None of = and_no passing
+    at_attempt None of = never passing
     at_attempt (Some id) of = at_id id of (find_case id es) refl
 
   none_passes : (front : List Envelope) (e : Envelope) (back : List Envelope) → es ≡ front ++ e ∷ back → passes_unmatched policy es e ≡ false

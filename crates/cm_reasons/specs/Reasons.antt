@@ -1,5 +1,5 @@
 -- The lines that say why a run is held.
-use Rattle.std.specs.Prelude.{◌≡◌, ℕ, ◌&&◌, Bool, false, List, [], ◌++◌, Option, Some, None, codes, map}
+use Rattle.std.specs.Prelude.{ℕ, ◌&&◌, Bool, false, List, ◌++◌, codes, map}
 use Rattle.std.specs.List.{filter, flat_map, list_any}
 use Rattle.std.specs.Option.{option_map_or}
 use Rattle.std.specs.Str.{bytes_eq}
@@ -12,10 +12,7 @@ use Rattle.cm_envelope.specs.declared.envelope.TestStep.{TestStep}
 use Rattle.cm_stream.specs.References.{case_of, cases, pickles}
 use Rattle.cm_stream.specs.Release.{Conditions, has_skip, is_missed, is_retried_pickle, is_stepless, is_unmatched, passes_unmatched}
 use Rattle.cm_stream.specs.Texts.{Utf8}
-use Rattle.cm_stream.specs.declared.verdict.Hold.{Hold}
-use Rattle.cm_stream.specs.declared.verdict.Hold.TheVariants as hold
 use Rattle.cm_steps.specs.Steps.{named_case_step}
-use Rattle.cm_reasons.specs.Lines.{limited}
 use Rattle.cm_reasons.specs.declared.steps.CaseStep.{CaseStep}
 
 -- ---- pickles and test cases

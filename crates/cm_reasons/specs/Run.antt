@@ -6,6 +6,7 @@ use Rattle.cm_envelope.specs.declared.envelope.TestRunHookFinished.{TestRunHookF
 use Rattle.cm_envelope.specs.declared.envelope.TestRunHookStarted.{TestRunHookStarted}
 use Rattle.cm_stream.specs.References.{run_hook_ends, run_hooks, sources}
 use Rattle.cm_stream.specs.Statuses.{kept_status}
+use Rattle.cm_stream.specs.Texts.{Utf8}
 use Rattle.cm_reasons.specs.declared.run_listing.RunHookEnd.{RunHookEnd}
 use Rattle.cm_reasons.specs.declared.run_listing.RunHookEntry.{RunHookEntry}
 use Rattle.cm_reasons.specs.declared.run_listing.RunListing.{RunListing}
@@ -27,3 +28,8 @@ run_listing_of es = record {
   hooks = map run_hook_entry (run_hooks es);
   ends = map run_hook_end (run_hook_ends es);
 }
+
+-- ---- what is told of it
+
+abbrev pub uri_and_text : Source → Utf8 × Utf8
+uri_and_text s = (s.uri, s.content)

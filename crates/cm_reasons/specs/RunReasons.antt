@@ -15,6 +15,7 @@ use Rattle.cm_stream.specs.Statuses.{kept_status}
 use Rattle.cm_stream.specs.Texts.{Utf8}
 use Rattle.gk_grammar.specs.declared.fault.FaultKind.{FaultKind}
 use Rattle.cm_reasons.specs.Words.{kind_label, status_word}
+use Rattle.cm_steps.specs.Steps.{hook_text}
 
 -- ---- sources
 
@@ -42,10 +43,6 @@ abbrev pub first_source : Utf8 → List Envelope → List Source
 first_source uri es = if_any (find (λ s. bytes_eq uri s.uri) (sources es))
 
 -- ---- run hooks
-
--- `hook ID`, of the hook with this id
-abbrev pub hook_text : (id : Utf8) → List ℕ
-hook_text id = codes "hook " ++ shown_text id
 
 -- that of the hook that runs
 abbrev pub run_hook_line : TestRunHookStarted → List ℕ

@@ -1,13 +1,13 @@
 //! What is kept of a stream's envelopes for the lines of its sources and run hooks.
-ghost use Rattle.std.specs.Prelude.{◌≡◌, ◌++◌, ◌∷◌, [], IfOk, List, OnErr, OnOk};
+ghost use Rattle.std.specs.Prelude.{◌≡◌, ◌++◌, ◌∷◌, [], IfOk, List, OnErr, OnOk, map};
 ghost use Rattle.cm_envelope.specs.declared.envelope.Envelope.{Envelope as SomeEnvelope};
-ghost use Rattle.cm_stream.specs.Statuses.{kept_status};
-ghost use Rattle.cm_reasons.specs.Run.{run_hook_end, run_hook_entry, run_listing_of, source_entry};
+ghost use Rattle.cm_cases.specs.Listed.{both_texts};
+ghost use Rattle.cm_stream.specs.References.{sources};
+ghost use Rattle.cm_reasons.specs.Run.{run_hook_end, run_hook_entry, run_listing_of, source_entry, uri_and_text};
 
 use cm_attempt::Status;
-use cm_envelope::{
-    Envelope, Source, Status as LineStatus, TestRunHookFinished, TestRunHookStarted,
-};
+use cm_envelope::{Envelope, Source, TestRunHookFinished, TestRunHookStarted};
+use cm_stream::kept_status;
 use gk_document::{Sequence, Text};
 use std::alloc::{AllocError, Global};
 
@@ -40,33 +40,12 @@ pub struct RunListing {
     pub(crate) ends: Sequence<RunHookEnd>,
 }
 
-fn copy(alloc: Global, text: &Text) -> Result<Text, AllocError>
-    ensures { IfOk result (λ t. t ≡ text.now) }
-{
-    Text::copy_of(alloc, text.as_str())
-}
-
-/// The status, as a record of attempts keeps it.
-fn kept_status(status: LineStatus) -> Status
-    ensures { result ≡ kept_status status }
-{
-    match status {
-        LineStatus::Unknown => Status::Unknown,
-        LineStatus::Passed => Status::Passed,
-        LineStatus::Skipped => Status::Skipped,
-        LineStatus::Pending => Status::Pending,
-        LineStatus::Undefined => Status::Undefined,
-        LineStatus::Ambiguous => Status::Ambiguous,
-        LineStatus::Failed => Status::Failed,
-    }
-}
-
 fn source_entry(alloc: Global, source: &Source) -> Result<SourceEntry, AllocError>
     ensures { IfOk result (λ entry. entry ≡ source_entry source.now) }
 {
     Ok(SourceEntry {
-        uri: copy(alloc, &source.uri)?,
-        content: copy(alloc, &source.content)?,
+        uri: Text::copy_of(alloc, source.uri.as_str())?,
+        content: Text::copy_of(alloc, source.content.as_str())?,
     })
 }
 
@@ -74,8 +53,8 @@ fn run_hook_entry(alloc: Global, start: &TestRunHookStarted) -> Result<RunHookEn
     ensures { IfOk result (λ entry. entry ≡ run_hook_entry start.now) }
 {
     Ok(RunHookEntry {
-        id: copy(alloc, &start.id)?,
-        hook_id: copy(alloc, &start.hook_id)?,
+        id: Text::copy_of(alloc, start.id.as_str())?,
+        hook_id: Text::copy_of(alloc, start.hook_id.as_str())?,
     })
 }
 
@@ -83,7 +62,7 @@ fn run_hook_end(alloc: Global, end: &TestRunHookFinished) -> Result<RunHookEnd, 
     ensures { IfOk result (λ entry. entry ≡ run_hook_end end.now) }
 {
     Ok(RunHookEnd {
-        run_hook: copy(alloc, &end.test_run_hook_started_id)?,
+        run_hook: Text::copy_of(alloc, end.test_run_hook_started_id.as_str())?,
         status: kept_status(end.result.status),
     })
 }
@@ -115,5 +94,20 @@ impl RunListing {
             Envelope::TestRunHookFinished(end) => self.ends.push(run_hook_end(alloc, end)?),
             _ => Ok(()),
         }
+    }
+
+    /// The uri and the text of each of its sources.
+    ///
+    /// # Errors
+    /// Only where there is no memory for the list.
+    pub(crate) fn source_texts(&self, alloc: Global) -> Result<Vec<(&str, &str)>, AllocError>
+        ensures { IfOk result (λ found. (es : List SomeEnvelope) → self.now ≡ run_listing_of es
+            → map both_texts found.items ≡ map uri_and_text (sources es)) }
+    {
+        let mut found = Vec::new(alloc);
+        for source in self.sources.as_slice() {
+            found.push((source.uri.as_str(), source.content.as_str()))?;
+        }
+        Ok(found)
     }
 }

@@ -1,7 +1,9 @@
 //! What is kept of a stream's envelopes for its reasons.
-ghost use Rattle.std.specs.Prelude.{◌≡◌, ◌++◌, ◌∷◌, [], IfOk, List, OnOk};
-ghost use Rattle.cm_cases.specs.Listed.{listing_of};
+ghost use Rattle.std.specs.Prelude.{◌≡◌, ◌++◌, ◌∷◌, [], IfOk, List, OnOk, map};
+ghost use Rattle.cm_cases.specs.Listed.{both_texts, id_and_uri, listing_of};
+ghost use Rattle.cm_stream.specs.References.{cases, pickles, sources};
 ghost use Rattle.cm_envelope.specs.declared.envelope.Envelope.{Envelope as SomeEnvelope};
+ghost use Rattle.cm_reasons.specs.Run.{uri_and_text};
 ghost use Rattle.cm_reasons.specs.Trail.{ends_with_exception, has_exception, trail_of};
 
 use crate::run_listing::RunListing;
@@ -91,5 +93,38 @@ impl Trail {
             → places ≡ listing_of es) }
     {
         Places::of(alloc, &self.listing)
+    }
+
+    /// The uri and the text of each source.
+    ///
+    /// # Errors
+    /// Only where there is no memory for the list.
+    pub fn source_texts(&self, alloc: Global) -> Result<Vec<(&str, &str)>, AllocError>
+        ensures { IfOk result (λ found. (es : List SomeEnvelope) → self.now ≡ trail_of es
+            → map both_texts found.items ≡ map uri_and_text (sources es)) }
+    {
+        self.run.source_texts(alloc)
+    }
+
+    /// The id and the uri of each pickle.
+    ///
+    /// # Errors
+    /// Only where there is no memory for the list.
+    pub fn pickle_uris(&self, alloc: Global) -> Result<Vec<(&str, &str)>, AllocError>
+        ensures { IfOk result (λ found. (es : List SomeEnvelope) → self.now ≡ trail_of es
+            → map both_texts found.items ≡ map id_and_uri (pickles es)) }
+    {
+        self.listing.pickle_uris(alloc)
+    }
+
+    /// The id of the pickle that each test case names.
+    ///
+    /// # Errors
+    /// Only where there is no memory for the list.
+    pub fn named_pickles(&self, alloc: Global) -> Result<Vec<&str>, AllocError>
+        ensures { IfOk result (λ found. (es : List SomeEnvelope) → self.now ≡ trail_of es
+            → map (λ id. id.now) found.items ≡ map (λ c. c.pickle_id) (cases es)) }
+    {
+        self.listing.named_pickles(alloc)
     }
 }

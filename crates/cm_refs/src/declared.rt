@@ -1,8 +1,8 @@
 //! The declarations of a stream.
-ghost use Rattle.std.specs.Prelude.{◌≡◌, ◌⊎◌, IfSome, IsErrAnd, IsOkUnless, MatchOption, OnErr, OnOk, is_some, map, option_map};
+ghost use Rattle.std.specs.Prelude.{◌≡◌, IfSome, OnErr, OnOk, is_some, map, option_map};
 ghost use Rattle.std.specs.String.{string_bytes};
 ghost use Rattle.cm_refs.specs.Declarations.{find_pickle, find_run_hook, finish_fault, has_text, name_fault, no_declarations, pickle_fault, steps_of as steps_in};
-ghost use Rattle.cm_refs.specs.Due.{RefusesExactly, RefusesExactlyUnless};
+ghost use Rattle.cm_refs.specs.Due.{RefusesExactly, RefusesExactlyUnless, RefusesUnless};
 ghost use Rattle.cm_refs.specs.Declarations.{open_count, run_hook_fault, with_definition, with_document, with_finished_run_hook};
 ghost use Rattle.cm_refs.specs.Declarations.{with_hook, with_pickle, with_run_hook, with_source};
 
@@ -98,10 +98,9 @@ impl Declared {
         // Equal steps are found with memory, so want of it may be reported in their place.
         ensures repeated_id { IfSome (find_pickle self.old (string_bytes id))
             (λ _. result ≡ Err RefFault.DuplicateId) }
-        ensures answer { MatchOption
+        ensures answer { RefusesUnless
             (pickle_fault self.old (string_bytes id) (map string_bytes steps.items))
-            (IsOkUnless result RefFault.Memory)
-            (λ fault. IsErrAnd result (λ e. (e ≡ fault) ⊎ (e ≡ RefFault.Memory))) }
+            result RefFault.Memory }
         ensures ok { OnOk result
             (self.new ≡ with_pickle (string_bytes id) (map string_bytes steps.items) self.old) }
         ensures err { OnErr result (self.new ≡ self.old) }

@@ -118,9 +118,16 @@ then_same f g h (Some x) = h x
 
 -- ---- missed
 
-pub none_missed : (asked : Conditions) (kept : Kept) → asked.allows_unrun ≡ true → [] ≡ missed_in asked kept
+-- of a part, or where any may be without a case
+not_missed : (is_part allows named may : Bool) → (is_part || allows) ≡ true → (not is_part && not named && not (allows || may)) ≡ false
+not_missed true allows named may e = refl
+not_missed false true named may e = never (not named)
+not_missed false false named may e = cc
+
+pub none_missed : (asked : Conditions) (kept : Kept) → (asked.is_part || asked.allows_unrun) ≡ true → [] ≡ missed_in asked kept
 none_missed asked kept e =
-    sym (ap (map (λ p. p.id)) (none_of (is_missed_in asked kept) (λ p. rw e (never (not (list_any (λ c. bytes_eq p.id c.pickle_id) kept.cases)))) kept.pickles))
+    sym (ap (map (λ p. p.id)) (none_of (is_missed_in asked kept)
+    (λ p. not_missed asked.is_part asked.allows_unrun (list_any (λ c. bytes_eq p.id c.pickle_id) kept.cases) (list_any (λ tag. list_any (bytes_eq tag) p.tags) asked.allowed_tags) e) kept.pickles))
 
 tags_allowed : (tags : List (Bor Utf8)) (names : List Utf8) → list_any (λ t. list_any (λ (x : Bor Utf8). bytes_eq t x.now) tags) names ≡ list_any (λ tag. list_any (bytes_eq tag) names) (map (λ t. t.now) tags)
 tags_allowed tags names =
@@ -130,12 +137,12 @@ tags_allowed tags names =
 
 module _ {S T : Type 0} where
   pub missed_found : (ids : List Utf8) (asked : Conditions) (kept : Kept) (tags : List (Bor Utf8)) (cs : List CaseEntry) (ps : List PickleEntry) (named : IndexMap (Bor Utf8) (Bor CaseEntry) S) (allowed : IndexMap (Bor Utf8) (Bor (Bor Utf8)) T)
-      → asked.allows_unrun ≡ false → asked.allowed_tags ≡ map (λ t. t.now) tags → cs ≡ kept.cases → ps ≡ kept.pickles
+      → asked.is_part ≡ false → asked.allows_unrun ≡ false → asked.allowed_tags ≡ map (λ t. t.now) tags → cs ≡ kept.cases → ps ≡ kept.pickles
       → HasFirsts (λ x. x.now) (λ x. x) (λ c. c.pickle_id) cs named
       → HasFirsts (λ x. x.now) (λ x. x) (λ t. t.now) tags allowed
       → ids ≡ map (λ p. p.id) (filter (λ p. not (is_some (value_at named p.id)) && not (list_any (λ t. is_some (value_at allowed t)) p.tags)) ps)
       → ids ≡ missed_in asked kept
-  missed_found ids asked kept tags cs ps named allowed no_unrun are same_cases same_pickles h k found =
+  missed_found ids asked kept tags cs ps named allowed whole no_unrun are same_cases same_pickles h k found =
       found ∙ same_picked (λ p. p.id) (λ p. not (is_some (value_at named p.id)) && not (list_any (λ t. is_some (value_at allowed t)) p.tags)) (is_missed_in asked kept)
       (λ p.
       let name : is_some (value_at named p.id) ≡ list_any (λ c. bytes_eq p.id c.pickle_id) kept.cases =
@@ -144,7 +151,7 @@ module _ {S T : Type 0} where
       same_any (λ t. is_some (value_at allowed t)) (λ t. list_any (λ (x : Bor Utf8). bytes_eq t x.now) tags) (λ t. has_any (λ x. x.now) (λ x. x) (λ (x : Bor Utf8). x.now) tags allowed t k) p.tags
       ∙ tags_allowed tags p.tags ∙ ap (list_any (λ tag. list_any (bytes_eq tag) p.tags)) (sym are) in
       let may : list_any (λ tag. list_any (bytes_eq tag) p.tags) asked.allowed_tags ≡ may_stay asked p = ap (λ b. b || list_any (λ tag. list_any (bytes_eq tag) p.tags) asked.allowed_tags) (sym no_unrun) in
-      (λ j. not (name j) && not ((tag ∙ may) j)))
+      (λ j. not (sym whole j) && not (name j) && not ((tag ∙ may) j)))
       ps ∙ ap (λ l. map (λ p. p.id) (filter (is_missed_in asked kept) l)) same_pickles
 
 -- ---- retried

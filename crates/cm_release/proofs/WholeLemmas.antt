@@ -39,7 +39,7 @@ use Rattle.cm_release.specs.declared.kept.FinishEntry.{FinishEntry}
 use Rattle.cm_release.specs.declared.kept.PickleEntry.{PickleEntry}
 use Rattle.cm_release.specs.declared.kept.StartEntry.{StartEntry}
 use Rattle.cm_release.proofs.CountLemmas.{any_map, or_of_map, same_count, same_picked}
-use Rattle.cm_reasons.specs.Reasons.{StepIds, is_end_of, is_undefined_step, missed_pickles, retried_pickles, skipped_cases, stepless_cases, undefined_steps, undefined_steps_of}
+use Rattle.cm_reasons.specs.Reasons.{is_end_of, is_undefined_step, missed_pickles, retried_pickles, skipped_cases, stepless_cases, undefined_steps, undefined_steps_of}
 
 count_map : {X Y : Type 0} (q : Y → Bool) (f : X → Y) (xs : List X) → count_by q (map f xs) ≡ count_by (λ x. q (f x)) xs
 count_map q f [] = refl
@@ -70,7 +70,7 @@ may_same asked p =
 pub missed_same : (asked : Conditions) (es : List Envelope) → missed_in asked (kept_of es) ≡ missed_pickles asked es
 missed_same asked es =
     picked_map (λ (p : PickleEntry). p.id) (is_missed_in asked (kept_of es)) pickle_entry (pickles es)
-    ∙ same_picked (λ (p : Pickle). p.id) (λ p. is_missed_in asked (kept_of es) (pickle_entry p)) (is_missed asked es) (λ p. λ j. not (named_same es p j) && not (may_same asked p j)) (pickles es)
+    ∙ same_picked (λ (p : Pickle). p.id) (λ p. is_missed_in asked (kept_of es) (pickle_entry p)) (is_missed asked es) (λ p. λ j. not asked.is_part && not (named_same es p j) && not (may_same asked p j)) (pickles es)
 
 -- ---- retried
 

@@ -27,10 +27,11 @@ abbrev pub may_stay : Conditions → PickleEntry → Bool
 may_stay asked p =
     asked.allows_unrun || list_any (λ tag. list_any (bytes_eq tag) p.tags) asked.allowed_tags
 
--- no case names it, and it may not be without one
+-- no case names it, and it may not be without one; of a part no pickle is asked
 abbrev pub is_missed_in : Conditions → Kept → PickleEntry → Bool
 is_missed_in asked kept p =
-    not (list_any (λ c. bytes_eq p.id c.pickle_id) kept.cases) && not (may_stay asked p)
+    not asked.is_part && not (list_any (λ c. bytes_eq p.id c.pickle_id) kept.cases)
+    && not (may_stay asked p)
 
 -- ---- retried
 

@@ -63,7 +63,7 @@ fn unnamed_of<'a>(
     Ok(ids)
 }
 
-/// The ids of the pickles that are missed.
+/// The ids of the pickles that are missed. Of a part none is.
 fn missed_of<'a>(
     alloc: Global,
     conditions: &Conditions<'_>,
@@ -72,7 +72,7 @@ fn missed_of<'a>(
     ensures { IfOk result (λ ids. texts_of ids.items
         ≡ missed_in (conditions_of conditions.now) kept.now) }
 {
-    if conditions.allows_unrun {
+    if conditions.is_part || conditions.allows_unrun {
         return Ok(Vec::new(alloc));
     }
     let named = firsts_of::<CasePickle, CaseEntry>(alloc, kept.cases.as_slice())?;

@@ -40,7 +40,7 @@ fn hold_of(
     if !success {
         return Some(Hold::NotSuccessful);
     }
-    if counts.cases == 0 {
+    if !conditions.is_part && counts.cases == 0 {
         return Some(Hold::Empty);
     }
     if found.missed != 0 {

@@ -4,7 +4,7 @@ use Rattle.std.specs.Prelude.{find, is_some, slice_get, unwrap_or}
 use Rattle.std.specs.List.{AllByRecursion, filter, filter_map, list_any}
 use Rattle.std.specs.Option.{option_and_then, option_map, option_map_or}
 use Rattle.std.specs.Str.{bytes_eq}
-use Rattle.std.proofs.lemmas.Bool.{eq-eqb, eqb-true}
+use Rattle.std.proofs.lemmas.Bool.{eq-eqb, eqb-true, or_right}
 use Rattle.gk_document.specs.declared.tree.Tag.{Tag}
 use Rattle.gk_document.specs.declared.tree.Row.{Row}
 use Rattle.gk_document.specs.declared.tree.ExampleTable.{ExampleTable}
@@ -33,12 +33,13 @@ use Rattle.cm_stream.specs.Sources.{DuePickle, english, ids_at, is_due, is_due_s
 use Rattle.cm_stream.specs.Texts.{Utf8, same_list, same_texts}
 use Rattle.cm_stream.proofs.Declared.{case_is, document_is, pickle_is}
 use Rattle.cm_stream.proofs.Documents.{documents_both, has_source}
-use Rattle.cm_stream.proofs.Found.{bytes_are, bytes_same, each_found}
+use Rattle.cm_stream.proofs.Found.{bytes_same, each_found}
 use Rattle.cm_stream.proofs.Lists.{all_here, and_true, found_any, found_cut}
 use Rattle.cm_stream.proofs.NoFault.{good_have_no_fault}
 use Rattle.cm_stream.proofs.OnePass.{is_read}
 use Rattle.cm_stream.proofs.OneRow.{OnlyOne, one_case, only_here}
 use Rattle.cm_stream.proofs.Passing.{AllPass, plain_passes}
+use Rattle.cm_stream.proofs.Parts.{texts_are}
 use Rattle.cm_cases.specs.Places.{example_rows, last_node, pickle_of, place, places_at, places_of, rows_of, scenario_places, scenario_text, scenarios_of}
 use Rattle.cm_cases.specs.declared.listing.Place.{Place}
 use Rattle.cm_shown_laws.specs.Scenarios.{HasPlace, HasScenario, ScenariosAreFound}
@@ -62,10 +63,6 @@ any_left {A} q (x ∷ xs) ys h = go (q x) refl (any_left q xs ys)
     go : (b : Bool) → q x ≡ b → (list_any q xs ≡ true → list_any q (xs ++ ys) ≡ true) → (q x || list_any q (xs ++ ys)) ≡ true
     go true e later = rw e refl
     go false e later = rw e (later (rw e at h))
-
-or_right : (a b : Bool) → b ≡ true → (a || b) ≡ true
-or_right true b h = refl
-or_right false b h = h
 
 any_right : {A : Type 0} (q : A → Bool) (xs ys : List A) → list_any q ys ≡ true → list_any q (xs ++ ys) ≡ true
 any_right q [] ys h = h
@@ -193,14 +190,6 @@ module _ (ids : List Utf8) where
   last_at [] n e = cc
   last_at (x ∷ []) n e = let same : x ≡ n = cc in ap (λ (k : ℕ). Some (unwrap_or (slice_get ids k) [])) same
   last_at (x ∷ y ∷ more) n e = last_at (y ∷ more) n e
-
-texts_are : (xs ys : List Utf8) → same_texts xs ys ≡ true → xs ≡ ys
-texts_are [] [] h = refl
-texts_are [] (y ∷ ys) h = cc
-texts_are (x ∷ xs) [] h = cc
-texts_are (x ∷ xs) (y ∷ ys) h =
-    let both = and_true (bytes_eq x y) (same_texts xs ys) h in
-    ap₂ (λ (a : Utf8) (b : List Utf8). a ∷ b) (bytes_are x y both.0) (texts_are xs ys both.1)
 
 -- the nodes of a pickle are those of the one that is due
 nodes_are : (ids : List Utf8) (p : Pickle) (due : DuePickle) → is_due ids p due ≡ true → p.ast_node_ids ≡ ids_at ids due.nodes

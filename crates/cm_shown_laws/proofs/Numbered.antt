@@ -15,7 +15,7 @@ use Rattle.gk_grammar.specs.Grammar.{Node, node_of_tag, tag_nodes, node_of_row, 
 use Rattle.cm_envelope.specs.declared.envelope.GherkinDocument.{GherkinDocument}
 use Rattle.serde_json.specs.Find.{as_object, as_str}
 use Rattle.cm_envelope.specs.Member.{◌>>=◌, all_items, good, has_both, items_in, list_of, nested_member, optional_nested_member, present_member, required_member, rule}
-use Rattle.cm_envelope.specs.Documents.{Ids, NodeRead, node_in, optional_node_in, optional_node, each_node, nodes_of, argument_of, table_of, is_empty}
+use Rattle.cm_envelope.specs.Documents.{Ids, NodeRead, node_in, optional_node_in, optional_node, each_node, nodes_of, argument_of, table_of_rows, is_empty}
 use Rattle.cm_envelope.specs.Documents as read
 use Rattle.cm_shown_laws.proofs.Spots.{CountsTo, joined}
 
@@ -177,13 +177,13 @@ rows_below None d =
     (λ rows. past (HasHeader None) (rule (codes "tableBody") (all_items read.is_object rows)) _ (λ objects. unless_empty rows (is_empty rows) refl))
 
 body_nodes : (o : Option Row) (ids : Ids) (ds : Items) → HasHeader o ds → (before : Ids) → CountsTo (length before) (header_nodes o) (length ids)
-    → Holds (Counted before table_nodes) (each_node (node_in (codes "tableBody") read.row) ids ds >>= λ body. Ok (table_of o body.0, body.1))
+    → Holds (Counted before table_nodes) (each_node (node_in (codes "tableBody") read.row) ids ds >>= λ body. Ok (table_of_rows o body.0, body.1))
 body_nodes (Some r) ids ds h before c =
     then ids (each_node (node_in (codes "tableBody") read.row) ids ds) row_nodes (Counted before table_nodes) _
     (as_singles node_of_row ids (each_node (node_in (codes "tableBody") read.row) ids ds) (each_in (node_in (codes "tableBody") read.row) one_row (in_node read.row one_row row_reads (codes "tableBody")) ids ds))
     (λ body more. joined (length before) (length ids) (length body.1) (header_nodes (Some r)) (row_nodes body.0) c more)
 body_nodes None ids ds h before c =
-    subst (λ (xs : Items). Holds (Counted before table_nodes) (each_node (node_in (codes "tableBody") read.row) ids xs >>= λ body. Ok (table_of None body.0, body.1))) (sym h) c
+    subst (λ (xs : Items). Holds (Counted before table_nodes) (each_node (node_in (codes "tableBody") read.row) ids xs >>= λ body. Ok (table_of_rows None body.0, body.1))) (sym h) c
 
 example_table_reads : Reads read.example_table table_nodes
 example_table_reads ids d =

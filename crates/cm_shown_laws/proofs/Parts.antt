@@ -24,6 +24,8 @@ use Rattle.gk_document.specs.Skeleton.{bare_cell, bare_doc_string, bare_examples
 use Rattle.gk_parts.specs.Parts.{Part, FeaturePart, RulePart, BackgroundPart, ScenarioPart, StepPart, ExamplesPart, HeaderPart, RowPart, part_alone}
 use Rattle.cm_differs.specs.PartData.{cell_data, doc_string_data, part_data, row_data, step_data, tag_data}
 use Rattle.cm_read_back.specs.Values.{in_order, items_in_order}
+use Rattle.cm_read_back.proofs.Orders.{items_are}
+use Rattle.cm_read_back.proofs.Depths.{items_within}
 
 -- ---- the part that a value is
 
@@ -153,14 +155,6 @@ pub same_parts : (p q : Part) → part_data (part_alone p) ≡ part_data (part_a
 same_parts p q e = sym (part_back p) ∙ ap part_of e ∙ part_back q
 
 -- ---- its members are in order, and it is shallow
-
-items_are : {A : Type 0} (written : A → Data) → ((x : A) → in_order (written x) ≡ true) → (xs : List A) → items_in_order (items_of (map written xs)) ≡ true
-items_are written one [] = refl
-items_are written one (x ∷ xs) = rw (one x, items_are written one xs) refl
-
-items_within : {A : Type 0} (written : A → Data) (n : ℕ) → ((x : A) → depth (written x) ≤ n) → (xs : List A) → items_depth (items_of (map written xs)) ≤ n
-items_within written n one [] = omega arith
-items_within written n one (x ∷ xs) = let first = one x in let others = items_within written n one xs in omega arith
 
 tags_are : (ts : List Tag) → items_in_order (items_of (map tag_data ts)) ≡ true
 tags_are ts = items_are tag_data (λ t. refl) ts

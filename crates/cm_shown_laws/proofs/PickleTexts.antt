@@ -19,6 +19,8 @@ use Rattle.cm_envelope.specs.declared.pickle.StepKind.TheVariants as kind
 use Rattle.cm_differs.specs.DuePickles.{without_id, without_ids}
 use Rattle.cm_differs.specs.PickleData.{argument_data, bare_pickle_data, cell_data, doc_string_data, kind_word, row_data, step_data, tag_data}
 use Rattle.cm_read_back.specs.Values.{in_order, items_in_order}
+use Rattle.cm_read_back.proofs.Orders.{items_are}
+use Rattle.cm_read_back.proofs.Depths.{items_within}
 
 -- ---- the pickle that a value is
 
@@ -151,14 +153,6 @@ pub same_pickles : (p q : Pickle) → bare_pickle_data p ≡ bare_pickle_data q 
 same_pickles p q e = sym (pickle_back p) ∙ ap pickle_of e ∙ pickle_back q
 
 -- ---- its members are in order, and it is shallow
-
-items_are : {A : Type 0} (written : A → Data) → ((x : A) → in_order (written x) ≡ true) → (xs : List A) → items_in_order (items_of (map written xs)) ≡ true
-items_are written one [] = refl
-items_are written one (x ∷ xs) = rw (one x, items_are written one xs) refl
-
-items_within : {A : Type 0} (written : A → Data) (n : ℕ) → ((x : A) → depth (written x) ≤ n) → (xs : List A) → items_depth (items_of (map written xs)) ≤ n
-items_within written n one [] = omega arith
-items_within written n one (x ∷ xs) = let first = one x in let others = items_within written n one xs in omega arith
 
 texts_are : (ts : List (List ℕ)) → items_in_order (items_of (map string ts)) ≡ true
 texts_are ts = items_are string (λ t. refl) ts

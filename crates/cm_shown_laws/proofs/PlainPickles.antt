@@ -19,7 +19,7 @@ use Rattle.cm_envelope.specs.declared.pickle.StepKind.{StepKind}
 use Rattle.cm_envelope.specs.declared.pickle.StepKind.TheVariants as kind
 use Rattle.cm_stream.specs.Sources.{DueArgument, DuePickle, DueStep, DueTag, ids_at}
 use Rattle.cm_stream.specs.Texts.{Utf8}
-use Rattle.cm_differs.specs.DuePickles.{argument_of, due_cell, due_pickle, due_row, due_step, due_steps, due_tag}
+use Rattle.cm_differs.specs.DuePickles.{argument_of, due_cell, due_pickle, due_row, due_pickle_step, due_pickle_steps, due_tag}
 use Rattle.cm_differs.specs.PickleData.{argument_data, cell_data, doc_string_data, kind_word, row_data, step_data, tag_data}
 use Rattle.cm_read_back.specs.Values.{IsPlain, ItemsArePlain}
 use Rattle.cm_compiled_good.proofs.Compiling.{all_mapped}
@@ -117,10 +117,10 @@ argument_due None h = tt
 argument_due (Some (due_argument.Table rows)) h = all_mapped AreTexts RowTexts due_row row_due rows h
 argument_due (Some (due_argument.Text d)) h = (h.1, media_due d.media h.0)
 
-step_due : (ids : List Utf8) → AreTexts ids → (beside : Option PickleStep) (s : DueStep) → StepFine clean s → StepTexts (due_step ids beside s)
+step_due : (ids : List Utf8) → AreTexts ids → (beside : Option PickleStep) (s : DueStep) → StepFine clean s → StepTexts (due_pickle_step ids beside s)
 step_due ids h beside s k = (k.0, ids_texts ids h s.nodes, argument_due s.argument k.2)
 
-steps_due : (ids : List Utf8) → AreTexts ids → (beside : List PickleStep) (ss : List DueStep) → AllByRecursion (StepFine clean) ss → AllByRecursion StepTexts (due_steps ids beside ss)
+steps_due : (ids : List Utf8) → AreTexts ids → (beside : List PickleStep) (ss : List DueStep) → AllByRecursion (StepFine clean) ss → AllByRecursion StepTexts (due_pickle_steps ids beside ss)
 steps_due ids h beside [] k = tt
 steps_due ids h [] (s ∷ ss) k = (step_due ids h None s k.0, steps_due ids h [] ss k.1)
 steps_due ids h (b ∷ bs) (s ∷ ss) k = (step_due ids h (Some b) s k.0, steps_due ids h bs ss k.1)

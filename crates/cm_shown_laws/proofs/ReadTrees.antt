@@ -11,7 +11,7 @@ use Rattle.gk_document.specs.declared.tree.DocString.{DocString}
 use Rattle.gk_document.specs.declared.tree.Location.{Location}
 use Rattle.gk_document.specs.declared.tree.Row.{Row}
 use Rattle.cm_envelope.specs.declared.envelope.GherkinDocument.{GherkinDocument}
-use Rattle.cm_envelope.specs.Documents.{Ids, NodeRead, are_in_order, argument, argument_of, as_line, background, background_in, before_items, body, body_rows, cell, children_in, children_of, data_table, doc_string, each_node, example_table, examples, feature, feature_body, feature_heading, gherkin_document, heading, is_empty, is_object, line_of, location, mark, node_in, nodes_of, optional_node, optional_node_in, row, rule_node, scenario, step, table_of, tag, tagged_heading, title}
+use Rattle.cm_envelope.specs.Documents.{Ids, NodeRead, are_in_order, argument, argument_of, as_line, background, background_in, before_items, body, body_rows, cell, children_in, children_of, data_table, doc_string, each_node, example_table, examples, feature, feature_body, feature_heading, gherkin_document, heading, is_empty, is_object, line_of, location, mark, node_in, nodes_of, optional_node, optional_node_in, row, rule_node, scenario, step, table_of_rows, tag, tagged_heading, title}
 use Rattle.cm_envelope.specs.Member.{◌>>=◌, all_items, as_whole_number, good, has_both, items_in, list_of, media_type_member, nested_member, optional_nested_member, present_member, required_member}
 use Rattle.cm_shown_laws.proofs.JsonTexts.{HasTexts, ItemsHaveTexts}
 use Rattle.cm_compiled_good.proofs.Fine.{Fits64, clean, TagOf, CellOf, RowOf, MediaOf, DocStringOf, ArgumentOf, StepOf, BackgroundOf, TableOf, ExamplesOf, ScenarioOf, RuleOf, FeatureOf}
@@ -164,7 +164,7 @@ tagged_heading_read ids d u h =
 
 -- ---- examples
 
-table_is : (header : Option Row) (body : List Row) → Maybe (RowOf clean) header → AllByRecursion (RowOf clean) body → TableOf clean (table_of header body)
+table_is : (header : Option Row) (body : List Row) → Maybe (RowOf clean) header → AllByRecursion (RowOf clean) body → TableOf clean (table_of_rows header body)
 table_is None body h k = tt
 table_is (Some header) body h k = (h, k)
 

@@ -20,7 +20,7 @@ use Rattle.cm_cases_read_back.proofs.Values.{shown_have_lines}
 use Rattle.cm_differs.proofs.DueEqual.{due_is_equal}
 use Rattle.cm_differs.specs.Differences.{IsTreeDifference, pickle_difference}
 use Rattle.cm_differs.specs.declared.difference.Difference.{Difference}
-use Rattle.cm_differs.specs.DuePickles.{due_pickle, due_step, due_steps, without_id, without_ids}
+use Rattle.cm_differs.specs.DuePickles.{due_pickle, due_pickle_step, due_pickle_steps, without_id, without_ids}
 use Rattle.cm_differs.specs.PartData.{part_data, part_text}
 use Rattle.cm_differs.specs.PickleData.{bare_pickle_data}
 use Rattle.cm_shown_laws.specs.Differences.{IsPlainPart, IsPlainPickle, IsSayable, IsToldApart, UnlikePartsAreShownUnlike, UnlikePicklesAreShownUnlike, UnlikeValuesAreShownUnlike, shown_side}
@@ -104,10 +104,10 @@ pub pickles_unlike : UnlikePicklesAreShownUnlike
 pickles_unlike p q h k same = same_pickles p q (values_unlike (bare_pickle_data p) (bare_pickle_data q) (pickle_sayable p h) (pickle_sayable q k) same)
 
 -- a step that is due has no id
-steps_without : (ids : List Utf8) (beside : List PickleStep) (ds : List DueStep) → map without_id (due_steps ids beside ds) ≡ due_steps ids beside ds
+steps_without : (ids : List Utf8) (beside : List PickleStep) (ds : List DueStep) → map without_id (due_pickle_steps ids beside ds) ≡ due_pickle_steps ids beside ds
 steps_without ids beside [] = refl
-steps_without ids [] (d ∷ ds) = ap (λ (l : List PickleStep). due_step ids None d ∷ l) (steps_without ids [] ds)
-steps_without ids (s ∷ ss) (d ∷ ds) = ap (λ (l : List PickleStep). due_step ids (Some s) d ∷ l) (steps_without ids ss ds)
+steps_without ids [] (d ∷ ds) = ap (λ (l : List PickleStep). due_pickle_step ids None d ∷ l) (steps_without ids [] ds)
+steps_without ids (s ∷ ss) (d ∷ ds) = ap (λ (l : List PickleStep). due_pickle_step ids (Some s) d ∷ l) (steps_without ids ss ds)
 
 due_without : (uri : Utf8) (ids : List Utf8) (beside : List PickleStep) (due : DuePickle) → without_ids (due_pickle uri ids beside due) ≡ due_pickle uri ids beside due
 due_without uri ids beside due = ap (λ (l : List PickleStep). record (due_pickle uri ids beside due) { steps = l }) (steps_without ids beside due.steps)

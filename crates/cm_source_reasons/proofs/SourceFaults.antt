@@ -3,7 +3,7 @@ use Rattle.std.proofs.Common.{◌≡◌, ℕ, refl, sym, ap, ◌∙◌, subst, B
 use Rattle.std.proofs.Math.Path.{fun_ext}
 use Rattle.std.specs.Prelude.{IsSomeAnd, codes, decimal, find, if◌then◌else◌, is_none, is_some, option_map, slice_get}
 use Rattle.std.specs.List.{filter_map, list_any}
-use Rattle.std.specs.Option.{option_map_or}
+use Rattle.std.specs.Option.{option_map_or, option_or}
 use Rattle.std.specs.Str.{bytes_eq}
 use Rattle.gk_document.specs.declared.tree.Document.{Document}
 use Rattle.gk_pickle.specs.Pickles.{pickles as compiled}
@@ -34,7 +34,7 @@ use Rattle.cm_stream.specs.declared.verdict.StreamFault.TheVariants as reported
 use Rattle.cm_stream.proofs.ByGrammar.{same_reads}
 use Rattle.cm_stream.proofs.Found.{bytes_are}
 use Rattle.cm_stream.proofs.Lists.{find_map, found_any, found_more, or_false}
-use Rattle.cm_state.specs.StateChecks.{find_source, is_accepted_by, is_awaited_by, is_awaited_of, is_next_by, is_well, knows_run, lacks_by, or_else}
+use Rattle.cm_state.specs.StateChecks.{find_source, is_accepted_by, is_awaited_by, is_awaited_of, is_next_by, is_well, knows_run, lacks_by}
 use Rattle.cm_state.specs.Summary.{SourceRow, Summary, awaited_of, row_of, summary_of_lines_by}
 use Rattle.cm_state.specs.ByOnePass.{summary_of_lines, source_row}
 use Rattle.cm_state.proofs.Checked.{findings_are_faults}
@@ -48,8 +48,8 @@ use Rattle.cm_differs.specs.DuePickles.{due_pickle}
 use Rattle.cm_differs.specs.declared.difference.Difference.{Difference}
 use Rattle.cm_audit.proofs.Judged.{no_by, yes_by}
 use Rattle.cm_source_reasons.specs.Deciding.{IsDeciding}
-use Rattle.cm_source_reasons.specs.SourceKept.{TellsAtTree, TellsKept, TellsTree, difference_lines, lack_lines, lack_lines_by, lines_at_pickle, pickle_lines_by}
-use Rattle.cm_source_reasons.specs.SourceReasons.{IsLackReason, IsPickleReason, IsSourceReason, IsTreeReason, due_line, due_scenario, missing_document, missing_lines, missing_pickles, pickle_lines, sides_text, uri_line}
+use Rattle.cm_source_reasons.specs.SourceKept.{TellsAtTree, TellsKept, TellsTree, difference_lines, lack_lines, lack_lines_by, lines_at_pickle, pickle_reason_text_by}
+use Rattle.cm_source_reasons.specs.SourceReasons.{IsLackReason, IsPickleReason, IsSourceReason, IsTreeReason, due_line, due_scenario, missing_document, missing_lines, missing_pickles, pickle_reason_text, sides_text, uri_line}
 
 some_then : {X : Type 0} (P Q : X → Type 0) (o : Option X) → ((x : X) → P x → Q x) → IsSomeAnd o P → IsSomeAnd o Q
 some_then P Q None f h = absurd h
@@ -90,7 +90,7 @@ abbrev after_end : Bool → Option Finding → Option Finding
 after_end a o = if a then Some (IsBad bad.AfterRunFinished) else o
 
 tree_checks : (a b c d e f : Bool)
-    → after_end a (or_else (or_else (first_failed (bad.UnknownReference if b ∷ bad.DuplicateUri if c ∷ bad.DocumentOfRefusedSource if d ∷ bad.TreeDiffers if e ∷ bad.DuplicateId if f ∷ [])) None) None) ≡ Some (IsBad bad.TreeDiffers)
+    → after_end a (option_or (option_or (first_failed (bad.UnknownReference if b ∷ bad.DuplicateUri if c ∷ bad.DocumentOfRefusedSource if d ∷ bad.TreeDiffers if e ∷ bad.DuplicateId if f ∷ [])) None) None) ≡ Some (IsBad bad.TreeDiffers)
     → (c ≡ false) × (d ≡ false) × (e ≡ true)
 tree_checks true b c d e f h = absurd cc
 tree_checks false true c d e f h = absurd cc
@@ -100,7 +100,7 @@ tree_checks false false false false true f h = (refl, refl, refl)
 tree_checks false false false false false true h = absurd cc
 tree_checks false false false false false false h = absurd cc
 
-pickle_checks : (a b c d : Bool) → after_end a (or_else (or_else (first_failed (bad.UnknownReference if b ∷ bad.PickleDiffers if c ∷ bad.DuplicateId if d ∷ [])) None) None) ≡ Some (IsBad bad.PickleDiffers) → (b ≡ false) × (c ≡ true)
+pickle_checks : (a b c d : Bool) → after_end a (option_or (option_or (first_failed (bad.UnknownReference if b ∷ bad.PickleDiffers if c ∷ bad.DuplicateId if d ∷ [])) None) None) ≡ Some (IsBad bad.PickleDiffers) → (b ≡ false) × (c ≡ true)
 pickle_checks true b c d h = absurd cc
 pickle_checks false true c d h = absurd cc
 pickle_checks false false true d h = (refl, refl)
@@ -108,7 +108,7 @@ pickle_checks false false false true h = absurd cc
 pickle_checks false false false false h = absurd cc
 
 lack_checks : (a b c d e f g : Bool)
-    → after_end a (or_else (or_else (first_failed (bad.OutsideRun if b ∷ bad.UnknownReference if c ∷ bad.AttemptOpen if d ∷ bad.RunHookOpen if e ∷ bad.SourceIncomplete if f ∷ [])) None) (first_failed (bad.SuccessDiffers if g ∷ []))) ≡ Some (IsBad bad.SourceIncomplete)
+    → after_end a (option_or (option_or (first_failed (bad.OutsideRun if b ∷ bad.UnknownReference if c ∷ bad.AttemptOpen if d ∷ bad.RunHookOpen if e ∷ bad.SourceIncomplete if f ∷ [])) None) (first_failed (bad.SuccessDiffers if g ∷ []))) ≡ Some (IsBad bad.SourceIncomplete)
     → f ≡ true
 lack_checks true b c d e f g h = cc
 lack_checks false true c d e f g h = cc
@@ -222,7 +222,7 @@ module _ (settings : Settings) (es : List Envelope) (none : IsFaultless settings
           let row : find_source now d.uri ≡ Some (source_row es s) = row_is d.uri ∙ ap (option_map (source_row es)) e in
           by s e (reads s.content) refl (ap (λ r. option_map_or (λ (x : SourceRow). x.is_accepted) r false) (sym row) ∙ accepted) (ap (λ r. option_map_or (is_awaited_of d.document) r false) (sym row) ∙ other)
 
-  pickle_of : (p : Pickle) (lines : List ℕ) → fault settings es (envelope.Pickle p) ≡ Some (IsBad bad.PickleDiffers) → lines ≡ pickle_lines_by now (es ++ envelope.Pickle p ∷ []) p → IsPickleReason reads es (envelope.Pickle p) lines
+  pickle_of : (p : Pickle) (lines : List ℕ) → fault settings es (envelope.Pickle p) ≡ Some (IsBad bad.PickleDiffers) → lines ≡ pickle_reason_text_by now (es ++ envelope.Pickle p ∷ []) p → IsPickleReason reads es (envelope.Pickle p) lines
   pickle_of p lines why told = go (find (of_uri p.uri) (sources es)) refl
     where
       Found : Type 0
@@ -243,7 +243,7 @@ module _ (settings : Settings) (es : List Envelope) (none : IsFaultless settings
           found_any (of_uri p.uri) (sources es) ∙ sym (list_any-map (bytes_eq p.uri) (λ (s : Source). s.uri) (sources es))
           ∙ both_left (has_text p.uri now.declared.sources) (has_text p.uri now.declared.documents) (yes_by known passed.0)
 
-      by : (s : Source) → find (of_uri p.uri) (sources es) ≡ Some s → lines ≡ pickle_lines upto (source_row es s).ids (slice_get (source_row es s).due 0) p → Found
+      by : (s : Source) → find (of_uri p.uri) (sources es) ≡ Some s → lines ≡ pickle_reason_text upto (source_row es s).ids (slice_get (source_row es s).due 0) p → Found
       by s e is =
           let uri = uri_is p.uri s e in
           let ids : (source_row es s).ids ≡ document_ids p.uri es = ap (λ u. document_ids u es) uri in
@@ -254,7 +254,7 @@ module _ (settings : Settings) (es : List Envelope) (none : IsFaultless settings
           record {
             pickle = p;
             is_pickle = refl;
-            told = is ∙ (λ i. pickle_lines upto (ids i) (due i) p)
+            told = is ∙ (λ i. pickle_reason_text upto (ids i) (due i) p)
                 ∙ ap (λ (t : List ℕ). t ++ sides_text (pickle_difference (document_ids p.uri es) (next_pickle p.uri es) p)) (same_line upto es (found_more as_document es (envelope.Pickle p) refl) p.uri (document_ids p.uri es) (next_pickle p.uri es));
           }
 
@@ -262,7 +262,7 @@ module _ (settings : Settings) (es : List Envelope) (none : IsFaultless settings
       go None e = let wrong : false ≡ true = ap is_some (sym e) ∙ some_source in absurd cc
       go (Some s) e =
           let row : find_source now p.uri ≡ Some (source_row es s) = row_is p.uri ∙ ap (option_map (source_row es)) e in
-          by s e (told ∙ ap (λ (o : Option SourceRow). option_map_or (λ r. pickle_lines upto r.ids (slice_get r.due 0) p) o []) row)
+          by s e (told ∙ ap (λ (o : Option SourceRow). option_map_or (λ r. pickle_reason_text upto r.ids (slice_get r.due 0) p) o []) row)
 
   lack_of : (f : TestRunFinished) (lines : List ℕ) → fault settings es (envelope.TestRunFinished f) ≡ Some (IsBad bad.SourceIncomplete) → lines ≡ lack_lines_by now (es ++ envelope.TestRunFinished f ∷ []) → IsLackReason reads es lines
   lack_of f lines why told = go (find (is_incomplete es) (sources es)) refl

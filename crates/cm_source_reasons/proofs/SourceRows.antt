@@ -20,6 +20,7 @@ use Rattle.cm_audit.specs.Kept.{kept_row, kept_rows}
 use Rattle.cm_audit.specs.declared.source.KeptSource.{KeptSource}
 use Rattle.cm_audit.specs.declared.source.KeptSource.TheVariants as kept
 use Rattle.cm_audit.proofs.KeptRows.{moved_row}
+use Rattle.cm_audit.proofs.Runs.{lacks_anywhere}
 use Rattle.cm_source_reasons.specs.SourceKept.{DiffersInTree, OfFound}
 
 same_due : (o : Option Document) (a b : Document) → o ≡ Some a → o ≡ Some b → a ≡ b
@@ -54,12 +55,8 @@ tree_of uri k x r h = subst (λ (row : SourceRow). IfOk r (DiffersInTree row x))
 abbrev pub entry_row : String Global × KeptSource → SourceRow
 entry_row e = kept_row (string_bytes e.0) e.1
 
-lacks_bare : (uri : Utf8) (k : KeptSource) → lacks_by (kept_row uri k) ≡ lacks_by (kept_row [] k)
-lacks_bare uri kept.Refused = refl
-lacks_bare uri (kept.Accepted a) = refl
-
 pub first_row : (entries : List (String Global × KeptSource)) → find lacks_by (kept_rows entries) ≡ option_map entry_row (find (λ e. lacks_by (kept_row [] e.1)) entries)
-first_row entries = find_map lacks_by entry_row entries ∙ ap (λ q. option_map entry_row (find q entries)) (fun_ext (λ e. lacks_bare (string_bytes e.0) e.1))
+first_row entries = find_map lacks_by entry_row entries ∙ ap (λ q. option_map entry_row (find q entries)) (fun_ext (λ e. lacks_anywhere (string_bytes e.0) e.1))
 
 -- entries that are looked at one after the other, as a loop does
 module _ {X Y : Type 0} (shown : X → Y) (test : Y → Bool) (all : List Y) where

@@ -13,7 +13,7 @@ use Rattle.cm_state.specs.StateChecks.{find_source, lacks_by}
 use Rattle.cm_state.specs.Summary.{SourceRow, Summary}
 use Rattle.cm_differs.specs.Differences.{IsTreeDifference}
 use Rattle.cm_differs.specs.declared.difference.Difference.{Difference}
-use Rattle.cm_source_reasons.specs.SourceReasons.{difference_text, missing_document, missing_pickles, pickle_lines, uri_line}
+use Rattle.cm_source_reasons.specs.SourceReasons.{difference_text, missing_document, missing_pickles, pickle_reason_text, uri_line}
 
 -- the difference of the document that is awaited and the stream's, where the trees differ
 abbrev pub DiffersInTree : SourceRow → GherkinDocument → Option Difference → Type 0
@@ -45,9 +45,10 @@ TellsTree s x text =
     × (text ≡ difference_lines o)
 
 -- that of the next pickle of the source and the stream's
-abbrev pub pickle_lines_by : Summary → (upto : List Envelope) → Pickle → List ℕ
-pickle_lines_by s upto p =
-    option_map_or (λ r. pickle_lines upto r.ids (slice_get r.due 0) p) (find_source s p.uri) []
+abbrev pub pickle_reason_text_by : Summary → (upto : List Envelope) → Pickle → List ℕ
+pickle_reason_text_by s upto p =
+    option_map_or (λ r. pickle_reason_text upto r.ids (slice_get r.due 0) p) (find_source s p.uri)
+    []
 
 -- that of the first source that lacks something
 abbrev pub lack_lines_by : Summary → (upto : List Envelope) → List ℕ
@@ -58,7 +59,7 @@ TellsAtTree s (envelope.GherkinDocument x) text = TellsTree s x text
 TellsAtTree s _ text = text ≡ []
 
 abbrev pub lines_at_pickle : Summary → (upto : List Envelope) → Envelope → List ℕ
-lines_at_pickle s upto (envelope.Pickle p) = pickle_lines_by s upto p
+lines_at_pickle s upto (envelope.Pickle p) = pickle_reason_text_by s upto p
 lines_at_pickle s upto _ = []
 
 abbrev pub TellsKept : Summary → (upto : List Envelope) → Envelope → StreamFault → (text : List ℕ)

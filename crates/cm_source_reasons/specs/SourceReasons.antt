@@ -52,8 +52,9 @@ due_line es uri ids (Some due) = codes "due" ++ due_scenario es uri ids due ++ l
 due_line es uri ids None = uri_line uri
 
 -- that, what it is as JSON, and the pickle that the stream has in its place
-abbrev pub pickle_lines : List Envelope → (ids : List Utf8) → Option DuePickle → Pickle → List ℕ
-pickle_lines es ids due p =
+abbrev pub pickle_reason_text : List Envelope → (ids : List Utf8) → Option DuePickle → Pickle
+    → List ℕ
+pickle_reason_text es ids due p =
     due_line es p.uri ids due ++ sides_text (pickle_difference ids due p)
 
 abbrev pub missing_document : List ℕ
@@ -93,7 +94,7 @@ pub record IsPickleReason (read : Utf8 → Reading) (before : List Envelope) (e 
   pub pickle : Pickle
   pub is_pickle : e ≡ envelope.Pickle pickle
   pub told : text
-      ≡ pickle_lines before (document_ids pickle.uri before)
+      ≡ pickle_reason_text before (document_ids pickle.uri before)
       (next_pickle_by read pickle.uri before) pickle
 
 -- at the end of the run: the first source that lacks something, and what it lacks

@@ -6,8 +6,8 @@ ghost use Rattle.cm_envelope.specs.declared.envelope.Envelope.{Envelope as SomeE
 ghost use Rattle.cm_stream.specs.Sources.{ids_at};
 ghost use Rattle.cm_audit.specs.Kept.{kept_row};
 ghost use Rattle.cm_audit.specs.State.{summary_of};
-ghost use Rattle.cm_source_reasons.specs.SourceKept.{pickle_lines_by};
-ghost use Rattle.cm_source_reasons.specs.SourceReasons.{due_line, due_scenario, pickle_lines};
+ghost use Rattle.cm_source_reasons.specs.SourceKept.{pickle_reason_text_by};
+ghost use Rattle.cm_source_reasons.specs.SourceReasons.{due_line, due_scenario, pickle_reason_text};
 
 use crate::sides::{add_sides, add_uri};
 use cm_audit::{KeptSource, State};
@@ -94,7 +94,7 @@ fn add_next(
 ) -> Result<(), AllocError>
     ensures { OnOk result ((es : List SomeEnvelope) → places.now ≡ listing_of es
         → string_bytes text.new ≡ string_bytes text.old
-        ++ pickle_lines es (kept_row [] source.now).ids
+        ++ pickle_reason_text es (kept_row [] source.now).ids
         (slice_get (kept_row [] source.now).due 0) pickle.now) }
 {
     let due = source.next_due();
@@ -118,7 +118,7 @@ pub(crate) fn add_of_pickle(
 ) -> Result<(), AllocError>
     ensures { OnOk result ((es : List SomeEnvelope) → places.now ≡ listing_of es
         → string_bytes text.new ≡ string_bytes text.old
-        ++ pickle_lines_by (summary_of state.now) es pickle.now) }
+        ++ pickle_reason_text_by (summary_of state.now) es pickle.now) }
 {
     match state.find_source(pickle.uri.as_str()) {
         Some(source) => add_next(alloc, text, places, source, pickle),

@@ -6,7 +6,7 @@ ghost use Rattle.cm_reasons.specs.Trail.{trail_of};
 ghost use Rattle.cm_stream.specs.Findings.{IsBad, stream_fault_named};
 ghost use Rattle.cm_audit.specs.State.{summary_of};
 ghost use Rattle.cm_source_reasons.specs.Deciding.{IsDeciding};
-ghost use Rattle.cm_source_reasons.specs.SourceKept.{TellsAtTree, TellsKept, lack_lines_by, lines_at_pickle, pickle_lines_by};
+ghost use Rattle.cm_source_reasons.specs.SourceKept.{TellsAtTree, TellsKept, lack_lines_by, lines_at_pickle, pickle_reason_text_by};
 ghost use Rattle.cm_source_reasons.specs.SourceReasons.{IsSourceReason};
 
 use crate::lack::add_first_lack;
@@ -45,7 +45,7 @@ fn add_pickle(
 ) -> Result<(), AllocError>
     ensures { OnOk result ((es : List SomeEnvelope) → trail.now ≡ trail_of es
         → string_bytes text.new ≡ string_bytes text.old
-        ++ pickle_lines_by (summary_of state.now) es pickle.now) }
+        ++ pickle_reason_text_by (summary_of state.now) es pickle.now) }
 {
     let places = trail.places(alloc)?;
     add_of_pickle(alloc, text, state, &places, pickle)?;

@@ -1,6 +1,7 @@
 -- What is reported of a line by what is kept of the lines before it is the line's fault over all of them.
 use Rattle.std.proofs.Common.{◌≡◌, ℕ, refl, sym, ap, ◌∙◌, List, [], ◌∷◌, ◌++◌, Some, true, false, Bool, not, ◌&&◌, ◌||◌, ◌==◌}
 use Rattle.std.specs.Prelude.{is_some, nat_lt, if◌then◌else◌}
+use Rattle.std.specs.Option.{option_or}
 use Rattle.cm_attempt.specs.declared.policy.Policy.{Policy}
 use Rattle.cm_stream.specs.References.{Name, SourceOf, DocumentOf, Definition, HookNamed, RunHook, times_declared, is_judged, has_run_started, has_run_finished}
 use Rattle.cm_stream.specs.Checks.{Check, ◌if◌, first_failed, refers_to_unknown, has_steps_of_pickle, same_flag}
@@ -19,7 +20,7 @@ use Rattle.cm_state.specs.Summary.{declarations_in}
 use Rattle.cm_stream.specs.OnePass.{reads}
 use Rattle.cm_stream.proofs.ByGrammar.{by_the_grammar}
 use Rattle.cm_state.specs.Laws.{FindingsAreFaults, FindingsAreFaultsBy}
-use Rattle.cm_state.specs.StateChecks.{checks_after, success_by, or_else}
+use Rattle.cm_state.specs.StateChecks.{checks_after, success_by}
 use Rattle.cm_state.specs.ByOnePass.{summary_of_lines, checks_before, plain_finding, finding_inside}
 use Rattle.cm_state.proofs.Tests.{IsDeclaredIf, source_declared, document_declared, definition_declared, hook_declared, run_hook_declared, started_is, run_known}
 use Rattle.cm_state.proofs.StepTests.{both_known, pickle_again, case_known, steps_are}
@@ -30,11 +31,11 @@ use Rattle.cm_stream.proofs.Lists.{or_no}
 
 -- ---- checks in turn
 
-in_turn : (xs ys : List Check) → first_failed (xs ++ ys) ≡ or_else (first_failed xs) (first_failed ys)
+in_turn : (xs ys : List Check) → first_failed (xs ++ ys) ≡ option_or (first_failed xs) (first_failed ys)
 in_turn [] ys = refl
 in_turn (c ∷ xs) ys = go c.fails refl (in_turn xs ys)
   where
-    go : (b : Bool) → c.fails ≡ b → first_failed (xs ++ ys) ≡ or_else (first_failed xs) (first_failed ys) → first_failed ((c ∷ xs) ++ ys) ≡ or_else (first_failed (c ∷ xs)) (first_failed ys)
+    go : (b : Bool) → c.fails ≡ b → first_failed (xs ++ ys) ≡ option_or (first_failed xs) (first_failed ys) → first_failed ((c ∷ xs) ++ ys) ≡ option_or (first_failed (c ∷ xs)) (first_failed ys)
     go true e rec = rw e refl
     go false e rec = rw e rec
 
@@ -122,8 +123,8 @@ plainly : (first : ℕ) (es : List Envelope) (e : Envelope) → AllPass es → A
 plainly first es e pass accepted =
     let front = same_failed (checks_before (summary_of_lines first es) e) (checks_first first es e) (agree first es pass accepted e) in
     let own = own_refused first es e accepted in
-    (λ i. or_else (front i) (or_else (own i) (first_failed (checks_after e))))
-    ∙ ap (or_else (first_failed (checks_first first es e))) (sym (in_turn (own_checks first es e) (checks_after e)))
+    (λ i. option_or (front i) (option_or (own i) (first_failed (checks_after e))))
+    ∙ ap (option_or (first_failed (checks_first first es e))) (sym (in_turn (own_checks first es e) (checks_after e)))
     ∙ sym (in_turn (checks_first first es e) (own_checks first es e ++ checks_after e))
     ∙ ap first_failed (sym (in_parts first es e))
 
@@ -131,7 +132,7 @@ inside : (policy : Policy) (first : ℕ) (es : List Envelope) (e : Envelope) →
 inside policy first es e pass accepted =
     let plain = plainly first es e pass accepted in
     let last = same_failed (success_by policy (summary_of_lines first es) e) (success_check policy es e) (agree_last policy first es pass accepted e) in
-    (λ i. or_else (plain i) (last i)) ∙ sym (in_turn (checks_of first es e) (success_check policy es e))
+    (λ i. option_or (plain i) (last i)) ∙ sym (in_turn (checks_of first es e) (success_check policy es e))
 
 pub findings_are_faults : FindingsAreFaultsBy reads
 findings_are_faults settings es e none =

@@ -5,7 +5,7 @@ use Rattle.std.specs.Option.{option_map}
 use Rattle.std.proofs.lemmas.List.Folds.{list_any-append}
 use Rattle.cm_refs.specs.Declarations.{Declarations}
 use Rattle.cm_stream.specs.Texts.{Utf8}
-use Rattle.cm_stream.specs.References.{as_source, as_document, as_pickle, as_case, as_run_hook_end, sources, pickles, cases, is_run_finished, has_run_started, has_run_finished, says_success, run_succeeded}
+use Rattle.cm_stream.specs.References.{as_source, as_document, as_pickle, as_case, as_run_hook_end, sources, pickles, cases, is_run_finished, has_run_finished, says_success, run_succeeded}
 use Rattle.cm_stream.specs.Record.{table_after_envelope}
 use Rattle.cm_envelope.specs.declared.envelope.Envelope.{Envelope}
 use Rattle.cm_envelope.specs.declared.envelope.Envelope.TheVariants as envelope
@@ -24,6 +24,7 @@ use Rattle.cm_state.proofs.OneMore.{push_if, found_after, map_after}
 use Rattle.cm_state.proofs.Rows.{rows, other_rows, source_rows, document_rows, pickle_rows}
 use Rattle.cm_state.proofs.RunHooks.{hook_rows_after, hook_rows_step, hooks_worst_after, hooks_worst_step}
 use Rattle.cm_state.proofs.Unrun.{named_by, names_push, counts_after, counts_step}
+use Rattle.cm_state.proofs.Tests.{no_run}
 use Rattle.cm_stream.proofs.Lists.{or_no, found_more, found_push}
 
 -- ---- each of what is kept
@@ -74,11 +75,6 @@ named_step es e = ap named_by (found_after as_case es e) ∙ go (as_case e)
 abbrev run_after : Option TestRunStarted → Option TestRunStarted → Option TestRunStarted
 run_after run None = run
 run_after run (Some r) = Some r
-
-no_run : (es : List Envelope) → has_run_started es ≡ false → filter_map as_run es ≡ []
-no_run [] h = refl
-no_run (envelope.TestRunStarted r ∷ es) h = cc
-no_run (_ ∷ es) h = no_run es h
 
 run_step : (es : List Envelope) (e : Envelope) → LinePasses es e → first_of (filter_map as_run (es ++ e ∷ [])) ≡ run_after (first_of (filter_map as_run es)) (as_run e)
 run_step es (envelope.TestRunStarted r) h = ap first_of (found_push as_run es (envelope.TestRunStarted r) r refl ∙ ap (λ rs. rs ++ r ∷ []) (no_run es h.passes.0))

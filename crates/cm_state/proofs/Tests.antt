@@ -96,7 +96,7 @@ started_is [] = refl
 started_is (envelope.TestRunStarted r ∷ es) = refl
 started_is (_ ∷ es) = started_is es
 
-no_run : (es : List Envelope) → has_run_started es ≡ false → filter_map as_run es ≡ []
+pub no_run : (es : List Envelope) → has_run_started es ≡ false → filter_map as_run es ≡ []
 no_run [] h = refl
 no_run (envelope.TestRunStarted r ∷ es) h = cc
 no_run (_ ∷ es) h = no_run es h

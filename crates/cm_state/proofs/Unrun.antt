@@ -5,6 +5,8 @@ use Rattle.std.specs.List.{AllByRecursion, list_any, filter}
 use Rattle.std.specs.Str.{bytes_eq}
 use Rattle.std.proofs.lemmas.List.Folds.{list_any-append}
 use Rattle.std.proofs.lemmas.List.Sums.{length-filter}
+use Rattle.std.proofs.lemmas.Bool.{or_right}
+use Rattle.std.proofs.Math.Bool.{or_assoc}
 use Rattle.cm_refs.proofs.EntryLemmas.{list_any-map}
 use Rattle.cm_attempt.specs.Table.{has_text}
 use Rattle.cm_stream.specs.Texts.{Utf8}
@@ -25,17 +27,9 @@ use Rattle.cm_state.proofs.OneMore.{one_if, found_after, length_after, same_coun
 
 -- ---- names, each once
 
-or_joined : (a b c : Bool) → ((a || b) || c) ≡ (a || (b || c))
-or_joined true b c = refl
-or_joined false b c = refl
-
 or_kept : (a b : Bool) → a ≡ true → (a || b) ≡ a
 or_kept true b h = refl
 or_kept false b h = cc
-
-or_second : (a b : Bool) → b ≡ true → (a || b) ≡ true
-or_second true b h = refl
-or_second false b h = h
 
 has_with : (id : Utf8) (names : List Utf8) (name : Utf8) → has_text id (with_name names name) ≡ (has_text id names || bytes_eq id name)
 has_with id names name = at (has_text name names) refl
@@ -49,7 +43,7 @@ has_with id names name = at (has_text name names) refl
 has_names : (id : Utf8) (names more : List Utf8) → has_text id (names_from names more) ≡ (has_text id names || has_text id more)
 has_names id names [] = sym (or_no (has_text id names))
 has_names id names (name ∷ more) =
-    has_names id (with_name names name) more ∙ ap (λ b. b || has_text id more) (has_with id names name) ∙ or_joined (has_text id names) (bytes_eq id name) (has_text id more)
+    has_names id (with_name names name) more ∙ ap (λ b. b || has_text id more) (has_with id names name) ∙ or_assoc (has_text id names) (bytes_eq id name) (has_text id more)
 
 pub names_push : (names more : List Utf8) (name : Utf8) → names_from names (more ++ name ∷ []) ≡ with_name (names_from names more) name
 names_push names [] name = refl
@@ -123,7 +117,7 @@ case_unrun es c more = go (list_any (names_it c.pickle_id) (cases es)) refl
     first e p k =
         let id : p.id ≡ c.pickle_id = sym (bytes_are c.pickle_id p.id k) in
         let here : bytes_eq p.id c.pickle_id ≡ true = ap (bytes_eq p.id) (sym id) ∙ bytes_same p.id in
-        (ap not (ap (λ u. list_any (names_it u) (cases es)) id ∙ e), with_it p ∙ ap not (or_second (list_any (names_it p.id) (cases es)) (bytes_eq p.id c.pickle_id) here))
+        (ap not (ap (λ u. list_any (names_it u) (cases es)) id ∙ e), with_it p ∙ ap not (or_right (list_any (names_it p.id) (cases es)) (bytes_eq p.id c.pickle_id) here))
 
     one : length (filter (λ p. bytes_eq c.pickle_id p.id) (pickles es)) ≡ 1
     one = kept_named (PickleNamed c.pickle_id) as_pickle (λ p. bytes_eq c.pickle_id p.id) (declares_pickle c.pickle_id) es

@@ -1,7 +1,7 @@
 -- What is reported of a line, by what an audit keeps of the lines before it.
 use Rattle.std.specs.Prelude.{◌==◌, ◌&&◌, ◌||◌, Bool, true, false, not, List, [], ◌∷◌, Option, Some, None, Result, Ok, is_some, is_none, if◌then◌else◌, map, length, find, slice_get, unwrap_or}
 use Rattle.std.specs.List.{list_any, list_all}
-use Rattle.std.specs.Option.{option_map_or, option_and_then}
+use Rattle.std.specs.Option.{option_map_or, option_and_then, option_or}
 use Rattle.std.specs.Str.{bytes_eq}
 use Rattle.cm_refs.specs.Declarations.{find_pickle, find_run_hook, pickle_fault, open_count as open_hook_count}
 use Rattle.cm_attempt.specs.Table.{has_text, has_repeat, has_step, find_attempt, is_good_case, is_good_status, open_count}
@@ -190,23 +190,18 @@ success_by policy s (envelope.TestRunFinished f) =
     bad.SuccessDiffers if not (same_flag f.success (is_well policy s && not f.has_exception)) ∷ []
 success_by policy s _ = []
 
--- the first of two findings
-abbrev pub or_else : Option Finding → Option Finding → Option Finding
-or_else None later = later
-or_else (Some f) later = Some f
-
 -- the finding of a line by the checks that are made whatever statuses are good
 abbrev pub plain_finding_by : (read : Utf8 → Reading) → Summary → Envelope → Option Finding
 plain_finding_by read s e =
-    or_else (first_failed (checks_before_by read s e))
-    (or_else (option_and_then call_fault_finding (call_fault_of_envelope s.table e))
+    option_or (first_failed (checks_before_by read s e))
+    (option_or (option_and_then call_fault_finding (call_fault_of_envelope s.table e))
     (first_failed (checks_after e)))
 
 -- the finding of a line of which no check comes after the end of the run
 abbrev pub finding_inside_by : (read : Utf8 → Reading) → Policy → Summary → Envelope
     → Option Finding
 finding_inside_by read policy s e =
-    or_else (plain_finding_by read s e) (first_failed (success_by policy s e))
+    option_or (plain_finding_by read s e) (first_failed (success_by policy s e))
 
 -- the finding of a line: nothing is judged after the end of the run
 abbrev pub finding_by : (read : Utf8 → Reading) → Settings → Summary → Envelope → Option Finding

@@ -32,4 +32,4 @@ mod listing;
 mod told;
 
 pub use attempts::Started;
-pub use listing::StepListing;
+pub use listing::{StepListing, is_quiet};

@@ -4,16 +4,16 @@ ghost use Rattle.std.specs.List.{flat_map};
 ghost use Rattle.std.specs.Option.{option_map_or};
 ghost use Rattle.cm_envelope.specs.declared.envelope.Envelope.{Envelope as SomeEnvelope};
 ghost use Rattle.cm_cases.specs.Places.{place};
-ghost use Rattle.cm_stream.specs.Statuses.{kept_status as kept};
 ghost use Rattle.cm_steps.specs.Attempts.{is_quiet};
 ghost use Rattle.cm_steps.specs.Kept.{document_row, finish_entry, pickle_row, place_texts, plan_row, plan_texts, source_id, source_kind, start_entry, step_listing_of, step_texts};
 ghost use Rattle.cm_steps.specs.Steps.{steps_of_feature, steps_within};
 
 use cm_attempt::Status;
 use cm_envelope::{
-    Envelope, GherkinDocument, Pickle, PickleStep, Status as LineStatus, TestCase, TestCaseStarted,
-    TestStep, TestStepFinished,
+    Envelope, GherkinDocument, Pickle, PickleStep, TestCase, TestCaseStarted, TestStep,
+    TestStepFinished,
 };
+use cm_stream::kept_status;
 use gk_document::{Background, Feature, Rule, Scenario, Sequence, Step, Text, id_of};
 use itoa::Buffer;
 use std::alloc::{AllocError, Global};
@@ -54,12 +54,6 @@ pub struct StepListing {
     pub(crate) ends: Texts,
     /// The ends of steps, but for those that passed or were skipped.
     pub(crate) finishes: Sequence<FinishEntry>,
-}
-
-fn copy(alloc: Global, text: &Text) -> Result<Text, AllocError>
-    ensures { IfOk result (λ t. t ≡ text.now) }
-{
-    Text::copy_of(alloc, text.as_str())
 }
 
 fn add_steps(row: &mut Texts, ids: &[Text], steps: &[Step]) -> Result<(), AllocError>
@@ -217,29 +211,14 @@ fn start_entry(alloc: Global, start: &TestCaseStarted) -> Result<StartEntry, All
     ensures { IfOk result (λ entry. entry ≡ start_entry start.now) }
 {
     Ok(StartEntry {
-        id: copy(alloc, &start.id)?,
-        case_id: copy(alloc, &start.test_case_id)?,
+        id: Text::copy_of(alloc, start.id.as_str())?,
+        case_id: Text::copy_of(alloc, start.test_case_id.as_str())?,
         number: start.attempt,
     })
 }
 
-/// The status that a record of attempts keeps of a line's status.
-fn kept_status(status: LineStatus) -> Status
-    ensures { result ≡ kept status }
-{
-    match status {
-        LineStatus::Unknown => Status::Unknown,
-        LineStatus::Passed => Status::Passed,
-        LineStatus::Skipped => Status::Skipped,
-        LineStatus::Pending => Status::Pending,
-        LineStatus::Undefined => Status::Undefined,
-        LineStatus::Ambiguous => Status::Ambiguous,
-        LineStatus::Failed => Status::Failed,
-    }
-}
-
 /// Whether the status holds nothing up, whatever the policy.
-fn is_quiet(status: Status) -> bool
+pub fn is_quiet(status: Status) -> bool
     ensures { result ≡ is_quiet status }
 {
     matches!(status, Status::Passed | Status::Skipped)
@@ -249,8 +228,8 @@ fn finish_entry(alloc: Global, finish: &TestStepFinished) -> Result<FinishEntry,
     ensures { IfOk result (λ entry. entry ≡ finish_entry finish.now) }
 {
     Ok(FinishEntry {
-        attempt: copy(alloc, &finish.test_case_started_id)?,
-        step: copy(alloc, &finish.test_step_id)?,
+        attempt: Text::copy_of(alloc, finish.test_case_started_id.as_str())?,
+        step: Text::copy_of(alloc, finish.test_step_id.as_str())?,
         status: kept_status(finish.test_step_result.status),
     })
 }

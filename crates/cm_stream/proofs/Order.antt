@@ -1,5 +1,6 @@
 -- Lines that pass their checks come in order.
 use Rattle.std.proofs.Common.{◌≡◌, ◌+◌, ◌≤◌, refl, sym, ap, ◌∙◌, List, [], ◌∷◌, ◌++◌, Some, None, true, false, Bool, append_assoc, ◌&&◌, ◌||◌, arith}
+use Rattle.std.proofs.lemmas.Bool.{not-false}
 use Rattle.std.specs.Prelude.{count_by}
 use Rattle.std.specs.List.{list_any}
 use Rattle.cm_stream.specs.References.{is_run_started, is_run_finished, is_judged, has_run_started, has_run_finished}
@@ -11,7 +12,7 @@ use Rattle.cm_envelope.specs.declared.envelope.TestRunFinished.{TestRunFinished}
 use Rattle.cm_stream.proofs.Lists.{or_false, none_counted, count_cut, count_past}
 use Rattle.cm_stream.proofs.Refuted.{cut_at}
 use Rattle.cm_stream.proofs.Ends.{EndsRun, unjudged_is}
-use Rattle.cm_stream.proofs.Passing.{LinePasses, AllPass, was_not, by_lines, last_passes}
+use Rattle.cm_stream.proofs.Passing.{LinePasses, AllPass, by_lines, last_passes}
 
 -- what fails at each place fails everywhere
 pub everywhere_none : {X : Type 0} (p : X → Bool) (xs : List X) → ((before : List X) (x : X) (after : List X) → xs ≡ before ++ x ∷ after → p x ≡ false) → list_any p xs ≡ false
@@ -118,14 +119,14 @@ in_order es pass end = record {
   where
     one_start : count_by is_run_started es ≡ 1
     one_start =
-        let at = cut_at is_run_started end.before (was_not (has_run_started end.before) end.line.passes.0) in
+        let at = cut_at is_run_started end.before (not-false (has_run_started end.before) end.line.passes.0) in
         let many : count_by is_run_started end.before ≡ count_by is_run_started at.front + 1 + count_by is_run_started at.back = ap (count_by is_run_started) at.cut ∙ count_cut is_run_started at.front at.here at.back at.passes in
         let all : count_by is_run_started es ≡ count_by is_run_started end.before + count_by is_run_started end.after = ap (count_by is_run_started) end.run.cut ∙ count_past is_run_started end.before (envelope.TestRunFinished end.end) end.after refl in
         omega (arith, many, all, few_starts es pass)
 
     inside : (before : List Envelope) (e : Envelope) → LinePasses before e → StartsInside before e
-    inside before (envelope.TestCaseStarted s) h = was_not (has_run_started before) h.passes.0
-    inside before (envelope.TestRunHookStarted s) h = was_not (has_run_started before) h.passes.0
+    inside before (envelope.TestCaseStarted s) h = not-false (has_run_started before) h.passes.0
+    inside before (envelope.TestRunHookStarted s) h = not-false (has_run_started before) h.passes.0
     inside before _ h = tt
 
     last : (before : List Envelope) (e : Envelope) (after : List Envelope) → es ≡ before ++ e ∷ after → NothingAfter e after

@@ -4,6 +4,7 @@ use Rattle.std.specs.List.{list_any, list_all}
 use Rattle.std.specs.Option.{option_map_or}
 use Rattle.std.specs.Str.{bytes_eq}
 use Rattle.std.proofs.lemmas.Bool.Decides.{nat_tests}
+use Rattle.std.proofs.lemmas.Bool.{not-false}
 use Rattle.cm_stream.specs.Texts.{Utf8, same_list, same_texts}
 use Rattle.cm_stream.specs.References.{is_retried, starts_of, find_pickle, pickle_step_ids, as_pickle}
 use Rattle.cm_stream.specs.Good.{CasesGood, CaseGood, RetriesGood, RetryGood, NumbersGood, NumberGood, SuccessGood, SuccessOf, has_unknown_result}
@@ -19,7 +20,7 @@ use Rattle.cm_stream.proofs.Readings.{success_is}
 use Rattle.cm_stream.proofs.Lists.{and_true}
 use Rattle.cm_stream.proofs.Found.{bytes_are, still_found}
 use Rattle.cm_stream.proofs.Ends.{EndsRun, same_well}
-use Rattle.cm_stream.proofs.Passing.{Passes, LinePasses, AllPass, SuccessPasses, plain_pass, was_not}
+use Rattle.cm_stream.proofs.Passing.{Passes, LinePasses, AllPass, SuccessPasses, plain_pass}
 use Rattle.cm_stream.proofs.Order.{everywhere_none, after_end}
 
 -- ---- cases
@@ -45,7 +46,7 @@ all_cases es pass before e after cut = at e cut (pass before e after cut)
         rw in_all (ap Some (texts_are (map (λ s. s.id) p.steps) (pickle_step_ids c) h))
 
     at : (e : Envelope) → es ≡ before ++ e ∷ after → LinePasses before e → CaseGood es e
-    at (envelope.TestCase c) cut h = go c cut (find_pickle c.pickle_id before) refl (was_not _ (h.passes.1).0)
+    at (envelope.TestCase c) cut h = go c cut (find_pickle c.pickle_id before) refl (not-false _ (h.passes.1).0)
     at _ cut h = tt
 
 -- ---- retries
@@ -54,7 +55,7 @@ pub all_retries : (es : List Envelope) → AllPass es → RetriesGood es
 all_retries es pass before e after cut = at e (pass before e after cut)
   where
     at : (e : Envelope) → LinePasses before e → RetryGood before e
-    at (envelope.TestCaseStarted s) h = was_not (list_all (λ x. is_retried x.id before) (starts_of s.test_case_id before)) ((((h.passes.1).1).1).1).0
+    at (envelope.TestCaseStarted s) h = not-false (list_all (λ x. is_retried x.id before) (starts_of s.test_case_id before)) ((((h.passes.1).1).1).1).0
     at _ h = tt
 
 -- ---- numbers

@@ -1,5 +1,5 @@
 -- What it says of each line that it passes its checks.
-use Rattle.std.proofs.Common.{◌≡◌, ℕ, refl, sym, ap, ◌∙◌, List, [], ◌∷◌, ◌++◌, Some, None, true, false, Bool, not, ◌&&◌, append_assoc, append-nil, subst}
+use Rattle.std.proofs.Common.{◌≡◌, ℕ, refl, sym, ap, ◌∙◌, List, [], ◌∷◌, ◌++◌, Some, None, true, false, Bool, ◌&&◌, append_assoc, append-nil, subst}
 use Rattle.std.specs.List.{AllByRecursion}
 use Rattle.cm_stream.specs.Checks.{Check, first_failed, refers_to_unknown}
 use Rattle.cm_attempt.specs.declared.policy.Policy.{Policy}
@@ -11,10 +11,6 @@ use Rattle.cm_envelope.specs.declared.envelope.Envelope.TheVariants as envelope
 
 abbrev pub Passes : List Check → Type 0
 Passes cs = AllByRecursion (λ (c : Check). c.fails ≡ false) cs
-
-pub was_not : (b : Bool) → not b ≡ false → b ≡ true
-was_not true h = refl
-was_not false h = cc
 
 pub passed : (cs : List Check) → first_failed cs ≡ None → Passes cs
 passed [] h = tt

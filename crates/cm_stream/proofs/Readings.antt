@@ -1,5 +1,6 @@
 -- Sources by the grammar, and by what one pass makes of their texts.
 use Rattle.std.proofs.Common.{◌≡◌, refl, sym, ap, subst, ◌∙◌, List, [], ◌∷◌, true, false, Bool, not, ◌&&◌}
+use Rattle.std.proofs.lemmas.Bool.{not-true}
 use Rattle.std.specs.Prelude.{◌↔◌}
 use Rattle.std.specs.List.{AllByRecursion, list_any, list_all}
 use Rattle.cm_stream.specs.Readings.{Reading, Accepted, Refused, OtherLanguage, TooLong, IsReading}
@@ -57,10 +58,6 @@ all_read (s ∷ ss) h = (read_accepted s h.0, all_read ss h.1)
 
 -- ---- success
 
-not_false : (b : Bool) → not b ≡ true → b ≡ false
-not_false true h = cc
-not_false false h = refl
-
 well_is : (policy : Policy) (es : List Envelope) (f : TestRunFinished) → (all_well policy es && not f.has_exception) ≡ true → AllWell policy es f
 well_is policy es f h =
     let both = and_true (all_well policy es) (not f.has_exception) h in
@@ -70,7 +67,7 @@ well_is policy es f h =
       each_case = each_true (is_good_case policy es) (cases es) ran.0;
       each_hook = each_true (is_good_status policy) (hook_statuses es) ran.1;
       each_source = each_accepted (sources es) (each_true (λ s. is_accepted (reads s.content)) (sources es) parts.1);
-      no_exception = not_false f.has_exception both.1;
+      no_exception = not-true f.has_exception both.1;
     }
 
 is_well : (policy : Policy) (es : List Envelope) (f : TestRunFinished) → AllWell policy es f → (all_well policy es && not f.has_exception) ≡ true

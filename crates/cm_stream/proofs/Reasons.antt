@@ -1,5 +1,6 @@
 -- A stream isn't judged only where a line shows the reason.
-use Rattle.std.proofs.Common.{◌≡◌, refl, ap, ◌∙◌, subst, ℕ, ◌+◌, List, [], ◌∷◌, ◌++◌, Option, Some, None, Result, Ok, Err, true, false, Bool, not, ◌&&◌, length, arith}
+use Rattle.std.proofs.Common.{◌≡◌, refl, ap, ◌∙◌, subst, ℕ, ◌+◌, List, [], ◌∷◌, ◌++◌, Option, Some, None, Result, Ok, Err, true, false, Bool, ◌&&◌, length, arith}
+use Rattle.std.proofs.lemmas.Bool.{not-true}
 use Rattle.std.specs.Prelude.{if◌then◌else◌}
 use Rattle.std.specs.List.{AllByRecursion}
 use Rattle.std.specs.Str.{bytes_eq}
@@ -37,10 +38,6 @@ bad_is_grounded e b fails r yes_so is = absurd cc
 grounded : (e : Envelope) (r : Reason) (fails : Bool) → (fails ≡ true → HasReason r e) → IsGrounded e (r unsupported_if fails)
 grounded e r fails has s yes_so is = let same : r ≡ s = cc in subst (λ t. HasReason t e) same (has yes_so)
 
-not_true : (b : Bool) → not b ≡ true → b ≡ false
-not_true true h = cc
-not_true false h = refl
-
 too_long : (text : Utf8) → is_too_long (reads text) ≡ true → IsTooLong text
 too_long text = go (reads text) (is_read text)
   where
@@ -68,7 +65,7 @@ each_grounded settings es (envelope.Source s) =
       (
         bad_is_grounded e _ _,
         (
-          grounded e reason.MediaType _ (not_true (bytes_eq s.media_type plain)),
+          grounded e reason.MediaType _ (not-true (bytes_eq s.media_type plain)),
           (grounded e reason.SourceTooLong _ (too_long s.content), (grounded e reason.Language _ (other_language s.content), tt)),
         ),
       ),

@@ -15,11 +15,12 @@ use Rattle.cm_stream.specs.References.{as_source, as_pickle, as_case, as_start, 
 use Rattle.cm_stream.specs.Statuses.{kept_status}
 use Rattle.cm_stream.specs.ByOnePass.{first_fault}
 use Rattle.cm_attempt.specs.Calls.{all_moves, last_of}
+use Rattle.cm_attempt.proofs.Growing.{all_weaker}
 use Rattle.cm_stream.specs.Good.{Good, SuccessGood, AllWell, IsAccepted, MeetsSource}
 use Rattle.cm_stream.specs.Stream.{IsGoodRun, GoodWith, NoFault, answer_for}
 use Rattle.cm_stream.specs.Release.{Conditions, NoneIs, hold_if, hold_of, release_counts_of, is_named, is_missed, may_stay_unrun, is_retried_pickle, has_skip, is_stepless, passes_unmatched}
 use Rattle.cm_stream.specs.Release.{IsReleasedStream, ReleasedIsNotHeld, ReleasedExactly, FirstFaultReleases, Releases}
-use Rattle.cm_stream.specs.ReleasedRuns.{IsCompiled, CaseRan, Ran, RanOrMayNot, HookRan, RunEnded, EachSourceIsCompiled, EachCaseRan, EachHookRan, ReleasedRan, EachRan}
+use Rattle.cm_stream.specs.ReleasedRuns.{IsCompiled, CaseRan, Ran, RanOrMayNot, HookRan, RunEnded, EachSourceIsCompiled, EachCaseRan, EachHookRan, ReleasedRan, EachRan, NamedRan}
 use Rattle.cm_stream.specs.declared.verdict.Hold.{Hold}
 use Rattle.cm_stream.specs.declared.conditions.ReleaseCounts.{ReleaseCounts}
 use Rattle.cm_stream.specs.declared.verdict.Hold.TheVariants as hold
@@ -54,10 +55,6 @@ each_mapped P f (x ∷ xs) h = (h.0, each_mapped P f xs h.1)
 was_some : {X Y : Type 0} (f : X → Y) (o : Option X) (y : Y) → option_map f o ≡ Some y → (x : X) × (o ≡ Some x)
 was_some f None y h = cc
 was_some f (Some x) y h = (x, refl)
-
-pub each_so : {X : Type 0} (P Q : X → Type 0) → ((x : X) → P x → Q x) → (xs : List X) → AllByRecursion P xs → AllByRecursion Q xs
-each_so P Q f [] h = tt
-each_so P Q f (x ∷ xs) h = (f x h.0, each_so P Q f xs h.1)
 
 -- ---- which runs are released
 
@@ -106,16 +103,18 @@ Tests asked found =
     (hold_if asked.no_stepless found.stepless Stepless
     (hold_if asked.no_undefined found.undefined hold.Undefined None))))
 
-abbrev held : (success is_empty : Bool) → Option Hold → Option Hold
-held success is_empty others = if not success then Some NotSuccessful else (if is_empty then Some Empty else others)
+abbrev held : (success is_part is_empty : Bool) → Option Hold → Option Hold
+held success is_part is_empty others = if not success then Some NotSuccessful else (if not is_part && is_empty then Some Empty else others)
 
-not_held : (success is_empty : Bool) (others : Option Hold) → held success is_empty others ≡ None → (success ≡ true) × (is_empty ≡ false) × (others ≡ None)
-not_held false is_empty others e = cc
-not_held true true others e = cc
-not_held true false others e = (refl, refl, e)
+not_held : (success is_part is_empty : Bool) (others : Option Hold) → held success is_part is_empty others ≡ None → (success ≡ true) × (is_part ≡ false → is_empty ≡ false) × (others ≡ None)
+not_held false is_part is_empty others e = cc
+not_held true true is_empty others e = (refl, λ k. cc, e)
+not_held true false true others e = cc
+not_held true false false others e = (refl, λ k. refl, e)
 
-is_not_held : (success is_empty : Bool) (others : Option Hold) → success ≡ true → is_empty ≡ false → others ≡ None → held success is_empty others ≡ None
-is_not_held success is_empty others s e o = rw (s, e) o
+is_not_held : (success is_part is_empty : Bool) (others : Option Hold) → success ≡ true → (is_part ≡ false → is_empty ≡ false) → others ≡ None → held success is_part is_empty others ≡ None
+is_not_held success true is_empty others s e o = rw s o
+is_not_held success false is_empty others s e o = rw (s, e refl) o
 
 record Passed (asked : Conditions) (found : ReleaseCounts) : Type 0 where
   missed : found.missed ≡ 0
@@ -153,7 +152,7 @@ released_is_not_held settings asked bytes counts found success run same = (relea
     released : hold_of asked success counts found ≡ None → IsReleasedStream settings asked bytes counts found
     released h =
         let es = run.judged in
-        let tests = not_held success (counts.cases == 0) (Tests asked found) h in
+        let tests = not_held success asked.is_part (counts.cases == 0) (Tests asked found) h in
         let p = all_passed asked found tests.2 in
         record {
           judged = run.judged;
@@ -162,7 +161,7 @@ released_is_not_held settings asked bytes counts found success run same = (relea
           exact = run.exact;
           found_exact = same;
           succeeded = sym run.said ∙ tests.0;
-          some_case = some_there (cases es) (ap (λ (n : Counts). n.cases == 0) (sym run.exact) ∙ tests.1);
+          some_case = λ whole. some_there (cases es) (ap (λ (n : Counts). n.cases == 0) (sym run.exact) ∙ tests.1 whole);
           none_missed = none_of (is_missed asked es) (pickles es) (ap (λ (n : ReleaseCounts). n.missed) (sym same) ∙ p.missed);
           none_retried = λ k. none_of (is_retried_pickle es) (pickles es) (ap (λ (n : ReleaseCounts). n.retried) (sym same) ∙ p.retried k);
           none_skipped = λ k. none_of (has_skip es) (cases es) (ap (λ (n : ReleaseCounts). n.skipped) (sym same) ∙ p.skipped k);
@@ -176,8 +175,8 @@ released_is_not_held settings asked bytes counts found success run same = (relea
         let here = read_is_told settings bytes run.judged run.read run.good in
         let there = read_is_told settings bytes r.judged r.read r.good in
         let same_lines : run.judged ≡ es = cc in
-        is_not_held success (counts.cases == 0) (Tests asked found) (run.said ∙ ap run_succeeded same_lines ∙ r.succeeded)
-        (ap (λ (n : Counts). n.cases == 0) r.exact ∙ none_empty (cases es) r.some_case)
+        is_not_held success asked.is_part (counts.cases == 0) (Tests asked found) (run.said ∙ ap run_succeeded same_lines ∙ r.succeeded)
+        (λ whole. ap (λ (n : Counts). n.cases == 0) r.exact ∙ none_empty (cases es) (r.some_case whole))
         (passes_all asked found (record {
           missed = ap (λ (n : ReleaseCounts). n.missed) r.found_exact ∙ none_there (is_missed asked es) (pickles es) r.none_missed;
           retried = λ k. ap (λ (n : ReleaseCounts). n.retried) r.found_exact ∙ none_there (is_retried_pickle es) (pickles es) (r.none_retried k);
@@ -351,18 +350,23 @@ module _ (settings : Settings) (es : List Envelope) (good : Good settings es) (w
       let cut : es ≡ at.front ++ envelope.TestCase c ∷ at.back = at.cut ∙ ap (λ x. at.front ++ x ∷ at.back) (case_is at.here c at.is) in
       (c, case_ran at.front at.back c p cut (ap (λ u. find_pickle u es) (sym (bytes_are p.id c.pickle_id at.passes)) ∙ there))
 
-  each_ran : (asked : Conditions) → NoneIs (is_missed asked es) (pickles es) → AllByRecursion (RanOrMayNot asked settings.policy es) (pickles es)
-  each_ran asked none = each_found as_pickle (RanOrMayNot asked settings.policy es) es each
+  each_named_ran : AllByRecursion (λ p. is_named es p ≡ true → Ran settings.policy es p) (pickles es)
+  each_named_ran = each_found as_pickle (λ p. is_named es p ≡ true → Ran settings.policy es p) es
+      (λ front here back p cut is. ran p (pickle_there front here back p (ap pickles cut ∙ found_cut as_pickle front here back p is)))
+
+  each_ran : (asked : Conditions) → asked.is_part ≡ false → NoneIs (is_missed asked es) (pickles es) → AllByRecursion (RanOrMayNot asked settings.policy es) (pickles es)
+  each_ran asked whole none = each_found as_pickle (RanOrMayNot asked settings.policy es) es each
     where
-      either : (p : Pickle) → find_pickle p.id es ≡ Some p → (n m : Bool) → is_named es p ≡ n → may_stay_unrun asked p ≡ m → (not n && not m) ≡ false → RanOrMayNot asked settings.policy es p
-      either p there true m named may e = inl (ran p there named)
-      either p there false true named may e = inr may
-      either p there false false named may e = cc
+      either : (p : Pickle) → find_pickle p.id es ≡ Some p → (is_part n m : Bool) → is_part ≡ false → is_named es p ≡ n → may_stay_unrun asked p ≡ m → (not is_part && not n && not m) ≡ false → RanOrMayNot asked settings.policy es p
+      either p there true n m part named may e = cc
+      either p there false true m part named may e = inl (ran p there named)
+      either p there false false true part named may e = inr may
+      either p there false false false part named may e = cc
 
       each : (front : List Envelope) (here : Envelope) (back : List Envelope) (p : Pickle) → es ≡ front ++ here ∷ back → as_pickle here ≡ Some p → RanOrMayNot asked settings.policy es p
       each front here back p cut is =
           let all : pickles es ≡ pickles front ++ p ∷ pickles back = ap pickles cut ∙ found_cut as_pickle front here back p is in
-          either p (pickle_there front here back p all) (is_named es p) (may_stay_unrun asked p) refl refl
+          either p (pickle_there front here back p all) asked.is_part (is_named es p) (may_stay_unrun asked p) whole refl refl
           (all_here (λ x. is_missed asked es x ≡ false) (pickles front) p (pickles back) (subst (NoneIs (is_missed asked es)) all none))
 
   hook_ran : (front back : List Envelope) (h : TestRunHookStarted) → es ≡ front ++ envelope.TestRunHookStarted h ∷ back → HookRan settings.policy es h
@@ -399,8 +403,11 @@ released_ran settings asked bytes counts found r =
         each_hook = each_hook_ran settings es r.good well;
         run_end = run_ended settings es r.good well;
       },
-      each_ran settings es r.good well asked r.none_missed,
+      λ whole. each_ran settings es r.good well asked whole r.none_missed,
     )
+
+pub named_ran : NamedRan
+named_ran settings asked bytes counts found r = each_named_ran settings r.judged r.good (all_well settings.policy r.judged r.good.success r.succeeded)
 
 may_not_stay : (asked : Conditions) (p : Pickle) → asked.allows_unrun ≡ false → asked.allowed_tags ≡ [] → may_stay_unrun asked p ≡ true → ⊥
 may_not_stay asked p none no_tags may =
@@ -408,8 +415,8 @@ may_not_stay asked p none no_tags may =
     absurd (true≢false (sym may ∙ no))
 
 pub each_ran_where_none_may_stay : EachRan
-each_ran_where_none_may_stay settings asked bytes counts found r none no_tags =
-    each_so (RanOrMayNot asked settings.policy r.judged) (Ran settings.policy r.judged) one (pickles r.judged) (released_ran settings asked bytes counts found r).1
+each_ran_where_none_may_stay settings asked bytes counts found r whole none no_tags =
+    all_weaker (RanOrMayNot asked settings.policy r.judged) (Ran settings.policy r.judged) one (pickles r.judged) ((released_ran settings asked bytes counts found r).1 whole)
   where
     one : (p : Pickle) → RanOrMayNot asked settings.policy r.judged p → Ran settings.policy r.judged p
     one p (inl h) = h

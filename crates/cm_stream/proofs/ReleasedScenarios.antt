@@ -13,6 +13,7 @@ use Rattle.cm_attempt.specs.declared.policy.Policy.TheVariants.{Strict, PendingP
 use Rattle.cm_attempt.specs.declared.status.Status.{Status}
 use Rattle.cm_attempt.specs.declared.status.Status.TheVariants.{Unknown, Passed, Skipped, Pending, Undefined, Ambiguous, Failed}
 use Rattle.cm_attempt.proofs.WorstLemmas.{good_worst, is_known}
+use Rattle.cm_attempt.proofs.Growing.{all_weaker}
 use Rattle.cm_attempt.specs.declared.settings.Settings.{Settings}
 use Rattle.gk_pickle.specs.Pickles.{pickles as compiled}
 use Rattle.cm_envelope.specs.declared.envelope.Envelope.{Envelope}
@@ -28,22 +29,17 @@ use Rattle.cm_envelope.specs.declared.pickle.PickleTag.{PickleTag}
 use Rattle.cm_stream.specs.Good.{Everywhere, ReferencesGood, has_unknown_result, is_unknown}
 use Rattle.cm_stream.specs.References.{Name, PickleNamed, HookNamed, PickleStep, Definition, Run, as_case, if_any, case_of, cases, starts, pickles, pickles_of, find_case, statuses, test_step_names, declares_it, times_declared, status_in, sources}
 use Rattle.cm_stream.specs.Release.{Conditions, IsReleasedStream, NoneIs, attempts_of, has_skip, is_attempt_of, is_retried_pickle, is_skipped, is_stepless, may_stay_unrun, passes_unmatched, strict_conditions, test_step_of}
-use Rattle.cm_stream.specs.ReleasedRuns.{CaseMeets, CaseRan, EachScenarioRan, IsCompiled, RanOrMayNot, ReleasedCasesMeet, ReleasedScenariosRan, ReleasedStepsMatched, ScenarioPassed, ScenarioRan, StepMatched, StrictlyReleased, may_be_left_out, Ran, EachScenarioPassed}
+use Rattle.cm_stream.specs.ReleasedRuns.{CaseMeets, CaseRan, EachScenarioRan, IsCompiled, RanOrMayNot, ReleasedCasesMeet, ReleasedScenariosRan, ReleasedStepsMatched, PicklePassed, ScenarioPassed, ScenarioRan, StepMatched, StrictlyRan, StrictlyReleased, may_be_left_out, Ran, EachScenarioPassed}
 use Rattle.cm_stream.specs.Sources.{DuePickle, DueTag, english, ids_at, is_due, is_due_step, is_due_tag}
 use Rattle.cm_stream.specs.declared.conditions.ReleaseCounts.{ReleaseCounts}
 use Rattle.cm_stream.specs.declared.verdict.Counts.{Counts}
 use Rattle.cm_stream.specs.Texts.{Utf8, same_list, same_texts}
-use Rattle.cm_stream.proofs.Declared.{case_is}
+use Rattle.cm_stream.proofs.Declared.{case_is, same_any}
 use Rattle.cm_stream.proofs.Found.{bytes_are, bytes_same, each_found}
-use Rattle.cm_stream.proofs.Lists.{all_here, and_true, each_false, none_counted, or_false}
-use Rattle.cm_stream.proofs.Released.{each_mapped, each_so, kept_so, released_ran, some_there}
+use Rattle.cm_stream.proofs.Lists.{all_here, and_true, each_false, none_counted, or_false, all_true}
+use Rattle.cm_stream.proofs.Released.{each_mapped, kept_so, released_ran, some_there}
 
 -- ---- the scenarios of a text
-
--- tests that agree on each of a list agree on whether it has one
-any_same : {X : Type 0} (p q : X → Bool) → ((x : X) → p x ≡ q x) → (xs : List X) → list_any p xs ≡ list_any q xs
-any_same p q same [] = refl
-any_same p q same (x ∷ xs) = ap₂ (λ (a b : Bool). a || b) (same x) (any_same p q same xs)
 
 module _ (ids : List Utf8) where
   tags_have : (tag : Utf8) (ts : List PickleTag) (ds : List DueTag) → same_list (is_due_tag ids) ts ds ≡ true → list_any (λ t. bytes_eq tag t.name) ts ≡ list_any (λ t. bytes_eq tag t.name) ds
@@ -65,7 +61,7 @@ module _ (ids : List Utf8) where
   may_same : (asked : Conditions) (p : Pickle) (due : DuePickle) → is_due ids p due ≡ true → may_stay_unrun asked p ≡ may_be_left_out asked due
   may_same asked p due h =
       ap (λ (b : Bool). asked.allows_unrun || b)
-      (any_same (λ tag. list_any (λ t. bytes_eq tag t.name) p.tags) (λ tag. list_any (λ t. bytes_eq tag t.name) due.tags) (λ tag. tags_have tag p.tags due.tags (due_tags p due h)) asked.allowed_tags)
+      (same_any (λ tag. list_any (λ t. bytes_eq tag t.name) p.tags) (λ tag. list_any (λ t. bytes_eq tag t.name) due.tags) (λ tag. tags_have tag p.tags due.tags (due_tags p due h)) asked.allowed_tags)
 
   module _ (asked : Conditions) (policy : Policy) (es : List Envelope) where
     scenario_ran : (p : Pickle) (due : DuePickle) → is_due ids p due ≡ true → RanOrMayNot asked policy es p → ScenarioRan asked policy es ids due
@@ -81,17 +77,17 @@ module _ (ids : List Utf8) where
         (scenario_ran p d both.0 all.0, each_scenario ps ds both.1 all.1)
 
 pub released_scenarios_ran : ReleasedScenariosRan
-released_scenarios_ran settings asked bytes counts found r =
+released_scenarios_ran settings asked bytes counts found r whole =
     let es = r.judged in
     let h = released_ran settings asked bytes counts found r in
-    each_so (IsCompiled es) (EachScenarioRan asked settings.policy es) (one h.1) _ h.0.each_source
+    all_weaker (IsCompiled es) (EachScenarioRan asked settings.policy es) (one (h.1 whole)) _ h.0.each_source
   where
     one : AllByRecursion (RanOrMayNot asked settings.policy r.judged) (pickles r.judged) → (s : Source) → IsCompiled r.judged s → EachScenarioRan asked settings.policy r.judged s
     one all s c =
         let es = r.judged in
         let P = RanOrMayNot asked settings.policy es in
         let its = kept_so P (λ p. bytes_eq s.uri p.uri) (pickles es) all in
-        (c, each_scenario c.found.ids asked settings.policy es (pickles_of s.uri es) _ c.same_pickles (each_so (λ p. P p × (bytes_eq s.uri p.uri ≡ true)) P (λ p k. k.0) (pickles_of s.uri es) its))
+        (c, each_scenario c.found.ids asked settings.policy es (pickles_of s.uri es) _ c.same_pickles (all_weaker (λ p. P p × (bytes_eq s.uri p.uri ≡ true)) P (λ p k. k.0) (pickles_of s.uri es) its))
 
 -- ---- the only attempt
 
@@ -245,7 +241,7 @@ module _ (es : List Envelope) (references : ReferencesGood es) where
       let P = λ (name : Name). times_declared name front ≡ 1 in
       let names = references front (envelope.TestCase c) back cut in
       let others = all_right P (map Run (if_any c.test_run_started_id)) (PickleNamed c.pickle_id ∷ flat_map (test_step_names c.pickle_id) c.test_steps) names in
-      each_so (λ t. AllByRecursion P (test_step_names c.pickle_id t)) AreThere one c.test_steps (all_parts P (test_step_names c.pickle_id) c.test_steps others.1)
+      all_weaker (λ t. AllByRecursion P (test_step_names c.pickle_id t)) AreThere one c.test_steps (all_parts P (test_step_names c.pickle_id) c.test_steps others.1)
     where
       is_there : (id : Utf8) → times_declared (Definition id) front ≡ 1 → IsThere id
       is_there id h = ap (list_any (declares_it (Definition id))) cut ∙ any_front (declares_it (Definition id)) front (envelope.TestCase c ∷ back) (counted_any (declares_it (Definition id)) front h)
@@ -256,7 +252,7 @@ module _ (es : List Envelope) (references : ReferencesGood es) where
           let hooks = map HookNamed (if_any t.hook_id) in
           let steps = map (PickleStep c.pickle_id) (if_any t.pickle_step_id) in
           let definitions = map Definition t.step_definition_ids in
-          each_so (λ id. P (Definition id)) IsThere is_there t.step_definition_ids
+          all_weaker (λ id. P (Definition id)) IsThere is_there t.step_definition_ids
           (each_mapped P Definition t.step_definition_ids (all_right P (hooks ++ steps) definitions h))
 
   all_there : AllByRecursion (λ c. AllByRecursion AreThere c.test_steps) (cases es)
@@ -304,10 +300,6 @@ known_here a (envelope.TestStepFinished f) h s e = go (bytes_eq a f.test_case_st
     go false k = let at : None ≡ Some s = rw k at e in cc
 known_here a _ h s e = cc
 
-all_true : {X : Type 0} (p : X → Bool) (xs : List X) → AllByRecursion (λ x. p x ≡ true) xs → list_all p xs ≡ true
-all_true p [] h = refl
-all_true p (x ∷ xs) h = rw (h.0, all_true p xs h.1) refl
-
 all_known : (a : Utf8) (es : List Envelope) → list_any has_unknown_result es ≡ false → list_all is_known (statuses a es) ≡ true
 all_known a es none =
     all_true is_known (statuses a es) (each_found (status_in a) (λ s. is_known s ≡ true) es
@@ -329,10 +321,25 @@ each_passed (s ∷ ss) good none =
     let n = or_false (is_skipped s) (list_any is_skipped ss) none in
     (passed_one s g.0 n.0, each_passed ss g.1 n.1)
 
-module _ (first : ℕ) (again : Bool) (bytes : List ℕ) (counts : Counts) (found : ReleaseCounts) (r : IsReleasedStream (record { policy = Strict; first_attempt = first; allows_redeclared = again }) strict_conditions bytes counts found) where
-  abbrev settings : Settings
-  settings = record { policy = Strict; first_attempt = first; allows_redeclared = again }
+abbrev strict_settings : (first : ℕ) (again : Bool) → Settings
+strict_settings first again = record { policy = Strict; first_attempt = first; allows_redeclared = again }
 
+pickle_passed : (first : ℕ) (again : Bool) (asked : Conditions) (bytes : List ℕ) (counts : Counts) (found : ReleaseCounts) (r : IsReleasedStream (strict_settings first again) asked bytes counts found)
+    → asked.no_retries ≡ true → asked.no_skips ≡ true → asked.no_stepless ≡ true → (p : Pickle) → Ran Strict r.judged p → PicklePassed r.judged p
+pickle_passed first again asked bytes counts found r retries skips stepless p ran =
+    let meet = found_meets (strict_settings first again) asked bytes counts found r ran.0 p ran.1 in
+    let attempt = ran.1.attempt in
+    let all = statuses attempt.id r.judged in
+    let good = sym (good_worst Strict all (all_known attempt.id r.judged r.good.sound.known)) ∙ ran.1.good_status in
+    record {
+      has_steps = meet.has_steps stepless;
+      test_case = ran.0;
+      ran = ran.1;
+      only_attempt = meet.only_attempt retries;
+      each_passed = each_passed all good (meet.none_skipped skips);
+    }
+
+module _ (first : ℕ) (again : Bool) (bytes : List ℕ) (counts : Counts) (found : ReleaseCounts) (r : IsReleasedStream (strict_settings first again) strict_conditions bytes counts found) where
   abbrev strict_es : List Envelope
   strict_es = r.judged
 
@@ -340,27 +347,14 @@ module _ (first : ℕ) (again : Bool) (bytes : List ℕ) (counts : Counts) (foun
   scenario_passed ids due s = go s.ran
     where
       go : Ran Strict r.judged s.pickle ⊎ (may_be_left_out strict_conditions due ≡ true) → ScenarioPassed r.judged ids due
-      go (inl ran) =
-          let meet = found_meets settings strict_conditions bytes counts found r ran.0 s.pickle ran.1 in
-          let attempt = ran.1.attempt in
-          let all = statuses attempt.id r.judged in
-          let good = sym (good_worst Strict all (all_known attempt.id r.judged r.good.sound.known)) ∙ ran.1.good_status in
-          record {
-            pickle = s.pickle;
-            is_its = s.is_its;
-            has_steps = meet.has_steps refl;
-            test_case = ran.0;
-            ran = ran.1;
-            only_attempt = meet.only_attempt refl;
-            each_passed = each_passed all good (meet.none_skipped refl);
-          }
+      go (inl ran) = record { pickle = s.pickle; is_its = s.is_its; passed = pickle_passed first again strict_conditions bytes counts found r refl refl refl s.pickle ran }
       go (inr may) = cc
 
   each_scenario_passed : AllByRecursion (EachScenarioPassed strict_es) (sources strict_es)
   each_scenario_passed =
-      each_so (EachScenarioRan strict_conditions Strict strict_es) (EachScenarioPassed strict_es)
-      (λ s h. (h.0, each_so (ScenarioRan strict_conditions Strict strict_es h.0.found.ids) (ScenarioPassed strict_es h.0.found.ids) (scenario_passed h.0.found.ids) (compiled h.0.document) h.1))
-      (sources strict_es) (released_scenarios_ran settings strict_conditions bytes counts found r)
+      all_weaker (EachScenarioRan strict_conditions Strict strict_es) (EachScenarioPassed strict_es)
+      (λ s h. (h.0, all_weaker (ScenarioRan strict_conditions Strict strict_es h.0.found.ids) (ScenarioPassed strict_es h.0.found.ids) (scenario_passed h.0.found.ids) (compiled h.0.document) h.1))
+      (sources strict_es) (released_scenarios_ran (strict_settings first again) strict_conditions bytes counts found r refl)
 
 pub strictly_released : StrictlyReleased
 strictly_released settings bytes counts found r is = by_policy settings.policy is settings.first_attempt settings.allows_redeclared bytes counts found r
@@ -370,3 +364,11 @@ strictly_released settings bytes counts found r is = by_policy settings.policy i
     by_policy Strict e first again bytes counts found r =
         (each_scenario_passed first again bytes counts found r, released_steps_matched (record { policy = Strict; first_attempt = first; allows_redeclared = again }) strict_conditions bytes counts found r refl)
     by_policy PendingPasses e first again bytes counts found r = cc
+
+pub strictly_ran : StrictlyRan
+strictly_ran settings asked bytes counts found r is = by_policy settings.policy is settings.first_attempt settings.allows_redeclared asked bytes counts found r
+  where
+    by_policy : (policy : Policy) → policy ≡ Strict → (first : ℕ) (again : Bool) (asked : Conditions) (bytes : List ℕ) (counts : Counts) (found : ReleaseCounts) (r : IsReleasedStream (record { policy = policy; first_attempt = first; allows_redeclared = again }) asked bytes counts found)
+        → asked.no_retries ≡ true → asked.no_skips ≡ true → asked.no_stepless ≡ true → (p : Pickle) → Ran policy r.judged p → PicklePassed r.judged p
+    by_policy Strict e first again asked bytes counts found r = pickle_passed first again asked bytes counts found r
+    by_policy PendingPasses e first again asked bytes counts found r = cc

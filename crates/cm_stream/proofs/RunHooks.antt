@@ -1,5 +1,6 @@
 -- Each run hook is finished once: in a good list, and after lines that pass their checks.
 use Rattle.std.proofs.Common.{◌≡◌, ◌≤◌, ℕ, zero, suc, ◌+◌, refl, sym, ap, subst, ◌∙◌, List, [], ◌∷◌, ◌++◌, Some, None, true, false, not, append_assoc, arith}
+use Rattle.std.proofs.lemmas.Bool.{not-false}
 use Rattle.std.specs.Prelude.{count_by}
 use Rattle.std.specs.List.{list_any, list_all, AllByRecursion}
 use Rattle.std.specs.Str.{bytes_eq}
@@ -15,7 +16,7 @@ use Rattle.cm_stream.proofs.Lists.{all_here, all_true, each_true, none_counted, 
 use Rattle.cm_stream.proofs.Found.{bytes_are, bytes_same, each_found, by_id}
 use Rattle.cm_stream.proofs.Declared.{declarer, declares_run_hook, is_any, run_hook_is}
 use Rattle.cm_stream.proofs.Ends.{EndsRun, till_end}
-use Rattle.cm_stream.proofs.Passing.{AllPass, was_not, by_lines, last_passes}
+use Rattle.cm_stream.proofs.Passing.{AllPass, by_lines, last_passes}
 use Rattle.cm_stream.proofs.Order.{TheEnd}
 
 -- how many of the ends are of the run hook
@@ -106,7 +107,7 @@ all_hooks es pass end before e after cut = at e cut
 
     all : AllByRecursion (λ (s : TestRunHookStarted). is_hook_finished s.id end.before ≡ true) (run_hooks end.before)
     all = each_true (λ (s : TestRunHookStarted). is_hook_finished s.id end.before) (run_hooks end.before)
-        (was_not (list_all (λ s. is_hook_finished s.id end.before) (run_hooks end.before)) (((end.line.passes.1).1).1).0)
+        (not-false (list_all (λ s. is_hook_finished s.id end.before) (run_hooks end.before)) (((end.line.passes.1).1).1).0)
 
     at : (e : Envelope) → es ≡ before ++ e ∷ after → HookGood es e
     at (envelope.TestRunHookStarted s) cut =

@@ -2,6 +2,7 @@
 use Rattle.std.proofs.Common.{◌≡◌, ℕ, refl, ap, [], true, ◌==◌, map, arith}
 use Rattle.std.specs.Str.{bytes_eq}
 use Rattle.std.proofs.lemmas.Bool.Decides.{nat_tests}
+use Rattle.std.proofs.lemmas.Bool.{eqb-true}
 use Rattle.gk_document.specs.declared.tree.Cell.{Cell}
 use Rattle.gk_document.specs.declared.tree.Fence.TheVariants.{Quotes}
 use Rattle.gk_document.specs.declared.tree.KeywordType.TheVariants.{Unknown}
@@ -26,14 +27,11 @@ use Rattle.cm_stream.proofs.Lists.{and_true}
 use Rattle.cm_stream.proofs.Found.{bytes_are}
 use Rattle.cm_stream.proofs.Tells.{Tells, eight, five, four, lists, maybe_texts, options, six, texts, three}
 
-same_number : (m n : ℕ) → (m == n) ≡ true → m ≡ n
-same_number m n h = grind (arith, nat_tests, h)
-
 number_same : (m n : ℕ) → m ≡ n → (m == n) ≡ true
 number_same m n e = grind (arith, nat_tests, e)
 
 lines : Tells same_line line_alone line_alone
-lines = record { is = λ a b h. let l = same_number a.line b.line h in λ i. record { line = l i; column = 0 }; by = λ a b e. number_same a.line b.line (ap (λ (x : Location). x.line) e) }
+lines = record { is = λ a b h. let l = eqb-true a.line b.line h in λ i. record { line = l i; column = 0 }; by = λ a b e. number_same a.line b.line (ap (λ (x : Location). x.line) e) }
 
 -- ---- the parts of a tree
 

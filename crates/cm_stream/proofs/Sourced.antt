@@ -5,6 +5,7 @@ use Rattle.std.specs.List.{AllByRecursion, list_any, filter, filter_map}
 use Rattle.std.specs.Option.{option_map, option_map_or}
 use Rattle.std.specs.Str.{bytes_eq}
 use Rattle.std.proofs.lemmas.Bool.Decides.{nat_tests}
+use Rattle.std.proofs.lemmas.Bool.{not-false}
 use Rattle.std.proofs.lemmas.List.Elements.{filter_map-append}
 use Rattle.std.proofs.lemmas.List.Folds.{find-append}
 use Rattle.std.proofs.lemmas.List.Sums.{length-filter}
@@ -33,7 +34,7 @@ use Rattle.cm_stream.proofs.Found.{still_found, each_found, bytes_same, bytes_ar
 use Rattle.cm_stream.proofs.Declared.{declarer, declares_source, declares_document, source_is, document_is, pickle_is, same_any}
 use Rattle.cm_stream.proofs.Documents.{documents_both, pickles_both, the_only}
 use Rattle.cm_stream.proofs.Ends.{till_end}
-use Rattle.cm_stream.proofs.Passing.{LinePasses, AllPass, was_not}
+use Rattle.cm_stream.proofs.Passing.{LinePasses, AllPass}
 use Rattle.cm_stream.proofs.Distinct.{all_distinct, all_refer, not_counted, at_most_once}
 use Rattle.cm_stream.proofs.Order.{TheEnd}
 
@@ -190,8 +191,8 @@ module _ (es : List Envelope) (pass : AllPass es) where
           let read : reading_of d.uri front ≡ Some (reads s.content) = ap (λ u. reading_of u front) (sym same) ∙ ap (option_map (λ x. reads x.content)) found in
           let h = (passes_at front (envelope.GherkinDocument d) back its).passes in
           record {
-            accepted = ap (λ o. option_map_or is_accepted o false) (sym read) ∙ was_not (is_uri_accepted d.uri front) ((h.1).1).0;
-            skeleton = ap (has_skeleton_of d.document) (sym read) ∙ was_not (has_skeleton_of d.document (reading_of d.uri front)) (((h.1).1).1).0;
+            accepted = ap (λ o. option_map_or is_accepted o false) (sym read) ∙ not-false (is_uri_accepted d.uri front) ((h.1).1).0;
+            skeleton = ap (has_skeleton_of d.document) (sym read) ∙ not-false (has_skeleton_of d.document (reading_of d.uri front)) (((h.1).1).1).0;
             distinct = ((((h.1).1).1).1).0;
           }
 
@@ -251,7 +252,7 @@ module _ (es : List Envelope) (pass : AllPass es) where
           let reading : reading_of p.uri xs ≡ Some (Accepted d) = ap (λ u. reading_of u xs) (sym same) ∙ ap (option_map (λ x. reads x.content)) found ∙ ap Some read in
           let declared : times_declared (DocumentOf s.uri) xs ≡ 1 = ap (λ u. times_declared (DocumentOf u) xs) same ∙ (refs.1).0 in
           let ids : document_ids p.uri xs ≡ g.ids = ap (λ u. document_ids u xs) (sym same) ∙ ids_before s.uri g all xs (e ∷ rest) cut declared in
-          let next = was_not (is_next_pickle xs p) ((passes_at xs e rest cut).passes.1).0 in
+          let next = not-false (is_next_pickle xs p) ((passes_at xs e rest cut).passes.1).0 in
           let long : length (pickles_of p.uri xs) ≡ length m.done = ap (λ u. length (pickles_of u xs)) (sym same) ∙ lists_same_length (is_due g.ids) (pickles_of s.uri xs) m.done m.same in
           let at : slice_get due (length (pickles_of p.uri xs)) ≡ slice_get m.rest 0 = ap (λ ds. slice_get ds (length (pickles_of p.uri xs))) m.parts ∙ at_end_of m.done m.rest (length (pickles_of p.uri xs)) long in
           let told : option_map_or (λ q. is_due g.ids p q) (slice_get m.rest 0) false ≡ true =
@@ -356,7 +357,7 @@ module _ (es : List Envelope) (pass : AllPass es) where
         at (envelope.Source s) cut =
             let h = (passes_at before (envelope.Source s) after cut).passes in
             record {
-              is_plain = was_not (bytes_eq s.media_type plain) (h.1).0;
+              is_plain = not-false (bytes_eq s.media_type plain) (h.1).0;
               reading = reads s.content;
               is_read = is_read s.content;
               meets = meets before s after cut (reads s.content) refl ((h.1).1).0 (((h.1).1).1).0;

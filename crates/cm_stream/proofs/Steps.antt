@@ -40,7 +40,7 @@ declares_step case step _ = refl
 
 -- ---- among cases of which one has the id
 
-both_none : {X : Type 0} (p q : X → Bool) (xs : List X) → list_any p xs ≡ false → list_any (λ x. p x && q x) xs ≡ false
+pub both_none : {X : Type 0} (p q : X → Bool) (xs : List X) → list_any p xs ≡ false → list_any (λ x. p x && q x) xs ≡ false
 both_none p q [] h = refl
 both_none p q (x ∷ xs) h =
     let k = or_false (p x) (list_any p xs) h in

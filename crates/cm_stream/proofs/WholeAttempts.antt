@@ -5,6 +5,7 @@ use Rattle.std.specs.List.{list_any, list_all}
 use Rattle.std.specs.Option.{option_map_or}
 use Rattle.std.proofs.lemmas.List.Elements.{filter_map-append}
 use Rattle.std.proofs.lemmas.List.Folds.{find-append}
+use Rattle.std.proofs.lemmas.Bool.{not-false}
 use Rattle.cm_attempt.specs.Calls.{all_moves, is_end}
 use Rattle.cm_attempt.specs.declared.settings.Settings.{Settings}
 use Rattle.cm_attempt.proofs.Accepted.{finished_are_whole}
@@ -21,7 +22,7 @@ use Rattle.cm_stream.proofs.Lists.{or_false, and_true}
 use Rattle.cm_stream.proofs.Found.{bytes_same, none_found}
 use Rattle.cm_stream.proofs.Declared.{is_of, declares_attempt, same_any}
 use Rattle.cm_stream.proofs.Ends.{till_end}
-use Rattle.cm_stream.proofs.Passing.{was_not, plain_pass}
+use Rattle.cm_stream.proofs.Passing.{plain_pass}
 use Rattle.cm_stream.proofs.Distinct.{not_counted}
 use Rattle.cm_stream.proofs.Order.{TheEnd}
 use Rattle.cm_stream.proofs.CallWords.{moves_told, ended_told, attempt_steps_told}
@@ -55,7 +56,7 @@ all_attempts settings es none_fails end before e after cut = at e cut
     whole_of s found =
         let first = settings.first_attempt in
         let in_front : find (is_of s.id) (starts end.before) ≡ Some s = ap (find (is_of s.id)) (sym (till_end es end.before end.end end.after end.run as_start refl refl)) ∙ found in
-        let is : is_ended s.id end.before ≡ true = find_all (λ x. is_ended x.id end.before) (is_of s.id) (starts end.before) s in_front (was_not (list_all (λ x. is_ended x.id end.before) (starts end.before)) ((end.line.passes.1).1).0) in
+        let is : is_ended s.id end.before ≡ true = find_all (λ x. is_ended x.id end.before) (is_of s.id) (starts end.before) s in_front (not-false (list_all (λ x. is_ended x.id end.before) (starts end.before)) ((end.line.passes.1).1).0) in
         let ended : is_ended s.id es ≡ true = ap (list_any is_end) (till_end es end.before end.end end.after end.run (move_of s.id) refl refl) ∙ is in
         let all = (finished_are_whole first (calls_of es) (table_of_envelopes first es) (none_is_refused settings es none_fails) s.id (ended_told s.id es ∙ ended)).0 in
         let steps : steps_of_attempt s.id es ≡ steps_of s.test_case_id es = rw found refl in

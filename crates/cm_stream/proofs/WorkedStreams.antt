@@ -298,6 +298,10 @@ held_without_success = refl
 held_without_a_case : hold_of (record strict_conditions { allows_unrun = true }) true (counted 0 1) (found 0 1) ≡ Some Empty
 held_without_a_case = refl
 
+-- A part that succeeds without a case isn't held.
+part_without_a_case : hold_of (record strict_conditions { is_part = true }) true (counted 0 1) (found 0 0) ≡ None
+part_without_a_case = refl
+
 -- A pickle that may not be without a case holds a run, whatever else is asked.
 held_with_a_pickle_unrun : hold_of each_runs true (counted 1 1) (found 1 0) ≡ Some Unrun
 held_with_a_pickle_unrun = refl

@@ -29,9 +29,11 @@ use Rattle.cm_stream.specs.declared.verdict.Hold.TheVariants.{NotSuccessful, Emp
 
 -- ---- what is asked of a run
 
--- What a release asks of a run beyond a good stream that says success: which pickles may be without a test case, all or those
--- with one of some tags, and what no scenario may have.
+-- What a release asks of a run beyond a good stream that says success: whether the run is a part of what is asked, of which
+-- alone no pickle and no test case is asked; which pickles may be without a test case, all or those with one of some tags; and
+-- what no scenario may have.
 pub record Conditions : Type 0 where
+  pub is_part : Bool
   pub allows_unrun : Bool
   pub allowed_tags : List Utf8
   pub no_retries : Bool
@@ -42,6 +44,7 @@ pub record Conditions : Type 0 where
 -- Each pickle has to run, and nothing more is asked; and all that may be asked is.
 abbrev pub each_runs : Conditions
 each_runs = record {
+  is_part = false;
   allows_unrun = false;
   allowed_tags = [];
   no_retries = false;
@@ -61,6 +64,7 @@ strict_conditions = record each_runs {
 -- the conditions that the code holds
 abbrev pub conditions_of : held.Conditions → Conditions
 conditions_of c = record {
+  is_part = c.is_part;
   allows_unrun = c.allows_unrun;
   allowed_tags = map (λ t. t.now) c.allowed_tags.items;
   no_retries = c.no_retries;
@@ -83,9 +87,10 @@ has_tag p tag = list_any (λ t. bytes_eq tag t.name) p.tags
 abbrev pub may_stay_unrun : Conditions → Pickle → Bool
 may_stay_unrun asked p = asked.allows_unrun || list_any (has_tag p) asked.allowed_tags
 
--- it is without one, and may not be
+-- it is without one, and may not be; of a part no pickle is asked
 abbrev pub is_missed : Conditions → List Envelope → Pickle → Bool
-is_missed asked es p = not (is_named es p) && not (may_stay_unrun asked p)
+is_missed asked es p =
+    not asked.is_part && not (is_named es p) && not (may_stay_unrun asked p)
 
 -- the attempts of a pickle, over all test cases that name it
 abbrev pub is_attempt_of : List Envelope → Pickle → TestCaseStarted → Bool
@@ -151,11 +156,11 @@ release_counts_of asked policy es = record {
 abbrev pub hold_if : (is_asked : Bool) → ℕ → Hold → Option Hold → Option Hold
 hold_if is_asked n hold others = if is_asked && not (n == 0) then Some hold else others
 
--- why a good run isn't to be released, the first that holds
+-- why a good run isn't to be released, the first that holds; a part may be empty
 abbrev pub hold_of : Conditions → (success : Bool) → Counts → ReleaseCounts → Option Hold
 hold_of asked success counts found =
     if not success then Some NotSuccessful
-    else (if counts.cases == 0 then Some Empty
+    else (if not asked.is_part && counts.cases == 0 then Some Empty
     else hold_if true found.missed Unrun
     (hold_if asked.no_retries found.retried Retried
     (hold_if asked.no_skips found.skipped hold.Skipped
@@ -166,9 +171,9 @@ hold_of asked success counts found =
 abbrev pub NoneIs : {A : Type 0} → (A → Bool) → List A → Type 0
 NoneIs test = AllByRecursion (λ x. test x ≡ false)
 
--- A good stream with these counts, whose run says success and has a test case. Each of its pickles is named by one or may be
--- without; and where it is asked for, none has more than one attempt, no last attempt has a skipped step, no test case is of
--- a pickle without steps, and no step passed that no step definition matches.
+-- A good stream with these counts, whose run says success. Unless it is a part, it has a test case, and each of its pickles is
+-- named by one or may be without; and where it is asked for, none has more than one attempt, no last attempt has a skipped
+-- step, no test case is of a pickle without steps, and no step passed that no step definition matches.
 pub record IsReleasedStream (settings : Settings) (asked : Conditions) (bytes : List ℕ)
     (counts : Counts) (found : ReleaseCounts) : Type 0 where
   pub judged : List Envelope
@@ -177,7 +182,7 @@ pub record IsReleasedStream (settings : Settings) (asked : Conditions) (bytes : 
   pub exact : counts ≡ counts_of judged
   pub found_exact : found ≡ release_counts_of asked settings.policy judged
   pub succeeded : run_succeeded judged ≡ true
-  pub some_case : cases judged ≢ []
+  pub some_case : asked.is_part ≡ false → cases judged ≢ []
   pub none_missed : NoneIs (is_missed asked judged) (pickles judged)
   pub none_retried : asked.no_retries ≡ true
       → NoneIs (is_retried_pickle judged) (pickles judged)

@@ -26,7 +26,7 @@ use Rattle.cm_envelope.specs.declared.pickle.Pickle.{Pickle}
 use Rattle.cm_stream.specs.Good.{Everywhere}
 use Rattle.cm_stream.specs.Readings.{Accepted, IsReading}
 use Rattle.cm_stream.specs.References.{Definition, sources, pickles, cases, run_hooks, hook_ends_of, run_ends, documents_of, pickles_of, starts_of, find_case, find_pickle, pickle_step_ids, moves, is_final, statuses, declares_it}
-use Rattle.cm_stream.specs.Release.{Conditions, IsReleasedStream, attempts_of, is_passing, is_skipped, may_stay_unrun, strict_conditions, test_step_of}
+use Rattle.cm_stream.specs.Release.{Conditions, IsReleasedStream, attempts_of, is_named, is_passing, is_skipped, may_stay_unrun, strict_conditions, test_step_of}
 use Rattle.cm_stream.specs.Sources.{DuePickle, is_due}
 use Rattle.cm_stream.specs.Statuses.{kept_status}
 use Rattle.cm_stream.specs.Texts.{Utf8, same_list}
@@ -102,14 +102,22 @@ pub record AllRan (policy : Policy) (es : List Envelope) : Type 0 where
 abbrev pub RanOrMayNot : Conditions → Policy → List Envelope → Pickle → Type 0
 RanOrMayNot asked policy es p = Ran policy es p ⊎ (may_stay_unrun asked p ≡ true)
 
--- In a released stream each source is compiled, each pickle ran or may be without a test case, each test case and each run
--- hook ran, and the run ended well.
+-- In a released stream each source is compiled, each test case and each run hook ran, and the run ended well; and unless the
+-- run is a part, each pickle ran or may be without a test case.
 abbrev pub ReleasedRan : Type 0
 ReleasedRan =
     (settings : Settings) (asked : Conditions) (bytes : List ℕ) (counts : Counts)
     (found : ReleaseCounts) (r : IsReleasedStream settings asked bytes counts found)
     → AllRan settings.policy r.judged
-    × AllByRecursion (RanOrMayNot asked settings.policy r.judged)
+    × (asked.is_part ≡ false
+    → AllByRecursion (RanOrMayNot asked settings.policy r.judged) (pickles r.judged))
+
+-- be the run a part or not, each pickle that a test case names ran
+abbrev pub NamedRan : Type 0
+NamedRan =
+    (settings : Settings) (asked : Conditions) (bytes : List ℕ) (counts : Counts)
+    (found : ReleaseCounts) (r : IsReleasedStream settings asked bytes counts found)
+    → AllByRecursion (λ p. is_named r.judged p ≡ true → Ran settings.policy r.judged p)
     (pickles r.judged)
 
 -- where no pickle may be without a test case, each ran
@@ -117,7 +125,7 @@ abbrev pub EachRan : Type 0
 EachRan =
     (settings : Settings) (asked : Conditions) (bytes : List ℕ) (counts : Counts)
     (found : ReleaseCounts) (r : IsReleasedStream settings asked bytes counts found)
-    → asked.allows_unrun ≡ false → asked.allowed_tags ≡ []
+    → asked.is_part ≡ false → asked.allows_unrun ≡ false → asked.allowed_tags ≡ []
     → EachPickleRan settings.policy r.judged
 
 -- ---- by the conditions
@@ -145,6 +153,7 @@ abbrev pub ReleasedScenariosRan : Type 0
 ReleasedScenariosRan =
     (settings : Settings) (asked : Conditions) (bytes : List ℕ) (counts : Counts)
     (found : ReleaseCounts) (r : IsReleasedStream settings asked bytes counts found)
+    → asked.is_part ≡ false
     → AllByRecursion (EachScenarioRan asked settings.policy r.judged)
     (sources r.judged)
 
@@ -191,16 +200,20 @@ ReleasedStepsMatched =
 
 -- ---- where all is asked, nothing is allowed, and PENDING is no good status
 
--- The scenario of a text has its pickle, which has steps and exactly one attempt. This started and finished each step of its
--- test case once, in order, finished, won't be retried, and each step passed.
+-- The pickle has steps and exactly one attempt. This started and finished each step of its test case once, in order, finished,
+-- won't be retried, and each step passed.
+pub record PicklePassed (es : List Envelope) (p : Pickle) : Type 0 where
+  pub has_steps : p.steps ≢ []
+  pub test_case : TestCase
+  pub ran : CaseRan Strict es test_case p
+  pub only_attempt : attempts_of es p ≡ ran.attempt ∷ []
+  pub each_passed : AllByRecursion (λ s. s ≡ Passed) (statuses ran.attempt.id es)
+
+-- The scenario of a text has its pickle, which passed so.
 pub record ScenarioPassed (es : List Envelope) (ids : List Utf8) (due : DuePickle) : Type 0 where
   pub pickle : Pickle
   pub is_its : is_due ids pickle due ≡ true
-  pub has_steps : pickle.steps ≢ []
-  pub test_case : TestCase
-  pub ran : CaseRan Strict es test_case pickle
-  pub only_attempt : attempts_of es pickle ≡ ran.attempt ∷ []
-  pub each_passed : AllByRecursion (λ s. s ≡ Passed) (statuses ran.attempt.id es)
+  pub passed : PicklePassed es pickle
 
 abbrev pub EachScenarioPassed : List Envelope → Source → Type 0
 EachScenarioPassed es s =
@@ -214,3 +227,12 @@ StrictlyReleased =
     → settings.policy ≡ Strict
     → AllByRecursion (EachScenarioPassed r.judged) (sources r.judged)
     × Everywhere (λ before e after. StepMatched Strict r.judged e) r.judged
+
+-- be the run a part or not, each pickle that ran passed so
+abbrev pub StrictlyRan : Type 0
+StrictlyRan =
+    (settings : Settings) (asked : Conditions) (bytes : List ℕ) (counts : Counts)
+    (found : ReleaseCounts) (r : IsReleasedStream settings asked bytes counts found)
+    → settings.policy ≡ Strict → asked.no_retries ≡ true → asked.no_skips ≡ true
+    → asked.no_stepless ≡ true
+    → (p : Pickle) → Ran settings.policy r.judged p → PicklePassed r.judged p

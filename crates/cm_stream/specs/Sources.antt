@@ -1,6 +1,7 @@
 -- What the document and the pickles of a source have to be.
 use Rattle.std.specs.Prelude.{ℕ, ◌&&◌, Bool, true, false, List, [], ◌∷◌, Option, Some, None, map, slice_get, codes, unwrap_or}
 use Rattle.std.specs.Str.{bytes_eq}
+pub use Rattle.gk_grammar.specs.Grammar.{english}
 use Rattle.gk_pickle.specs.declared.pickle.StepType.{StepType}
 use Rattle.gk_pickle.specs.declared.pickle.StepType.TheVariants as due_kind
 use Rattle.gk_pickle.specs.declared.pickle.PickleArgument as due_pickle_argument
@@ -22,9 +23,6 @@ use Rattle.cm_envelope.specs.declared.pickle.PickleTag.{PickleTag}
 -- the media type of plain Gherkin
 abbrev pub plain : Utf8
 plain = codes "text/x.cucumber.gherkin+plain"
-
-abbrev pub english : Utf8
-english = codes "en"
 
 -- A pickle that is due names nodes by their numbers, one of the stream by the ids that the stream's document gives them.
 abbrev pub DuePickle : Type 0

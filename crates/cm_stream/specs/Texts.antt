@@ -1,9 +1,7 @@
 -- Texts, and lists of them, compared.
-use Rattle.std.specs.Prelude.{ℕ, ◌&&◌, Bool, true, false, List, [], ◌∷◌, Option, Some, None}
+use Rattle.std.specs.Prelude.{◌&&◌, Bool, true, false, List, [], ◌∷◌, Option, Some, None}
 use Rattle.std.specs.Str.{bytes_eq}
-
-abbrev pub Utf8 : Type 0
-Utf8 = List ℕ
+pub use Rattle.gk_grammar.specs.Token.{Utf8}
 
 -- the lists have equal elements, by same
 abbrev pub same_list : {A B : Type 0} → (A → B → Bool) → List A → List B → Bool

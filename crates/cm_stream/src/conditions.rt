@@ -3,6 +3,8 @@
 /// What a release asks of a run beyond a good stream that says success.
 #[derive(Debug, Drop)]
 pub struct Conditions<'a> {
+    /// The run is a part of what is asked: whether it has a test case, and which pickles have none, isn't asked of it alone.
+    pub is_part: bool,
     /// Any pickle may be without a test case.
     pub allows_unrun: bool,
     /// A pickle with one of these tags may be without a test case. A tag is its whole name, with the `@`.

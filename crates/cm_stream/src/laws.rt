@@ -4,8 +4,8 @@ ghost use Rattle.cm_stream.specs.Readings.{OneReading, SomeReading};
 ghost use Rattle.cm_stream.specs.CallFaults.{OwnAreChecks, CallFaultsAreTold};
 ghost use Rattle.cm_stream.specs.RedeclaredLaws.{NothingIsPassedOver, ReferencesDeclared};
 ghost use Rattle.cm_stream.specs.Release.{FirstFaultReleases, ReleasedExactly, ReleasedIsNotHeld};
-ghost use Rattle.cm_stream.specs.ReleasedRuns.{EachRan, ReleasedCasesMeet, ReleasedRan, ReleasedScenariosRan, ReleasedStepsMatched};
-ghost use Rattle.cm_stream.specs.ReleasedRuns.{StrictlyReleased};
+ghost use Rattle.cm_stream.specs.ReleasedRuns.{EachRan, NamedRan, ReleasedCasesMeet, ReleasedRan, ReleasedScenariosRan, ReleasedStepsMatched};
+ghost use Rattle.cm_stream.specs.ReleasedRuns.{StrictlyRan, StrictlyReleased};
 ghost use Rattle.cm_stream.specs.Results.{FaultsAreChecks, FaultsAreExact, FaultsAreFirst, FrontsAreWellOrdered, NoFaultIsExact};
 ghost use Rattle.cm_stream.specs.Results.{RefusedForFaults, TablesChange, TablesHaveResults, TroublesAreLast, WellOrderedAreAccepted};
 ghost use Rattle.cm_stream.specs.FaultlessLines.{NoneIsRefused, TableSteps, TablesAgree};
@@ -106,12 +106,15 @@ pub fn released_exactly()
     ensures first { FirstFaultReleases }
 {}
 
-/// In a released stream the pickles of each source are those that its text compiles to, and each of them ran, or may be without
-/// a test case; each test case ran: its last attempt went through each step in order, finished, and is at worst of a good
-/// status; each run hook finished once, with a good status; and the run finished once, says success and has no exception.
+/// In a released stream the pickles of each source are those that its text compiles to, and unless the run is a part, each of
+/// them ran, or may be without a test case; each test case ran: its last attempt went through each step in order, finished, and
+/// is at worst of a good status; each run hook finished once, with a good status; and the run finished once, says success and
+/// has no exception.
 pub fn released_scenarios_ran()
     ensures all { ReleasedRan }
     ensures each { EachRan }
+    // Of a part too: each pickle that a test case names ran.
+    ensures named { NamedRan }
     // By the feature files: each scenario of a source's text ran, or may be left out by its tags in the text.
     ensures scenarios { ReleasedScenariosRan }
 {}
@@ -125,6 +128,7 @@ pub fn released_cases_meet_conditions()
     // Where all is asked and nothing is allowed: each scenario of the sources has steps, ran exactly once, and each of its steps
     // passed and was matched.
     ensures strict { StrictlyReleased }
+    ensures strict_part { StrictlyRan }
 {}
 
 /// Where no call for the envelopes is refused, their attempts are well ordered, and the table reports of each case, in order

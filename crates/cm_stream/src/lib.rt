@@ -5,7 +5,8 @@
 //! which good runs are released (`specs/Release`) and what they say (`specs/ReleasedRuns`), and a stream's results
 //! (`specs/Results`). What they say of a source's text
 //! is said by the grammar; `specs/ByOnePass` has the same where texts are read in one pass, for proofs and private functions.
-//! Each public function is a law: its contract says the law, and it does nothing. The types are what an audit answers.
+//! Each public function but `kept_status` is a law: its contract says the law, and it does nothing. `kept_status` gives the status
+//! that a record of attempts keeps of a line's. The types are what an audit answers.
 //!
 //! A judge's contract cites the definitions:
 //!
@@ -24,6 +25,7 @@
 
 mod conditions;
 mod laws;
+mod statuses;
 mod verdict;
 
 pub use conditions::{Conditions, ReleaseCounts};
@@ -37,4 +39,5 @@ pub use laws::{
     streams_without_fault_are_good, table_steps, tables_agree, tables_change, tables_have_results,
     well_ordered_are_accepted,
 };
+pub use statuses::kept_status;
 pub use verdict::{Audited, Counts, Hold, Reason, StreamFault, Verdict};

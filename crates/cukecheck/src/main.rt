@@ -1,12 +1,13 @@
-//! `cukecheck`: reads Cucumber Messages or a feature file from standard input, and prints what it finds to standard output.
+//! `cukecheck`: reads Cucumber Messages or a feature file, and prints what it finds to standard output.
 #![tactic(auto)]
 
 use ck_commands::{ExitStatus, run_over};
+use files::{OpenedFiles, SystemOpener};
 use std::alloc::{AllocError, Global};
 use std::process::ExitCode;
 use std::{env, io};
 
-// What standard error says where the status is that of trouble.
+/// What standard error says where the status is that of trouble.
 const NOT_UTF8: &str = "cukecheck: an argument isn't UTF-8";
 
 const NO_MEMORY: &str = "cukecheck: there is no memory for the arguments";
@@ -32,11 +33,12 @@ fn arguments(rt: &HostRuntime) -> Result<Vec<String>, &'static str> {
     }
 }
 
-// The status of a run, or what keeps its arguments from being read.
+/// The status of a run, or what keeps its arguments from being read.
 fn status_of(rt: &HostRuntime) -> Result<u8, &'static str> {
     let given = arguments(rt)?;
     let words = words_after_first(rt.alloc(), &given).map_err(|_| NO_MEMORY)?;
-    let ended = run_over(rt.alloc(), words.as_slice(), rt.stdin(), rt.stdout());
+    let files = OpenedFiles::new(rt.alloc(), SystemOpener::new(*rt));
+    let ended = run_over(rt.alloc(), words.as_slice(), files, rt.stdin(), rt.stdout());
     Ok(ended.code)
 }
 

@@ -5,4 +5,4 @@ use Rattle.std.specs.Str.{bytes_eq}
 
 -- there is a first text, and it is this one
 abbrev pub begins_with : (text : List ℕ) → List (List ℕ) → Bool
-begins_with text row = option_map_or (bytes_eq text) (slice_get row 0) false
+begins_with text texts = option_map_or (bytes_eq text) (slice_get texts 0) false

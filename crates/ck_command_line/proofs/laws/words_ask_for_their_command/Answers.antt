@@ -1,8 +1,12 @@
 use Rattle.ck_command_line.proofs.Asked.{options_are_taken, files_are_refused, other_options_are_refused, features_are_asked, nothing_is_asked, examples_are_asked}
+use Rattle.ck_command_line.proofs.Named.{runs_are_named}
 use Rattle.ck_command_line.proofs.laws.words_ask_for_their_command.Goals as goal
 
 pub returns-clause-options : goal.returns-clause-options
 returns-clause-options c = options_are_taken
+
+pub returns-clause-runs : goal.returns-clause-runs
+returns-clause-runs c = runs_are_named
 
 pub returns-clause-files : goal.returns-clause-files
 returns-clause-files c = files_are_refused

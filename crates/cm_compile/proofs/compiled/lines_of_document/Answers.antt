@@ -5,7 +5,7 @@ use Rattle.gk_pickle.specs.Scenarios.{pickles_of_one}
 use Rattle.cm_messages.specs.SourceLayout.{source_data}
 use Rattle.cm_messages.specs.DocumentLayout.{document_data}
 use Rattle.gk_pickle.proofs.InTurn.{scenario_by_scenario}
-use Rattle.cm_compile.specs.Compiled.{json_line, id_count, pickle_lines}
+use Rattle.cm_compile.specs.Compiled.{data_line, id_count, compiled_pickle_lines}
 use Rattle.cm_compile.proofs.InTurn.{ids_from_here, one_added, all_added}
 use Rattle.cm_compile.proofs.compiled.lines_of_document.Goals as goal
 
@@ -37,11 +37,11 @@ returns c =
     let d = c.args.document.now in
     let uri = c.args.uri.now in
     let items = c.as_slice-scenario-items.result.now in
-    let source = json_line (source_data uri c.args.text.now) in
-    let document = json_line (document_data uri d) in
+    let source = data_line (source_data uri c.args.text.now) in
+    let document = data_line (document_data uri d) in
     let all : flat_map pickles_of_one items ≡ pickles d =
     ap (flat_map pickles_of_one) (c.as_slice-scenario-items.ensures.value ∙ c.in_ok-scenarios.ensures) ∙ sym (scenario_by_scenario d) in
     all_added _ _ _ items c.loop-scenario.scenario-index _ c.loop-scenario-test.false c.loop-scenario.invariant.made
-    ∙ ap (λ ls. ls ++ concat (pickle_lines uri d.nodes (flat_map pickles_of_one items))) c.in_ok-lines.ensures
-    ∙ append_assoc source document (concat (pickle_lines uri d.nodes (flat_map pickles_of_one items)))
-    ∙ ap (λ ps. source ++ (document ++ concat (pickle_lines uri d.nodes ps))) all
+    ∙ ap (λ ls. ls ++ concat (compiled_pickle_lines uri d.nodes (flat_map pickles_of_one items))) c.in_ok-lines.ensures
+    ∙ append_assoc source document (concat (compiled_pickle_lines uri d.nodes (flat_map pickles_of_one items)))
+    ∙ ap (λ ps. source ++ (document ++ concat (compiled_pickle_lines uri d.nodes ps))) all

@@ -1,4 +1,4 @@
-use Rattle.std.proofs.Common.{◌∙◌, ap, sym, ◌++◌, Bor, List, ℕ, map, string_bytes}
+use Rattle.std.proofs.Common.{◌∙◌, ap, sym, ◌++◌, Bor}
 use Rattle.cm_cases.specs.Places.{pickle_scenario}
 use Rattle.cm_stream.proofs.Lists.{map_twice}
 use Rattle.cm_stream.specs.Texts.{Utf8}

@@ -1,6 +1,5 @@
-use Rattle.std.proofs.Common.{◌≡◌, ◌∙◌, sym, ap, refl, true, false, [], ◌∷◌, ◌++◌}
+use Rattle.std.proofs.Common.{◌≡◌, refl, true, false, [], ◌∷◌}
 use Rattle.std.specs.Prelude.{◌||◌, Bool}
-use Rattle.std.specs.List.{list_any}
 use Rattle.std.proofs.lemmas.List.Folds.{list_any-append}
 use Rattle.cm_reasons.specs.Trail.{ends_with_exception}
 use Rattle.cm_reasons.proofs.trail.noted_exception.Goals as goal

@@ -6,12 +6,12 @@ use Rattle.cm_stream.specs.Sources.{DuePickle}
 use Rattle.cm_stream.specs.Texts.{Utf8}
 use Rattle.cm_differs.specs.Differences.{pickle_difference}
 use Rattle.cm_differs.specs.declared.difference.Difference.{Difference}
-use Rattle.cm_source_reasons.specs.SourceReasons.{due_line, pickle_lines, sides_text}
+use Rattle.cm_source_reasons.specs.SourceReasons.{due_line, pickle_reason_text, sides_text}
 use Rattle.cm_source_reasons.proofs.pickle_reason.add_next.Goals as goal
 
 next_told : (es : List Envelope) (p : Pickle) (old mid new : List ℕ) (uri : Utf8) (ids kept : List Utf8) (due next : Option DuePickle) (d : Difference)
     → mid ≡ old ++ due_line es uri ids due → new ≡ mid ++ sides_text d → d ≡ pickle_difference ids due p → uri ≡ p.uri → ids ≡ kept → due ≡ next
-    → new ≡ old ++ pickle_lines es kept next p
+    → new ≡ old ++ pickle_reason_text es kept next p
 next_told es p old mid new uri ids kept due next d a b c u i n =
     b ∙ (λ j. a j ++ sides_text (c j)) ∙ append_assoc old (due_line es uri ids due) (sides_text (pickle_difference ids due p))
     ∙ (λ j. old ++ (due_line es (u j) (i j) (n j) ++ sides_text (pickle_difference (i j) (n j) p)))

@@ -1,4 +1,4 @@
-use Rattle.cm_stream.proofs.Released.{released_ran as all, each_ran_where_none_may_stay as each}
+use Rattle.cm_stream.proofs.Released.{released_ran as all, each_ran_where_none_may_stay as each, named_ran as named}
 use Rattle.cm_stream.proofs.ReleasedScenarios.{released_scenarios_ran as scenarios}
 use Rattle.cm_stream.proofs.laws.released_scenarios_ran.Goals as goal
 
@@ -10,3 +10,6 @@ returns-clause-each c = each
 
 pub returns-clause-scenarios : goal.returns-clause-scenarios
 returns-clause-scenarios c = scenarios
+
+pub returns-clause-named : goal.returns-clause-named
+returns-clause-named c = named

@@ -1,8 +1,0 @@
-use Rattle.std.proofs.Common.{◌∙◌}
-use Rattle.clap.specs.Words.{found_of}
-use Rattle.clap.proofs.WalkLemmas.{raw_values-rows}
-use Rattle.std.specs.Prelude.{codes}
-use Rattle.ck_command_line.proofs.command_line.tagged_in.Goals as goal
-
-pub returns : goal.returns
-returns c = c.get_raw.ensures ∙ raw_values-rows (found_of c.args.values.now) (codes "allow-unrun-tagged")

@@ -1,0 +1,13 @@
+use Rattle.std.proofs.Common.{map, string_bytes, take}
+use Rattle.cm_stream.specs.Release.{conditions_of}
+use Rattle.ck_commands.specs.Runs.{IsRunsReport}
+use Rattle.ck_commands.proofs.command_runs.runs_report.Given as goal
+
+abbrev pub invariant-loop-run : goal.invariant-loop-run
+invariant-loop-run g l =
+    IsRunsReport (record {
+      settings = l.settings;
+      asked = conditions_of l.conditions;
+      runs = map (λ run. run.now) (take l.run-index l.runs);
+    }) (g.F.Files.openings l.fn.files) (g.F.Files.openings l.files) (g.R.ByteSource.input l.fn.source) (g.R.ByteSource.input l.source)
+    (record { text = string_bytes l.text; status = l.status })

@@ -1,0 +1,36 @@
+-- Which scenarios of some texts are marked.
+use Rattle.std.specs.Prelude.{◌≡◌, ◌||◌, ◌++◌, ◌∷◌, [], ℕ, Bool, true, List, if◌then◌else◌, map}
+use Rattle.indexmap.specs.IndexMap.{keys}
+use Rattle.cm_attempt.specs.Table.{has_text}
+use Rattle.cm_envelope.specs.declared.envelope.Envelope.{Envelope}
+use Rattle.cm_stream.specs.Texts.{Utf8}
+use Rattle.cm_ran.specs.Rows.{flag_at}
+use Rattle.cm_ran.specs.RunAt.{is_run_at}
+use Rattle.cm_ran.specs.declared.marks.Marks.{Marks}
+
+-- the texts, in the order in which they were added
+abbrev pub marked_texts : Marks → List Utf8
+marked_texts m = map (λ text. text.now) (keys m.rows)
+
+-- the scenario at this place of the text, from 0, is marked; of a text that isn't there none is
+abbrev pub ran : Marks → (text : Utf8) → (place : ℕ) → Bool
+ran m text place = flag_at m.rows text place
+
+-- one text more, which stands there once
+abbrev pub with_text : Utf8 → List Utf8 → List Utf8
+with_text text texts = if has_text text texts then texts else texts ++ text ∷ []
+
+-- no scenario is marked that wasn't, and none is lost
+abbrev pub HasSameFlags : (old new : Marks) → Type 0
+HasSameFlags old new = (text : Utf8) (place : ℕ) → ran new text place ≡ ran old text place
+
+-- of the texts that are there, those scenarios are marked that were, and those that ran too
+abbrev pub AlsoRan : (old new : Marks) → (did_run : (text : Utf8) → (place : ℕ) → Bool) → Type 0
+AlsoRan old new did_run =
+    (text : Utf8) (place : ℕ) → has_text text (marked_texts old) ≡ true
+    → ran new text place ≡ (ran old text place || did_run text place)
+
+-- The texts stay, and the scenarios are marked that were, and those that ran in the stream of these envelopes.
+pub record Marked (es : List Envelope) (old new : Marks) : Type 0 where
+  pub texts : marked_texts new ≡ marked_texts old
+  pub flags : AlsoRan old new (is_run_at es)

@@ -1,0 +1,140 @@
+//! Which scenarios of some texts ran.
+ghost use Rattle.std.specs.Prelude.{◌≡◌, ◌||◌, ◌&&◌, [], ℕ, List, false, OnErr, OnOk, map, slice_index_or};
+ghost use Rattle.std.specs.Str.{bytes_eq};
+ghost use Rattle.cm_cases.specs.Listed.{both_texts};
+ghost use Rattle.cm_envelope.specs.declared.envelope.Envelope.{Envelope as SomeEnvelope};
+ghost use Rattle.cm_reasons.specs.Trail.{trail_of};
+ghost use Rattle.cm_ran.specs.Marks.{AlsoRan, HasSameFlags, Marked, marked_texts, ran, with_text};
+ghost use Rattle.cm_attempt.specs.Table.{has_text};
+ghost use Rattle.cm_ran.specs.Rows.{flag_at, is_set_at, row_at};
+
+use crate::flags::{either, is_set};
+use crate::rows::{Rows, rows_of};
+use cm_reasons::Trail;
+use indexmap::IndexMap;
+use std::alloc::{AllocError, Global};
+
+/// Texts, no two the same, and of each by place which of its scenarios ran.
+#[derive(Drop)]
+pub struct Marks<'a> {
+    pub(crate) rows: Rows<'a>,
+}
+
+impl<'a> Marks<'a> {
+    /// No texts. It takes no memory.
+    pub fn new(alloc: Global) -> Marks<'a>
+        ensures texts { marked_texts result ≡ [] }
+        ensures unmarked { (text : List ℕ) (place : ℕ) → ran result text place ≡ false }
+    {
+        Marks {
+            rows: IndexMap::new(alloc),
+        }
+    }
+
+    /// Adds a text, of which no scenario ran yet. One that is there stays as it is.
+    ///
+    /// # Errors
+    /// Only where there is no memory for it; then all is as it was.
+    pub fn add(&mut self, alloc: Global, text: &'a str) -> Result<(), AllocError>
+        ensures ok { OnOk result
+            (marked_texts self.new ≡ with_text text.now (marked_texts self.old)) }
+        ensures err { OnErr result (marked_texts self.new ≡ marked_texts self.old) }
+        ensures flags { HasSameFlags self.old self.new }
+    {
+        if self.rows.contains_key(text) {
+            return Ok(());
+        }
+        self.rows.insert(text, Vec::new(alloc))?;
+        Ok(())
+    }
+
+    /// Whether the text is there.
+    pub fn has_text(&self, text: &str) -> bool
+        ensures { result ≡ has_text text.now (marked_texts self.now) }
+    {
+        self.rows.contains_key(text)
+    }
+
+    /// The flags of a text, by the places of its scenarios, up to the last that one was set for; of a text that isn't there none.
+    pub fn row(&self, text: &str) -> &[bool]
+        ensures { result.now ≡ row_at self.now.rows text.now }
+    {
+        match self.rows.get(text) {
+            Some(row) => row.as_slice(),
+            None => &[],
+        }
+    }
+
+    /// Whether the scenario at the place of the text ran, from 0; of a text that isn't there none did.
+    pub fn has_run(&self, text: &str, place: usize) -> bool
+        ensures { result ≡ ran self.now text.now place }
+    {
+        match self.rows.get(text) {
+            Some(row) => is_set(row.as_slice(), place),
+            None => false,
+        }
+    }
+
+    /// Sets the flags of a text, if it is there, that are set in the row.
+    fn mark_text(&mut self, alloc: Global, text: &str, row: &[bool]) -> Result<(), AllocError>
+        ensures texts { marked_texts self.new ≡ marked_texts self.old }
+        ensures ok { OnOk result (AlsoRan self.old self.new
+            (λ other place. bytes_eq other text.now && slice_index_or row.now place false)) }
+    {
+        if let Some(marked) = self.rows.get_mut(text) {
+            *marked = either(alloc, marked.as_slice(), row)?;
+        }
+        Ok(())
+    }
+
+    /// The same by the row of a uri.
+    fn mark_source(
+        &mut self,
+        alloc: Global,
+        uri: &str,
+        text: &str,
+        rows: &Rows<'_>,
+    ) -> Result<(), AllocError>
+        ensures texts { marked_texts self.new ≡ marked_texts self.old }
+        ensures ok { OnOk result (AlsoRan self.old self.new
+            (λ other place. bytes_eq other text.now && flag_at rows.now uri.now place)) }
+    {
+        match rows.get(uri) {
+            Some(row) => self.mark_text(alloc, text, row.as_slice()),
+            None => Ok(()),
+        }
+    }
+
+    /// The same of each source, which is given by its uri and its text.
+    fn mark_sources(
+        &mut self,
+        alloc: Global,
+        sources: &[(&str, &str)],
+        rows: &Rows<'_>,
+    ) -> Result<(), AllocError>
+        ensures texts { marked_texts self.new ≡ marked_texts self.old }
+        ensures ok { OnOk result (AlsoRan self.old self.new
+            (is_set_at rows.now (map both_texts sources.now))) }
+    {
+        for source in sources {
+            self.mark_source(alloc, source.0, source.1, rows)?;
+        }
+        Ok(())
+    }
+
+    /// Marks what ran in the stream that the trail is of.
+    ///
+    /// # Errors
+    /// Only where there is no memory for it; then some of it may be marked.
+    pub fn mark(&mut self, alloc: Global, trail: &Trail) -> Result<(), AllocError>
+        ensures texts { marked_texts self.new ≡ marked_texts self.old }
+        ensures ok { OnOk result ((es : List SomeEnvelope) → trail.now ≡ trail_of es
+            → Marked es self.old self.new) }
+    {
+        let pickles = trail.pickle_uris(alloc)?;
+        let named = trail.named_pickles(alloc)?;
+        let sources = trail.source_texts(alloc)?;
+        let rows = rows_of(alloc, pickles.as_slice(), named.as_slice())?;
+        self.mark_sources(alloc, sources.as_slice(), &rows)
+    }
+}

@@ -1,0 +1,30 @@
+//! The feature files that stand under paths: each path is a file, or a folder with files below it.
+//!
+//! ```
+//! use feature_paths::{PathTrouble, feature_paths};
+//! use files::Files;
+//! use std::alloc::Global;
+//!
+//! /// How many feature files there are in two folders.
+//! fn count<F: Files>(alloc: Global, files: &mut F) -> Result<usize, PathTrouble> {
+//!     let found = feature_paths(alloc, files, &["features", "more/features"])?;
+//!     Ok(found.len())
+//! }
+//! ```
+//!
+//! What a look at a path shows is in `specs/Shown`, what is answered of all paths in `specs/FeaturePaths`, and what these definitions
+//! come to in `specs/Laws`.
+#![tactic(auto)]
+
+mod feature_paths_of;
+mod found;
+mod laws;
+mod path_text;
+#[cfg(test)]
+mod tests;
+mod trouble;
+mod walk;
+
+pub use feature_paths_of::feature_paths;
+pub use laws::{each_text_is_there_once, no_fault_is_passed_over, the_first_fault_is_first};
+pub use trouble::{Fault, FaultyPath, PathTrouble};

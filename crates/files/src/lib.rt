@@ -1,0 +1,28 @@
+//! The files of a program, which remember what they gave.
+//!
+//! ```
+//! use files::Files;
+//!
+//! /// Whether there is a file of this name that may be read.
+//! fn is_there<F: Files>(files: &mut F, name: &str) -> bool {
+//!     match files.open(name) {
+//!         Ok(file) => files.close(file).is_ok(),
+//!         Err(_) => false,
+//!     }
+//! }
+//! ```
+//!
+//! `OpenedFiles` are files over an `Opener`: `SystemOpener` opens those of the system, `NoOpener` none. Contracts see each opening,
+//! with the bytes that were read of the file until it was closed (`specs/Openings`), and each look at a path, with what stood there
+//! (`specs/Looks`).
+#![tactic(auto)]
+
+mod files;
+mod look;
+mod opened;
+mod opener;
+
+pub use files::{FileTrouble, Files, OpenFile};
+pub use look::{Entry, EntryKind, Look};
+pub use opened::{FileSource, OpenedFiles};
+pub use opener::{NoOpener, Opener, SystemOpener};
