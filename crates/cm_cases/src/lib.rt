@@ -31,6 +31,6 @@ mod shown;
 
 pub use firsts::{ByText, Key, add_first, firsts_of};
 pub use json_lines::JsonLines;
-pub use listing::Listing;
+pub use listing::{Listing, tag_names};
 pub use places::Places;
 pub use shown::{add_shown, add_shown_json};

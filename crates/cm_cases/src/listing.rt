@@ -50,12 +50,6 @@ pub struct Listing {
     pub(crate) starts: Sequence<Text>,
 }
 
-fn copy(alloc: Global, text: &Text) -> Result<Text, AllocError>
-    ensures { IfOk result (λ t. t ≡ text.now) }
-{
-    Text::copy_of(alloc, text.as_str())
-}
-
 fn place_of(alloc: Global, ids: &[Text], node: u64, at: Location) -> Result<Place, AllocError>
     ensures { IfOk result (λ p. p ≡ place ids.now node at) }
 {
@@ -144,8 +138,8 @@ fn case_entry(alloc: Global, case: &TestCase) -> Result<CaseEntry, AllocError>
     ensures { IfOk result (λ entry. entry ≡ case_entry case.now) }
 {
     Ok(CaseEntry {
-        id: copy(alloc, &case.id)?,
-        pickle_id: copy(alloc, &case.pickle_id)?,
+        id: Text::copy_of(alloc, case.id.as_str())?,
+        pickle_id: Text::copy_of(alloc, case.pickle_id.as_str())?,
     })
 }
 
@@ -160,12 +154,12 @@ fn last_text(texts: &[Text]) -> &str
 }
 
 /// The names of the tags.
-fn names_of(alloc: Global, tags: &[PickleTag]) -> Result<Sequence<Text>, AllocError>
+pub fn tag_names(alloc: Global, tags: &[PickleTag]) -> Result<Sequence<Text>, AllocError>
     ensures { IfOk result (λ names. names ≡ map (λ t. t.name) tags.now) }
 {
     let mut names = Sequence::new(alloc);
     for tag in tags {
-        names.push(copy(alloc, &tag.name)?)?;
+        names.push(Text::copy_of(alloc, tag.name.as_str())?)?;
     }
     Ok(names)
 }
@@ -174,11 +168,11 @@ fn pickle_entry(alloc: Global, pickle: &Pickle) -> Result<PickleEntry, AllocErro
     ensures { IfOk result (λ entry. entry ≡ pickle_entry pickle.now) }
 {
     Ok(PickleEntry {
-        id: copy(alloc, &pickle.id)?,
-        uri: copy(alloc, &pickle.uri)?,
-        name: copy(alloc, &pickle.name)?,
+        id: Text::copy_of(alloc, pickle.id.as_str())?,
+        uri: Text::copy_of(alloc, pickle.uri.as_str())?,
+        name: Text::copy_of(alloc, pickle.name.as_str())?,
         node: Text::copy_of(alloc, last_text(pickle.ast_node_ids.as_slice()))?,
-        tags: names_of(alloc, pickle.tags.as_slice())?,
+        tags: tag_names(alloc, pickle.tags.as_slice())?,
     })
 }
 
@@ -186,7 +180,7 @@ fn document_entry(alloc: Global, document: &GherkinDocument) -> Result<DocumentE
     ensures { IfOk result (λ entry. entry ≡ document_entry document.now) }
 {
     Ok(DocumentEntry {
-        uri: copy(alloc, &document.uri)?,
+        uri: Text::copy_of(alloc, document.uri.as_str())?,
         places: places_of(alloc, document)?,
     })
 }
@@ -219,7 +213,9 @@ impl Listing {
             Envelope::GherkinDocument(document) => {
                 self.documents.push(document_entry(alloc, document)?)
             }
-            Envelope::TestCaseStarted(start) => self.starts.push(copy(alloc, &start.test_case_id)?),
+            Envelope::TestCaseStarted(start) => self
+                .starts
+                .push(Text::copy_of(alloc, start.test_case_id.as_str())?),
             _ => Ok(()),
         }
     }

@@ -10,7 +10,8 @@ use Rattle.std.proofs.lemmas.Str.{scalars-chars, encodes-chars, length-le-encode
 use Rattle.gk_line.specs.Texts.{text_after_indent, after}
 use Rattle.gk_line.specs.Lines.{without_mark}
 use Rattle.gk_line.specs.Characters.{byte_order_mark}
-use Rattle.gk_line.specs.DocStrings.{outdented_line, fences_unescaped, escaped_mark, fence_mark, doc_line_of}
+use Rattle.gk_document.specs.Fences.{fence_mark}
+use Rattle.gk_line.specs.DocStrings.{outdented_line, fences_unescaped, escaped_mark, doc_line_of}
 use Rattle.gk_line.specs.Tokens.{indent_of}
 use Rattle.gk_document.specs.declared.tree.Fence.{Fence}
 use Rattle.gk_document.specs.declared.tree.Fence.TheVariants.{Quotes, Backticks}

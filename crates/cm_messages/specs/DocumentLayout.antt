@@ -5,8 +5,7 @@ use Rattle.serde_json.specs.Data.{Data, string, number, unsigned, array}
 use Rattle.serde_json.specs.View.{items_of}
 use Rattle.gk_document.specs.declared.tree.KeywordType.{KeywordType}
 use Rattle.gk_document.specs.declared.tree.KeywordType.TheVariants as keyword
-use Rattle.gk_document.specs.declared.tree.Fence.{Fence}
-use Rattle.gk_document.specs.declared.tree.Fence.TheVariants as fence
+use Rattle.gk_document.specs.Fences.{fence_characters}
 use Rattle.gk_document.specs.declared.tree.Location.{Location}
 use Rattle.gk_document.specs.declared.tree.Cell.{Cell}
 use Rattle.gk_document.specs.declared.tree.Tag.{Tag}
@@ -53,14 +52,10 @@ abbrev pub comment_data : Comment → Data
 comment_data c =
     object_of ((codes "location", location_data c.location) ∷ (codes "text", string c.text) ∷ [])
 
--- the characters of a fence
-abbrev pub delimiter : Fence → List ℕ
-delimiter fence.Quotes = codes "\"\"\""
-delimiter fence.Backticks = codes "```"
-
 abbrev pub doc_string_data : DocString → Data
 doc_string_data d = object_with (codes "mediaType") (media_data d.media)
-    ((codes "content", string d.content) ∷ (codes "delimiter", string (delimiter d.fence))
+    ((codes "content", string d.content)
+    ∷ (codes "delimiter", string (fence_characters d.fence))
     ∷ (codes "location", location_data d.location) ∷ [])
 
 -- a table's place is that of its first row, or else that of its step

@@ -6,7 +6,8 @@ ghost use Rattle.serde_json.specs.View.{items_of};
 ghost use Rattle.serde_json.specs.Events.{SendsValue};
 ghost use Rattle.gk_document.specs.ExampleRows.{table_rows_of};
 ghost use Rattle.cm_messages.specs.Layout.{list_data};
-ghost use Rattle.cm_messages.specs.DocumentLayout.{location_data, cell_data, row_data, tag_data, comment_data, delimiter, doc_string_data, table_place, table_data, keyword_word, argument_table, argument_doc_string, step_data, background_data, examples_data, scenario_data, rule_child, children_data, rule_data, feature_data, document_data};
+ghost use Rattle.gk_document.specs.Fences.{fence_characters};
+ghost use Rattle.cm_messages.specs.DocumentLayout.{location_data, cell_data, row_data, tag_data, comment_data, doc_string_data, table_place, table_data, keyword_word, argument_table, argument_doc_string, step_data, background_data, examples_data, scenario_data, rule_child, children_data, rule_data, feature_data, document_data};
 ghost use Rattle.cm_messages.specs.Sending.{SendsMember, SendsOptional};
 
 use crate::send::{
@@ -113,22 +114,12 @@ impl SendJson<MessageLayout> for Comment {
     }
 }
 
-/// The characters of a fence, as the member `delimiter` has them.
-pub fn fence_text(fence: Fence) -> &'static str
-    ensures { result.now ≡ delimiter fence }
-{
-    match fence {
-        Fence::Quotes => "\"\"\"",
-        Fence::Backticks => "```",
-    }
-}
-
 /// The member `delimiter` of a doc string.
 fn send_delimiter<S: Serializer>(fence: Fence, out: &mut S) -> Result<(), S::Error>
-    ensures { OnOk result (SendsMember (codes "delimiter") (string (delimiter fence))
+    ensures { OnOk result (SendsMember (codes "delimiter") (string (fence_characters fence))
         (S.written out.old) (S.written out.new)) }
 {
-    send_str("delimiter", fence_text(fence), out)
+    send_str("delimiter", fence.characters(), out)
 }
 
 impl SendJson<MessageLayout> for DocString {

@@ -19,7 +19,7 @@ mod send;
 mod source_message;
 mod value_text;
 
-pub use document_message::{fence_text, keyword_type_name, place_of_table};
+pub use document_message::{keyword_type_name, place_of_table};
 pub use message_text::{document_text, pickle_text, source_text};
 pub use pickle_message::step_type_name;
 pub use send::{

@@ -1,9 +1,10 @@
 //! What is kept of a stream's envelopes for its release.
-ghost use Rattle.std.specs.Prelude.{◌≡◌, ◌++◌, ◌∷◌, [], List, IfOk, OnOk, filter, map};
+ghost use Rattle.std.specs.Prelude.{◌≡◌, ◌++◌, ◌∷◌, [], List, IfOk, OnOk, filter};
 ghost use Rattle.cm_stream.specs.Release.{is_unmatched};
 ghost use Rattle.cm_release.specs.Kept.{case_entry, kept_nothing, pickle_entry, start_entry, unmatched_ids};
 
-use cm_envelope::{Pickle, PickleTag, TestCase, TestCaseStarted, TestStep};
+use cm_cases::tag_names;
+use cm_envelope::{Pickle, TestCase, TestCaseStarted, TestStep};
 use gk_document::{Sequence, Text};
 use std::alloc::{AllocError, Global};
 
@@ -64,31 +65,13 @@ impl Kept {
     }
 }
 
-/// The text again.
-fn copy(alloc: Global, text: &Text) -> Result<Text, AllocError>
-    ensures { IfOk result (λ t. t ≡ text.now) }
-{
-    Text::copy_of(alloc, text.as_str())
-}
-
-/// The names of the tags.
-fn names_of(alloc: Global, tags: &[PickleTag]) -> Result<Sequence<Text>, AllocError>
-    ensures { IfOk result (λ names. names ≡ map (λ t. t.name) tags.now) }
-{
-    let mut names = Sequence::new(alloc);
-    for tag in tags {
-        names.push(copy(alloc, &tag.name)?)?;
-    }
-    Ok(names)
-}
-
 /// What is kept of a pickle.
 pub(crate) fn pickle_entry(alloc: Global, pickle: &Pickle) -> Result<PickleEntry, AllocError>
     ensures { IfOk result (λ entry. entry ≡ pickle_entry pickle.now) }
 {
     Ok(PickleEntry {
-        id: copy(alloc, &pickle.id)?,
-        tags: names_of(alloc, pickle.tags.as_slice())?,
+        id: Text::copy_of(alloc, pickle.id.as_str())?,
+        tags: tag_names(alloc, pickle.tags.as_slice())?,
         is_stepless: pickle.steps.len() == 0,
     })
 }
@@ -107,7 +90,7 @@ fn unmatched_of(alloc: Global, steps: &[TestStep]) -> Result<Sequence<Text>, All
     let mut ids = Sequence::new(alloc);
     for step in steps {
         if is_unmatched(step) {
-            ids.push(copy(alloc, &step.id)?)?;
+            ids.push(Text::copy_of(alloc, step.id.as_str())?)?;
         }
     }
     Ok(ids)
@@ -118,8 +101,8 @@ pub(crate) fn case_entry(alloc: Global, case: &TestCase) -> Result<CaseEntry, Al
     ensures { IfOk result (λ entry. entry ≡ case_entry case.now) }
 {
     Ok(CaseEntry {
-        id: copy(alloc, &case.id)?,
-        pickle_id: copy(alloc, &case.pickle_id)?,
+        id: Text::copy_of(alloc, case.id.as_str())?,
+        pickle_id: Text::copy_of(alloc, case.pickle_id.as_str())?,
         unmatched: unmatched_of(alloc, case.test_steps.as_slice())?,
     })
 }
@@ -129,7 +112,7 @@ pub(crate) fn start_entry(alloc: Global, start: &TestCaseStarted) -> Result<Star
     ensures { IfOk result (λ entry. entry ≡ start_entry start.now) }
 {
     Ok(StartEntry {
-        id: copy(alloc, &start.id)?,
-        case_id: copy(alloc, &start.test_case_id)?,
+        id: Text::copy_of(alloc, start.id.as_str())?,
+        case_id: Text::copy_of(alloc, start.test_case_id.as_str())?,
     })
 }

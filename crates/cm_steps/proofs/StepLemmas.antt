@@ -16,7 +16,7 @@ use Rattle.cm_stream.specs.Texts.{Utf8}
 use Rattle.cm_stream.proofs.Lists.{find_map}
 use Rattle.cm_cases.specs.Shown.{shown_text}
 use Rattle.cm_cases.specs.declared.listing.Place.{Place}
-use Rattle.cm_steps.specs.Entries.{entry_text, entry_text_of, find_line, find_step, line_in, line_of_row, step_of_row, told_entry, told_in}
+use Rattle.cm_steps.specs.Entries.{step_entry_text, step_entry_text_of, find_line, find_step, line_in, line_of_row, step_of_row, told_entry, told_in}
 use Rattle.cm_steps.specs.Kept.{document_row, pickle_row, place_texts, plan_row, source_id, source_kind, step_listing_of}
 use Rattle.cm_steps.specs.Steps.{own_node, pickle_step_text, step_line, step_places, step_text_in, step_text_of, told_case_step, told_step, told_step_in, told_test_step}
 use Rattle.cm_steps.specs.declared.listing.StepListing.{StepListing}
@@ -82,16 +82,16 @@ line_listed es p s =
 
 -- ---- the text of a step
 
-same_text : (es : List Envelope) (p : Pickle) (s : PickleStep) → entry_text (step_listing_of es) (p.uri, s.text, own_node s) ≡ pickle_step_text es p s
+same_text : (es : List Envelope) (p : Pickle) (s : PickleStep) → step_entry_text (step_listing_of es) (p.uri, s.text, own_node s) ≡ pickle_step_text es p s
 same_text es p s = ap (λ (n : List ℕ). shown_text p.uri ++ codes ":" ++ n ++ codes " " ++ shown_text s.text) (line_listed es p s)
 
-text_in : (es : List Envelope) (step : Utf8) (p : Pickle) → option_map_or (entry_text (step_listing_of es)) (step_of_row step (pickle_row p)) [] ≡ step_text_in es step p
-text_in es step p = step_told (λ s. s.id) (λ s. s.text) own_node p.uri step (entry_text (step_listing_of es)) (pickle_step_text es p) [] (same_text es p) p.steps
+text_in : (es : List Envelope) (step : Utf8) (p : Pickle) → option_map_or (step_entry_text (step_listing_of es)) (step_of_row step (pickle_row p)) [] ≡ step_text_in es step p
+text_in es step p = step_told (λ s. s.id) (λ s. s.text) own_node p.uri step (step_entry_text (step_listing_of es)) (pickle_step_text es p) [] (same_text es p) p.steps
 
-text_of : (es : List Envelope) (pickle step : Utf8) → entry_text_of (step_listing_of es) pickle step ≡ step_text_of es pickle step
+text_of : (es : List Envelope) (pickle step : Utf8) → step_entry_text_of (step_listing_of es) pickle step ≡ step_text_of es pickle step
 text_of es pickle step =
-    or_in (step_of_row step) (entry_text (step_listing_of es)) [] (find (begins_with pickle) (map pickle_row (pickles es)))
-    ∙ found_same (begins_with pickle) pickle_row (λ r. option_map_or (entry_text (step_listing_of es)) (step_of_row step r) []) (step_text_in es step) [] (text_in es step) (pickles es)
+    or_in (step_of_row step) (step_entry_text (step_listing_of es)) [] (find (begins_with pickle) (map pickle_row (pickles es)))
+    ∙ found_same (begins_with pickle) pickle_row (λ r. option_map_or (step_entry_text (step_listing_of es)) (step_of_row step r) []) (step_text_in es step) [] (text_in es step) (pickles es)
 
 entry_told : (word : List ℕ) (es : List Envelope) (pickle : Utf8) (hook step : Option Utf8) → told_entry word (step_listing_of es) (pickle, source_kind hook step, source_id hook step) ≡ told_step word es pickle hook step
 entry_told word es pickle (Some hook) step = refl

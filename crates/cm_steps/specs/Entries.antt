@@ -48,18 +48,18 @@ line_in l uri node =
     option_map_or (line_of_row node) (find (begins_with uri) l.documents) (codes "0")
 
 -- that of a pickle's step: its uri, its text and its node
-abbrev pub entry_text : StepListing → Utf8 × Utf8 × Utf8 → List ℕ
-entry_text l s =
+abbrev pub step_entry_text : StepListing → Utf8 × Utf8 × Utf8 → List ℕ
+step_entry_text l s =
     shown_text s.0 ++ codes ":" ++ line_in l s.0 s.2 ++ codes " " ++ shown_text s.1
 
-abbrev pub entry_text_of : StepListing → (pickle step : Utf8) → List ℕ
-entry_text_of l pickle step = option_map_or (entry_text l) (row_step l.pickles pickle step) []
+abbrev pub step_entry_text_of : StepListing → (pickle step : Utf8) → List ℕ
+step_entry_text_of l pickle step = option_map_or (step_entry_text l) (row_step l.pickles pickle step) []
 
 -- that of a test step: its pickle, what it is of, and the id of that
 abbrev pub told_entry : (word : List ℕ) → StepListing → Utf8 × Utf8 × Utf8 → List ℕ
 told_entry word l s =
     if bytes_eq s.1 (codes "h") then hook_text s.2
-    else if bytes_eq s.1 (codes "s") then word ++ entry_text_of l s.0 s.2
+    else if bytes_eq s.1 (codes "s") then word ++ step_entry_text_of l s.0 s.2
     else []
 
 abbrev pub told_in : (word : List ℕ) → StepListing → (test_case step : Utf8) → List ℕ

@@ -1,7 +1,7 @@
 //! What a test step is told as.
 ghost use Rattle.std.specs.Prelude.{◌≡◌, ◌++◌, List, OnOk, option_map, string_bytes};
 ghost use Rattle.cm_envelope.specs.declared.envelope.Envelope.{Envelope};
-ghost use Rattle.cm_steps.specs.Entries.{entry_text, entry_text_of, find_line, find_step, line_in, row_step, step_of_row, told_entry, told_in};
+ghost use Rattle.cm_steps.specs.Entries.{step_entry_text, step_entry_text_of, find_line, find_step, line_in, row_step, step_of_row, told_entry, told_in};
 ghost use Rattle.cm_steps.specs.Kept.{step_listing_of};
 ghost use Rattle.cm_steps.specs.Steps.{case_step_text, named_case_step};
 
@@ -75,7 +75,7 @@ impl StepListing {
     /// Adds a step of a pickle, by its uri, its text and its node.
     fn add_entry(&self, text: &mut String, step: (&str, &str, &str)) -> Result<(), AllocError>
         ensures { OnOk result (string_bytes text.new
-            ≡ string_bytes text.old ++ entry_text self.now
+            ≡ string_bytes text.old ++ step_entry_text self.now
             (step.entry.0.now, step.entry.1.now, step.entry.2.now)) }
     {
         let (uri, words, node) = step;
@@ -89,7 +89,7 @@ impl StepListing {
     /// Adds the step of an id of a pickle.
     fn add_pickle_step(&self, text: &mut String, pickle: &str, step: &str) -> Result<(), AllocError>
         ensures { OnOk result (string_bytes text.new
-            ≡ string_bytes text.old ++ entry_text_of self.now pickle.now step.now) }
+            ≡ string_bytes text.old ++ step_entry_text_of self.now pickle.now step.now) }
     {
         match row_step(&self.pickles, pickle, step) {
             Some(step) => self.add_entry(text, step),

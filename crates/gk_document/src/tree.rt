@@ -1,5 +1,6 @@
 //! The tree of a feature file, as `gherkin.berp` and the Messages' `gherkinDocument` have it.
 ghost use Rattle.std.specs.Prelude.{◌≡◌};
+ghost use Rattle.gk_document.specs.Fences.{fence_characters};
 ghost use Rattle.gk_document.specs.MediaType.{unless_empty};
 
 use crate::sequence::Sequence;
@@ -44,6 +45,18 @@ pub enum Fence {
     Quotes,
     /// Three backticks.
     Backticks,
+}
+
+impl Fence {
+    /// The three characters of the fence.
+    pub fn characters(self) -> &'static str
+        ensures { result.now ≡ fence_characters self }
+    {
+        match self {
+            Fence::Quotes => "\"\"\"",
+            Fence::Backticks => "```",
+        }
+    }
 }
 
 /// A doc string. An empty media type is none, as [`media_type`] has it.

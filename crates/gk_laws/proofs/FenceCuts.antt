@@ -7,7 +7,8 @@ use Rattle.std.specs.Str.{skip_leading_whitespace}
 use Rattle.std.proofs.lemmas.Bool.{ltb-true, ltb-false}
 use Rattle.std.proofs.Math.Seq.{drop-append_seam}
 use Rattle.gk_line.specs.Characters.{backslash}
-use Rattle.gk_line.specs.DocStrings.{doc_line_of, escaped_mark, fence_mark, fences_unescaped, outdented_line}
+use Rattle.gk_document.specs.Fences.{fence_mark}
+use Rattle.gk_line.specs.DocStrings.{doc_line_of, escaped_mark, fences_unescaped, outdented_line}
 use Rattle.gk_line.specs.Texts.{after, text_after_indent}
 use Rattle.gk_line.specs.Tokens.{indent_of}
 use Rattle.gk_line.proofs.PlaceLemmas.{skip-split}

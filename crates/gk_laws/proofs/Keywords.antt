@@ -9,7 +9,7 @@ use Rattle.std.proofs.lemmas.Bool.{eq-eqb, false≢true}
 use Rattle.gk_document.specs.declared.tree.Fence.{Fence}
 use Rattle.gk_document.specs.declared.tree.Fence.TheVariants.{Quotes, Backticks}
 use Rattle.gk_document.specs.declared.tree.KeywordType.{KeywordType}
-use Rattle.gk_line.specs.DocStrings.{fence_characters}
+use Rattle.gk_document.specs.Fences.{fence_characters}
 use Rattle.gk_line.specs.Texts.{after, text_after_indent, first_some, or_else, trimmed_text}
 use Rattle.gk_line.specs.Tokens.{TitleText, StepText, FenceText, fence_of, fences, indent_of, title_keywords, step_of, step_words, title_of}
 use Rattle.gk_line.specs.declared.tokens.Block.{Block}

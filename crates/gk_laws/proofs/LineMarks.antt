@@ -7,7 +7,7 @@ use Rattle.std.specs.List.{AllByRecursion, flat_map}
 use Rattle.std.specs.Str.{encode_utf8_all}
 use Rattle.gk_document.specs.declared.tree.Fence.{Fence}
 use Rattle.gk_document.specs.declared.tree.KeywordType.{KeywordType}
-use Rattle.gk_line.specs.DocStrings.{fence_characters}
+use Rattle.gk_document.specs.Fences.{fence_characters}
 use Rattle.gk_line.specs.Tags.{TagWord, spaced_piece, tags_of, tag_pieces, is_tag}
 use Rattle.gk_line.specs.Texts.{after, text_after_indent, trimmed_text}
 use Rattle.gk_line.specs.Tokens.{TitleText, StepText, FenceText, begins_by, fences, fence_of, indent_of, title_keywords, step_of, step_words, title_of}

@@ -1,7 +1,8 @@
 -- A line inside a doc string as escaped fences cut it.
 use Rattle.std.specs.Prelude.{◌≡◌, ◌≤◌, ◌⊎◌, ◌↔◌, ℕ, List, ◌++◌, length}
 use Rattle.gk_document.specs.declared.tree.Fence.{Fence}
-use Rattle.gk_line.specs.DocStrings.{doc_line_of, escaped_mark, fence_characters, fence_mark, fences_unescaped, outdented_line}
+use Rattle.gk_document.specs.Fences.{fence_characters, fence_mark}
+use Rattle.gk_line.specs.DocStrings.{doc_line_of, escaped_mark, fences_unescaped, outdented_line}
 use Rattle.gk_line.specs.Tokens.{indent_of}
 use Rattle.gk_pickle.specs.Cut.{IsCut, joined_parts}
 use Rattle.gk_laws.specs.Trimming.{IsSpace}

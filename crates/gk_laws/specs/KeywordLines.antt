@@ -2,7 +2,7 @@
 use Rattle.std.specs.Prelude.{◌≡◌, ◌+◌, ◌↔◌, ℕ, List, ◌++◌, Some, codes, length}
 use Rattle.std.specs.Char.{is_whitespace}
 use Rattle.std.specs.List.{Contains}
-use Rattle.gk_line.specs.DocStrings.{fence_characters}
+use Rattle.gk_document.specs.Fences.{fence_characters}
 use Rattle.gk_line.specs.Tokens.{TitleText, StepText, FenceText, fence_of, title_keywords, step_of, step_words, title_of}
 use Rattle.gk_line.specs.declared.tokens.Block.{Block}
 use Rattle.gk_laws.specs.Trimming.{IsSpace, IsTrimmed}

@@ -6,7 +6,8 @@ use Rattle.std.proofs.lemmas.List.{append_assoc, append-nil, length-append}
 use Rattle.std.proofs.lemmas.Str.{chars-append, chars-IsAscii}
 use Rattle.gk_line.specs.Characters.{backslash}
 use Rattle.gk_line.specs.Texts.{after, IsCutAt}
-use Rattle.gk_line.specs.DocStrings.{fences_unescaped, fence_mark, fence_characters, escaped_mark}
+use Rattle.gk_document.specs.Fences.{fence_mark, fence_characters}
+use Rattle.gk_line.specs.DocStrings.{fences_unescaped, escaped_mark}
 use Rattle.gk_document.specs.declared.tree.Fence.{Fence}
 use Rattle.gk_document.specs.declared.tree.Fence.TheVariants.{Quotes, Backticks}
 use Rattle.gk_line.proofs.TextLemmas.{after-some, ascii_bytes}

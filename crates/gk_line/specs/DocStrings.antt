@@ -3,21 +3,13 @@ use Rattle.std.specs.Prelude.{ℕ, List, [], ◌∷◌, drop, if◌then◌else�
 use Rattle.gk_line.specs.Texts.{text_after_indent, after}
 use Rattle.gk_line.specs.Tokens.{indent_of}
 use Rattle.gk_document.specs.declared.tree.Fence.{Fence}
-use Rattle.gk_document.specs.declared.tree.Fence.TheVariants.{Quotes, Backticks}
-use Rattle.gk_line.specs.Characters.{backslash, backtick, quotation_mark}
+use Rattle.gk_document.specs.Fences.{fence_mark}
+use Rattle.gk_line.specs.Characters.{backslash}
 
 -- the line without as many leading characters as the opening line's indent has, or without its own indent where that is less
 unfoldable pub outdented_line : ℕ → List ℕ → List ℕ
 outdented_line indent line =
     if nat_lt (indent_of line) indent then text_after_indent line else drop indent line
-
-abbrev pub fence_mark : Fence → ℕ
-fence_mark Quotes = quotation_mark
-fence_mark Backticks = backtick
-
--- the three characters of a fence
-abbrev pub fence_characters : Fence → List ℕ
-fence_characters fence = fence_mark fence ∷ fence_mark fence ∷ fence_mark fence ∷ []
 
 -- a fence with a backslash before each character
 abbrev pub escaped_mark : ℕ → List ℕ

@@ -5,7 +5,8 @@ ghost use Rattle.std.specs.List.{list_all};
 ghost use Rattle.std.specs.Str.{chars, IsUtf8};
 ghost use Rattle.std.specs.String.{string_bytes, string_capacity, string_len};
 ghost use Rattle.gk_line.specs.declared.limit.TheConstants.{FEATURE_LIMIT};
-ghost use Rattle.gk_line.specs.DocStrings.{doc_line_of, outdented_line, fences_unescaped, fence_characters, fence_mark, escaped_mark};
+ghost use Rattle.gk_document.specs.Fences.{fence_characters, fence_mark};
+ghost use Rattle.gk_line.specs.DocStrings.{doc_line_of, outdented_line, fences_unescaped, escaped_mark};
 ghost use Rattle.gk_line.specs.Characters.{backslash};
 ghost use Rattle.gk_line.specs.Views.{line_chars};
 
@@ -76,7 +77,7 @@ fn push_unescaped(value: &mut String, text: &str, fence: Fence) -> Result<(), Al
     while let Some((front, next)) = cut(rest, b'\\') {
         value.push_str(front)?;
         if let Some(after) = strip(next, after_backslash(fence)) {
-            value.push_str(plain_fence(fence))?;
+            value.push_str(fence.characters())?;
             rest = after;
         } else {
             value.push('\\')?;
@@ -95,16 +96,6 @@ fn after_backslash(fence: Fence) -> &'static str
     match fence {
         Fence::Quotes => "\"\\\"\\\"",
         Fence::Backticks => "`\\`\\`",
-    }
-}
-
-/// The three characters of a fence.
-fn plain_fence(fence: Fence) -> &'static str
-    ensures { result.now ≡ fence_characters fence }
-{
-    match fence {
-        Fence::Quotes => "\"\"\"",
-        Fence::Backticks => "```",
     }
 }
 

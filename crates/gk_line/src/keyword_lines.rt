@@ -4,7 +4,7 @@ ghost use Rattle.std.specs.List.{list_any, list_all};
 ghost use Rattle.std.specs.Str.{chars, bytes_eq, IsUtf8};
 ghost use Rattle.std.specs.Option.{option_map};
 ghost use Rattle.gk_line.specs.declared.limit.TheConstants.{FEATURE_LIMIT};
-ghost use Rattle.gk_line.specs.DocStrings.{fence_characters};
+ghost use Rattle.gk_document.specs.Fences.{fence_characters};
 ghost use Rattle.gk_line.specs.Places.{IsAtColumn};
 ghost use Rattle.gk_line.specs.Tokens.{title_of, block_title_of, blocks, step_of, fence_of, language_of, title_keywords, step_words, is_language_word, is_word_character};
 ghost use Rattle.gk_line.specs.Views.{line_chars, title_text, step_text, fence_text};

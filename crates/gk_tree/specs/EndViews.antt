@@ -4,6 +4,6 @@ use Rattle.gk_grammar.specs.Machine as machine
 use Rattle.gk_tree.specs.declared.flat_block.FlatBlock.{FlatBlock}
 use Rattle.gk_tree.specs.Views.{flat_block_of}
 
-abbrev pub last_of : Option FlatBlock → List machine.FlatBlock
-last_of None = []
-last_of (Some c) = flat_block_of c ∷ []
+abbrev pub last_as_list : Option FlatBlock → List machine.FlatBlock
+last_as_list None = []
+last_as_list (Some c) = flat_block_of c ∷ []

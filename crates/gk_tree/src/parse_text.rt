@@ -11,7 +11,7 @@ ghost use Rattle.gk_grammar.specs.Machine as machine;
 ghost use Rattle.gk_tree.specs.Views.{line_at, state_of, state_in, phase_of, Gives, out_of_memory, too_long};
 ghost use Rattle.gk_tree.specs.Read.{IsRead};
 ghost use Rattle.gk_tree.specs.Ends.{last_blocks, document_at, Answers};
-ghost use Rattle.gk_tree.specs.EndViews.{last_of};
+ghost use Rattle.gk_tree.specs.EndViews.{last_as_list};
 
 use crate::assemble::build_feature;
 use crate::before_blocks::{after_language, after_tags, at_start};
@@ -175,7 +175,7 @@ fn last_block(
     phase: Phase<'_>,
     end_line: u32,
 ) -> Result<Option<FlatBlock>, ParseFault>
-    ensures { Gives last_of result
+    ensures { Gives last_as_list result
         (last_blocks end_line (machine.blocks_at_end (phase_of phase.entry))) }
 {
     match phase {

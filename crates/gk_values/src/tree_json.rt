@@ -10,7 +10,7 @@ use crate::json::{
     WriteJson, add, add_list, add_media, add_optional, add_text, list_value, one_member,
     with_optional,
 };
-use cm_messages::{fence_text, keyword_type_name, place_of_table};
+use cm_messages::{keyword_type_name, place_of_table};
 use gk_document::{
     Argument, Background, Cell, Comment, DocString, Document, ExampleTable, Examples, Feature,
     Location, Row, Rule, Scenario, Step, Tag,
@@ -97,7 +97,7 @@ impl WriteJson for DocString {
     fn to_json(&self, alloc: Global) -> Result<Value, AllocError> {
         let mut members = Map::new(alloc);
         add_text(&mut members, alloc, "content", self.content.as_str())?;
-        add_text(&mut members, alloc, "delimiter", fence_text(self.fence))?;
+        add_text(&mut members, alloc, "delimiter", self.fence.characters())?;
         add(&mut members, alloc, "location", &self.location)?;
         add_media(&mut members, alloc, &self.media)?;
         Ok(Value::Object(members))

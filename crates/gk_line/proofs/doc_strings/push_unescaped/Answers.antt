@@ -3,7 +3,7 @@ use Rattle.std.proofs.lemmas.Str.{IsUtf8-string_bytes}
 use Rattle.std.specs.Str.{chars}
 use Rattle.std.specs.String.{string_bytes, string_capacity, string_len}
 use Rattle.gk_line.specs.Characters.{backslash}
-use Rattle.gk_line.specs.DocStrings.{fence_mark, fence_characters}
+use Rattle.gk_document.specs.Fences.{fence_mark, fence_characters}
 use Rattle.gk_line.proofs.TextLemmas.{grown_chars}
 use Rattle.gk_line.proofs.FenceLemmas.{turn, escaped_step, alone_step, fence_added, last, room_at_cut, length-fence_characters, length-after_backslash}
 use Rattle.gk_line.proofs.doc_strings.push_unescaped.Goals as goal
@@ -15,9 +15,9 @@ pub loop-front-preserved-in-Some-strip : goal.loop-front-preserved-in-Some-strip
 loop-front-preserved-in-Some-strip c =
     let room = room_at_cut (string_len c.loop-front.value) (string_capacity c.loop-front.value) c.loop-front.rest.now c.in-Some.front.now c.in-Some.next.now c.in-Some.ensures.bytes c.loop-front.invariant.2 in
     let marks = length-after_backslash c.args.fence c.after_backslash.result.now c.after_backslash.ensures.value in
-    let plain = ap length c.plain_fence.ensures ∙ length-fence_characters c.args.fence in
+    let plain = ap length c.characters.ensures ∙ length-fence_characters c.args.fence in
     let mid = string_bytes c.push_str.new.self in
-    let added = fence_added c.args.fence mid (string_bytes c.push_str-in-Some-strip.new.self) (IsUtf8-string_bytes c.push_str.new.self) (c.in_ok-push_str-2.ensures.bytes ∙ ap (λ q. mid ++ q) c.plain_fence.ensures) in
+    let added = fence_added c.args.fence mid (string_bytes c.push_str-in-Some-strip.new.self) (IsUtf8-string_bytes c.push_str.new.self) (c.in_ok-push_str-2.ensures.bytes ∙ ap (λ q. mid ++ q) c.characters.ensures) in
     let step = escaped_step c.args.fence c.after_backslash.result.now (chars c.in-Some.next.now) (chars c.in-Some-strip.after.now) c.after_backslash.ensures.value c.in-Some-strip.ensures.value in (
       c.in-Some-strip.ensures.utf8,
       turn (fence_mark c.args.fence) (string_bytes c.loop-front.value) mid (string_bytes c.push_str-in-Some-strip.new.self) (fence_characters c.args.fence) c.loop-front.rest.now c.in-Some.front.now (chars c.in-Some.next.now) (chars c.in-Some-strip.after.now) _
@@ -51,7 +51,7 @@ pub returns-in_err-push_str-2-clause-fits : goal.returns-in_err-push_str-2-claus
 returns-in_err-push_str-2-clause-fits c =
     let room = room_at_cut (string_len c.loop-front.value) (string_capacity c.loop-front.value) c.loop-front.rest.now c.in-Some.front.now c.in-Some.next.now c.in-Some.ensures.bytes c.loop-front.invariant.2 in
     let marks = length-after_backslash c.args.fence c.after_backslash.result.now c.after_backslash.ensures.value in
-    let plain = ap length c.plain_fence.ensures ∙ length-fence_characters c.args.fence in
+    let plain = ap length c.characters.ensures ∙ length-fence_characters c.args.fence in
     absurd (omega (arith, room, marks, plain, c.in-Some-strip.ensures.bound, c.in_ok-push_str.ensures.len, c.in_ok-push_str.ensures.capacity, c.in_err-push_str-2.ensures.full))
 
 pub returns-in_err-push-clause-fits : goal.returns-in_err-push-clause-fits

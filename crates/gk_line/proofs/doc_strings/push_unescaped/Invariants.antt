@@ -3,7 +3,8 @@ use denote.Text.{Utf8}
 use denote.Shadow.{shadow}
 use Rattle.std.specs.Str.{chars}
 use Rattle.std.specs.String.{string_bytes, string_capacity, string_len}
-use Rattle.gk_line.specs.DocStrings.{fences_unescaped, fence_mark}
+use Rattle.gk_document.specs.Fences.{fence_mark}
+use Rattle.gk_line.specs.DocStrings.{fences_unescaped}
 use Rattle.gk_line.proofs.doc_strings.push_unescaped.Given as goal
 
 abbrev pub decreases-loop-front : goal.decreases-loop-front

@@ -2,7 +2,7 @@ use Rattle.std.proofs.Common.{sym, ap, ◌∙◌, ◌∷◌, []}
 use Rattle.std.specs.Prelude.{nat_eq}
 use Rattle.std.specs.List.{list_any}
 use Rattle.std.specs.Str.{chars}
-use Rattle.gk_line.specs.DocStrings.{fence_characters}
+use Rattle.gk_document.specs.Fences.{fence_characters}
 use Rattle.gk_document.specs.declared.tree.Fence.TheVariants.{Quotes, Backticks}
 use Rattle.gk_line.proofs.PlaceLemmas.{placed-read}
 use Rattle.gk_line.proofs.TitleLemmas.{fence-letter}
