@@ -11,7 +11,7 @@ use Rattle.clap.specs.declared.error.kind.ErrorKind.{ErrorKind}
 use Rattle.clap.specs.declared.error.kind.ErrorKind.TheVariants.{DisplayHelp, DisplayVersion, OutOfMemory}
 use Rattle.clap.specs.declared.parser.matches.ArgMatches.{ArgMatches}
 use Rattle.clap.specs.declared.parser.matches.ArgMatches.TheViews.{out-ArgMatches, out-SubCommand}
-use Rattle.ck_command_line.specs.CommandLine.{Asked, Chooses, ShowsAsked, asked_of, asked_of_choice, command_app, subcommand_named, where_none}
+use Rattle.ck_command_line.specs.CommandLine.{Asked, Chooses, Shows, asked_of, asked_of_choice, command_app, subcommand_named, where_none}
 use Rattle.ck_command_line.specs.CommandLine.{HelpsByKind, HelpsOnCall, IsNoHelp, is_help, is_help_call}
 use Rattle.ck_command_line.specs.declared.command_line.Choice.{Choice}
 use Rattle.ck_command_line.specs.declared.command_line.NoChoice.{NoChoice}
@@ -66,10 +66,10 @@ pub met : (m : ArgMatches) (name : Text) (rows : List Row) → Some name ≡ sub
 met m name rows is has = named (λ b. (out-SubCommand (box_value b)).name.now) (λ b. rows_of (found_of (out-SubCommand (box_value b)).matches)) (out-ArgMatches m).subcommand name rows (sym is) (sym has)
 
 -- the choice that was read off the matches
-pub chosen_some : (words : List Text) (asked : Option Asked) (c : Choice) → ShowsAsked asked_of_choice asked (Ok c) → asked ≡ asked_of words → Chooses (asked_of words) (Ok c)
+pub chosen_some : (words : List Text) (asked : Option Asked) (c : Choice) → Shows asked_of_choice asked (Ok c) → asked ≡ asked_of words → Chooses (asked_of words) (Ok c)
 chosen_some words asked c is same = subst (λ o. Chooses o (Ok c)) (sym is ∙ same) refl
 
-by_reason : (asked : Option Asked) (why : NoChoice) (r : Refusal) → ShowsAsked asked_of_choice asked (Err why) → (why ≡ reason.Memory → r ≡ Memory) → Chooses asked (Err r)
+by_reason : (asked : Option Asked) (why : NoChoice) (r : Refusal) → Shows asked_of_choice asked (Err why) → (why ≡ reason.Memory → r ≡ Memory) → Chooses asked (Err r)
 by_reason (Some c) reason.Memory r is memory = memory refl
 by_reason None reason.Memory r is memory = refl
 by_reason asked reason.NoCommand r is memory = subst (λ o. Chooses o (Err r)) (sym is) refl
@@ -78,7 +78,7 @@ by_reason asked reason.WrongTag r is memory = subst (λ o. Chooses o (Err r)) (s
 by_reason asked reason.BothUnrun r is memory = subst (λ o. Chooses o (Err r)) (sym is) refl
 by_reason asked reason.TwoInputs r is memory = subst (λ o. Chooses o (Err r)) (sym is) refl
 
-pub chosen_none : (words : List Text) (asked : Option Asked) (why : NoChoice) (r : Refusal) → ShowsAsked asked_of_choice asked (Err why) → (why ≡ reason.Memory → r ≡ Memory) → asked ≡ asked_of words
+pub chosen_none : (words : List Text) (asked : Option Asked) (why : NoChoice) (r : Refusal) → Shows asked_of_choice asked (Err why) → (why ≡ reason.Memory → r ≡ Memory) → asked ≡ asked_of words
     → Chooses (asked_of words) (Err r)
 chosen_none words asked why r is memory same = subst (λ o. Chooses o (Err r)) same (by_reason asked why r is memory)
 

@@ -331,10 +331,10 @@ Chooses (Some a) (Err r) = r ≡ refusal.Memory
 Chooses None result = IsErr result
 
 -- The result shows what was asked for, or memory ran out; where nothing was, it is a mistake.
-abbrev pub ShowsAsked : {A B : Type 0} → (A → B) → Option B → Result A NoChoice → Type 0
-ShowsAsked shown asked (Ok x) = asked ≡ Some (shown x)
-ShowsAsked shown asked (Err no_choice.Memory) = ⊤
-ShowsAsked shown asked (Err mistake) = asked ≡ None
+abbrev pub Shows : {A B : Type 0} → (A → B) → Option B → Result A NoChoice → Type 0
+Shows shown asked (Ok x) = asked ≡ Some (shown x)
+Shows shown asked (Err no_choice.Memory) = ⊤
+Shows shown asked (Err mistake) = asked ≡ None
 
 -- the error shows help or the version
 abbrev pub is_help : ErrorKind → Bool

@@ -7,7 +7,7 @@ ghost use Rattle.ck_command_line.specs.CommandLine.{HelpsByKind, HelpsOnCall, Is
 ghost use Rattle.ck_command_line.specs.CommandLine.{Chooses, asked_of, asked_of_choice, attempts_rule, audit_command, bare_app, cases_command};
 ghost use Rattle.ck_command_line.specs.CommandLine.{cases_asked, form_in, gate_asked, gate_over, has_two_inputs, json_rule};
 ghost use Rattle.ck_command_line.specs.CommandLine.{command_app, command_named, compile_command};
-ghost use Rattle.ck_command_line.specs.CommandLine.{ShowsAsked, conditions_in, first_attempt_in, is_input, is_tag, tagged_rule, tags_allowed};
+ghost use Rattle.ck_command_line.specs.CommandLine.{Shows, conditions_in, first_attempt_in, is_input, is_tag, tagged_rule, tags_allowed};
 ghost use Rattle.ck_command_line.specs.CommandLine.{flag_rule, gate_command, is_given, subcommand_named, parse_command, policy_in, results_command};
 ghost use Rattle.ck_command_line.specs.CommandLine.{run_rule, runs_in, runs_named, settings_in, settings_rules, uri_rule, with_rules};
 ghost use Rattle.cm_stream.specs.Release.{conditions_of};
@@ -345,7 +345,7 @@ fn policy_in<'a>(values: &ArgMatches<'a>) -> Policy
 
 /// The number of each test case's first attempt: 0 where the option isn't given.
 fn first_attempt_in<'a>(values: &ArgMatches<'a>) -> Result<u64, NoChoice>
-    ensures { ShowsAsked (λ number. number) (first_attempt_in (rows_of (found_of values.now))) result }
+    ensures { Shows (λ number. number) (first_attempt_in (rows_of (found_of values.now))) result }
 {
     match text_of(values, "attempts-from") {
         None => Ok(0),
@@ -361,7 +361,7 @@ fn first_attempt_in<'a>(values: &ArgMatches<'a>) -> Result<u64, NoChoice>
 
 /// The settings that the values after a command ask for.
 fn settings_in<'a>(values: &ArgMatches<'a>) -> Result<Settings, NoChoice>
-    ensures { ShowsAsked (λ settings. settings) (settings_in (rows_of (found_of values.now))) result }
+    ensures { Shows (λ settings. settings) (settings_in (rows_of (found_of values.now))) result }
 {
     let first_attempt = first_attempt_in(values)?;
     Ok(Settings {
@@ -410,7 +410,7 @@ fn tags_in<'a>(
     values: &ArgMatches<'a>,
     allows_unrun: bool,
 ) -> Result<Vec<&'a str>, NoChoice>
-    ensures { ShowsAsked (λ tags. map (λ t. t.now) tags.items) (tags_allowed allows_unrun
+    ensures { Shows (λ tags. map (λ t. t.now) tags.items) (tags_allowed allows_unrun
         (all_of (codes "allow-unrun-tagged") (rows_of (found_of values.now)))) result }
 {
     let mut allowed = Vec::new(alloc);
@@ -431,7 +431,7 @@ fn tags_in<'a>(
 
 /// What the values after `gate` ask of a run.
 fn conditions_in<'a>(alloc: Global, values: &ArgMatches<'a>) -> Result<Conditions<'a>, NoChoice>
-    ensures { ShowsAsked conditions_of (conditions_in (rows_of (found_of values.now))) result }
+    ensures { Shows conditions_of (conditions_in (rows_of (found_of values.now))) result }
 {
     let allows_unrun = has_flag(values, "allow-unrun");
     let allowed_tags = tags_in(alloc, values, allows_unrun)?;
@@ -463,7 +463,7 @@ fn has_two_inputs(runs: &[&str]) -> bool
 
 /// The runs that are named, in their order.
 fn runs_in<'a>(alloc: Global, values: &ArgMatches<'a>) -> Result<Vec<&'a str>, NoChoice>
-    ensures { ShowsAsked (λ runs. map (λ run. run.now) runs.items)
+    ensures { Shows (λ runs. map (λ run. run.now) runs.items)
         (runs_in (rows_of (found_of values.now))) result }
 {
     let mut runs = Vec::new(alloc);
@@ -493,7 +493,7 @@ fn gate_over<'a>(settings: Settings, conditions: Conditions<'a>, runs: Vec<&'a s
 
 /// What the values after `gate` ask for.
 fn gate_in<'a>(alloc: Global, values: &ArgMatches<'a>) -> Result<Choice<'a>, NoChoice>
-    ensures { ShowsAsked asked_of_choice (gate_asked (settings_in (rows_of (found_of values.now)))
+    ensures { Shows asked_of_choice (gate_asked (settings_in (rows_of (found_of values.now)))
         (conditions_in (rows_of (found_of values.now)))
         (runs_in (rows_of (found_of values.now)))) result }
 {
@@ -508,7 +508,7 @@ fn choice_named<'a>(
     name: &str,
     values: &ArgMatches<'a>,
 ) -> Result<Choice<'a>, NoChoice>
-    ensures { ShowsAsked asked_of_choice
+    ensures { Shows asked_of_choice
         (command_named name.now (rows_of (found_of values.now))) result }
 {
     if name == "parse" {
@@ -535,7 +535,7 @@ fn choice_named<'a>(
 
 /// What the command in the matches asks for.
 fn chosen<'a>(alloc: Global, matches: &ArgMatches<'a>) -> Result<Choice<'a>, NoChoice>
-    ensures { ShowsAsked asked_of_choice (subcommand_named (subcommand_rows_of matches.now)) result }
+    ensures { Shows asked_of_choice (subcommand_named (subcommand_rows_of matches.now)) result }
 {
     match matches.subcommand() {
         Some((name, values)) => choice_named(alloc, name, values),
