@@ -14,8 +14,8 @@
 //! ```
 //!
 //! `audit_run` is the audit, by settings; `audit_with` and `audit` give its verdict alone, by a policy and by the strict one.
-//! `audit_watched` is the same audit, which a `Watch` goes along with: it is told of each envelope before that is judged, and
-//! sees the `State`, what the audit keeps of the lines before. `take_lines` reads a stream line by line for anything that takes
+//! `audit_watched` is the same audit, which a `Watch` goes along with: it is told of each envelope before that is judged. What the
+//! audit keeps of the lines is handed out with the watch at the end, as the `State`. `take_lines` reads a stream line by line for anything that takes
 //! lines (`TakeLines`), as an audit does; a line ends the reading by a `Stop`. `track` takes an envelope into a record of
 //! attempts.
 #![tactic(auto)]

@@ -21,10 +21,10 @@ returns-in_ok-document_entry-in-GherkinDocument-clause-ok c =
     on_ok c.push-in-GherkinDocument.result c.push-in-GherkinDocument.ensures.ok
     (λ h es is. rw c.in-GherkinDocument.is (document_noted c.args.self.now es c.in-GherkinDocument.document c.push-in-GherkinDocument.new.self is (h ∙ ap (λ (x : DocumentEntry). c.args.self.now.documents ++ x ∷ []) c.in_ok-document_entry-in-GherkinDocument.ensures)))
 
-pub returns-in_ok-copy-in-TestCaseStarted-clause-ok : goal.returns-in_ok-copy-in-TestCaseStarted-clause-ok
-returns-in_ok-copy-in-TestCaseStarted-clause-ok c =
+pub returns-in_ok-copy_of-in-TestCaseStarted-clause-ok : goal.returns-in_ok-copy_of-in-TestCaseStarted-clause-ok
+returns-in_ok-copy_of-in-TestCaseStarted-clause-ok c =
     on_ok c.push-in-TestCaseStarted.result c.push-in-TestCaseStarted.ensures.ok
-    (λ h es is. rw c.in-TestCaseStarted.is (start_noted c.args.self.now es c.in-TestCaseStarted.start c.push-in-TestCaseStarted.new.self is (h ∙ ap (λ (x : Utf8). c.args.self.now.starts ++ x ∷ []) c.in_ok-copy-in-TestCaseStarted.ensures)))
+    (λ h es is. rw c.in-TestCaseStarted.is (start_noted c.args.self.now es c.in-TestCaseStarted.start c.push-in-TestCaseStarted.new.self is (h ∙ ap (λ (x : Utf8). c.args.self.now.starts ++ x ∷ []) (c.in_ok-copy_of-in-TestCaseStarted.ensures ∙ c.as_str.ensures))))
 
 pub returns-in_default : goal.returns-in_default
 returns-in_default c = record {
