@@ -5,7 +5,8 @@ use Rattle.cm_envelope.specs.Device.{Input, OfWhole, Output}
 use Rattle.cm_attempt.specs.declared.settings.Settings.{Settings}
 use Rattle.cm_stream.specs.Release.{Conditions, IsReleasedStream}
 use Rattle.ck_commands.specs.Gate.{PrintsReleased}
-use Rattle.ck_commands.specs.Laws.{ShownAreHeard}
+use Rattle.ck_commands.specs.Laws.{ShownAreHeard, ShownAreReported}
+use Rattle.ck_commands.specs.Run.{Reports, Tells}
 use Rattle.ck_commands.specs.Standard.{GaveReleased}
 
 split : (old new : Option (List ℕ)) (read bytes : List ℕ) → Consumes old new read → old ≡ Some bytes → (rest : List ℕ) × (new ≡ Some rest) × (bytes ≡ read ++ rest)
@@ -19,6 +20,16 @@ pub shown_are_heard : ShownAreHeard
 shown_are_heard before after read bytes heard ends is =
     let parts = split before.to_come after.to_come read bytes heard.shown is in
     (parts.0, parts.1, parts.2, λ over. subst IsAtEnd parts.1 (heard.ends ends over))
+
+pub shown_are_reported : ShownAreReported
+shown_are_reported c r before after bytes ends is = (
+  λ h.
+      let parts = shown_are_heard before after h.0 bytes h.1 ends is in
+      subst (λ (l : List ℕ). Reports c l r) (sym parts.2) (h.2 parts.0 parts.3),
+  λ h.
+      let parts = shown_are_heard before after h.0 bytes h.1 ends is in
+      (parts.0, parts.1, subst (λ (l : List ℕ). Tells c l parts.0 r) (sym parts.2) (h.2 parts.0 parts.3)),
+)
 
 -- the bytes heard of a source from its first call on
 pub gave_released : (settings : Settings) (asked : Conditions) (i j : Input) (before after : Output) → i.heard ≡ [] → OfWhole i j (PrintsReleased settings asked before after) → GaveReleased settings asked j

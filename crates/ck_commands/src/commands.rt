@@ -1,8 +1,9 @@
 //! One command, from the words to the exit code.
-ghost use Rattle.std.specs.Prelude.{◌≡◌, ◌≢◌, ◌∷◌, IfOk, codes, map};
+ghost use Rattle.std.specs.Prelude.{◌≡◌, ◌≢◌, ◌∷◌, IfOk, List, codes, map};
 ghost use Rattle.cm_envelope.specs.Device.{OfInput, OfReads};
 ghost use Rattle.ck_command_line.specs.CommandLine.{Asked, Asks, AsksNothing, AsksRuns, Command, RunsGate, asked_of_choice};
-ghost use Rattle.ck_commands.specs.Asked.{AsksFor, Leaves, LeavesAlone, ReleasesEach};
+ghost use Rattle.files.specs.Openings.{Opening};
+ghost use Rattle.ck_commands.specs.Asked.{AsksFor, EachReleased, Leaves, LeavesAlone, ReleasesEach};
 ghost use Rattle.ck_commands.specs.Output.{Delivers, DeliversOne, NoneFailed, code_of};
 ghost use Rattle.ck_commands.specs.Run.{IsRefusal, IsRight, Reports, ShowsNone, TellsFailedRead, report_of_refusal};
 
@@ -143,6 +144,11 @@ pub fn run<R: ByteSource, W: ByteSink>(
     ensures refused { AsksNothing words.now → source.new ≡ source.old }
     ensures usage { AsksNothing words.now
         → DeliversOne (IsRefusal words.now) result (W.output sink.old) (W.output sink.new) }
+
+    // With status 0 of a gate over runs each of them was read to its end, and gave a released stream.
+    ensures released { (g : RunsGate) → AsksRuns words.now g → result ≡ code_of ExitStatus.Done
+        → (noted : List Opening) × EachReleased g.settings g.asked g.runs noted
+        (R.input source.old) (R.input source.new) }
 
     // A failed write or flush is seen in the status, and so is a failed read.
     ensures unwritten { (W.output sink.new).failed_calls ≢ (W.output sink.old).failed_calls

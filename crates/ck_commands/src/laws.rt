@@ -1,13 +1,16 @@
 //! Laws of the definitions of a run.
-ghost use Rattle.ck_commands.specs.Laws.{GateReleasesExactly, ShownAreHeard};
+ghost use Rattle.ck_commands.specs.Laws.{GateReleasesExactly, ReleasedEndsWell, ShownAreHeard, ShownAreReported};
 
-/// What a source shows to come is what was heard of it and what it shows afterwards. So each clause on the bytes heard and any
-/// that may come after them holds of the bytes that a source shows.
+/// What a source shows to come is what was heard of it and what it shows afterwards, unless its last answer was the end though it
+/// shows more. So what is said of the bytes heard, with any that may come after them, holds of the bytes that a source shows.
 pub fn shown_bytes_are_heard()
-    ensures { ShownAreHeard }
+    ensures heard { ShownAreHeard }
+    ensures reported { ShownAreReported }
 {}
 
-/// What a gate reports of some bytes has status 0 exactly where they are a released stream.
+/// What a gate reports of some bytes has status 0 exactly where they are a released stream, and a run of it on such a stream ends
+/// with status 0 or with that of trouble.
 pub fn gate_releases_exactly()
-    ensures { GateReleasesExactly }
+    ensures exactly { GateReleasesExactly }
+    ensures ends { ReleasedEndsWell }
 {}

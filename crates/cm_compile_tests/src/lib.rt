@@ -3,10 +3,4 @@
 #![tactic(auto)]
 
 #[cfg(test)]
-mod compiled;
-#[cfg(test)]
-mod differences;
-#[cfg(test)]
-mod messages;
-#[cfg(test)]
-mod skeletons;
+mod tests;

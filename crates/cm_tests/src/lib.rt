@@ -3,20 +3,4 @@
 #![tactic(auto)]
 
 #[cfg(test)]
-mod attempts;
-#[cfg(test)]
-mod declarations;
-#[cfg(test)]
-mod documents;
-#[cfg(test)]
-mod envelopes;
-#[cfg(test)]
-mod feeds;
-#[cfg(test)]
-mod members;
-#[cfg(test)]
-mod pickles;
-#[cfg(test)]
-mod producers;
-#[cfg(test)]
-mod std_devices;
+mod tests;

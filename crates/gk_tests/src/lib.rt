@@ -3,16 +3,4 @@
 #![tactic(auto)]
 
 #[cfg(test)]
-mod document_parts;
-#[cfg(test)]
-mod filling;
-#[cfg(test)]
-mod lines;
-#[cfg(test)]
-mod pickles;
-#[cfg(test)]
-mod plain_trees;
-#[cfg(test)]
-mod small_skeletons;
-#[cfg(test)]
-mod trees;
+mod tests;

@@ -3,8 +3,4 @@
 #![tactic(auto)]
 
 #[cfg(test)]
-mod attempts;
-#[cfg(test)]
-mod checking;
-#[cfg(test)]
-mod declarations;
+mod tests;

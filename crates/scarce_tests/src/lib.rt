@@ -5,18 +5,4 @@
 #![tactic(auto)]
 
 #[cfg(test)]
-mod commands;
-#[cfg(test)]
-mod differences;
-#[cfg(test)]
-mod features;
-#[cfg(test)]
-mod feeds;
-#[cfg(test)]
-mod meeting;
-#[cfg(test)]
-mod parts;
-#[cfg(test)]
-mod rooms;
-#[cfg(test)]
-mod streams;
+mod tests;

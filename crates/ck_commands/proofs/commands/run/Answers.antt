@@ -15,3 +15,6 @@ returns-clause-read_failed g c = λ k asks failed. (c.run_with-code.ensures.aske
 
 pub returns-clause-usage : goal.returns-clause-usage
 returns-clause-usage g c = λ nothing. (c.run_with-code.ensures.nothing nothing).told
+
+pub returns-clause-released : goal.returns-clause-released
+returns-clause-released g c = λ r asks zero. let all = c.run_with-code.ensures.released r asks zero in (all.0, all.2)

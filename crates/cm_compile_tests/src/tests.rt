@@ -1,0 +1,4 @@
+mod compiled;
+mod differences;
+mod messages;
+mod skeletons;

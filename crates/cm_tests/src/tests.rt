@@ -1,0 +1,9 @@
+mod attempts;
+mod declarations;
+mod documents;
+mod envelopes;
+mod feeds;
+mod members;
+mod pickles;
+mod producers;
+mod std_devices;
