@@ -16,7 +16,8 @@ use Rattle.gk_document.specs.declared.tree.Argument.{Argument}
 use Rattle.gk_document.specs.declared.tree.Argument.TheVariants.{Table, Text}
 use Rattle.gk_document.specs.declared.tree.Step.{Step}
 use Rattle.gk_document.specs.declared.tree.Comment.{Comment}
-use Rattle.cm_messages.specs.DocumentLayout.{location_data, cell_data, row_data, tag_data, comment_data, delimiter, doc_string_data, table_place, table_data, keyword_word, step_data}
+use Rattle.gk_document.specs.Fences.{fence_characters}
+use Rattle.cm_messages.specs.DocumentLayout.{location_data, cell_data, row_data, tag_data, comment_data, doc_string_data, table_place, table_data, keyword_word, step_data}
 use Rattle.cm_read_back.specs.Values.{IsPlain, ItemsArePlain}
 use Rattle.cm_compiled_good.proofs.Clean.{CommentOk}
 use Rattle.cm_compiled_good.proofs.Fine.{Fits64, clean, TagOf, CellOf, RowOf, MediaOf, StepOf}
@@ -51,7 +52,7 @@ comment_plain c h = (IsUtf8-are_ascii _ refl, place_plain c.location (h.1, h.2),
 
 -- ---- steps
 
-fence_utf8 : (f : Fence) → IsUtf8 (delimiter f)
+fence_utf8 : (f : Fence) → IsUtf8 (fence_characters f)
 fence_utf8 fence.Quotes = IsUtf8-are_ascii _ refl
 fence_utf8 fence.Backticks = IsUtf8-are_ascii _ refl
 
