@@ -14,3 +14,8 @@ mod GatePrinted
 mod AuditsBeside
 pub mod RunsLemmas
 pub mod RunsReleased
+pub mod JudgedLemmas
+pub mod FeaturesReleased
+pub mod Left
+pub mod FilesLemmas
+mod FeaturesStrict

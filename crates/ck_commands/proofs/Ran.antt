@@ -83,7 +83,7 @@ module _ (settings : Settings) (asked : Conditions) (code : ℕ) (before after :
         counts,
         found,
         (released_is_not_held settings asked bytes counts found a.success h.0 refl).0 none,
-        subst (Writes before after) (ap (λ (x : Report). x.text) h.1.2 ∙ ap (λ (o : Option Hold). counts_text counts ++ second_line o counts found h.1.0) none) p.written,
+        subst (Writes before after) (ap (λ (x : Report). x.text) h.1.2 ∙ ap (λ (o : Option Hold). counts_text counts ++ second_line asked.is_part o counts found h.1.0) none) p.written,
       )
   released bytes a (verdict.Bad n b) r is h p zero = absurd (not_both 1 0 code (p.status ∙ ap (λ (x : Report). code_of x.status) h.2) zero (λ e. cc))
   released bytes a (verdict.Unsupported n u) r is h p zero = absurd (not_both 4 0 code (p.status ∙ ap (λ (x : Report). code_of x.status) h.2) zero (λ e. cc))

@@ -23,6 +23,12 @@ pub data Reading : Type 0 where
   unnoted : Reading
   heard : (before after : Input) → Reading
 
+-- that holds of what was heard
+abbrev pub OfHeard : (Input → Input → Type 0) → Reading → Type 0
+OfHeard P unopened = ⊥
+OfHeard P unnoted = ⊥
+OfHeard P (heard before after) = P before after
+
 -- a file of which nothing was read yet
 abbrev pub unread : Input
 unread = record { heard = []; is_over = false; to_come = None; failed_calls = 0 }
