@@ -9,10 +9,10 @@ use Rattle.clap.proofs.OnLiterals.{clap_on_literals}
 use Rattle.clap.specs.Words.{App, Text}
 use Rattle.clap.specs.Walk.{arg_by_long, bundle_met, walked}
 use Rattle.clap.specs.Faults.{flags_fault, walk_fault, defaults_fault}
-use Rattle.ck_command_line.specs.CommandLine.{Asked, ask_parse, ask_compile, asked_of, is_help_call, over_input, over_runs}
+use Rattle.ck_command_line.specs.CommandLine.{Asked, ask_parse, ask_compile, asked_of, is_help_call, over_features, over_input, over_runs}
 use Rattle.ck_command_line.specs.CommandLine.{gate_command, audit_command, cases_command, results_command, parse_command, compile_command}
 use Rattle.ck_command_line.specs.Asked.{Ask, CallForHelp, TakesItsOptions, RefusesFiles, RefusesOtherOptions, FeaturesAreAsked, NothingIsAsked, ExamplesAreAsked}
-use Rattle.ck_command_line.specs.Asked.{all_words, usages, named_options, named_options_over_input, examples, runs_examples, mistakes, help_calls, is_option, words_of_line}
+use Rattle.ck_command_line.specs.Asked.{all_words, usages, named_options, named_options_over_input, examples, features_examples, runs_examples, mistakes, help_calls, is_option, words_of_line}
 use Rattle.ck_command_line.proofs.Leaves.{LineAnswers, leaf, gate_words, audit_words, cases_words, results_words, parse_words, compile_words}
 use Rattle.ck_command_line.proofs.Gate.{gate_takes}
 use Rattle.ck_command_line.proofs.AuditOptions.{audit_takes}
@@ -79,7 +79,8 @@ module _ (name : Text) (help : codes "help" ≢ name) where
   not_cases j p n a =
       rw (differ (codes "json") name j, differ (codes "pending-passes") name p, differ (codes "attempts-from") name n, differ (codes "allow-redeclared") name a, differ (codes "help") name help) refl
 
-  not_gate : codes "allow-unrun" ≢ name →
+  not_gate : codes "features" ≢ name →
+      codes "allow-unrun" ≢ name →
       codes "allow-unrun-tagged" ≢ name →
       codes "no-retries" ≢ name →
       codes "no-skips" ≢ name →
@@ -89,11 +90,11 @@ module _ (name : Text) (help : codes "help" ≢ name) where
       codes "pending-passes" ≢ name →
       codes "attempts-from" ≢ name →
       codes "allow-redeclared" ≢ name → HasNone gate_command name
-  not_gate u t r k l d s p n a =
-      rw (differ (codes "allow-unrun") name u, differ (codes "allow-unrun-tagged") name t, differ (codes "no-retries") name r, differ (codes "no-skips") name k, differ (codes "no-stepless") name l, differ (codes "no-undefined") name d, differ (codes "strict") name s, differ (codes "pending-passes") name p, differ (codes "attempts-from") name n, differ (codes "allow-redeclared") name a, differ (codes "help") name help) refl
+  not_gate f u t r k l d s p n a =
+      rw (differ (codes "features") name f, differ (codes "allow-unrun") name u, differ (codes "allow-unrun-tagged") name t, differ (codes "no-retries") name r, differ (codes "no-skips") name k, differ (codes "no-stepless") name l, differ (codes "no-undefined") name d, differ (codes "strict") name s, differ (codes "pending-passes") name p, differ (codes "attempts-from") name n, differ (codes "allow-redeclared") name a, differ (codes "help") name help) refl
 
 pub other_options_are_refused : AllByRecursion RefusesOtherOptions named_options
-other_options_are_refused = (λ word name value long h options k others. ask (codes "gate" ∷ all_words options ++ word ∷ others) None (gate_words (all_words options ++ word ∷ others) None (option_is_refused (leaf gate_command) gate_leaf options k word name value long (not_gate name h.0 h.1.0 h.1.1.0 h.1.1.1.0 h.1.1.1.1.0 h.1.1.1.1.1.0 h.1.1.1.1.1.1.0 h.1.1.1.1.1.1.1.0 h.1.1.1.1.1.1.1.1.0 h.1.1.1.1.1.1.1.1.1.0 h.1.1.1.1.1.1.1.1.1.1.0) others)), (λ word name value long h options k others. ask (codes "parse" ∷ all_words options ++ word ∷ others) None (parse_words (all_words options ++ word ∷ others) None (option_is_refused (leaf parse_command) parse_leaf options k word name value long (not_parse name h.0) others)), (λ word name value long h options k others. ask (codes "compile" ∷ all_words options ++ word ∷ others) None (compile_words (all_words options ++ word ∷ others) None (option_is_refused (leaf compile_command) compile_leaf options k word name value long (not_compile name h.0 h.1.0) others)), (λ word name value long h options k others. ask (codes "audit" ∷ all_words options ++ word ∷ others) None (audit_words (all_words options ++ word ∷ others) None (option_is_refused (leaf audit_command) (leaf_like_audit (codes "audit")) options k word name value long (not_audit name h.0 h.1.0 h.1.1.0 h.1.1.1.0) others)), (λ word name value long h options k others. ask (codes "cases" ∷ all_words options ++ word ∷ others) None (cases_words (all_words options ++ word ∷ others) None (option_is_refused (leaf cases_command) cases_leaf options k word name value long (not_cases name h.0 h.1.0 h.1.1.0 h.1.1.1.0 h.1.1.1.1.0) others)), (λ word name value long h options k others. ask (codes "results" ∷ all_words options ++ word ∷ others) None (results_words (all_words options ++ word ∷ others) None (option_is_refused (leaf results_command) results_leaf options k word name value long (not_results name h.0 h.1.0) others)), tt))))))
+other_options_are_refused = (λ word name value long h options k others. ask (codes "gate" ∷ all_words options ++ word ∷ others) None (gate_words (all_words options ++ word ∷ others) None (option_is_refused (leaf gate_command) gate_leaf options k word name value long (not_gate name h.0 h.1.0 h.1.1.0 h.1.1.1.0 h.1.1.1.1.0 h.1.1.1.1.1.0 h.1.1.1.1.1.1.0 h.1.1.1.1.1.1.1.0 h.1.1.1.1.1.1.1.1.0 h.1.1.1.1.1.1.1.1.1.0 h.1.1.1.1.1.1.1.1.1.1.0 h.1.1.1.1.1.1.1.1.1.1.1.0) others)), (λ word name value long h options k others. ask (codes "parse" ∷ all_words options ++ word ∷ others) None (parse_words (all_words options ++ word ∷ others) None (option_is_refused (leaf parse_command) parse_leaf options k word name value long (not_parse name h.0) others)), (λ word name value long h options k others. ask (codes "compile" ∷ all_words options ++ word ∷ others) None (compile_words (all_words options ++ word ∷ others) None (option_is_refused (leaf compile_command) compile_leaf options k word name value long (not_compile name h.0 h.1.0) others)), (λ word name value long h options k others. ask (codes "audit" ∷ all_words options ++ word ∷ others) None (audit_words (all_words options ++ word ∷ others) None (option_is_refused (leaf audit_command) (leaf_like_audit (codes "audit")) options k word name value long (not_audit name h.0 h.1.0 h.1.1.0 h.1.1.1.0) others)), (λ word name value long h options k others. ask (codes "cases" ∷ all_words options ++ word ∷ others) None (cases_words (all_words options ++ word ∷ others) None (option_is_refused (leaf cases_command) cases_leaf options k word name value long (not_cases name h.0 h.1.0 h.1.1.0 h.1.1.1.0 h.1.1.1.1.0) others)), (λ word name value long h options k others. ask (codes "results" ∷ all_words options ++ word ∷ others) None (results_words (all_words options ++ word ∷ others) None (option_is_refused (leaf results_command) results_leaf options k word name value long (not_results name h.0 h.1.0) others)), tt))))))
 
 no_word : LineAnswers [] None
 unfolding asked_of is_help_call clap_on_literals
@@ -177,6 +178,9 @@ examples_are_asked = record {
   runs =
       each (λ row. row.0) (λ row. (Some (over_runs row.1), false)) (λ row. Ask (words_of_line row.0) (Some (over_runs row.1))) (λ row same. ask (words_of_line row.0) (Some (over_runs row.1)) (ap (λ (t : Option Asked × Bool). t.0) same, ap (λ (t : Option Asked × Bool). t.1) same))
       runs_examples refl;
+  features =
+      each (λ row. row.0) (λ row. (Some (over_features row.1), false)) (λ row. Ask (words_of_line row.0) (Some (over_features row.1))) (λ row same. ask (words_of_line row.0) (Some (over_features row.1)) (ap (λ (t : Option Asked × Bool). t.0) same, ap (λ (t : Option Asked × Bool). t.1) same))
+      features_examples refl;
   mistakes =
       each (λ text. text) (λ text. (None, false)) (λ text. Ask (words_of_line text) None) (λ text same. ask (words_of_line text) None (ap (λ (t : Option Asked × Bool). t.0) same, ap (λ (t : Option Asked × Bool). t.1) same))
       mistakes refl;

@@ -1,5 +1,5 @@
 -- Each list of the options of `audit` is read, by each command that has them.
-use Rattle.std.proofs.Common.{◌≡◌, ◌∙◌, true, false, List, [], ◌∷◌, Option, refl, ap, ap₂, inl, inr, sym, fold, option_map}
+use Rattle.std.proofs.Common.{◌≡◌, ◌∙◌, true, false, List, [], ◌∷◌, Option, refl, ap, inl, inr, sym, fold, option_map}
 use Rattle.std.proofs.lemmas.Bool.{false≢true, or_right}
 use Rattle.std.specs.Prelude.{codes, option_and_then}
 use Rattle.std.specs.List.{AllByRecursion}
@@ -8,16 +8,15 @@ use Rattle.clap.specs.Walk.{Held, bundle_met, nothing_held, reading_by, rows_aft
 use Rattle.clap.specs.Simple.{Shape}
 use Rattle.clap.specs.Faults.{flags_fault, walk_fault}
 use Rattle.cm_attempt.specs.declared.settings.Settings.{Settings}
-use Rattle.cm_stream.specs.Release.{Conditions}
 use Rattle.ck_command_line.specs.CommandLine.{Asked, Command, ask_audit, command_like_audit, command_named, is_given, over_input, settings_in}
-use Rattle.ck_command_line.specs.Asked.{Written, allow_unrun, allow_unrun_tagged, no_retries, no_skips, no_stepless, no_undefined, strict, as_json, pending_passes, attempts_from, allow_redeclared, run}
+use Rattle.ck_command_line.specs.Asked.{Written, features, allow_unrun, allow_unrun_tagged, no_retries, no_skips, no_stepless, no_undefined, strict, as_json, pending_passes, attempts_from, allow_redeclared, run}
 use Rattle.ck_command_line.specs.Asked.{IsPlain, all_words, are_distinct, asked_with, has_name, is_there, number_of, settings_written, usage_like_audit}
 use Rattle.ck_command_line.proofs.Gate.{same_settings}
 use Rattle.ck_command_line.proofs.Leaves.{faults, leaf}
 use Rattle.ck_command_line.proofs.Plain.{plain}
 use Rattle.ck_command_line.proofs.Rows.{IsFit, IsOff, Keeps, defaults_fit, defaults_keep, defaults_off, first_is, first_text, is_on, set_told}
 use Rattle.ck_command_line.proofs.Said.{IsFlag, flag_said, number_said}
-use Rattle.ck_command_line.proofs.Unconditional.{AreFree, runless, unconditional}
+use Rattle.ck_command_line.proofs.Unconditional.{AreFree, featureless, runless, unconditional}
 use Rattle.ck_command_line.proofs.Using.{AreUsed, IsNew, ReadsEach, Told, Used, again, all_own, conflict, is_new, is_own, no_faults_found, once, rows_now, rule_for, settling, use_all, waiting}
 
 abbrev own_names : List Text
@@ -32,7 +31,7 @@ wider (option ∷ options) h = (or_right (has_name (codes "json") option) (is_ow
 asked : (name : Text) (asks : Settings → Command) (options : List Written) → are_distinct own_names options ≡ true → asked_with (usage_like_audit name asks) options ≡ option_map (λ s. over_input (asks s)) (settings_written options)
 asked name asks options d =
     let free = wider options (all_own own_names options d) in
-    ap₂ (λ (conditions : Option Conditions) (runs : Option (List Text)). option_and_then (λ c. option_and_then (λ r. option_map (λ s. over_input (asks s)) (settings_written options)) runs) conditions) (unconditional options free) (runless options free)
+    λ j. option_and_then (λ c. option_and_then (λ r. option_and_then (λ p. option_map (λ s. over_input (asks s)) (settings_written options)) (featureless options free j)) (runless options free j)) (unconditional options free j)
 
 -- ---- one option
 
@@ -42,6 +41,7 @@ module _ (name : Text) where
 
   use_one : (option : Written) → is_own own_names option ≡ true → IsPlain option → (h : Held) → settling audit h ≡ [] → IsNew option (rows_now audit h) → Used audit option h
   unfolding bundle_met walked flags_fault walk_fault
+  use_one (features w p) own k h n new = absurd (false≢true own)
   use_one allow_unrun own k h n new = absurd (false≢true own)
   use_one (allow_unrun_tagged w t) own k h n new = absurd (false≢true own)
   use_one no_retries own k h n new = absurd (false≢true own)
@@ -57,6 +57,7 @@ module _ (name : Text) where
   use_one (run w) own k h n new = absurd (false≢true own)
 
   told : (option : Written) → is_own own_names option ≡ true → Told audit option
+  told (features w p) own row rows new = absurd (false≢true own)
   told allow_unrun own row rows new = absurd (false≢true own)
   told (allow_unrun_tagged w t) own row rows new = absurd (false≢true own)
   told no_retries own row rows new = absurd (false≢true own)
@@ -108,7 +109,7 @@ module _ (name : Text) where
         ∙ number_said options
 
     pub settings_read : settings_in (rows_after audit.rules [] (all_words options)) ≡ settings_written options
-    settings_read = same_settings (flag_read (codes "pending-passes") (refl, refl, refl)) (flag_read (codes "allow-redeclared") (refl, refl, refl)) number_read
+    settings_read = same_settings (flag_read (codes "pending-passes") (refl, refl, refl, refl)) (flag_read (codes "allow-redeclared") (refl, refl, refl, refl)) number_read
 
 -- ---- the two commands
 

@@ -1,5 +1,5 @@
 -- Each list of the options of `cases` is read.
-use Rattle.std.proofs.Common.{◌≡◌, ◌∙◌, Bool, true, false, List, [], ◌∷◌, Option, refl, ap, ap₂, inl, inr, sym, fold}
+use Rattle.std.proofs.Common.{◌≡◌, ◌∙◌, Bool, true, false, List, [], ◌∷◌, refl, ap, inl, inr, sym, fold}
 use Rattle.std.proofs.lemmas.Bool.{false≢true}
 use Rattle.std.specs.Prelude.{codes, if◌then◌else◌, option_and_then}
 use Rattle.std.specs.List.{AllByRecursion}
@@ -7,9 +7,8 @@ use Rattle.clap.specs.Words.{Row, Text, first_of}
 use Rattle.clap.specs.Walk.{Held, bundle_met, nothing_held, reading_by, rows_after, walk_from, walked, with_default}
 use Rattle.clap.specs.Simple.{Shape}
 use Rattle.clap.specs.Faults.{flags_fault, walk_fault}
-use Rattle.cm_stream.specs.Release.{Conditions}
 use Rattle.ck_command_line.specs.CommandLine.{cases_asked, cases_command, form_in, is_given, settings_in}
-use Rattle.ck_command_line.specs.Asked.{Written, allow_unrun, allow_unrun_tagged, no_retries, no_skips, no_stepless, no_undefined, strict, as_json, pending_passes, attempts_from, allow_redeclared, run}
+use Rattle.ck_command_line.specs.Asked.{Written, features, allow_unrun, allow_unrun_tagged, no_retries, no_skips, no_stepless, no_undefined, strict, as_json, pending_passes, attempts_from, allow_redeclared, run}
 use Rattle.ck_command_line.specs.Asked.{IsPlain, all_words, are_distinct, cases_usage, asked_with, form_of, is_there, number_of, settings_written}
 use Rattle.ck_command_line.specs.declared.command_line.CaseForm.TheVariants.{Plain, Json}
 use Rattle.ck_command_line.proofs.AuditOptions.{Reads}
@@ -18,7 +17,7 @@ use Rattle.ck_command_line.proofs.Leaves.{faults, leaf}
 use Rattle.ck_command_line.proofs.Plain.{plain}
 use Rattle.ck_command_line.proofs.Rows.{IsFit, IsOff, Keeps, defaults_fit, defaults_keep, defaults_off, first_is, first_text, is_on, set_told}
 use Rattle.ck_command_line.proofs.Said.{IsFlag, flag_said, number_said}
-use Rattle.ck_command_line.proofs.Unconditional.{runless, unconditional}
+use Rattle.ck_command_line.proofs.Unconditional.{featureless, runless, unconditional}
 use Rattle.ck_command_line.proofs.Using.{AreUsed, IsNew, ReadsEach, Told, Used, again, all_own, conflict, is_new, is_own, no_faults_found, once, rows_now, rule_for, settling, use_all, waiting}
 
 abbrev listed : Shape
@@ -27,12 +26,13 @@ listed = leaf cases_command
 asked : (options : List Written) → are_distinct cases_usage.options options ≡ true → asked_with cases_usage options ≡ cases_asked (settings_written options) (form_of options)
 asked options d =
     let free = all_own cases_usage.options options d in
-    ap₂ (λ (conditions : Option Conditions) (runs : Option (List Text)). option_and_then (λ c. option_and_then (λ r. cases_asked (settings_written options) (form_of options)) runs) conditions) (unconditional options free) (runless options free)
+    λ j. option_and_then (λ c. option_and_then (λ r. option_and_then (λ p. cases_asked (settings_written options) (form_of options)) (featureless options free j)) (runless options free j)) (unconditional options free j)
 
 -- ---- one option
 
 use_one : (option : Written) → is_own cases_usage.options option ≡ true → IsPlain option → (h : Held) → settling listed h ≡ [] → IsNew option (rows_now listed h) → Used listed option h
 unfolding bundle_met walked flags_fault walk_fault
+use_one (features w p) own k h n new = absurd (false≢true own)
 use_one allow_unrun own k h n new = absurd (false≢true own)
 use_one (allow_unrun_tagged w t) own k h n new = absurd (false≢true own)
 use_one no_retries own k h n new = absurd (false≢true own)
@@ -48,6 +48,7 @@ use_one allow_redeclared own k h n new = ((refl, refl, refl, refl), refl, once (
 use_one (run w) own k h n new = absurd (false≢true own)
 
 told : (option : Written) → is_own cases_usage.options option ≡ true → Told listed option
+told (features w p) own row rows new = absurd (false≢true own)
 told allow_unrun own row rows new = absurd (false≢true own)
 told (allow_unrun_tagged w t) own row rows new = absurd (false≢true own)
 told no_retries own row rows new = absurd (false≢true own)
@@ -99,10 +100,10 @@ module _ (options : List Written) (d : are_distinct cases_usage.options options 
       ∙ number_said options
 
   settings_read : settings_in (rows_after listed.rules [] (all_words options)) ≡ settings_written options
-  settings_read = same_settings (flag_read (codes "pending-passes") (refl, refl, refl)) (flag_read (codes "allow-redeclared") (refl, refl, refl)) number_read
+  settings_read = same_settings (flag_read (codes "pending-passes") (refl, refl, refl, refl)) (flag_read (codes "allow-redeclared") (refl, refl, refl, refl)) number_read
 
   form_read : form_in (rows_after listed.rules [] (all_words options)) ≡ form_of options
-  form_read = ap (λ (b : Bool). if b then Json else Plain) (flag_read (codes "json") (refl, refl, refl))
+  form_read = ap (λ (b : Bool). if b then Json else Plain) (flag_read (codes "json") (refl, refl, refl, refl))
 
   pub cases_takes : Reads listed (all_words options) (asked_with cases_usage options)
   cases_takes = (no_faults, (λ j. cases_asked (settings_read j) (form_read j)) ∙ sym (asked options d))

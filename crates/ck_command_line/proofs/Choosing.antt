@@ -76,6 +76,7 @@ by_reason asked reason.NoCommand r is memory = subst (λ o. Chooses o (Err r)) (
 by_reason asked reason.WrongAttempts r is memory = subst (λ o. Chooses o (Err r)) (sym is) refl
 by_reason asked reason.WrongTag r is memory = subst (λ o. Chooses o (Err r)) (sym is) refl
 by_reason asked reason.BothUnrun r is memory = subst (λ o. Chooses o (Err r)) (sym is) refl
+by_reason asked reason.UnrunWithFeatures r is memory = subst (λ o. Chooses o (Err r)) (sym is) refl
 by_reason asked reason.TwoInputs r is memory = subst (λ o. Chooses o (Err r)) (sym is) refl
 
 pub chosen_none : (words : List Text) (asked : Option Asked) (why : NoChoice) (r : Refusal) → Shows asked_of_choice asked (Err why) → (why ≡ reason.Memory → r ≡ Memory) → asked ≡ asked_of words

@@ -13,7 +13,7 @@ use Rattle.ck_command_line.specs.CommandLine.{Asked, asked_of, command_app, comm
 use Rattle.ck_command_line.specs.CommandLine.{gate_command, audit_command, cases_command, results_command, compile_command, parse_command}
 
 -- the program, built
-abbrev program : App
+abbrev pub program : App
 program = built command_app
 
 -- a command, built
@@ -58,7 +58,7 @@ module _ (others : List Text) where
   unfolding bundle_met walked flags_fault walk_fault defaults_fault
   gate_fault = rw (left (codes "gate"), no_fault (codes "gate")) refl
 
-  gate_rows : subcommand_of command_app (codes "cukecheck" ∷ codes "gate" ∷ others) ≡ Some (codes "gate", rows_after (leaf gate_command).rules [] others)
+  pub gate_rows : subcommand_of command_app (codes "cukecheck" ∷ codes "gate" ∷ others) ≡ Some (codes "gate", rows_after (leaf gate_command).rules [] others)
   unfolding walked
   gate_rows = ap (λ (w : Walk). entered program w.stopped) (left (codes "gate"))
 
@@ -69,7 +69,7 @@ module _ (others : List Text) where
   unfolding bundle_met walked flags_fault walk_fault defaults_fault
   audit_fault = rw (left (codes "audit"), no_fault (codes "audit")) refl
 
-  audit_rows : subcommand_of command_app (codes "cukecheck" ∷ codes "audit" ∷ others) ≡ Some (codes "audit", rows_after (leaf audit_command).rules [] others)
+  pub audit_rows : subcommand_of command_app (codes "cukecheck" ∷ codes "audit" ∷ others) ≡ Some (codes "audit", rows_after (leaf audit_command).rules [] others)
   unfolding walked
   audit_rows = ap (λ (w : Walk). entered program w.stopped) (left (codes "audit"))
 
@@ -80,7 +80,7 @@ module _ (others : List Text) where
   unfolding bundle_met walked flags_fault walk_fault defaults_fault
   cases_fault = rw (left (codes "cases"), no_fault (codes "cases")) refl
 
-  cases_rows : subcommand_of command_app (codes "cukecheck" ∷ codes "cases" ∷ others) ≡ Some (codes "cases", rows_after (leaf cases_command).rules [] others)
+  pub cases_rows : subcommand_of command_app (codes "cukecheck" ∷ codes "cases" ∷ others) ≡ Some (codes "cases", rows_after (leaf cases_command).rules [] others)
   unfolding walked
   cases_rows = ap (λ (w : Walk). entered program w.stopped) (left (codes "cases"))
 
@@ -91,7 +91,7 @@ module _ (others : List Text) where
   unfolding bundle_met walked flags_fault walk_fault defaults_fault
   results_fault = rw (left (codes "results"), no_fault (codes "results")) refl
 
-  results_rows : subcommand_of command_app (codes "cukecheck" ∷ codes "results" ∷ others) ≡ Some (codes "results", rows_after (leaf results_command).rules [] others)
+  pub results_rows : subcommand_of command_app (codes "cukecheck" ∷ codes "results" ∷ others) ≡ Some (codes "results", rows_after (leaf results_command).rules [] others)
   unfolding walked
   results_rows = ap (λ (w : Walk). entered program w.stopped) (left (codes "results"))
 
@@ -102,7 +102,7 @@ module _ (others : List Text) where
   unfolding bundle_met walked flags_fault walk_fault defaults_fault
   parse_fault = rw (left (codes "parse"), no_fault (codes "parse")) refl
 
-  parse_rows : subcommand_of command_app (codes "cukecheck" ∷ codes "parse" ∷ others) ≡ Some (codes "parse", rows_after (leaf parse_command).rules [] others)
+  pub parse_rows : subcommand_of command_app (codes "cukecheck" ∷ codes "parse" ∷ others) ≡ Some (codes "parse", rows_after (leaf parse_command).rules [] others)
   unfolding walked
   parse_rows = ap (λ (w : Walk). entered program w.stopped) (left (codes "parse"))
 
@@ -113,7 +113,7 @@ module _ (others : List Text) where
   unfolding bundle_met walked flags_fault walk_fault defaults_fault
   compile_fault = rw (left (codes "compile"), no_fault (codes "compile")) refl
 
-  compile_rows : subcommand_of command_app (codes "cukecheck" ∷ codes "compile" ∷ others) ≡ Some (codes "compile", rows_after (leaf compile_command).rules [] others)
+  pub compile_rows : subcommand_of command_app (codes "cukecheck" ∷ codes "compile" ∷ others) ≡ Some (codes "compile", rows_after (leaf compile_command).rules [] others)
   unfolding walked
   compile_rows = ap (λ (w : Walk). entered program w.stopped) (left (codes "compile"))
 

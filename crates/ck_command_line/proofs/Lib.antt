@@ -1,5 +1,6 @@
 pub mod Choosing
 pub mod Named
+pub mod Gates
 pub mod Tags
 pub mod Plain
 pub mod Rows

@@ -7,7 +7,7 @@ use Rattle.clap.specs.Simple.{Shape}
 use Rattle.clap.specs.Walk.{bundle_met, rows_after, walked}
 use Rattle.clap.specs.Faults.{flags_fault, walk_fault, defaults_fault}
 use Rattle.ck_command_line.specs.CommandLine.{Asked, command_named, is_help, results_command, where_none}
-use Rattle.ck_command_line.specs.Asked.{Written, allow_unrun, allow_unrun_tagged, no_retries, no_skips, no_stepless, no_undefined, strict, as_json, pending_passes, attempts_from, allow_redeclared, run}
+use Rattle.ck_command_line.specs.Asked.{Written, features, allow_unrun, allow_unrun_tagged, no_retries, no_skips, no_stepless, no_undefined, strict, as_json, pending_passes, attempts_from, allow_redeclared, run}
 use Rattle.ck_command_line.specs.Asked.{IsPlain, are_distinct, all_words, asked_with}
 use Rattle.ck_command_line.specs.Asked.{results_usage}
 use Rattle.ck_command_line.proofs.AuditOptions.{Reads}
@@ -28,6 +28,7 @@ pub results_takes : (options : List Written) → are_distinct results_usage.opti
     → Reads (leaf results_command) (all_words options) (asked_with results_usage options)
 unfolding bundle_met walked flags_fault walk_fault defaults_fault
 results_takes [] h k = (refl, refl)
+results_takes (features v p ∷ options) h k = absurd (false≢true h)
 results_takes (allow_unrun ∷ options) h k = absurd (false≢true h)
 results_takes (allow_unrun_tagged v t ∷ options) h k = absurd (false≢true h)
 results_takes (no_retries ∷ options) h k = absurd (false≢true h)

@@ -14,7 +14,7 @@ use Rattle.clap.specs.declared.error.kind.ErrorKind.TheVariants.{ArgumentConflic
 use Rattle.std.proofs.lemmas.Bool.{false_from_ne_true, true≢false}
 use Rattle.ck_command_line.specs.CommandLine.{Asked, is_help, where_none}
 use Rattle.ck_command_line.specs.CommandLine.{cases_command, command_like_audit, compile_command, gate_command, parse_command, results_command}
-use Rattle.ck_command_line.specs.Asked.{Written, allow_unrun, allow_unrun_tagged, no_retries, no_skips, no_stepless, no_undefined, strict, as_json, pending_passes, attempts_from, allow_redeclared, run}
+use Rattle.ck_command_line.specs.Asked.{Written, features, allow_unrun, allow_unrun_tagged, no_retries, no_skips, no_stepless, no_undefined, strict, as_json, pending_passes, attempts_from, allow_redeclared, run}
 use Rattle.ck_command_line.specs.Asked.{IsPlain, words_of, all_words, is_option}
 use Rattle.ck_command_line.proofs.Leaves.{Answers, leaf}
 use Rattle.ck_command_line.proofs.Between.{IsBetween, goes_on, never, or_else-assoc, walk_fault-append}
@@ -124,6 +124,8 @@ unfolding bundle_met walked flags_fault walk_fault
 gate_leaf = record { step = step; is_leaf = refl }
   where
     step : (option : Written) → IsPlain option → (h : Held) → NoHelp (settle_fault (leaf gate_command).rules (leaf gate_command).args_override_self h) → Step (leaf gate_command) option h
+    step (features true p) k h n = ((refl, refl, refl, refl), adding (leaf gate_command) h n, refl)
+    step (features false p) k h n = let v = plain p k in rw (v.0, v.1, v.2) ((refl, refl, refl, refl), waiting (leaf gate_command) h n, refl)
     step allow_unrun k h n = ((refl, refl, refl, refl), once (leaf gate_command) h (codes "allow-unrun") n, refl)
     step (allow_unrun_tagged true t) k h n = ((refl, refl, refl, refl), adding (leaf gate_command) h n, refl)
     step (allow_unrun_tagged false t) k h n = let v = plain t k in rw (v.0, v.1, v.2) ((refl, refl, refl, refl), waiting (leaf gate_command) h n, refl)
@@ -145,6 +147,8 @@ unfolding bundle_met walked flags_fault walk_fault
 leaf_like_audit name = record { step = step; is_leaf = refl }
   where
     step : (option : Written) → IsPlain option → (h : Held) → NoHelp (settle_fault (leaf (command_like_audit name)).rules (leaf (command_like_audit name)).args_override_self h) → Step (leaf (command_like_audit name)) option h
+    step (features true p) k h n = ((refl, refl, refl, refl), refl, n)
+    step (features false p) k h n = let v = plain p k in rw (v.0, v.1, v.2) ((refl, refl, refl, refl), refl, n)
     step allow_unrun k h n = ((refl, refl, refl, refl), refl, n)
     step (allow_unrun_tagged true t) k h n = ((refl, refl, refl, refl), refl, n)
     step (allow_unrun_tagged false t) k h n = let v = plain t k in rw (v.0, v.1, v.2) ((refl, refl, refl, refl), refl, n)
@@ -165,6 +169,8 @@ unfolding bundle_met walked flags_fault walk_fault
 cases_leaf = record { step = step; is_leaf = refl }
   where
     step : (option : Written) → IsPlain option → (h : Held) → NoHelp (settle_fault (leaf cases_command).rules (leaf cases_command).args_override_self h) → Step (leaf cases_command) option h
+    step (features true p) k h n = ((refl, refl, refl, refl), refl, n)
+    step (features false p) k h n = let v = plain p k in rw (v.0, v.1, v.2) ((refl, refl, refl, refl), refl, n)
     step allow_unrun k h n = ((refl, refl, refl, refl), refl, n)
     step (allow_unrun_tagged true t) k h n = ((refl, refl, refl, refl), refl, n)
     step (allow_unrun_tagged false t) k h n = let v = plain t k in rw (v.0, v.1, v.2) ((refl, refl, refl, refl), refl, n)
@@ -185,6 +191,8 @@ unfolding bundle_met walked flags_fault walk_fault
 results_leaf = record { step = step; is_leaf = refl }
   where
     step : (option : Written) → IsPlain option → (h : Held) → NoHelp (settle_fault (leaf results_command).rules (leaf results_command).args_override_self h) → Step (leaf results_command) option h
+    step (features true p) k h n = ((refl, refl, refl, refl), refl, n)
+    step (features false p) k h n = let v = plain p k in rw (v.0, v.1, v.2) ((refl, refl, refl, refl), refl, n)
     step allow_unrun k h n = ((refl, refl, refl, refl), refl, n)
     step (allow_unrun_tagged true t) k h n = ((refl, refl, refl, refl), refl, n)
     step (allow_unrun_tagged false t) k h n = let v = plain t k in rw (v.0, v.1, v.2) ((refl, refl, refl, refl), refl, n)
@@ -205,6 +213,8 @@ unfolding bundle_met walked flags_fault walk_fault
 parse_leaf = record { step = step; is_leaf = refl }
   where
     step : (option : Written) → IsPlain option → (h : Held) → NoHelp (settle_fault (leaf parse_command).rules (leaf parse_command).args_override_self h) → Step (leaf parse_command) option h
+    step (features true p) k h n = ((refl, refl, refl, refl), refl, n)
+    step (features false p) k h n = let v = plain p k in rw (v.0, v.1, v.2) ((refl, refl, refl, refl), refl, n)
     step allow_unrun k h n = ((refl, refl, refl, refl), refl, n)
     step (allow_unrun_tagged true t) k h n = ((refl, refl, refl, refl), refl, n)
     step (allow_unrun_tagged false t) k h n = let v = plain t k in rw (v.0, v.1, v.2) ((refl, refl, refl, refl), refl, n)
@@ -225,6 +235,8 @@ unfolding bundle_met walked flags_fault walk_fault
 compile_leaf = record { step = step; is_leaf = refl }
   where
     step : (option : Written) → IsPlain option → (h : Held) → NoHelp (settle_fault (leaf compile_command).rules (leaf compile_command).args_override_self h) → Step (leaf compile_command) option h
+    step (features true p) k h n = ((refl, refl, refl, refl), refl, n)
+    step (features false p) k h n = let v = plain p k in rw (v.0, v.1, v.2) ((refl, refl, refl, refl), refl, n)
     step allow_unrun k h n = ((refl, refl, refl, refl), refl, n)
     step (allow_unrun_tagged true t) k h n = ((refl, refl, refl, refl), refl, n)
     step (allow_unrun_tagged false t) k h n = let v = plain t k in rw (v.0, v.1, v.2) ((refl, refl, refl, refl), refl, n)

@@ -5,13 +5,14 @@ use Rattle.std.specs.Prelude.{codes, if◌then◌else◌}
 use Rattle.std.specs.List.{list_all}
 use Rattle.std.specs.Str.{bytes_eq}
 use Rattle.clap.specs.Words.{Text}
-use Rattle.ck_command_line.specs.CommandLine.{has_two_inputs, is_given, is_tag, runs_named, tags_allowed}
-use Rattle.ck_command_line.specs.Asked.{Written, allow_unrun, allow_unrun_tagged, no_retries, no_skips, no_stepless, no_undefined, strict, as_json, pending_passes, attempts_from, allow_redeclared, run}
-use Rattle.ck_command_line.specs.Asked.{has_name, is_there, number_of, runs_of, runs_written, tags_of}
+use Rattle.ck_command_line.specs.CommandLine.{features_named, has_two_inputs, is_given, is_tag, runs_named, tags_allowed}
+use Rattle.ck_command_line.specs.Asked.{Written, features, allow_unrun, allow_unrun_tagged, no_retries, no_skips, no_stepless, no_undefined, strict, as_json, pending_passes, attempts_from, allow_redeclared, run}
+use Rattle.ck_command_line.specs.Asked.{features_of, has_name, is_there, number_of, runs_of, runs_written, tags_of}
 use Rattle.ck_command_line.proofs.Rows.{first_text, is_on, said_by}
 
 -- the value of an option
 abbrev pub text_of : Written → Text
+text_of (features is_one_word path) = path
 text_of (allow_unrun_tagged is_one_word tag) = tag
 text_of (attempts_from is_one_word number) = number
 text_of (run word) = word
@@ -50,11 +51,12 @@ first_all name (option ∷ options) = go (has_name name option) (stays name opti
 
 -- the name is neither that of an option with a value nor that of a run
 abbrev pub IsFlag : Text → Type 0
-IsFlag name = (bytes_eq name (codes "allow-unrun-tagged") ≡ false) × (bytes_eq name (codes "attempts-from") ≡ false) × (bytes_eq name (codes "run") ≡ false)
+IsFlag name = (bytes_eq name (codes "features") ≡ false) × (bytes_eq name (codes "allow-unrun-tagged") ≡ false) × (bytes_eq name (codes "attempts-from") ≡ false) × (bytes_eq name (codes "run") ≡ false)
 
 says_true : (name : Text) → IsFlag name → (option : Written) → has_name name option ≡ true → text_of option ≡ codes "true"
+says_true name flag (features w path) h = absurd (false≢true (sym flag.0 ∙ h))
 says_true name flag allow_unrun h = refl
-says_true name flag (allow_unrun_tagged w tag) h = absurd (false≢true (sym flag.0 ∙ h))
+says_true name flag (allow_unrun_tagged w tag) h = absurd (false≢true (sym flag.1 ∙ h))
 says_true name flag no_retries h = refl
 says_true name flag no_skips h = refl
 says_true name flag no_stepless h = refl
@@ -62,9 +64,9 @@ says_true name flag no_undefined h = refl
 says_true name flag strict h = refl
 says_true name flag as_json h = refl
 says_true name flag pending_passes h = refl
-says_true name flag (attempts_from w n) h = absurd (false≢true (sym flag.1 ∙ h))
+says_true name flag (attempts_from w n) h = absurd (false≢true (sym flag.2 ∙ h))
 says_true name flag allow_redeclared h = refl
-says_true name flag (run w) h = absurd (false≢true (sym flag.2 ∙ h))
+says_true name flag (run w) h = absurd (false≢true (sym flag.3 ∙ h))
 
 flag_first : (name : Text) → IsFlag name → (options : List Written) → is_given (first_said name options) ≡ is_there name options
 flag_first name flag [] = refl
@@ -82,6 +84,7 @@ flag_said name flag options = ap is_given (first_all name options) ∙ flag_firs
 
 number_first : (options : List Written) → first_said (codes "attempts-from") options ≡ number_of options
 number_first [] = refl
+number_first (features w path ∷ options) = number_first options
 number_first (allow_unrun ∷ options) = number_first options
 number_first (allow_unrun_tagged w tag ∷ options) = number_first options
 number_first (no_retries ∷ options) = number_first options
@@ -135,6 +138,7 @@ none_said name (option ∷ options) h = go (has_name name option) h (none_said n
 
 tags_are : (options : List Written) → values_said (codes "allow-unrun-tagged") options ≡ tags_of options
 tags_are [] = refl
+tags_are (features w path ∷ options) = tags_are options
 tags_are (allow_unrun ∷ options) = tags_are options
 tags_are (allow_unrun_tagged w tag ∷ options) = ap (λ (tags : List Text). tag ∷ tags) (tags_are options)
 tags_are (no_retries ∷ options) = tags_are options
@@ -169,6 +173,7 @@ tags_taken unrun options =
 
 runs_are : (options : List Written) → values_said (codes "run") options ≡ runs_of options
 runs_are [] = refl
+runs_are (features w path ∷ options) = runs_are options
 runs_are (allow_unrun ∷ options) = runs_are options
 runs_are (allow_unrun_tagged w tag ∷ options) = runs_are options
 runs_are (no_retries ∷ options) = runs_are options
@@ -190,3 +195,38 @@ pub runs_taken : (options : List Written) → runs_named (said_all (codes "run")
 runs_taken options =
     ap runs_named (all_said (codes "run") options) ∙ taken (is_there (codes "run") options) (values_said (codes "run") options) (none_said (codes "run") options)
     ∙ ap (λ (runs : List Text). if has_two_inputs runs then None else Some runs) (runs_are options)
+
+-- ---- the paths of feature files
+
+paths_are : (options : List Written) → values_said (codes "features") options ≡ features_of options
+paths_are [] = refl
+paths_are (features w path ∷ options) = ap (λ (paths : List Text). path ∷ paths) (paths_are options)
+paths_are (allow_unrun ∷ options) = paths_are options
+paths_are (allow_unrun_tagged w tag ∷ options) = paths_are options
+paths_are (no_retries ∷ options) = paths_are options
+paths_are (no_skips ∷ options) = paths_are options
+paths_are (no_stepless ∷ options) = paths_are options
+paths_are (no_undefined ∷ options) = paths_are options
+paths_are (strict ∷ options) = paths_are options
+paths_are (as_json ∷ options) = paths_are options
+paths_are (pending_passes ∷ options) = paths_are options
+paths_are (attempts_from w n ∷ options) = paths_are options
+paths_are (allow_redeclared ∷ options) = paths_are options
+paths_are (run w ∷ options) = paths_are options
+
+given : (unrun has : Bool) (paths : List Text) → (has ≡ false → paths ≡ []) → features_named unrun (if has then Some paths else None) ≡ (if unrun && has then None else Some paths)
+given true true paths none = refl
+given false true paths none = refl
+given true false paths none = rw (none refl) refl
+given false false paths none = rw (none refl) refl
+
+-- whether a path is there
+abbrev has_paths : List Written → Bool
+has_paths options = is_there (codes "features") options
+
+pub features_taken : (unrun : Bool) (options : List Written)
+    → features_named unrun (said_all (codes "features") options None) ≡ (if unrun && has_paths options then None else Some (features_of options))
+features_taken unrun options =
+    ap (features_named unrun) (all_said (codes "features") options)
+    ∙ given unrun (has_paths options) (values_said (codes "features") options) (none_said (codes "features") options)
+    ∙ ap (λ (paths : List Text). if unrun && has_paths options then None else Some paths) (paths_are options)

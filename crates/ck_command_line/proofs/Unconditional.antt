@@ -1,12 +1,12 @@
--- The options of `cases`, and so those of `audit`, write no conditions and name no runs.
-use Rattle.std.proofs.Common.{◌≡◌, Bool, true, false, List, [], ◌∷◌, Some, None, refl, ap, sym}
+-- The options of `cases`, and so those of `audit`, write no conditions, and name no runs and no feature files.
+use Rattle.std.proofs.Common.{◌≡◌, ◌∙◌, ◌&&◌, Bool, true, false, List, [], ◌∷◌, Some, None, refl, ap, sym}
 use Rattle.std.proofs.lemmas.Bool.{false≢true}
 use Rattle.std.specs.Prelude.{codes, if◌then◌else◌}
 use Rattle.std.specs.List.{AllByRecursion, list_all}
 use Rattle.clap.specs.Words.{Text}
 use Rattle.ck_command_line.specs.CommandLine.{has_two_inputs, is_tag}
-use Rattle.ck_command_line.specs.Asked.{Written, allow_unrun, allow_unrun_tagged, no_retries, no_skips, no_stepless, no_undefined, strict, as_json, pending_passes, attempts_from, allow_redeclared, run}
-use Rattle.ck_command_line.specs.Asked.{asked_of_run, cases_usage, conditions_written, has_both_unrun, is_there, runs_of, runs_written, tags_of}
+use Rattle.ck_command_line.specs.Asked.{Written, features, allow_unrun, allow_unrun_tagged, no_retries, no_skips, no_stepless, no_undefined, strict, as_json, pending_passes, attempts_from, allow_redeclared, run}
+use Rattle.ck_command_line.specs.Asked.{asked_of_run, cases_usage, conditions_written, features_of, features_written, has_both_unrun, is_there, runs_of, runs_written, tags_of}
 use Rattle.ck_command_line.proofs.Using.{is_own}
 
 -- each is an option of `cases`
@@ -15,6 +15,7 @@ AreFree options = AllByRecursion (λ option. is_own cases_usage.options option �
 
 no_tags : (options : List Written) → AreFree options → tags_of options ≡ []
 no_tags [] h = refl
+no_tags (features w p ∷ options) h = absurd (false≢true h.0)
 no_tags (allow_unrun ∷ options) h = absurd (false≢true h.0)
 no_tags ((allow_unrun_tagged w t) ∷ options) h = absurd (false≢true h.0)
 no_tags (no_retries ∷ options) h = absurd (false≢true h.0)
@@ -30,6 +31,7 @@ no_tags (run w ∷ options) h = absurd (false≢true h.0)
 
 none_unrun : (options : List Written) → AreFree options → is_there (codes "allow-unrun") options ≡ false
 none_unrun [] h = refl
+none_unrun (features w p ∷ options) h = absurd (false≢true h.0)
 none_unrun (allow_unrun ∷ options) h = absurd (false≢true h.0)
 none_unrun ((allow_unrun_tagged w t) ∷ options) h = absurd (false≢true h.0)
 none_unrun (no_retries ∷ options) h = absurd (false≢true h.0)
@@ -55,6 +57,7 @@ unconditional options h =
 
 no_runs : (options : List Written) → AreFree options → runs_of options ≡ []
 no_runs [] h = refl
+no_runs (features w p ∷ options) h = absurd (false≢true h.0)
 no_runs (allow_unrun ∷ options) h = absurd (false≢true h.0)
 no_runs (allow_unrun_tagged w t ∷ options) h = absurd (false≢true h.0)
 no_runs (no_retries ∷ options) h = absurd (false≢true h.0)
@@ -70,3 +73,24 @@ no_runs (run w ∷ options) h = absurd (false≢true h.0)
 
 pub runless : (options : List Written) → AreFree options → runs_written options ≡ Some []
 runless options h = ap (λ (runs : List Text). if has_two_inputs runs then None else Some runs) (no_runs options h)
+
+no_paths : (options : List Written) → AreFree options → features_of options ≡ []
+no_paths [] h = refl
+no_paths (features w p ∷ options) h = absurd (false≢true h.0)
+no_paths (allow_unrun ∷ options) h = absurd (false≢true h.0)
+no_paths (allow_unrun_tagged w t ∷ options) h = absurd (false≢true h.0)
+no_paths (no_retries ∷ options) h = absurd (false≢true h.0)
+no_paths (no_skips ∷ options) h = absurd (false≢true h.0)
+no_paths (no_stepless ∷ options) h = absurd (false≢true h.0)
+no_paths (no_undefined ∷ options) h = absurd (false≢true h.0)
+no_paths (strict ∷ options) h = absurd (false≢true h.0)
+no_paths (as_json ∷ options) h = no_paths options h.1
+no_paths (pending_passes ∷ options) h = no_paths options h.1
+no_paths (attempts_from w n ∷ options) h = no_paths options h.1
+no_paths (allow_redeclared ∷ options) h = no_paths options h.1
+no_paths (run w ∷ options) h = absurd (false≢true h.0)
+
+pub featureless : (options : List Written) → AreFree options → features_written options ≡ Some []
+featureless options h =
+    ap (λ (unrun : Bool). if unrun && is_there (codes "features") options then None else Some (features_of options)) (none_unrun options h)
+    ∙ ap Some (no_paths options h)

@@ -13,7 +13,7 @@ use Rattle.clap.specs.Walk.{Held, Walk, arg_by_id, has_row, nothing_held, settle
 use Rattle.clap.specs.Simple.{Shape}
 use Rattle.clap.specs.Faults.{settle_fault, walk_fault}
 use Rattle.clap.specs.declared.error.kind.ErrorKind.TheVariants.{ArgumentConflict}
-use Rattle.ck_command_line.specs.Asked.{Written, allow_unrun, allow_unrun_tagged, no_retries, no_skips, no_stepless, no_undefined, strict, as_json, pending_passes, attempts_from, allow_redeclared, run}
+use Rattle.ck_command_line.specs.Asked.{Written, features, allow_unrun, allow_unrun_tagged, no_retries, no_skips, no_stepless, no_undefined, strict, as_json, pending_passes, attempts_from, allow_redeclared, run}
 use Rattle.ck_command_line.specs.Asked.{IsPlain, all_words, are_distinct, has_name, may_come_again, name_of, names_after, words_of}
 use Rattle.ck_command_line.proofs.Between.{IsBetween, goes_on, walk_fault-append}
 use Rattle.ck_command_line.proofs.Rows.{not_there, said_by}
@@ -25,6 +25,7 @@ is_own names option = list_any (λ name. has_name name option) names
 
 -- the values that the words of an option give
 abbrev pub values_for : Written → List Text
+values_for (features is_one_word path) = path ∷ []
 values_for (allow_unrun_tagged is_one_word tag) = tag ∷ []
 values_for (attempts_from is_one_word number) = number ∷ []
 values_for (run word) = word ∷ []
@@ -82,18 +83,20 @@ other_name gone option names h =
     false≢true (sym (none_left (λ name. bytes_eq name (name_of gone)) names) ∙ subst (λ (n : Text). list_any (λ name. bytes_eq name n) (filter (λ name. not (has_name name gone)) names) ≡ true) is h))
 
 -- an option that may not come again has another name than one that may
-not_again : (option : Written) → may_come_again option ≡ false → (bytes_eq (name_of option) (codes "allow-unrun-tagged") ≡ false) × (bytes_eq (name_of option) (codes "run") ≡ false)
-not_again allow_unrun h = (refl, refl)
+not_again : (option : Written) → may_come_again option ≡ false
+    → (bytes_eq (name_of option) (codes "features") ≡ false) × (bytes_eq (name_of option) (codes "allow-unrun-tagged") ≡ false) × (bytes_eq (name_of option) (codes "run") ≡ false)
+not_again (features w p) h = absurd (true≢false h)
+not_again allow_unrun h = (refl, refl, refl)
 not_again (allow_unrun_tagged w t) h = absurd (true≢false h)
-not_again no_retries h = (refl, refl)
-not_again no_skips h = (refl, refl)
-not_again no_stepless h = (refl, refl)
-not_again no_undefined h = (refl, refl)
-not_again strict h = (refl, refl)
-not_again as_json h = (refl, refl)
-not_again pending_passes h = (refl, refl)
-not_again (attempts_from w n) h = (refl, refl)
-not_again allow_redeclared h = (refl, refl)
+not_again no_retries h = (refl, refl, refl)
+not_again no_skips h = (refl, refl, refl)
+not_again no_stepless h = (refl, refl, refl)
+not_again no_undefined h = (refl, refl, refl)
+not_again strict h = (refl, refl, refl)
+not_again as_json h = (refl, refl, refl)
+not_again pending_passes h = (refl, refl, refl)
+not_again (attempts_from w n) h = (refl, refl, refl)
+not_again allow_redeclared h = (refl, refl, refl)
 not_again (run w) h = absurd (true≢false h)
 
 -- the names are some of these
@@ -177,8 +180,9 @@ module _ (s : Shape) where
       untouched gone told (name_of option) rows new (other_name gone option names h) (all option (in_filter (λ name. has_name name option) (λ name. not (has_name name gone)) names h) first)
 
   left_new : (option : Written) → Told option → (names : List Text) (rows : List Row) → IsNew option rows → AreNew names rows → AreNew (names_after option names) (used (rule_for option) (values_for option) rows)
+  left_new (features w p) told names rows new all = λ option h first. untouched (features w p) told (name_of option) rows new (not_again option first).0 (all option h first)
   left_new allow_unrun told names rows new all = by_filter allow_unrun told names rows new all
-  left_new (allow_unrun_tagged w t) told names rows new all = λ option h first. untouched (allow_unrun_tagged w t) told (name_of option) rows new (not_again option first).0 (all option h first)
+  left_new (allow_unrun_tagged w t) told names rows new all = λ option h first. untouched (allow_unrun_tagged w t) told (name_of option) rows new (not_again option first).1 (all option h first)
   left_new no_retries told names rows new all = by_filter no_retries told names rows new all
   left_new no_skips told names rows new all = by_filter no_skips told names rows new all
   left_new no_stepless told names rows new all = by_filter no_stepless told names rows new all
@@ -188,7 +192,7 @@ module _ (s : Shape) where
   left_new pending_passes told names rows new all = by_filter pending_passes told names rows new all
   left_new (attempts_from w n) told names rows new all = by_filter (attempts_from w n) told names rows new all
   left_new allow_redeclared told names rows new all = by_filter allow_redeclared told names rows new all
-  left_new (run w) told names rows new all = λ option h first. untouched (run w) told (name_of option) rows new (not_again option first).1 (all option h first)
+  left_new (run w) told names rows new all = λ option h first. untouched (run w) told (name_of option) rows new (not_again option first).2 (all option h first)
 
   use_each : (own : List Text) → ReadsEach own → (options : List Written) → AllByRecursion IsPlain options → (names : List Text) → IsWithin names own → are_distinct names options ≡ true → (h : Held) → settling h ≡ [] → AreNew names (rows_now h) → AreUsed options h
   unfolding walk_fault

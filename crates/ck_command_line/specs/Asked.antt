@@ -11,11 +11,13 @@ use Rattle.cm_attempt.specs.declared.policy.Policy.TheVariants.{Strict, PendingP
 use Rattle.cm_attempt.specs.Settings.{settings_of}
 use Rattle.cm_attempt.specs.declared.settings.Settings.{Settings}
 use Rattle.cm_stream.specs.Release.{Conditions, each_runs, strict_conditions}
-use Rattle.ck_command_line.specs.CommandLine.{Asked, AsksNothing, AsksRuns, CallsForHelp}
-use Rattle.ck_command_line.specs.CommandLine.{Command, RunsGate, ask_audit, ask_cases, ask_compile}
+use Rattle.ck_command_line.specs.CommandLine.{Asked, Asks, AsksFeatures, AsksNothing, AsksRuns}
+use Rattle.ck_command_line.specs.CommandLine.{CallsForHelp, Command, FeaturesGate, RunsGate}
+use Rattle.ck_command_line.specs.CommandLine.{ask_audit, ask_cases, ask_compile}
 use Rattle.ck_command_line.specs.CommandLine.{ask_gate, ask_parse, ask_results, asked_by}
 use Rattle.ck_command_line.specs.CommandLine.{asks_for_help, first_attempt_named, gate_over}
-use Rattle.ck_command_line.specs.CommandLine.{has_two_inputs, is_tag, over_input, over_runs}
+use Rattle.ck_command_line.specs.CommandLine.{has_two_inputs, is_tag, over_features, over_input}
+use Rattle.ck_command_line.specs.CommandLine.{over_runs}
 use Rattle.ck_command_line.specs.declared.command_line.CaseForm.{CaseForm}
 use Rattle.ck_command_line.specs.declared.command_line.CaseForm.TheVariants.{Plain, Json}
 
@@ -31,9 +33,10 @@ CallForHelp texts = (words : List (Bor Text)) → map (λ w. w.now) words ≡ te
 
 -- ---- the commands that read a stream, with their options and runs
 
--- an option as it is written, or the name of a run; a tag or the number follows `=` in the same
--- word, or is a word of its own
+-- an option as it is written, or the name of a run; a path, a tag or the number follows `=` in the
+-- same word, or is a word of its own
 pub data Written : Type 0 where
+  features : (is_one_word : Bool) → (path : Text) → Written
   allow_unrun : Written
   allow_unrun_tagged : (is_one_word : Bool) → (tag : Text) → Written
   no_retries : Written
@@ -48,6 +51,7 @@ pub data Written : Type 0 where
   run : (word : Text) → Written
 
 abbrev pub name_of : Written → Text
+name_of (features is_one_word path) = codes "features"
 name_of allow_unrun = codes "allow-unrun"
 name_of (allow_unrun_tagged is_one_word tag) = codes "allow-unrun-tagged"
 name_of no_retries = codes "no-retries"
@@ -63,6 +67,8 @@ name_of (run word) = codes "run"
 
 -- its words
 abbrev pub words_of : Written → List Text
+words_of (features true path) = (codes "--features=" ++ path) ∷ []
+words_of (features false path) = codes "--features" ∷ path ∷ []
 words_of allow_unrun = codes "--allow-unrun" ∷ []
 words_of (allow_unrun_tagged true tag) = (codes "--allow-unrun-tagged=" ++ tag) ∷ []
 words_of (allow_unrun_tagged false tag) = codes "--allow-unrun-tagged" ∷ tag ∷ []
@@ -84,8 +90,9 @@ all_words = flat_map words_of
 abbrev pub has_name : Text → Written → Bool
 has_name name option = bytes_eq name (name_of option)
 
--- `--allow-unrun-tagged` and runs alone may be given several times
+-- `--features`, `--allow-unrun-tagged` and runs alone may be given several times
 abbrev pub may_come_again : Written → Bool
+may_come_again (features is_one_word path) = true
 may_come_again (allow_unrun_tagged is_one_word tag) = true
 may_come_again (run word) = true
 may_come_again _ = false
@@ -108,8 +115,9 @@ is_option [] = false
 is_option (c ∷ []) = false
 is_option (c ∷ d ∷ cs) = c == 45
 
--- a tag, a number or a run that is a word of its own isn't written like an option
+-- a path, a tag, a number or a run that is a word of its own isn't written like an option
 abbrev pub IsPlain : Written → Type 0
+IsPlain (features false path) = is_option path ≡ false
 IsPlain (allow_unrun_tagged false tag) = is_option tag ≡ false
 IsPlain (attempts_from false number) = is_option number ≡ false
 IsPlain (run word) = is_option word ≡ false
@@ -178,27 +186,43 @@ runs_of (option ∷ options) = runs_of options
 abbrev pub runs_written : List Written → Option (List Text)
 runs_written options = if has_two_inputs (runs_of options) then None else Some (runs_of options)
 
+-- the paths that they give, in their order
+abbrev pub features_of : List Written → List Text
+features_of [] = []
+features_of (features is_one_word path ∷ options) = path ∷ features_of options
+features_of (option ∷ options) = features_of options
+
+-- `--allow-unrun` and `--features` are both there
+abbrev pub has_unrun_with_features : List Written → Bool
+has_unrun_with_features options =
+    is_there (codes "allow-unrun") options && is_there (codes "features") options
+
+-- the paths that they ask for: none where both of these are there
+abbrev pub features_written : List Written → Option (List Text)
+features_written options =
+    if has_unrun_with_features options then None else Some (features_of options)
+
 -- the form that they ask for
 abbrev pub form_of : List Written → CaseForm
 form_of options = if is_there (codes "json") options then Json else Plain
 
 -- how a command is used: its name, the names of its options, whether it takes runs, and what it
--- asks for by the settings, the conditions, the form and the runs
+-- asks for by the settings, the conditions, the form, the runs and the paths of feature files
 pub record Usage : Type 0 where
   pub name : Text
   pub options : List Text
   pub takes_runs : Bool
-  pub asks : Settings → Conditions → CaseForm → (runs : List Text) → Asked
+  pub asks : Settings → Conditions → CaseForm → (runs paths : List Text) → Asked
 
 abbrev pub gate_usage : Usage
 gate_usage = record {
   name = codes "gate";
   options =
-      codes "allow-unrun" ∷ codes "allow-unrun-tagged" ∷ codes "no-retries" ∷ codes "no-skips"
-      ∷ codes "no-stepless" ∷ codes "no-undefined" ∷ codes "strict" ∷ codes "pending-passes"
-      ∷ codes "attempts-from" ∷ codes "allow-redeclared" ∷ [];
+      codes "features" ∷ codes "allow-unrun" ∷ codes "allow-unrun-tagged" ∷ codes "no-retries"
+      ∷ codes "no-skips" ∷ codes "no-stepless" ∷ codes "no-undefined" ∷ codes "strict"
+      ∷ codes "pending-passes" ∷ codes "attempts-from" ∷ codes "allow-redeclared" ∷ [];
   takes_runs = true;
-  asks = λ settings conditions form runs. gate_over settings conditions runs;
+  asks = λ settings conditions form runs paths. gate_over settings conditions runs paths;
 }
 
 -- a command with the options of `audit`
@@ -207,7 +231,7 @@ usage_like_audit name asks = record {
   name = name;
   options = codes "pending-passes" ∷ codes "attempts-from" ∷ codes "allow-redeclared" ∷ [];
   takes_runs = false;
-  asks = λ settings conditions form runs. over_input (asks settings);
+  asks = λ settings conditions form runs paths. over_input (asks settings);
 }
 
 -- that, and `--json`
@@ -217,7 +241,7 @@ cases_usage = record {
   options =
       codes "json" ∷ codes "pending-passes" ∷ codes "attempts-from" ∷ codes "allow-redeclared" ∷ [];
   takes_runs = false;
-  asks = λ settings conditions form runs. over_input (ask_cases settings form);
+  asks = λ settings conditions form runs paths. over_input (ask_cases settings form);
 }
 
 abbrev pub results_usage : Usage
@@ -225,7 +249,7 @@ results_usage = record {
   name = codes "results";
   options = codes "attempts-from" ∷ [];
   takes_runs = false;
-  asks = λ settings conditions form runs. over_input (ask_results settings.first_attempt);
+  asks = λ settings conditions form runs paths. over_input (ask_results settings.first_attempt);
 }
 
 -- the commands over standard input alone
@@ -243,13 +267,15 @@ names_taken usage =
 -- what a command with these options and runs asks for
 abbrev pub asked_with : Usage → List Written → Option Asked
 asked_with usage options =
-    option_and_then (λ conditions. option_and_then (λ runs. option_map
-    (λ settings. usage.asks settings conditions (form_of options) runs)
-    (settings_written options)) (runs_written options)) (conditions_written options)
+    option_and_then (λ conditions. option_and_then (λ runs. option_and_then (λ paths. option_map
+    (λ settings. usage.asks settings conditions (form_of options) runs paths)
+    (settings_written options)) (features_written options)) (runs_written options))
+    (conditions_written options)
 
--- A command's own options may come in any order, none twice but for `--allow-unrun-tagged`, and its
--- runs among them. They ask for it with what they say, or for nothing where the number is neither 0
--- nor 1, a tag has no `@`, `--allow-unrun` is there beside a tag, or two runs are `-`.
+-- A command's own options may come in any order, none twice but for `--features` and
+-- `--allow-unrun-tagged`, and its runs among them. They ask for it with what they say, or for
+-- nothing where the number is neither 0 nor 1, a tag has no `@`, `--allow-unrun` is there beside a
+-- path or a tag, or two runs are `-`.
 abbrev pub TakesItsOptions : Usage → Type 0
 TakesItsOptions usage = (options : List Written) → are_distinct (names_taken usage) options ≡ true
     → AllByRecursion IsPlain options
@@ -259,6 +285,42 @@ TakesItsOptions usage = (options : List Written) → are_distinct (names_taken u
 abbrev pub RunsAreNamed : Type 0
 RunsAreNamed = (words : List (Bor Text)) (gate : RunsGate) → AsksRuns words gate
     → (gate.runs ≢ []) × (has_two_inputs gate.runs ≡ false)
+
+-- A gate over feature files has at least one path, and no two of its runs are standard input. Each
+-- run is a part, and not just any pickle may be without a test case.
+pub record IsOverFeatures (gate : FeaturesGate) : Type 0 where
+  pub some_path : gate.features ≢ []
+  pub one_input : has_two_inputs gate.runs ≡ false
+  pub each_is_part : gate.asked.is_part ≡ true
+  pub none_unrun : gate.asked.allows_unrun ≡ false
+
+abbrev pub FeaturesAreNamed : Type 0
+FeaturesAreNamed = (words : List (Bor Text)) (gate : FeaturesGate) → AsksFeatures words gate
+    → IsOverFeatures gate
+
+-- Without feature files no run is a part.
+pub record RunsAreWhole : Type 0 where
+  pub input : (words : List (Bor Text)) (settings : Settings) (asked : Conditions)
+      → Asks words (ask_gate settings asked) → asked.is_part ≡ false
+  pub runs : (words : List (Bor Text)) (gate : RunsGate) → AsksRuns words gate
+      → gate.asked.is_part ≡ false
+
+-- a gate, be it over standard input, over named runs or over feature files
+abbrev pub IsGate : Asked → Type 0
+IsGate (over_input (ask_gate settings asked)) = ⊤
+IsGate (over_input command) = ⊥
+IsGate (over_runs gate) = ⊤
+IsGate (over_features gate) = ⊤
+
+-- Words of which the first is `gate` ask for a gate, or for nothing.
+abbrev pub GateAsksForGates : Type 0
+GateAsksForGates = (words : List (Bor Text)) (others : List Text) (asked : Asked)
+    → map (λ w. w.now) words ≡ codes "gate" ∷ others → asked_by words ≡ Some asked → IsGate asked
+
+-- Only words of which the first is `gate` ask for one.
+abbrev pub OnlyGateAsksForGates : Type 0
+OnlyGateAsksForGates = (words : List (Bor Text)) (asked : Asked) → asked_by words ≡ Some asked
+    → IsGate asked → (others : List Text) × (map (λ w. w.now) words ≡ codes "gate" ∷ others)
 
 -- ---- words that ask for nothing
 
@@ -438,6 +500,52 @@ runs_examples =
     )
     ∷ []
 
+-- each has to run, asked of a run that is a part
+abbrev pub each_part_runs : Conditions
+each_part_runs = record each_runs { is_part = true }
+
+-- the gate over these feature files and runs, without `--pending-passes` and `--attempts-from`
+abbrev pub over_features_for : Conditions → (paths runs : List Text) → FeaturesGate
+over_features_for asked paths runs = record {
+  settings = settings_by Strict 0;
+  asked = asked;
+  features = paths;
+  runs = runs;
+}
+
+-- words, and the gate over feature files that they ask for; after `--features` one word is a path
+abbrev pub features_examples : List (Text × FeaturesGate)
+features_examples =
+    (codes "gate --features a", over_features_for each_part_runs (codes "a" ∷ []) [])
+    ∷ (
+      codes "gate --features=a b.ndjson -",
+      over_features_for each_part_runs (codes "a" ∷ []) (codes "b.ndjson" ∷ codes "-" ∷ []),
+    )
+    ∷ (
+      codes "gate --features b.feature a.feature",
+      over_features_for each_part_runs (codes "b.feature" ∷ []) (codes "a.feature" ∷ []),
+    )
+    ∷ (
+      codes "gate --features b - --features=a --strict --features b",
+      over_features_for (record strict_conditions { is_part = true })
+          (codes "b" ∷ codes "a" ∷ codes "b" ∷ []) (codes "-" ∷ []),
+    )
+    ∷ (
+      codes "gate --allow-unrun-tagged @wip --features a",
+      over_features_for (record each_part_runs { allowed_tags = codes "@wip" ∷ [] })
+          (codes "a" ∷ []) [],
+    )
+    ∷ (
+      codes "gate --features a --attempts-from 1 --pending-passes -- --features",
+      record {
+        settings = settings_by PendingPasses 1;
+        asked = each_part_runs;
+        features = codes "a" ∷ [];
+        runs = codes "--features" ∷ [];
+      },
+    )
+    ∷ []
+
 -- words with a mistake
 abbrev pub mistakes : List Text
 mistakes =
@@ -449,6 +557,14 @@ mistakes =
     ∷ codes "gate a.ndjson --attempts-from 2"
     ∷ codes "gate a.ndjson --strict b.ndjson --strict"
     ∷ codes "gate --run a.ndjson"
+    ∷ codes "gate --features"
+    ∷ codes "gate --features --strict"
+    ∷ codes "gate --features a --allow-unrun"
+    ∷ codes "gate --allow-unrun b.ndjson --features=a"
+    ∷ codes "gate --features a - -"
+    ∷ codes "gate --features a --allow-unrun-tagged wip"
+    ∷ codes "audit --features a"
+    ∷ codes "--features a gate"
     ∷ codes "gate --alow-unrun"
     ∷ codes "gate --allow-unrun=true"
     ∷ codes "gate --allow-unrun --allow-unrun"
@@ -469,6 +585,9 @@ mistakes =
     ∷ codes "gate --strict --strict"
     ∷ codes "gate --no-skips=true"
     ∷ codes "gate --no-retry"
+    ∷ codes "gate -strict"
+    ∷ codes "gate -x"
+    ∷ codes "audit -strict"
     ∷ codes "audit --allow-unrun"
     ∷ codes "audit --no-retries"
     ∷ codes "cases --strict"
@@ -504,6 +623,7 @@ help_calls =
     codes "help" ∷ codes "help gate" ∷ codes "--help" ∷ codes "-h"
     ∷ codes "gate --help" ∷ codes "gate -h" ∷ codes "gate --allow-unrun --help"
     ∷ codes "gate --strict --help" ∷ codes "gate a.ndjson --help"
+    ∷ codes "gate --features a --help"
     ∷ codes "cases --json --help"
     ∷ codes "--version" ∷ codes "-V" ∷ []
 
@@ -512,5 +632,7 @@ pub record ExamplesAreAsked : Type 0 where
       examples
   pub runs : AllByRecursion (λ row. Ask (words_of_line row.0) (Some (over_runs row.1)))
       runs_examples
+  pub features : AllByRecursion (λ row. Ask (words_of_line row.0) (Some (over_features row.1)))
+      features_examples
   pub mistakes : AllByRecursion (λ text. Ask (words_of_line text) None) mistakes
   pub help : AllByRecursion (λ text. CallForHelp (words_of_line text)) help_calls

@@ -43,10 +43,19 @@ pub record RunsGate : Type 0 where
   pub asked : Conditions
   pub runs : List Text
 
+-- a gate over feature files and runs: each path is a feature file or a folder; where no run is
+-- named standard input is the one run
+pub record FeaturesGate : Type 0 where
+  pub settings : Settings
+  pub asked : Conditions
+  pub features : List Text
+  pub runs : List Text
+
 -- what the words may ask for
 pub data Asked : Type 0 where
   over_input : Command → Asked
   over_runs : RunsGate → Asked
+  over_features : FeaturesGate → Asked
 
 -- what is asked for, as the code holds it
 abbrev pub asked_of_choice : Choice → Asked
@@ -57,6 +66,12 @@ asked_of_choice (choice.Gate settings asked) = over_input (ask_gate settings (co
 asked_of_choice (choice.GateRuns settings asked runs) = over_runs (record {
   settings = settings;
   asked = conditions_of asked;
+  runs = map (λ run. run.now) runs.items;
+})
+asked_of_choice (choice.GateFeatures settings asked features runs) = over_features (record {
+  settings = settings;
+  asked = conditions_of asked;
+  features = map (λ p. p.now) features.items;
   runs = map (λ run. run.now) runs.items;
 })
 asked_of_choice (choice.Results first_attempt) = over_input (ask_results first_attempt)
@@ -101,6 +116,14 @@ tagged_rule = record (new_rule (codes "allow-unrun-tagged")) {
 abbrev pub run_rule : Rule
 run_rule = record (new_rule (codes "run")) { value_names = 1; action = Some Append }
 
+-- `--features PATH`, any number of times; its value has one name
+abbrev pub features_rule : Rule
+features_rule = record (new_rule (codes "features")) {
+  long = Some (codes "features");
+  value_names = 1;
+  action = Some Append;
+}
+
 -- whether hooks and step definitions may be declared again
 abbrev pub redeclared_rule : Rule
 redeclared_rule = flag_rule (codes "allow-redeclared")
@@ -124,10 +147,14 @@ release_rules =
     ∷ flag_rule (codes "no-stepless") ∷ flag_rule (codes "no-undefined")
     ∷ flag_rule (codes "strict") ∷ []
 
--- the command `gate`, with its runs, and its options in the order in which `--help` lists them
+-- the rules of the runs and of what a release asks of them, in the order in which `--help` lists
+-- the options
+abbrev pub gate_rules : List Rule
+gate_rules = run_rule ∷ features_rule ∷ release_rules
+
+-- the command `gate`, with its runs and its options
 abbrev pub gate_command : App
-gate_command =
-    with_rules (with_rules (new_app (codes "gate")) (run_rule ∷ release_rules)) settings_rules
+gate_command = with_rules (with_rules (new_app (codes "gate")) gate_rules) settings_rules
 
 -- a command with the options of `audit`
 abbrev pub command_like_audit : Text → App
@@ -263,18 +290,44 @@ runs_named (Some runs) = if has_two_inputs runs then None else Some runs
 abbrev pub runs_in : List Row → Option (List Text)
 runs_in rows = runs_named (all_of (codes "run") rows)
 
+-- The paths of feature files and of folders, in their order: none where no option gives one. A path
+-- is a mistake where any pickle may be without a case, since each scenario of a path has to run.
+abbrev pub features_named : (allows_unrun : Bool) → Option (List Text) → Option (List Text)
+features_named allows_unrun None = Some []
+features_named true (Some paths) = None
+features_named false (Some paths) = Some paths
+
+abbrev pub features_in : List Row → Option (List Text)
+features_in rows =
+    features_named (has_flag (codes "allow-unrun") rows) (all_of (codes "features") rows)
+
+-- the same, asked of a run that is a part of what is asked
+abbrev pub as_part : Conditions → Conditions
+as_part asked = record asked { is_part = true }
+
 -- a gate over these runs; where there is none it is over standard input
-abbrev pub gate_over : Settings → Conditions → (runs : List Text) → Asked
-gate_over settings asked [] = over_input (ask_gate settings asked)
-gate_over settings asked (run ∷ runs) =
+abbrev pub gate_over_runs : Settings → Conditions → (runs : List Text) → Asked
+gate_over_runs settings asked [] = over_input (ask_gate settings asked)
+gate_over_runs settings asked (run ∷ runs) =
     over_runs (record { settings = settings; asked = asked; runs = run ∷ runs })
 
--- what `gate` asks by its settings, its conditions and its runs, where there is no mistake in them
-abbrev pub gate_asked : Option Settings → Option Conditions → (runs : Option (List Text))
+-- a gate over these runs alone, or over these feature files and runs, of which each is a part then
+abbrev pub gate_over : Settings → Conditions → (runs paths : List Text) → Asked
+gate_over settings asked runs [] = gate_over_runs settings asked runs
+gate_over settings asked runs (path ∷ paths) = over_features (record {
+  settings = settings;
+  asked = as_part asked;
+  features = path ∷ paths;
+  runs = runs;
+})
+
+-- what `gate` asks by its settings, its conditions, its runs and its paths, where there is no
+-- mistake in them
+abbrev pub gate_asked : Option Settings → Option Conditions → (runs paths : Option (List Text))
     → Option Asked
-gate_asked settings asked runs =
-    option_and_then (λ conditions. option_and_then (λ named.
-    option_map (λ s. gate_over s conditions named) settings) runs) asked
+gate_asked settings asked runs paths =
+    option_and_then (λ conditions. option_and_then (λ named. option_and_then (λ given.
+    option_map (λ s. gate_over s conditions named given) settings) paths) runs) asked
 
 -- what `cases` asks by its settings and in this form, where there is no mistake
 abbrev pub cases_asked : Option Settings → CaseForm → Option Asked
@@ -289,7 +342,7 @@ command_named name rows =
     else if bytes_eq name (codes "audit") then option_map (λ s. over_input (ask_audit s))
     (settings_in rows)
     else if bytes_eq name (codes "gate") then gate_asked (settings_in rows) (conditions_in rows)
-    (runs_in rows)
+    (runs_in rows) (features_in rows)
     else if bytes_eq name (codes "results") then option_map (λ n. over_input (ask_results n))
     (first_attempt_in rows)
     else if bytes_eq name (codes "cases") then cases_asked (settings_in rows) (form_in rows)
@@ -319,6 +372,10 @@ Asks words command = asked_by words ≡ Some (over_input command)
 -- they ask for this gate over named runs
 abbrev pub AsksRuns : List (Bor Text) → RunsGate → Type 0
 AsksRuns words gate = asked_by words ≡ Some (over_runs gate)
+
+-- they ask for this gate over feature files
+abbrev pub AsksFeatures : List (Bor Text) → FeaturesGate → Type 0
+AsksFeatures words gate = asked_by words ≡ Some (over_features gate)
 
 -- they ask for nothing
 abbrev pub AsksNothing : List (Bor Text) → Type 0

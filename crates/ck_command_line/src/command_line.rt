@@ -4,9 +4,9 @@ ghost use Rattle.std.specs.Prelude.{◌≡◌, IfOk, codes, false, map, option_m
 ghost use Rattle.clap.specs.Words.{all_of, app_of, first_of, found_of, kind_of, new_app, rows_of, rule_of, subcommand_rows_of};
 ghost use Rattle.clap.specs.declared.builder.command.Command.TheViews.{out-Command as fields_of};
 ghost use Rattle.ck_command_line.specs.CommandLine.{HelpsByKind, HelpsOnCall, IsNoHelp};
-ghost use Rattle.ck_command_line.specs.CommandLine.{Chooses, asked_of, asked_of_choice, attempts_rule, audit_command, bare_app, cases_command};
+ghost use Rattle.ck_command_line.specs.CommandLine.{Chooses, as_part, asked_of, asked_of_choice, attempts_rule, audit_command, bare_app, cases_command};
 ghost use Rattle.ck_command_line.specs.CommandLine.{cases_asked, form_in, gate_asked, gate_over, has_two_inputs, json_rule};
-ghost use Rattle.ck_command_line.specs.CommandLine.{command_app, command_named, compile_command};
+ghost use Rattle.ck_command_line.specs.CommandLine.{command_app, command_named, compile_command, features_in, features_rule};
 ghost use Rattle.ck_command_line.specs.CommandLine.{Shows, conditions_in, first_attempt_in, is_input, is_tag, tagged_rule, tags_allowed};
 ghost use Rattle.ck_command_line.specs.CommandLine.{flag_rule, gate_command, is_given, subcommand_named, parse_command, policy_in, results_command};
 ghost use Rattle.ck_command_line.specs.CommandLine.{run_rule, runs_in, runs_named, settings_in, settings_rules, uri_rule, with_rules};
@@ -42,6 +42,9 @@ pub enum Choice<'a> {
     /// The same of each of these runs, of which there is at least one: the file of a stream, or `-` for standard input,
     /// which stands there at most once.
     GateRuns(Settings, Conditions<'a>, Vec<&'a str>),
+    /// Whether each scenario of the feature files ran: the paths of feature files or of folders, at least one, and the runs, of
+    /// which each is a part; where none is named, standard input is the one run.
+    GateFeatures(Settings, Conditions<'a>, Vec<&'a str>, Vec<&'a str>),
     /// The table of the test cases of a stream, with the number of each test case's first attempt.
     Results(u64),
     /// The lines of the test cases of a good stream, by these settings, in this form.
@@ -70,6 +73,8 @@ enum NoChoice {
     WrongTag,
     /// `--allow-unrun` stands beside `--allow-unrun-tagged`.
     BothUnrun,
+    /// `--allow-unrun` stands beside `--features`.
+    UnrunWithFeatures,
     /// `-` stands twice among the runs.
     TwoInputs,
     /// There was no memory.
@@ -116,6 +121,17 @@ fn tagged_argument<'a>(alloc: Global) -> Arg<'a>
         .long("allow-unrun-tagged")
         .action(ArgAction::Append);
     explained(tagged, "TAG", help::ALLOW_UNRUN_TAGGED)
+}
+
+/// The argument `--features PATH`, which may be given several times.
+fn features_argument<'a>(alloc: Global) -> Arg<'a>
+    ensures rule { rule_of result ≡ features_rule }
+    ensures local { result.global ≡ false }
+{
+    let features = Arg::new(alloc, "features")
+        .long("features")
+        .action(ArgAction::Append);
+    explained(features, "PATH", help::FEATURES)
 }
 
 /// The argument `RUN`, which may be given several times.
@@ -168,8 +184,8 @@ fn with_settings<'a>(alloc: Global, command: Command<'a>) -> Result<Command<'a>,
         .arg(flag(alloc, "allow-redeclared", help::ALLOW_REDECLARED))
 }
 
-/// `gate [--allow-unrun] [--allow-unrun-tagged TAG].. [--no-retries] [--no-skips] [--no-stepless] [--no-undefined] [--strict]
-/// [--pending-passes] [--attempts-from N] [--allow-redeclared] [RUN]..`.
+/// `gate [--features PATH].. [--allow-unrun] [--allow-unrun-tagged TAG].. [--no-retries] [--no-skips] [--no-stepless]
+/// [--no-undefined] [--strict] [--pending-passes] [--attempts-from N] [--allow-redeclared] [RUN]..`.
 fn gate_command<'a>(alloc: Global) -> Result<Command<'a>, AllocError>
     ensures app { IfOk result (λ c. app_of c ≡ gate_command) }
     ensures local { IfOk result (λ c. (fields_of c).has_globals ≡ false) }
@@ -183,6 +199,7 @@ fn gate_command<'a>(alloc: Global) -> Result<Command<'a>, AllocError>
     );
     let command = bare
         .arg(run_argument(alloc))?
+        .arg(features_argument(alloc))?
         .arg(flag(alloc, "allow-unrun", help::ALLOW_UNRUN))?
         .arg(tagged_argument(alloc))?
         .arg(flag(alloc, "no-retries", help::NO_RETRIES))?
@@ -479,11 +496,49 @@ fn runs_in<'a>(alloc: Global, values: &ArgMatches<'a>) -> Result<Vec<&'a str>, N
     }
 }
 
-/// A gate over these runs, or over standard input where there is none.
-fn gate_over<'a>(settings: Settings, conditions: Conditions<'a>, runs: Vec<&'a str>) -> Choice<'a>
-    ensures { asked_of_choice result ≡ gate_over settings (conditions_of conditions.entry)
-        (map (λ run. run.now) runs.entry.items) }
+/// The paths of feature files and of folders that are given, in their order. Where each pickle may be without a test case, none
+/// is to be given.
+fn features_in<'a>(alloc: Global, values: &ArgMatches<'a>) -> Result<Vec<&'a str>, NoChoice>
+    ensures { Shows (λ paths. map (λ path. path.now) paths.items)
+        (features_in (rows_of (found_of values.now))) result }
 {
+    let mut features = Vec::new(alloc);
+    let Some(paths) = texts_of(values, "features") else {
+        return Ok(features);
+    };
+    if has_flag(values, "allow-unrun") {
+        return Err(NoChoice::UnrunWithFeatures);
+    }
+    match features.extend_from_slice(paths) {
+        Ok(()) => Ok(features),
+        Err(AllocError) => Err(NoChoice::Memory),
+    }
+}
+
+/// The same, asked of a run that is a part of what is asked.
+fn as_part<'a>(conditions: Conditions<'a>) -> Conditions<'a>
+    ensures { conditions_of result ≡ as_part (conditions_of conditions.entry) }
+{
+    Conditions {
+        is_part: true,
+        ..conditions
+    }
+}
+
+/// A gate over these runs, or over standard input where there is none; or over feature files and these runs, of which each is a
+/// part then.
+fn gate_over<'a>(
+    settings: Settings,
+    conditions: Conditions<'a>,
+    runs: Vec<&'a str>,
+    features: Vec<&'a str>,
+) -> Choice<'a>
+    ensures { asked_of_choice result ≡ gate_over settings (conditions_of conditions.entry)
+        (map (λ run. run.now) runs.entry.items) (map (λ path. path.now) features.entry.items) }
+{
+    if !features.is_empty() {
+        return Choice::GateFeatures(settings, as_part(conditions), features, runs);
+    }
     if runs.is_empty() {
         Choice::Gate(settings, conditions)
     } else {
@@ -495,11 +550,14 @@ fn gate_over<'a>(settings: Settings, conditions: Conditions<'a>, runs: Vec<&'a s
 fn gate_in<'a>(alloc: Global, values: &ArgMatches<'a>) -> Result<Choice<'a>, NoChoice>
     ensures { Shows asked_of_choice (gate_asked (settings_in (rows_of (found_of values.now)))
         (conditions_in (rows_of (found_of values.now)))
-        (runs_in (rows_of (found_of values.now)))) result }
+        (runs_in (rows_of (found_of values.now)))
+        (features_in (rows_of (found_of values.now)))) result }
 {
     let settings = settings_in(values)?;
     let conditions = conditions_in(alloc, values)?;
-    Ok(gate_over(settings, conditions, runs_in(alloc, values)?))
+    let runs = runs_in(alloc, values)?;
+    let features = features_in(alloc, values)?;
+    Ok(gate_over(settings, conditions, runs, features))
 }
 
 /// The command of this name, with the values that come after it.
@@ -553,6 +611,7 @@ fn wrong_values(alloc: Global, why: NoChoice) -> Refusal
         NoChoice::WrongAttempts => help::WRONG_ATTEMPTS,
         NoChoice::WrongTag => help::WRONG_TAG,
         NoChoice::BothUnrun => help::BOTH_UNRUN,
+        NoChoice::UnrunWithFeatures => help::UNRUN_WITH_FEATURES,
         NoChoice::TwoInputs => help::TWO_INPUTS,
         NoChoice::Memory => return Refusal::Memory,
     };

@@ -133,12 +133,13 @@ trouble:
 pub(crate) const GATE: &str =
     "Says whether to release a run: its report is true and says success, and each scenario ran.";
 
-pub(crate) const GATE_USAGE: &str = "cukecheck gate [OPTIONS] [RUN]..";
+pub(crate) const GATE_USAGE: &str = "cukecheck gate [OPTIONS] [--features <PATH>].. [RUN]..";
 
 pub(crate) const AFTER_GATE: &str =
     "Reads a stream of Cucumber Messages (one JSON object a line) from standard input or each RUN:
 
   cukecheck gate < run.ndjson && deploy
+  cukecheck gate --features features first.ndjson second.ndjson && deploy
 
 Prints the line that `audit` prints, and a second one where the report is true:
   good ..               0  the run is to be released, and the second line counts what it lets pass
@@ -166,12 +167,29 @@ Of a run that is to be released the second line is `release retried=R skipped=S 
 pickles have more than one attempt, how many cases have a skipped step in their last attempt, and
 how many pickles have no test case.
 With RUN each line begins with its name and `: `.
+With --features each scenario of the feature files has to run in one of the runs, and no run has to
+have them all. Of the files it prints:
+  release files=F scenarios=S retried=R skipped=K unrun=U
+                        0  each of the S scenarios of the F files ran, U aside whose tag lets them;
+                           R and K are counted as above
+  stop Missing          5  below it stand a line for each file that is refused, as `parse` refuses
+                           it, and one for each scenario that ran in none of the runs:
+  REFUSED PATH:LINE:COLUMN N Name
+  MISSING PATH:LINE NAME
+  trouble Name PATH     3  the feature files can't be read, and Name says why:
+  trouble ReadFailed PATH    Nothing is there, or a read failed.
+  trouble NotUtf8 PATH       It isn't UTF-8, or a name in the folder isn't.
+  trouble NoFeatures PATH    The folder has no feature file.
+  trouble LinkedFolder PATH  It is a link to a folder.
 Status 2 is for a mistake in the words. `cukecheck audit --help` explains the numbers and names.
 Without these options a scenario without steps counts as passed, and a run whose every step was
 skipped is released.";
 
 pub(crate) const RUN: &str =
     "The file of a stream; `-` is standard input, which is read where no RUN is given";
+
+pub(crate) const FEATURES: &str =
+    "A feature file, or a folder with some below it; each scenario must run in one of the runs";
 
 pub(crate) const ALLOW_UNRUN: &str =
     "A run may be released that has pickles without a test case, as where a filter was used";
@@ -215,6 +233,14 @@ pub(crate) const BOTH_UNRUN: &str =
     "error: '--allow-unrun' can't be used with '--allow-unrun-tagged <TAG>'
 
 Usage: cukecheck gate [--allow-unrun | --allow-unrun-tagged <TAG>] [RUN]..
+
+For more information, try '--help'.
+";
+
+pub(crate) const UNRUN_WITH_FEATURES: &str =
+    "error: '--allow-unrun' can't be used with '--features <PATH>'
+
+Usage: cukecheck gate [--allow-unrun | --features <PATH>] [RUN]..
 
 For more information, try '--help'.
 ";

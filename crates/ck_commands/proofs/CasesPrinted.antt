@@ -23,7 +23,7 @@ use Rattle.cm_audit_cases.specs.declared.audited_cases.AuditedCases.{AuditedCase
 use Rattle.ck_command_line.specs.CommandLine.{ask_cases}
 use Rattle.ck_command_line.specs.declared.command_line.CaseForm.{CaseForm}
 use Rattle.ck_commands.specs.Cases.{ListsOrTells, ReportsCases, ReportsVerdict, cases_report}
-use Rattle.ck_commands.specs.Output.{IsReport, Report, report_made, trouble_report}
+use Rattle.ck_commands.specs.Output.{IsReport, report_made, trouble_report}
 use Rattle.ck_commands.specs.Run.{Reports}
 use Rattle.ck_commands.specs.Verdicts.{verdict_report}
 use Rattle.ck_commands.specs.declared.output.ExitStatus.TheVariants as exit

@@ -1,8 +1,8 @@
 -- A gate reports the status 0 exactly of a released stream.
-use Rattle.std.proofs.Common.{◌≡◌, ◌≢◌, ◌∙◌, ◌⊎◌, ◌<◌, ◌++◌, arith, ℕ, List, Option, Some, None, inl, inr, refl, subst, sym, ap, ap₂}
+use Rattle.std.proofs.Common.{◌≡◌, ◌∙◌, ◌⊎◌, ◌<◌, ◌++◌, arith, ℕ, List, Option, Some, None, inl, inr, refl, subst, sym, ap, ap₂}
 use Rattle.std.proofs.lemmas.Bool.{cases_order}
 use Rattle.std.proofs.lemmas.List.{append_cancel_left}
-use Rattle.cm_envelope.specs.Device.{Input, OfInput, Output}
+use Rattle.cm_envelope.specs.Device.{OfInput, Output}
 use Rattle.cm_envelope.specs.declared.feed.Trouble.{Trouble as SomeTrouble}
 use Rattle.cm_envelope.specs.declared.feed.Trouble.TheVariants.{Memory, ReadFailed}
 use Rattle.cm_attempt.specs.declared.settings.Settings.{Settings}

@@ -25,7 +25,7 @@ use Rattle.cm_audit_release.specs.declared.audited_release.AuditedRelease.{Audit
 use Rattle.ck_command_line.specs.CommandLine.{ask_gate}
 use Rattle.cm_fault_reasons.specs.AtLine.{IsToldUnder}
 use Rattle.ck_commands.specs.Gate.{IsGateReport, ReleasesOrTells, ReportsHeld, ReportsRelease, finding_told, held_report, hold_in}
-use Rattle.ck_commands.specs.Output.{IsReport, Report, report_made, trouble_report}
+use Rattle.ck_commands.specs.Output.{IsReport, report_made, trouble_report}
 use Rattle.ck_commands.specs.Run.{Reports}
 use Rattle.ck_commands.specs.declared.output.ExitStatus.TheVariants as exit
 use Rattle.ck_commands.specs.declared.output.Report as made
@@ -53,7 +53,7 @@ module _ (settings : Settings) (asked : Conditions) where
   tells_trouble bytes first t x e is = subst (λ (o : FirstFault). IsGateReport settings asked bytes o (report_made (Ok x))) (trouble_first first t e) (report_is (trouble_report t) x is)
 
   module _ (found : ReleaseCounts) (held : Option Hold) (reasons : List ℕ) where
-    of_verdict : (bytes : List ℕ) (success : Bool) (v : Verdict) (x : made.Report) → ReportsHeld found held reasons (record { verdict = v; success = success }) v x
+    of_verdict : (bytes : List ℕ) (success : Bool) (v : Verdict) (x : made.Report) → ReportsHeld asked.is_part found held reasons (record { verdict = v; success = success }) v x
         → CountsGood settings asked success found held reasons bytes v → AnswersTold settings bytes (Ok (record { verdict = v; success = success })) → Reports (ask_gate settings asked) bytes (report_made (Ok x))
     of_verdict bytes success (verdict.Good counts) x r c h =
         let es = c.judged in
@@ -68,13 +68,13 @@ module _ (settings : Settings) (asked : Conditions) where
           (
             reasons,
             subst (λ (o : Option Hold). AreReasons settings.policy asked es o reasons) same_hold c.is.told,
-            report_is (held_report held counts found reasons) x r ∙ (λ j. held_report (same_hold j) (counts_are j) (c.is.counted j) reasons),
+            report_is (held_report asked.is_part held counts found reasons) x r ∙ (λ j. held_report asked.is_part (same_hold j) (counts_are j) (c.is.counted j) reasons),
           ),
         )
     of_verdict bytes success (verdict.Bad n b) x r c h = (h.first, h.is_first, tells_finding bytes reasons h.first n (IsBad (stream_fault_named b)) x h.answers c r)
     of_verdict bytes success (verdict.Unsupported n u) x r c h = (h.first, h.is_first, tells_finding bytes reasons h.first n (IsUnsupported u) x h.answers c r)
 
-    releases_or_tells : (bytes : List ℕ) (success : Bool) (v : Verdict) (x : made.Report) → ReportsHeld found held reasons (record { verdict = v; success = success }) v x
+    releases_or_tells : (bytes : List ℕ) (success : Bool) (v : Verdict) (x : made.Report) → ReportsHeld asked.is_part found held reasons (record { verdict = v; success = success }) v x
         → CountsGood settings asked success found held reasons bytes v → GoodRunIn settings bytes v success → ReleasesOrTells settings asked bytes (record { verdict = v; success = success }) v (report_made (Ok x))
     releases_or_tells bytes success (verdict.Good counts) x r c run =
         let here = read_is_told settings bytes c.judged c.read c.good in
@@ -86,13 +86,13 @@ module _ (settings : Settings) (asked : Conditions) where
           (
             reasons,
             subst (λ (o : Option Hold). AreReasons settings.policy asked run.judged o reasons) same_hold (subst (λ (es : List Envelope). AreReasons settings.policy asked es held reasons) same c.is.told),
-            report_is (held_report held counts found reasons) x r ∙ (λ j. held_report (same_hold j) counts (counted j) reasons),
+            report_is (held_report asked.is_part held counts found reasons) x r ∙ (λ j. held_report asked.is_part (same_hold j) counts (counted j) reasons),
           ),
         )
     releases_or_tells bytes success (verdict.Bad n b) x r c run = (reasons, c, report_is _ x r)
     releases_or_tells bytes success (verdict.Unsupported n u) x r c run = (reasons, c, report_is _ x r)
 
-    done_at_end : (j : Input) (success : Bool) (v : Verdict) (x : made.Report) → ReportsHeld found held reasons (record { verdict = v; success = success }) v x → GoodAtEndIn j v → x.status ≡ exit.Done → j.is_over ≡ true
+    pub done_at_end : (j : Input) (success : Bool) (v : Verdict) (x : made.Report) → ReportsHeld asked.is_part found held reasons (record { verdict = v; success = success }) v x → GoodAtEndIn j v → x.status ≡ exit.Done → j.is_over ≡ true
     done_at_end j success (verdict.Good counts) x r over done = over
     done_at_end j success (verdict.Bad n b) x r over done = let no : exit.Refused ≡ exit.Done = sym r.1 ∙ done in cc
     done_at_end j success (verdict.Unsupported n u) x r over done = let no : exit.Unsupported ≡ exit.Done = sym r.1 ∙ done in cc
@@ -109,7 +109,7 @@ module _ (settings : Settings) (asked : Conditions) where
   audit_alone (Ok a) bytes rest h = h.audit
   audit_alone (Err t) bytes rest h = h.audit
 
-  pub gate_shows : Shows (ask_gate settings asked) settings (λ a. a.audited) (λ a r. ReportsHeld a.found a.hold (string_bytes a.reasons) a.audited a.audited.verdict r) (IsReleaseAuditOf settings asked)
+  pub gate_shows : Shows (ask_gate settings asked) settings (λ a. a.audited) (λ a r. ReportsHeld asked.is_part a.found a.hold (string_bytes a.reasons) a.audited a.audited.verdict r) (IsReleaseAuditOf settings asked)
   gate_shows = record {
     audit = audit_alone;
     of_audit = λ a x bytes rest is h. of_verdict a.found a.hold (string_bytes a.reasons) bytes a.audited.success a.audited.verdict x is h.counted h.audit.told;
@@ -123,8 +123,8 @@ at_end_alone : (j : Input) (answer : Result AuditedRelease Trouble) → GoodAtEn
 at_end_alone j (Ok a) h = h
 at_end_alone j (Err t) h = h
 
-pub gate_is_reported : (settings : Settings) (asked : Conditions) (answer : Result AuditedRelease Trouble) (m : Result made.Report AllocError) (i j : Input) → IfOk m (ReportsRelease answer) → OfReads i j (IsReleaseAuditOf settings asked answer)
+pub gate_is_reported : (settings : Settings) (asked : Conditions) (answer : Result AuditedRelease Trouble) (m : Result made.Report AllocError) (i j : Input) → IfOk m (ReportsRelease asked.is_part answer) → OfReads i j (IsReleaseAuditOf settings asked answer)
     → GoodAtEnd j (audited_in answer) → CountsFailure (is_failed_read answer) i.failed_calls j.failed_calls → Reported (ask_gate settings asked) (report_made m) i j
 gate_is_reported settings asked answer m i j is h end counts =
-    audit_beside_is_reported (ask_gate settings asked) settings (λ a. a.audited) (λ a r. ReportsHeld a.found a.hold (string_bytes a.reasons) a.audited a.audited.verdict r) (IsReleaseAuditOf settings asked) (gate_shows settings asked)
+    audit_beside_is_reported (ask_gate settings asked) settings (λ a. a.audited) (λ a r. ReportsHeld asked.is_part a.found a.hold (string_bytes a.reasons) a.audited a.audited.verdict r) (IsReleaseAuditOf settings asked) (gate_shows settings asked)
     answer m i j is h (at_end_alone j answer end) counts

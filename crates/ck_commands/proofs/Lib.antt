@@ -14,3 +14,10 @@ mod GatePrinted
 mod AuditsBeside
 pub mod RunsLemmas
 pub mod RunsReleased
+pub mod JudgedLemmas
+pub mod FeaturesReleased
+pub mod Left
+pub mod FilesLemmas
+pub mod AskedLemmas
+pub mod FilesTold
+mod FeaturesStrict

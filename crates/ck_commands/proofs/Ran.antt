@@ -1,8 +1,8 @@
 -- What the status of a run says, from the report that was delivered.
-use Rattle.std.proofs.Common.{◌≡◌, ◌≢◌, ◌∙◌, ◌⊎◌, ◌++◌, [], ℕ, List, Option, Some, None, Result, Ok, Err, Bool, true, inl, inr, refl, sym, ap, subst}
-use Rattle.cm_envelope.specs.Device.{Input, OfInput, OfReads, Output, Writes}
+use Rattle.std.proofs.Common.{◌≡◌, ◌∙◌, ◌⊎◌, ◌++◌, [], ℕ, List, Option, Some, None, Result, Ok, Err, Bool, inl, inr, refl, sym, ap, subst}
+use Rattle.cm_envelope.specs.Device.{Input, Output, Writes}
 use Rattle.cm_envelope.proofs.Sources.{input_weaker, of_any, of_reads, reads_weaker, whole_of}
-use Rattle.cm_envelope.specs.declared.feed.Trouble.TheVariants.{Memory, ReadFailed}
+use Rattle.cm_envelope.specs.declared.feed.Trouble.TheVariants.{Memory}
 use Rattle.cm_attempt.specs.declared.settings.Settings.{Settings}
 use Rattle.gk_grammar.specs.Tree.{Document}
 use Rattle.cm_stream.specs.Findings.{IsBad, IsUnsupported}
@@ -19,9 +19,9 @@ use Rattle.ck_command_line.specs.declared.command_line.CaseForm.{CaseForm}
 use Rattle.ck_commands.specs.Cases.{ListsOrTells, PrintsListed}
 use Rattle.ck_commands.specs.Features.{IsFeatureOf, fault_report, parse_report}
 use Rattle.ck_commands.specs.Gate.{PrintsBadWhy, PrintsReleased, ReleasesOrTells, held_status, second_line}
-use Rattle.ck_commands.specs.Output.{Breaks, Delivers, DeliversOne, NoneFailed, Prints, Report, code_of, trouble_report}
+use Rattle.ck_commands.specs.Output.{Breaks, Delivers, DeliversOne, Prints, Report, code_of, trouble_report}
 use Rattle.ck_commands.specs.Results.{results_report}
-use Rattle.ck_commands.specs.Run.{IsBadFor, IsDone, PrintsCompiled, PrintsDocument, PrintsFault, PrintsRefused, PrintsResults, Reported, Reports, ReportsCompiled, Runs, ShowsNone, Tells}
+use Rattle.ck_commands.specs.Run.{IsBadFor, IsDone, PrintsCompiled, PrintsDocument, PrintsFault, PrintsRefused, PrintsResults, Reported, Reports, ReportsCompiled, Runs, Tells}
 use Rattle.ck_commands.specs.Verdicts.{PrintsBad, PrintsGood, counts_text, verdict_report}
 use Rattle.ck_commands.specs.declared.feature_input.FeatureFault.{FeatureFault}
 use Rattle.ck_commands.specs.declared.feature_input.FeatureFault.TheVariants as fault
@@ -83,7 +83,7 @@ module _ (settings : Settings) (asked : Conditions) (code : ℕ) (before after :
         counts,
         found,
         (released_is_not_held settings asked bytes counts found a.success h.0 refl).0 none,
-        subst (Writes before after) (ap (λ (x : Report). x.text) h.1.2 ∙ ap (λ (o : Option Hold). counts_text counts ++ second_line o counts found h.1.0) none) p.written,
+        subst (Writes before after) (ap (λ (x : Report). x.text) h.1.2 ∙ ap (λ (o : Option Hold). counts_text counts ++ second_line asked.is_part o counts found h.1.0) none) p.written,
       )
   released bytes a (verdict.Bad n b) r is h p zero = absurd (not_both 1 0 code (p.status ∙ ap (λ (x : Report). code_of x.status) h.2) zero (λ e. cc))
   released bytes a (verdict.Unsupported n u) r is h p zero = absurd (not_both 4 0 code (p.status ∙ ap (λ (x : Report). code_of x.status) h.2) zero (λ e. cc))

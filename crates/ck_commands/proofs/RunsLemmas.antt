@@ -1,5 +1,5 @@
 -- A gate over named runs, one run after another.
-use Rattle.std.proofs.Common.{◌≡◌, ◌≢◌, ◌∙◌, ◌⊎◌, ◌∷◌, ◌++◌, [], ℕ, List, Option, Some, None, Bool, true, false, inl, inr, refl, sym, ap, subst, append_assoc, append-nil, ◌+◌, ◌<◌, Bor, get_or, length, map, take}
+use Rattle.std.proofs.Common.{◌≡◌, ◌∙◌, ◌∷◌, ◌++◌, [], ℕ, List, Bool, refl, sym, ap, subst, append_assoc, append-nil, ◌+◌, ◌<◌, Bor, get_or, length, map, take}
 use Rattle.std.proofs.lemmas.List.{map-append, take_more}
 use Rattle.std.specs.Char.{encode_utf8}
 use Rattle.std.specs.Prelude.{◌==◌, if◌then◌else◌}
@@ -8,7 +8,7 @@ use Rattle.cm_attempt.specs.declared.settings.Settings.{Settings}
 use Rattle.cm_stream.specs.Release.{Conditions}
 use Rattle.files.specs.Openings.{Opening}
 use Rattle.ck_commands.specs.Output.{Report}
-use Rattle.ck_commands.specs.Runs.{Reading, ReadsRun, ReadsRuns, ReportEach, ReportsRun, IsRunsReport, lines_after, named_text, named_texts, status_after, status_of_all}
+use Rattle.ck_commands.specs.Runs.{Reading, ReadsRun, ReadsRuns, ReportEach, ReportsRun, lines_after, named_text, named_texts, status_after, status_of_all}
 use Rattle.ck_commands.specs.declared.output.ExitStatus.{ExitStatus}
 use Rattle.ck_commands.specs.declared.output.ExitStatus.TheVariants as exit
 
@@ -96,29 +96,6 @@ both_done exit.Usage t e = cc
 both_done exit.Trouble t e = cc
 both_done exit.Unsupported t e = cc
 both_done exit.Held t e = cc
-
--- ---- the report of all runs
-
--- one run more
-pub runs_push : (s : Settings) (asked : Conditions) (names : List (List ℕ)) (name : List ℕ) (old mid new noted : List Opening) (i k j : Input) (reading : Reading) (text later : List ℕ) (status : ExitStatus) (r : Report)
-    → IsRunsReport (record { settings = s; asked = asked; runs = names }) old mid i k (record { text = text; status = status }) → new ≡ mid ++ noted → ReadsRun name noted k j reading → ReportsRun s asked reading r
-    → later ≡ text ++ named_text name r.text → IsRunsReport (record { settings = s; asked = asked; runs = names ++ name ∷ [] }) old new i j (record { text = later; status = status_after status r.status })
-runs_push s asked names name old mid new noted i k j reading text later status r runs opened reads reports added =
-    let was : text ≡ named_texts names runs.reports = ap (λ (x : Report). x.text) runs.joined in
-    let had : status ≡ status_of_all runs.reports = ap (λ (x : Report). x.status) runs.joined in
-    let texts = texts_push s asked names runs.noted i k runs.readings runs.reports name r runs.read runs.each in
-    record {
-      noted = runs.noted ++ noted;
-      opened = opened ∙ ap (λ (l : List Opening). l ++ noted) runs.opened ∙ append_assoc old runs.noted noted;
-      readings = runs.readings ++ reading ∷ [];
-      read = reads_push names runs.noted i k runs.readings name noted j reading runs.read reads;
-      reports = runs.reports ++ r ∷ [];
-      each = each_push s asked runs.readings runs.reports reading r runs.each reports;
-      joined = λ h. record {
-        text = (added ∙ ap (λ (l : List ℕ). l ++ named_text name r.text) was ∙ sym texts) h;
-        status = (ap (λ (x : ExitStatus). status_after x r.status) had ∙ sym (status_push runs.reports r)) h;
-      };
-    }
 
 -- the names of the runs so far, and of the next
 pub names_more : (runs : List (Bor (List ℕ))) (n : ℕ) (other : Bor (List ℕ)) → n < length runs → map (λ run. run.now) (take (n + 1) runs) ≡ map (λ run. run.now) (take n runs) ++ (get_or runs n other).now ∷ []

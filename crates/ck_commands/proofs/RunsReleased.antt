@@ -1,6 +1,6 @@
 -- What status 0 of a gate over named runs says of each.
-use Rattle.std.proofs.Common.{◌≡◌, ◌≢◌, ◌∙◌, ◌⊎◌, ◌∷◌, ◌++◌, [], ℕ, List, Option, Some, None, Result, Ok, Err, Bool, true, false, inl, inr, refl, sym, ap, subst, length}
-use Rattle.cm_envelope.specs.Device.{Input, OfReads, Output}
+use Rattle.std.proofs.Common.{◌≡◌, ◌≢◌, ◌∙◌, ◌⊎◌, ◌∷◌, ◌++◌, [], ℕ, List, Some, None, Bool, true, false, inl, inr, refl, sym, ap, subst, length}
+use Rattle.cm_envelope.specs.Device.{Input, OfReads, OfWhole, Output}
 use Rattle.cm_envelope.proofs.Sources.{whole_of}
 use Rattle.cm_envelope.specs.declared.feed.Trouble.TheVariants.{Memory, ReadFailed}
 use Rattle.cm_attempt.specs.declared.settings.Settings.{Settings}
@@ -10,13 +10,14 @@ use Rattle.cm_stream.specs.declared.verdict.Counts.{Counts}
 use Rattle.files.specs.Openings.{IsFresh, NotesOpening, Opening}
 use Rattle.files.specs.declared.files.FileTrouble.{FileTrouble}
 use Rattle.files.specs.declared.files.FileTrouble.TheVariants as trouble
-use Rattle.ck_command_line.specs.CommandLine.{Asked, Command, RunsGate, ask_gate, over_input, over_runs, is_input}
-use Rattle.ck_commands.specs.Asked.{EachReleased, Leaves, Released, ReleasedBy, ReleasesEach}
-use Rattle.ck_commands.specs.Output.{Delivers, NoneFailed, Prints, Report, code_of, trouble_report}
+use Rattle.ck_command_line.specs.CommandLine.{Command, RunsGate, ask_gate, is_input}
+use Rattle.cm_envelope.specs.declared.envelope.Envelope.{Envelope}
+use Rattle.ck_commands.specs.Asked.{EachReleased, EachReleasedAs, Released, ReleasedBy, ReleasesEach}
+use Rattle.ck_commands.specs.Judged.{AreStreams, ReleasedAs}
+use Rattle.ck_commands.specs.Output.{NoneFailed, Prints, Report, code_of, trouble_report}
 use Rattle.ck_commands.specs.Run.{Reported, Reports, ShowsNone, Tells}
-use Rattle.ck_commands.specs.Runs.{GatesRuns, IsRunsReport, NotesReading, Reading, ReadsBy, ReadsRun, ReadsRuns, ReportEach, ReportsRun, heard, joined_report, status_of_all, unnoted, unopened, unread}
+use Rattle.ck_commands.specs.Runs.{GatesRuns, IsRunsReport, OfHeard, Reading, ReadsBy, ReadsRun, ReadsRuns, ReportEach, ReportsRun, heard, status_of_all, unnoted, unopened, unread}
 use Rattle.ck_commands.specs.Standard.{GaveReleasedEach}
-use Rattle.ck_commands.specs.declared.output.ExitStatus.{ExitStatus}
 use Rattle.ck_commands.specs.declared.output.ExitStatus.TheVariants as exit
 use Rattle.ck_commands.proofs.Ran.{done_of, is_done, not_both, was_printed}
 use Rattle.ck_commands.proofs.RunsLemmas.{both_done}
@@ -48,23 +49,29 @@ released_of s asked r i j reported done =
     (reported.tells (is_no_trouble r done)) (reported.over done)
     (λ xs t. let p = done_of (ask_gate s asked) xs [] r 0 nothing_taken (taken_whole r.text) t (as_printed r done) refl in (p.0, p.1, p.2))
 
+-- what was read of one run, and of the others
+pub by_reading : (standard : Bool) (R : Input → Input → Type 0) (P : (noted : List Opening) → (i : Input) → Type 0) (name : List ℕ) (first others : List Opening) (i k : Input) (reading : Reading)
+    → ReadsBy standard name first i k reading → OfHeard R reading → P others k → ReleasedBy standard R P name (first ++ others) i
+by_reading true R P name first others i k reading reads is rest = (
+  k,
+  subst (OfHeard R) reads.1 is,
+  subst (λ (l : List Opening). P l k) (sym (ap (λ (l : List Opening). l ++ others) reads.0)) rest,
+)
+by_reading false R P name first others i k unopened reads is rest = absurd is
+by_reading false R P name first others i k unnoted reads is rest = absurd is
+by_reading false R P name first others i k (heard before after) reads is rest = (
+  after,
+  others,
+  ap (λ (l : List Opening). l ++ others) reads.1.1,
+  subst (λ (x : Input). R x after) reads.1.0 is,
+  subst (λ (x : Input). P others x) reads.0 rest,
+)
+
 module _ (s : Settings) (asked : Conditions) where
-  one : (standard : Bool) (P : (noted : List Opening) → (i : Input) → Type 0) (name : List ℕ) (first others : List Opening) (i k : Input) (reading : Reading) (r : Report)
-      → ReadsBy standard name first i k reading → ReportsRun s asked reading r → r.status ≡ exit.Done → P others k → ReleasedBy standard P s asked name (first ++ others) i
-  one true P name first others i k reading r reads reports done rest = (
-    k,
-    released_of s asked r i k (subst (λ (x : Reading). ReportsRun s asked x r) reads.1 reports) done,
-    subst (λ (l : List Opening). P l k) (sym (ap (λ (l : List Opening). l ++ others) reads.0)) rest,
-  )
-  one false P name first others i k unopened r reads reports done rest = absurd (no_trouble_done r reports done)
-  one false P name first others i k unnoted r reads reports done rest = absurd (no_trouble_done r (inr reports) done)
-  one false P name first others i k (heard before after) r reads reports done rest = (
-    after,
-    others,
-    ap (λ (l : List Opening). l ++ others) reads.1.1,
-    released_of s asked r unread after (subst (λ (x : Input). Reported (ask_gate s asked) r x after) reads.1.0 reports) done,
-    subst (λ (x : Input). P others x) reads.0 rest,
-  )
+  heard_released : (reading : Reading) (r : Report) → ReportsRun s asked reading r → r.status ≡ exit.Done → OfHeard (Released s asked) reading
+  heard_released unopened r reports done = absurd (no_trouble_done r reports done)
+  heard_released unnoted r reports done = absurd (no_trouble_done r (inr reports) done)
+  heard_released (heard before after) r reports done = released_of s asked r before after reports done
 
   pub each_released : (names : List (List ℕ)) (noted : List Opening) (i j : Input) (readings : List Reading) (reports : List Report) → ReadsRuns names noted i j readings → ReportEach s asked readings reports
       → status_of_all reports ≡ exit.Done → EachReleased s asked names noted i j
@@ -74,8 +81,20 @@ module _ (s : Settings) (asked : Conditions) where
   each_released (n ∷ ns) noted i j (x ∷ xs) [] runs each done = absurd each
   each_released (n ∷ ns) noted i j (x ∷ xs) (r ∷ rs) runs each done =
       let both = both_done r.status (status_of_all rs) done in
-      subst (λ (l : List Opening). ReleasedBy (is_input n) (λ more m. EachReleased s asked ns more m j) s asked n l i) (sym runs.3)
-      (one (is_input n) (λ more m. EachReleased s asked ns more m j) n runs.0 runs.1 i runs.2 x r runs.4 each.0 both.0 (each_released ns runs.1 runs.2 j xs rs runs.5 each.1 both.1))
+      subst (λ (l : List Opening). ReleasedBy (is_input n) (Released s asked) (λ more m. EachReleased s asked ns more m j) n l i) (sym runs.3)
+      (by_reading (is_input n) (Released s asked) (λ more m. EachReleased s asked ns more m j) n runs.0 runs.1 i runs.2 x runs.4 (heard_released x r each.0 both.0) (each_released ns runs.1 runs.2 j xs rs runs.5 each.1 both.1))
+
+  -- the same of runs whose streams are known
+  pub each_released_as : (names : List (List ℕ)) (streams : List (List Envelope)) (noted : List Opening) (i j : Input) (readings : List Reading) → ReadsRuns names noted i j readings → AreStreams s asked readings streams
+      → EachReleasedAs s asked names streams noted i j
+  each_released_as [] [] noted i j [] runs each = runs
+  each_released_as [] (es ∷ streams) noted i j [] runs each = absurd each
+  each_released_as [] streams noted i j (x ∷ xs) runs each = absurd runs
+  each_released_as (n ∷ ns) streams noted i j [] runs each = absurd runs
+  each_released_as (n ∷ ns) [] noted i j (x ∷ xs) runs each = absurd each
+  each_released_as (n ∷ ns) (es ∷ streams) noted i j (x ∷ xs) runs each =
+      subst (λ (l : List Opening). ReleasedBy (is_input n) (ReleasedAs s asked es) (λ more m. EachReleasedAs s asked ns streams more m j) n l i) (sym runs.3)
+      (by_reading (is_input n) (ReleasedAs s asked es) (λ more m. EachReleasedAs s asked ns streams more m j) n runs.0 runs.1 i runs.2 x runs.4 each.0 (each_released_as ns streams runs.1 runs.2 j xs runs.5 each.1))
 
   -- no read of standard input failed
   kept_by : (standard : Bool) (name : List ℕ) (first : List Opening) (i k : Input) (reading : Reading) (r : Report) → ReadsBy standard name first i k reading → ReportsRun s asked reading r → r.status ≡ exit.Done
@@ -106,7 +125,7 @@ pub reads_standard : (name : List ℕ) (i j : Input) → is_input name ≡ true 
 reads_standard name i j is = subst (λ (b : Bool). ReadsBy b name [] i j (heard i j)) (sym is) (refl, refl)
 
 -- what is heard of a file that wasn't read is heard from nothing on
-from_fresh_reads : (P : List ℕ → List ℕ → Type 0) (i j : Input) → IsFresh i → OfReads i j P → OfReads unread j P
+pub from_fresh_reads : (P : List ℕ → List ℕ → Type 0) (i j : Input) → IsFresh i → OfReads i j P → OfReads unread j P
 from_fresh_reads P i j fresh h = (
   h.0,
   record {
@@ -115,6 +134,18 @@ from_fresh_reads P i j fresh h = (
     ends = λ was. h.1.ends (λ over. let no : false ≡ true = sym fresh.before_end ∙ over in cc);
   },
   h.2,
+)
+
+pub from_fresh_whole : (P : List ℕ → Type 0) (i j : Input) → IsFresh i → OfWhole i j P → OfWhole unread j P
+from_fresh_whole P i j fresh h = (
+  h.0,
+  record {
+    heard = h.1.heard ∙ ap (λ (l : List ℕ). l ++ h.0) fresh.unheard;
+    shown = tt;
+    ends = λ was. h.1.ends (λ over. let no : false ≡ true = sym fresh.before_end ∙ over in cc);
+  },
+  h.2,
+  h.3,
 )
 
 pub from_fresh : (c : Command) (r : Report) (i j : Input) → IsFresh i → Reported c r i j → Reported c r unread j
@@ -152,15 +183,6 @@ module _ (g : RunsGate) (old new : List Opening) (i j : Input) (before after : O
       let all = zero_is_all gates zero in
       let is = all.1 in
       none_failed_in g.settings g.asked g.runs is.noted i j is.readings is.reports is.read is.each (ap (λ (x : Report). x.status) (sym is.joined) ∙ all.2)
-
--- what was asked for ends with status 0 without a failed read, and with that of trouble after a failed write
-pub unread_of : (a : Asked) (code : ℕ) (old new : List Opening) (i j : Input) (before after : Output) → Leaves a code old new i j before after → code ≡ 0 → j.failed_calls ≡ i.failed_calls
-unread_of (over_input c) code old new i j before after leaves zero = leaves.1.unread zero
-unread_of (over_runs g) code old new i j before after leaves zero = runs_unread g old new i j before after code leaves zero
-
-pub unwritten_of : (a : Asked) (code : ℕ) (old new : List Opening) (i j : Input) (before after : Output) → Leaves a code old new i j before after → after.failed_calls ≢ before.failed_calls → code ≡ 3
-unwritten_of (over_input c) code old new i j before after leaves other = leaves.1.unwritten other
-unwritten_of (over_runs g) code old new i j before after leaves other = (leaves.2.broken other).status
 
 -- of a reader of which nothing was heard before
 pub each_from_start : (g : RunsGate) (old new : List Opening) (i j : Input) → i.heard ≡ [] → i.is_over ≡ false → i.failed_calls ≡ 0 → ReleasesEach g old new i j → GaveReleasedEach g old new j

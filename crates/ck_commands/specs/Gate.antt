@@ -1,7 +1,7 @@
 -- What the command `gate` prints: the line of `audit`, and of a run that is truthfully reported a second line, with the reason why
 -- it isn't to be released and the lines that say it, or with what was let pass. Of another stream it is what is told of the line
 -- that decides.
-use Rattle.std.specs.Prelude.{◌≡◌, ℕ, Bool, List, [], ◌∷◌, ◌++◌, Option, Some, None, Result, Ok, codes, decimal, string_bytes}
+use Rattle.std.specs.Prelude.{◌≡◌, ℕ, Bool, List, [], ◌∷◌, ◌++◌, Option, Some, None, Result, Ok, codes, decimal, if◌then◌else◌, string_bytes}
 use Rattle.cm_envelope.specs.Device.{Output, Writes}
 use Rattle.cm_envelope.specs.Lines.{line_feed}
 use Rattle.cm_envelope.specs.declared.feed.Trouble.{Trouble}
@@ -43,19 +43,26 @@ release_text counts found =
     codes "release retried=" ++ decimal found.retried ++ codes " skipped=" ++ decimal found.skipped
     ++ codes " unrun=" ++ decimal counts.unrun ++ line_feed ∷ []
 
+-- that line; of a part nothing is said of a release
+abbrev pub release_line : (is_part : Bool) → Counts → ReleaseCounts → List ℕ
+release_line is_part counts found = if is_part then [] else release_text counts found
+
 -- the second line, and of a held run the lines of its reasons below it
-abbrev pub second_line : Option Hold → Counts → ReleaseCounts → (reasons : List ℕ) → List ℕ
-second_line None counts found reasons = release_text counts found
-second_line (Some h) counts found reasons = (hold_name h ++ line_feed ∷ []) ++ reasons
+abbrev pub second_line : (is_part : Bool) → Option Hold → Counts → ReleaseCounts
+    → (reasons : List ℕ) → List ℕ
+second_line is_part None counts found reasons = release_line is_part counts found
+second_line is_part (Some h) counts found reasons =
+    (hold_name h ++ line_feed ∷ []) ++ reasons
 
 abbrev pub held_status : Option Hold → ExitStatus
 held_status None = Done
 held_status (Some h) = Held
 
 -- the report of a good stream whose run is held for this, or isn't
-abbrev pub held_report : Option Hold → Counts → ReleaseCounts → (reasons : List ℕ) → Report
-held_report held counts found reasons = record {
-  text = counts_text counts ++ second_line held counts found reasons;
+abbrev pub held_report : (is_part : Bool) → Option Hold → Counts → ReleaseCounts
+    → (reasons : List ℕ) → Report
+held_report is_part held counts found reasons = record {
+  text = counts_text counts ++ second_line is_part held counts found reasons;
   status = held_status held;
 }
 
@@ -76,7 +83,7 @@ IsFindingReport settings bytes n f r =
 abbrev pub IsGateReport : Settings → Conditions → (bytes : List ℕ) → FirstFault → Report → Type 0
 IsGateReport settings asked bytes (NoFault es) r =
     (reasons : List ℕ) × AreReasons settings.policy asked es (hold_in settings asked es) reasons
-    × (r ≡ held_report (hold_in settings asked es) (counts_of es)
+    × (r ≡ held_report asked.is_part (hold_in settings asked es) (counts_of es)
     (release_counts_of asked settings.policy es) reasons)
 IsGateReport settings asked bytes (At n f) r = IsFindingReport settings bytes n f r
 IsGateReport settings asked bytes (Troubled t) r = r ≡ trouble_report t
@@ -87,7 +94,7 @@ abbrev pub IsReleaseReport : Settings → Conditions → List Envelope → (succ
 IsReleaseReport settings asked es success counts found r =
     (reasons : List ℕ)
     × AreReasons settings.policy asked es (hold_of asked success counts found) reasons
-    × (r ≡ held_report (hold_of asked success counts found) counts found reasons)
+    × (r ≡ held_report asked.is_part (hold_of asked success counts found) counts found reasons)
 
 -- the report of an audit's verdict on these bytes
 abbrev pub ReleasesOrTells : Settings → Conditions → List ℕ → Audited → Verdict → Report → Type 0
@@ -106,7 +113,7 @@ abbrev pub PrintsReleased : Settings → Conditions → (before after : Output) 
 PrintsReleased settings asked before after bytes =
     (counts : Counts) × (found : ReleaseCounts)
     × IsReleasedStream settings asked bytes counts found
-    × Writes before after (counts_text counts ++ release_text counts found)
+    × Writes before after (counts_text counts ++ release_line asked.is_part counts found)
 
 -- a fault that no good stream begins with was printed, and what is told of its line
 abbrev pub PrintsBadWhy : Settings → (before after : Output) → (bytes : List ℕ) → Type 0
@@ -117,16 +124,17 @@ PrintsBadWhy settings before after bytes =
 
 -- ---- the report that the code makes
 
-abbrev pub ReportsHeld : ReleaseCounts → Option Hold → (reasons : List ℕ) → Audited → Verdict
-    → made.Report → Type 0
-ReportsHeld found held reasons a (verdict.Good counts) r =
-    IsReport (held_report held counts found reasons) r
-ReportsHeld found held reasons a (verdict.Bad n b) r =
+abbrev pub ReportsHeld : (is_part : Bool) → ReleaseCounts → Option Hold → (reasons : List ℕ)
+    → Audited → Verdict → made.Report → Type 0
+ReportsHeld is_part found held reasons a (verdict.Good counts) r =
+    IsReport (held_report is_part held counts found reasons) r
+ReportsHeld is_part found held reasons a (verdict.Bad n b) r =
     IsReport (finding_told n (IsBad (stream_fault_named b)) reasons) r
-ReportsHeld found held reasons a (verdict.Unsupported n u) r =
+ReportsHeld is_part found held reasons a (verdict.Unsupported n u) r =
     IsReport (finding_told n (IsUnsupported u) reasons) r
 
-abbrev pub ReportsRelease : Result AuditedRelease Trouble → made.Report → Type 0
-ReportsRelease =
-    ReportsAnswer (λ a r. ReportsHeld a.found a.hold (string_bytes a.reasons) a.audited
+abbrev pub ReportsRelease : (is_part : Bool) → Result AuditedRelease Trouble → made.Report
+    → Type 0
+ReportsRelease is_part =
+    ReportsAnswer (λ a r. ReportsHeld is_part a.found a.hold (string_bytes a.reasons) a.audited
     a.audited.verdict r)

@@ -7,6 +7,10 @@
 -- Results: what the command `results` prints, by the whole list of envelopes of a stream
 -- Run: what a run leaves, one line a command
 -- Runs: a gate over named runs
+-- Judged: runs that are judged, and the streams of those that are released
+-- FeatureFiles: feature files that were read
+-- FilesAsked: whether the scenarios of feature files ran, and what is told of those that didn't
+-- FilesKept: feature files as the code holds them
 -- Asked: what a run leaves, by what the words ask for
 -- Statuses: the words of the statuses of cases
 -- TextInput: what the bytes of a source are as a text
@@ -21,6 +25,10 @@ pub mod Reading
 pub mod Results
 pub mod Run
 pub mod Runs
+pub mod Judged
+pub mod FeatureFiles
+pub mod FilesAsked
+pub mod FilesKept
 pub mod Asked
 pub mod Statuses
 pub mod TextInput

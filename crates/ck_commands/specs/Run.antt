@@ -1,5 +1,5 @@
 -- What a run leaves, one line a command: the report that it prints of the bytes of its source, and what its status says of them.
-use Rattle.std.specs.Prelude.{◌≡◌, ◌≢◌, ◌⊎◌, ⊤, ℕ, List, Option, Result, Ok, string_bytes, true}
+use Rattle.std.specs.Prelude.{◌≡◌, ◌≢◌, ◌⊎◌, ⊤, ℕ, List, Result, Ok, string_bytes, true}
 use Rattle.std.specs.List.{flat_map}
 use Rattle.std.specs.Borrow.{Bor}
 use Rattle.gk_grammar.specs.Documents.{IsDocumentOf}

@@ -1,5 +1,5 @@
 -- A gate over named runs: what is read of each, the report of each, and what all of them print together.
-use Rattle.std.specs.Prelude.{◌≡◌, ◌⊎◌, ⊤, ℕ, ◌==◌, Bool, true, false, List, [], ◌∷◌, ◌++◌, Option, Some, None, codes, if◌then◌else◌}
+use Rattle.std.specs.Prelude.{◌≡◌, ◌⊎◌, ⊤, ℕ, ◌==◌, Bool, true, false, List, [], ◌∷◌, ◌++◌, Some, None, codes, if◌then◌else◌}
 use Rattle.std.specs.Char.{encode_utf8}
 use Rattle.std.specs.Str.{chars}
 use Rattle.cm_envelope.specs.Device.{Input, Output}
@@ -22,6 +22,12 @@ pub data Reading : Type 0 where
   unopened : Reading
   unnoted : Reading
   heard : (before after : Input) → Reading
+
+-- that holds of what was heard
+abbrev pub OfHeard : (Input → Input → Type 0) → Reading → Type 0
+OfHeard P unopened = ⊥
+OfHeard P unnoted = ⊥
+OfHeard P (heard before after) = P before after
 
 -- a file of which nothing was read yet
 abbrev pub unread : Input

@@ -43,15 +43,17 @@ fn release_text(alloc: Global, counts: Counts, found: ReleaseCounts) -> Result<S
     Ok(text)
 }
 
-/// Adds the line of why the run isn't to be released and the reasons below it, or the line of what was let pass.
+/// Adds the line of why the run isn't to be released and the reasons below it, or the line of what was let pass; of a part that is
+/// released nothing.
 fn add_second_line(
     alloc: Global,
     text: &mut String,
+    is_part: bool,
     counts: Counts,
     release: &AuditedRelease,
 ) -> Result<(), AllocError>
-    ensures { IfOk result (λ done. string_bytes text.new
-        ≡ string_bytes text.old ++ second_line release.now.hold counts release.now.found
+    ensures { IfOk result (λ done. string_bytes text.new ≡ string_bytes text.old
+        ++ second_line is_part release.now.hold counts release.now.found
         (string_bytes release.now.reasons)) }
 {
     match release.hold {
@@ -60,6 +62,7 @@ fn add_second_line(
             text.push_str("\n")?;
             text.push_str(release.reasons.as_str())
         }
+        None if is_part => Ok(()),
         None => text.push_str(release_text(alloc, counts, release.found)?.as_str()),
     }
 }
@@ -77,14 +80,15 @@ fn status_of(hold: Option<Hold>) -> ExitStatus
 /// The report of a good stream.
 fn held_report(
     alloc: Global,
+    is_part: bool,
     counts: Counts,
     release: &AuditedRelease,
 ) -> Result<Report, AllocError>
-    ensures { IfOk result (IsReport (held_report release.now.hold counts release.now.found
-        (string_bytes release.now.reasons))) }
+    ensures { IfOk result (IsReport (held_report is_part release.now.hold counts
+        release.now.found (string_bytes release.now.reasons))) }
 {
     let mut text = good_text(alloc, counts)?;
-    add_second_line(alloc, &mut text, counts, release)?;
+    add_second_line(alloc, &mut text, is_part, counts, release)?;
     Ok(Report {
         text,
         status: status_of(release.hold),
@@ -105,15 +109,16 @@ fn told_report(alloc: Global, release: &AuditedRelease) -> Result<Report, AllocE
 }
 
 /// The report of a stream that was audited.
-fn answer_report(
+pub(crate) fn answer_report(
     alloc: Global,
+    is_part: bool,
     answer: &Result<AuditedRelease, Trouble>,
 ) -> Result<Report, AllocError>
-    ensures { IfOk result (ReportsRelease answer.now) }
+    ensures { IfOk result (ReportsRelease is_part answer.now) }
 {
     match answer {
         Ok(release) => match release.audited.verdict {
-            Verdict::Good(counts) => held_report(alloc, counts, release),
+            Verdict::Good(counts) => held_report(alloc, is_part, counts, release),
             Verdict::Bad { .. } | Verdict::Unsupported { .. } => told_report(alloc, release),
         },
         Err(trouble) => verdict_report(alloc, &Err(*trouble)),
@@ -122,7 +127,7 @@ fn answer_report(
 
 /// Audits the source by the settings. The report has the verdict and, of a good stream, why its run isn't to be released under these
 /// conditions, with its reasons, or what was let pass; of another what is told of the line that decides.
-pub(crate) fn gate_report<R: ByteSource>(
+fn gate_report<R: ByteSource>(
     alloc: Global,
     settings: Settings,
     conditions: &Conditions<'_>,
@@ -132,7 +137,7 @@ pub(crate) fn gate_report<R: ByteSource>(
         (R.input source.old) (R.input source.new) }
 {
     let answer = audit_release(alloc, source, settings, conditions);
-    let report = answer_report(alloc, &answer);
+    let report = answer_report(alloc, conditions.is_part, &answer);
     drop(answer);
     report
 }

@@ -1,19 +1,19 @@
 //! The command `gate` over named runs.
-ghost use Rattle.std.specs.Prelude.{◌≡◌, ◌++◌, IfOk, List, Ok, OnOk, map, string_bytes};
+ghost use Rattle.std.specs.Prelude.{◌≡◌, ◌++◌, IfOk, OnOk, map, string_bytes};
 ghost use Rattle.cm_stream.specs.Release.{conditions_of};
-ghost use Rattle.files.specs.Openings.{Opening};
 ghost use Rattle.ck_command_line.specs.CommandLine.{RunsGate};
-ghost use Rattle.ck_commands.specs.Output.{report_made, trouble_report};
-ghost use Rattle.ck_commands.specs.Runs.{GatesRuns, IsRunsReport, NotesReading, Reading, ReadsRun};
-ghost use Rattle.ck_commands.specs.Runs.{ReportsRun, named_text, status_after};
+ghost use Rattle.ck_commands.specs.Judged.{JudgesRuns, counts_made, run_report};
+ghost use Rattle.ck_commands.specs.Output.{report_made};
+ghost use Rattle.ck_commands.specs.Runs.{GatesRuns, named_text, status_after};
 
-use crate::command_gate::gate_report;
+use crate::judged_run::{JudgedRun, RunCounts, judge_run};
 use crate::named_lines::add_named;
-use crate::output::{ExitStatus, Report, trouble_text, write_report};
+use crate::output::{ExitStatus, Report, write_report};
 use cm_attempt::Settings;
-use cm_envelope::{ByteSink, ByteSource, Trouble};
+use cm_envelope::{ByteSink, ByteSource};
+use cm_ran::Marks;
 use cm_stream::Conditions;
-use files::{FileTrouble, Files};
+use files::Files;
 use std::alloc::{AllocError, Global};
 
 /// The first of the two that isn't that of what was done.
@@ -31,116 +31,70 @@ fn add_run(
     alloc: Global,
     text: &mut String,
     name: &str,
-    report: &Result<Report, AllocError>,
+    run: &Result<JudgedRun, AllocError>,
 ) -> Result<(), AllocError>
     ensures { OnOk result (string_bytes text.new ≡ string_bytes text.old
-        ++ named_text name.now (report_made report.now).text) }
+        ++ named_text name.now (run_report run.now).text) }
 {
-    match report {
-        Ok(report) => add_named(alloc, text, name, report.text.as_str()),
+    match run {
+        Ok(run) => add_named(alloc, text, name, run.report.text.as_str()),
         Err(_) => add_named(alloc, text, name, "trouble Memory\n"),
     }
 }
 
 /// The status of a run's report, or that of trouble where there was no memory for it.
-fn status_of(report: &Result<Report, AllocError>) -> ExitStatus
-    ensures { result ≡ (report_made report.now).status }
+fn status_of(run: &Result<JudgedRun, AllocError>) -> ExitStatus
+    ensures { result ≡ (run_report run.now).status }
 {
-    match report {
-        Ok(report) => report.status,
+    match run {
+        Ok(run) => run.report.status,
         Err(_) => ExitStatus::Trouble,
     }
 }
 
-/// The report of a file that can't be opened.
-fn unopened_report(alloc: Global) -> Result<Report, AllocError>
-    ensures { IfOk result (λ report. report_made (Ok report) ≡ trouble_report Trouble.ReadFailed) }
+/// What is counted of a run.
+fn counts_of(run: &Result<JudgedRun, AllocError>) -> RunCounts
+    ensures { result ≡ counts_made run.now }
 {
-    Ok(Report {
-        text: trouble_text(alloc, Trouble::ReadFailed)?,
-        status: ExitStatus::Trouble,
-    })
-}
-
-/// The report of a gate on a file.
-fn gate_file<F: Files>(
-    alloc: Global,
-    settings: Settings,
-    conditions: &Conditions<'_>,
-    files: &mut F,
-    name: &str,
-) -> Result<Report, AllocError>
-    ensures { (noted : List Opening) × (reading : Reading)
-        × (F.openings files.new ≡ F.openings files.old ++ noted)
-        × NotesReading name.now noted reading
-        × ReportsRun settings (conditions_of conditions.now) reading (report_made result) }
-{
-    match files.open(name) {
-        Ok(mut file) => {
-            let report = gate_report(alloc, settings, conditions, &mut file.source);
-            match files.close(file) {
-                Ok(()) => report,
-                Err(refused) => {
-                    drop(report);
-                    Err(refused)
-                }
-            }
-        }
-        Err(FileTrouble::ReadFailed) => unopened_report(alloc),
-        Err(FileTrouble::Memory) => Err(AllocError),
+    match run {
+        Ok(run) => run.counts,
+        Err(_) => RunCounts::none(),
     }
 }
 
-/// The report of a gate on a run: standard input, or else the file of that name.
-fn gate_run<F: Files, R: ByteSource>(
-    alloc: Global,
-    settings: Settings,
-    conditions: &Conditions<'_>,
-    files: &mut F,
-    source: &mut R,
-    name: &str,
-) -> Result<Report, AllocError>
-    ensures { (noted : List Opening) × (reading : Reading)
-        × (F.openings files.new ≡ F.openings files.old ++ noted)
-        × ReadsRun name.now noted (R.input source.old) (R.input source.new) reading
-        × ReportsRun settings (conditions_of conditions.now) reading (report_made result) }
-{
-    if name == "-" {
-        gate_report(alloc, settings, conditions, source)
-    } else {
-        gate_file(alloc, settings, conditions, files, name)
-    }
-}
-
-/// The reports of all runs, each read in its turn, whatever the ones before gave.
-fn runs_report<F: Files, R: ByteSource>(
+/// Judges all runs, each in its turn, whatever the ones before gave. The report has all lines, each after the name of its run.
+pub(crate) fn judge_runs<F: Files, R: ByteSource>(
     alloc: Global,
     settings: Settings,
     conditions: &Conditions<'_>,
     runs: &[&str],
     files: &mut F,
     source: &mut R,
-) -> Result<Report, AllocError>
-    ensures { IfOk result (λ report. IsRunsReport (record {
+    marks: &mut Marks<'_>,
+) -> Result<JudgedRun, AllocError>
+    ensures judged { IfOk result (λ all. JudgesRuns (record {
       settings = settings;
       asked = conditions_of conditions.now;
       runs = map (λ run. run.now) runs.now;
     }) (F.openings files.old) (F.openings files.new) (R.input source.old)
-        (R.input source.new) (report_made (Ok report))) }
+        (R.input source.new) marks.old marks.new (report_made (Ok all.report)) all.counts) }
+    ensures looks { F.looks files.new ≡ F.looks files.old }
 {
     let mut text = String::new(alloc);
     let mut status = ExitStatus::Done;
+    let mut counts = RunCounts::none();
     for run in runs {
-        let report = gate_run(alloc, settings, conditions, files, source, run);
-        add_run(alloc, &mut text, run, &report)?;
-        status = status_after(status, status_of(&report));
-        drop(report);
+        let judged = judge_run(alloc, settings, conditions, files, source, run, marks);
+        add_run(alloc, &mut text, run, &judged)?;
+        status = status_after(status, status_of(&judged));
+        counts = counts.with(counts_of(&judged));
+        drop(judged);
     }
-    Ok(Report { text, status })
+    let report = Report { text, status };
+    Ok(JudgedRun { report, counts })
 }
 
-/// Audits each run by the settings, in order, and prints of each what `gate` prints, each line after the run's name. Gives the
-/// exit code: that of the first run that isn't to be released, if any.
+/// Prints the report of all runs, and gives the exit code: that of the first run that isn't to be released, if any.
 pub(crate) fn print_runs<F: Files, R: ByteSource, W: ByteSink>(
     alloc: Global,
     settings: Settings,
@@ -150,13 +104,19 @@ pub(crate) fn print_runs<F: Files, R: ByteSource, W: ByteSink>(
     source: &mut R,
     sink: &mut W,
 ) -> u8
-    ensures { GatesRuns (record {
+    ensures gate { GatesRuns (record {
       settings = settings;
       asked = conditions_of conditions.now;
       runs = map (λ run. run.now) runs.now;
     }) result (F.openings files.old) (F.openings files.new) (R.input source.old)
         (R.input source.new) (W.output sink.old) (W.output sink.new) }
+    ensures looks { F.looks files.new ≡ F.looks files.old }
 {
-    let report = runs_report(alloc, settings, conditions, runs, files, source);
-    write_report(sink, report)
+    let mut marks = Marks::new(alloc);
+    let judged = judge_runs(alloc, settings, conditions, runs, files, source, &mut marks);
+    drop(marks);
+    match judged {
+        Ok(judged) => write_report(sink, Ok(judged.report)),
+        Err(refused) => write_report(sink, Err(refused)),
+    }
 }

@@ -1,15 +1,16 @@
 //! One command, from the words to the exit code.
 ghost use Rattle.std.specs.Prelude.{◌≡◌, ◌≢◌, ◌∷◌, IfOk, List, codes, map};
 ghost use Rattle.cm_envelope.specs.Device.{OfInput, OfReads};
-ghost use Rattle.ck_command_line.specs.CommandLine.{Asked, Asks, AsksNothing, AsksRuns, Command, RunsGate, asked_of_choice};
+ghost use Rattle.ck_command_line.specs.CommandLine.{Asked, Asks, AsksFeatures, AsksNothing, AsksRuns, Command, FeaturesGate, RunsGate, asked_of_choice};
 ghost use Rattle.files.specs.Openings.{Opening};
-ghost use Rattle.ck_commands.specs.Asked.{AsksFor, EachReleased, Leaves, LeavesAlone, ReleasesEach};
+ghost use Rattle.ck_commands.specs.Asked.{AsksFor, EachReleased, Leaves, LeavesAlone, ReleasesEach, ReleasesFeatures};
 ghost use Rattle.ck_commands.specs.Output.{Delivers, DeliversOne, NoneFailed, code_of};
 ghost use Rattle.ck_commands.specs.Run.{IsRefusal, IsRight, Reports, ShowsNone, TellsFailedRead, report_of_refusal};
 
 use crate::command_audit::print_audit;
 use crate::command_cases::print_cases;
 use crate::command_compile::print_compiled;
+use crate::command_features::print_features;
 use crate::command_gate::print_gate;
 use crate::command_parse::print_feature;
 use crate::command_results::print_results;
@@ -40,8 +41,8 @@ fn run_choice<F: Files, R: ByteSource, W: ByteSink>(
     sink: &mut W,
 ) -> u8
     ensures { Leaves (asked_of_choice choice.entry) result (F.openings files.old)
-        (F.openings files.new) (R.input source.old) (R.input source.new)
-        (W.output sink.old) (W.output sink.new) }
+        (F.openings files.new) (F.looks files.old) (F.looks files.new)
+        (R.input source.old) (R.input source.new) (W.output sink.old) (W.output sink.new) }
 {
     match choice {
         Choice::Parse => print_feature(alloc, source, sink),
@@ -53,6 +54,20 @@ fn run_choice<F: Files, R: ByteSource, W: ByteSink>(
         Choice::GateRuns(settings, conditions, runs) => {
             let runs = runs.as_slice();
             print_runs(alloc, settings, &conditions, runs, files, source, sink)
+        }
+        Choice::GateFeatures(settings, conditions, features, runs) => {
+            let features = features.as_slice();
+            let runs = runs.as_slice();
+            print_features(
+                alloc,
+                settings,
+                &conditions,
+                features,
+                runs,
+                files,
+                source,
+                sink,
+            )
         }
         Choice::Results(first_attempt) => print_results(alloc, first_attempt, source, sink),
         Choice::Cases(settings, form) => print_cases(alloc, settings, form, source, sink),
@@ -83,11 +98,13 @@ pub fn run_with<F: Files, R: ByteSource, W: ByteSink>(
     // Of a command over standard input all that `run` says; of a gate over runs the report of each.
     ensures asked { (a : Asked) → AsksFor words.now a
         → Leaves a result (F.openings files.old) (F.openings files.new)
+        (F.looks files.old) (F.looks files.new)
         (R.input source.old) (R.input source.new) (W.output sink.old) (W.output sink.new) }
 
     // Words that ask for nothing are told the usage; help, and status 0, only where they call for help or for the version.
     ensures nothing { AsksNothing words.now
         → LeavesAlone words.now result (F.openings files.old) (F.openings files.new)
+        (F.looks files.old) (F.looks files.new)
         (R.input source.old) (R.input source.new) (W.output sink.old) (W.output sink.new) }
     ensures refused { AsksNothing words.now → source.new ≡ source.old }
 
@@ -95,6 +112,12 @@ pub fn run_with<F: Files, R: ByteSource, W: ByteSink>(
     ensures released { (g : RunsGate) → AsksRuns words.now g → result ≡ code_of ExitStatus.Done
         → ReleasesEach g (F.openings files.old) (F.openings files.new)
         (R.input source.old) (R.input source.new) }
+
+    // With status 0 of a gate over feature files each of their scenarios ran in one of the runs, or may be left out by a tag.
+    ensures features_released { (g : FeaturesGate) → AsksFeatures words.now g
+        → result ≡ code_of ExitStatus.Done
+        → ReleasesFeatures g (F.openings files.old) (F.openings files.new)
+        (F.looks files.old) (F.looks files.new) (R.input source.old) (R.input source.new) }
 
     // A failed write or flush is seen in the status, and so is a failed read.
     ensures unwritten { (W.output sink.new).failed_calls ≢ (W.output sink.old).failed_calls

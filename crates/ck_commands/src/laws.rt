@@ -1,5 +1,5 @@
 //! Laws of the definitions of a run.
-ghost use Rattle.ck_commands.specs.Laws.{GateReleasesExactly, ReleasedEndsWell, ShownAreHeard, ShownAreReported};
+ghost use Rattle.ck_commands.specs.Laws.{AnyOrderOfRuns, FeaturesPassed, GateReleasesExactly, ReleasedEndsWell, ShownAreHeard, ShownAreReported};
 
 /// What a source shows to come is what was heard of it and what it shows afterwards, unless its last answer was the end though it
 /// shows more. So what is said of the bytes heard, with any that may come after them, holds of the bytes that a source shows.
@@ -13,4 +13,15 @@ pub fn shown_bytes_are_heard()
 pub fn gate_releases_exactly()
     ensures exactly { GateReleasesExactly }
     ensures ends { ReleasedEndsWell }
+{}
+
+/// By a strict gate over feature files, with no scenario that may be left out, each of their scenarios has steps, ran exactly once in
+/// one of the runs, and each of its steps was matched and passed.
+pub fn strict_features_passed()
+    ensures { FeaturesPassed }
+{}
+
+/// In whatever order runs are given, the same scenarios ran in them.
+pub fn runs_come_in_any_order()
+    ensures { AnyOrderOfRuns }
 {}

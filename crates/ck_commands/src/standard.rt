@@ -2,9 +2,9 @@
 ghost use Rattle.std.specs.Prelude.{◌≡◌};
 ghost use Rattle.cm_attempt.specs.declared.settings.Settings.{Settings};
 ghost use Rattle.cm_stream.specs.Release.{Conditions};
-ghost use Rattle.ck_command_line.specs.CommandLine.{Asks, AsksNothing, AsksRuns, CallsForHelp, RunsGate, ask_gate};
+ghost use Rattle.ck_command_line.specs.CommandLine.{Asks, AsksFeatures, AsksNothing, AsksRuns, CallsForHelp, FeaturesGate, RunsGate, ask_gate};
 ghost use Rattle.ck_commands.specs.Output.{code_of};
-ghost use Rattle.ck_commands.specs.Standard.{GaveReleased, GaveReleasedEach};
+ghost use Rattle.ck_commands.specs.Standard.{GaveFeatures, GaveReleased, GaveReleasedEach};
 
 use crate::commands::run_with;
 use crate::output::ExitStatus;
@@ -45,6 +45,11 @@ pub fn run_over<F: Files, R: Read, W: Write>(
         → result.code ≡ code_of ExitStatus.Done
         → GaveReleasedEach g (F.openings files) (F.openings result.files)
         (⟦<Reader<R> as ByteSource>⟧.input result.source) }
+    // With status 0 of a gate over feature files each of their scenarios ran in one of the runs, or may be left out by a tag.
+    ensures features_released { (g : FeaturesGate) → AsksFeatures words.now g
+        → result.code ≡ code_of ExitStatus.Done
+        → GaveFeatures g (F.openings files) (F.openings result.files) (F.looks files)
+        (F.looks result.files) (⟦<Reader<R> as ByteSource>⟧.input result.source) }
     // Words that ask for nothing end with status 0 only where they call for help or for the version.
     ensures usage { result.code ≡ code_of ExitStatus.Done → AsksNothing words.now
         → CallsForHelp words.now }

@@ -13,7 +13,7 @@ const TEXTS: &str = "0 --help = Usage: parse compile audit gate results cases
 0 parse --help = Usage: parse
 0 compile --help = Usage: compile --uri
 0 audit --help = Usage: audit --pending-passes --attempts-from
-0 gate --help = Usage: gate --allow-unrun --allow-unrun-tagged --strict --no-retries --no-skips --no-stepless --no-undefined --pending-passes --attempts-from stop release
+0 gate --help = Usage: gate --features --allow-unrun --allow-unrun-tagged --strict --no-retries --no-skips --no-stepless --no-undefined --pending-passes --attempts-from stop release
 0 help gate = Usage: gate --allow-unrun --pending-passes --attempts-from stop
 0 results -h = Usage: results --attempts-from
 0 cases --help = Usage: cases --json --pending-passes --attempts-from UNRUN
@@ -33,6 +33,11 @@ const TEXTS: &str = "0 --help = Usage: parse compile audit gate results cases
 2 gate - - = Usage: gate
 2 gate -strict = Usage: gate
 2 gate -x = Usage: gate
+2 gate --features = required --features
+2 gate --features f --allow-unrun = --allow-unrun --features
+2 gate --allow-unrun --features=f = --allow-unrun --features
+2 gate --features f - - = Usage: gate
+2 audit --features f = Usage: audit
 2 gate --uri u = Usage: gate
 2 gate --allow-unrun --allow-unrun = Usage: gate --allow-unrun
 2 gate --allow-unrun=true = Usage: gate

@@ -2,16 +2,16 @@ use Rattle.ck_command_line.specs.CommandLine.{over_input}
 use Rattle.ck_commands.proofs.commands.run.Goals as goal
 
 pub returns-clause-answer : goal.returns-clause-answer
-returns-clause-answer g c = λ k asks none. (c.run_with-code.ensures.asked (over_input k) asks).1.answer none
+returns-clause-answer g c = λ k asks none. (c.run_with-code.ensures.asked (over_input k) asks).2.answer none
 
 pub returns-clause-status : goal.returns-clause-status
-returns-clause-status g c = λ k asks. (c.run_with-code.ensures.asked (over_input k) asks).1.status
+returns-clause-status g c = λ k asks. (c.run_with-code.ensures.asked (over_input k) asks).2.status
 
 pub returns-clause-no_fault : goal.returns-clause-no_fault
-returns-clause-no_fault g c = λ k asks failed. (c.run_with-code.ensures.asked (over_input k) asks).1.no_fault failed
+returns-clause-no_fault g c = λ k asks failed. (c.run_with-code.ensures.asked (over_input k) asks).2.no_fault failed
 
 pub returns-clause-read_failed : goal.returns-clause-read_failed
-returns-clause-read_failed g c = λ k asks failed. (c.run_with-code.ensures.asked (over_input k) asks).1.read_failed failed
+returns-clause-read_failed g c = λ k asks failed. (c.run_with-code.ensures.asked (over_input k) asks).2.read_failed failed
 
 pub returns-clause-usage : goal.returns-clause-usage
 returns-clause-usage g c = λ nothing. (c.run_with-code.ensures.nothing nothing).told

@@ -1,0 +1,178 @@
+//! A run that is judged as `gate` does, with what is marked and counted of it where it is released.
+ghost use Rattle.std.specs.Prelude.{◌≡◌, ◌++◌, IfOk, List, Ok};
+ghost use Rattle.cm_stream.specs.Release.{conditions_of};
+ghost use Rattle.files.specs.Openings.{Opening};
+ghost use Rattle.ck_commands.specs.Judged.{JudgesRun, Judges, added_counts, counted_in, counts_made, no_counts, run_report};
+ghost use Rattle.ck_commands.specs.Output.{report_made, trouble_report};
+ghost use Rattle.ck_commands.specs.Runs.{NotesReading, Reading, ReadsRun};
+
+use crate::command_gate::answer_report;
+use crate::output::{ExitStatus, Report, trouble_text};
+use cm_attempt::Settings;
+use cm_audit_release::{AuditedRelease, audit_part};
+use cm_envelope::{ByteSource, Trouble};
+use cm_ran::Marks;
+use cm_stream::{Conditions, Verdict};
+use files::{FileTrouble, Files};
+use std::alloc::{AllocError, Global};
+
+/// What is counted of released runs.
+#[derive(Clone, Copy, PartialEq, Eq, Debug, Drop)]
+pub(crate) struct RunCounts {
+    /// Test cases.
+    pub(crate) cases: u64,
+    /// Pickles with more than one attempt.
+    pub(crate) retried: u64,
+    /// Test cases whose last attempt has a skipped step.
+    pub(crate) skipped: u64,
+}
+
+impl RunCounts {
+    /// Those of no run.
+    pub(crate) fn none() -> RunCounts
+        ensures { result ≡ no_counts }
+    {
+        RunCounts {
+            cases: 0,
+            retried: 0,
+            skipped: 0,
+        }
+    }
+
+    /// Those of these runs and of one more.
+    pub(crate) fn with(self, more: RunCounts) -> RunCounts
+        ensures { result ≡ added_counts self more }
+    {
+        RunCounts {
+            cases: self.cases.saturating_add(more.cases),
+            retried: self.retried.saturating_add(more.retried),
+            skipped: self.skipped.saturating_add(more.skipped),
+        }
+    }
+}
+
+/// What was judged of a run, or of several: the report, and what is counted of those that are released.
+#[derive(Drop)]
+pub(crate) struct JudgedRun {
+    pub(crate) report: Report,
+    pub(crate) counts: RunCounts,
+}
+
+/// What is counted of a run that was audited; of one that isn't good nothing.
+fn counts_of(answer: &Result<AuditedRelease, Trouble>) -> RunCounts
+    ensures { result ≡ counted_in answer.now }
+{
+    let Ok(release) = answer else {
+        return RunCounts::none();
+    };
+    match release.audited.verdict {
+        Verdict::Good(counts) => RunCounts {
+            cases: counts.cases,
+            retried: release.found.retried,
+            skipped: release.found.skipped,
+        },
+        Verdict::Bad { .. } | Verdict::Unsupported { .. } => RunCounts::none(),
+    }
+}
+
+/// The report with the counts.
+fn with_counts(
+    report: Result<Report, AllocError>,
+    counts: RunCounts,
+) -> Result<JudgedRun, AllocError>
+    ensures report { run_report result ≡ report_made report }
+    ensures counts { IfOk result (λ run. run.counts ≡ counts) }
+{
+    Ok(JudgedRun {
+        report: report?,
+        counts,
+    })
+}
+
+/// Judges the run whose stream the source gives. Where it is released, what ran of the marked texts is marked.
+pub(crate) fn judge<R: ByteSource>(
+    alloc: Global,
+    settings: Settings,
+    conditions: &Conditions<'_>,
+    source: &mut R,
+    marks: &mut Marks<'_>,
+) -> Result<JudgedRun, AllocError>
+    ensures { Judges settings (conditions_of conditions.now) (R.input source.old)
+        (R.input source.new) marks.old marks.new (run_report result) (counts_made result) }
+{
+    let answer = audit_part(alloc, source, settings, conditions, marks);
+    let counts = counts_of(&answer);
+    let report = answer_report(alloc, conditions.is_part, &answer);
+    drop(answer);
+    with_counts(report, counts)
+}
+
+/// The report of a file that can't be opened.
+fn unopened(alloc: Global) -> Result<JudgedRun, AllocError>
+    ensures { IfOk result (λ run. run_report (Ok run) ≡ trouble_report Trouble.ReadFailed) }
+{
+    let report = Report {
+        text: trouble_text(alloc, Trouble::ReadFailed)?,
+        status: ExitStatus::Trouble,
+    };
+    Ok(JudgedRun {
+        report,
+        counts: RunCounts::none(),
+    })
+}
+
+/// Judges the run whose stream is the file of this name.
+fn judge_file<F: Files>(
+    alloc: Global,
+    settings: Settings,
+    conditions: &Conditions<'_>,
+    files: &mut F,
+    name: &str,
+    marks: &mut Marks<'_>,
+) -> Result<JudgedRun, AllocError>
+    ensures judged { (noted : List Opening) × (reading : Reading)
+        × (F.openings files.new ≡ F.openings files.old ++ noted)
+        × NotesReading name.now noted reading
+        × JudgesRun settings (conditions_of conditions.now) reading marks.old marks.new
+        (run_report result) (counts_made result) }
+    ensures looks { F.looks files.new ≡ F.looks files.old }
+{
+    match files.open(name) {
+        Ok(mut file) => {
+            let run = judge(alloc, settings, conditions, &mut file.source, marks);
+            match files.close(file) {
+                Ok(()) => run,
+                Err(refused) => {
+                    drop(run);
+                    Err(refused)
+                }
+            }
+        }
+        Err(FileTrouble::ReadFailed) => unopened(alloc),
+        Err(FileTrouble::Memory) => Err(AllocError),
+    }
+}
+
+/// Judges the run of this name: standard input, or else a file.
+pub(crate) fn judge_run<F: Files, R: ByteSource>(
+    alloc: Global,
+    settings: Settings,
+    conditions: &Conditions<'_>,
+    files: &mut F,
+    source: &mut R,
+    name: &str,
+    marks: &mut Marks<'_>,
+) -> Result<JudgedRun, AllocError>
+    ensures judged { (noted : List Opening) × (reading : Reading)
+        × (F.openings files.new ≡ F.openings files.old ++ noted)
+        × ReadsRun name.now noted (R.input source.old) (R.input source.new) reading
+        × JudgesRun settings (conditions_of conditions.now) reading marks.old marks.new
+        (run_report result) (counts_made result) }
+    ensures looks { F.looks files.new ≡ F.looks files.old }
+{
+    if name == "-" {
+        judge(alloc, settings, conditions, source, marks)
+    } else {
+        judge_file(alloc, settings, conditions, files, name, marks)
+    }
+}
