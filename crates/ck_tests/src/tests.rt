@@ -4,6 +4,7 @@ mod cases;
 mod compiled;
 mod conditions;
 mod differences;
+mod failing_files;
 mod failures;
 mod feature_runs;
 mod features;

@@ -1,7 +1,7 @@
 //! Each command where a read, a write or a flush fails: the status is 3, and no call is made again.
 use crate::tests::compiled::{LINES, TEXT};
 use crate::tests::lines::{RETRIED, stream_of};
-use crate::tests::running::expect_run;
+use crate::tests::running::{Runner, WithoutFiles, expect_run_by};
 use ck_commands::run;
 use devices::{FailedWrite, Failing, Pieces, Store};
 use std::alloc::Global;
@@ -10,11 +10,12 @@ use std::test::Fail;
 
 // A command, what it reads, and what it prints of that with this status.
 #[derive(Clone, Copy)]
-struct Case<'a> {
-    words: &'a [&'a str],
-    input: &'a str,
-    text: &'a str,
-    status: u8,
+pub(crate) struct Case<'a, R> {
+    pub(crate) runner: R,
+    pub(crate) words: &'a [&'a str],
+    pub(crate) input: &'a str,
+    pub(crate) text: &'a str,
+    pub(crate) status: u8,
 }
 
 // The most bytes of a read, and of a write.
@@ -27,34 +28,45 @@ const READ_FAILED: &str = "trouble ReadFailed\n";
 const WRITE_FAILED: &str = "trouble WriteFailed\n";
 
 // With this source and this sink the command prints this text, and ends with status 3.
-fn expect_trouble(
+fn expect_trouble<R: Runner>(
     rt: &impl Abort,
     alloc: Global,
-    words: &[&str],
+    case: Case<'_, R>,
     source: &mut Pieces<'_>,
     sink: &mut Store,
     text: &str,
 ) {
-    expect_run(rt, alloc, words, source, sink, text, 3);
+    let Case { runner, words, .. } = case;
+    expect_run_by(rt, alloc, runner, words, source, sink, text, 3);
 }
 
 // Where no call fails, what is wanted is printed. Gives how many reads that takes.
-fn expect_whole(rt: &impl Abort, alloc: Global, case: Case<'_>) -> u64 {
+fn expect_whole<R: Runner>(rt: &impl Abort, alloc: Global, case: Case<'_, R>) -> u64 {
     let mut source = Pieces::new(case.input.as_bytes(), READ);
     let mut sink = Store::new(alloc, WRITE);
     let Case {
+        runner,
         words,
         text,
         status,
         ..
     } = case;
-    expect_run(rt, alloc, words, &mut source, &mut sink, text, status);
+    expect_run_by(
+        rt,
+        alloc,
+        runner,
+        words,
+        &mut source,
+        &mut sink,
+        text,
+        status,
+    );
     assert_eq!(rt; sink.flushes(), 1);
     source.reads()
 }
 
 // The read of this number fails, and the write that says so may fail too.
-fn expect_failed_read(rt: &impl Abort, alloc: Global, case: Case<'_>, number: u64) {
+fn expect_failed_read<R: Runner>(rt: &impl Abort, alloc: Global, case: Case<'_, R>, number: u64) {
     for (writes, text) in [
         (Failing::Never, READ_FAILED),
         (Failing::Once(1), WRITE_FAILED),
@@ -63,7 +75,7 @@ fn expect_failed_read(rt: &impl Abort, alloc: Global, case: Case<'_>, number: u6
         let pieces = Pieces::new(case.input.as_bytes(), READ);
         let mut source = pieces.failing_reads(Failing::Once(number));
         let mut sink = Store::new(alloc, WRITE).failing_writes(writes);
-        expect_trouble(rt, alloc, case.words, &mut source, &mut sink, text);
+        expect_trouble(rt, alloc, case, &mut source, &mut sink, text);
         assert_eq!(rt; source.reads(), number);
         assert_eq!(rt; source.failed_reads(), 1);
     }
@@ -78,22 +90,29 @@ fn expect_front(rt: &impl Abort, taken: &[u8], text: &str, front: usize, told: &
 }
 
 // These writes fail, the first of them after so many bytes. After it nothing but the trouble is written, as far as it goes.
-fn expect_failed_write(
+fn expect_failed_write<R: Runner>(
     rt: &impl Abort,
     alloc: Global,
-    case: Case<'_>,
+    case: Case<'_, R>,
     sink: Store,
     front: usize,
     told: &str,
 ) {
     let mut source = Pieces::whole(case.input.as_bytes());
     let mut sink = sink;
-    assert_eq!(rt; run(alloc, case.words, &mut source, &mut sink), 3);
+    let Case { runner, words, .. } = case;
+    assert_eq!(rt; runner.run_words(alloc, words, &mut source, &mut sink), 3);
     expect_front(rt, sink.bytes(), case.text, front, told);
 }
 
 // The write of this number fails, which comes after so many bytes: alone, or with each after it.
-fn expect_broken(rt: &impl Abort, alloc: Global, case: Case<'_>, number: u64, front: usize) {
+fn expect_broken<R: Runner>(
+    rt: &impl Abort,
+    alloc: Global,
+    case: Case<'_, R>,
+    number: u64,
+    front: usize,
+) {
     for failed in [FailedWrite::Refuses, FailedWrite::TakesNone] {
         let sink = Store::new(alloc, WRITE).failing_by(failed);
         let once = sink.failing_writes(Failing::Once(number));
@@ -105,7 +124,7 @@ fn expect_broken(rt: &impl Abort, alloc: Global, case: Case<'_>, number: u64, fr
 }
 
 // Each write of the text fails in turn.
-fn expect_failed_writes(rt: &impl Abort, alloc: Global, case: Case<'_>) {
+fn expect_failed_writes<R: Runner>(rt: &impl Abort, alloc: Global, case: Case<'_, R>) {
     let mut number = 1u64;
     let mut front = 0usize;
     for piece in case.text.as_bytes().chunks(WRITE) {
@@ -116,7 +135,7 @@ fn expect_failed_writes(rt: &impl Abort, alloc: Global, case: Case<'_>) {
 }
 
 // The flush fails: after the whole text, or after the trouble of a failed write.
-fn expect_failed_flush(rt: &impl Abort, alloc: Global, case: Case<'_>) {
+fn expect_failed_flush<R: Runner>(rt: &impl Abort, alloc: Global, case: Case<'_, R>) {
     for (writes, text) in [
         (Failing::Never, case.text),
         (Failing::Once(1), WRITE_FAILED),
@@ -124,12 +143,12 @@ fn expect_failed_flush(rt: &impl Abort, alloc: Global, case: Case<'_>) {
         let mut source = Pieces::whole(case.input.as_bytes());
         let sink = Store::new(alloc, WRITE).failing_flushes(Failing::EverSince(1));
         let mut sink = sink.failing_writes(writes);
-        expect_trouble(rt, alloc, case.words, &mut source, &mut sink, text);
+        expect_trouble(rt, alloc, case, &mut source, &mut sink, text);
         assert_eq!(rt; sink.flushes(), 1);
     }
 }
 
-fn expect_failures(rt: &impl Abort, alloc: Global, case: Case<'_>) {
+pub(crate) fn expect_failures<R: Runner>(rt: &impl Abort, alloc: Global, case: Case<'_, R>) {
     let reads = expect_whole(rt, alloc, case);
     for number in 1..=reads {
         expect_failed_read(rt, alloc, case, number);
@@ -149,6 +168,7 @@ fn expect_stream(
 ) -> Result<(), Fail> {
     let stream = stream_of(alloc, lines)?;
     let case = Case {
+        runner: WithoutFiles,
         words: &[word],
         input: stream.as_str(),
         text,
@@ -161,6 +181,7 @@ fn expect_stream(
 #[test]
 fn failures_of_parse(rt: HostRuntime) {
     let case = Case {
+        runner: WithoutFiles,
         words: &["parse"],
         input: TEXT,
         text: "ok nodes=2 comments=0\n",
@@ -172,6 +193,7 @@ fn failures_of_parse(rt: HostRuntime) {
 #[test]
 fn failures_of_compile(rt: HostRuntime) {
     let case = Case {
+        runner: WithoutFiles,
         words: &["compile", "--uri", "a.feature"],
         input: TEXT,
         text: LINES,
@@ -183,6 +205,7 @@ fn failures_of_compile(rt: HostRuntime) {
 // A text that is refused is told of.
 fn expect_refused(rt: &impl Abort, alloc: Global, words: &[&str]) {
     let case = Case {
+        runner: WithoutFiles,
         words,
         input: "Feature: f\n  Scenario: s\n    Given a\n  Background:\n",
         text: "refused 4:3 1 Unexpected\n",
@@ -200,6 +223,7 @@ fn failures_with_a_refused_text(rt: HostRuntime) {
 #[test]
 fn failures_of_the_version(rt: HostRuntime) {
     let case = Case {
+        runner: WithoutFiles,
         words: &["--version"],
         input: "[]",
         text: "cukecheck 0.1.0\n",
@@ -223,6 +247,7 @@ fn expect_words_to_fail(
     let text = std::str::from_utf8(sink.bytes())?;
     assert!(rt; !text.is_empty());
     let case = Case {
+        runner: WithoutFiles,
         words,
         input: "[]",
         text,
@@ -298,6 +323,7 @@ fn failures_of_cases(rt: HostRuntime) -> Result<(), Fail> {
 fn failures_of_cases_as_json(rt: HostRuntime) -> Result<(), Fail> {
     let stream = stream_of(rt.alloc(), RETRIED)?;
     let case = Case {
+        runner: WithoutFiles,
         words: &["cases", "--json"],
         input: stream.as_str(),
         text: r#"{"attempts":2,"line":3,"name":"s","status":"PASSED","tags":[],"uri":"a.feature"}

@@ -19,7 +19,7 @@ const TAGGED: &str = "@slow\nFeature: f\n  @wip\n  Scenario: s\n    Given a\n";
 pub(crate) const A_RUN: &str =
     "source document pickle run case:c1:t1 start:a1:c1:0 step:a1:t1 end:a1:t1:PASSED done:a1:false well";
 
-const B_RUN: &str =
+pub(crate) const B_RUN: &str =
     "source_b document_b pickle_b run case_b start:a1:c2:0 step:a1:t1 end:a1:t1:PASSED done:a1:false well";
 
 const FAILED_RUN: &str =

@@ -4,6 +4,48 @@ use devices::{Pieces, Store};
 use std::alloc::Global;
 use std::process::Abort;
 
+/// What runs words over devices in memory, and gives the status.
+pub(crate) trait Runner: Copy {
+    fn run_words(
+        self,
+        alloc: Global,
+        words: &[&str],
+        source: &mut Pieces<'_>,
+        sink: &mut Store,
+    ) -> u8;
+}
+
+/// Runs them where there are no files.
+#[derive(Clone, Copy)]
+pub(crate) struct WithoutFiles;
+
+impl Runner for WithoutFiles {
+    fn run_words(
+        self,
+        alloc: Global,
+        words: &[&str],
+        source: &mut Pieces<'_>,
+        sink: &mut Store,
+    ) -> u8 {
+        run(alloc, words, source, sink)
+    }
+}
+
+// A run by this runner ends with this status, and the sink has taken this text.
+pub(crate) fn expect_run_by<R: Runner>(
+    rt: &impl Abort,
+    alloc: Global,
+    runner: R,
+    words: &[&str],
+    source: &mut Pieces<'_>,
+    sink: &mut Store,
+    text: &str,
+    status: u8,
+) {
+    assert_eq!(rt; runner.run_words(alloc, words, source, sink), status);
+    assert_eq!(rt; sink.bytes(), text.as_bytes());
+}
+
 // A run ends with this status, and the sink has taken this text.
 pub(crate) fn expect_run(
     rt: &impl Abort,
@@ -14,8 +56,7 @@ pub(crate) fn expect_run(
     text: &str,
     status: u8,
 ) {
-    assert_eq!(rt; run(alloc, words, source, sink), status);
-    assert_eq!(rt; sink.bytes(), text.as_bytes());
+    expect_run_by(rt, alloc, WithoutFiles, words, source, sink, text, status);
 }
 
 pub(crate) fn expect_words(
