@@ -2,6 +2,7 @@ mod commands;
 mod differences;
 mod features;
 mod feeds;
+mod gates;
 mod meeting;
 mod parts;
 mod rooms;

@@ -131,7 +131,7 @@ fn texts(rt: HostRuntime) -> Result<(), Fail> {
 }
 
 // What a run prints that is refused memory.
-const NO_MEMORY: &str = "trouble Memory\n";
+pub(crate) const NO_MEMORY: &str = "trouble Memory\n";
 
 // A run that is refused memory says so, or nothing, and its status is that of a trouble.
 fn came_of_run(status: u8, wanted: ExitStatus, sink: &Compared<'_>) -> Came {

@@ -1,5 +1,5 @@
 //! Calls that are met with rooms.
-use scarce::Shortage;
+use scarce::{GREATEST_ROOM, Shortage};
 use std::alloc::Global;
 use std::test::Fail;
 
@@ -101,6 +101,19 @@ where
     meet(alloc, &mut shortage, rooms, call)?;
     drop(shortage);
     Ok(())
+}
+
+// Meets a call with the greatest room: it has to answer there.
+pub(crate) fn meet_greatest<F>(alloc: Global, call: F) -> Result<(), Fail>
+where
+    F: Fn(Global) -> Came,
+    requires { F.IsAlwaysCallable call }
+{
+    let mut shortage = Shortage::new(alloc)?;
+    shortage.leave(alloc, GREATEST_ROOM)?;
+    let came = call(alloc);
+    drop(shortage);
+    check(came == Came::Right, "no answer in the greatest room")
 }
 
 fn note(seen: &mut Seen, came: Came) -> Result<(), Fail> {
