@@ -105,13 +105,13 @@ impl<'a> Opener for BrokenFiles<'a> {
 
 impl Runner for BrokenFiles<'_> {
     fn run_words(
-        self,
+        &self,
         alloc: Global,
         words: &[&str],
         source: &mut Pieces<'_>,
         sink: &mut Store,
     ) -> u8 {
-        let mut files = OpenedFiles::new(alloc, self);
+        let mut files = OpenedFiles::new(alloc, *self);
         run_with(alloc, words, &mut files, source, sink)
     }
 }
@@ -157,7 +157,7 @@ fn seen_of(
     expect_run_by(
         rt,
         alloc,
-        files,
+        &files,
         words,
         &mut source,
         &mut sink,
@@ -242,7 +242,7 @@ fn expect_gate_to_fail(
         text,
         status: 0,
     };
-    expect_failures(rt, alloc, case);
+    expect_failures(rt, alloc, &case);
     Ok(())
 }
 

@@ -31,42 +31,34 @@ const WRITE_FAILED: &str = "trouble WriteFailed\n";
 fn expect_trouble<R: Runner>(
     rt: &impl Abort,
     alloc: Global,
-    case: Case<'_, R>,
+    case: &Case<'_, R>,
     source: &mut Pieces<'_>,
     sink: &mut Store,
     text: &str,
 ) {
-    let Case { runner, words, .. } = case;
-    expect_run_by(rt, alloc, runner, words, source, sink, text, 3);
+    expect_run_by(rt, alloc, &case.runner, case.words, source, sink, text, 3);
 }
 
 // Where no call fails, what is wanted is printed. Gives how many reads that takes.
-fn expect_whole<R: Runner>(rt: &impl Abort, alloc: Global, case: Case<'_, R>) -> u64 {
+fn expect_whole<R: Runner>(rt: &impl Abort, alloc: Global, case: &Case<'_, R>) -> u64 {
     let mut source = Pieces::new(case.input.as_bytes(), READ);
     let mut sink = Store::new(alloc, WRITE);
-    let Case {
-        runner,
-        words,
-        text,
-        status,
-        ..
-    } = case;
     expect_run_by(
         rt,
         alloc,
-        runner,
-        words,
+        &case.runner,
+        case.words,
         &mut source,
         &mut sink,
-        text,
-        status,
+        case.text,
+        case.status,
     );
     assert_eq!(rt; sink.flushes(), 1);
     source.reads()
 }
 
 // The read of this number fails, and the write that says so may fail too.
-fn expect_failed_read<R: Runner>(rt: &impl Abort, alloc: Global, case: Case<'_, R>, number: u64) {
+fn expect_failed_read<R: Runner>(rt: &impl Abort, alloc: Global, case: &Case<'_, R>, number: u64) {
     for (writes, text) in [
         (Failing::Never, READ_FAILED),
         (Failing::Once(1), WRITE_FAILED),
@@ -93,15 +85,17 @@ fn expect_front(rt: &impl Abort, taken: &[u8], text: &str, front: usize, told: &
 fn expect_failed_write<R: Runner>(
     rt: &impl Abort,
     alloc: Global,
-    case: Case<'_, R>,
+    case: &Case<'_, R>,
     sink: Store,
     front: usize,
     told: &str,
 ) {
     let mut source = Pieces::whole(case.input.as_bytes());
     let mut sink = sink;
-    let Case { runner, words, .. } = case;
-    assert_eq!(rt; runner.run_words(alloc, words, &mut source, &mut sink), 3);
+    let status = case
+        .runner
+        .run_words(alloc, case.words, &mut source, &mut sink);
+    assert_eq!(rt; status, 3);
     expect_front(rt, sink.bytes(), case.text, front, told);
 }
 
@@ -109,7 +103,7 @@ fn expect_failed_write<R: Runner>(
 fn expect_broken<R: Runner>(
     rt: &impl Abort,
     alloc: Global,
-    case: Case<'_, R>,
+    case: &Case<'_, R>,
     number: u64,
     front: usize,
 ) {
@@ -124,7 +118,7 @@ fn expect_broken<R: Runner>(
 }
 
 // Each write of the text fails in turn.
-fn expect_failed_writes<R: Runner>(rt: &impl Abort, alloc: Global, case: Case<'_, R>) {
+fn expect_failed_writes<R: Runner>(rt: &impl Abort, alloc: Global, case: &Case<'_, R>) {
     let mut number = 1u64;
     let mut front = 0usize;
     for piece in case.text.as_bytes().chunks(WRITE) {
@@ -135,7 +129,7 @@ fn expect_failed_writes<R: Runner>(rt: &impl Abort, alloc: Global, case: Case<'_
 }
 
 // The flush fails: after the whole text, or after the trouble of a failed write.
-fn expect_failed_flush<R: Runner>(rt: &impl Abort, alloc: Global, case: Case<'_, R>) {
+fn expect_failed_flush<R: Runner>(rt: &impl Abort, alloc: Global, case: &Case<'_, R>) {
     for (writes, text) in [
         (Failing::Never, case.text),
         (Failing::Once(1), WRITE_FAILED),
@@ -148,7 +142,7 @@ fn expect_failed_flush<R: Runner>(rt: &impl Abort, alloc: Global, case: Case<'_,
     }
 }
 
-pub(crate) fn expect_failures<R: Runner>(rt: &impl Abort, alloc: Global, case: Case<'_, R>) {
+pub(crate) fn expect_failures<R: Runner>(rt: &impl Abort, alloc: Global, case: &Case<'_, R>) {
     let reads = expect_whole(rt, alloc, case);
     for number in 1..=reads {
         expect_failed_read(rt, alloc, case, number);
@@ -174,7 +168,7 @@ fn expect_stream(
         text,
         status,
     };
-    expect_failures(rt, alloc, case);
+    expect_failures(rt, alloc, &case);
     Ok(())
 }
 
@@ -187,7 +181,7 @@ fn failures_of_parse(rt: HostRuntime) {
         text: "ok nodes=2 comments=0\n",
         status: 0,
     };
-    expect_failures(&rt, rt.alloc(), case);
+    expect_failures(&rt, rt.alloc(), &case);
 }
 
 #[test]
@@ -199,7 +193,7 @@ fn failures_of_compile(rt: HostRuntime) {
         text: LINES,
         status: 0,
     };
-    expect_failures(&rt, rt.alloc(), case);
+    expect_failures(&rt, rt.alloc(), &case);
 }
 
 // A text that is refused is told of.
@@ -211,7 +205,7 @@ fn expect_refused(rt: &impl Abort, alloc: Global, words: &[&str]) {
         text: "refused 4:3 1 Unexpected\n",
         status: 1,
     };
-    expect_failures(rt, alloc, case);
+    expect_failures(rt, alloc, &case);
 }
 
 #[test]
@@ -229,7 +223,7 @@ fn failures_of_the_version(rt: HostRuntime) {
         text: "cukecheck 0.1.0\n",
         status: 0,
     };
-    expect_failures(&rt, rt.alloc(), case);
+    expect_failures(&rt, rt.alloc(), &case);
 }
 
 // What the words print where no call fails, of which the rest is told where one does.
@@ -253,7 +247,7 @@ fn expect_words_to_fail(
         text,
         status,
     };
-    expect_failures(rt, alloc, case);
+    expect_failures(rt, alloc, &case);
     Ok(())
 }
 
@@ -330,6 +324,6 @@ fn failures_of_cases_as_json(rt: HostRuntime) -> Result<(), Fail> {
 "#,
         status: 0,
     };
-    expect_failures(&rt, rt.alloc(), case);
+    expect_failures(&rt, rt.alloc(), &case);
     Ok(())
 }

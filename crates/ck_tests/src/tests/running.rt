@@ -5,9 +5,9 @@ use std::alloc::Global;
 use std::process::Abort;
 
 /// What runs words over devices in memory, and gives the status.
-pub(crate) trait Runner: Copy {
+pub(crate) trait Runner {
     fn run_words(
-        self,
+        &self,
         alloc: Global,
         words: &[&str],
         source: &mut Pieces<'_>,
@@ -21,7 +21,7 @@ pub(crate) struct WithoutFiles;
 
 impl Runner for WithoutFiles {
     fn run_words(
-        self,
+        &self,
         alloc: Global,
         words: &[&str],
         source: &mut Pieces<'_>,
@@ -35,7 +35,7 @@ impl Runner for WithoutFiles {
 pub(crate) fn expect_run_by<R: Runner>(
     rt: &impl Abort,
     alloc: Global,
-    runner: R,
+    runner: &R,
     words: &[&str],
     source: &mut Pieces<'_>,
     sink: &mut Store,
@@ -56,7 +56,7 @@ pub(crate) fn expect_run(
     text: &str,
     status: u8,
 ) {
-    expect_run_by(rt, alloc, WithoutFiles, words, source, sink, text, status);
+    expect_run_by(rt, alloc, &WithoutFiles, words, source, sink, text, status);
 }
 
 pub(crate) fn expect_words(
