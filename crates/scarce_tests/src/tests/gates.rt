@@ -1,40 +1,57 @@
 //! The gate over files, in want of memory.
 use crate::tests::commands::NO_MEMORY;
-use crate::tests::meeting::{Came, RUNS, meet_alone, meet_greatest};
+use crate::tests::meeting::{Came, RUNS, Rooms, meet_alone, meet_greatest};
 use crate::tests::streams::{INTERLEAVED, PLAIN_TEXT};
 use ck_commands::{ExitStatus, run_with};
 use cm_envelope::{ByteSink, DeviceFailed};
 use devices::{Compared, Pieces};
 use files::{Look, OpenedFiles, Opener};
 use std::alloc::{AllocError, Global};
+use std::io;
+use std::io::Read;
 use std::test::Fail;
 
-// A run of one case.
-const PASSED_RUN: &str =
-    r#"{"source":{"data":"Feature: f\n\n  Scenario: s\n    Given a\n","mediaType":"text/x.cucumber.gherkin+plain","uri":"a.feature"}}
-{"gherkinDocument":{"comments":[],"feature":{"children":[{"scenario":{"description":"","examples":[],"id":"0","keyword":"Scenario","location":{"column":3,"line":3},"name":"s","steps":[{"id":"1","keyword":"Given ","keywordType":"Context","location":{"column":5,"line":4},"text":"a"}],"tags":[]}}],"description":"","keyword":"Feature","language":"en","location":{"column":1,"line":1},"name":"f","tags":[]},"uri":"a.feature"}}
-{"pickle":{"astNodeIds":["0"],"id":"3","language":"en","name":"s","steps":[{"astNodeIds":["1"],"id":"2","text":"a","type":"Context"}],"tags":[],"uri":"a.feature"}}
-{"testRunStarted":{}}
-{"testCase":{"id":"c1","pickleId":"3","testSteps":[{"id":"t1","pickleStepId":"2"}]}}
-{"testCaseStarted":{"id":"a1","testCaseId":"c1","attempt":0}}
-{"testStepStarted":{"testCaseStartedId":"a1","testStepId":"t1"}}
-{"testStepFinished":{"testCaseStartedId":"a1","testStepId":"t1","testStepResult":{"status":"PASSED"}}}
-{"testCaseFinished":{"testCaseStartedId":"a1","willBeRetried":false}}
-{"testRunFinished":{"success":true}}
-"#;
+/// A file of blanks, and of these bytes after them. The blanks belong to its first line.
+#[derive(Drop)]
+struct PaddedFile {
+    blanks: usize,
+    bytes: &'static [u8],
+}
 
-/// Two runs, of which the second takes more memory, and a feature file. To look at one and to open it takes none.
+impl PaddedFile {
+    fn new(blanks: usize, text: &'static str) -> PaddedFile {
+        PaddedFile {
+            blanks,
+            bytes: text.as_bytes(),
+        }
+    }
+}
+
+impl io::Read for PaddedFile {
+    fn read(&mut self, piece: &mut [u8]) -> io::Result<usize> {
+        if self.blanks == 0 {
+            return self.bytes.read(piece);
+        }
+        let count = self.blanks.min(piece.len());
+        piece[..count].fill(b' ');
+        self.blanks -= count;
+        Ok(count)
+    }
+}
+
+/// Two runs, of which the second takes more memory for its first line, and a feature file. To look at one and to open it takes
+/// none.
 #[derive(Drop)]
 struct PlainFiles;
 
 impl Opener for PlainFiles {
-    type File = &'static [u8];
+    type File = PaddedFile;
 
-    fn open_file(&self, name: &str) -> Option<&'static [u8]> {
+    fn open_file(&self, name: &str) -> Option<PaddedFile> {
         match name {
-            "a" => Some(PASSED_RUN.as_bytes()),
-            "b" => Some(INTERLEAVED.as_bytes()),
-            "a.feature" => Some(PLAIN_TEXT.as_bytes()),
+            "a" => Some(PaddedFile::new(0, INTERLEAVED)),
+            "b" => Some(PaddedFile::new(100_000, INTERLEAVED)),
+            "a.feature" => Some(PaddedFile::new(0, PLAIN_TEXT)),
             _ => None,
         }
     }
@@ -123,8 +140,8 @@ fn came_of_gate(printed: Printed, wanted: Printed) -> Came {
 
 fn printed_of_runs(alloc: Global) -> Printed {
     let told = Told {
-        whole: "a: good sources=1 pickles=1 cases=1 attempts=1
-a: release retried=0 skipped=0 unrun=0
+        whole: "a: good sources=1 pickles=1 cases=2 attempts=2
+a: release retried=1 skipped=1 unrun=0
 b: good sources=1 pickles=1 cases=2 attempts=2
 b: release retried=1 skipped=1 unrun=0
 ",
@@ -132,8 +149,8 @@ b: release retried=1 skipped=1 unrun=0
 b: good sources=1 pickles=1 cases=2 attempts=2
 b: release retried=1 skipped=1 unrun=0
 ",
-        second_refused: "a: good sources=1 pickles=1 cases=1 attempts=1
-a: release retried=0 skipped=0 unrun=0
+        second_refused: "a: good sources=1 pickles=1 cases=2 attempts=2
+a: release retried=1 skipped=1 unrun=0
 b: trouble Memory
 ",
         both_refused: "a: trouble Memory\nb: trouble Memory\n",
@@ -152,8 +169,8 @@ fn gate_runs_but_the_second(alloc: Global) -> Came {
 fn gate_features(alloc: Global) -> Came {
     let refused = "a: trouble Memory\n";
     let told = Told {
-        whole: "a: good sources=1 pickles=1 cases=1 attempts=1
-release files=1 scenarios=1 retried=0 skipped=0 unrun=0
+        whole: "a: good sources=1 pickles=1 cases=2 attempts=2
+release files=1 scenarios=1 retried=1 skipped=1 unrun=0
 ",
         first_refused: refused,
         second_refused: refused,
@@ -169,9 +186,16 @@ fn gates_over_runs(rt: HostRuntime) -> Result<(), Fail> {
     meet_greatest(rt.alloc(), gate_runs)
 }
 
+// Within as many bytes as the rooms of runs. Those in which the second run alone is refused lie side by side.
+const COARSE: Rooms = Rooms {
+    first: 0,
+    count: 2048,
+    step: 256,
+};
+
 #[test]
 fn gates_that_refuse_the_second_run_alone(rt: HostRuntime) -> Result<(), Fail> {
-    meet_alone(rt.alloc(), RUNS, gate_runs_but_the_second)
+    meet_alone(rt.alloc(), COARSE, gate_runs_but_the_second)
 }
 
 #[test]
