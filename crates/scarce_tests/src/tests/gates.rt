@@ -39,8 +39,7 @@ impl io::Read for PaddedFile {
     }
 }
 
-/// Two runs, of which the second takes more memory for its first line, and a feature file. To look at one and to open it takes
-/// none.
+/// Runs, one of them with a long line, and a feature file. To look at one and to open it takes no memory.
 #[derive(Drop)]
 struct PlainFiles;
 
@@ -49,8 +48,8 @@ impl Opener for PlainFiles {
 
     fn open_file(&self, name: &str) -> Option<PaddedFile> {
         match name {
-            "a" => Some(PaddedFile::new(0, INTERLEAVED)),
-            "b" => Some(PaddedFile::new(100_000, INTERLEAVED)),
+            "a" | "b" => Some(PaddedFile::new(0, INTERLEAVED)),
+            "long" => Some(PaddedFile::new(100_000, INTERLEAVED)),
             "a.feature" => Some(PaddedFile::new(0, PLAIN_TEXT)),
             _ => None,
         }
@@ -138,7 +137,7 @@ fn came_of_gate(printed: Printed, wanted: Printed) -> Came {
     }
 }
 
-fn printed_of_runs(alloc: Global) -> Printed {
+fn gate_runs(alloc: Global) -> Came {
     let told = Told {
         whole: "a: good sources=1 pickles=1 cases=2 attempts=2
 a: release retried=1 skipped=1 unrun=0
@@ -155,15 +154,30 @@ b: trouble Memory
 ",
         both_refused: "a: trouble Memory\nb: trouble Memory\n",
     };
-    printed_by_gate(alloc, &["gate", "a", "b"], told)
+    let words = ["gate", "a", "b"];
+    came_of_gate(printed_by_gate(alloc, &words, told), Printed::Whole)
 }
 
-fn gate_runs(alloc: Global) -> Came {
-    came_of_gate(printed_of_runs(alloc), Printed::Whole)
-}
-
-fn gate_runs_but_the_second(alloc: Global) -> Came {
-    came_of_gate(printed_of_runs(alloc), Printed::SecondRefused)
+// The second run takes more memory than the first: there are rooms in which it is refused alone.
+fn gate_long_run(alloc: Global) -> Came {
+    let told = Told {
+        whole: "a: good sources=1 pickles=1 cases=2 attempts=2
+a: release retried=1 skipped=1 unrun=0
+long: good sources=1 pickles=1 cases=2 attempts=2
+long: release retried=1 skipped=1 unrun=0
+",
+        first_refused: "a: trouble Memory
+long: good sources=1 pickles=1 cases=2 attempts=2
+long: release retried=1 skipped=1 unrun=0
+",
+        second_refused: "a: good sources=1 pickles=1 cases=2 attempts=2
+a: release retried=1 skipped=1 unrun=0
+long: trouble Memory
+",
+        both_refused: "a: trouble Memory\nlong: trouble Memory\n",
+    };
+    let words = ["gate", "a", "long"];
+    came_of_gate(printed_by_gate(alloc, &words, told), Printed::SecondRefused)
 }
 
 fn gate_features(alloc: Global) -> Came {
@@ -186,7 +200,7 @@ fn gates_over_runs(rt: HostRuntime) -> Result<(), Fail> {
     meet_greatest(rt.alloc(), gate_runs)
 }
 
-// Within as many bytes as the rooms of runs. Those in which the second run alone is refused lie side by side.
+// As far as those of runs, in greater steps.
 const COARSE: Rooms = Rooms {
     first: 0,
     count: 2048,
@@ -194,8 +208,8 @@ const COARSE: Rooms = Rooms {
 };
 
 #[test]
-fn gates_that_refuse_the_second_run_alone(rt: HostRuntime) -> Result<(), Fail> {
-    meet_alone(rt.alloc(), COARSE, gate_runs_but_the_second)
+fn gates_that_refuse_a_long_run_alone(rt: HostRuntime) -> Result<(), Fail> {
+    meet_alone(rt.alloc(), COARSE, gate_long_run)
 }
 
 #[test]
