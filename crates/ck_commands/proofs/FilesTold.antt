@@ -124,7 +124,7 @@ one_part s asked before i j old new r counts total is h = record {
   texts = h.texts;
   done = λ done.
       let one = h.done done in
-      let all = marks_push s asked [] (heard i j) old old new no_counts counts refl (record { streams = []; are = tt; marked = nothing_ran old; counted = refl }) (record { es = one.es; gives = one.gives; marked = one.marked; counted = one.counted }) in
+      let all = marks_push s asked [] (heard i j) old old new no_counts counts refl (record { streams = []; are = tt; marked = nothing_ran old; rows = λ whole. whole; counted = refl }) (record { es = one.es; gives = one.gives; marked = one.marked; counted = one.counted }) in
       subst (MarksStreams s asked (heard i j ∷ []) old new) (sym is) all;
 }
 

@@ -19,7 +19,8 @@ use Rattle.cm_stream.specs.declared.verdict.Counts.{Counts}
 use Rattle.cm_stream.specs.declared.verdict.Hold.{Hold}
 use Rattle.cm_stream.specs.declared.verdict.Verdict.{Verdict}
 use Rattle.cm_stream.specs.declared.verdict.Verdict.TheVariants as verdict
-use Rattle.cm_stream.proofs.Released.{released_is_not_held}
+use Rattle.cm_stream.specs.ReleasedRuns.{EachSourceIsCompiled}
+use Rattle.cm_stream.proofs.Released.{released_is_not_held, released_ran}
 use Rattle.cm_stream.proofs.Streams.{read_is_told}
 use Rattle.cm_audit.specs.Audit.{GoodAtEnd}
 use Rattle.cm_ran.specs.Marks.{AlsoRan, Marked, marked_texts, ran}
@@ -33,7 +34,7 @@ use Rattle.ck_command_line.specs.CommandLine.{ask_gate}
 use Rattle.ck_commands.specs.Gate.{ReportsHeld, ReportsRelease}
 use Rattle.ck_commands.specs.Judged.{AreStreams, IsReleasedAs, Judges, JudgesRun, JudgesRuns, MarksStream, MarksStreams, ReleasedAs, added_counts, counted_by, counted_in, counts_made, is_run_in, no_counts, run_counts, run_report}
 use Rattle.ck_commands.specs.Output.{Report, report_made, trouble_report}
-use Rattle.ck_commands.specs.Runs.{OfHeard, Reading, ReadsRun, heard, named_text, named_texts, status_after, status_of_all, unnoted, unread}
+use Rattle.ck_commands.specs.Runs.{OfHeard, Reading, ReadsRun, heard, named_text, named_texts, status_after, status_of_all, unnoted, unopened, unread}
 use Rattle.ck_commands.specs.declared.judged_run.JudgedRun as made_run
 use Rattle.ck_commands.specs.declared.judged_run.RunCounts.{RunCounts}
 use Rattle.ck_commands.specs.declared.output.ExitStatus.{ExitStatus}
@@ -139,12 +140,21 @@ streams_push s asked [] (x ∷ xs) reading es are is = absurd are
 streams_push s asked (r ∷ rs) [] reading es are is = absurd are
 streams_push s asked (r ∷ rs) (x ∷ xs) reading es are is = (are.0, streams_push s asked rs xs reading es are.1 is)
 
+-- the sources of a released run compile to the stream's pickles
+heard_compiled : (s : Settings) (asked : Conditions) (es : List Envelope) (reading : Reading) → OfHeard (ReleasedAs s asked es) reading → EachSourceIsCompiled es
+heard_compiled s asked es unopened gives = absurd gives
+heard_compiled s asked es unnoted gives = absurd gives
+heard_compiled s asked es (heard i j) gives =
+    let is = gives.3 in
+    subst EachSourceIsCompiled is.3 (released_ran s asked gives.0 is.0 is.1 is.2).0.each_source
+
 pub marks_push : (s : Settings) (asked : Conditions) (readings : List Reading) (reading : Reading) (old mid new : Marks) (total counts : RunCounts) → marked_texts mid ≡ marked_texts old → MarksStreams s asked readings old mid total
     → MarksStream s asked mid new counts (λ es. OfHeard (ReleasedAs s asked es) reading) → MarksStreams s asked (readings ++ reading ∷ []) old new (added_counts total counts)
 marks_push s asked readings reading old mid new total counts texts all one = record {
   streams = all.streams ++ one.es ∷ [];
   are = streams_push s asked readings all.streams reading one.es all.are one.gives;
   marked = ran_more old mid new all.streams one.es texts all.marked one.marked;
+  rows = λ whole. one.marked.rows (heard_compiled s asked one.es reading one.gives) (all.rows whole);
   counted = (λ i. added_counts (all.counted i) (one.counted i))
       ∙ sym (fold-append (λ (k : RunCounts) (es : List Envelope). added_counts k (run_counts asked s.policy es)) no_counts all.streams (one.es ∷ []));
 }
@@ -162,7 +172,7 @@ none_judged s asked old i m = record {
     joined = refl;
   };
   texts = refl;
-  done = λ done. record { streams = []; are = tt; marked = nothing_ran m; counted = refl };
+  done = λ done. record { streams = []; are = tt; marked = nothing_ran m; rows = λ whole. whole; counted = refl };
 }
 
 -- one run more

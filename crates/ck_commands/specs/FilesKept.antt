@@ -1,5 +1,6 @@
 -- Feature files as the code holds them. No public promise depends on how this is put.
 use Rattle.std.specs.Prelude.{◌≡◌, ◌⊎◌, ⊤, ◌++◌, ◌∷◌, ℕ, Bool, true, false, List, [], Option, Some, None, Result, Ok, Err, option_map, String, string_bytes}
+use Rattle.std.specs.List.{list_all}
 use Rattle.std.specs.declared.alloc.Global.{Global}
 use Rattle.cm_ran.specs.Marks.{marked_texts, ran}
 use Rattle.cm_ran.specs.Rows.{row_at}
@@ -104,6 +105,11 @@ IsUnmarked m = (text : Utf8) (place : ℕ) → ran m text place ≡ false
 abbrev pub row_of : Marks → Option Utf8 → List Bool
 row_of m None = []
 row_of m (Some text) = row_at m.rows text
+
+-- there are flags, and all are set
+abbrev pub all_ran : List Bool → Bool
+all_ran [] = false
+all_ran (f ∷ flags) = list_all (λ set. set) (f ∷ flags)
 
 abbrev pub asked_by : Marks → FeatureFile → AskedFile
 asked_by m f = record { path = f.path; text = f.text; flags = row_of m f.text }

@@ -15,7 +15,7 @@ use Rattle.cm_stream.specs.declared.conditions.ReleaseCounts.{ReleaseCounts}
 use Rattle.cm_stream.specs.declared.verdict.Counts.{Counts}
 use Rattle.cm_stream.specs.declared.verdict.Verdict.{Verdict}
 use Rattle.cm_stream.specs.declared.verdict.Verdict.TheVariants as verdict
-use Rattle.cm_ran.specs.Marks.{AlsoRan, Marked, marked_texts}
+use Rattle.cm_ran.specs.Marks.{AlsoRan, HasWholeRows, Marked, marked_texts}
 use Rattle.cm_ran.specs.RunAt.{is_run_at}
 use Rattle.cm_ran.specs.declared.marks.Marks.{Marks}
 use Rattle.cm_audit_release.specs.declared.audited_release.AuditedRelease.{AuditedRelease}
@@ -123,12 +123,13 @@ pub record JudgesRun (s : Settings) (asked : Conditions) (reading : Reading) (ol
   pub done : r.status ≡ Done
       → MarksStream s asked old new counts (λ es. OfHeard (ReleasedAs s asked es) reading)
 
--- Each run was released as one of these streams, what ran in them is marked, and this is counted of them.
+-- Each run was released as one of these streams, what ran in them is marked by whole rows, and this is counted of them.
 pub record MarksStreams (s : Settings) (asked : Conditions) (readings : List Reading)
     (old new : Marks) (counts : RunCounts) : Type 0 where
   pub streams : List (List Envelope)
   pub are : AreStreams s asked readings streams
   pub marked : AlsoRan old new (is_run_in streams)
+  pub rows : HasWholeRows old → HasWholeRows new
   pub counted : counts ≡ counts_of_all asked s.policy streams
 
 -- All runs were judged: the report of all, and with status 0 that holds.

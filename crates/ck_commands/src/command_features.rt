@@ -1,13 +1,15 @@
 //! The command `gate` over feature files: whether each of their scenarios ran, in one of the runs.
-ghost use Rattle.std.specs.Prelude.{◌≡◌, IfOk, List, Ok, map, string_bytes};
+ghost use Rattle.std.specs.Prelude.{◌≡◌, ◌++◌, ◌∷◌, [], IfOk, List, Ok, OnOk, map, string_bytes};
+ghost use Rattle.std.specs.List.{list_all};
 ghost use Rattle.cm_missing.specs.Missing.{AskedFile, IsMissingOf};
+ghost use Rattle.cm_ran.specs.Marks.{HasWholeRows};
 ghost use Rattle.cm_stream.specs.Release.{Conditions as SomeConditions};
 ghost use Rattle.cm_stream.specs.Release.{conditions_of};
 ghost use Rattle.feature_paths.specs.Shown.{faulty};
 ghost use Rattle.ck_command_line.specs.CommandLine.{FeaturesGate};
 ghost use Rattle.ck_commands.specs.FeatureFiles.{fault_name, faulty_report};
 ghost use Rattle.ck_commands.specs.FilesAsked.{GatesFeatures, IsFeaturesReport, files_text};
-ghost use Rattle.ck_commands.specs.FilesKept.{AddsLast, JudgesParts, ReportsAsked, asked_by, file_of};
+ghost use Rattle.ck_commands.specs.FilesKept.{AddsLast, JudgesParts, ReportsAsked, all_ran, asked_by, file_of};
 ghost use Rattle.ck_commands.specs.Output.{report_made};
 
 use crate::command_runs::judge_runs;
@@ -75,6 +77,41 @@ fn judge_parts<F: Files, R: ByteSource>(
     Ok(JudgedRun { report, counts })
 }
 
+/// Whether all flags are set.
+fn are_set(flags: &[bool]) -> bool
+    ensures { result ≡ list_all (λ flag. flag) flags.now }
+{
+    flags.iter().all(|flag| *flag)
+}
+
+/// Whether there are flags, and all are set.
+fn all_ran(flags: &[bool]) -> bool
+    ensures { result ≡ all_ran flags.now }
+{
+    !flags.is_empty() && are_set(flags)
+}
+
+/// Adds a file to what is missing. Where each of its scenarios ran, its text isn't parsed again.
+fn add_file(
+    alloc: Global,
+    conditions: &Conditions<'_>,
+    file: &FeatureFile,
+    marks: &Marks<'_>,
+    missing: &mut Missing,
+) -> Result<(), AllocError>
+    ensures { OnOk result ((files : List AskedFile) → HasWholeRows marks.now
+        → IsMissingOf (conditions_of conditions.now) files missing.old
+        → IsMissingOf (conditions_of conditions.now)
+        (files ++ asked_by marks.now (file_of file.now) ∷ []) missing.new) }
+{
+    let flags = flags_of(marks, file);
+    if all_ran(flags) {
+        return missing.add_whole(flags.len());
+    }
+    let path = file.path.as_str();
+    missing.add_file(alloc, path, file.text(), conditions, flags)
+}
+
 /// What is missing of the files.
 fn missing_of(
     alloc: Global,
@@ -82,13 +119,13 @@ fn missing_of(
     asked: &[&FeatureFile],
     marks: &Marks<'_>,
 ) -> Result<Missing, AllocError>
-    ensures { IfOk result (λ missing. IsMissingOf (conditions_of conditions.now)
+    ensures { IfOk result (λ missing. HasWholeRows marks.now
+        → IsMissingOf (conditions_of conditions.now)
         (map (λ f. asked_by marks.now (file_of f.now)) asked.now) missing) }
 {
     let mut missing = Missing::new(alloc);
     for file in asked {
-        let path = file.path.as_str();
-        missing.add_file(alloc, path, file.text(), conditions, flags_of(marks, file))?;
+        add_file(alloc, conditions, file, marks, &mut missing)?;
     }
     Ok(missing)
 }

@@ -53,7 +53,7 @@ fn status_of(run: &Result<JudgedRun, AllocError>) -> ExitStatus
 }
 
 /// What is counted of a run.
-fn counts_of(run: &Result<JudgedRun, AllocError>) -> RunCounts
+fn counts_made(run: &Result<JudgedRun, AllocError>) -> RunCounts
     ensures { result ≡ counts_made run.now }
 {
     match run {
@@ -87,7 +87,7 @@ pub(crate) fn judge_runs<F: Files, R: ByteSource>(
         let judged = judge_run(alloc, settings, conditions, files, source, run, marks);
         add_run(alloc, &mut text, run, &judged)?;
         status = status_after(status, status_of(&judged));
-        counts = counts.with(counts_of(&judged));
+        counts = counts.with(counts_made(&judged));
         drop(judged);
     }
     let report = Report { text, status };

@@ -1,6 +1,6 @@
 //! The feature files of a gate. Each is read once, before any run.
 ghost use Rattle.std.specs.Prelude.{◌≡◌, [], IfErr, IfOk, map, option_map, string_bytes};
-ghost use Rattle.cm_ran.specs.Marks.{marked_texts};
+ghost use Rattle.cm_ran.specs.Marks.{HasWholeRows, marked_texts};
 ghost use Rattle.ck_commands.specs.FeatureFiles.{asked_once};
 ghost use Rattle.ck_commands.specs.FilesKept.{AsFileText, FailsFor, GivesFeatures, HasTexts, IsUnmarked, ReadsText};
 ghost use Rattle.ck_commands.specs.FilesKept.{TellsFeatures, TellsFile, file_of, path_trouble, row_of};
@@ -144,11 +144,13 @@ pub(crate) fn asked_files<'a>(
 ) -> Result<Vec<&'a FeatureFile>, AllocError>
     requires none { marked_texts marks.old ≡ [] }
     requires unmarked { IsUnmarked marks.old }
+    requires rows { HasWholeRows marks.old }
     ensures files { IfOk result (λ asked. map (λ f. file_of f.now) asked.items
         ≡ asked_once (map file_of files.now)) }
     ensures texts { IfOk result (λ asked. HasTexts marks.new
         (asked_once (map file_of files.now))) }
     ensures unmarked { IsUnmarked marks.new }
+    ensures rows { HasWholeRows marks.new }
 {
     let mut asked = Vec::new(alloc);
     for file in files {

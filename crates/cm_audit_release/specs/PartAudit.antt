@@ -10,13 +10,12 @@ use Rattle.cm_stream.specs.Stream.{IsReadAs}
 use Rattle.cm_stream.specs.declared.verdict.Hold.{Hold}
 use Rattle.cm_stream.specs.declared.verdict.Verdict.{Verdict}
 use Rattle.cm_stream.specs.declared.verdict.Verdict.TheVariants as verdict
-use Rattle.cm_audit.specs.declared.auditing.WatchedAudit.{WatchedAudit}
 use Rattle.cm_ran.specs.Marks.{HasSameFlags, Marked}
 use Rattle.cm_ran.specs.declared.marks.Marks.{Marks}
 use Rattle.cm_audit_release.specs.ReleaseAudit.{IsReleaseAuditOf}
-use Rattle.cm_audit_release.specs.Watched.{Follows}
 use Rattle.cm_audit_release.specs.declared.audited_release.AuditedRelease.{AuditedRelease}
-use Rattle.cm_audit_release.specs.declared.release_watch.ReleaseWatch.{ReleaseWatch}
+use Rattle.cm_audit_release.specs.declared.audited_release.JudgedAudit.{JudgedAudit}
+use Rattle.cm_release.specs.Tallied.{IsTallyOf}
 
 -- the verdict is Good, and the run isn't held
 abbrev pub is_unheld : Verdict → Option Hold → Bool
@@ -49,14 +48,14 @@ pub record IsPartAuditOf (settings : Settings) (asked : Conditions) (old new : M
   pub release : IsReleaseAuditOf settings asked answer bytes rest
   pub marked : MarksReleased settings old new bytes answer
 
--- The answer stays as it is, and where the run is released, what ran is marked by what went along, and else nothing; or there
+-- What is said stays as it is, and where the run is released, what ran is marked by what went along, and else nothing; or there
 -- was no memory for that.
-abbrev pub MarksWatched : Result (WatchedAudit ReleaseWatch) Trouble
-    → Result AuditedRelease Trouble → (old new : Marks) → Result AuditedRelease Trouble → Type 0
-MarksWatched (Ok w) (Ok a) old new (Ok b) =
-    (b ≡ a)
-    × (is_released a ≡ true → (es : List Envelope) → Follows w.watch es → Marked es old new)
-    × (is_released a ≡ false → HasSameFlags old new)
-MarksWatched (Ok w) (Ok a) old new (Err t) = t ≡ Memory
-MarksWatched (Ok w) (Err t) old new answer = answer ≡ Err t
-MarksWatched (Err t) release old new answer = answer ≡ release
+abbrev pub MarksJudged : Result JudgedAudit Trouble → (old new : Marks)
+    → Result AuditedRelease Trouble → Type 0
+MarksJudged (Ok j) old new (Ok a) =
+    (a ≡ j.release)
+    × (is_released j.release ≡ true → (es : List Envelope) → IsTallyOf j.tally es
+    → Marked es old new)
+    × (is_released j.release ≡ false → HasSameFlags old new)
+MarksJudged (Ok j) old new (Err t) = t ≡ Memory
+MarksJudged (Err t) old new answer = answer ≡ Err t

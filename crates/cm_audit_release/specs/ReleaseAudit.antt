@@ -1,9 +1,11 @@
 -- The audit of a stream, with what is said of its run for a release.
 use Rattle.std.specs.Prelude.{◌≡◌, ⊤, ℕ, Bool, List, Option, Result, Ok, Err, string_bytes}
+use Rattle.std.specs.declared.alloc.AllocError.{AllocError}
 use Rattle.cm_envelope.specs.declared.envelope.Envelope.{Envelope}
 use Rattle.cm_envelope.specs.declared.feed.Trouble.{Trouble}
 use Rattle.cm_envelope.specs.declared.feed.Trouble.TheVariants.{Memory}
 use Rattle.cm_attempt.specs.Results.{case_results}
+use Rattle.cm_attempt.specs.Table.{Table}
 use Rattle.cm_attempt.specs.declared.settings.Settings.{Settings}
 use Rattle.cm_stream.specs.Good.{Good}
 use Rattle.cm_stream.specs.Release.{Conditions}
@@ -18,10 +20,14 @@ use Rattle.cm_stream.specs.declared.verdict.Verdict.TheVariants as verdict
 use Rattle.cm_audit.specs.Audit.{IsAuditOf}
 use Rattle.cm_audit.specs.State.{summary_of}
 use Rattle.cm_audit.specs.declared.auditing.WatchedAudit.{WatchedAudit}
+use Rattle.cm_audit.specs.declared.state.State.{State}
 use Rattle.cm_fault_reasons.specs.AtLine.{IsToldWith, TellsWith}
 use Rattle.cm_release.specs.Judged.{IsJudged}
-use Rattle.cm_audit_release.specs.Watched.{Follows}
+use Rattle.cm_release.specs.Tallied.{IsTallyOf}
+use Rattle.cm_release.specs.declared.judgement.Judgement.{Judgement}
+use Rattle.cm_release.specs.declared.tally.Tally.{Tally}
 use Rattle.cm_audit_release.specs.declared.audited_release.AuditedRelease.{AuditedRelease}
+use Rattle.cm_audit_release.specs.declared.audited_release.JudgedAudit.{JudgedAudit}
 use Rattle.cm_audit_release.specs.declared.release_watch.ReleaseWatch.{ReleaseWatch}
 
 abbrev pub audited_in : Result AuditedRelease Trouble → Result Audited Trouble
@@ -58,26 +64,52 @@ pub record IsReleaseAuditOf (settings : Settings) (asked : Conditions)
 
 -- ---- what is said after the audit
 
--- what is said of a good run by what went along, and of another stream by what was kept of the lines before the one that decides
-abbrev pub JudgesVerdict : Settings → Conditions → WatchedAudit ReleaseWatch → ReleaseCounts
-    → Option Hold → (reasons : List ℕ) → Verdict → Type 0
-JudgesVerdict settings asked w found held reasons (verdict.Good counts) =
-    (es : List Envelope) → Follows w.watch es → Good settings es
-    → case_results (summary_of w.state).table ≡ results_of es
-    → IsJudged settings asked es w.audited.success counts found held reasons
-JudgesVerdict settings asked w found held reasons v =
-    TellsWith settings (summary_of w.state) w.watch.tally.trail w.last v reasons
+-- this is said of a good run by what went along
+abbrev pub JudgesGood : Settings → Conditions → Tally → Table → (success : Bool) → Counts
+    → ReleaseCounts → Option Hold → (reasons : List ℕ) → Type 0
+JudgesGood settings asked tally table success counts found held reasons =
+    (es : List Envelope) → IsTallyOf tally es → Good settings es
+    → case_results table ≡ results_of es
+    → IsJudged settings asked es success counts found held reasons
 
--- of an audit that was watched, the audit with what is said
-abbrev pub JudgesWatched : Settings → Conditions → WatchedAudit ReleaseWatch → AuditedRelease
-    → Type 0
-JudgesWatched settings asked w a =
-    (a.audited ≡ w.audited)
-    × JudgesVerdict settings asked w a.found a.hold (string_bytes a.reasons) w.audited.verdict
+-- that, and of another stream what was kept of the lines before the one that decides
+abbrev pub JudgesVerdict : Settings → Conditions → Tally → (last : Option Envelope) → State
+    → (success : Bool) → ReleaseCounts → Option Hold → (reasons : List ℕ) → Verdict → Type 0
+JudgesVerdict settings asked tally last s success found held reasons (verdict.Good counts) =
+    JudgesGood settings asked tally (summary_of s).table success counts found held reasons
+JudgesVerdict settings asked tally last s success found held reasons v =
+    TellsWith settings (summary_of s) tally.trail last v reasons
+
+-- an audit with what is said of it, or want of memory
+abbrev pub with_tally : Audited → Result Judgement AllocError → Tally
+    → Result JudgedAudit Trouble
+with_tally audited (Ok judgement) tally = Ok (record {
+  release = record {
+    audited = audited;
+    found = judgement.found;
+    hold = judgement.hold;
+    reasons = judgement.reasons;
+  };
+  tally = tally;
+})
+with_tally audited (Err refused) tally = Err Memory
+
+-- Of an audit that was watched, the audit with what is said, and what went along.
+pub record JudgesWatched (settings : Settings) (asked : Conditions)
+    (w : WatchedAudit ReleaseWatch) (j : JudgedAudit) : Type 0 where
+  pub audited : j.release.audited ≡ w.audited
+  pub judges : JudgesVerdict settings asked w.watch.tally w.last w.state
+      w.audited.success j.release.found j.release.hold (string_bytes j.release.reasons)
+      w.audited.verdict
+  pub tally : j.tally ≡ w.watch.tally
 
 -- that, unless there was no memory for it
 abbrev pub CountsWatched : Settings → Conditions → Result (WatchedAudit ReleaseWatch) Trouble
-    → Result AuditedRelease Trouble → Type 0
-CountsWatched settings asked (Ok w) (Ok a) = JudgesWatched settings asked w a
+    → Result JudgedAudit Trouble → Type 0
+CountsWatched settings asked (Ok w) (Ok j) = JudgesWatched settings asked w j
 CountsWatched settings asked (Ok w) (Err t) = t ≡ Memory
 CountsWatched settings asked (Err t) answer = answer ≡ Err t
+
+abbrev pub release_in : Result JudgedAudit Trouble → Result AuditedRelease Trouble
+release_in (Ok j) = Ok j.release
+release_in (Err t) = Err t

@@ -1,21 +1,23 @@
 //! The audit of a stream, with what is said of its run for a release.
-ghost use Rattle.std.specs.Prelude.{◌≡◌, IfOk, string_bytes};
+ghost use Rattle.std.specs.Prelude.{◌≡◌, IfOk, Ok, string_bytes};
 ghost use Rattle.cm_envelope.specs.Device.{CountsFailure, OfReads};
 ghost use Rattle.cm_envelope.specs.Feeds.{is_failed_read};
 ghost use Rattle.cm_audit.specs.Audit.{GoodAtEnd};
+ghost use Rattle.cm_audit.specs.State.{summary_of};
+ghost use Rattle.cm_fault_reasons.specs.AtLine.{TellsWith};
 ghost use Rattle.cm_ran.specs.Marks.{marked_texts};
 ghost use Rattle.cm_stream.specs.Release.{conditions_of};
-ghost use Rattle.cm_audit_release.specs.PartAudit.{IsPartAuditOf, MarksWatched, is_released};
-ghost use Rattle.cm_audit_release.specs.ReleaseAudit.{CountsWatched, IsReleaseAuditOf, JudgesVerdict, JudgesWatched, audited_in};
+ghost use Rattle.cm_audit_release.specs.PartAudit.{IsPartAuditOf, MarksJudged, is_released};
+ghost use Rattle.cm_audit_release.specs.ReleaseAudit.{CountsWatched, IsReleaseAuditOf, JudgesGood, JudgesVerdict, audited_in, release_in, with_tally};
 
 use crate::release_watch::ReleaseWatch;
 use cm_attempt::Settings;
-use cm_audit::{WatchedAudit, audit_watched};
-use cm_envelope::{ByteSource, Trouble};
+use cm_audit::{State, WatchedAudit, audit_watched};
+use cm_envelope::{ByteSource, Envelope, Trouble};
 use cm_fault_reasons::verdict_told;
 use cm_ran::Marks;
 use cm_release::{Judgement, Tally};
-use cm_stream::{Audited, Conditions, Hold, ReleaseCounts, Verdict};
+use cm_stream::{Audited, Conditions, Counts, Hold, ReleaseCounts, Verdict};
 use std::alloc::{AllocError, Global};
 
 /// An audit; of a good stream what is counted of it for a release, why its run isn't to be released, and the lines below that; of
@@ -41,33 +43,89 @@ impl AuditedRelease {
     }
 }
 
+/// What is said of a run, with what was kept along with its audit.
+#[derive(Drop)]
+struct JudgedAudit {
+    release: AuditedRelease,
+    tally: Tally,
+}
+
+/// What is said of a good run for a release. Of what the audit keeps the record of attempts is held alone.
+fn good_judgement(
+    alloc: Global,
+    conditions: &Conditions<'_>,
+    settings: Settings,
+    tally: &Tally,
+    state: State,
+    success: bool,
+    counts: Counts,
+) -> Result<Judgement, AllocError>
+    ensures { IfOk result (λ judgement. JudgesGood settings (conditions_of conditions.now) tally.now
+        (summary_of state).table success counts judgement.found judgement.hold
+        (string_bytes judgement.reasons)) }
+{
+    let track = state.into_track();
+    Judgement::of(alloc, conditions, settings, tally, &track, success, counts)
+}
+
+/// The lines that tell what is wrong with the line that decides.
+fn told_judgement(
+    alloc: Global,
+    settings: Settings,
+    tally: &Tally,
+    state: &State,
+    last: &Option<Envelope>,
+    verdict: Verdict,
+) -> Result<Judgement, AllocError>
+    ensures { IfOk result (λ judgement. TellsWith settings (summary_of state.now) tally.now.trail
+        last.now verdict (string_bytes judgement.reasons)) }
+{
+    let reasons = verdict_told(alloc, settings, state, tally.trail(), last, verdict)?;
+    Ok(Judgement::told(reasons))
+}
+
 /// What is said of a good run for a release, or of the line that decides against the stream.
 fn judgement_of(
     alloc: Global,
     conditions: &Conditions<'_>,
     settings: Settings,
-    watched: &WatchedAudit<ReleaseWatch>,
+    audited: Audited,
+    tally: &Tally,
+    last: Option<Envelope>,
+    state: State,
 ) -> Result<Judgement, AllocError>
     ensures { IfOk result (λ judgement. JudgesVerdict settings (conditions_of conditions.now)
-        watched.now judgement.found judgement.hold (string_bytes judgement.reasons)
-        watched.now.audited.verdict) }
+        tally.now last state audited.success judgement.found judgement.hold
+        (string_bytes judgement.reasons) audited.verdict) }
 {
-    let audited = watched.audited;
     match audited.verdict {
         Verdict::Good(counts) => {
-            let tally = &watched.watch.tally;
-            let track = watched.state.attempts();
             let success = audited.success;
-            Judgement::of(alloc, conditions, settings, tally, track, success, counts)
+            good_judgement(alloc, conditions, settings, tally, state, success, counts)
         }
-        _ => {
-            let verdict = audited.verdict;
-            let trail = watched.watch.tally.trail();
-            let state = &watched.state;
-            let last = &watched.last;
-            let reasons = verdict_told(alloc, settings, state, trail, last, verdict)?;
-            Ok(Judgement::told(reasons))
-        }
+        verdict => told_judgement(alloc, settings, tally, &state, &last, verdict),
+    }
+}
+
+/// An audit with what is said of it, where there was memory for that, and with what was kept along with it.
+fn with_tally(
+    audited: Audited,
+    judgement: Result<Judgement, AllocError>,
+    tally: Tally,
+) -> Result<JudgedAudit, Trouble>
+    ensures { result ≡ with_tally audited judgement tally }
+{
+    match judgement {
+        Ok(judgement) => Ok(JudgedAudit {
+            release: AuditedRelease {
+                audited,
+                found: judgement.found,
+                hold: judgement.hold,
+                reasons: judgement.reasons,
+            },
+            tally,
+        }),
+        Err(_) => Err(Trouble::Memory),
     }
 }
 
@@ -76,21 +134,19 @@ fn judged(
     alloc: Global,
     conditions: &Conditions<'_>,
     settings: Settings,
-    watched: &WatchedAudit<ReleaseWatch>,
-) -> Result<AuditedRelease, AllocError>
-    ensures { IfOk result (JudgesWatched settings (conditions_of conditions.now) watched.now) }
+    watched: WatchedAudit<ReleaseWatch>,
+) -> Result<JudgedAudit, Trouble>
+    ensures { CountsWatched settings (conditions_of conditions.now) (Ok watched) result }
 {
-    let Judgement {
-        found,
-        hold,
-        reasons,
-    } = judgement_of(alloc, conditions, settings, watched)?;
-    Ok(AuditedRelease {
-        audited: watched.audited,
-        found,
-        hold,
-        reasons,
-    })
+    let WatchedAudit {
+        audited,
+        watch,
+        last,
+        state,
+    } = watched;
+    let tally = watch.tally;
+    let judgement = judgement_of(alloc, conditions, settings, audited, &tally, last, state);
+    with_tally(audited, judgement, tally)
 }
 
 /// That, where the stream was read.
@@ -98,16 +154,23 @@ fn with_judgement(
     alloc: Global,
     conditions: &Conditions<'_>,
     settings: Settings,
-    watched: &Result<WatchedAudit<ReleaseWatch>, Trouble>,
-) -> Result<AuditedRelease, Trouble>
-    ensures { CountsWatched settings (conditions_of conditions.now) watched.now result }
+    watched: Result<WatchedAudit<ReleaseWatch>, Trouble>,
+) -> Result<JudgedAudit, Trouble>
+    ensures { CountsWatched settings (conditions_of conditions.now) watched result }
 {
     match watched {
-        Ok(watched) => match judged(alloc, conditions, settings, watched) {
-            Ok(release) => Ok(release),
-            Err(_) => Err(Trouble::Memory),
-        },
-        Err(trouble) => Err(*trouble),
+        Ok(watched) => judged(alloc, conditions, settings, watched),
+        Err(trouble) => Err(trouble),
+    }
+}
+
+/// What is said alone.
+fn release_in(judged: Result<JudgedAudit, Trouble>) -> Result<AuditedRelease, Trouble>
+    ensures { result ≡ release_in judged }
+{
+    match judged {
+        Ok(judged) => Ok(judged.release),
+        Err(trouble) => Err(trouble),
     }
 }
 
@@ -133,29 +196,23 @@ pub fn audit_release<R: ByteSource>(
         tally: Tally::new(alloc),
     };
     let watched = audit_watched(alloc, source, settings, watch);
-    let release = with_judgement(alloc, conditions, settings, &watched);
-    drop(watched);
-    release
+    release_in(with_judgement(alloc, conditions, settings, watched))
 }
 
-/// The answer, with the marks of what ran where the run is released; want of memory where there is none for them.
+/// What is said of a run, with the marks of what ran where it is released; want of memory where there is none for them.
 fn with_marks(
     alloc: Global,
     marks: &mut Marks<'_>,
-    watched: &Result<WatchedAudit<ReleaseWatch>, Trouble>,
-    release: Result<AuditedRelease, Trouble>,
+    judged: Result<JudgedAudit, Trouble>,
 ) -> Result<AuditedRelease, Trouble>
     ensures texts { marked_texts marks.new ≡ marked_texts marks.old }
-    ensures marked { MarksWatched watched.now release marks.old marks.new result }
+    ensures marked { MarksJudged judged marks.old marks.new result }
 {
-    let release = release?;
-    let Ok(watched) = watched else {
-        return Ok(release);
-    };
+    let JudgedAudit { release, tally } = judged?;
     if !release.is_released() {
         return Ok(release);
     }
-    match marks.mark(alloc, watched.watch.tally.trail()) {
+    match marks.mark(alloc, tally.trail()) {
         Ok(()) => Ok(release),
         Err(_) => Err(Trouble::Memory),
     }
@@ -185,8 +242,6 @@ pub fn audit_part<R: ByteSource>(
         tally: Tally::new(alloc),
     };
     let watched = audit_watched(alloc, source, settings, watch);
-    let release = with_judgement(alloc, conditions, settings, &watched);
-    let marked = with_marks(alloc, marks, &watched, release);
-    drop(watched);
-    marked
+    let judged = with_judgement(alloc, conditions, settings, watched);
+    with_marks(alloc, marks, judged)
 }

@@ -4,3 +4,4 @@ pub mod ToldLemmas
 pub mod Readings
 pub mod FileLemmas
 pub mod LawLemmas
+pub mod RanLemmas

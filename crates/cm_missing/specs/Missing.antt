@@ -1,5 +1,5 @@
 -- What is missing of feature files, and the lines that tell it.
-use Rattle.std.specs.Prelude.{◌≡◌, ◌⊎◌, ◌&&◌, ℕ, suc, Bool, true, false, not, List, [], ◌∷◌, ◌++◌, Option, Some, None, IfSome, codes, count_by, decimal, length, map, slice_get, string_bytes, sum_by, take, unwrap_or}
+use Rattle.std.specs.Prelude.{◌≡◌, ◌⊎◌, ◌&&◌, ◌<◌, ℕ, suc, Bool, true, false, not, List, [], ◌∷◌, ◌++◌, Option, Some, None, IfSome, codes, count_by, decimal, length, map, slice_get, string_bytes, sum_by, take, unwrap_or}
 use Rattle.std.specs.List.{AllByRecursion, filter, flat_map}
 use Rattle.cm_cases.specs.Shown.{shown_text}
 use Rattle.cm_reasons.specs.Lines.{ended, most_lines}
@@ -158,6 +158,15 @@ pub record IsMissingOf (asked : Conditions) (files : List AskedFile) (m : Missin
   pub unrun : m.unrun ≡ unrun_in asked reads
 
 -- ---- nothing is missing
+
+-- The text of the file is of the grammar, and compiles to so many pickles, each of which ran.
+pub record AllScenariosRan (f : AskedFile) (count : ℕ) : Type 0 where
+  pub text : Utf8
+  pub is_text : f.text ≡ Some text
+  pub document : Document
+  pub accepted : IsReading text (accepted_as document)
+  pub as_many : length (compiled document) ≡ count
+  pub each : (place : ℕ) → place < count → flag_at f.flags place ≡ true
 
 -- The text of the file is of the grammar, and each pickle that it compiles to ran or may be left out.
 pub record IsComplete (asked : Conditions) (f : AskedFile) : Type 0 where

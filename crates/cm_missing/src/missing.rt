@@ -1,10 +1,10 @@
 //! What is missing of feature files.
-ghost use Rattle.std.specs.Prelude.{◌≡◌, ◌≢◌, ◌↔◌, ◌+◌, ◌++◌, ◌∷◌, [], List, ℕ, true, IfOk, OnOk, length, option_map, string_bytes};
+ghost use Rattle.std.specs.Prelude.{◌≡◌, ◌≢◌, ◌↔◌, ◌+◌, ◌++◌, ◌∷◌, [], List, ℕ, true, IfOk, OnErr, OnOk, length, option_map, string_bytes};
 ghost use Rattle.cm_reasons.specs.Lines.{limited, more_text};
 ghost use Rattle.cm_stream.specs.Release.{Conditions as SomeConditions, conditions_of};
 ghost use Rattle.gk_pickle.specs.Scenarios.{pickles_of_one};
 ghost use Rattle.gk_tree.specs.Views.{too_long};
-ghost use Rattle.cm_missing.specs.Missing.{AreMissingLines, AskedFile, IsFileReading, IsMissingOf, IsScenarioCount, IsUnrunCount};
+ghost use Rattle.cm_missing.specs.Missing.{AllScenariosRan, AreMissingLines, AskedFile, IsFileReading, IsMissingOf, IsScenarioCount, IsUnrunCount};
 ghost use Rattle.cm_missing.specs.Missing.{asked_from, asked_pickles};
 ghost use Rattle.cm_missing.specs.PickleLines.{lines_of_one};
 ghost use Rattle.cm_missing.specs.Findings.{finding_line};
@@ -54,11 +54,11 @@ fn add_finding(text: &mut String, path: &str, finding: Finding<'_>) -> Result<()
     }
 }
 
-/// One more, where 64 bits hold it. As many as they don't hold are told as a want of memory.
-fn one_more(count: u64) -> Result<u64, AllocError>
-    ensures { IfOk result (λ next. next ≡ count + 1) }
+/// The sum, where 64 bits hold it. One that they don't hold is told as a want of memory.
+fn sum_of(count: u64, more: u64) -> Result<u64, AllocError>
+    ensures { IfOk result (λ sum. sum ≡ count + more) }
 {
-    count.checked_add(1).ok_or(AllocError)
+    count.checked_add(more).ok_or(AllocError)
 }
 
 /// Adds how many lines more there are.
@@ -126,7 +126,7 @@ impl Missing {
         ensures { OnOk result
             (KeepsMore self.old self.new (line_told (finding_line path.now finding.entry))) }
     {
-        self.count = one_more(self.count)?;
+        self.count = sum_of(self.count, 1)?;
         if self.count <= MOST_LINES {
             add_finding(&mut self.text, path, finding)?;
             self.text.push_str("\n")?;
@@ -147,12 +147,12 @@ impl Missing {
             (pickles_told (conditions_of conditions.now) path.now
             (record { due = pickle.now; line = line; has_run = has_run } ∷ []))) }
     {
-        self.scenarios = one_more(self.scenarios)?;
+        self.scenarios = sum_of(self.scenarios, 1)?;
         if has_run {
             return Ok(());
         }
         if may_be_left_out(conditions, pickle) {
-            self.unrun = one_more(self.unrun)?;
+            self.unrun = sum_of(self.unrun, 1)?;
             return Ok(());
         }
         self.add_line(path, Finding::Missing(line, pickle.name.as_str()))
@@ -252,6 +252,20 @@ impl Missing {
             Ok(document) => self.add_document(alloc, path, conditions, &document, flags),
             Err(fault) => self.add_line(path, Finding::Refused(fault)),
         }
+    }
+
+    /// Adds a feature file whose text compiles to so many pickles, all of which ran. Its text isn't read for it.
+    ///
+    /// # Errors
+    /// Only where 64 bits don't hold the count of pickles; then all is as it was.
+    pub fn add_whole(&mut self, scenarios: usize) -> Result<(), AllocError>
+        ensures ok { OnOk result ((asked : SomeConditions) (files : List AskedFile)
+            (file : AskedFile) → AllScenariosRan file scenarios
+            → IsMissingOf asked files self.old → IsMissingOf asked (files ++ file ∷ []) self.new) }
+        ensures err { OnErr result (self.new ≡ self.old) }
+    {
+        self.scenarios = sum_of(self.scenarios, scenarios as u64)?;
+        Ok(())
     }
 
     /// Whether nothing is missing: there is no line.

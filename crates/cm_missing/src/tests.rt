@@ -104,6 +104,26 @@ fn nothing_is_missing(rt: HostRuntime) -> Result<(), Fail> {
 }
 
 #[test]
+fn files_all_of_whose_scenarios_ran(rt: HostRuntime) -> Result<(), Fail> {
+    let alloc = rt.alloc();
+    let mut missing = Missing::new(alloc);
+    let strict = allowing(alloc, &[])?;
+    missing.add_whole(3)?;
+    missing.add_file(alloc, "a.feature", Some(ONE), &strict, &[])?;
+    missing.add_whole(2)?;
+    expect(&rt, alloc, &missing, "MISSING a.feature:2 s\n", 6, 0)
+}
+
+#[test]
+fn more_scenarios_than_64_bits_hold(rt: HostRuntime) -> Result<(), Fail> {
+    let alloc = rt.alloc();
+    let mut missing = Missing::new(alloc);
+    missing.add_whole(usize::MAX)?;
+    assert!(rt; missing.add_whole(1).is_err());
+    expect(&rt, alloc, &missing, "", u64::MAX, 0)
+}
+
+#[test]
 fn a_rule_with_a_background(rt: HostRuntime) -> Result<(), Fail> {
     let alloc = rt.alloc();
     let mut missing = Missing::new(alloc);

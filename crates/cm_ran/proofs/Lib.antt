@@ -1,3 +1,4 @@
 pub mod RunLaws
 pub mod RowLemmas
 pub mod MarkLemmas
+pub mod WholeLemmas

@@ -136,6 +136,10 @@ pub on_ok : {A E P Q : Type 0} (r : Result A E) → OnOk r P → (P → Q) → O
 on_ok (Ok a) p f = f p
 on_ok (Err e) p f = p
 
+pub both_ok : {A E : Type 0} (P Q : Type 0) (r : Result A E) → OnOk r P → OnOk r Q → OnOk r (P × Q)
+both_ok P Q (Ok a) p q = (p, q)
+both_ok P Q (Err e) p q = p
+
 pub is_there : {V : Type 0} (o : Option V) (v : V) → Some v ≡ o → IsSome o
 is_there o v e = subst IsSome e refl
 

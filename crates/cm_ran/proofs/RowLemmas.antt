@@ -6,7 +6,7 @@ use Rattle.std.specs.Option.{option_map_or}
 use Rattle.std.specs.Str.{bytes_eq}
 use Rattle.std.specs.declared.alloc.Global.{Global}
 use Rattle.std.proofs.lemmas.Bool.{both_ways, cases_Bool, cond-false, cond-true, false_from_ne_true}
-use Rattle.std.proofs.lemmas.List.{map-append, take_more}
+use Rattle.std.proofs.lemmas.List.{length-map, map-append, take_more}
 use Rattle.std.proofs.lemmas.Slice.Eq.{bytes_eq-Decides}
 use Rattle.indexmap.specs.IndexMap.{IndexMap}
 use Rattle.cm_attempt.specs.Table.{has_text}
@@ -100,10 +100,20 @@ flags_named es uri (p ∷ ps) =
     (cases_Bool (bytes_eq uri p.uri))
 
 module _ {S : Type 0} (m : IndexMap (Bor Utf8) (Vec Bool Global) S) (es : List Envelope) where
-  flag_known : (h : (uri : Utf8) → row_at m uri ≡ flags_in (map (λ c. c.pickle_id) (cases es)) (map id_and_uri (pickles es)) uri) (uri : Utf8) (place : ℕ) → flag_at m uri place ≡ is_run_of es uri place
-  flag_known h uri place = ap (λ (row : List Bool). get_or row place false) (h uri ∙ flags_named es uri (pickles es)) ∙ get_mapped (is_named es) (pickles_of uri es) place
+  abbrev AreFlagsOf : (named : List Utf8) → (ps : List (Utf8 × Utf8)) → Type 0
+  AreFlagsOf named ps = (uri : Utf8) → row_at m uri ≡ flags_in named ps uri
 
-  pub runs_known : (named : List Utf8) (ps ss : List (Utf8 × Utf8)) → ((uri : Utf8) → row_at m uri ≡ flags_in named ps uri)
+  row_known : AreFlagsOf (map (λ c. c.pickle_id) (cases es)) (map id_and_uri (pickles es)) → (uri : Utf8) → row_at m uri ≡ map (is_named es) (pickles_of uri es)
+  row_known h uri = h uri ∙ flags_named es uri (pickles es)
+
+  -- a flag for each pickle of the uri
+  pub row_long : (named : List Utf8) (ps : List (Utf8 × Utf8)) → AreFlagsOf named ps → named ≡ map (λ c. c.pickle_id) (cases es) → ps ≡ map id_and_uri (pickles es) → (uri : Utf8) → length (row_at m uri) ≡ length (pickles_of uri es)
+  row_long named ps rows n p uri = ap length (row_known (λ u. rows u ∙ (λ j. flags_in (n j) (p j) u)) uri) ∙ length-map (pickles_of uri es) (is_named es)
+
+  flag_known : AreFlagsOf (map (λ c. c.pickle_id) (cases es)) (map id_and_uri (pickles es)) → (uri : Utf8) (place : ℕ) → flag_at m uri place ≡ is_run_of es uri place
+  flag_known h uri place = ap (λ (row : List Bool). get_or row place false) (row_known h uri) ∙ get_mapped (is_named es) (pickles_of uri es) place
+
+  pub runs_known : (named : List Utf8) (ps ss : List (Utf8 × Utf8)) → AreFlagsOf named ps
       → named ≡ map (λ c. c.pickle_id) (cases es) → ps ≡ map id_and_uri (pickles es) → ss ≡ map uri_and_text (sources es)
       → (text : Utf8) (place : ℕ) → is_set_at m ss text place ≡ is_run_at es text place
   runs_known named ps ss rows n p s text place =

@@ -1,11 +1,12 @@
 //! Which scenarios of some texts ran.
-ghost use Rattle.std.specs.Prelude.{◌≡◌, ◌||◌, ◌&&◌, [], ℕ, List, false, OnErr, OnOk, map, slice_index_or};
+ghost use Rattle.std.specs.Prelude.{◌≡◌, ◌||◌, ◌&&◌, [], ℕ, List, false, OnErr, OnOk, length, map, slice_index_or};
 ghost use Rattle.std.specs.Str.{bytes_eq};
 ghost use Rattle.cm_cases.specs.Listed.{both_texts};
 ghost use Rattle.cm_envelope.specs.declared.envelope.Envelope.{Envelope as SomeEnvelope};
 ghost use Rattle.cm_reasons.specs.Trail.{trail_of};
-ghost use Rattle.cm_ran.specs.Marks.{AlsoRan, HasSameFlags, Marked, marked_texts, ran, with_text};
+ghost use Rattle.cm_ran.specs.Marks.{AlsoRan, CompilesTo, HasSameFlags, HasWholeRows, Marked, marked_texts, ran, with_text};
 ghost use Rattle.cm_attempt.specs.Table.{has_text};
+ghost use Rattle.cm_ran.specs.Compiled.{HasCompiled};
 ghost use Rattle.cm_ran.specs.Rows.{flag_at, is_set_at, row_at};
 
 use crate::flags::{either, is_set};
@@ -25,6 +26,7 @@ impl<'a> Marks<'a> {
     pub fn new(alloc: Global) -> Marks<'a>
         ensures texts { marked_texts result ≡ [] }
         ensures unmarked { (text : List ℕ) (place : ℕ) → ran result text place ≡ false }
+        ensures rows { HasWholeRows result }
     {
         Marks {
             rows: IndexMap::new(alloc),
@@ -40,6 +42,7 @@ impl<'a> Marks<'a> {
             (marked_texts self.new ≡ with_text text.now (marked_texts self.old)) }
         ensures err { OnErr result (marked_texts self.new ≡ marked_texts self.old) }
         ensures flags { HasSameFlags self.old self.new }
+        ensures rows { HasWholeRows self.old → HasWholeRows self.new }
     {
         if self.rows.contains_key(text) {
             return Ok(());
@@ -55,7 +58,7 @@ impl<'a> Marks<'a> {
         self.rows.contains_key(text)
     }
 
-    /// The flags of a text, by the places of its scenarios, up to the last that one was set for; of a text that isn't there none.
+    /// The flags of a text, by the places of its scenarios: none, or one for each; of a text that isn't there none.
     pub fn row(&self, text: &str) -> &[bool]
         ensures { result.now ≡ row_at self.now.rows text.now }
     {
@@ -80,6 +83,8 @@ impl<'a> Marks<'a> {
         ensures texts { marked_texts self.new ≡ marked_texts self.old }
         ensures ok { OnOk result (AlsoRan self.old self.new
             (λ other place. bytes_eq other text.now && slice_index_or row.now place false)) }
+        ensures rows { OnOk result (CompilesTo text.now (length row.now)
+            → HasWholeRows self.old → HasWholeRows self.new) }
     {
         if let Some(marked) = self.rows.get_mut(text) {
             *marked = either(alloc, marked.as_slice(), row)?;
@@ -98,6 +103,8 @@ impl<'a> Marks<'a> {
         ensures texts { marked_texts self.new ≡ marked_texts self.old }
         ensures ok { OnOk result (AlsoRan self.old self.new
             (λ other place. bytes_eq other text.now && flag_at rows.now uri.now place)) }
+        ensures rows { OnOk result (CompilesTo text.now (length (row_at rows.now uri.now))
+            → HasWholeRows self.old → HasWholeRows self.new) }
     {
         match rows.get(uri) {
             Some(row) => self.mark_text(alloc, text, row.as_slice()),
@@ -115,6 +122,8 @@ impl<'a> Marks<'a> {
         ensures texts { marked_texts self.new ≡ marked_texts self.old }
         ensures ok { OnOk result (AlsoRan self.old self.new
             (is_set_at rows.now (map both_texts sources.now))) }
+        ensures rows { OnOk result (HasCompiled rows.now (map both_texts sources.now)
+            → HasWholeRows self.old → HasWholeRows self.new) }
     {
         for source in sources {
             self.mark_source(alloc, source.0, source.1, rows)?;

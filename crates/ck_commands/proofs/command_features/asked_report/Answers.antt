@@ -16,8 +16,9 @@ returns-in-Done-clause-report g c =
     let parts = c.in_ok-parts.parts in
     let missing = c.in_ok-missing-in-Done.missing in
     let files : List AskedFile = map (asked_by marks) (asked_once found) in
+    let whole = (c.in_ok-parts.ensures.judged.done c.in-Done.is).rows c.asked_files.ensures.rows in
     let are = ap (map (λ f. asked_by marks (file_of f.now))) c.as_slice.ensures.value ∙ asked_map marks c.in_ok-asked.asked.items ∙ ap (map (asked_by marks)) c.in_ok-asked.ensures.files in
-    let is : IsMissingOf asked files missing = subst (λ (fs : List AskedFile). IsMissingOf asked fs missing) are c.in_ok-missing-in-Done.ensures in
+    let is : IsMissingOf asked files missing = subst (λ (fs : List AskedFile). IsMissingOf asked fs missing) are (c.in_ok-missing-in-Done.ensures whole) in
     IfOk-weaker c.told_report.result _ _
     (λ report told.
     let last = subst (λ (n : ℕ). AddsLast asked files n parts.counts (string_bytes parts.report.text) (string_bytes report.text) report.status) (sym (length-map c.args.found.now file_of)) (told asked files is) in

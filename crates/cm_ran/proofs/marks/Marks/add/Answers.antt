@@ -5,6 +5,7 @@ use Rattle.indexmap.proofs.CallerLemmas.{insert_entry-new}
 use Rattle.cm_cases.specs.Firsts.{value_at}
 use Rattle.cm_stream.specs.Texts.{Utf8}
 use Rattle.cm_ran.proofs.MarkLemmas.{flags_kept, keys_added, keys_there, none_of}
+use Rattle.cm_ran.proofs.WholeLemmas.{whole_added}
 use Rattle.cm_ran.proofs.marks.Marks.add.Goals as goal
 
 pub returns-then-contains_key-clause-ok : goal.returns-then-contains_key-clause-ok
@@ -19,3 +20,6 @@ returns-clause-ok c =
 pub returns-clause-flags : goal.returns-clause-flags
 returns-clause-flags c =
     flags_kept c.args.self.now.rows c.insert.new.self c.args.text.now c.new.result (sym c.contains_key.ensures ∙ c.if-contains_key.false) c.new.ensures.items c.in_ok-insert.ensures.updates.0
+
+pub returns-clause-rows : goal.returns-clause-rows
+returns-clause-rows c = whole_added c.args.self.now.rows c.insert.new.self c.args.text.now c.new.result c.new.ensures.items c.in_ok-insert.ensures.updates.0
