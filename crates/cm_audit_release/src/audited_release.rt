@@ -65,7 +65,9 @@ fn good_judgement(
         (string_bytes judgement.reasons)) }
 {
     let track = state.into_track();
-    Judgement::of(alloc, conditions, settings, tally, &track, success, counts)
+    let judgement = Judgement::of(alloc, conditions, settings, tally, &track, success, counts);
+    drop(track);
+    judgement
 }
 
 /// The lines that tell what is wrong with the line that decides.
@@ -100,10 +102,16 @@ fn judgement_of(
 {
     match audited.verdict {
         Verdict::Good(counts) => {
+            drop(last);
             let success = audited.success;
             good_judgement(alloc, conditions, settings, tally, state, success, counts)
         }
-        verdict => told_judgement(alloc, settings, tally, &state, &last, verdict),
+        verdict => {
+            let told = told_judgement(alloc, settings, tally, &state, &last, verdict);
+            drop(last);
+            drop(state);
+            told
+        }
     }
 }
 
@@ -169,7 +177,10 @@ fn release_in(judged: Result<JudgedAudit, Trouble>) -> Result<AuditedRelease, Tr
     ensures { result ≡ release_in judged }
 {
     match judged {
-        Ok(judged) => Ok(judged.release),
+        Ok(JudgedAudit { release, tally }) => {
+            drop(tally);
+            Ok(release)
+        }
         Err(trouble) => Err(trouble),
     }
 }
@@ -210,9 +221,12 @@ fn with_marks(
 {
     let JudgedAudit { release, tally } = judged?;
     if !release.is_released() {
+        drop(tally);
         return Ok(release);
     }
-    match marks.mark(alloc, tally.trail()) {
+    let marked = marks.mark(alloc, tally.trail());
+    drop(tally);
+    match marked {
         Ok(()) => Ok(release),
         Err(_) => Err(Trouble::Memory),
     }

@@ -5,4 +5,4 @@ use Rattle.cm_audit_release.proofs.audited_release.good_judgement.Goals as goal
 
 pub returns : goal.returns
 returns c =
-    IfOk-weaker c.of.result _ _ (λ judgement judges es tally good same. judges es tally good (ap case_results c.into_track-track.ensures ∙ same)) c.of.ensures
+    IfOk-weaker c.of-judgement.result _ _ (λ judgement judges es tally good same. judges es tally good (ap case_results c.into_track-track.ensures ∙ same)) c.of-judgement.ensures

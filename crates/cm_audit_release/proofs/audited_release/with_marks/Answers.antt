@@ -12,5 +12,5 @@ returns-then-not-is_released-clause-marked c =
 
 pub returns-in-Ok-clause-marked : goal.returns-in-Ok-clause-marked
 returns-in-Ok-clause-marked c =
-    subst (λ (j : Result JudgedAudit Trouble). MarksJudged j c.args.marks.now c.mark.new.self (Ok c.in_ok-release.field-0.release)) (sym c.in_ok-release.was)
+    subst (λ (j : Result JudgedAudit Trouble). MarksJudged j c.args.marks.now c.mark-marked.new.self (Ok c.in_ok-release.field-0.release)) (sym c.in_ok-release.was)
     (refl, (λ is es tally. c.in-Ok.ensures.ok es (c.trail.ensures ∙ tally.1)), (λ held. let no : true ≡ false = sym c.if-not-is_released.false ∙ c.is_released.ensures ∙ held in cc))
