@@ -1,6 +1,9 @@
 //! Readers and writers of std that fail.
-use cm_envelope::{ByteSink, ByteSource, DeviceFailed, Feed, Reader, Trouble, Writer};
+use cm_envelope::{
+    ByteSink, ByteSource, DeviceFailed, Feed, Heard, Reader, Taken, Trouble, Writer,
+};
 use std::io;
+use std::mem::size_of;
 
 // Every call fails.
 #[derive(Drop)]
@@ -137,4 +140,11 @@ fn a_reader_gives_its_bytes_and_then_none(rt: HostRuntime) {
     assert_eq!(rt; reader.read_some(&mut piece), Ok(1));
     assert!(rt; piece[0] == b'c');
     assert_eq!(rt; reader.read_some(&mut piece), Ok(0));
+}
+
+// What a device remembers is for clauses alone.
+#[test]
+fn what_a_device_remembers_takes_no_byte(rt: HostRuntime) {
+    assert_eq!(rt; size_of::<Heard>(), 0);
+    assert_eq!(rt; size_of::<Taken>(), 0);
 }
