@@ -12,6 +12,7 @@ use cm_audit::{Stop, TakeLines, take_lines, track};
 use cm_envelope::{ByteSource, Trouble, is_blank_line, read_envelope};
 use cm_stream::Audited;
 use std::alloc::Global;
+use std::hash::RandomState;
 
 /// The record of the attempts so far.
 #[derive(Drop)]
@@ -47,6 +48,7 @@ impl TakeLines for Attempts {
 /// read. No read is repeated.
 pub(crate) fn read_attempts<S: ByteSource>(
     alloc: Global,
+    seed: RandomState,
     first_attempt: u64,
     source: &mut S,
 ) -> Result<Track, Result<Audited, Trouble>>
@@ -60,7 +62,7 @@ pub(crate) fn read_attempts<S: ByteSource>(
         (ResultsShowNoFault first_attempt) }
 {
     let mut attempts = Attempts {
-        track: Track::counting_from(alloc, first_attempt),
+        track: Track::counting_from(alloc, seed, first_attempt),
     };
     match take_lines(alloc, &mut attempts, source) {
         Ok(_) => Ok(attempts.track),

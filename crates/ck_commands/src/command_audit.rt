@@ -8,10 +8,12 @@ use cm_attempt::Settings;
 use cm_audit::audit_run;
 use cm_envelope::{ByteSink, ByteSource};
 use std::alloc::Global;
+use std::hash::RandomState;
 
 /// Audits the source by the settings, prints the verdict, and gives the exit code.
 pub(crate) fn print_audit<R: ByteSource, W: ByteSink>(
     alloc: Global,
+    seed: RandomState,
     settings: Settings,
     source: &mut R,
     sink: &mut W,
@@ -19,6 +21,6 @@ pub(crate) fn print_audit<R: ByteSource, W: ByteSink>(
     ensures { Runs (ask_audit settings) result (R.input source.old) (R.input source.new)
         (W.output sink.old) (W.output sink.new) }
 {
-    let answer = audit_run(alloc, source, settings);
+    let answer = audit_run(alloc, seed, source, settings);
     write_report(sink, verdict_report(alloc, &answer))
 }

@@ -21,6 +21,7 @@ use cm_cases::{JsonLines, Listing, Places};
 use cm_envelope::{ByteSink, ByteSource, Trouble};
 use cm_stream::Verdict;
 use std::alloc::{AllocError, Global};
+use std::hash::RandomState;
 
 /// One line for each of these cases, and then one for each pickle that no case names.
 fn lines_of(
@@ -60,24 +61,34 @@ fn json_of(
 }
 
 /// One line for each case, in order of declaration, and then one for each pickle that no case names.
-fn cases_text(alloc: Global, listing: &Listing, attempts: &Track) -> Result<String, AllocError>
+fn cases_text(
+    alloc: Global,
+    seed: RandomState,
+    listing: &Listing,
+    attempts: &Track,
+) -> Result<String, AllocError>
     ensures { IfOk result
         (λ text. IsCasesText CaseForm.Plain listing.now attempts.now (string_bytes text)) }
 {
     let results = attempts.results()?;
-    let places = Places::of(alloc, listing)?;
+    let places = Places::of(alloc, seed, listing)?;
     let text = lines_of(alloc, &places, results.as_slice());
     drop(places);
     text
 }
 
 /// The same as JSON.
-fn cases_json(alloc: Global, listing: &Listing, attempts: &Track) -> Result<String, AllocError>
+fn cases_json(
+    alloc: Global,
+    seed: RandomState,
+    listing: &Listing,
+    attempts: &Track,
+) -> Result<String, AllocError>
     ensures { IfOk result
         (λ text. IsCasesText CaseForm.Json listing.now attempts.now (string_bytes text)) }
 {
     let results = attempts.results()?;
-    let lines = JsonLines::of(alloc, listing)?;
+    let lines = JsonLines::of(alloc, seed, listing)?;
     let text = json_of(alloc, &lines, results.as_slice());
     drop(lines);
     text
@@ -86,6 +97,7 @@ fn cases_json(alloc: Global, listing: &Listing, attempts: &Track) -> Result<Stri
 /// The lines in this form.
 fn lines_in(
     alloc: Global,
+    seed: RandomState,
     form: CaseForm,
     listing: &Listing,
     attempts: &Track,
@@ -93,14 +105,15 @@ fn lines_in(
     ensures { IfOk result (λ text. IsCasesText form listing.now attempts.now (string_bytes text)) }
 {
     match form {
-        CaseForm::Plain => cases_text(alloc, listing, attempts),
-        CaseForm::Json => cases_json(alloc, listing, attempts),
+        CaseForm::Plain => cases_text(alloc, seed, listing, attempts),
+        CaseForm::Json => cases_json(alloc, seed, listing, attempts),
     }
 }
 
 /// The report of a stream that was audited.
 fn cases_report(
     alloc: Global,
+    seed: RandomState,
     form: CaseForm,
     answer: &Result<AuditedCases, Trouble>,
 ) -> Result<Report, AllocError>
@@ -109,7 +122,7 @@ fn cases_report(
     match answer {
         Ok(cases) => match cases.audited.verdict {
             Verdict::Good(_) => Ok(Report {
-                text: lines_in(alloc, form, &cases.listing, &cases.attempts)?,
+                text: lines_in(alloc, seed, form, &cases.listing, &cases.attempts)?,
                 status: ExitStatus::Done,
             }),
             Verdict::Bad { .. } | Verdict::Unsupported { .. } => {
@@ -124,6 +137,7 @@ fn cases_report(
 /// form, or else the verdict, and gives the exit code.
 pub(crate) fn print_cases<R: ByteSource, W: ByteSink>(
     alloc: Global,
+    seed: RandomState,
     settings: Settings,
     form: CaseForm,
     source: &mut R,
@@ -132,8 +146,8 @@ pub(crate) fn print_cases<R: ByteSource, W: ByteSink>(
     ensures { Runs (ask_cases settings form) result (R.input source.old) (R.input source.new)
         (W.output sink.old) (W.output sink.new) }
 {
-    let answer = audit_cases(alloc, source, settings);
-    let report = cases_report(alloc, form, &answer);
+    let answer = audit_cases(alloc, seed, source, settings);
+    let report = cases_report(alloc, seed, form, &answer);
     drop(answer);
     write_report(sink, report)
 }

@@ -10,13 +10,20 @@ use crate::text_input::read_text;
 use cm_compile::{CompileFault, write_compiled};
 use cm_envelope::{ByteSink, ByteSource, Trouble};
 use std::alloc::Global;
+use std::hash::RandomState;
 
 /// Writes the lines of a text and flushes them, or prints why there are none, and gives the exit code.
-fn compile_text<W: ByteSink>(alloc: Global, uri: &str, text: &str, sink: &mut W) -> u8
+fn compile_text<W: ByteSink>(
+    alloc: Global,
+    seed: RandomState,
+    uri: &str,
+    text: &str,
+    sink: &mut W,
+) -> u8
     ensures { DeliversOne (ReportsCompiled uri.now text.now) result (W.output sink.old)
         (W.output sink.new) }
 {
-    match write_compiled(alloc, uri, text, sink) {
+    match write_compiled(alloc, seed, uri, text, sink) {
         Ok(()) => flush_text(sink, ExitStatus::Done),
         Err(CompileFault::Parse(fault)) => print_fault(alloc, FeatureFault::Refused(fault), sink),
         Err(CompileFault::Memory) => print_fault(alloc, FeatureFault::Memory, sink),
@@ -27,6 +34,7 @@ fn compile_text<W: ByteSink>(alloc: Global, uri: &str, text: &str, sink: &mut W)
 /// Writes the lines that the source's feature file compiles to under the uri, or why there are none, and gives the exit code.
 pub(crate) fn print_compiled<R: ByteSource, W: ByteSink>(
     alloc: Global,
+    seed: RandomState,
     uri: &str,
     source: &mut R,
     sink: &mut W,
@@ -35,7 +43,7 @@ pub(crate) fn print_compiled<R: ByteSource, W: ByteSink>(
         (W.output sink.old) (W.output sink.new) }
 {
     match read_text(alloc, source) {
-        Ok(text) => compile_text(alloc, uri, text.as_str(), sink),
+        Ok(text) => compile_text(alloc, seed, uri, text.as_str(), sink),
         Err(fault) => print_fault(alloc, FeatureFault::from(fault), sink),
     }
 }

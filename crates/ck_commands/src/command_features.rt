@@ -25,6 +25,7 @@ use cm_stream::Conditions;
 use feature_paths::{Fault, FaultyPath, PathTrouble};
 use files::Files;
 use std::alloc::{AllocError, Global};
+use std::hash::RandomState;
 
 /// The name of what is wrong with a path.
 fn fault_name(fault: Fault) -> &'static str
@@ -56,6 +57,7 @@ fn faulty_report(alloc: Global, wrong: &FaultyPath) -> Result<Report, AllocError
 /// Judges the runs that are named, or where none is, the one that the source gives.
 fn judge_parts<F: Files, R: ByteSource>(
     alloc: Global,
+    seed: RandomState,
     settings: Settings,
     conditions: &Conditions<'_>,
     runs: &[&str],
@@ -70,9 +72,11 @@ fn judge_parts<F: Files, R: ByteSource>(
     ensures looks { F.looks files.new ≡ F.looks files.old }
 {
     if !runs.is_empty() {
-        return judge_runs(alloc, settings, conditions, runs, files, source, marks);
+        return judge_runs(
+            alloc, seed, settings, conditions, runs, files, source, marks,
+        );
     }
-    let JudgedRun { report, counts } = judge(alloc, settings, conditions, source, marks)?;
+    let JudgedRun { report, counts } = judge(alloc, seed, settings, conditions, source, marks)?;
     let counts = RunCounts::none().with(counts);
     Ok(JudgedRun { report, counts })
 }
@@ -94,6 +98,7 @@ fn all_ran(flags: &[bool]) -> bool
 /// Adds a file to what is missing. Where each of its scenarios ran, its text isn't parsed again.
 fn add_file(
     alloc: Global,
+    seed: RandomState,
     conditions: &Conditions<'_>,
     file: &FeatureFile,
     marks: &Marks<'_>,
@@ -109,12 +114,13 @@ fn add_file(
         return missing.add_whole(flags.len());
     }
     let path = file.path.as_str();
-    missing.add_file(alloc, path, file.text(), conditions, flags)
+    missing.add_file(alloc, seed, path, file.text(), conditions, flags)
 }
 
 /// What is missing of the files.
 fn missing_of(
     alloc: Global,
+    seed: RandomState,
     conditions: &Conditions<'_>,
     asked: &[&FeatureFile],
     marks: &Marks<'_>,
@@ -125,7 +131,7 @@ fn missing_of(
 {
     let mut missing = Missing::new(alloc);
     for file in asked {
-        add_file(alloc, conditions, file, marks, &mut missing)?;
+        add_file(alloc, seed, conditions, file, marks, &mut missing)?;
     }
     Ok(missing)
 }
@@ -194,6 +200,7 @@ fn told_report(
 /// Judges the runs, and where all are released, asks whether each scenario of the files ran in one of them.
 fn asked_report<F: Files, R: ByteSource>(
     alloc: Global,
+    seed: RandomState,
     settings: Settings,
     conditions: &Conditions<'_>,
     found: &[FeatureFile],
@@ -207,12 +214,14 @@ fn asked_report<F: Files, R: ByteSource>(
         (report_made (Ok report))) }
     ensures looks { F.looks files.new ≡ F.looks files.old }
 {
-    let mut marks = Marks::new(alloc);
+    let mut marks = Marks::new(alloc, seed);
     let asked = asked_files(alloc, found, &mut marks)?;
-    let parts = judge_parts(alloc, settings, conditions, runs, files, source, &mut marks)?;
+    let parts = judge_parts(
+        alloc, seed, settings, conditions, runs, files, source, &mut marks,
+    )?;
     match parts.report.status {
         ExitStatus::Done => {
-            let missing = missing_of(alloc, conditions, asked.as_slice(), &marks)?;
+            let missing = missing_of(alloc, seed, conditions, asked.as_slice(), &marks)?;
             told_report(alloc, found.len(), parts, &missing)
         }
         _ => Ok(parts.report),
@@ -222,6 +231,7 @@ fn asked_report<F: Files, R: ByteSource>(
 /// The report of a gate over feature files, which are found and read before any run.
 fn features_report<F: Files, R: ByteSource>(
     alloc: Global,
+    seed: RandomState,
     settings: Settings,
     conditions: &Conditions<'_>,
     features: &[&str],
@@ -237,10 +247,12 @@ fn features_report<F: Files, R: ByteSource>(
     }) (F.openings files.old) (F.openings files.new) (F.looks files.old) (F.looks files.new)
         (R.input source.old) (R.input source.new) (report_made (Ok report))) }
 {
-    match read_features(alloc, files, features) {
+    match read_features(alloc, seed, files, features) {
         Ok(found) => {
             let found = found.as_slice();
-            asked_report(alloc, settings, conditions, found, runs, files, source)
+            asked_report(
+                alloc, seed, settings, conditions, found, runs, files, source,
+            )
         }
         Err(PathTrouble::Faulty(wrong)) => faulty_report(alloc, &wrong),
         Err(PathTrouble::Memory) => Err(AllocError),
@@ -250,6 +262,7 @@ fn features_report<F: Files, R: ByteSource>(
 /// Prints that report, and gives the exit code.
 pub(crate) fn print_features<F: Files, R: ByteSource, W: ByteSink>(
     alloc: Global,
+    seed: RandomState,
     settings: Settings,
     conditions: &Conditions<'_>,
     features: &[&str],
@@ -267,6 +280,8 @@ pub(crate) fn print_features<F: Files, R: ByteSource, W: ByteSink>(
         (F.looks files.new) (R.input source.old) (R.input source.new) (W.output sink.old)
         (W.output sink.new) }
 {
-    let report = features_report(alloc, settings, conditions, features, runs, files, source);
+    let report = features_report(
+        alloc, seed, settings, conditions, features, runs, files, source,
+    );
     write_report(sink, report)
 }

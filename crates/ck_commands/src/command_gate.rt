@@ -16,6 +16,7 @@ use cm_audit_release::{AuditedRelease, audit_release};
 use cm_envelope::{ByteSink, ByteSource, Trouble};
 use cm_stream::{Conditions, Counts, Hold, ReleaseCounts, Verdict};
 use std::alloc::{AllocError, Global};
+use std::hash::RandomState;
 
 /// The name of a hold, after the word `stop`.
 fn hold_name(hold: Hold) -> &'static str
@@ -129,6 +130,7 @@ pub(crate) fn answer_report(
 /// conditions, with its reasons, or what was let pass; of another what is told of the line that decides.
 fn gate_report<R: ByteSource>(
     alloc: Global,
+    seed: RandomState,
     settings: Settings,
     conditions: &Conditions<'_>,
     source: &mut R,
@@ -136,7 +138,7 @@ fn gate_report<R: ByteSource>(
     ensures { Reported (ask_gate settings (conditions_of conditions.now)) (report_made result)
         (R.input source.old) (R.input source.new) }
 {
-    let answer = audit_release(alloc, source, settings, conditions);
+    let answer = audit_release(alloc, seed, source, settings, conditions);
     let report = answer_report(alloc, conditions.is_part, &answer);
     drop(answer);
     report
@@ -145,6 +147,7 @@ fn gate_report<R: ByteSource>(
 /// Prints that report, and gives the exit code.
 pub(crate) fn print_gate<R: ByteSource, W: ByteSink>(
     alloc: Global,
+    seed: RandomState,
     settings: Settings,
     conditions: &Conditions<'_>,
     source: &mut R,
@@ -153,6 +156,6 @@ pub(crate) fn print_gate<R: ByteSource, W: ByteSink>(
     ensures { Runs (ask_gate settings (conditions_of conditions.now)) result
         (R.input source.old) (R.input source.new) (W.output sink.old) (W.output sink.new) }
 {
-    let report = gate_report(alloc, settings, conditions, source);
+    let report = gate_report(alloc, seed, settings, conditions, source);
     write_report(sink, report)
 }

@@ -15,6 +15,7 @@ use cm_attempt::Track;
 use cm_envelope::{ByteSink, ByteSource, Trouble};
 use cm_stream::Audited;
 use std::alloc::{AllocError, Global};
+use std::hash::RandomState;
 
 /// One line for each case, in order of declaration.
 fn table_text(alloc: Global, attempts: &Track) -> Result<String, AllocError>
@@ -54,6 +55,7 @@ fn results_report(
 /// the exit code.
 pub(crate) fn print_results<R: ByteSource, W: ByteSink>(
     alloc: Global,
+    seed: RandomState,
     first_attempt: u64,
     source: &mut R,
     sink: &mut W,
@@ -61,7 +63,7 @@ pub(crate) fn print_results<R: ByteSource, W: ByteSink>(
     ensures { Runs (ask_results first_attempt) result (R.input source.old) (R.input source.new)
         (W.output sink.old) (W.output sink.new) }
 {
-    let read = read_attempts(alloc, first_attempt, source);
+    let read = read_attempts(alloc, seed, first_attempt, source);
     let report = results_report(alloc, &read);
     drop(read);
     write_report(sink, report)

@@ -15,6 +15,7 @@ use cm_ran::Marks;
 use cm_stream::Conditions;
 use files::Files;
 use std::alloc::{AllocError, Global};
+use std::hash::RandomState;
 
 /// The first of the two that isn't that of what was done.
 fn status_after(first: ExitStatus, next: ExitStatus) -> ExitStatus
@@ -65,6 +66,7 @@ fn counts_made(run: &Result<JudgedRun, AllocError>) -> RunCounts
 /// Judges all runs, each in its turn, whatever the ones before gave. The report has all lines, each after the name of its run.
 pub(crate) fn judge_runs<F: Files, R: ByteSource>(
     alloc: Global,
+    seed: RandomState,
     settings: Settings,
     conditions: &Conditions<'_>,
     runs: &[&str],
@@ -84,7 +86,7 @@ pub(crate) fn judge_runs<F: Files, R: ByteSource>(
     let mut status = ExitStatus::Done;
     let mut counts = RunCounts::none();
     for run in runs {
-        let judged = judge_run(alloc, settings, conditions, files, source, run, marks);
+        let judged = judge_run(alloc, seed, settings, conditions, files, source, run, marks);
         add_run(alloc, &mut text, run, &judged)?;
         status = status_after(status, status_of(&judged));
         counts = counts.with(counts_made(&judged));
@@ -97,6 +99,7 @@ pub(crate) fn judge_runs<F: Files, R: ByteSource>(
 /// Prints the report of all runs, and gives the exit code: that of the first run that isn't to be released, if any.
 pub(crate) fn print_runs<F: Files, R: ByteSource, W: ByteSink>(
     alloc: Global,
+    seed: RandomState,
     settings: Settings,
     conditions: &Conditions<'_>,
     runs: &[&str],
@@ -112,8 +115,10 @@ pub(crate) fn print_runs<F: Files, R: ByteSource, W: ByteSink>(
         (R.input source.new) (W.output sink.old) (W.output sink.new) }
     ensures looks { F.looks files.new ≡ F.looks files.old }
 {
-    let mut marks = Marks::new(alloc);
-    let judged = judge_runs(alloc, settings, conditions, runs, files, source, &mut marks);
+    let mut marks = Marks::new(alloc, seed);
+    let judged = judge_runs(
+        alloc, seed, settings, conditions, runs, files, source, &mut marks,
+    );
     drop(marks);
     match judged {
         Ok(judged) => write_report(sink, Ok(judged.report)),

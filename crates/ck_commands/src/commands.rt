@@ -20,6 +20,7 @@ use ck_command_line::{Choice, Refusal, choose};
 use cm_envelope::{ByteSink, ByteSource, Trouble};
 use files::{Files, NoOpener, OpenedFiles};
 use std::alloc::{AllocError, Global};
+use std::hash::RandomState;
 
 /// The words with the program's name before them.
 fn with_name<'a>(alloc: Global, words: &[&'a str]) -> Result<Vec<&'a str>, AllocError>
@@ -35,6 +36,7 @@ fn with_name<'a>(alloc: Global, words: &[&'a str]) -> Result<Vec<&'a str>, Alloc
 /// Runs what the words chose, and gives its exit code.
 fn run_choice<F: Files, R: ByteSource, W: ByteSink>(
     alloc: Global,
+    seed: RandomState,
     choice: Choice<'_>,
     files: &mut F,
     source: &mut R,
@@ -46,20 +48,30 @@ fn run_choice<F: Files, R: ByteSource, W: ByteSink>(
 {
     match choice {
         Choice::Parse => print_feature(alloc, source, sink),
-        Choice::Compile(uri) => print_compiled(alloc, uri, source, sink),
-        Choice::Audit(settings) => print_audit(alloc, settings, source, sink),
+        Choice::Compile(uri) => print_compiled(alloc, seed, uri, source, sink),
+        Choice::Audit(settings) => print_audit(alloc, seed, settings, source, sink),
         Choice::Gate(settings, conditions) => {
-            print_gate(alloc, settings, &conditions, source, sink)
+            print_gate(alloc, seed, settings, &conditions, source, sink)
         }
         Choice::GateRuns(settings, conditions, runs) => {
             let runs = runs.as_slice();
-            print_runs(alloc, settings, &conditions, runs, files, source, sink)
+            print_runs(
+                alloc,
+                seed,
+                settings,
+                &conditions,
+                runs,
+                files,
+                source,
+                sink,
+            )
         }
         Choice::GateFeatures(settings, conditions, features, runs) => {
             let features = features.as_slice();
             let runs = runs.as_slice();
             print_features(
                 alloc,
+                seed,
                 settings,
                 &conditions,
                 features,
@@ -69,8 +81,8 @@ fn run_choice<F: Files, R: ByteSource, W: ByteSink>(
                 sink,
             )
         }
-        Choice::Results(first_attempt) => print_results(alloc, first_attempt, source, sink),
-        Choice::Cases(settings, form) => print_cases(alloc, settings, form, source, sink),
+        Choice::Results(first_attempt) => print_results(alloc, seed, first_attempt, source, sink),
+        Choice::Cases(settings, form) => print_cases(alloc, seed, settings, form, source, sink),
     }
 }
 
@@ -90,6 +102,7 @@ fn print_refusal<W: ByteSink>(refusal: Refusal, sink: &mut W) -> u8
 /// written, then flushed, and no read and no write is repeated. Each file is opened once, and closed before the next is opened.
 pub fn run_with<F: Files, R: ByteSource, W: ByteSink>(
     alloc: Global,
+    seed: RandomState,
     words: &[&str],
     files: &mut F,
     source: &mut R,
@@ -129,7 +142,7 @@ pub fn run_with<F: Files, R: ByteSource, W: ByteSink>(
         return write_no_memory(sink);
     };
     match choose(alloc, all.as_slice()) {
-        Ok(choice) => run_choice(alloc, choice, files, source, sink),
+        Ok(choice) => run_choice(alloc, seed, choice, files, source, sink),
         Err(refusal) => print_refusal(refusal, sink),
     }
 }
@@ -137,6 +150,7 @@ pub fn run_with<F: Files, R: ByteSource, W: ByteSink>(
 /// Runs what the words ask for, as `run_with` does, where there are no files: none can be opened.
 pub fn run<R: ByteSource, W: ByteSink>(
     alloc: Global,
+    seed: RandomState,
     words: &[&str],
     source: &mut R,
     sink: &mut W,
@@ -180,7 +194,7 @@ pub fn run<R: ByteSource, W: ByteSink>(
         → (R.input source.new).failed_calls ≡ (R.input source.old).failed_calls }
 {
     let mut files = OpenedFiles::new(alloc, NoOpener);
-    let code = run_with(alloc, words, &mut files, source, sink);
+    let code = run_with(alloc, seed, words, &mut files, source, sink);
     drop(files);
     code
 }

@@ -11,6 +11,7 @@ use cm_ran::Marks;
 use feature_paths::{Fault, FaultyPath, PathTrouble, feature_paths};
 use files::{FileTrouble, Files};
 use std::alloc::{AllocError, Global};
+use std::hash::RandomState;
 
 /// A feature file that was read. Its text is None where it is longer than a feature file may be.
 #[derive(Drop)]
@@ -121,6 +122,7 @@ fn read_files<F: Files>(
 /// Finds the feature files of the paths, and reads them.
 pub(crate) fn read_features<F: Files>(
     alloc: Global,
+    seed: RandomState,
     files: &mut F,
     features: &[&str],
 ) -> Result<Vec<FeatureFile>, PathTrouble>
@@ -131,7 +133,7 @@ pub(crate) fn read_features<F: Files>(
         (F.openings files.old) (F.openings files.new) (F.looks files.old)
         (F.looks files.new)) }
 {
-    let paths = feature_paths(alloc, files, features)?;
+    let paths = feature_paths(alloc, seed, files, features)?;
     read_files(alloc, files, paths.as_slice())
 }
 

@@ -15,6 +15,7 @@ use cm_ran::Marks;
 use cm_stream::{Conditions, Verdict};
 use files::{FileTrouble, Files};
 use std::alloc::{AllocError, Global};
+use std::hash::RandomState;
 
 /// What is counted of released runs.
 #[derive(Clone, Copy, PartialEq, Eq, Debug, Drop)]
@@ -92,6 +93,7 @@ fn with_counts(
 /// Judges the run whose stream the source gives. Where it is released, what ran of the marked texts is marked.
 pub(crate) fn judge<R: ByteSource>(
     alloc: Global,
+    seed: RandomState,
     settings: Settings,
     conditions: &Conditions<'_>,
     source: &mut R,
@@ -100,7 +102,7 @@ pub(crate) fn judge<R: ByteSource>(
     ensures { Judges settings (conditions_of conditions.now) (R.input source.old)
         (R.input source.new) marks.old marks.new (run_report result) (counts_made result) }
 {
-    let answer = audit_part(alloc, source, settings, conditions, marks);
+    let answer = audit_part(alloc, seed, source, settings, conditions, marks);
     let counts = counts_of(&answer);
     let report = answer_report(alloc, conditions.is_part, &answer);
     drop(answer);
@@ -124,6 +126,7 @@ fn unopened(alloc: Global) -> Result<JudgedRun, AllocError>
 /// Judges the run whose stream is the file of this name.
 fn judge_file<F: Files>(
     alloc: Global,
+    seed: RandomState,
     settings: Settings,
     conditions: &Conditions<'_>,
     files: &mut F,
@@ -139,7 +142,7 @@ fn judge_file<F: Files>(
 {
     match files.open(name) {
         Ok(mut file) => {
-            let run = judge(alloc, settings, conditions, &mut file.source, marks);
+            let run = judge(alloc, seed, settings, conditions, &mut file.source, marks);
             match files.close(file) {
                 Ok(()) => run,
                 Err(refused) => {
@@ -156,6 +159,7 @@ fn judge_file<F: Files>(
 /// Judges the run of this name: standard input, or else a file.
 pub(crate) fn judge_run<F: Files, R: ByteSource>(
     alloc: Global,
+    seed: RandomState,
     settings: Settings,
     conditions: &Conditions<'_>,
     files: &mut F,
@@ -171,8 +175,8 @@ pub(crate) fn judge_run<F: Files, R: ByteSource>(
     ensures looks { F.looks files.new ≡ F.looks files.old }
 {
     if name == "-" {
-        judge(alloc, settings, conditions, source, marks)
+        judge(alloc, seed, settings, conditions, source, marks)
     } else {
-        judge_file(alloc, settings, conditions, files, name, marks)
+        judge_file(alloc, seed, settings, conditions, files, name, marks)
     }
 }

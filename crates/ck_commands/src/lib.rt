@@ -3,8 +3,13 @@
 //!
 //! ```
 //! // The line of `cukecheck audit` on a stream, and whether the stream is good.
-//! fn is_good<S: ByteSource, T: ByteSink>(alloc: Global, report: &mut S, out: &mut T) -> bool {
-//!     run(alloc, &["audit"], report, out) == ExitStatus::Done.code()
+//! fn is_good<S: ByteSource, T: ByteSink>(
+//!     alloc: Global,
+//!     seed: RandomState,
+//!     report: &mut S,
+//!     out: &mut T,
+//! ) -> bool {
+//!     run(alloc, seed, &["audit"], report, out) == ExitStatus::Done.code()
 //! }
 //! ```
 //!

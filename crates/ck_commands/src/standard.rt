@@ -11,6 +11,7 @@ use crate::output::ExitStatus;
 use cm_envelope::{ByteSource, Reader, Writer};
 use files::Files;
 use std::alloc::Global;
+use std::hash::RandomState;
 use std::io::{Read, Write};
 
 /// A run that ended: its exit code, its files, and its devices, whose histories clauses can name.
@@ -30,6 +31,7 @@ pub struct Ended<F, R, W> {
 /// nothing of the reader: they hold of standard input, which shows no byte that is to come.
 pub fn run_over<F: Files, R: Read, W: Write>(
     alloc: Global,
+    seed: RandomState,
     words: &[&str],
     files: F,
     reader: R,
@@ -57,7 +59,7 @@ pub fn run_over<F: Files, R: Read, W: Write>(
     let mut files = files;
     let mut source = Reader::new(reader);
     let mut sink = Writer::new(writer);
-    let code = run_with(alloc, words, &mut files, &mut source, &mut sink);
+    let code = run_with(alloc, seed, words, &mut files, &mut source, &mut sink);
     Ended {
         code,
         files,

@@ -1,5 +1,5 @@
 -- The step that an attempt has to go through next.
-use Rattle.std.specs.Prelude.{Bool, List, Option, map, option_map, slice_get}
+use Rattle.std.specs.Prelude.{Bool, List, Option, option_map, slice_get}
 use Rattle.std.specs.Option.{option_and_then}
 use Rattle.cm_attempt.specs.Table.{AttemptRow, Table, Utf8, find_attempt, steps_of}
 use Rattle.cm_attempt.specs.declared.rows.Cursor.{Cursor}

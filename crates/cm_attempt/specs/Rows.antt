@@ -4,6 +4,7 @@ use Rattle.std.specs.Map.{keys_of}
 use Rattle.std.specs.Str.{bytes_eq}
 use Rattle.std.specs.String.{string_bytes}
 use Rattle.std.specs.declared.alloc.Global.{Global}
+use Rattle.cm_refs.specs.StepIds.{ids_in}
 use Rattle.cm_attempt.specs.Table.{CaseRow, AttemptRow, Table, Utf8}
 use Rattle.cm_attempt.specs.declared.rows.Case.{Case}
 use Rattle.cm_attempt.specs.declared.rows.Attempt.{Attempt}
@@ -11,7 +12,7 @@ use Rattle.cm_attempt.specs.declared.rows.Attempt.{Attempt}
 abbrev pub case_row : Utf8 → Case → CaseRow
 case_row id c = record {
   id = id;
-  steps = map string_bytes c.steps.keys;
+  steps = ids_in c.steps;
   attempts = c.attempts;
   last = c.last;
 }

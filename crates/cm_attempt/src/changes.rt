@@ -3,20 +3,22 @@ ghost use Rattle.std.specs.Prelude.{◌≡◌, ◌+◌, ◌<◌, ◌≤◌, ◌+
 ghost use Rattle.std.specs.Str.{bytes_eq};
 ghost use Rattle.std.specs.String.{string_bytes};
 ghost use Rattle.indexmap.specs.IndexMap.{index_map_len, values};
+ghost use Rattle.cm_refs.specs.StepIds.{ids_in};
 ghost use Rattle.cm_attempt.specs.Rows.{attempt_rows, case_rows, place_of};
 ghost use Rattle.cm_attempt.specs.Table.{Utf8, cursor_after_step, change_first, ended_attempt, with_open_attempt, with_running_step, running_cursor};
 ghost use Rattle.cm_attempt.specs.Table.{with_finished_step, with_last};
 ghost use Rattle.cm_attempt.specs.Table.{new_attempt as new_row, new_case};
 
-use crate::rows::{Attempt, Attempts, Case, Cases, Cursor, Last, Steps};
+use crate::rows::{Attempt, Attempts, Case, Cases, Cursor, Last};
 use crate::status::{Status, worst_with};
+use cm_refs::StepIds;
 use std::alloc::{AllocError, Global};
 
 /// Adds a case with its steps. The id is new.
 pub(crate) fn add_case(
     cases: &mut Cases,
     id: String,
-    steps: Steps,
+    steps: StepIds,
     most: u64,
 ) -> Result<(), AllocError>
     requires new { find (λ c. bytes_eq (string_bytes id) c.id) (case_rows cases.old.entries)
@@ -24,7 +26,7 @@ pub(crate) fn add_case(
     requires few { All (λ c. c.attempts ≤ most) (values cases.old) }
     ensures ok { OnOk result (case_rows cases.new.entries
         ≡ case_rows cases.old.entries
-        ++ new_case (string_bytes id) (map string_bytes steps.keys) ∷ []) }
+        ++ new_case (string_bytes id) (ids_in steps) ∷ []) }
     ensures err { OnErr result (case_rows cases.new.entries ≡ case_rows cases.old.entries) }
     ensures few { All (λ c. c.attempts ≤ most) (values cases.new) }
 {

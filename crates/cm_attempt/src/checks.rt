@@ -3,15 +3,15 @@ ghost use Rattle.std.specs.Prelude.{◌≡◌, ◌<◌, if◌then◌else◌, [],
 ghost use Rattle.std.specs.String.{string_bytes};
 ghost use Rattle.indexmap.specs.IndexMap.{index_map_len};
 ghost use Rattle.cm_refs.specs.Due.{RefusesExactly};
+ghost use Rattle.cm_refs.specs.StepIds.{ids_in};
 ghost use Rattle.cm_attempt.specs.Rows.{attempt_row, place_of, table_of};
 ghost use Rattle.cm_attempt.specs.Table.{cursor_after_step, has_text, start_fault, step_fault_at, step_fault_of};
 ghost use Rattle.cm_attempt.specs.Table.{finish_fault_at, is_closed_to_new as closed_to_new, is_next as next_step};
 ghost use Rattle.cm_attempt.specs.Table.{may_finish as ends_in_order, may_start as starts_in_order};
 
 use crate::fault::TrackFault;
-use crate::rows::{
-    Attempt, Attempts, Cases, Cursor, Last, Steps, contains, find_attempt, find_case,
-};
+use crate::rows::{Attempt, Attempts, Cases, Cursor, Last, find_attempt, find_case};
+use cm_refs::StepIds;
 
 /// Whether no new attempt may start beside or after the last one.
 pub(crate) fn is_closed_to_new(last: Last) -> bool
@@ -21,17 +21,17 @@ pub(crate) fn is_closed_to_new(last: Last) -> bool
 }
 
 /// Whether the step is the one after those that are finished.
-fn is_next(cursor: Cursor, steps: &[String], step: &str) -> bool
-    ensures { result ≡ next_step cursor (map string_bytes steps.now) step.now }
+fn is_next(cursor: Cursor, steps: &StepIds, step: &str) -> bool
+    ensures { result ≡ next_step cursor (ids_in steps.now) step.now }
 {
     match steps.get(cursor.finished) {
-        Some(next) => step == next.as_str(),
+        Some(next) => step == next,
         None => false,
     }
 }
 
-fn may_start(cursor: Option<Cursor>, steps: &[String], step: &str) -> bool
-    ensures { result ≡ starts_in_order step.now cursor (map string_bytes steps.now) }
+fn may_start(cursor: Option<Cursor>, steps: &StepIds, step: &str) -> bool
+    ensures { result ≡ starts_in_order step.now cursor (ids_in steps.now) }
 {
     match cursor {
         Some(cursor) => !cursor.is_running && is_next(cursor, steps, step),
@@ -39,9 +39,9 @@ fn may_start(cursor: Option<Cursor>, steps: &[String], step: &str) -> bool
     }
 }
 
-/// The cursor after one more finished step.
-fn following(cursor: Cursor, steps: &[String]) -> Cursor
-    requires { cursor.finished < length steps.now }
+/// The cursor after one more finished step, of so many.
+fn following(cursor: Cursor, steps: usize) -> Cursor
+    requires { cursor.finished < steps }
     ensures { result ≡ cursor_after_step cursor }
 {
     Cursor {
@@ -51,24 +51,24 @@ fn following(cursor: Cursor, steps: &[String]) -> Cursor
 }
 
 /// The cursor after the step's finish, where it may finish.
-fn finished_in_order(cursor: Option<Cursor>, steps: &[String], step: &str) -> Option<Cursor>
-    ensures { result ≡ (if ends_in_order step.now cursor (map string_bytes steps.now)
+fn finished_in_order(cursor: Option<Cursor>, steps: &StepIds, step: &str) -> Option<Cursor>
+    ensures { result ≡ (if ends_in_order step.now cursor (ids_in steps.now)
         then option_map cursor_after_step cursor else None) }
 {
     let cursor = cursor?;
     if cursor.is_running && is_next(cursor, steps, step) {
-        Some(following(cursor, steps))
+        Some(following(cursor, steps.len()))
     } else {
         None
     }
 }
 
 /// Why a step that is out of order is refused.
-fn step_fault(steps: &Steps, step: &str) -> TrackFault
-    ensures { step_fault_of (has_text step.now (map string_bytes steps.now.keys)) false
+fn step_fault(steps: &StepIds, step: &str) -> TrackFault
+    ensures { step_fault_of (has_text step.now (ids_in steps.now)) false
         ≡ Some result }
 {
-    if contains(steps, step) {
+    if steps.contains(step) {
         TrackFault::StepOrder
     } else {
         TrackFault::UnknownStep
@@ -115,7 +115,7 @@ pub(crate) fn check_start(cases: &Cases, attempt: &Attempt, step: &str) -> Resul
     let Some((_, case)) = find_case(cases, attempt.case_id.as_str()) else {
         return Err(TrackFault::UnknownStep);
     };
-    if may_start(attempt.cursor, case.steps.as_slice(), step) {
+    if may_start(attempt.cursor, &case.steps, step) {
         Ok(())
     } else {
         Err(step_fault(&case.steps, step))
@@ -137,7 +137,7 @@ pub(crate) fn check_finish(
     let Some((_, case)) = find_case(cases, attempt.case_id.as_str()) else {
         return Err(TrackFault::UnknownStep);
     };
-    match finished_in_order(attempt.cursor, case.steps.as_slice(), step) {
+    match finished_in_order(attempt.cursor, &case.steps, step) {
         Some(next) => Ok(next),
         None => Err(step_fault(&case.steps, step)),
     }

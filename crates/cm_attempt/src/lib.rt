@@ -3,9 +3,14 @@
 //! ```
 //! use cm_attempt::{Status, Track, TrackFault};
 //! use std::alloc::Global;
+//! use std::hash::RandomState;
 //!
-//! fn run_once(alloc: Global, steps: Vec<String>) -> Result<Option<Status>, TrackFault> {
-//!     let mut track = Track::new(alloc);
+//! fn run_once(
+//!     alloc: Global,
+//!     seed: RandomState,
+//!     steps: Vec<String>,
+//! ) -> Result<Option<Status>, TrackFault> {
+//!     let mut track = Track::new(alloc, seed);
 //!     track.add_case(String::from_str(alloc, "case-1")?, steps)?;
 //!     track.start("attempt-1", "case-1", 0)?;
 //!     track.step_started("attempt-1", "step-1")?;

@@ -5,6 +5,7 @@ ghost use Rattle.std.specs.List.{list_all};
 ghost use Rattle.std.specs.Str.{bytes_eq};
 ghost use Rattle.std.specs.String.{string_bytes};
 ghost use Rattle.indexmap.specs.IndexMap.{index_map_len, values};
+ghost use Rattle.cm_refs.specs.StepIds.{ids_in};
 ghost use Rattle.cm_attempt.specs.Due.{due_at, due_of, due_view};
 ghost use Rattle.cm_attempt.specs.Rows.{attempt_row, attempt_rows, case_row, case_rows, place_of, table_of};
 ghost use Rattle.cm_attempt.specs.Table.{has_step, has_text, is_good_case as is_good, is_good_status};
@@ -13,7 +14,9 @@ ghost use Rattle.cm_attempt.specs.Table.{outcome as specs_outcome, status_of_las
 use crate::policy::Policy;
 use crate::status::Status;
 use crate::track::DueStep;
-use indexmap::{IndexMap, IndexSet};
+use cm_refs::StepIds;
+use indexmap::IndexMap;
+use std::hash::RandomState;
 
 /// The state of the last attempt of a case.
 #[derive(Clone, Copy, Debug, PartialEq, Eq)]
@@ -34,7 +37,7 @@ pub struct Cursor {
 
 #[derive(Drop)]
 pub(crate) struct Case {
-    pub(crate) steps: Steps,
+    pub(crate) steps: StepIds,
     pub(crate) attempts: u64,
     pub(crate) last: Last,
 }
@@ -47,11 +50,9 @@ pub(crate) struct Attempt {
     pub(crate) worst: Option<Status>,
 }
 
-pub(crate) type Steps = IndexSet<String>;
+pub(crate) type Cases = IndexMap<String, Case, RandomState>;
 
-pub(crate) type Cases = IndexMap<String, Case>;
-
-pub(crate) type Attempts = IndexMap<String, Attempt>;
+pub(crate) type Attempts = IndexMap<String, Attempt, RandomState>;
 
 /// The case, and its place among the cases.
 pub(crate) fn find_case<'a>(cases: &'a Cases, id: &str) -> Option<(usize, &'a Case)>
@@ -77,18 +78,12 @@ pub(crate) fn find_attempt<'a>(attempts: &'a Attempts, id: &str) -> Option<(usiz
     Some((place, attempt))
 }
 
-pub(crate) fn contains(steps: &Steps, step: &str) -> bool
-    ensures { result ≡ has_text step.now (map string_bytes steps.now.keys) }
-{
-    steps.contains(step)
-}
-
 /// Whether the case has the step.
 fn case_has_step(cases: &Cases, id: &str, step: &str) -> bool
     ensures { result ≡ has_text step.now (steps_in (table_of 0 cases.now.entries []) id.now) }
 {
     match find_case(cases, id) {
-        Some((_, case)) => contains(&case.steps, step),
+        Some((_, case)) => case.steps.contains(step),
         None => false,
     }
 }
@@ -144,13 +139,13 @@ pub(crate) fn count_open(attempts: &Attempts) -> u64
 }
 
 /// The step of the case that an attempt with this cursor has to go through next.
-fn due_of<'a>(cursor: Cursor, steps: &'a Steps) -> Option<DueStep<'a>>
+fn due_of<'a>(cursor: Cursor, steps: &'a StepIds) -> Option<DueStep<'a>>
     ensures { option_map due_view result
-        ≡ due_of cursor (map string_bytes steps.now.keys) }
+        ≡ due_of cursor (ids_in steps.now) }
 {
-    let step = steps.as_slice().get(cursor.finished)?;
+    let step = steps.get(cursor.finished)?;
     Some(DueStep {
-        step: step.as_str(),
+        step,
         is_running: cursor.is_running,
     })
 }

@@ -25,6 +25,7 @@ use crate::status::Status;
 use cm_refs::distinct_texts;
 use indexmap::IndexMap;
 use std::alloc::{AllocError, Global};
+use std::hash::RandomState;
 use std::marker::Model;
 
 /// The result of a case: the worst status of its final attempt, which is one that ended and is not retried, and none where
@@ -51,6 +52,7 @@ pub struct Track {
     cases: Cases,
     attempts: Attempts,
     alloc: Global,
+    seed: RandomState,
 }
 
 impl Model for Track {
@@ -70,22 +72,23 @@ impl Model for Track {
 
 impl Track {
     /// A track with no case, which counts the attempts of a case from 0. It takes no memory.
-    pub fn new(alloc: Global) -> Track
+    pub fn new(alloc: Global, seed: RandomState) -> Track
         ensures { result ≡ empty_table }
     {
-        Track::counting_from(alloc, 0)
+        Track::counting_from(alloc, seed, 0)
     }
 
     /// A track with no case. The first attempt of each case has the number `first`, and the next ones
     /// the numbers after it. It takes no memory.
-    pub fn counting_from(alloc: Global, first: u64) -> Track
+    pub fn counting_from(alloc: Global, seed: RandomState, first: u64) -> Track
         ensures { result ≡ table_from first }
     {
         Track {
             first,
-            cases: IndexMap::new(alloc),
-            attempts: IndexMap::new(alloc),
+            cases: IndexMap::with_hasher(alloc, seed),
+            attempts: IndexMap::with_hasher(alloc, seed),
             alloc,
+            seed,
         }
     }
 
@@ -109,7 +112,7 @@ impl Track {
         if find_case(&self.cases, id.as_str()).is_some() {
             return Err(TrackFault::DuplicateId);
         }
-        let Some(steps) = distinct_texts(self.alloc, steps)? else {
+        let Some(steps) = distinct_texts(self.alloc, self.seed, steps)? else {
             return Err(TrackFault::DuplicateId);
         };
         let most = self.attempts.len() as u64;

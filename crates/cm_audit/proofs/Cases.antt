@@ -32,28 +32,28 @@ named_step s = s.pickle_step_id
 
 -- ---- the text at an index
 
-abbrev pub is_at : List Key → ℕ → Utf8 → Bool
-is_at ss n id = option_map_or (λ s. bytes_eq (string_bytes s) id) (slice_get ss n) false
+abbrev pub is_at : List Utf8 → ℕ → Utf8 → Bool
+is_at ss n id = option_map_or (λ s. bytes_eq s id) (slice_get ss n) false
 
-pub is_within : (ss : List Key) (n : ℕ) (id : Utf8) → is_at ss n id ≡ true → n < length ss
+pub is_within : (ss : List Utf8) (n : ℕ) (id : Utf8) → is_at ss n id ≡ true → n < length ss
 is_within [] n id h = cc
 is_within (s ∷ ss) zero id h = omega arith
 is_within (s ∷ ss) (suc n) id h = omega (arith, is_within ss n id h)
 
-pub other_texts : (ss : List Key) (n : ℕ) (id : Utf8) (ids : List Utf8) → is_at ss n id ≡ false → same_texts (map string_bytes (drop n ss)) (id ∷ ids) ≡ false
+pub other_texts : (ss : List Utf8) (n : ℕ) (id : Utf8) (ids : List Utf8) → is_at ss n id ≡ false → same_texts (drop n ss) (id ∷ ids) ≡ false
 other_texts [] zero id ids h = refl
 other_texts [] (suc n) id ids h = refl
 other_texts (s ∷ ss) zero id ids h = rw h refl
 other_texts (s ∷ ss) (suc n) id ids h = other_texts ss n id ids h
 
-same_further : (ss : List Key) (n : ℕ) (id : Utf8) (ids : List Utf8) → is_at ss n id ≡ true
-    → same_texts (map string_bytes (drop n ss)) (id ∷ ids) ≡ same_texts (map string_bytes (drop (suc n) ss)) ids
+same_further : (ss : List Utf8) (n : ℕ) (id : Utf8) (ids : List Utf8) → is_at ss n id ≡ true
+    → same_texts (drop n ss) (id ∷ ids) ≡ same_texts (drop (suc n) ss) ids
 same_further [] n id ids h = cc
 same_further (s ∷ ss) zero id ids h = rw h refl
 same_further (s ∷ ss) (suc n) id ids h = same_further ss n id ids h
 
-pub same_after : (ss : List Key) (n : ℕ) (id : Utf8) (ids : List Utf8) → is_at ss n id ≡ true
-    → same_texts (map string_bytes (drop n ss)) (id ∷ ids) ≡ same_texts (map string_bytes (drop (n + 1) ss)) ids
+pub same_after : (ss : List Utf8) (n : ℕ) (id : Utf8) (ids : List Utf8) → is_at ss n id ≡ true
+    → same_texts (drop n ss) (id ∷ ids) ≡ same_texts (drop (n + 1) ss) ids
 same_after ss n id ids h = rw add-one (same_further ss n id ids h)
 
 -- ---- names

@@ -1,5 +1,5 @@
 -- The sources that an audit keeps, as rows of what it has seen.
-use Rattle.std.specs.Prelude.{◌≡◌, List, [], String, Result, Ok, Err, IfSome, true, find, map}
+use Rattle.std.specs.Prelude.{◌≡◌, List, [], String, Result, Ok, Err, IfSome, None, true, find, if◌then◌else◌, map}
 use Rattle.std.specs.Str.{bytes_eq}
 use Rattle.std.specs.String.{string_bytes}
 use Rattle.std.specs.declared.alloc.Global.{Global}
@@ -7,6 +7,7 @@ use Rattle.cm_stream.specs.Texts.{Utf8}
 use Rattle.cm_stream.specs.Readings.{Reading, Accepted, Refused, OtherLanguage, TooLong}
 use Rattle.cm_stream.specs.declared.verdict.Reason.TheVariants as reason
 use Rattle.cm_state.specs.Summary.{SourceRow, new_row}
+use Rattle.cm_audit.specs.Due.{left_of}
 use Rattle.cm_audit.specs.declared.source.AcceptedSource.{AcceptedSource}
 use Rattle.cm_audit.specs.declared.source.KeptSource.{KeptSource}
 use Rattle.cm_audit.specs.declared.source.KeptSource.TheVariants as kept
@@ -17,9 +18,9 @@ abbrev pub accepted_row : Utf8 → AcceptedSource → SourceRow
 accepted_row uri a = record {
   uri = uri;
   is_accepted = true;
-  awaited = a.awaited;
+  awaited = if a.awaits_document then a.document else None;
   ids = a.ids;
-  due = a.due.items;
+  due = left_of a.document a.place;
 }
 
 -- of a refused source nothing comes

@@ -24,6 +24,7 @@ use cm_attempt::{Policy, Settings};
 use cm_envelope::{ByteSource, Envelope, Trouble, is_blank_line, read_envelope};
 use cm_stream::{Audited, StreamFault, Verdict};
 use std::alloc::Global;
+use std::hash::RandomState;
 
 /// Tells of an envelope and judges it, and takes it where it has no fault.
 fn take_envelope<W: Watch>(
@@ -177,6 +178,7 @@ fn with_watch<W: Drop>(
 /// As those of `audit_run`, and want of memory for the watch.
 pub fn audit_watched<R: ByteSource, W: Watch + Drop>(
     alloc: Global,
+    seed: RandomState,
     source: &mut R,
     settings: Settings,
     watch: W,
@@ -190,7 +192,7 @@ pub fn audit_watched<R: ByteSource, W: Watch + Drop>(
         (R.input source.new).failed_calls }
 {
     let mut judging = Judging {
-        state: State::new(alloc, settings.first_attempt),
+        state: State::new(alloc, seed, settings.first_attempt),
         watch,
         last: None,
         settings,
@@ -225,6 +227,7 @@ fn audit_in<W: Drop>(watched: Result<WatchedAudit<W>, Trouble>) -> Result<Audite
 /// Why no further line could be read, where no line before has a fault. No read is repeated.
 pub fn audit_run<R: ByteSource>(
     alloc: Global,
+    seed: RandomState,
     source: &mut R,
     settings: Settings,
 ) -> Result<Audited, Trouble>
@@ -256,7 +259,7 @@ pub fn audit_run<R: ByteSource>(
     ensures ahead { OfReads (R.input source.old) (R.input source.new)
         (ReadsUpTo (verdict_in result)) }
 {
-    let watched = audit_watched(alloc, source, settings, Unwatched);
+    let watched = audit_watched(alloc, seed, source, settings, Unwatched);
     audit_in(watched)
 }
 
@@ -277,21 +280,26 @@ fn verdict_of(audited: Result<Audited, Trouble>) -> Result<Verdict, Trouble>
 /// As those of `audit_run`.
 pub fn audit_with<R: ByteSource>(
     alloc: Global,
+    seed: RandomState,
     source: &mut R,
     policy: Policy,
 ) -> Result<Verdict, Trouble>
     ensures { IsVerdictOf (settings_of policy) result (R.input source.old) (R.input source.new) }
 {
-    verdict_of(audit_run(alloc, source, Settings::from(policy)))
+    verdict_of(audit_run(alloc, seed, source, Settings::from(policy)))
 }
 
 /// Audits a stream by the strict policy, `audit_with` under `Policy::Strict`: the good statuses are `Passed` and `Skipped`.
 ///
 /// # Errors
 /// As those of `audit_run`.
-pub fn audit<R: ByteSource>(alloc: Global, source: &mut R) -> Result<Verdict, Trouble>
+pub fn audit<R: ByteSource>(
+    alloc: Global,
+    seed: RandomState,
+    source: &mut R,
+) -> Result<Verdict, Trouble>
     ensures { IsVerdictOf (settings_of Policy.Strict) result (R.input source.old)
         (R.input source.new) }
 {
-    audit_with(alloc, source, Policy::Strict)
+    audit_with(alloc, seed, source, Policy::Strict)
 }

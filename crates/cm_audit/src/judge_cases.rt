@@ -7,6 +7,7 @@ ghost use Rattle.std.specs.String.{string_bytes};
 ghost use Rattle.indexmap.specs.IndexSet.{spare};
 ghost use Rattle.cm_attempt.specs.Table.{has_text};
 ghost use Rattle.cm_refs.specs.Declarations.{find_pickle, steps_of};
+ghost use Rattle.cm_refs.specs.StepIds.{ids_in};
 ghost use Rattle.cm_envelope.specs.declared.envelope.Envelope.TheVariants as Envelope;
 ghost use Rattle.cm_stream.specs.Texts.{same_texts};
 ghost use Rattle.cm_stream.specs.References.{pickle_step_ids};
@@ -19,7 +20,7 @@ use crate::record::add_case;
 use crate::state::{Names, State, knows_run};
 use crate::stop::Stop;
 use cm_envelope::{TestCase, TestStep};
-use cm_refs::Declared;
+use cm_refs::{Declared, StepIds};
 use cm_stream::{Counts, StreamFault};
 use gk_document::Text;
 use std::alloc::AllocFailed;
@@ -86,20 +87,21 @@ fn knows_case(state: &State, case: &TestCase) -> bool
 }
 
 /// Whether the step at an index has this id.
-fn is_step_at(steps: &[String], at: usize, id: &str) -> bool
-    ensures { result ≡ option_map_or (λ step. bytes_eq (string_bytes step) id.now)
-        (slice_get steps.now at) false }
+fn is_step_at(steps: &StepIds, at: usize, id: &str) -> bool
+    ensures { result ≡ option_map_or (λ step. bytes_eq step id.now)
+        (slice_get (ids_in steps.now) at) false }
 {
     match steps.get(at) {
-        Some(step) => step.as_str() == id,
+        Some(step) => step == id,
         None => false,
     }
 }
 
 /// Whether the pickle steps of a case are these, in order.
-fn has_steps(case: &TestCase, steps: &[String]) -> bool
-    ensures { result ≡ same_texts (map string_bytes steps.now) (pickle_step_ids case.now) }
+fn has_steps(case: &TestCase, steps: &StepIds) -> bool
+    ensures { result ≡ same_texts (ids_in steps.now) (pickle_step_ids case.now) }
 {
+    let count = steps.len();
     let mut next = 0;
     for step in case.test_steps.as_slice() {
         if let Some(id) = &step.pickle_step_id {
@@ -109,7 +111,7 @@ fn has_steps(case: &TestCase, steps: &[String]) -> bool
             next += 1;
         }
     }
-    next == steps.len()
+    next == count
 }
 
 /// Whether the case has the steps of its pickle.

@@ -19,6 +19,7 @@ use cm_stream::{Reason, StreamFault};
 use gk_document::{Sequence, Text};
 use indexmap::IndexSet;
 use std::alloc::{AllocError, Global};
+use std::hash::RandomState;
 
 /// The media type of plain Gherkin.
 const PLAIN: &str = "text/x.cucumber.gherkin+plain";
@@ -46,10 +47,10 @@ pub(crate) fn judge_source(state: &mut State, source: Source) -> Result<(), Stop
 }
 
 /// Whether two of the texts are equal.
-fn have_repeat(alloc: Global, texts: &[Text]) -> Result<bool, AllocError>
+fn have_repeat(alloc: Global, seed: RandomState, texts: &[Text]) -> Result<bool, AllocError>
     ensures { IfOk result (λ found. found ≡ has_repeat texts.now) }
 {
-    let mut set = IndexSet::with_capacity(alloc, texts.len())?;
+    let mut set = IndexSet::with_capacity_and_hasher(alloc, texts.len(), seed)?;
     for text in texts {
         let is_new = set.insert(text.as_str())?;
         if !is_new {
@@ -104,7 +105,7 @@ fn check_document(state: &State, document: &GherkinDocument) -> Result<(), Stop>
     if !accepted.is_awaited(&document.document) {
         return Err(Stop::Bad(StreamFault::TreeDiffers));
     }
-    if have_repeat(state.alloc, document.ids.as_slice())? {
+    if have_repeat(state.alloc, state.seed, document.ids.as_slice())? {
         return Err(Stop::Bad(StreamFault::DuplicateId));
     }
     Ok(())
@@ -151,7 +152,8 @@ fn check_pickle(state: &State, pickle: &Pickle) -> Result<(), Stop>
     if !state.declared.has_document(uri) {
         return Err(Stop::Bad(StreamFault::UnknownReference));
     }
-    if !kept.is_next(pickle) {
+    let is_next = kept.is_next(state.alloc, state.seed, pickle)?;
+    if !is_next {
         return Err(Stop::Bad(StreamFault::PickleDiffers));
     }
     Ok(())

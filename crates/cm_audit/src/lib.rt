@@ -4,11 +4,16 @@
 //! use cm_audit::{Policy, Settings, Verdict, audit_run};
 //! use cm_envelope::{Reader, Trouble};
 //! use std::alloc::Global;
+//! use std::hash::RandomState;
 //! use std::io::Read;
 //!
-//! fn has_succeeded<R: Read + Drop>(alloc: Global, report: R) -> Result<bool, Trouble> {
+//! fn has_succeeded<R: Read + Drop>(
+//!     alloc: Global,
+//!     seed: RandomState,
+//!     report: R,
+//! ) -> Result<bool, Trouble> {
 //!     let settings = Settings::from(Policy::Strict);
-//!     let audited = audit_run(alloc, &mut Reader::new(report), settings)?;
+//!     let audited = audit_run(alloc, seed, &mut Reader::new(report), settings)?;
 //!     Ok(matches!(audited.verdict, Verdict::Good(_)) && audited.success)
 //! }
 //! ```
@@ -21,6 +26,7 @@
 #![tactic(auto)]
 
 mod auditing;
+mod due;
 mod ids;
 mod judge;
 mod judge_cases;
@@ -38,6 +44,7 @@ mod watch;
 pub use auditing::{WatchedAudit, audit, audit_run, audit_watched, audit_with};
 pub use cm_attempt::{Policy, Settings};
 pub use cm_stream::{Audited, Counts, Reason, StreamFault, Verdict};
+pub use due::DuePickles;
 pub use lines::{TakeLines, take_lines};
 pub use record::track;
 pub use source::{AcceptedSource, KeptSource};

@@ -1,94 +1,138 @@
 //! What an audit keeps of a source.
-ghost use Rattle.std.specs.Prelude.{◌≡◌, ℕ, List, [], IfOk, map, option_map, slice_get, true};
+ghost use Rattle.std.specs.Prelude.{◌≡◌, ℕ, List, [], IfOk, option_map, true};
 ghost use Rattle.cm_stream.specs.Readings.{Accepted as accepted_text};
 ghost use Rattle.cm_stream.specs.OnePass.{reads};
 ghost use Rattle.cm_state.specs.StateChecks.{is_awaited_of, is_next_of, lacks_by};
 ghost use Rattle.cm_state.specs.Summary.{new_row, one_more, with_ids};
 ghost use Rattle.cm_audit.specs.Kept.{ReadsAs, accepted_row, kept_row};
 
+use crate::due::DuePickles;
 use crate::matching::is_due_pickle;
 use crate::stop::Stop;
 use cm_envelope::Pickle;
 use cm_stream::Reason;
 use gk_document::{Document, Sequence, Text, same_skeleton};
 use gk_grammar::FaultKind;
-use gk_pickle::{Pickle as DuePickle, compile};
+use gk_pickle::{PicklePlace, pass_pickle};
 use gk_tree::parse;
 use std::alloc::{AllocError, Global};
-use std::collections::VecDeque;
+use std::hash::RandomState;
 
-/// A source whose text is of the grammar: its document, until the stream's one came; the ids of that one, once it came; and
-/// the pickles that it compiles to and that haven't come.
+/// A source whose text is of the grammar: its document, until the stream's one and all its pickles came; whether the stream's
+/// one is awaited; the ids of that one, once it came; and how far its pickles came.
 #[derive(Drop)]
 pub struct AcceptedSource {
-    awaited: Option<Document>,
+    document: Option<Document>,
+    awaits_document: bool,
     ids: Sequence<Text>,
-    due: VecDeque<DuePickle>,
+    place: PicklePlace,
 }
 
 impl AcceptedSource {
-    /// A source of which nothing came yet.
-    fn new(alloc: Global, document: Document) -> Result<AcceptedSource, AllocError>
-        ensures { IfOk result (λ a. accepted_row [] a ≡ new_row [] (accepted_text document)) }
+    /// A source of which nothing came yet. It takes no memory.
+    fn new(alloc: Global, document: Document) -> AcceptedSource
+        ensures { accepted_row [] result ≡ new_row [] (accepted_text document) }
     {
-        let pickles = compile(alloc, &document)?;
-        Ok(AcceptedSource {
-            awaited: Some(document),
+        AcceptedSource {
+            document: Some(document),
+            awaits_document: true,
             ids: Sequence::new(alloc),
-            due: VecDeque::from_vec(pickles),
-        })
+            place: PicklePlace::first(),
+        }
+    }
+
+    /// The document that the stream's is compared with, while that is awaited.
+    fn awaited(&self) -> Option<&Document>
+        ensures { option_map (λ d. d.now) result ≡ (accepted_row [] self.now).awaited }
+    {
+        if self.awaits_document {
+            self.document.as_ref()
+        } else {
+            None
+        }
+    }
+
+    /// The pickles that didn't come.
+    fn due(&self) -> DuePickles<'_>
+        ensures { result ≡ (accepted_row [] self.now).due }
+    {
+        DuePickles {
+            document: self.document.as_ref(),
+            place: self.place,
+        }
     }
 
     /// Whether the stream's document has the skeleton of the one that is awaited.
     pub(crate) fn is_awaited(&self, document: &Document) -> bool
         ensures { result ≡ is_awaited_of document.now (accepted_row [] self.now) }
     {
-        match &self.awaited {
+        match self.awaited() {
             Some(awaited) => same_skeleton(document, awaited),
             None => false,
         }
     }
 
-    /// The stream's document came, with these ids, and the source's isn't kept any longer.
+    /// The document isn't kept any longer, once nothing of the stream is compared with it.
+    fn forget(&mut self)
+        ensures { (uri : List ℕ) → accepted_row uri self.new ≡ accepted_row uri self.old }
+    {
+        if !self.awaits_document && !self.due().has_some() {
+            self.document = None;
+        }
+    }
+
+    /// The stream's document came, with these ids.
     pub(crate) fn set_ids(&mut self, ids: Sequence<Text>)
         ensures { (uri : List ℕ)
             → accepted_row uri self.new ≡ with_ids ids (accepted_row uri self.old) }
     {
-        self.awaited = None;
+        self.awaits_document = false;
         self.ids = ids;
+        self.forget();
     }
 
-    /// Whether the pickle is the next one of the source.
-    pub(crate) fn is_next(&self, pickle: &Pickle) -> bool
-        ensures { result ≡ is_next_of pickle.now (accepted_row [] self.now) }
+    /// Whether the pickle is the next one of the source, which is made for it.
+    ///
+    /// # Errors
+    /// Only where there is no memory for the pickle that is due.
+    pub(crate) fn is_next(
+        &self,
+        alloc: Global,
+        seed: RandomState,
+        pickle: &Pickle,
+    ) -> Result<bool, AllocError>
+        ensures { IfOk result (λ is. is ≡ is_next_of pickle.now (accepted_row [] self.now)) }
     {
-        let ids = self.ids.as_slice();
-        match self.due.front() {
-            Some(due) => is_due_pickle(pickle, ids, due),
-            None => false,
+        match self.due().next(alloc, seed)? {
+            Some(due) => Ok(is_due_pickle(pickle, self.ids.as_slice(), &due)),
+            None => Ok(false),
         }
     }
 
-    /// The pickles that didn't come.
-    fn due(&self, alloc: Global) -> Result<Vec<&DuePickle>, AllocError>
-        ensures { IfOk result (λ due. map (λ p. p.now) due.items ≡ (accepted_row [] self.now).due) }
+    /// The place is behind the next pickle.
+    fn pass(&mut self)
+        ensures { (uri : List ℕ)
+            → accepted_row uri self.new ≡ one_more (accepted_row uri self.old) }
     {
-        self.due.iter().collect(alloc)
+        if let Some(document) = &self.document {
+            let _ = pass_pickle(document, &mut self.place);
+        }
     }
 
-    /// The next pickle came, and isn't kept any longer.
+    /// The next pickle came.
     pub(crate) fn count_pickle(&mut self)
         ensures { (uri : List ℕ)
             → accepted_row uri self.new ≡ one_more (accepted_row uri self.old) }
     {
-        drop(self.due.pop_front());
+        self.pass();
+        self.forget();
     }
 
     /// Whether its document or one of its pickles is lacking.
     pub(crate) fn lacks_some(&self) -> bool
         ensures { result ≡ lacks_by (accepted_row [] self.now) }
     {
-        self.awaited.is_some() || !self.due.is_empty()
+        self.awaited().is_some() || self.due().has_some()
     }
 }
 
@@ -108,7 +152,7 @@ impl KeptSource {
     {
         match self {
             KeptSource::Refused => None,
-            KeptSource::Accepted(accepted) => accepted.awaited.as_ref(),
+            KeptSource::Accepted(accepted) => accepted.awaited(),
         }
     }
 
@@ -122,26 +166,16 @@ impl KeptSource {
         }
     }
 
-    /// The first of the pickles that its text compiles to and that didn't come.
-    pub fn next_due(&self) -> Option<&DuePickle>
-        ensures { option_map (λ p. p.now) result ≡ slice_get (kept_row [] self.now).due 0 }
-    {
-        match self {
-            KeptSource::Refused => None,
-            KeptSource::Accepted(accepted) => accepted.due.front(),
-        }
-    }
-
     /// The pickles that its text compiles to and that didn't come, in order.
-    ///
-    /// # Errors
-    /// Only where there is no memory for the list.
-    pub fn due(&self, alloc: Global) -> Result<Vec<&DuePickle>, AllocError>
-        ensures { IfOk result (λ due. map (λ p. p.now) due.items ≡ (kept_row [] self.now).due) }
+    pub fn due(&self) -> DuePickles<'_>
+        ensures { result ≡ (kept_row [] self.now).due }
     {
         match self {
-            KeptSource::Refused => Ok(Vec::new(alloc)),
-            KeptSource::Accepted(accepted) => accepted.due(alloc),
+            KeptSource::Refused => DuePickles {
+                document: None,
+                place: PicklePlace::first(),
+            },
+            KeptSource::Accepted(accepted) => accepted.due(),
         }
     }
 
@@ -155,13 +189,21 @@ impl KeptSource {
         }
     }
 
-    /// Whether the pickle is the next one of the source.
-    pub fn is_next(&self, pickle: &Pickle) -> bool
-        ensures { result ≡ is_next_of pickle.now (kept_row [] self.now) }
+    /// Whether the pickle is the next one of the source, which is made for it.
+    ///
+    /// # Errors
+    /// Only where there is no memory for the pickle that is due.
+    pub fn is_next(
+        &self,
+        alloc: Global,
+        seed: RandomState,
+        pickle: &Pickle,
+    ) -> Result<bool, AllocError>
+        ensures { IfOk result (λ is. is ≡ is_next_of pickle.now (kept_row [] self.now)) }
     {
         match self {
-            KeptSource::Refused => false,
-            KeptSource::Accepted(accepted) => accepted.is_next(pickle),
+            KeptSource::Refused => Ok(false),
+            KeptSource::Accepted(accepted) => accepted.is_next(alloc, seed, pickle),
         }
     }
 
@@ -191,7 +233,7 @@ pub(crate) fn read_source(alloc: Global, text: &str) -> Result<KeptSource, Stop>
     ensures { ReadsAs (reads text.now) result }
 {
     match parse(alloc, text) {
-        Ok(document) => Ok(KeptSource::Accepted(AcceptedSource::new(alloc, document)?)),
+        Ok(document) => Ok(KeptSource::Accepted(AcceptedSource::new(alloc, document))),
         Err(fault) => match fault.kind {
             FaultKind::TooLong => Err(Stop::Unsupported(Reason::SourceTooLong)),
             FaultKind::UnsupportedLanguage => Err(Stop::Unsupported(Reason::Language)),

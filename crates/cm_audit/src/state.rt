@@ -14,12 +14,13 @@ use cm_stream::Counts;
 use gk_document::Text;
 use indexmap::{IndexMap, IndexSet};
 use std::alloc::Global;
+use std::hash::RandomState;
 
 /// The sources by their uris, in the order of the stream.
-pub type Sources = IndexMap<String, KeptSource>;
+pub type Sources = IndexMap<String, KeptSource, RandomState>;
 
 /// The ids of pickles that test cases name, each once.
-pub(crate) type Names = IndexSet<String>;
+pub(crate) type Names = IndexSet<String, RandomState>;
 
 /// What an audit keeps: each source by its uri, what else was declared, the record of attempts, the pickles that cases name,
 /// what the run's envelopes said, its success among it, and the worst status of its hooks.
@@ -35,18 +36,19 @@ pub struct State {
     pub(crate) hooks_worst: Option<Status>,
     pub(crate) counts: Counts,
     pub(crate) alloc: Global,
+    pub(crate) seed: RandomState,
 }
 
 impl State {
     /// Nothing was seen yet, and the attempts of a case will be numbered from `first`. It takes no memory.
-    pub(crate) fn new(alloc: Global, first: u64) -> State
+    pub(crate) fn new(alloc: Global, seed: RandomState, first: u64) -> State
         ensures { summary_of result ≡ empty_summary first }
     {
         State {
-            declared: Declared::new(alloc),
-            track: Track::counting_from(alloc, first),
-            sources: IndexMap::new(alloc),
-            named: IndexSet::new(alloc),
+            declared: Declared::new(alloc, seed),
+            track: Track::counting_from(alloc, seed, first),
+            sources: IndexMap::with_hasher(alloc, seed),
+            named: IndexSet::with_hasher(alloc, seed),
             run: None,
             is_finished: false,
             success: false,
@@ -59,6 +61,7 @@ impl State {
                 unrun: 0,
             },
             alloc,
+            seed,
         }
     }
 

@@ -12,6 +12,7 @@ use cm_cases::Listing;
 use cm_envelope::{ByteSource, Trouble};
 use cm_stream::Audited;
 use std::alloc::Global;
+use std::hash::RandomState;
 
 /// An audit; and of a good stream, what the lines of its cases name, and the record of their attempts.
 #[derive(Drop)]
@@ -43,6 +44,7 @@ fn with_cases(watched: Result<WatchedAudit<CaseWatch>, Trouble>) -> Result<Audit
 /// As those of `audit_run`.
 pub fn audit_cases<R: ByteSource>(
     alloc: Global,
+    seed: RandomState,
     source: &mut R,
     settings: Settings,
 ) -> Result<AuditedCases, Trouble>
@@ -56,5 +58,5 @@ pub fn audit_cases<R: ByteSource>(
     let watch = CaseWatch {
         listing: Listing::new(alloc),
     };
-    with_cases(audit_watched(alloc, source, settings, watch))
+    with_cases(audit_watched(alloc, seed, source, settings, watch))
 }

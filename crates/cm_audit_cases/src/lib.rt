@@ -6,11 +6,16 @@
 //! use cm_audit_cases::audit_cases;
 //! use cm_envelope::{Reader, Trouble};
 //! use std::alloc::Global;
+//! use std::hash::RandomState;
 //! use std::io::Read;
 //!
-//! fn prints_good<R: Read + Drop>(alloc: Global, report: R) -> Result<bool, Trouble> {
+//! fn prints_good<R: Read + Drop>(
+//!     alloc: Global,
+//!     seed: RandomState,
+//!     report: R,
+//! ) -> Result<bool, Trouble> {
 //!     let settings = Settings::from(Policy::Strict);
-//!     let cases = audit_cases(alloc, &mut Reader::new(report), settings)?;
+//!     let cases = audit_cases(alloc, seed, &mut Reader::new(report), settings)?;
 //!     Ok(matches!(cases.audited.verdict, Verdict::Good(_)))
 //! }
 //! ```

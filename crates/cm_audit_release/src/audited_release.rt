@@ -19,6 +19,7 @@ use cm_ran::Marks;
 use cm_release::{Judgement, Tally};
 use cm_stream::{Audited, Conditions, Counts, Hold, ReleaseCounts, Verdict};
 use std::alloc::{AllocError, Global};
+use std::hash::RandomState;
 
 /// An audit; of a good stream what is counted of it for a release, why its run isn't to be released, and the lines below that; of
 /// another stream the lines that tell what is wrong with the one that decides, where something is told of it.
@@ -53,6 +54,7 @@ struct JudgedAudit {
 /// What is said of a good run for a release. Of what the audit keeps the record of attempts is held alone.
 fn good_judgement(
     alloc: Global,
+    seed: RandomState,
     conditions: &Conditions<'_>,
     settings: Settings,
     tally: &Tally,
@@ -65,7 +67,9 @@ fn good_judgement(
         (string_bytes judgement.reasons)) }
 {
     let track = state.into_track();
-    let judgement = Judgement::of(alloc, conditions, settings, tally, &track, success, counts);
+    let judgement = Judgement::of(
+        alloc, seed, conditions, settings, tally, &track, success, counts,
+    );
     drop(track);
     judgement
 }
@@ -73,6 +77,7 @@ fn good_judgement(
 /// The lines that tell what is wrong with the line that decides.
 fn told_judgement(
     alloc: Global,
+    seed: RandomState,
     settings: Settings,
     tally: &Tally,
     state: &State,
@@ -82,13 +87,14 @@ fn told_judgement(
     ensures { IfOk result (λ judgement. TellsWith settings (summary_of state.now) tally.now.trail
         last.now verdict (string_bytes judgement.reasons)) }
 {
-    let reasons = verdict_told(alloc, settings, state, tally.trail(), last, verdict)?;
+    let reasons = verdict_told(alloc, seed, settings, state, tally.trail(), last, verdict)?;
     Ok(Judgement::told(reasons))
 }
 
 /// What is said of a good run for a release, or of the line that decides against the stream.
 fn judgement_of(
     alloc: Global,
+    seed: RandomState,
     conditions: &Conditions<'_>,
     settings: Settings,
     audited: Audited,
@@ -104,10 +110,12 @@ fn judgement_of(
         Verdict::Good(counts) => {
             drop(last);
             let success = audited.success;
-            good_judgement(alloc, conditions, settings, tally, state, success, counts)
+            good_judgement(
+                alloc, seed, conditions, settings, tally, state, success, counts,
+            )
         }
         verdict => {
-            let told = told_judgement(alloc, settings, tally, &state, &last, verdict);
+            let told = told_judgement(alloc, seed, settings, tally, &state, &last, verdict);
             drop(last);
             drop(state);
             told
@@ -140,6 +148,7 @@ fn with_tally(
 /// An audit that was watched, with what is said of it.
 fn judged(
     alloc: Global,
+    seed: RandomState,
     conditions: &Conditions<'_>,
     settings: Settings,
     watched: WatchedAudit<ReleaseWatch>,
@@ -153,13 +162,16 @@ fn judged(
         state,
     } = watched;
     let tally = watch.tally;
-    let judgement = judgement_of(alloc, conditions, settings, audited, &tally, last, state);
+    let judgement = judgement_of(
+        alloc, seed, conditions, settings, audited, &tally, last, state,
+    );
     with_tally(audited, judgement, tally)
 }
 
 /// That, where the stream was read.
 fn with_judgement(
     alloc: Global,
+    seed: RandomState,
     conditions: &Conditions<'_>,
     settings: Settings,
     watched: Result<WatchedAudit<ReleaseWatch>, Trouble>,
@@ -167,7 +179,7 @@ fn with_judgement(
     ensures { CountsWatched settings (conditions_of conditions.now) watched result }
 {
     match watched {
-        Ok(watched) => judged(alloc, conditions, settings, watched),
+        Ok(watched) => judged(alloc, seed, conditions, settings, watched),
         Err(trouble) => Err(trouble),
     }
 }
@@ -192,6 +204,7 @@ fn release_in(judged: Result<JudgedAudit, Trouble>) -> Result<AuditedRelease, Tr
 /// As those of `audit_run`, and want of memory for the lists and the maps by which they are counted, and for the lines.
 pub fn audit_release<R: ByteSource>(
     alloc: Global,
+    seed: RandomState,
     source: &mut R,
     settings: Settings,
     conditions: &Conditions<'_>,
@@ -204,15 +217,16 @@ pub fn audit_release<R: ByteSource>(
         (R.input source.new).failed_calls }
 {
     let watch = ReleaseWatch {
-        tally: Tally::new(alloc),
+        tally: Tally::new(alloc, seed),
     };
-    let watched = audit_watched(alloc, source, settings, watch);
-    release_in(with_judgement(alloc, conditions, settings, watched))
+    let watched = audit_watched(alloc, seed, source, settings, watch);
+    release_in(with_judgement(alloc, seed, conditions, settings, watched))
 }
 
 /// What is said of a run, with the marks of what ran where it is released; want of memory where there is none for them.
 fn with_marks(
     alloc: Global,
+    seed: RandomState,
     marks: &mut Marks<'_>,
     judged: Result<JudgedAudit, Trouble>,
 ) -> Result<AuditedRelease, Trouble>
@@ -224,7 +238,7 @@ fn with_marks(
         drop(tally);
         return Ok(release);
     }
-    let marked = marks.mark(alloc, tally.trail());
+    let marked = marks.mark(alloc, seed, tally.trail());
     drop(tally);
     match marked {
         Ok(()) => Ok(release),
@@ -238,6 +252,7 @@ fn with_marks(
 /// As those of `audit_release`, and want of memory for the marks.
 pub fn audit_part<R: ByteSource>(
     alloc: Global,
+    seed: RandomState,
     source: &mut R,
     settings: Settings,
     conditions: &Conditions<'_>,
@@ -253,9 +268,9 @@ pub fn audit_part<R: ByteSource>(
         (R.input source.new).failed_calls }
 {
     let watch = ReleaseWatch {
-        tally: Tally::new(alloc),
+        tally: Tally::new(alloc, seed),
     };
-    let watched = audit_watched(alloc, source, settings, watch);
-    let judged = with_judgement(alloc, conditions, settings, watched);
-    with_marks(alloc, marks, judged)
+    let watched = audit_watched(alloc, seed, source, settings, watch);
+    let judged = with_judgement(alloc, seed, conditions, settings, watched);
+    with_marks(alloc, seed, marks, judged)
 }

@@ -6,15 +6,17 @@
 //! use cm_envelope::{Reader, Trouble};
 //! use cm_stream::{Conditions, Verdict};
 //! use std::alloc::Global;
+//! use std::hash::RandomState;
 //! use std::io::Read;
 //!
 //! fn misses_none<R: Read + Drop>(
 //!     alloc: Global,
+//!     seed: RandomState,
 //!     report: R,
 //!     conditions: &Conditions<'_>,
 //! ) -> Result<bool, Trouble> {
 //!     let settings = Settings::from(Policy::Strict);
-//!     let release = audit_release(alloc, &mut Reader::new(report), settings, conditions)?;
+//!     let release = audit_release(alloc, seed, &mut Reader::new(report), settings, conditions)?;
 //!     let is_good = matches!(release.audited.verdict, Verdict::Good(_));
 //!     Ok(is_good && release.found.missed == 0)
 //! }

@@ -7,9 +7,10 @@ use crate::listing::{CaseEntry, DocumentEntry, PickleEntry, Place};
 use gk_document::Text;
 use indexmap::IndexMap;
 use std::alloc::{AllocError, Global};
+use std::hash::RandomState;
 
 /// A value for each text.
-pub type ByText<'a, V> = IndexMap<&'a str, V>;
+pub type ByText<'a, V> = IndexMap<&'a str, V, RandomState>;
 
 /// A text by which values are found.
 pub trait Key<T> {
@@ -21,7 +22,7 @@ pub trait Key<T> {
 }
 
 /// The id of a case.
-pub(crate) struct CaseId;
+pub struct CaseId;
 
 impl Key<CaseEntry> for CaseId {
     ghost text = { λ c. c.id };
@@ -32,7 +33,7 @@ impl Key<CaseEntry> for CaseId {
 }
 
 /// The pickle that a case names.
-pub(crate) struct CasePickle;
+pub struct CasePickle;
 
 impl Key<CaseEntry> for CasePickle {
     ghost text = { λ c. c.pickle_id };
@@ -43,7 +44,7 @@ impl Key<CaseEntry> for CasePickle {
 }
 
 /// The id of a pickle.
-pub(crate) struct PickleId;
+pub struct PickleId;
 
 impl Key<PickleEntry> for PickleId {
     ghost text = { λ p. p.id };
@@ -61,6 +62,25 @@ impl Key<Place> for PlaceId {
 
     fn of(item: &Place) -> &str {
         item.id.as_str()
+    }
+}
+
+/// A text itself.
+pub struct Whole;
+
+impl Key<Text> for Whole {
+    ghost text = { λ t. t };
+
+    fn of(item: &Text) -> &str {
+        item.as_str()
+    }
+}
+
+impl<'a> Key<&'a str> for Whole {
+    ghost text = { λ t. t.now };
+
+    fn of<'b>(item: &'b &'a str) -> &'b str {
+        item
     }
 }
 
@@ -90,11 +110,12 @@ pub fn add_first<'a, V: Drop>(
 /// Only where there is no memory for the map.
 pub fn firsts_of<'a, K: Key<T>, T>(
     alloc: Global,
+    seed: RandomState,
     items: &'a [T],
 ) -> Result<ByText<'a, &'a T>, AllocError>
     ensures { IfOk result (λ m. HasFirsts (λ x. x.now) (λ x. x) K.text items.now m) }
 {
-    let mut map = IndexMap::new(alloc);
+    let mut map = IndexMap::with_hasher(alloc, seed);
     for item in items {
         add_first(&mut map, K::of(item), item)?;
     }

@@ -18,6 +18,7 @@ use gk_document::Text;
 use indexmap::IndexMap;
 use serde::Serializer;
 use std::alloc::{AllocError, Global};
+use std::hash::RandomState;
 use std::marker::Model;
 
 // ---- one line
@@ -113,11 +114,15 @@ fn count_one<'a>(counts: &mut ByText<'a, u64>, text: &'a str) -> Result<(), Allo
 }
 
 /// How often each text is among these.
-fn counts_of<'a>(alloc: Global, texts: &'a [Text]) -> Result<ByText<'a, u64>, AllocError>
+fn counts_of<'a>(
+    alloc: Global,
+    seed: RandomState,
+    texts: &'a [Text],
+) -> Result<ByText<'a, u64>, AllocError>
     ensures { IfOk result
         (λ counts. (text : List ℕ) → count_at counts text ≡ times_in texts.now text) }
 {
-    let mut counts = IndexMap::new(alloc);
+    let mut counts = IndexMap::with_hasher(alloc, seed);
     for text in texts {
         count_one(&mut counts, text.as_str())?;
     }
@@ -152,13 +157,17 @@ impl<'a> JsonLines<'a> {
     ///
     /// # Errors
     /// Only where there is no memory.
-    pub fn of(alloc: Global, listing: &'a Listing) -> Result<JsonLines<'a>, AllocError>
+    pub fn of(
+        alloc: Global,
+        seed: RandomState,
+        listing: &'a Listing,
+    ) -> Result<JsonLines<'a>, AllocError>
         ensures { IfOk result (λ lines. lines ≡ listing.now) }
     {
         Ok(JsonLines {
             listing,
-            places: Places::of(alloc, listing)?,
-            attempts: counts_of(alloc, listing.starts.as_slice())?,
+            places: Places::of(alloc, seed, listing)?,
+            attempts: counts_of(alloc, seed, listing.starts.as_slice())?,
         })
     }
 

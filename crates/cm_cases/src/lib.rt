@@ -4,15 +4,20 @@
 //! use cm_cases::{Listing, Places};
 //! use cm_envelope::Envelope;
 //! use std::alloc::{AllocError, Global};
+//! use std::hash::RandomState;
 //!
 //! /// One line for each pickle that no test case names.
-//! fn unrun_lines(alloc: Global, envelopes: &[Envelope]) -> Result<String, AllocError> {
+//! fn unrun_lines(
+//!     alloc: Global,
+//!     seed: RandomState,
+//!     envelopes: &[Envelope],
+//! ) -> Result<String, AllocError> {
 //!     let mut listing = Listing::new(alloc);
 //!     for envelope in envelopes {
 //!         listing.note(alloc, envelope)?;
 //!     }
 //!     let mut text = String::new(alloc);
-//!     Places::of(alloc, &listing)?.add_unrun(&mut text)?;
+//!     Places::of(alloc, seed, &listing)?.add_unrun(&mut text)?;
 //!     Ok(text)
 //! }
 //! ```
@@ -29,7 +34,7 @@ mod listing;
 mod places;
 mod shown;
 
-pub use firsts::{ByText, Key, add_first, firsts_of};
+pub use firsts::{ByText, CaseId, CasePickle, Key, PickleId, Whole, add_first, firsts_of};
 pub use json_lines::JsonLines;
 pub use listing::{Listing, tag_names};
 pub use places::Places;

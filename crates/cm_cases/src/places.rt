@@ -13,6 +13,7 @@ use crate::shown::add_shown;
 use gk_document::Sequence;
 use indexmap::IndexMap;
 use std::alloc::{AllocError, Global};
+use std::hash::RandomState;
 use std::marker::Model;
 
 /// The places of a document by their ids.
@@ -35,10 +36,10 @@ impl<'a> Model for Lines<'a> {
 }
 
 impl<'a> Lines<'a> {
-    fn of(alloc: Global, places: &'a [Place]) -> Result<Lines<'a>, AllocError>
+    fn of(alloc: Global, seed: RandomState, places: &'a [Place]) -> Result<Lines<'a>, AllocError>
         ensures { IfOk result (λ lines. lines ≡ places.now) }
     {
-        let by_id = firsts_of::<PlaceId, Place>(alloc, places)?;
+        let by_id = firsts_of::<PlaceId, Place>(alloc, seed, places)?;
         Ok(Lines { places, by_id })
     }
 
@@ -57,13 +58,14 @@ impl<'a> Lines<'a> {
 /// The documents by their uris.
 fn documents<'a>(
     alloc: Global,
+    seed: RandomState,
     entries: &'a [DocumentEntry],
 ) -> Result<ByText<'a, Lines<'a>>, AllocError>
     ensures { IfOk result (λ m. HasFirsts (λ l. l) (λ d. d.places) (λ d. d.uri) entries.now m) }
 {
-    let mut map = IndexMap::new(alloc);
+    let mut map = IndexMap::with_hasher(alloc, seed);
     for entry in entries {
-        let lines = Lines::of(alloc, entry.places.as_slice())?;
+        let lines = Lines::of(alloc, seed, entry.places.as_slice())?;
         add_first(&mut map, entry.uri.as_str(), lines)?;
     }
     Ok(map)
@@ -99,15 +101,19 @@ impl<'a> Places<'a> {
     ///
     /// # Errors
     /// Only where there is no memory.
-    pub fn of(alloc: Global, listing: &'a Listing) -> Result<Places<'a>, AllocError>
+    pub fn of(
+        alloc: Global,
+        seed: RandomState,
+        listing: &'a Listing,
+    ) -> Result<Places<'a>, AllocError>
         ensures { IfOk result (λ places. places ≡ listing.now) }
     {
         Ok(Places {
             listing,
-            cases: firsts_of::<CaseId, CaseEntry>(alloc, listing.cases.as_slice())?,
-            named: firsts_of::<CasePickle, CaseEntry>(alloc, listing.cases.as_slice())?,
-            pickles: firsts_of::<PickleId, PickleEntry>(alloc, listing.pickles.as_slice())?,
-            documents: documents(alloc, listing.documents.as_slice())?,
+            cases: firsts_of::<CaseId, CaseEntry>(alloc, seed, listing.cases.as_slice())?,
+            named: firsts_of::<CasePickle, CaseEntry>(alloc, seed, listing.cases.as_slice())?,
+            pickles: firsts_of::<PickleId, PickleEntry>(alloc, seed, listing.pickles.as_slice())?,
+            documents: documents(alloc, seed, listing.documents.as_slice())?,
         })
     }
 

@@ -19,6 +19,7 @@ use cm_cases::Places;
 use cm_reasons::{AddLine, Trail, add_limited, status_word};
 use cm_steps::{StepListing, is_quiet};
 use std::alloc::{AllocError, Global};
+use std::hash::RandomState;
 
 /// Adds the first step of the last attempt of a test case that has the status, with a word before it.
 fn add_last_step(
@@ -94,6 +95,7 @@ impl<'a, 'b, 'p> AddLine<CaseResult<'b>> for ResultLines<'a, 'p> {
 /// Only where there is no memory for them.
 pub(crate) fn add_case_causes(
     alloc: Global,
+    seed: RandomState,
     text: &mut String,
     trail: &Trail,
     track: &Track,
@@ -104,7 +106,7 @@ pub(crate) fn add_case_causes(
         → string_bytes text.new ≡ string_bytes text.old ++ limited (case_causes policy es)) }
 {
     let bad = bad_results(alloc, track, policy)?;
-    let places = trail.places(alloc)?;
+    let places = trail.places(alloc, seed)?;
     let lines = ResultLines {
         places: &places,
         steps: trail.steps(),

@@ -11,6 +11,7 @@ use crate::cases::add_case_causes;
 use cm_attempt::{Policy, Track};
 use cm_reasons::{Trail, add_hook_causes, add_refused};
 use std::alloc::{AllocError, Global};
+use std::hash::RandomState;
 
 /// Adds the line of an exception, where there is one.
 fn add_exception(text: &mut String, has_exception: bool) -> Result<(), AllocError>
@@ -31,6 +32,7 @@ fn add_exception(text: &mut String, has_exception: bool) -> Result<(), AllocErro
 /// Only where there is no memory for them.
 pub fn add_causes(
     alloc: Global,
+    seed: RandomState,
     text: &mut String,
     trail: &Trail,
     track: &Track,
@@ -41,8 +43,8 @@ pub fn add_causes(
         → case_results track.now ≡ results_of es
         → AddsCauses policy es has_exception (string_bytes text.old) (string_bytes text.new)) }
 {
-    add_case_causes(alloc, text, trail, track, policy)?;
-    add_hook_causes(alloc, text, trail, policy)?;
+    add_case_causes(alloc, seed, text, trail, track, policy)?;
+    add_hook_causes(alloc, seed, text, trail, policy)?;
     add_refused(alloc, text, trail)?;
     add_exception(text, has_exception)
 }
@@ -53,6 +55,7 @@ pub fn add_causes(
 /// Only where there is no memory for them.
 pub fn add_truth(
     alloc: Global,
+    seed: RandomState,
     text: &mut String,
     trail: &Trail,
     track: &Track,
@@ -64,7 +67,15 @@ pub fn add_truth(
         → AddsTruth policy es has_exception (string_bytes text.old) (string_bytes text.new)) }
 {
     let mut causes = String::new(alloc);
-    add_causes(alloc, &mut causes, trail, track, policy, has_exception)?;
+    add_causes(
+        alloc,
+        seed,
+        &mut causes,
+        trail,
+        track,
+        policy,
+        has_exception,
+    )?;
     let causes = causes.as_str();
     if causes.is_empty() {
         return text.push_str("nothing failed\n");

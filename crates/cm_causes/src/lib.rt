@@ -5,11 +5,17 @@
 //! use cm_causes::add_causes;
 //! use cm_reasons::Trail;
 //! use std::alloc::{AllocError, Global};
+//! use std::hash::RandomState;
 //!
 //! /// The causes of a run that ended without an exception, by what was kept of its stream.
-//! fn causes(alloc: Global, trail: &Trail, track: &Track) -> Result<String, AllocError> {
+//! fn causes(
+//!     alloc: Global,
+//!     seed: RandomState,
+//!     trail: &Trail,
+//!     track: &Track,
+//! ) -> Result<String, AllocError> {
 //!     let mut text = String::new(alloc);
-//!     add_causes(alloc, &mut text, trail, track, Policy::Strict, false)?;
+//!     add_causes(alloc, seed, &mut text, trail, track, Policy::Strict, false)?;
 //!     Ok(text)
 //! }
 //! ```

@@ -21,6 +21,7 @@ use gk_document::Document;
 use gk_pickle::{Pickle, ScenarioInFeature, compile_scenario, scenarios};
 use gk_tree::parse;
 use std::alloc::{AllocError, Global};
+use std::hash::RandomState;
 
 /// Adds a text as a line of its own.
 fn add_line(lines: &mut Vec<u8>, text: &[u8]) -> Result<(), AllocError>
@@ -57,6 +58,7 @@ fn add_pickle_lines(
 /// The pickles are held until their lines are made.
 fn add_scenario_lines(
     alloc: Global,
+    seed: RandomState,
     uri: &str,
     scenario: &ScenarioInFeature<'_>,
     first_id: u64,
@@ -68,7 +70,7 @@ fn add_scenario_lines(
     ensures next { IfOk result
         (λ id. id ≡ first_id + sum_by id_count (pickles_of_one scenario.now)) }
 {
-    let pickles = compile_scenario(alloc, scenario)?;
+    let pickles = compile_scenario(alloc, seed, scenario)?;
     add_pickle_lines(alloc, uri, pickles.as_slice(), first_id, lines)
 }
 
@@ -92,6 +94,7 @@ fn lines_of_tree(
 /// All lines of a feature file whose document is read.
 fn lines_of_document(
     alloc: Global,
+    seed: RandomState,
     uri: &str,
     text: &str,
     document: &Document,
@@ -104,20 +107,25 @@ fn lines_of_document(
     let scenarios = scenarios(alloc, document)?;
     let mut id = document.nodes;
     for scenario in scenarios.as_slice() {
-        id = add_scenario_lines(alloc, uri, scenario, id, &mut lines)?;
+        id = add_scenario_lines(alloc, seed, uri, scenario, id, &mut lines)?;
     }
     Ok(lines)
 }
 
 /// All lines of a feature file.
-fn lines_of(alloc: Global, uri: &str, text: &str) -> Result<Vec<u8>, CompileFault>
+fn lines_of(
+    alloc: Global,
+    seed: RandomState,
+    uri: &str,
+    text: &str,
+) -> Result<Vec<u8>, CompileFault>
     ensures ok { IfOk result (λ lines. IsCompiledOf uri.now text.now lines.items) }
     ensures refused { (f : ParseFault) → result ≡ Err (Parse f) → IsRefusedWith text.now f }
     ensures too_long { (result ≡ Err (Parse too_long)) ↔ IsTooLong text.now }
     ensures nothing_written { result ≢ Err WriteFailed }
 {
     let document = parse(alloc, text)?;
-    let lines = lines_of_document(alloc, uri, text, &document);
+    let lines = lines_of_document(alloc, seed, uri, text, &document);
     drop(document);
     Ok(lines?)
 }
@@ -132,6 +140,7 @@ fn lines_of(alloc: Global, uri: &str, text: &str) -> Result<Vec<u8>, CompileFaul
 /// was. `WriteFailed` where a write failed or took nothing: then the sink has taken the bytes before it.
 pub fn write_compiled<W: ByteSink>(
     alloc: Global,
+    seed: RandomState,
     uri: &str,
     text: &str,
     sink: &mut W,
@@ -153,6 +162,6 @@ pub fn write_compiled<W: ByteSink>(
     ensures too_long { (result ≡ Err (Parse too_long)) ↔ IsTooLong text.now }
     ensures untouched { IfErr result (λ e. e ≢ WriteFailed → sink.new ≡ sink.old) }
 {
-    let lines = lines_of(alloc, uri, text)?;
+    let lines = lines_of(alloc, seed, uri, text)?;
     Ok(write_all(sink, lines.as_slice())?)
 }

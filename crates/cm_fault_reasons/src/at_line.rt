@@ -20,6 +20,7 @@ use cm_reasons::Trail;
 use cm_source_reasons::add_source_reasons;
 use cm_stream::{Reason, StreamFault, Verdict};
 use std::alloc::{AllocError, Global};
+use std::hash::RandomState;
 
 /// Whether a source isn't what it compiles to.
 fn is_of_source(fault: StreamFault) -> bool
@@ -49,6 +50,7 @@ fn is_of_refused(fault: StreamFault) -> bool
 /// trail.
 fn add_fault(
     alloc: Global,
+    seed: RandomState,
     text: &mut String,
     settings: Settings,
     state: &State,
@@ -63,19 +65,20 @@ fn add_fault(
         (IsTold d.read settings before envelope.now (IsBad (stream_fault_named fault)))) }
 {
     if is_of_source(fault) {
-        add_source_reasons(alloc, text, state, trail, envelope, fault)
+        add_source_reasons(alloc, seed, text, state, trail, envelope, fault)
     } else if is_of_success(fault) {
-        add_truth_at(alloc, text, settings.policy, state, trail, envelope)
+        add_truth_at(alloc, seed, text, settings.policy, state, trail, envelope)
     } else if is_of_refused(fault) {
         add_refused_at(alloc, text, trail, envelope)
     } else {
-        add_lines(alloc, text, settings, state, trail, envelope, fault)
+        add_lines(alloc, seed, text, settings, state, trail, envelope, fault)
     }
 }
 
 /// What is told of an envelope that has the fault.
 fn envelope_text(
     alloc: Global,
+    seed: RandomState,
     settings: Settings,
     state: &State,
     trail: &Trail,
@@ -89,13 +92,16 @@ fn envelope_text(
         (string_bytes text)) }
 {
     let mut text = String::new(alloc);
-    add_fault(alloc, &mut text, settings, state, trail, envelope, fault)?;
+    add_fault(
+        alloc, seed, &mut text, settings, state, trail, envelope, fault,
+    )?;
     Ok(text)
 }
 
 /// What is told of the last envelope, which has the fault.
 fn last_text(
     alloc: Global,
+    seed: RandomState,
     settings: Settings,
     state: &State,
     trail: &Trail,
@@ -106,18 +112,18 @@ fn last_text(
         (IsBad (stream_fault_named fault)) (string_bytes text)) }
 {
     match last {
-        Some(envelope) => envelope_text(alloc, settings, state, trail, envelope, fault),
+        Some(envelope) => envelope_text(alloc, seed, settings, state, trail, envelope, fault),
         None => Err(AllocError),
     }
 }
 
 /// What is told of a run that doesn't end.
-fn end_text(alloc: Global, trail: &Trail) -> Result<String, AllocError>
+fn end_text(alloc: Global, seed: RandomState, trail: &Trail) -> Result<String, AllocError>
     ensures { IfOk result (λ text. (es : List SomeEnvelope) → trail.now ≡ trail_of es
         → IsToldAtEnd es (string_bytes text)) }
 {
     let mut text = String::new(alloc);
-    add_at_end(alloc, &mut text, trail)?;
+    add_at_end(alloc, seed, &mut text, trail)?;
     Ok(text)
 }
 
@@ -134,6 +140,7 @@ fn after_text(alloc: Global, last: &Option<Envelope>) -> Result<String, AllocErr
 /// What is told of a fault.
 fn fault_text(
     alloc: Global,
+    seed: RandomState,
     settings: Settings,
     state: &State,
     trail: &Trail,
@@ -146,14 +153,15 @@ fn fault_text(
     match fault {
         StreamFault::NoEnvelope(_) => Ok(String::new(alloc)),
         StreamFault::AfterRunFinished => after_text(alloc, last),
-        StreamFault::NoRunFinished => end_text(alloc, trail),
-        _ => last_text(alloc, settings, state, trail, last, fault),
+        StreamFault::NoRunFinished => end_text(alloc, seed, trail),
+        _ => last_text(alloc, seed, settings, state, trail, last, fault),
     }
 }
 
 /// What is told of the line that shows why the stream isn't judged.
 fn reason_text(
     alloc: Global,
+    seed: RandomState,
     trail: &Trail,
     last: &Option<Envelope>,
     reason: Reason,
@@ -165,7 +173,7 @@ fn reason_text(
     let Some(envelope) = last else {
         return Err(AllocError);
     };
-    add_reason(alloc, &mut text, trail, envelope, reason)?;
+    add_reason(alloc, seed, &mut text, trail, envelope, reason)?;
     Ok(text)
 }
 
@@ -176,6 +184,7 @@ fn reason_text(
 /// Only where there is no memory for it, or there was none to read the envelope.
 pub fn verdict_told(
     alloc: Global,
+    seed: RandomState,
     settings: Settings,
     state: &State,
     trail: &Trail,
@@ -187,7 +196,7 @@ pub fn verdict_told(
 {
     match verdict {
         Verdict::Good(_) => Ok(String::new(alloc)),
-        Verdict::Bad { fault, .. } => fault_text(alloc, settings, state, trail, last, fault),
-        Verdict::Unsupported { reason, .. } => reason_text(alloc, trail, last, reason),
+        Verdict::Bad { fault, .. } => fault_text(alloc, seed, settings, state, trail, last, fault),
+        Verdict::Unsupported { reason, .. } => reason_text(alloc, seed, trail, last, reason),
     }
 }

@@ -9,13 +9,18 @@ use cm_envelope::{Envelope, Pickle, PickleStep, TestCase, TestStep};
 use gk_document::Text;
 use indexmap::IndexSet;
 use std::alloc::{AllocError, Global};
+use std::hash::RandomState;
 
 /// The first of the ids that stands before in the list.
-fn first_repeat<'a>(alloc: Global, ids: &[&'a str]) -> Result<Option<&'a str>, AllocError>
+fn first_repeat<'a>(
+    alloc: Global,
+    seed: RandomState,
+    ids: &[&'a str],
+) -> Result<Option<&'a str>, AllocError>
     ensures { IfOk result (λ id. option_map (λ t. t.now) id
         ≡ first_repeat (map (λ t. t.now) ids.now)) }
 {
-    let mut seen = IndexSet::with_capacity(alloc, ids.len())?;
+    let mut seen = IndexSet::with_capacity_and_hasher(alloc, ids.len(), seed)?;
     for id in ids {
         let is_new = seen.insert(*id)?;
         if !is_new {
@@ -61,6 +66,7 @@ fn test_step_ids<'a>(alloc: Global, steps: &'a [TestStep]) -> Result<Vec<&'a str
 /// The id of a pickle, or else the first repeated one of its steps.
 fn duplicate_of_pickle<'a>(
     alloc: Global,
+    seed: RandomState,
     state: &State,
     pickle: &'a Pickle,
 ) -> Result<Option<&'a str>, AllocError>
@@ -72,12 +78,13 @@ fn duplicate_of_pickle<'a>(
         return Ok(Some(id));
     }
     let ids = pickle_step_ids(alloc, pickle.steps.as_slice())?;
-    first_repeat(alloc, ids.as_slice())
+    first_repeat(alloc, seed, ids.as_slice())
 }
 
 /// The id of a test case, or else the first repeated one of its steps.
 fn duplicate_of_case<'a>(
     alloc: Global,
+    seed: RandomState,
     state: &State,
     case: &'a TestCase,
 ) -> Result<Option<&'a str>, AllocError>
@@ -89,7 +96,7 @@ fn duplicate_of_case<'a>(
         return Ok(Some(id));
     }
     let ids = test_step_ids(alloc, case.test_steps.as_slice())?;
-    first_repeat(alloc, ids.as_slice())
+    first_repeat(alloc, seed, ids.as_slice())
 }
 
 /// The id that makes an envelope a second declaration. What has one id alone is told by it without a look, since it is asked only
@@ -99,6 +106,7 @@ fn duplicate_of_case<'a>(
 /// Only where there is no memory for the ids.
 pub(crate) fn first_duplicate<'a>(
     alloc: Global,
+    seed: RandomState,
     state: &State,
     envelope: &'a Envelope,
 ) -> Result<Option<&'a str>, AllocError>
@@ -108,10 +116,10 @@ pub(crate) fn first_duplicate<'a>(
     match envelope {
         Envelope::GherkinDocument(document) => {
             let ids = node_ids(alloc, document.ids.as_slice())?;
-            first_repeat(alloc, ids.as_slice())
+            first_repeat(alloc, seed, ids.as_slice())
         }
-        Envelope::Pickle(pickle) => duplicate_of_pickle(alloc, state, pickle),
-        Envelope::TestCase(case) => duplicate_of_case(alloc, state, case),
+        Envelope::Pickle(pickle) => duplicate_of_pickle(alloc, seed, state, pickle),
+        Envelope::TestCase(case) => duplicate_of_case(alloc, seed, state, case),
         Envelope::StepDefinition(definition) => Ok(Some(definition.id.as_str())),
         Envelope::Hook(hook) => Ok(Some(hook.id.as_str())),
         Envelope::TestCaseStarted(started) => Ok(Some(started.id.as_str())),

@@ -16,6 +16,7 @@ use cm_causes::add_truth;
 use cm_envelope::Envelope;
 use cm_reasons::{AddLine, Trail, add_limited, add_refused, add_refused_of, add_run_hook};
 use std::alloc::{AllocError, Global};
+use std::hash::RandomState;
 
 /// Lines of test cases with an open attempt.
 #[derive(Drop)]
@@ -40,14 +41,15 @@ impl<'a, 'b, 'p> AddLine<&'b str> for OpenCaseLines<'a, 'p> {
 /// Only where there is no memory for them.
 pub(crate) fn add_open_cases(
     alloc: Global,
+    seed: RandomState,
     text: &mut String,
     trail: &Trail,
 ) -> Result<(), AllocError>
     ensures { OnOk result ((es : List SomeEnvelope) → trail.now ≡ trail_of es
         → string_bytes text.new ≡ string_bytes text.old ++ open_case_lines es) }
 {
-    let cases = trail.steps().open_cases(alloc)?;
-    let places = trail.places(alloc)?;
+    let cases = trail.steps().open_cases(alloc, seed)?;
+    let places = trail.places(alloc, seed)?;
     let lines = OpenCaseLines { places: &places };
     add_limited(text, &lines, cases.as_slice())
 }
@@ -99,6 +101,7 @@ pub(crate) fn add_refused_at(
 /// Only where there is no memory for it.
 pub(crate) fn add_truth_at(
     alloc: Global,
+    seed: RandomState,
     text: &mut String,
     policy: Policy,
     state: &State,
@@ -113,7 +116,7 @@ pub(crate) fn add_truth_at(
     match envelope {
         Envelope::TestRunFinished(end) => {
             let track = state.attempts();
-            add_truth(alloc, text, trail, track, policy, end.has_exception)
+            add_truth(alloc, seed, text, trail, track, policy, end.has_exception)
         }
         _ => Ok(()),
     }
@@ -123,10 +126,15 @@ pub(crate) fn add_truth_at(
 ///
 /// # Errors
 /// Only where there is no memory for them.
-pub(crate) fn add_at_end(alloc: Global, text: &mut String, trail: &Trail) -> Result<(), AllocError>
+pub(crate) fn add_at_end(
+    alloc: Global,
+    seed: RandomState,
+    text: &mut String,
+    trail: &Trail,
+) -> Result<(), AllocError>
     ensures { OnOk result ((es : List SomeEnvelope) → trail.now ≡ trail_of es
         → Adds (string_bytes text.old) (string_bytes text.new) (IsToldAtEnd es)) }
 {
     add_refused(alloc, text, trail)?;
-    add_open_cases(alloc, text, trail)
+    add_open_cases(alloc, seed, text, trail)
 }

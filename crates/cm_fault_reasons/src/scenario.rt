@@ -9,10 +9,12 @@ ghost use Rattle.cm_fault_reasons.specs.ToldKept.{last_number};
 use cm_envelope::Envelope;
 use cm_reasons::Trail;
 use std::alloc::{AllocError, Global};
+use std::hash::RandomState;
 
 /// Adds `case URI:LINE NAME` of the pickle of an id.
 fn add_of_pickle(
     alloc: Global,
+    seed: RandomState,
     text: &mut String,
     trail: &Trail,
     pickle: &str,
@@ -21,7 +23,7 @@ fn add_of_pickle(
         → string_bytes text.new
         ≡ string_bytes text.old ++ case_line (pickle_scenario es pickle.now)) }
 {
-    let places = trail.places(alloc)?;
+    let places = trail.places(alloc, seed)?;
     text.push_str("case")?;
     places.add_pickle_scenario(text, pickle)?;
     text.push_str("\n")?;
@@ -31,6 +33,7 @@ fn add_of_pickle(
 /// Adds `case URI:LINE NAME` of the test case of an id.
 fn add_of_case(
     alloc: Global,
+    seed: RandomState,
     text: &mut String,
     trail: &Trail,
     case: &str,
@@ -39,7 +42,7 @@ fn add_of_case(
         → string_bytes text.new
         ≡ string_bytes text.old ++ case_line (case_scenario es case.now)) }
 {
-    let places = trail.places(alloc)?;
+    let places = trail.places(alloc, seed)?;
     text.push_str("case")?;
     places.add_case_scenario(text, case)?;
     text.push_str("\n")?;
@@ -59,6 +62,7 @@ fn add_attempt(text: &mut String, number: u64) -> Result<(), AllocError>
 /// Only where there is no memory for it.
 pub(crate) fn add_start(
     alloc: Global,
+    seed: RandomState,
     text: &mut String,
     trail: &Trail,
     case: &str,
@@ -68,7 +72,7 @@ pub(crate) fn add_start(
         → string_bytes text.new
         ≡ string_bytes text.old ++ case_line (case_scenario es case.now) ++ attempt_line number) }
 {
-    add_of_case(alloc, text, trail, case)?;
+    add_of_case(alloc, seed, text, trail, case)?;
     add_attempt(text, number)
 }
 
@@ -78,6 +82,7 @@ pub(crate) fn add_start(
 /// Only where there is no memory for it.
 pub(crate) fn add_declared(
     alloc: Global,
+    seed: RandomState,
     text: &mut String,
     trail: &Trail,
     envelope: &Envelope,
@@ -86,7 +91,13 @@ pub(crate) fn add_declared(
         → string_bytes text.new ≡ string_bytes text.old ++ declared_lines es envelope.now) }
 {
     match envelope {
-        Envelope::TestCase(case) => add_of_pickle(alloc, text, trail, case.pickle_id.as_str()),
+        Envelope::TestCase(case) => add_of_pickle(
+            alloc,
+            seed,
+            text,
+            trail,
+            case.pickle_id.as_str(),
+        ),
         _ => Ok(()),
     }
 }
@@ -97,6 +108,7 @@ pub(crate) fn add_declared(
 /// Only where there is no memory for it.
 pub(crate) fn add_started(
     alloc: Global,
+    seed: RandomState,
     text: &mut String,
     trail: &Trail,
     envelope: &Envelope,
@@ -107,7 +119,7 @@ pub(crate) fn add_started(
     match envelope {
         Envelope::TestCaseStarted(started) => {
             let case = started.test_case_id.as_str();
-            add_start(alloc, text, trail, case, started.attempt)
+            add_start(alloc, seed, text, trail, case, started.attempt)
         }
         _ => Ok(()),
     }
@@ -129,6 +141,7 @@ fn add_number(text: &mut String, first: u64, others: usize) -> Result<(), AllocE
 /// Only where there is no memory for it.
 pub(crate) fn add_misnumbered(
     alloc: Global,
+    seed: RandomState,
     text: &mut String,
     first: u64,
     trail: &Trail,
@@ -141,7 +154,7 @@ pub(crate) fn add_misnumbered(
     match envelope {
         Envelope::TestCaseStarted(start) => {
             let case = start.test_case_id.as_str();
-            add_start(alloc, text, trail, case, start.attempt)?;
+            add_start(alloc, seed, text, trail, case, start.attempt)?;
             let attempts = trail.steps().attempt_count(case);
             add_number(text, first, attempts.saturating_sub(1))
         }

@@ -15,6 +15,7 @@ use cm_audit::State;
 use cm_envelope::Envelope;
 use cm_reasons::{Trail, add_run_hook};
 use std::alloc::{AllocError, Global};
+use std::hash::RandomState;
 
 /// By whether a step is running.
 fn move_word(is_running: bool) -> &'static str
@@ -63,6 +64,7 @@ fn add_if_any(
 /// Adds the test case and the attempt, the step that is due, and the one that is found.
 fn add_order_at(
     alloc: Global,
+    seed: RandomState,
     text: &mut String,
     trail: &Trail,
     attempt: &str,
@@ -77,7 +79,7 @@ fn add_order_at(
     let Some(start) = trail.steps().start(attempt) else {
         return Ok(());
     };
-    add_start(alloc, text, trail, start.case_id, start.number)?;
+    add_start(alloc, seed, text, trail, start.case_id, start.number)?;
     add_if_any(text, trail, "due", start.case_id, due)?;
     add_if_any(text, trail, "found", start.case_id, found)
 }
@@ -93,6 +95,7 @@ fn found(step: &str, is_running: bool) -> Option<DueStep<'_>>
 /// Adds the test case and the attempt, the step that is due of the attempt, and the one that is found.
 fn add_order_of(
     alloc: Global,
+    seed: RandomState,
     text: &mut String,
     state: &State,
     trail: &Trail,
@@ -105,7 +108,7 @@ fn add_order_of(
         attempt.now) }
 {
     let due = state.attempts().due_step(attempt);
-    add_order_at(alloc, text, trail, attempt, &due, &found)
+    add_order_at(alloc, seed, text, trail, attempt, &due, &found)
 }
 
 /// Adds the test case and the attempt that a line names, the step that is due of the attempt, and the one that the line is about.
@@ -114,6 +117,7 @@ fn add_order_of(
 /// Only where there is no memory for it.
 pub(crate) fn add_order(
     alloc: Global,
+    seed: RandomState,
     text: &mut String,
     state: &State,
     trail: &Trail,
@@ -127,16 +131,16 @@ pub(crate) fn add_order(
         Envelope::TestStepStarted(step) => {
             let found = found(step.test_step_id.as_str(), false);
             let attempt = step.test_case_started_id.as_str();
-            add_order_of(alloc, text, state, trail, attempt, found)
+            add_order_of(alloc, seed, text, state, trail, attempt, found)
         }
         Envelope::TestStepFinished(step) => {
             let found = found(step.test_step_id.as_str(), true);
             let attempt = step.test_case_started_id.as_str();
-            add_order_of(alloc, text, state, trail, attempt, found)
+            add_order_of(alloc, seed, text, state, trail, attempt, found)
         }
         Envelope::TestCaseFinished(end) => {
             let attempt = end.test_case_started_id.as_str();
-            add_order_of(alloc, text, state, trail, attempt, None)
+            add_order_of(alloc, seed, text, state, trail, attempt, None)
         }
         _ => Ok(()),
     }
@@ -145,6 +149,7 @@ pub(crate) fn add_order(
 /// Adds the test case and the attempt, and a step of it.
 fn add_status_of(
     alloc: Global,
+    seed: RandomState,
     text: &mut String,
     trail: &Trail,
     attempt: &str,
@@ -157,7 +162,7 @@ fn add_status_of(
     let Some(start) = trail.steps().start(attempt) else {
         return Ok(());
     };
-    add_start(alloc, text, trail, start.case_id, start.number)?;
+    add_start(alloc, seed, text, trail, start.case_id, start.number)?;
     trail.steps().add_named_step(text, start.case_id, step)?;
     text.push_str("\n")?;
     Ok(())
@@ -169,6 +174,7 @@ fn add_status_of(
 /// Only where there is no memory for it.
 pub(crate) fn add_status(
     alloc: Global,
+    seed: RandomState,
     text: &mut String,
     trail: &Trail,
     envelope: &Envelope,
@@ -179,7 +185,14 @@ pub(crate) fn add_status(
     match envelope {
         Envelope::TestStepFinished(step) => {
             let attempt = step.test_case_started_id.as_str();
-            add_status_of(alloc, text, trail, attempt, step.test_step_id.as_str())
+            add_status_of(
+                alloc,
+                seed,
+                text,
+                trail,
+                attempt,
+                step.test_step_id.as_str(),
+            )
         }
         Envelope::TestRunHookFinished(end) => {
             add_run_hook(text, trail, end.test_run_hook_started_id.as_str())

@@ -21,6 +21,7 @@ use cm_envelope::Envelope;
 use cm_reasons::{Trail, add_open_hooks};
 use cm_stream::{Reason, StreamFault};
 use std::alloc::{AllocError, Global};
+use std::hash::RandomState;
 
 /// The uri of the feature file that an envelope is of.
 fn uri_of(envelope: &Envelope) -> Option<Told<'_>>
@@ -53,6 +54,7 @@ fn told_id(id: Option<&str>) -> Option<Told<'_>>
 /// The uri or the id that is told of an envelope that has the fault.
 fn told_at_fault<'a>(
     alloc: Global,
+    seed: RandomState,
     state: &State,
     envelope: &'a Envelope,
     fault: StreamFault,
@@ -63,7 +65,7 @@ fn told_at_fault<'a>(
     match fault {
         StreamFault::DuplicateUri | StreamFault::ParseErrorOfGoodSource => Ok(uri_of(envelope)),
         StreamFault::UnknownReference => Ok(first_unknown(state, envelope)),
-        StreamFault::DuplicateId => Ok(told_id(first_duplicate(alloc, state, envelope)?)),
+        StreamFault::DuplicateId => Ok(told_id(first_duplicate(alloc, seed, state, envelope)?)),
         _ => Ok(None),
     }
 }
@@ -96,6 +98,7 @@ fn add_told(text: &mut String, told: &Option<Told<'_>>) -> Result<(), AllocError
 /// Only where there is no memory for them.
 pub(crate) fn add_lines(
     alloc: Global,
+    seed: RandomState,
     text: &mut String,
     settings: Settings,
     state: &State,
@@ -110,16 +113,16 @@ pub(crate) fn add_lines(
 {
     let first = settings.first_attempt;
     match fault {
-        StreamFault::CaseStepsDiffer => add_declared(alloc, text, trail, envelope),
-        StreamFault::AttemptNumber => add_misnumbered(alloc, text, first, trail, envelope),
-        StreamFault::AttemptOverlap => add_started(alloc, text, trail, envelope),
-        StreamFault::StepOrder => add_order(alloc, text, state, trail, envelope),
-        StreamFault::FinishedEarly => add_order(alloc, text, state, trail, envelope),
-        StreamFault::AttemptOpen => add_open_cases(alloc, text, trail),
-        StreamFault::RunHookOpen => add_open_hooks(alloc, text, trail),
+        StreamFault::CaseStepsDiffer => add_declared(alloc, seed, text, trail, envelope),
+        StreamFault::AttemptNumber => add_misnumbered(alloc, seed, text, first, trail, envelope),
+        StreamFault::AttemptOverlap => add_started(alloc, seed, text, trail, envelope),
+        StreamFault::StepOrder => add_order(alloc, seed, text, state, trail, envelope),
+        StreamFault::FinishedEarly => add_order(alloc, seed, text, state, trail, envelope),
+        StreamFault::AttemptOpen => add_open_cases(alloc, seed, text, trail),
+        StreamFault::RunHookOpen => add_open_hooks(alloc, seed, text, trail),
         StreamFault::RunHookTwice => add_ended_hook(text, trail, envelope),
         _ => {
-            let told = told_at_fault(alloc, state, envelope, fault)?;
+            let told = told_at_fault(alloc, seed, state, envelope, fault)?;
             add_told(text, &told)
         }
     }
@@ -131,6 +134,7 @@ pub(crate) fn add_lines(
 /// Only where there is no memory for it.
 pub(crate) fn add_reason(
     alloc: Global,
+    seed: RandomState,
     text: &mut String,
     trail: &Trail,
     envelope: &Envelope,
@@ -141,7 +145,7 @@ pub(crate) fn add_reason(
         ≡ string_bytes text.old ++ reason_lines reason es envelope.now) }
 {
     match reason {
-        Reason::UnknownStatus => add_status(alloc, text, trail, envelope),
+        Reason::UnknownStatus => add_status(alloc, seed, text, trail, envelope),
         _ => add_told(text, &uri_of(envelope)),
     }
 }

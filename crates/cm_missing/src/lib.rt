@@ -4,11 +4,17 @@
 //! use cm_missing::Missing;
 //! use cm_stream::Conditions;
 //! use std::alloc::{AllocError, Global};
+//! use std::hash::RandomState;
 //!
 //! /// What is missing of a file of which the first scenario ran, and no other one.
-//! fn lines(alloc: Global, text: &str, conditions: &Conditions<'_>) -> Result<String, AllocError> {
+//! fn lines(
+//!     alloc: Global,
+//!     seed: RandomState,
+//!     text: &str,
+//!     conditions: &Conditions<'_>,
+//! ) -> Result<String, AllocError> {
 //!     let mut missing = Missing::new(alloc);
-//!     missing.add_file(alloc, "a.feature", Some(text), conditions, &[true])?;
+//!     missing.add_file(alloc, seed, "a.feature", Some(text), conditions, &[true])?;
 //!     let mut lines = String::new(alloc);
 //!     missing.add_lines(&mut lines)?;
 //!     Ok(lines)
@@ -24,8 +30,6 @@ mod asked;
 mod laws;
 mod missing;
 mod pickle_lines;
-#[cfg(test)]
-mod tests;
 
 pub use laws::{counts_are_determined, each_pickle_has_a_line, missing_lines_are_determined};
 pub use missing::Missing;

@@ -13,13 +13,14 @@ ghost use Rattle.cm_missing.specs.Told.{KeepsMore, line_told, pickles_told, read
 use crate::asked::{flag_at, flags_after, may_be_left_out};
 use crate::pickle_lines::pickle_lines;
 use cm_cases::add_shown;
-use cm_reasons::kind_label;
+use cm_reasons::{add_more, kind_label};
 use cm_stream::Conditions;
 use gk_document::Document;
 use gk_grammar::FaultKind;
 use gk_pickle::{Pickle, ScenarioInFeature, compile_scenario, scenarios};
 use gk_tree::{ParseFault, parse};
 use std::alloc::{AllocError, Global};
+use std::hash::RandomState;
 
 /// How many lines are shown.
 const MOST_LINES: u64 = 100;
@@ -59,15 +60,6 @@ fn sum_of(count: u64, more: u64) -> Result<u64, AllocError>
     ensures { IfOk result (λ sum. sum ≡ count + more) }
 {
     count.checked_add(more).ok_or(AllocError)
-}
-
-/// Adds how many lines more there are.
-fn add_more(text: &mut String, count: u64) -> Result<(), AllocError>
-    requires { count ≢ 0 }
-    ensures { OnOk result
-        (string_bytes text.new ≡ string_bytes text.old ++ more_text count) }
-{
-    write!(text, "and {count} more\n")
 }
 
 /// The fault of a file that is longer than a feature file may be.
@@ -183,6 +175,7 @@ impl Missing {
     fn add_scenario(
         &mut self,
         alloc: Global,
+        seed: RandomState,
         path: &str,
         conditions: &Conditions<'_>,
         scenario: &ScenarioInFeature<'_>,
@@ -193,7 +186,7 @@ impl Missing {
             (pickles_told (conditions_of conditions.now) path.now
             (asked_from flags.now 0 (pickles_of_one scenario.now) (lines_of_one scenario.now)))) }
     {
-        let pickles = compile_scenario(alloc, scenario)?;
+        let pickles = compile_scenario(alloc, seed, scenario)?;
         let lines = pickle_lines(alloc, scenario)?;
         self.add_pickles(
             path,
@@ -209,6 +202,7 @@ impl Missing {
     fn add_document(
         &mut self,
         alloc: Global,
+        seed: RandomState,
         path: &str,
         conditions: &Conditions<'_>,
         document: &Document,
@@ -221,7 +215,7 @@ impl Missing {
         let scenarios = scenarios(alloc, document)?;
         let mut later = flags;
         for scenario in scenarios.as_slice() {
-            let count = self.add_scenario(alloc, path, conditions, scenario, later)?;
+            let count = self.add_scenario(alloc, seed, path, conditions, scenario, later)?;
             later = flags_after(later, count);
         }
         Ok(())
@@ -235,6 +229,7 @@ impl Missing {
     pub fn add_file(
         &mut self,
         alloc: Global,
+        seed: RandomState,
         path: &str,
         text: Option<&str>,
         conditions: &Conditions<'_>,
@@ -249,7 +244,7 @@ impl Missing {
             } ∷ []) self.new) }
     {
         match read_file(alloc, text)? {
-            Ok(document) => self.add_document(alloc, path, conditions, &document, flags),
+            Ok(document) => self.add_document(alloc, seed, path, conditions, &document, flags),
             Err(fault) => self.add_line(path, Finding::Refused(fault)),
         }
     }

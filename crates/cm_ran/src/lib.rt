@@ -4,13 +4,19 @@
 //! use cm_ran::Marks;
 //! use cm_reasons::Trail;
 //! use std::alloc::{AllocError, Global};
+//! use std::hash::RandomState;
 //!
 //! /// Whether the first scenario of the text ran in one of the runs that these trails are of.
-//! fn first_ran(alloc: Global, text: &str, trails: &[Trail]) -> Result<bool, AllocError> {
-//!     let mut marks = Marks::new(alloc);
+//! fn first_ran(
+//!     alloc: Global,
+//!     seed: RandomState,
+//!     text: &str,
+//!     trails: &[Trail],
+//! ) -> Result<bool, AllocError> {
+//!     let mut marks = Marks::new(alloc, seed);
 //!     marks.add(alloc, text)?;
 //!     for trail in trails {
-//!         marks.mark(alloc, trail)?;
+//!         marks.mark(alloc, seed, trail)?;
 //!     }
 //!     Ok(marks.has_run(text, 0))
 //! }

@@ -14,6 +14,7 @@ use crate::rows::{Rows, rows_of};
 use cm_reasons::Trail;
 use indexmap::IndexMap;
 use std::alloc::{AllocError, Global};
+use std::hash::RandomState;
 
 /// Texts, no two the same, and of each by place which of its scenarios ran.
 #[derive(Drop)]
@@ -23,13 +24,13 @@ pub struct Marks<'a> {
 
 impl<'a> Marks<'a> {
     /// No texts. It takes no memory.
-    pub fn new(alloc: Global) -> Marks<'a>
+    pub fn new(alloc: Global, seed: RandomState) -> Marks<'a>
         ensures texts { marked_texts result ≡ [] }
         ensures unmarked { (text : List ℕ) (place : ℕ) → ran result text place ≡ false }
         ensures rows { HasWholeRows result }
     {
         Marks {
-            rows: IndexMap::new(alloc),
+            rows: IndexMap::with_hasher(alloc, seed),
         }
     }
 
@@ -135,7 +136,12 @@ impl<'a> Marks<'a> {
     ///
     /// # Errors
     /// Only where there is no memory for it; then some of it may be marked.
-    pub fn mark(&mut self, alloc: Global, trail: &Trail) -> Result<(), AllocError>
+    pub fn mark(
+        &mut self,
+        alloc: Global,
+        seed: RandomState,
+        trail: &Trail,
+    ) -> Result<(), AllocError>
         ensures texts { marked_texts self.new ≡ marked_texts self.old }
         ensures ok { OnOk result ((es : List SomeEnvelope) → trail.now ≡ trail_of es
             → Marked es self.old self.new) }
@@ -143,7 +149,7 @@ impl<'a> Marks<'a> {
         let pickles = trail.pickle_uris(alloc)?;
         let named = trail.named_pickles(alloc)?;
         let sources = trail.source_texts(alloc)?;
-        let rows = rows_of(alloc, pickles.as_slice(), named.as_slice())?;
+        let rows = rows_of(alloc, seed, pickles.as_slice(), named.as_slice())?;
         self.mark_sources(alloc, sources.as_slice(), &rows)
     }
 }

@@ -4,23 +4,13 @@ ghost use Rattle.std.specs.Str.{bytes_eq};
 ghost use Rattle.cm_cases.specs.Listed.{both_texts};
 ghost use Rattle.cm_ran.specs.Rows.{flags_in, row_at};
 
-use cm_cases::{ByText, Key, firsts_of};
+use cm_cases::{ByText, Whole, firsts_of};
 use indexmap::IndexMap;
 use std::alloc::{AllocError, Global};
+use std::hash::RandomState;
 
 /// Of each text a row of flags.
 pub(crate) type Rows<'a> = ByText<'a, Vec<bool>>;
-
-/// A text itself.
-struct Whole;
-
-impl<'a> Key<&'a str> for Whole {
-    ghost text = { λ t. t.now };
-
-    fn of<'b>(item: &'b &'a str) -> &'b str {
-        item
-    }
-}
 
 /// Adds a flag after the others of the text.
 fn add_flag<'a>(
@@ -42,14 +32,15 @@ fn add_flag<'a>(
 /// ids and uris.
 pub(crate) fn rows_of<'a>(
     alloc: Global,
+    seed: RandomState,
     pickles: &[(&'a str, &'a str)],
     named: &[&'a str],
 ) -> Result<Rows<'a>, AllocError>
     ensures { IfOk result (λ rows. (uri : List ℕ) → row_at rows uri
         ≡ flags_in (map (λ id. id.now) named.now) (map both_texts pickles.now) uri) }
 {
-    let among = firsts_of::<Whole, &str>(alloc, named)?;
-    let mut rows = IndexMap::new(alloc);
+    let among = firsts_of::<Whole, &str>(alloc, seed, named)?;
+    let mut rows = IndexMap::with_hasher(alloc, seed);
     for pickle in pickles {
         let flag = among.contains_key(pickle.0);
         add_flag(alloc, &mut rows, pickle.1, flag)?;

@@ -4,14 +4,20 @@
 //! use cm_envelope::Envelope;
 //! use cm_reasons::{Trail, unrun_text};
 //! use std::alloc::{AllocError, Global};
+//! use std::hash::RandomState;
 //!
 //! /// A line for each of these pickles.
-//! fn lines(alloc: Global, envelopes: &[Envelope], ids: &[&str]) -> Result<String, AllocError> {
+//! fn lines(
+//!     alloc: Global,
+//!     seed: RandomState,
+//!     envelopes: &[Envelope],
+//!     ids: &[&str],
+//! ) -> Result<String, AllocError> {
 //!     let mut trail = Trail::new(alloc);
 //!     for envelope in envelopes {
 //!         trail.note(alloc, envelope)?;
 //!     }
-//!     unrun_text(alloc, &trail, ids)
+//!     unrun_text(alloc, seed, &trail, ids)
 //! }
 //! ```
 //!
@@ -34,7 +40,7 @@ mod words;
 pub use laws::{
     hook_causes_are_of_bad_hooks, refused_lines_are_determined, undefined_steps_are_told,
 };
-pub use lines::{AddLine, add_limited};
+pub use lines::{AddLine, add_limited, add_more};
 pub use refused::{add_refused, add_refused_of};
 pub use run_hooks::{add_hook_causes, add_open_hooks, add_run_hook};
 pub use run_listing::RunListing;

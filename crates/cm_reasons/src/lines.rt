@@ -38,7 +38,10 @@ fn add_each<T, L: AddLine<T>>(text: &mut String, lines: &L, items: &[T]) -> Resu
 }
 
 /// Adds how many lines more there are.
-fn add_more(text: &mut String, count: usize) -> Result<(), AllocError>
+///
+/// # Errors
+/// Only where there is no memory for it.
+pub fn add_more(text: &mut String, count: u64) -> Result<(), AllocError>
     requires { count ≢ 0 }
     ensures { OnOk result
         (string_bytes text.new ≡ string_bytes text.old ++ more_text count) }
@@ -62,5 +65,5 @@ pub fn add_limited<T, L: AddLine<T>>(
         return add_each(text, lines, items);
     }
     add_each(text, lines, &items[..MOST_LINES])?;
-    add_more(text, items.len() - MOST_LINES)
+    add_more(text, (items.len() - MOST_LINES) as u64)
 }

@@ -16,6 +16,7 @@ use cm_attempt::{Policy, Status};
 use cm_cases::{ByText, Key, add_first, add_shown, firsts_of};
 use indexmap::IndexMap;
 use std::alloc::{AllocError, Global};
+use std::hash::RandomState;
 
 /// The run hook that an end names.
 struct EndedHook;
@@ -52,10 +53,14 @@ impl<'a> AddLine<&'a RunHookEntry> for HookLines {
 }
 
 /// The run hooks that aren't finished, in the order of their starts.
-fn open_hooks<'a>(alloc: Global, run: &'a RunListing) -> Result<Vec<&'a RunHookEntry>, AllocError>
+fn open_hooks<'a>(
+    alloc: Global,
+    seed: RandomState,
+    run: &'a RunListing,
+) -> Result<Vec<&'a RunHookEntry>, AllocError>
     ensures { IfOk result (λ found. map (λ h. h.now) found.items ≡ open_entries run.now) }
 {
-    let finished = firsts_of::<EndedHook, RunHookEnd>(alloc, run.ends.as_slice())?;
+    let finished = firsts_of::<EndedHook, RunHookEnd>(alloc, seed, run.ends.as_slice())?;
     let mut unfinished = Vec::new(alloc);
     for hook in run.hooks.as_slice() {
         if !finished.contains_key(hook.id.as_str()) {
@@ -69,11 +74,16 @@ fn open_hooks<'a>(alloc: Global, run: &'a RunListing) -> Result<Vec<&'a RunHookE
 ///
 /// # Errors
 /// Only where there is no memory.
-pub fn add_open_hooks(alloc: Global, text: &mut String, trail: &Trail) -> Result<(), AllocError>
+pub fn add_open_hooks(
+    alloc: Global,
+    seed: RandomState,
+    text: &mut String,
+    trail: &Trail,
+) -> Result<(), AllocError>
     ensures { OnOk result ((es : List SomeEnvelope) → trail.now ≡ trail_of es
         → string_bytes text.new ≡ string_bytes text.old ++ limited (open_hook_lines es)) }
 {
-    let unfinished = open_hooks(alloc, &trail.run)?;
+    let unfinished = open_hooks(alloc, seed, &trail.run)?;
     add_limited(text, &HookLines, unfinished.as_slice())
 }
 
@@ -127,13 +137,14 @@ impl<'a> AddLine<BadHook<'a>> for BadHookLines {
 /// The first status that isn't good of each run hook that ended with one.
 fn bad_ends<'a>(
     alloc: Global,
+    seed: RandomState,
     ends: &'a [RunHookEnd],
     policy: Policy,
 ) -> Result<ByText<'a, Status>, AllocError>
     ensures { IfOk result
         (λ bad. (id : List ℕ) → value_at bad id ≡ bad_end_in policy ends.now id) }
 {
-    let mut bad = IndexMap::new(alloc);
+    let mut bad = IndexMap::with_hasher(alloc, seed);
     for end in ends {
         if !policy.is_good(end.status) {
             add_first(&mut bad, end.run_hook.as_str(), end.status)?;
@@ -145,13 +156,14 @@ fn bad_ends<'a>(
 /// The run hooks that ended with a status that isn't good, in the order of their starts.
 fn bad_hooks<'a>(
     alloc: Global,
+    seed: RandomState,
     run: &'a RunListing,
     policy: Policy,
 ) -> Result<Vec<BadHook<'a>>, AllocError>
     ensures { IfOk result (λ bad. map bad_line bad.items
         ≡ bad_entry_lines policy run.now.ends run.now.hooks) }
 {
-    let ends = bad_ends(alloc, run.ends.as_slice(), policy)?;
+    let ends = bad_ends(alloc, seed, run.ends.as_slice(), policy)?;
     let mut bad = Vec::new(alloc);
     for hook in run.hooks.as_slice() {
         if let Some(status) = ends.get(hook.id.as_str()) {
@@ -168,6 +180,7 @@ fn bad_hooks<'a>(
 /// Only where there is no memory.
 pub fn add_hook_causes(
     alloc: Global,
+    seed: RandomState,
     text: &mut String,
     trail: &Trail,
     policy: Policy,
@@ -175,6 +188,6 @@ pub fn add_hook_causes(
     ensures { OnOk result ((es : List SomeEnvelope) → trail.now ≡ trail_of es
         → string_bytes text.new ≡ string_bytes text.old ++ limited (hook_causes policy es)) }
 {
-    let bad = bad_hooks(alloc, &trail.run, policy)?;
+    let bad = bad_hooks(alloc, seed, &trail.run, policy)?;
     add_limited(text, &BadHookLines, bad.as_slice())
 }

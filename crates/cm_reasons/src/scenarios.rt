@@ -11,6 +11,7 @@ use crate::lines::{AddLine, add_limited};
 use crate::trail::Trail;
 use cm_cases::Places;
 use std::alloc::{AllocError, Global};
+use std::hash::RandomState;
 
 /// Lines of pickles.
 #[derive(Drop)]
@@ -51,6 +52,7 @@ impl<'a, 'b, 'p> AddLine<&'b str> for CaseLines<'a, 'p> {
 /// The lines of pickles, after a word.
 fn pickle_lines(
     alloc: Global,
+    seed: RandomState,
     trail: &Trail,
     word: &str,
     ids: &[&str],
@@ -58,7 +60,7 @@ fn pickle_lines(
     ensures { IfOk result (λ text. (es : List SomeEnvelope) → trail.now ≡ trail_of es
         → string_bytes text ≡ limited (pickle_lines word.now es (map (λ id. id.now) ids.now))) }
 {
-    let places = Places::of(alloc, &trail.listing)?;
+    let places = Places::of(alloc, seed, &trail.listing)?;
     let mut text = String::new(alloc);
     let lines = PickleLines {
         word,
@@ -69,11 +71,17 @@ fn pickle_lines(
 }
 
 /// The lines of test cases, after a word.
-fn case_lines(alloc: Global, trail: &Trail, word: &str, ids: &[&str]) -> Result<String, AllocError>
+fn case_lines(
+    alloc: Global,
+    seed: RandomState,
+    trail: &Trail,
+    word: &str,
+    ids: &[&str],
+) -> Result<String, AllocError>
     ensures { IfOk result (λ text. (es : List SomeEnvelope) → trail.now ≡ trail_of es
         → string_bytes text ≡ limited (case_lines word.now es (map (λ id. id.now) ids.now))) }
 {
-    let places = Places::of(alloc, &trail.listing)?;
+    let places = Places::of(alloc, seed, &trail.listing)?;
     let mut text = String::new(alloc);
     let lines = CaseLines {
         word,
@@ -87,46 +95,66 @@ fn case_lines(alloc: Global, trail: &Trail, word: &str, ids: &[&str]) -> Result<
 ///
 /// # Errors
 /// Only where there is no memory.
-pub fn unrun_text(alloc: Global, trail: &Trail, ids: &[&str]) -> Result<String, AllocError>
+pub fn unrun_text(
+    alloc: Global,
+    seed: RandomState,
+    trail: &Trail,
+    ids: &[&str],
+) -> Result<String, AllocError>
     ensures { IfOk result (λ text. (es : List SomeEnvelope) → trail.now ≡ trail_of es
         → string_bytes text
         ≡ limited (pickle_lines (codes "UNRUN") es (map (λ id. id.now) ids.now))) }
 {
-    pickle_lines(alloc, trail, "UNRUN", ids)
+    pickle_lines(alloc, seed, trail, "UNRUN", ids)
 }
 
 /// The lines of pickles that have more than one attempt.
 ///
 /// # Errors
 /// Only where there is no memory.
-pub fn retried_text(alloc: Global, trail: &Trail, ids: &[&str]) -> Result<String, AllocError>
+pub fn retried_text(
+    alloc: Global,
+    seed: RandomState,
+    trail: &Trail,
+    ids: &[&str],
+) -> Result<String, AllocError>
     ensures { IfOk result (λ text. (es : List SomeEnvelope) → trail.now ≡ trail_of es
         → string_bytes text
         ≡ limited (pickle_lines (codes "RETRIED") es (map (λ id. id.now) ids.now))) }
 {
-    pickle_lines(alloc, trail, "RETRIED", ids)
+    pickle_lines(alloc, seed, trail, "RETRIED", ids)
 }
 
 /// The lines of test cases whose last attempt has a skipped step.
 ///
 /// # Errors
 /// Only where there is no memory.
-pub fn skipped_text(alloc: Global, trail: &Trail, ids: &[&str]) -> Result<String, AllocError>
+pub fn skipped_text(
+    alloc: Global,
+    seed: RandomState,
+    trail: &Trail,
+    ids: &[&str],
+) -> Result<String, AllocError>
     ensures { IfOk result (λ text. (es : List SomeEnvelope) → trail.now ≡ trail_of es
         → string_bytes text
         ≡ limited (case_lines (codes "SKIPPED") es (map (λ id. id.now) ids.now))) }
 {
-    case_lines(alloc, trail, "SKIPPED", ids)
+    case_lines(alloc, seed, trail, "SKIPPED", ids)
 }
 
 /// The lines of test cases whose pickle has no steps.
 ///
 /// # Errors
 /// Only where there is no memory.
-pub fn stepless_text(alloc: Global, trail: &Trail, ids: &[&str]) -> Result<String, AllocError>
+pub fn stepless_text(
+    alloc: Global,
+    seed: RandomState,
+    trail: &Trail,
+    ids: &[&str],
+) -> Result<String, AllocError>
     ensures { IfOk result (λ text. (es : List SomeEnvelope) → trail.now ≡ trail_of es
         → string_bytes text
         ≡ limited (case_lines (codes "STEPLESS") es (map (λ id. id.now) ids.now))) }
 {
-    case_lines(alloc, trail, "STEPLESS", ids)
+    case_lines(alloc, seed, trail, "STEPLESS", ids)
 }

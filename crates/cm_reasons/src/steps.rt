@@ -12,6 +12,7 @@ use crate::trail::Trail;
 use cm_cases::Places;
 use cm_steps::StepListing;
 use std::alloc::{AllocError, Global};
+use std::hash::RandomState;
 
 /// A step of a test case, by the ids of both.
 #[derive(Clone, Copy, Debug, PartialEq, Eq, Hash, Drop)]
@@ -61,13 +62,14 @@ impl<'a, 'b, 'p> AddLine<CaseStep<'b>> for UndefinedLines<'a, 'p> {
 /// Only where there is no memory.
 pub fn undefined_text(
     alloc: Global,
+    seed: RandomState,
     trail: &Trail,
     steps: &[CaseStep<'_>],
 ) -> Result<String, AllocError>
     ensures { IfOk result (λ text. (es : List SomeEnvelope) → trail.now ≡ trail_of es
         → string_bytes text ≡ limited (undefined_lines es (map step_ids steps.now))) }
 {
-    let places = Places::of(alloc, &trail.listing)?;
+    let places = Places::of(alloc, seed, &trail.listing)?;
     let mut text = String::new(alloc);
     let lines = UndefinedLines {
         places: &places,

@@ -11,6 +11,7 @@ use cm_cases::{Listing, Places};
 use cm_envelope::Envelope;
 use cm_steps::StepListing;
 use std::alloc::{AllocError, Global};
+use std::hash::RandomState;
 
 /// What the reasons of a stream name, kept envelope by envelope.
 #[derive(Debug, Drop)]
@@ -88,11 +89,11 @@ impl Trail {
     ///
     /// # Errors
     /// Only where there is no memory for them.
-    pub fn places(&self, alloc: Global) -> Result<Places<'_>, AllocError>
+    pub fn places(&self, alloc: Global, seed: RandomState) -> Result<Places<'_>, AllocError>
         ensures { IfOk result (λ places. (es : List SomeEnvelope) → self.now ≡ trail_of es
             → places ≡ listing_of es) }
     {
-        Places::of(alloc, &self.listing)
+        Places::of(alloc, seed, &self.listing)
     }
 
     /// The uri and the text of each source.

@@ -2,15 +2,15 @@
 use Rattle.std.specs.Prelude.{Bool, List, String, map}
 use Rattle.std.specs.String.{string_bytes}
 use Rattle.std.specs.declared.alloc.Global.{Global}
-use Rattle.indexmap.specs.IndexSet.{IndexSet}
 use Rattle.cm_refs.specs.Declarations.{PickleRow, RunHookRow, Utf8}
+use Rattle.cm_refs.specs.StepIds.{ids_in}
+use Rattle.cm_refs.specs.declared.step_ids.StepIds.{StepIds}
 
-module _ {S : Type 0} where
-  abbrev pub pickle_row : Utf8 → IndexSet (String Global) S → PickleRow
-  pickle_row id steps = record { id = id; steps = map string_bytes steps.keys }
+abbrev pub pickle_row : Utf8 → StepIds → PickleRow
+pickle_row id steps = record { id = id; steps = ids_in steps }
 
-  abbrev pub pickle_rows : List (String Global × IndexSet (String Global) S) → List PickleRow
-  pickle_rows = map (λ e. pickle_row (string_bytes e.0) e.1)
+abbrev pub pickle_rows : List (String Global × StepIds) → List PickleRow
+pickle_rows = map (λ e. pickle_row (string_bytes e.0) e.1)
 
 abbrev pub run_hook_row : Utf8 → Bool → RunHookRow
 run_hook_row id is_finished = record { id = id; is_finished = is_finished }

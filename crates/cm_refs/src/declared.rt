@@ -2,6 +2,7 @@
 ghost use Rattle.std.specs.Prelude.{◌≡◌, IfSome, OnErr, OnOk, is_some, map, option_map};
 ghost use Rattle.std.specs.String.{string_bytes};
 ghost use Rattle.cm_refs.specs.Declarations.{find_pickle, find_run_hook, finish_fault, has_text, name_fault, no_declarations, pickle_fault, steps_of as steps_in};
+ghost use Rattle.cm_refs.specs.StepIds.{ids_in};
 ghost use Rattle.cm_refs.specs.Due.{RefusesExactly, RefusesExactlyUnless, RefusesUnless};
 ghost use Rattle.cm_refs.specs.Declarations.{open_count, run_hook_fault, with_definition, with_document, with_finished_run_hook};
 ghost use Rattle.cm_refs.specs.Declarations.{with_hook, with_pickle, with_run_hook, with_source};
@@ -10,8 +11,10 @@ use crate::fault::RefFault;
 use crate::names::{Names, contains, declare, distinct_texts};
 use crate::pickles::{Pickles, append, has_step, steps_of};
 use crate::run_hooks::{RunHooks, append as append_run_hook, count_open, finish_of, set_finished};
+use crate::step_ids::StepIds;
 use indexmap::{IndexMap, IndexSet};
 use std::alloc::Global;
+use std::hash::RandomState;
 use std::marker::Model;
 
 /// What a stream has declared so far, in the order of declaration: one list of each kind.
@@ -27,6 +30,7 @@ pub struct Declared {
     hooks: Names,
     run_hooks: RunHooks,
     alloc: Global,
+    seed: RandomState,
 }
 
 impl Model for Declared {
@@ -49,17 +53,18 @@ impl Model for Declared {
 
 impl Declared {
     /// Nothing declared yet. It takes no memory.
-    pub fn new(alloc: Global) -> Declared
+    pub fn new(alloc: Global, seed: RandomState) -> Declared
         ensures { result ≡ no_declarations }
     {
         Declared {
-            sources: IndexSet::new(alloc),
-            documents: IndexSet::new(alloc),
-            pickles: IndexMap::new(alloc),
-            definitions: IndexSet::new(alloc),
-            hooks: IndexSet::new(alloc),
-            run_hooks: IndexMap::new(alloc),
+            sources: IndexSet::with_hasher(alloc, seed),
+            documents: IndexSet::with_hasher(alloc, seed),
+            pickles: IndexMap::with_hasher(alloc, seed),
+            definitions: IndexSet::with_hasher(alloc, seed),
+            hooks: IndexSet::with_hasher(alloc, seed),
+            run_hooks: IndexMap::with_hasher(alloc, seed),
             alloc,
+            seed,
         }
     }
 
@@ -108,7 +113,7 @@ impl Declared {
         if steps_of(&self.pickles, id.as_str()).is_some() {
             return Err(RefFault::DuplicateId);
         }
-        let Some(steps) = distinct_texts(self.alloc, steps)? else {
+        let Some(steps) = distinct_texts(self.alloc, self.seed, steps)? else {
             return Err(RefFault::DuplicateId);
         };
         append(&mut self.pickles, id, steps)?;
@@ -220,14 +225,11 @@ impl Declared {
     }
 
     /// The step ids of a declared pickle, in their order.
-    pub fn pickle(&self, id: &str) -> Option<&[String]>
-        ensures { option_map (λ steps. map string_bytes steps.now) result
+    pub fn pickle(&self, id: &str) -> Option<&StepIds>
+        ensures { option_map (λ steps. ids_in steps.now) result
             ≡ option_map (λ p. p.steps) (find_pickle self.now id.now) }
     {
-        match steps_of(&self.pickles, id) {
-            Some(steps) => Some(steps.as_slice()),
-            None => None,
-        }
+        steps_of(&self.pickles, id)
     }
 
     /// Whether the pickle is declared and has the step.

@@ -4,9 +4,10 @@
 //! ```
 //! use cm_refs::{Declared, RefFault};
 //! use std::alloc::Global;
+//! use std::hash::RandomState;
 //!
-//! fn has_first_step(alloc: Global, steps: Vec<String>) -> Result<bool, RefFault> {
-//!     let mut declared = Declared::new(alloc);
+//! fn has_first_step(alloc: Global, seed: RandomState, steps: Vec<String>) -> Result<bool, RefFault> {
+//!     let mut declared = Declared::new(alloc, seed);
 //!     declared.declare_source("a.feature")?;
 //!     declared.declare_pickle(String::from_str(alloc, "pickle-1")?, steps)?;
 //!     Ok(declared.has_source("a.feature") && declared.has_step("pickle-1", "step-1"))
@@ -22,7 +23,9 @@ mod fault;
 mod names;
 mod pickles;
 mod run_hooks;
+mod step_ids;
 
 pub use declared::Declared;
 pub use fault::RefFault;
-pub use names::distinct_texts;
+pub use names::{Names, distinct_texts};
+pub use step_ids::StepIds;

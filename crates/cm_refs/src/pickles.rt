@@ -6,14 +6,15 @@ ghost use Rattle.std.specs.String.{string_bytes};
 ghost use Rattle.cm_refs.specs.Declarations.{has_text};
 ghost use Rattle.cm_refs.specs.Rows.{pickle_row, pickle_rows};
 
-use crate::names::{Names, contains};
+use crate::step_ids::StepIds;
 use indexmap::IndexMap;
 use std::alloc::AllocError;
+use std::hash::RandomState;
 
-pub(crate) type Pickles = IndexMap<String, Names>;
+pub(crate) type Pickles = IndexMap<String, StepIds, RandomState>;
 
 /// The step ids of the pickle.
-pub(crate) fn steps_of<'a>(pickles: &'a Pickles, id: &str) -> Option<&'a Names>
+pub(crate) fn steps_of<'a>(pickles: &'a Pickles, id: &str) -> Option<&'a StepIds>
     ensures { option_map (λ steps. pickle_row id.now steps.now) result
         ≡ find (λ p. bytes_eq id.now p.id) (pickle_rows pickles.now.entries) }
 {
@@ -27,13 +28,13 @@ pub(crate) fn has_step(pickles: &Pickles, id: &str, step: &str) -> bool
         (find (λ p. bytes_eq id.now p.id) (pickle_rows pickles.now.entries)) []) }
 {
     match steps_of(pickles, id) {
-        Some(steps) => contains(steps, step),
+        Some(steps) => steps.contains(step),
         None => false,
     }
 }
 
 /// Appends a pickle whose id is new.
-pub(crate) fn append(pickles: &mut Pickles, id: String, steps: Names) -> Result<(), AllocError>
+pub(crate) fn append(pickles: &mut Pickles, id: String, steps: StepIds) -> Result<(), AllocError>
     requires { find (λ p. bytes_eq (string_bytes id) p.id) (pickle_rows pickles.old.entries)
         ≡ None }
     ensures ok { OnOk result (pickle_rows pickles.new.entries

@@ -7,8 +7,9 @@ ghost use Rattle.cm_refs.specs.Rows.{run_hook_row, run_hook_rows};
 
 use indexmap::IndexMap;
 use std::alloc::{AllocError, Global};
+use std::hash::RandomState;
 
-pub(crate) type RunHooks = IndexMap<String, bool>;
+pub(crate) type RunHooks = IndexMap<String, bool, RandomState>;
 
 /// Whether the run hook is finished.
 pub(crate) fn finish_of<'a>(run_hooks: &'a RunHooks, id: &str) -> Option<&'a bool>

@@ -12,15 +12,16 @@ ghost use Rattle.cm_release.specs.Found.{IsFoundIn};
 ghost use Rattle.cm_release.specs.declared.kept.Kept.{Kept as SomeKept};
 
 use crate::kept::{CaseEntry, Kept, PickleEntry, StartEntry};
-use crate::texts::{CaseId, CasePickle, PickleId, TextSet, Whole};
+use crate::texts::TextSet;
 use crate::undefined::Undefined;
 use cm_attempt::Policy;
-use cm_cases::{ByText, firsts_of};
+use cm_cases::{ByText, CaseId, CasePickle, PickleId, Whole, firsts_of};
 use cm_reasons::CaseStep;
 use cm_stream::{Conditions, ReleaseCounts};
 use gk_document::Text;
 use indexmap::IndexMap;
 use std::alloc::{AllocError, Global};
+use std::hash::RandomState;
 
 // ---- missed
 
@@ -66,6 +67,7 @@ fn unnamed_of<'a>(
 /// The ids of the pickles that are missed. Of a part none is.
 fn missed_of<'a>(
     alloc: Global,
+    seed: RandomState,
     conditions: &Conditions<'_>,
     kept: &'a Kept,
 ) -> Result<Vec<&'a str>, AllocError>
@@ -75,8 +77,8 @@ fn missed_of<'a>(
     if conditions.is_part || conditions.allows_unrun {
         return Ok(Vec::new(alloc));
     }
-    let named = firsts_of::<CasePickle, CaseEntry>(alloc, kept.cases.as_slice())?;
-    let allowed = firsts_of::<Whole, &str>(alloc, conditions.allowed_tags.as_slice())?;
+    let named = firsts_of::<CasePickle, CaseEntry>(alloc, seed, kept.cases.as_slice())?;
+    let allowed = firsts_of::<Whole, &str>(alloc, seed, conditions.allowed_tags.as_slice())?;
     unnamed_of(alloc, &named, &allowed, kept.pickles.as_slice())
 }
 
@@ -94,12 +96,16 @@ fn note_again<'a>(seen: &mut ByText<'a, bool>, text: &'a str) -> Result<(), Allo
 }
 
 /// Of each pickle with an attempt, whether it has more than one.
-fn attempts_of<'a>(alloc: Global, kept: &'a Kept) -> Result<ByText<'a, bool>, AllocError>
+fn attempts_of<'a>(
+    alloc: Global,
+    seed: RandomState,
+    kept: &'a Kept,
+) -> Result<ByText<'a, bool>, AllocError>
     ensures { IfOk result (λ seen. (pickle : List ℕ) → value_at seen pickle
         ≡ some_or_more (attempts_in kept.now.cases pickle kept.now.starts)) }
 {
-    let cases = firsts_of::<CaseId, CaseEntry>(alloc, kept.cases.as_slice())?;
-    let mut seen = IndexMap::new(alloc);
+    let cases = firsts_of::<CaseId, CaseEntry>(alloc, seed, kept.cases.as_slice())?;
+    let mut seen = IndexMap::with_hasher(alloc, seed);
     for start in kept.starts.as_slice() {
         if let Some(case) = cases.get(start.case_id.as_str()) {
             note_again(&mut seen, case.pickle_id.as_str())?;
@@ -137,10 +143,14 @@ fn again_of<'a>(
 }
 
 /// The ids of the pickles that have more than one attempt.
-fn retried_of<'a>(alloc: Global, kept: &'a Kept) -> Result<Vec<&'a str>, AllocError>
+fn retried_of<'a>(
+    alloc: Global,
+    seed: RandomState,
+    kept: &'a Kept,
+) -> Result<Vec<&'a str>, AllocError>
     ensures { IfOk result (λ ids. texts_of ids.items ≡ retried_in kept.now) }
 {
-    let seen = attempts_of(alloc, kept)?;
+    let seen = attempts_of(alloc, seed, kept)?;
     again_of(alloc, &seen, kept.pickles.as_slice())
 }
 
@@ -149,12 +159,13 @@ fn retried_of<'a>(alloc: Global, kept: &'a Kept) -> Result<Vec<&'a str>, AllocEr
 /// The last attempt of each case.
 fn lasts_of<'a>(
     alloc: Global,
+    seed: RandomState,
     starts: &'a [StartEntry],
 ) -> Result<ByText<'a, &'a StartEntry>, AllocError>
     ensures { IfOk result (λ lasts. (case : List ℕ)
         → option_map (λ s. s.now) (value_at lasts case) ≡ last_start starts.now case) }
 {
-    let mut lasts = IndexMap::new(alloc);
+    let mut lasts = IndexMap::with_hasher(alloc, seed);
     for start in starts {
         lasts.insert(start.case_id.as_str(), start)?;
     }
@@ -193,11 +204,15 @@ fn last_among<'a>(
 }
 
 /// The ids of the cases that have a skipped step in their last attempt.
-fn skipped_of<'a>(alloc: Global, kept: &'a Kept) -> Result<Vec<&'a str>, AllocError>
+fn skipped_of<'a>(
+    alloc: Global,
+    seed: RandomState,
+    kept: &'a Kept,
+) -> Result<Vec<&'a str>, AllocError>
     ensures { IfOk result (λ ids. texts_of ids.items ≡ skipped_in kept.now) }
 {
-    let lasts = lasts_of(alloc, kept.starts.as_slice())?;
-    let skips = TextSet::of(alloc, kept.skips.as_slice())?;
+    let lasts = lasts_of(alloc, seed, kept.starts.as_slice())?;
+    let skips = TextSet::of(alloc, seed, kept.skips.as_slice())?;
     last_among(alloc, &lasts, &skips, kept.cases.as_slice())
 }
 
@@ -234,10 +249,14 @@ fn of_stepless<'a>(
 }
 
 /// The ids of the cases that are of a pickle without steps.
-fn stepless_of<'a>(alloc: Global, kept: &'a Kept) -> Result<Vec<&'a str>, AllocError>
+fn stepless_of<'a>(
+    alloc: Global,
+    seed: RandomState,
+    kept: &'a Kept,
+) -> Result<Vec<&'a str>, AllocError>
     ensures { IfOk result (λ ids. texts_of ids.items ≡ stepless_in kept.now) }
 {
-    let pickles = firsts_of::<PickleId, PickleEntry>(alloc, kept.pickles.as_slice())?;
+    let pickles = firsts_of::<PickleId, PickleEntry>(alloc, seed, kept.pickles.as_slice())?;
     of_stepless(alloc, &pickles, kept.cases.as_slice())
 }
 
@@ -258,18 +277,19 @@ impl<'a> Found<'a> {
     /// What is found in what was kept.
     pub(crate) fn of(
         alloc: Global,
+        seed: RandomState,
         conditions: &Conditions<'_>,
         policy: Policy,
         kept: &'a Kept,
     ) -> Result<Found<'a>, AllocError>
         ensures { IfOk result (IsFoundIn (conditions_of conditions.now) policy kept.now) }
     {
-        let Undefined { count, steps } = Undefined::of(alloc, policy, kept)?;
+        let Undefined { count, steps } = Undefined::of(alloc, seed, policy, kept)?;
         Ok(Found {
-            missed: missed_of(alloc, conditions, kept)?,
-            retried: retried_of(alloc, kept)?,
-            skipped: skipped_of(alloc, kept)?,
-            stepless: stepless_of(alloc, kept)?,
+            missed: missed_of(alloc, seed, conditions, kept)?,
+            retried: retried_of(alloc, seed, kept)?,
+            skipped: skipped_of(alloc, seed, kept)?,
+            stepless: stepless_of(alloc, seed, kept)?,
             undefined: count,
             undefined_steps: steps,
         })

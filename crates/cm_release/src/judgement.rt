@@ -18,6 +18,7 @@ use cm_causes::add_causes;
 use cm_reasons::{Trail, retried_text, skipped_text, stepless_text, undefined_text, unrun_text};
 use cm_stream::{Conditions, Counts, Hold, ReleaseCounts};
 use std::alloc::{AllocError, Global};
+use std::hash::RandomState;
 
 /// What is counted of a good run for its release, why it isn't to be released, and the lines below that; of a stream that isn't
 /// good the lines alone.
@@ -64,6 +65,7 @@ fn hold_of(
 /// Why a run isn't successful.
 fn causes_of(
     alloc: Global,
+    seed: RandomState,
     trail: &Trail,
     track: &Track,
     policy: Policy,
@@ -74,13 +76,14 @@ fn causes_of(
 {
     let mut text = String::new(alloc);
     let has_exception = trail.has_exception();
-    add_causes(alloc, &mut text, trail, track, policy, has_exception)?;
+    add_causes(alloc, seed, &mut text, trail, track, policy, has_exception)?;
     Ok(text)
 }
 
 /// The lines below that of a hold.
 fn reasons_of(
     alloc: Global,
+    seed: RandomState,
     trail: &Trail,
     track: &Track,
     policy: Policy,
@@ -91,12 +94,17 @@ fn reasons_of(
         (string_bytes text)) }
 {
     match hold {
-        Some(Hold::NotSuccessful) => causes_of(alloc, trail, track, policy),
-        Some(Hold::Unrun) => unrun_text(alloc, trail, found.missed.as_slice()),
-        Some(Hold::Retried) => retried_text(alloc, trail, found.retried.as_slice()),
-        Some(Hold::Skipped) => skipped_text(alloc, trail, found.skipped.as_slice()),
-        Some(Hold::Stepless) => stepless_text(alloc, trail, found.stepless.as_slice()),
-        Some(Hold::Undefined) => undefined_text(alloc, trail, found.undefined_steps.as_slice()),
+        Some(Hold::NotSuccessful) => causes_of(alloc, seed, trail, track, policy),
+        Some(Hold::Unrun) => unrun_text(alloc, seed, trail, found.missed.as_slice()),
+        Some(Hold::Retried) => retried_text(alloc, seed, trail, found.retried.as_slice()),
+        Some(Hold::Skipped) => skipped_text(alloc, seed, trail, found.skipped.as_slice()),
+        Some(Hold::Stepless) => stepless_text(alloc, seed, trail, found.stepless.as_slice()),
+        Some(Hold::Undefined) => undefined_text(
+            alloc,
+            seed,
+            trail,
+            found.undefined_steps.as_slice(),
+        ),
         Some(Hold::Empty) | None => Ok(String::new(alloc)),
     }
 }
@@ -109,6 +117,7 @@ impl Judgement {
     /// Only where there is no memory for the maps by which it is counted, or for the lines.
     pub fn of(
         alloc: Global,
+        seed: RandomState,
         conditions: &Conditions<'_>,
         settings: Settings,
         tally: &Tally,
@@ -121,11 +130,17 @@ impl Judgement {
             → IsJudged settings (conditions_of conditions.now) es success counts
             judgement.found judgement.hold (string_bytes judgement.reasons)) }
     {
-        let found = Found::of(alloc, conditions, settings.policy, &tally.keeping.kept)?;
+        let found = Found::of(
+            alloc,
+            seed,
+            conditions,
+            settings.policy,
+            &tally.keeping.kept,
+        )?;
         let counted = found.counts();
         let hold = hold_of(conditions, success, counts, counted);
         let trail = &tally.trail;
-        let reasons = reasons_of(alloc, trail, track, settings.policy, &found, hold)?;
+        let reasons = reasons_of(alloc, seed, trail, track, settings.policy, &found, hold)?;
         Ok(Judgement {
             found: counted,
             hold,

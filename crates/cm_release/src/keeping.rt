@@ -10,16 +10,21 @@ use cm_envelope::{Envelope, Status, TestCase, TestStepFinished};
 use gk_document::Text;
 use indexmap::IndexSet;
 use std::alloc::{AllocError, Global};
+use std::hash::RandomState;
 
 /// What is kept of the envelopes so far, and the ids of the unmatched steps among them.
 #[derive(Drop)]
 pub(crate) struct Keeping {
     pub(crate) kept: Kept,
-    pub(crate) unmatched: IndexSet<String>,
+    pub(crate) unmatched: IndexSet<String, RandomState>,
 }
 
 /// Adds an id, where it isn't there yet.
-fn add_id(ids: &mut IndexSet<String>, alloc: Global, id: &Text) -> Result<(), AllocError>
+fn add_id(
+    ids: &mut IndexSet<String, RandomState>,
+    alloc: Global,
+    id: &Text,
+) -> Result<(), AllocError>
     ensures { OnOk result ((text : List ℕ) → has_text text (map string_bytes ids.new.keys)
         ≡ has_text text (map string_bytes ids.old.keys ++ id.now ∷ [])) }
 {
@@ -29,7 +34,11 @@ fn add_id(ids: &mut IndexSet<String>, alloc: Global, id: &Text) -> Result<(), Al
 }
 
 /// Adds ids, each where it isn't there yet.
-fn add_ids(ids: &mut IndexSet<String>, alloc: Global, added: &[Text]) -> Result<(), AllocError>
+fn add_ids(
+    ids: &mut IndexSet<String, RandomState>,
+    alloc: Global,
+    added: &[Text],
+) -> Result<(), AllocError>
     ensures { OnOk result ((text : List ℕ) → has_text text (map string_bytes ids.new.keys)
         ≡ has_text text (map string_bytes ids.old.keys ++ added.now)) }
 {
@@ -41,12 +50,12 @@ fn add_ids(ids: &mut IndexSet<String>, alloc: Global, added: &[Text]) -> Result<
 
 impl Keeping {
     /// That of no envelope. It takes no memory.
-    pub(crate) fn new(alloc: Global) -> Keeping
+    pub(crate) fn new(alloc: Global, seed: RandomState) -> Keeping
         ensures { Keeps result.kept result.unmatched [] }
     {
         Keeping {
             kept: Kept::new(alloc),
-            unmatched: IndexSet::new(alloc),
+            unmatched: IndexSet::with_hasher(alloc, seed),
         }
     }
 
@@ -64,7 +73,7 @@ impl Keeping {
 }
 
 /// Whether the id is among these. In an empty set nothing is looked up.
-fn contains(ids: &IndexSet<String>, id: &str) -> bool
+fn contains(ids: &IndexSet<String, RandomState>, id: &str) -> bool
     ensures { result ≡ has_text id.now (map string_bytes ids.now.keys) }
 {
     !ids.is_empty() && ids.contains(id)
@@ -74,7 +83,7 @@ fn contains(ids: &IndexSet<String>, id: &str) -> bool
 fn note_pass(
     alloc: Global,
     kept: &mut Kept,
-    unmatched: &IndexSet<String>,
+    unmatched: &IndexSet<String, RandomState>,
     finish: &TestStepFinished,
     is_pending: bool,
 ) -> Result<(), AllocError>
@@ -97,7 +106,7 @@ fn note_pass(
 fn note_finish(
     alloc: Global,
     kept: &mut Kept,
-    unmatched: &IndexSet<String>,
+    unmatched: &IndexSet<String, RandomState>,
     finish: &TestStepFinished,
 ) -> Result<(), AllocError>
     ensures { OnOk result (kept.new ≡ record kept.old {

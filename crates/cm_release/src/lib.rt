@@ -6,10 +6,12 @@
 //! use cm_release::{Judgement, Tally};
 //! use cm_stream::{Audited, Conditions, Verdict};
 //! use std::alloc::{AllocError, Global};
+//! use std::hash::RandomState;
 //!
 //! /// The judgement of a stream that was audited, if it is good.
 //! fn judged(
 //!     alloc: Global,
+//!     seed: RandomState,
 //!     conditions: &Conditions<'_>,
 //!     settings: Settings,
 //!     envelopes: &[Envelope],
@@ -19,12 +21,12 @@
 //!     let Verdict::Good(counts) = audited.verdict else {
 //!         return Ok(None);
 //!     };
-//!     let mut tally = Tally::new(alloc);
+//!     let mut tally = Tally::new(alloc, seed);
 //!     for envelope in envelopes {
 //!         tally.note(alloc, envelope)?;
 //!     }
 //!     let success = audited.success;
-//!     Judgement::of(alloc, conditions, settings, &tally, track, success, counts).map(Some)
+//!     Judgement::of(alloc, seed, conditions, settings, &tally, track, success, counts).map(Some)
 //! }
 //! ```
 //!

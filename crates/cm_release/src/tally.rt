@@ -7,6 +7,7 @@ use crate::keeping::Keeping;
 use cm_envelope::Envelope;
 use cm_reasons::Trail;
 use std::alloc::{AllocError, Global};
+use std::hash::RandomState;
 
 /// What a release is judged by, and what its reasons name, kept envelope by envelope.
 #[derive(Drop)]
@@ -17,11 +18,11 @@ pub struct Tally {
 
 impl Tally {
     /// That of no envelope. It takes no memory.
-    pub fn new(alloc: Global) -> Tally
+    pub fn new(alloc: Global, seed: RandomState) -> Tally
         ensures { IsTallyOf result [] }
     {
         Tally {
-            keeping: Keeping::new(alloc),
+            keeping: Keeping::new(alloc, seed),
             trail: Trail::new(alloc),
         }
     }

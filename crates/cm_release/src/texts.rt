@@ -4,13 +4,11 @@ ghost use Rattle.std.specs.List.{list_any};
 ghost use Rattle.std.specs.Str.{bytes_eq};
 
 use crate::kept::{CaseEntry, PickleEntry, StartEntry};
-use cm_cases::{ByText, Key, firsts_of};
+use cm_cases::{ByText, CaseId, CasePickle, Key, PickleId, Whole, firsts_of};
 use gk_document::Text;
 use std::alloc::{AllocError, Global};
+use std::hash::RandomState;
 use std::marker::Model;
-
-/// The id of a pickle.
-pub(crate) struct PickleId;
 
 impl Key<PickleEntry> for PickleId {
     ghost text = { λ p. p.id };
@@ -20,9 +18,6 @@ impl Key<PickleEntry> for PickleId {
     }
 }
 
-/// The id of a case.
-pub(crate) struct CaseId;
-
 impl Key<CaseEntry> for CaseId {
     ghost text = { λ c. c.id };
 
@@ -30,9 +25,6 @@ impl Key<CaseEntry> for CaseId {
         item.id.as_str()
     }
 }
-
-/// The pickle that a case names.
-pub(crate) struct CasePickle;
 
 impl Key<CaseEntry> for CasePickle {
     ghost text = { λ c. c.pickle_id };
@@ -50,25 +42,6 @@ impl Key<StartEntry> for StartId {
 
     fn of(item: &StartEntry) -> &str {
         item.id.as_str()
-    }
-}
-
-/// A text itself.
-pub(crate) struct Whole;
-
-impl Key<Text> for Whole {
-    ghost text = { λ t. t };
-
-    fn of(item: &Text) -> &str {
-        item.as_str()
-    }
-}
-
-impl<'a> Key<&'a str> for Whole {
-    ghost text = { λ t. t.now };
-
-    fn of<'b>(item: &'b &'a str) -> &'b str {
-        item
     }
 }
 
@@ -92,10 +65,14 @@ impl<'a> Model for TextSet<'a> {
 
 impl<'a> TextSet<'a> {
     /// A set of these.
-    pub(crate) fn of(alloc: Global, texts: &'a [Text]) -> Result<TextSet<'a>, AllocError>
+    pub(crate) fn of(
+        alloc: Global,
+        seed: RandomState,
+        texts: &'a [Text],
+    ) -> Result<TextSet<'a>, AllocError>
         ensures { IfOk result (λ set. set ≡ texts.now) }
     {
-        let by_text = firsts_of::<Whole, Text>(alloc, texts)?;
+        let by_text = firsts_of::<Whole, Text>(alloc, seed, texts)?;
         Ok(TextSet { texts, by_text })
     }
 

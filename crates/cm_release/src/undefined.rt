@@ -14,17 +14,19 @@ use cm_cases::{ByText, add_first, firsts_of};
 use cm_reasons::CaseStep;
 use indexmap::{IndexMap, IndexSet};
 use std::alloc::{AllocError, Global};
+use std::hash::RandomState;
 
 /// The unmatched steps of each case.
 fn unmatched_by_case<'a>(
     alloc: Global,
+    seed: RandomState,
     cases: &'a [CaseEntry],
 ) -> Result<ByText<'a, TextSet<'a>>, AllocError>
     ensures { IfOk result (λ m. HasFirsts (λ s. s) (λ c. c.unmatched) (λ c. c.id) cases.now m) }
 {
-    let mut map = IndexMap::new(alloc);
+    let mut map = IndexMap::with_hasher(alloc, seed);
     for case in cases {
-        let unmatched = TextSet::of(alloc, case.unmatched.as_slice())?;
+        let unmatched = TextSet::of(alloc, seed, case.unmatched.as_slice())?;
         add_first(&mut map, case.id.as_str(), unmatched)?;
     }
     Ok(map)
@@ -94,7 +96,7 @@ fn count_passed(
 // ---- which steps
 
 /// Steps of cases, each once.
-type CaseSteps<'a> = IndexSet<CaseStep<'a>>;
+type CaseSteps<'a> = IndexSet<CaseStep<'a>, RandomState>;
 
 /// Adds a step of a case, where it isn't there yet.
 fn add_step<'a>(steps: &mut CaseSteps<'a>, case: &'a str, step: &'a str) -> Result<(), AllocError>
@@ -125,6 +127,7 @@ fn add_ended<'a>(
 /// The steps that passed, and are unmatched ones of the cases of their attempts.
 fn passed_steps<'a>(
     alloc: Global,
+    seed: RandomState,
     starts: &ByText<'_, &'a StartEntry>,
     cases: &ByText<'_, TextSet<'_>>,
     policy: Policy,
@@ -134,7 +137,7 @@ fn passed_steps<'a>(
         ≡ list_any (λ f. is_undefined_by starts.now cases.now policy f
         && is_end_by starts.now test_case id f) finishes.now) }
 {
-    let mut steps = IndexSet::new(alloc);
+    let mut steps = IndexSet::with_hasher(alloc, seed);
     for finish in finishes {
         if is_undefined(starts, cases, policy, finish) {
             add_ended(&mut steps, starts, finish)?;
@@ -199,6 +202,7 @@ impl<'a> Undefined<'a> {
     /// Those of what was kept.
     pub(crate) fn of(
         alloc: Global,
+        seed: RandomState,
         policy: Policy,
         kept: &'a Kept,
     ) -> Result<Undefined<'a>, AllocError>
@@ -213,10 +217,10 @@ impl<'a> Undefined<'a> {
                 steps: Vec::new(alloc),
             });
         }
-        let starts = firsts_of::<StartId, StartEntry>(alloc, kept.starts.as_slice())?;
-        let cases = unmatched_by_case(alloc, kept.cases.as_slice())?;
+        let starts = firsts_of::<StartId, StartEntry>(alloc, seed, kept.starts.as_slice())?;
+        let cases = unmatched_by_case(alloc, seed, kept.cases.as_slice())?;
         let finishes = kept.finishes.as_slice();
-        let passed = passed_steps(alloc, &starts, &cases, policy, finishes)?;
+        let passed = passed_steps(alloc, seed, &starts, &cases, policy, finishes)?;
         Ok(Undefined {
             count: count_passed(&starts, &cases, policy, finishes),
             steps: steps_of_cases(alloc, &passed, kept.cases.as_slice())?,

@@ -1,44 +1,80 @@
 //! What is told at the end of a run of the first source of which something didn't come.
-ghost use Rattle.std.specs.Prelude.{◌≡◌, ◌++◌, List, [], OnOk, Some, None, codes, find, if◌then◌else◌, map, option_map, string_bytes};
+ghost use Rattle.std.specs.Prelude.{◌≡◌, ◌++◌, List, [], IfOk, OnOk, Some, None, find, if◌then◌else◌, map, option_map, string_bytes};
 ghost use Rattle.cm_cases.specs.Listed.{listing_of};
 ghost use Rattle.cm_envelope.specs.declared.envelope.Envelope.{Envelope as SomeEnvelope};
 ghost use Rattle.cm_state.specs.StateChecks.{lacks_by};
 ghost use Rattle.cm_audit.specs.Kept.{kept_row};
 ghost use Rattle.cm_audit.specs.State.{summary_of};
 ghost use Rattle.cm_source_reasons.specs.SourceKept.{lack_lines, lack_lines_by};
-ghost use Rattle.cm_source_reasons.specs.SourceReasons.{due_scenario, missing_document, missing_pickles};
+ghost use Rattle.cm_source_reasons.specs.MissingPickles.{missing_line, name_and_node, told_of};
+ghost use Rattle.cm_source_reasons.specs.SourceReasons.{missing_document, missing_pickles};
 
-use crate::pickle_reason::add_due_scenario;
+use crate::pickle_reason::last_node;
 use crate::sides::add_uri;
-use cm_audit::{KeptSource, Sources, State};
+use cm_audit::{DuePickles, KeptSource, Sources, State};
 use cm_cases::Places;
 use cm_reasons::{AddLine, add_limited};
 use gk_document::Text;
 use gk_pickle::Pickle as DuePickle;
 use std::alloc::{AllocError, Global};
+use std::hash::RandomState;
 
-/// Lines of pickles of a source that didn't come.
+/// What is told of a pickle that didn't come: its name, and the id of the last of the nodes that it is made of.
+#[derive(Drop)]
+struct MissingPickle<'a> {
+    name: Text,
+    node: &'a str,
+}
+
+/// Lines of such pickles.
 #[derive(Drop)]
 struct MissingLines<'a, 'p> {
     uri: &'a str,
-    ids: &'a [Text],
     places: &'a Places<'p>,
 }
 
-impl<'a, 'b, 'p> AddLine<&'b DuePickle> for MissingLines<'a, 'p> {
+impl<'a, 'b, 'p> AddLine<MissingPickle<'b>> for MissingLines<'a, 'p> {
     ghost of = { λ s es. s.places.now ≡ listing_of es };
 
-    ghost line = { λ s es due. codes "missing" ++ due_scenario es s.uri.now s.ids.now due.now };
+    ghost line = { λ s es missing. missing_line es s.uri.now (told_of missing) };
 
-    fn add(&self, text: &mut String, item: &&'b DuePickle) -> Result<(), AllocError> {
+    fn add(&self, text: &mut String, item: &MissingPickle<'b>) -> Result<(), AllocError> {
         text.push_str("missing")?;
-        add_due_scenario(text, self.places, self.uri, self.ids, item)
+        self.places
+            .add_place(text, self.uri, item.name.as_str(), item.node)
     }
+}
+
+/// What is told of a pickle that is due. `ids` are those that the stream's document gives its nodes, by their numbers.
+fn missing_pickle(ids: &[Text], due: DuePickle) -> MissingPickle<'_>
+    ensures { told_of result ≡ name_and_node ids.now due }
+{
+    let node = last_node(ids, &due);
+    let DuePickle { name, .. } = due;
+    MissingPickle { name, node }
+}
+
+/// What is told of the pickles that are due, which are made one after another.
+fn missing_of<'a>(
+    alloc: Global,
+    seed: RandomState,
+    ids: &'a [Text],
+    mut due: DuePickles<'_>,
+) -> Result<Vec<MissingPickle<'a>>, AllocError>
+    ensures { IfOk result (λ missing. map told_of missing.items
+        ≡ map (name_and_node ids.now) due.entry) }
+{
+    let mut missing = Vec::new(alloc);
+    while let Some(pickle) = due.next(alloc, seed)? {
+        missing.push(missing_pickle(ids, pickle))?;
+    }
+    Ok(missing)
 }
 
 /// Adds the pickles of a source that didn't come.
 fn add_pickles(
     alloc: Global,
+    seed: RandomState,
     text: &mut String,
     places: &Places<'_>,
     uri: &str,
@@ -48,10 +84,9 @@ fn add_pickles(
         → string_bytes text.new ≡ string_bytes text.old
         ++ missing_pickles es uri.now (kept_row [] source.now).ids (kept_row [] source.now).due) }
 {
-    let due = source.due(alloc)?;
-    let ids = source.ids();
-    let lines = MissingLines { uri, ids, places };
-    add_limited(text, &lines, due.as_slice())
+    let missing = missing_of(alloc, seed, source.ids(), source.due())?;
+    let lines = MissingLines { uri, places };
+    add_limited(text, &lines, missing.as_slice())
 }
 
 /// Adds that a document didn't come.
@@ -64,6 +99,7 @@ fn add_document(text: &mut String) -> Result<(), AllocError>
 /// Adds a source and what of it didn't come: its document, or else pickles.
 fn add_lack(
     alloc: Global,
+    seed: RandomState,
     text: &mut String,
     places: &Places<'_>,
     uri: &str,
@@ -76,7 +112,7 @@ fn add_lack(
     add_uri(text, uri)?;
     match source.awaited() {
         Some(_) => add_document(text),
-        None => add_pickles(alloc, text, places, uri, source),
+        None => add_pickles(alloc, seed, text, places, uri, source),
     }
 }
 
@@ -113,6 +149,7 @@ fn first_incomplete(sources: &Sources) -> Option<(&String, &KeptSource)>
 /// Only where there is no memory for it.
 pub(crate) fn add_first_lack(
     alloc: Global,
+    seed: RandomState,
     text: &mut String,
     state: &State,
     places: &Places<'_>,
@@ -122,7 +159,7 @@ pub(crate) fn add_first_lack(
         ≡ string_bytes text.old ++ lack_lines_by (summary_of state.now) es) }
 {
     match first_incomplete(state.sources()) {
-        Some((uri, source)) => add_lack(alloc, text, places, uri.as_str(), source),
+        Some((uri, source)) => add_lack(alloc, seed, text, places, uri.as_str(), source),
         None => Ok(()),
     }
 }

@@ -7,17 +7,19 @@
 //! use cm_source_reasons::add_source_reasons;
 //! use cm_stream::StreamFault;
 //! use std::alloc::{AllocError, Global};
+//! use std::hash::RandomState;
 //!
 //! /// The lines of a pickle that isn't the next one of its source.
 //! fn pickle_reasons(
 //!     alloc: Global,
+//!     seed: RandomState,
 //!     state: &State,
 //!     trail: &Trail,
 //!     pickle: &Envelope,
 //! ) -> Result<String, AllocError> {
 //!     let mut text = String::new(alloc);
 //!     let fault = StreamFault::PickleDiffers;
-//!     add_source_reasons(alloc, &mut text, state, trail, pickle, fault)?;
+//!     add_source_reasons(alloc, seed, &mut text, state, trail, pickle, fault)?;
 //!     Ok(text)
 //! }
 //! ```

@@ -17,9 +17,10 @@ use cm_envelope::Pickle;
 use gk_document::{Text, id_of};
 use gk_pickle::Pickle as DuePickle;
 use std::alloc::{AllocError, Global};
+use std::hash::RandomState;
 
 /// The id of the last of the nodes that a pickle that is due is made of.
-fn last_node<'a>(ids: &'a [Text], due: &DuePickle) -> &'a str
+pub(crate) fn last_node<'a>(ids: &'a [Text], due: &DuePickle) -> &'a str
     ensures { result.now ≡ unwrap_or (last_of (ids_at ids.now due.now.nodes)) [] }
 {
     match due.nodes.as_slice().last() {
@@ -87,6 +88,7 @@ fn add_due(
 /// Adds the next pickle of a source, and how the stream's pickle differs from it.
 fn add_next(
     alloc: Global,
+    seed: RandomState,
     text: &mut String,
     places: &Places<'_>,
     source: &KeptSource,
@@ -97,10 +99,10 @@ fn add_next(
         ++ pickle_reason_text es (kept_row [] source.now).ids
         (slice_get (kept_row [] source.now).due 0) pickle.now) }
 {
-    let due = source.next_due();
+    let due = source.due().next(alloc, seed)?;
     let ids = source.ids();
-    add_due(text, places, pickle.uri.as_str(), ids, due)?;
-    let difference = pickle_difference(alloc, ids, due, pickle)?;
+    add_due(text, places, pickle.uri.as_str(), ids, due.as_ref())?;
+    let difference = pickle_difference(alloc, ids, due.as_ref(), pickle)?;
     add_sides(text, &difference)?;
     Ok(())
 }
@@ -111,6 +113,7 @@ fn add_next(
 /// Only where there is no memory for it.
 pub(crate) fn add_of_pickle(
     alloc: Global,
+    seed: RandomState,
     text: &mut String,
     state: &State,
     places: &Places<'_>,
@@ -121,7 +124,7 @@ pub(crate) fn add_of_pickle(
         ++ pickle_reason_text_by (summary_of state.now) es pickle.now) }
 {
     match state.find_source(pickle.uri.as_str()) {
-        Some(source) => add_next(alloc, text, places, source, pickle),
+        Some(source) => add_next(alloc, seed, text, places, source, pickle),
         None => Ok(()),
     }
 }

@@ -17,6 +17,7 @@ use cm_envelope::{Envelope, Pickle};
 use cm_reasons::Trail;
 use cm_stream::StreamFault;
 use std::alloc::{AllocError, Global};
+use std::hash::RandomState;
 
 /// Adds what is told of an envelope, where it is a document.
 fn add_at_tree(
@@ -38,6 +39,7 @@ fn add_at_tree(
 /// Adds what is told of a pickle.
 fn add_pickle(
     alloc: Global,
+    seed: RandomState,
     text: &mut String,
     state: &State,
     trail: &Trail,
@@ -47,14 +49,15 @@ fn add_pickle(
         → string_bytes text.new ≡ string_bytes text.old
         ++ pickle_reason_text_by (summary_of state.now) es pickle.now) }
 {
-    let places = trail.places(alloc)?;
-    add_of_pickle(alloc, text, state, &places, pickle)?;
+    let places = trail.places(alloc, seed)?;
+    add_of_pickle(alloc, seed, text, state, &places, pickle)?;
     Ok(())
 }
 
 /// Adds what is told of an envelope, where it is a pickle.
 fn add_at_pickle(
     alloc: Global,
+    seed: RandomState,
     text: &mut String,
     state: &State,
     trail: &Trail,
@@ -65,7 +68,7 @@ fn add_at_pickle(
         ++ lines_at_pickle (summary_of state.now) es envelope.now) }
 {
     match envelope {
-        Envelope::Pickle(pickle) => add_pickle(alloc, text, state, trail, pickle),
+        Envelope::Pickle(pickle) => add_pickle(alloc, seed, text, state, trail, pickle),
         _ => Ok(()),
     }
 }
@@ -73,6 +76,7 @@ fn add_at_pickle(
 /// Adds what is told at the end of the run.
 fn add_at_end(
     alloc: Global,
+    seed: RandomState,
     text: &mut String,
     state: &State,
     trail: &Trail,
@@ -81,14 +85,15 @@ fn add_at_end(
         → string_bytes text.new
         ≡ string_bytes text.old ++ lack_lines_by (summary_of state.now) es) }
 {
-    let places = trail.places(alloc)?;
-    add_first_lack(alloc, text, state, &places)?;
+    let places = trail.places(alloc, seed)?;
+    add_first_lack(alloc, seed, text, state, &places)?;
     Ok(())
 }
 
 /// Adds what is told, by what is kept.
 fn add_kept(
     alloc: Global,
+    seed: RandomState,
     text: &mut String,
     state: &State,
     trail: &Trail,
@@ -101,8 +106,8 @@ fn add_kept(
 {
     match fault {
         StreamFault::TreeDiffers => add_at_tree(alloc, text, state, envelope),
-        StreamFault::PickleDiffers => add_at_pickle(alloc, text, state, trail, envelope),
-        StreamFault::SourceIncomplete => add_at_end(alloc, text, state, trail),
+        StreamFault::PickleDiffers => add_at_pickle(alloc, seed, text, state, trail, envelope),
+        StreamFault::SourceIncomplete => add_at_end(alloc, seed, text, state, trail),
         _ => Ok(()),
     }
 }
@@ -117,6 +122,7 @@ fn add_kept(
 /// Only where there is no memory for it.
 pub fn add_source_reasons(
     alloc: Global,
+    seed: RandomState,
     text: &mut String,
     state: &State,
     trail: &Trail,
@@ -129,5 +135,5 @@ pub fn add_source_reasons(
         → (lines : List ℕ) × IsSourceReason d.read before envelope.now fault lines
         × (string_bytes text.new ≡ string_bytes text.old ++ lines)) }
 {
-    add_kept(alloc, text, state, trail, envelope, fault)
+    add_kept(alloc, seed, text, state, trail, envelope, fault)
 }

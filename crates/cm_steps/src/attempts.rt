@@ -15,6 +15,7 @@ use cm_attempt::Status;
 use cm_cases::{ByText, add_first};
 use indexmap::IndexMap;
 use std::alloc::{AllocError, Global};
+use std::hash::RandomState;
 use text_rows::{TextRows, Texts};
 
 /// The start of an attempt: its test case, and its number from 0.
@@ -31,11 +32,15 @@ fn started_as<'a>(starts: &'a [StartEntry], attempt: &str) -> Option<&'a StartEn
 }
 
 /// The ids of the attempts that are finished.
-fn ended_of<'a>(alloc: Global, ends: &'a Texts) -> Result<ByText<'a, ()>, AllocError>
+fn ended_of<'a>(
+    alloc: Global,
+    seed: RandomState,
+    ends: &'a Texts,
+) -> Result<ByText<'a, ()>, AllocError>
     ensures { IfOk result (λ m. (id : List ℕ) → is_some (value_at m id)
         ≡ list_any (bytes_eq id) ends.now) }
 {
-    let mut ended = IndexMap::new(alloc);
+    let mut ended = IndexMap::with_hasher(alloc, seed);
     for id in ends.iter() {
         add_first(&mut ended, id, ())?;
     }
@@ -45,6 +50,7 @@ fn ended_of<'a>(alloc: Global, ends: &'a Texts) -> Result<ByText<'a, ()>, AllocE
 /// The first attempt of each test case that isn't finished.
 fn open_of<'a>(
     alloc: Global,
+    seed: RandomState,
     starts: &'a [StartEntry],
     ended: &ByText<'_, ()>,
 ) -> Result<ByText<'a, &'a StartEntry>, AllocError>
@@ -52,7 +58,7 @@ fn open_of<'a>(
         ≡ list_any (λ s. not (is_some (value_at ended.now s.id)) && bytes_eq case s.case_id)
         starts.now) }
 {
-    let mut open = IndexMap::new(alloc);
+    let mut open = IndexMap::with_hasher(alloc, seed);
     for start in starts {
         if !ended.contains_key(start.id.as_str()) {
             add_first(&mut open, start.case_id.as_str(), start)?;
@@ -142,12 +148,12 @@ impl StepListing {
     ///
     /// # Errors
     /// Only where there is no memory for them.
-    pub fn open_cases(&self, alloc: Global) -> Result<Vec<&str>, AllocError>
+    pub fn open_cases(&self, alloc: Global, seed: RandomState) -> Result<Vec<&str>, AllocError>
         ensures { IfOk result (λ ids. (es : List Envelope) → self.now ≡ step_listing_of es
             → map (λ t. t.now) ids.items ≡ open_cases es) }
     {
-        let ended = ended_of(alloc, &self.ends)?;
-        let open = open_of(alloc, self.starts.as_slice(), &ended)?;
+        let ended = ended_of(alloc, seed, &self.ends)?;
+        let open = open_of(alloc, seed, self.starts.as_slice(), &ended)?;
         plans_in(alloc, &self.plans, &open)
     }
 

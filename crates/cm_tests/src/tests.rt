@@ -7,3 +7,4 @@ mod members;
 mod pickles;
 mod producers;
 mod std_devices;
+mod text_rows;

@@ -4,6 +4,7 @@
 use ck_commands::{ExitStatus, run_over};
 use files::{OpenedFiles, SystemOpener};
 use std::alloc::{AllocError, Global};
+use std::hash::RandomState;
 use std::process::ExitCode;
 use std::{env, io};
 
@@ -11,6 +12,8 @@ use std::{env, io};
 const NOT_UTF8: &str = "cukecheck: an argument isn't UTF-8";
 
 const NO_MEMORY: &str = "cukecheck: there is no memory for the arguments";
+
+const NO_SEED: &str = "cukecheck: the system gives no random bytes for the seed of its maps";
 
 const SAID: &str = "cukecheck: standard output says why, unless it couldn't be written";
 
@@ -37,8 +40,16 @@ fn arguments(rt: &HostRuntime) -> Result<Vec<String>, &'static str> {
 fn status_of(rt: &HostRuntime) -> Result<u8, &'static str> {
     let given = arguments(rt)?;
     let words = words_after_first(rt.alloc(), &given).map_err(|_| NO_MEMORY)?;
+    let seed = RandomState::new(rt).map_err(|_| NO_SEED)?;
     let files = OpenedFiles::new(rt.alloc(), SystemOpener::new(*rt));
-    let ended = run_over(rt.alloc(), words.as_slice(), files, rt.stdin(), rt.stdout());
+    let ended = run_over(
+        rt.alloc(),
+        seed,
+        words.as_slice(),
+        files,
+        rt.stdin(),
+        rt.stdout(),
+    );
     Ok(ended.code)
 }
 

@@ -8,13 +8,18 @@ use crate::walk::files_under;
 use files::Files;
 use indexmap::IndexSet;
 use std::alloc::{AllocError, Global};
+use std::hash::RandomState;
 
 /// The texts as a set.
-fn set_of(alloc: Global, texts: Vec<String>) -> Result<IndexSet<String>, AllocError>
+fn set_of(
+    alloc: Global,
+    seed: RandomState,
+    texts: Vec<String>,
+) -> Result<IndexSet<String, RandomState>, AllocError>
     ensures { IfOk result (λ set. map string_bytes set.keys
         ≡ all.each_once (map string_bytes texts.items)) }
 {
-    let mut set = IndexSet::new(alloc);
+    let mut set = IndexSet::with_hasher(alloc, seed);
     for text in texts {
         set.insert(text)?;
     }
@@ -22,18 +27,22 @@ fn set_of(alloc: Global, texts: Vec<String>) -> Result<IndexSet<String>, AllocEr
 }
 
 /// The texts of a set, in their order.
-fn list_of(alloc: Global, set: IndexSet<String>) -> Result<Vec<String>, AllocError>
+fn list_of(alloc: Global, set: IndexSet<String, RandomState>) -> Result<Vec<String>, AllocError>
     ensures { IfOk result (λ texts. texts.items ≡ set.keys) }
 {
     set.into_iter().collect(alloc)
 }
 
 /// The texts, each once, where it first stands.
-fn each_once(alloc: Global, texts: Vec<String>) -> Result<Vec<String>, AllocError>
+fn each_once(
+    alloc: Global,
+    seed: RandomState,
+    texts: Vec<String>,
+) -> Result<Vec<String>, AllocError>
     ensures { IfOk result (λ once. map string_bytes once.items
         ≡ all.each_once (map string_bytes texts.items)) }
 {
-    list_of(alloc, set_of(alloc, texts)?)
+    list_of(alloc, set_of(alloc, seed, texts)?)
 }
 
 /// The feature files of the paths, each once: of one path after another, in the order of their bytes.
@@ -43,6 +52,7 @@ fn each_once(alloc: Global, texts: Vec<String>) -> Result<Vec<String>, AllocErro
 /// is no memory.
 pub fn feature_paths<F: Files>(
     alloc: Global,
+    seed: RandomState,
     files: &mut F,
     paths: &[&str],
 ) -> Result<Vec<String>, PathTrouble>
@@ -57,5 +67,5 @@ pub fn feature_paths<F: Files>(
         let mut below = files_under(alloc, files, path)?;
         found.append(&mut below)?;
     }
-    Ok(each_once(alloc, found)?)
+    Ok(each_once(alloc, seed, found)?)
 }

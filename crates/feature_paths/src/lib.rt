@@ -4,10 +4,11 @@
 //! use feature_paths::{PathTrouble, feature_paths};
 //! use files::Files;
 //! use std::alloc::Global;
+//! use std::hash::RandomState;
 //!
 //! /// How many feature files there are in two folders.
-//! fn count<F: Files>(alloc: Global, files: &mut F) -> Result<usize, PathTrouble> {
-//!     let found = feature_paths(alloc, files, &["features", "more/features"])?;
+//! fn count<F: Files>(alloc: Global, seed: RandomState, files: &mut F) -> Result<usize, PathTrouble> {
+//!     let found = feature_paths(alloc, seed, files, &["features", "more/features"])?;
 //!     Ok(found.len())
 //! }
 //! ```
@@ -20,8 +21,6 @@ mod feature_paths_of;
 mod found;
 mod laws;
 mod path_text;
-#[cfg(test)]
-mod tests;
 mod trouble;
 mod walk;
 

@@ -13,3 +13,4 @@ pub mod Characters
 pub mod Counting
 pub mod Ordering
 pub mod InTurn
+pub mod PlaceLemmas

@@ -10,6 +10,8 @@
 -- InFeature: a scenario and where it is
 -- Scenarios: the scenarios of a document in order, each with what is around it, and the pickles of each
 --   (`gherkin.berp`, `Feature` and `Rule`)
+-- Spot: what one pickle is made of
+-- Rest: the pickles of a document from a place in it on
 -- Cut: a text cut at a pattern, and joined again
 -- Alike: a scenario without placeholders compiles alike for each row
 -- Characters: filling a text by its characters
@@ -23,6 +25,8 @@ pub mod Steps
 pub mod Pickles
 pub mod InFeature
 pub mod Scenarios
+pub mod Spot
+pub mod Rest
 pub mod Cut
 pub mod Alike
 pub mod Characters

@@ -9,10 +9,11 @@ use gk_document::Cell;
 use indexmap::IndexMap;
 use memchr::memchr2;
 use std::alloc::{AllocError, Global};
+use std::hash::RandomState;
 use std::marker::Model;
 
 /// Each name with its columns, from 0.
-type Named<'a> = IndexMap<&'a str, Vec<usize>>;
+type Named<'a> = IndexMap<&'a str, Vec<usize>, RandomState>;
 
 /// Adds a column after the others that have its name.
 fn add_column<'a>(
@@ -31,11 +32,11 @@ fn add_column<'a>(
 }
 
 /// The columns of a header, by their names.
-fn named<'a>(alloc: Global, header: &'a [Cell]) -> Result<Named<'a>, AllocError>
+fn named<'a>(alloc: Global, seed: RandomState, header: &'a [Cell]) -> Result<Named<'a>, AllocError>
     ensures { IfOk result
         (λ named. (name : List ℕ) → columns_at named name ≡ columns_named name header.now) }
 {
-    let mut named = IndexMap::new(alloc);
+    let mut named = IndexMap::with_hasher(alloc, seed);
     for (column, cell) in header.iter().enumerate() {
         add_column(alloc, &mut named, cell.value.as_str(), column)?;
     }
@@ -88,10 +89,14 @@ impl<'a> Model for Columns<'a> {
 
 impl<'a> Columns<'a> {
     /// Of a header.
-    pub(crate) fn of(alloc: Global, header: &'a [Cell]) -> Result<Columns<'a>, AllocError>
+    pub(crate) fn of(
+        alloc: Global,
+        seed: RandomState,
+        header: &'a [Cell],
+    ) -> Result<Columns<'a>, AllocError>
         ensures { IfOk result (λ columns. columns ≡ header.now) }
     {
-        let named = named(alloc, header)?;
+        let named = named(alloc, seed, header)?;
         let has_no_bracket = have_no_bracket(header);
         Ok(Columns {
             header,

@@ -10,6 +10,7 @@ use crate::scenario_in_feature::{ScenarioInFeature, scenarios};
 use crate::steps::all_steps;
 use gk_document::{Document, ExampleTable, Scenario, Sequence, Tag, Text};
 use std::alloc::{AllocError, Global};
+use std::hash::RandomState;
 
 /// Adds what pickles take of tags.
 fn add_tags(alloc: Global, tags: &[Tag], made: &mut Vec<PickleTag>) -> Result<(), AllocError>
@@ -45,7 +46,7 @@ fn pickle_tags(
 }
 
 /// A scenario's pickle, with the tags of its examples and what fills it.
-fn pickle(
+pub(crate) fn pickle(
     alloc: Global,
     inherited: &Inherited<'_>,
     scenario: &Scenario,
@@ -75,6 +76,7 @@ fn pickle(
 /// Adds a pickle for each body row of a table.
 fn add_rows(
     alloc: Global,
+    seed: RandomState,
     inherited: &Inherited<'_>,
     scenario: &Scenario,
     tags: &[Tag],
@@ -85,7 +87,7 @@ fn add_rows(
         (made.new.items
         ≡ made.old.items ++ table_pickles inherited.now scenario.now tags.now (Some table.now)) }
 {
-    let columns = Columns::of(alloc, table.header.cells.as_slice())?;
+    let columns = Columns::of(alloc, seed, table.header.cells.as_slice())?;
     for row in table.body.as_slice() {
         let filling = Filling::of_row(&columns, row);
         let pickle = pickle(alloc, inherited, scenario, tags, &filling)?;
@@ -97,6 +99,7 @@ fn add_rows(
 /// Adds the pickles of a block's table.
 fn add_table(
     alloc: Global,
+    seed: RandomState,
     inherited: &Inherited<'_>,
     scenario: &Scenario,
     tags: &[Tag],
@@ -108,7 +111,7 @@ fn add_table(
         ≡ made.old.items ++ table_pickles inherited.now scenario.now tags.now table.now) }
 {
     match table {
-        Some(table) => add_rows(alloc, inherited, scenario, tags, table, made),
+        Some(table) => add_rows(alloc, seed, inherited, scenario, tags, table, made),
         None => Ok(()),
     }
 }
@@ -116,6 +119,7 @@ fn add_table(
 /// Adds a scenario's pickles.
 fn add_scenario(
     alloc: Global,
+    seed: RandomState,
     inherited: &Inherited<'_>,
     scenario: &Scenario,
     made: &mut Vec<Pickle>,
@@ -132,6 +136,7 @@ fn add_scenario(
     for block in examples {
         add_table(
             alloc,
+            seed,
             inherited,
             scenario,
             block.tags.as_slice(),
@@ -146,12 +151,19 @@ fn add_scenario(
 #[tactic(auto, unfolding(crate::specs::Scenarios::pickles_of_one))]
 fn add_pickles(
     alloc: Global,
+    seed: RandomState,
     scenario: &ScenarioInFeature<'_>,
     made: &mut Vec<Pickle>,
 ) -> Result<(), AllocError>
     ensures { OnOk result (made.new.items ≡ made.old.items ++ pickles_of_one scenario.now) }
 {
-    add_scenario(alloc, &Inherited::of(scenario), scenario.scenario, made)
+    add_scenario(
+        alloc,
+        seed,
+        &Inherited::of(scenario),
+        scenario.scenario,
+        made,
+    )
 }
 
 /// The pickles of one scenario, in order: one where it has no examples blocks, else one for each body row.
@@ -163,12 +175,13 @@ fn add_pickles(
 /// Only where there is no memory for the pickles.
 pub fn compile_scenario(
     alloc: Global,
+    seed: RandomState,
     scenario: &ScenarioInFeature<'_>,
 ) -> Result<Vec<Pickle>, AllocError>
     ensures { IfOk result (λ made. made.items ≡ pickles_of_one scenario.now) }
 {
     let mut made = Vec::new(alloc);
-    add_pickles(alloc, scenario, &mut made)?;
+    add_pickles(alloc, seed, scenario, &mut made)?;
     Ok(made)
 }
 
@@ -179,13 +192,17 @@ pub fn compile_scenario(
 ///
 /// # Errors
 /// Only where there is no memory for the pickles.
-pub fn compile(alloc: Global, document: &Document) -> Result<Vec<Pickle>, AllocError>
+pub fn compile(
+    alloc: Global,
+    seed: RandomState,
+    document: &Document,
+) -> Result<Vec<Pickle>, AllocError>
     ensures { IfOk result (λ made. made.items ≡ pickles document.now) }
 {
     let scenarios = scenarios(alloc, document)?;
     let mut pickles = Vec::new(alloc);
     for scenario in scenarios.as_slice() {
-        add_pickles(alloc, scenario, &mut pickles)?;
+        add_pickles(alloc, seed, scenario, &mut pickles)?;
     }
     Ok(pickles)
 }

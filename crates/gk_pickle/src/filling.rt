@@ -10,6 +10,7 @@ use gk_document::Cell;
 use memchr::memchr;
 use memchr::memmem::Finder;
 use std::alloc::{AllocError, Global};
+use std::hash::RandomState;
 
 /// What is before and after the first `<name>` of a text.
 fn cut_at_first<'t>(finder: &Finder<'_>, name: &str, text: &'t str) -> Option<(&'t str, &'t str)>
@@ -106,9 +107,15 @@ pub(crate) fn fill_from(
 ///
 /// # Errors
 /// Only where there is no memory for the text.
-pub fn fill(alloc: Global, text: &str, header: &[Cell], row: &[Cell]) -> Result<String, AllocError>
+pub fn fill(
+    alloc: Global,
+    seed: RandomState,
+    text: &str,
+    header: &[Cell],
+    row: &[Cell],
+) -> Result<String, AllocError>
     ensures { IfOk result (λ s. string_bytes s ≡ filled_text text.now header.now row.now) }
 {
-    let columns = Columns::of(alloc, header)?;
+    let columns = Columns::of(alloc, seed, header)?;
     fill_from(alloc, text, &columns, row)
 }

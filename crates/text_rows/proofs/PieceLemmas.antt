@@ -1,5 +1,5 @@
 -- Texts and rows that are cut from a buffer, and one more after them.
-use Rattle.std.proofs.Common.{ℕ, ◌≡◌, ◌≤◌, ◌∙◌, ap, refl, subst, sym, arith, List, [], ◌∷◌, ◌++◌, drop, length, length-append, take}
+use Rattle.std.proofs.Common.{ℕ, ◌≡◌, ◌≤◌, ◌∙◌, ap, refl, subst, sym, arith, List, [], ◌∷◌, ◌++◌, drop, length, length-append, suc, take}
 use Rattle.std.specs.Prelude.{IsTrue}
 use Rattle.std.specs.Str.{IsCharBoundary, IsUtf8, is_utf8}
 use Rattle.std.proofs.lemmas.List.{drop-append-le, take-append-drop, take-append-le}
@@ -51,6 +51,11 @@ are_texts_more (n ∷ ns) bs text are utf8 = (
   subst (λ t. IsTrue (is_utf8 t)) (sym (take-append-le n bs text are.0)) are.1,
   subst (AreTexts (ns ++ length text ∷ [])) (sym (drop-append-le n bs text are.0)) (are_texts_more ns (drop n bs) text are.2 utf8),
 )
+
+-- there are as many as lengths
+pub texts_count : (ns bs : List ℕ) → length (texts_of ns bs) ≡ length ns
+texts_count [] bs = refl
+texts_count (n ∷ ns) bs = ap suc (texts_count ns (drop n bs))
 
 -- ---- rows
 

@@ -16,8 +16,6 @@
 #![tactic(auto)]
 
 mod rows;
-#[cfg(test)]
-mod tests;
 mod texts;
 
 pub use rows::{RowIter, TextRows};

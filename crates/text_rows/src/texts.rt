@@ -1,6 +1,8 @@
 //! Texts in order.
 ghost use Rattle.std.specs.Prelude.{◌≡◌, [], ◌∷◌, ◌++◌, length, IfOk, OnOk, OnErr, option_map, slice_get};
 ghost use Rattle.std.specs.Iterator.{YieldsFirstRef, item_count};
+ghost use Rattle.std.specs.List.{list_any};
+ghost use Rattle.std.specs.Str.{bytes_eq};
 ghost use Rattle.text_rows.specs.Rows.{begins_with};
 
 use std::alloc::{AllocError, Global};
@@ -79,6 +81,36 @@ impl Texts {
                 Err(error)
             }
         }
+    }
+
+    /// How many texts there are.
+    pub fn len(&self) -> usize
+        ensures { result ≡ length self.now }
+    {
+        self.lengths.as_slice().len()
+    }
+
+    /// The text at a place, from 0. The texts before it are passed over.
+    pub fn get(&self, place: usize) -> Option<&str>
+        ensures { option_map (λ t. t.now) result ≡ slice_get self.now place }
+    {
+        let mut left = self.iter();
+        for _passed in 0..place {
+            left.next()?;
+        }
+        left.next()
+    }
+
+    /// Whether one of the texts is this one.
+    pub fn contains(&self, text: &str) -> bool
+        ensures { result ≡ list_any (bytes_eq text.now) self.now }
+    {
+        for other in self.iter() {
+            if text == other {
+                return true;
+            }
+        }
+        false
     }
 
     /// The texts in order.

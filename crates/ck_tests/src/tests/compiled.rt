@@ -2,6 +2,7 @@
 use crate::tests::running::expect_run;
 use ck_commands::run;
 use devices::{FailedWrite, Failing, Pieces, Store};
+use seeds::expect_seed;
 use std::alloc::Global;
 use std::process::Abort;
 use std::test::Fail;
@@ -78,13 +79,14 @@ fn a_read_that_fails_before_any_line(rt: HostRuntime) {
 
 #[test]
 fn a_write_that_fails_after_100_bytes(rt: HostRuntime) {
+    let seed = expect_seed(&rt);
     for failed in [FailedWrite::Refuses, FailedWrite::TakesNone] {
         let mut source = Pieces::whole(TEXT.as_bytes());
         let mut sink = Store::new(rt.alloc(), 100)
             .failing_writes(Failing::Once(2))
             .failing_by(failed);
         let words = ["compile", "--uri", "a.feature"];
-        assert_eq!(rt; run(rt.alloc(), &words, &mut source, &mut sink), 3);
+        assert_eq!(rt; run(rt.alloc(), seed, &words, &mut source, &mut sink), 3);
         assert_eq!(rt; sink.failed_calls(), 1);
         let taken = sink.bytes();
         assert!(rt; taken.starts_with(&LINES.as_bytes()[..100]));

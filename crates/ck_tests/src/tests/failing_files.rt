@@ -10,6 +10,7 @@ use devices::{Failing, Pieces, Store};
 use files::{Look, OpenedFiles, Opener};
 use std::alloc::{AllocError, Global};
 use std::cell::Cell;
+use std::hash::RandomState;
 use std::io;
 use std::process::Abort;
 use std::test::Fail;
@@ -107,12 +108,13 @@ impl Runner for BrokenFiles<'_> {
     fn run_words(
         &self,
         alloc: Global,
+        seed: RandomState,
         words: &[&str],
         source: &mut Pieces<'_>,
         sink: &mut Store,
     ) -> u8 {
         let mut files = OpenedFiles::new(alloc, *self);
-        run_with(alloc, words, &mut files, source, sink)
+        run_with(alloc, seed, words, &mut files, source, sink)
     }
 }
 

@@ -4,6 +4,7 @@ use crate::tests::lines::{RETRIED, stream_of};
 use crate::tests::running::{Runner, WithoutFiles, expect_run_by};
 use ck_commands::run;
 use devices::{FailedWrite, Failing, Pieces, Store};
+use seeds::expect_seed;
 use std::alloc::Global;
 use std::process::Abort;
 use std::test::Fail;
@@ -233,9 +234,10 @@ fn expect_words_to_fail(
     words: &[&str],
     status: u8,
 ) -> Result<(), Fail> {
+    let seed = expect_seed(rt);
     let mut sink = Store::new(alloc, usize::MAX);
     assert_eq!(rt;
-        run(alloc, words, &mut Pieces::whole(b""), &mut sink),
+        run(alloc, seed, words, &mut Pieces::whole(b""), &mut sink),
         status
     );
     let text = std::str::from_utf8(sink.bytes())?;

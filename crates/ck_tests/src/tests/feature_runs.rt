@@ -2,6 +2,7 @@
 use crate::tests::memory_files::{A_RUN, BAD_RUN, EMPTY_RUN, expect_gate};
 use ck_commands::run;
 use devices::{Pieces, Store};
+use seeds::expect_seed;
 use std::test::Fail;
 
 #[test]
@@ -203,10 +204,11 @@ MISSING x\\n\\u202e.feature:3 t
 
 #[test]
 fn without_files_no_feature_can_be_read(rt: HostRuntime) -> Result<(), Fail> {
+    let seed = expect_seed(&rt);
     let mut source = Pieces::whole(b"");
     let mut sink = Store::new(rt.alloc(), 7);
     let words = ["gate", "--features", "a.feature"];
-    let code = run(rt.alloc(), &words, &mut source, &mut sink);
+    let code = run(rt.alloc(), seed, &words, &mut source, &mut sink);
     assert_eq!(rt; sink.bytes(), b"trouble ReadFailed a.feature\n".as_slice());
     assert_eq!(rt; code, 3);
     Ok(())

@@ -3,6 +3,7 @@ use crate::tests::lines::{RETRIED, stream_of};
 use ck_commands::run_with;
 use devices::{Pieces, Store};
 use files::{Entry, EntryKind, Look, OpenedFiles, Opener};
+use seeds::expect_seed;
 use std::alloc::{AllocError, Global};
 use std::process::Abort;
 use std::test::Fail;
@@ -108,6 +109,7 @@ pub(crate) fn expect_gate(
     text: &str,
     status: u8,
 ) -> Result<(), Fail> {
+    let seed = expect_seed(rt);
     let a_run = stream_of(alloc, A_RUN)?;
     let b_run = stream_of(alloc, B_RUN)?;
     let failed_run = stream_of(alloc, FAILED_RUN)?;
@@ -126,7 +128,7 @@ pub(crate) fn expect_gate(
     let mut files = OpenedFiles::new(alloc, opener);
     let mut source = Pieces::new(standard.as_bytes(), 5);
     let mut sink = Store::new(alloc, 7);
-    let code = run_with(alloc, words, &mut files, &mut source, &mut sink);
+    let code = run_with(alloc, seed, words, &mut files, &mut source, &mut sink);
     assert_eq!(rt; sink.bytes(), text.as_bytes());
     assert_eq!(rt; code, status);
     Ok(())

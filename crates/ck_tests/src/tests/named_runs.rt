@@ -4,6 +4,7 @@ use crate::tests::memory_files::{A_RUN, BAD_RUN, expect_gate};
 use ck_commands::{run, run_with};
 use devices::{Failing, Pieces, Store};
 use files::{NoOpener, OpenedFiles};
+use seeds::expect_seed;
 use std::test::Fail;
 
 #[test]
@@ -94,11 +95,12 @@ a: due 1
 
 #[test]
 fn without_files_none_can_be_opened(rt: HostRuntime) -> Result<(), Fail> {
+    let seed = expect_seed(&rt);
     let stream = stream_of(rt.alloc(), A_RUN)?;
     let mut source = Pieces::whole(stream.as_bytes());
     let mut sink = Store::new(rt.alloc(), 7);
     let words = ["gate", "a", "-"];
-    let code = run(rt.alloc(), &words, &mut source, &mut sink);
+    let code = run(rt.alloc(), seed, &words, &mut source, &mut sink);
     let text = "a: trouble ReadFailed
 -: good sources=1 pickles=1 cases=1 attempts=1
 -: release retried=0 skipped=0 unrun=0
@@ -110,12 +112,13 @@ fn without_files_none_can_be_opened(rt: HostRuntime) -> Result<(), Fail> {
 
 #[test]
 fn a_failed_read_of_standard_input_is_told_of_it_alone(rt: HostRuntime) -> Result<(), Fail> {
+    let seed = expect_seed(&rt);
     let stream = stream_of(rt.alloc(), A_RUN)?;
     let mut source = Pieces::whole(stream.as_bytes()).failing_reads(Failing::Once(1));
     let mut sink = Store::new(rt.alloc(), 7);
     let mut files = OpenedFiles::new(rt.alloc(), NoOpener);
     let words = ["gate", "-"];
-    let code = run_with(rt.alloc(), &words, &mut files, &mut source, &mut sink);
+    let code = run_with(rt.alloc(), seed, &words, &mut files, &mut source, &mut sink);
     assert_eq!(rt; sink.bytes(), b"-: trouble ReadFailed\n".as_slice());
     assert_eq!(rt; code, 3);
     Ok(())
@@ -123,10 +126,11 @@ fn a_failed_read_of_standard_input_is_told_of_it_alone(rt: HostRuntime) -> Resul
 
 #[test]
 fn no_line_is_printed_where_a_write_fails(rt: HostRuntime) -> Result<(), Fail> {
+    let seed = expect_seed(&rt);
     let mut source = Pieces::whole(b"");
     let mut sink = Store::new(rt.alloc(), 7).failing_writes(Failing::EverSince(1));
     let words = ["gate", "missing"];
-    let code = run(rt.alloc(), &words, &mut source, &mut sink);
+    let code = run(rt.alloc(), seed, &words, &mut source, &mut sink);
     assert_eq!(rt; sink.bytes(), b"".as_slice());
     assert_eq!(rt; code, 3);
     Ok(())

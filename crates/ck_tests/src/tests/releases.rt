@@ -6,6 +6,7 @@ use cm_audit_release::{AuditedRelease, audit_release};
 use cm_envelope::Trouble;
 use cm_stream::{Conditions, ReleaseCounts};
 use devices::Pieces;
+use seeds::{expect_seed, fixed_seed};
 use std::alloc::Global;
 use std::test::Fail;
 
@@ -29,11 +30,13 @@ fn conditions_with<'a>(alloc: Global, tag: &'a str) -> Result<Conditions<'a>, Fa
 }
 
 fn release_of(alloc: Global, words: &str, tag: &str) -> Result<AuditedRelease, Fail> {
+    let seed = fixed_seed()?;
     let stream = stream_of(alloc, words)?;
     let mut source = Pieces::whole(stream.as_bytes());
     let conditions = conditions_with(alloc, tag)?;
     match audit_release(
         alloc,
+        seed,
         &mut source,
         Settings::from(Policy::Strict),
         &conditions,
@@ -86,10 +89,11 @@ fn a_stream_that_is_not_good(rt: HostRuntime) -> Result<(), Fail> {
 
 #[test]
 fn a_failed_read(rt: HostRuntime) -> Result<(), Fail> {
+    let seed = expect_seed(&rt);
     let conditions = conditions_with(rt.alloc(), "@wip")?;
     let settings = Settings::from(Policy::Strict);
     let mut source = Pieces::whole(b"").failing_at_end();
-    match audit_release(rt.alloc(), &mut source, settings, &conditions) {
+    match audit_release(rt.alloc(), seed, &mut source, settings, &conditions) {
         Err(Trouble::ReadFailed) => Ok(()),
         _ => Err(Fail::from("no failed read")),
     }

@@ -1,7 +1,9 @@
 //! Runs over devices in memory.
 use ck_commands::run;
 use devices::{Pieces, Store};
+use seeds::expect_seed;
 use std::alloc::Global;
+use std::hash::RandomState;
 use std::process::Abort;
 
 /// What runs words over devices in memory, and gives the status.
@@ -9,6 +11,7 @@ pub(crate) trait Runner {
     fn run_words(
         &self,
         alloc: Global,
+        seed: RandomState,
         words: &[&str],
         source: &mut Pieces<'_>,
         sink: &mut Store,
@@ -23,11 +26,12 @@ impl Runner for WithoutFiles {
     fn run_words(
         &self,
         alloc: Global,
+        seed: RandomState,
         words: &[&str],
         source: &mut Pieces<'_>,
         sink: &mut Store,
     ) -> u8 {
-        run(alloc, words, source, sink)
+        run(alloc, seed, words, source, sink)
     }
 }
 
@@ -42,7 +46,10 @@ pub(crate) fn expect_run_by<R: Runner>(
     text: &str,
     status: u8,
 ) {
-    assert_eq!(rt; runner.run_words(alloc, words, source, sink), status);
+    assert_eq!(rt;
+        runner.run_words(alloc, expect_seed(rt), words, source, sink),
+        status
+    );
     assert_eq!(rt; sink.bytes(), text.as_bytes());
 }
 

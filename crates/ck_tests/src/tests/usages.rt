@@ -2,6 +2,7 @@
 use crate::tests::running::expect_run;
 use ck_commands::run;
 use devices::{Pieces, Store};
+use seeds::expect_seed;
 use std::alloc::Global;
 use std::process::Abort;
 use std::test::Fail;
@@ -101,9 +102,10 @@ fn expect_text(
     status: u8,
     wanted: &str,
 ) -> Result<(), Fail> {
+    let seed = expect_seed(rt);
     let mut source = Pieces::whole(b"[]");
     let mut sink = Store::new(alloc, 7);
-    assert_eq!(rt; run(alloc, words, &mut source, &mut sink), status);
+    assert_eq!(rt; run(alloc, seed, words, &mut source, &mut sink), status);
     assert_eq!(rt; source.reads(), 0);
     expect_parts(rt, sink.bytes(), wanted)
 }

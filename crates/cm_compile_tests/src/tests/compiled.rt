@@ -3,6 +3,7 @@ use cm_compile::{CompileFault, write_compiled};
 use cm_envelope::{DeviceFailed, write_all};
 use devices::{FailedWrite, Failing, Store};
 use gk_tree::{FaultKind, ParseFault};
+use seeds::expect_seed;
 use std::alloc::Global;
 use std::process::Abort;
 use std::test::Fail;
@@ -45,8 +46,9 @@ const FULL_LINES: &str =
 
 /// A sink that takes all: the lines are the wanted ones.
 fn check_lines(rt: &impl Abort, alloc: Global, uri: &str, text: &str, wanted: &str) {
+    let seed = expect_seed(rt);
     let mut sink = Store::new(alloc, usize::MAX);
-    assert_eq!(rt; write_compiled(alloc, uri, text, &mut sink), Ok(()));
+    assert_eq!(rt; write_compiled(alloc, seed, uri, text, &mut sink), Ok(()));
     assert!(rt; sink.bytes() == wanted.as_bytes());
     assert_eq!(rt; sink.failed_calls(), 0);
 }
@@ -76,8 +78,9 @@ fn ids_go_on_from_pickle_to_pickle(rt: HostRuntime) -> Result<(), Fail> {
 }
 
 fn check_refused(rt: &impl Abort, alloc: Global, text: &str, fault: ParseFault) {
+    let seed = expect_seed(rt);
     let mut sink = Store::new(alloc, usize::MAX);
-    let done = write_compiled(alloc, "u", text, &mut sink);
+    let done = write_compiled(alloc, seed, "u", text, &mut sink);
     assert_eq!(rt; done, Err(CompileFault::Parse(fault)));
     assert_eq!(rt; sink.writes(), 0);
 }
@@ -102,9 +105,10 @@ fn nothing_is_written_of_a_refused_text(rt: HostRuntime) -> Result<(), Fail> {
 
 #[test]
 fn the_bytes_before_a_failed_write_are_written(rt: HostRuntime) -> Result<(), Fail> {
+    let seed = expect_seed(&rt);
     let alloc = rt.alloc();
     let mut sink = Store::new(alloc, usize::MAX).with_room(100);
-    let done = write_compiled(alloc, "a.feature", PLAIN_TEXT, &mut sink);
+    let done = write_compiled(alloc, seed, "a.feature", PLAIN_TEXT, &mut sink);
     assert_eq!(rt; done, Err(CompileFault::WriteFailed));
     assert_eq!(rt; sink.bytes().len(), 100);
     assert!(rt; PLAIN_LINES.as_bytes().starts_with(sink.bytes()));
@@ -114,8 +118,9 @@ fn the_bytes_before_a_failed_write_are_written(rt: HostRuntime) -> Result<(), Fa
 
 /// One byte a write, and the write after `room` bytes fails or takes nothing: it isn't repeated.
 fn check_failed(rt: &impl Abort, alloc: Global, room: usize, sink: Store) {
+    let seed = expect_seed(rt);
     let mut sink = sink;
-    let done = write_compiled(alloc, "a.feature", PLAIN_TEXT, &mut sink);
+    let done = write_compiled(alloc, seed, "a.feature", PLAIN_TEXT, &mut sink);
     assert_eq!(rt; done, Err(CompileFault::WriteFailed));
     assert!(rt; sink.bytes().len() == room);
     assert!(rt; PLAIN_LINES.as_bytes().starts_with(sink.bytes()));
@@ -125,6 +130,7 @@ fn check_failed(rt: &impl Abort, alloc: Global, room: usize, sink: Store) {
 
 #[test]
 fn each_write_may_fail(rt: HostRuntime) -> Result<(), Fail> {
+    let seed = expect_seed(&rt);
     let alloc = rt.alloc();
     for room in 0..PLAIN_LINES.len() {
         for failed in [FailedWrite::Refuses, FailedWrite::TakesNone] {
@@ -136,7 +142,7 @@ fn each_write_may_fail(rt: HostRuntime) -> Result<(), Fail> {
         }
     }
     let mut whole = Store::new(alloc, 1).with_room(PLAIN_LINES.len());
-    let done = write_compiled(alloc, "a.feature", PLAIN_TEXT, &mut whole);
+    let done = write_compiled(alloc, seed, "a.feature", PLAIN_TEXT, &mut whole);
     assert_eq!(rt; done, Ok(()));
     Ok(())
 }

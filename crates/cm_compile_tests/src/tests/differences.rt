@@ -5,6 +5,7 @@ use cm_envelope::{Envelope, EnvelopeFault, Pickle as FoundPickle, read_envelope}
 use gk_document::{Document, Text};
 use gk_pickle::{Pickle, compile};
 use gk_tree::parse;
+use seeds::fixed_seed;
 use std::alloc::{AllocError, Global};
 use std::test::Fail;
 
@@ -91,7 +92,8 @@ fn is_due(alloc: Global, due: &Pickle, line: &str) -> Result<bool, AllocError> {
 }
 
 fn differs_from_first(alloc: Global, document: &Document, line: &str) -> Result<bool, Fail> {
-    let pickles = compile(alloc, document)?;
+    let seed = fixed_seed()?;
+    let pickles = compile(alloc, seed, document)?;
     match pickles.first() {
         Some(due) => Ok(is_due(alloc, due, line)?),
         None => Err(Fail::from("no pickle")),

@@ -1,5 +1,6 @@
 //! Cases, attempts and policies: the answers to calls in and out of order.
 use cm_attempt::{Policy, Settings, Status, Track, TrackFault, worst};
+use seeds::expect_seed;
 use std::alloc::{AllocError, Global};
 use std::process::Abort;
 use std::test::Fail;
@@ -138,8 +139,9 @@ AttemptOverlap start b c 1";
 
 #[test]
 fn refuses_duplicates_and_unknown_ids(rt: HostRuntime) {
+    let seed = expect_seed(&rt);
     let alloc = rt.alloc();
-    let mut track = Track::new(alloc);
+    let mut track = Track::new(alloc, seed);
     expect_answers(&rt, &mut track, alloc, REFUSED);
     assert!(rt; reported(&track, "c") == "Passed");
     assert!(rt; track.all_good());
@@ -158,8 +160,9 @@ fn is_due(track: &Track, attempt: &str, step: &str, is_running: bool) -> bool {
 
 #[test]
 fn the_step_that_is_due(rt: HostRuntime) {
+    let seed = expect_seed(&rt);
     let alloc = rt.alloc();
-    let mut track = Track::new(alloc);
+    let mut track = Track::new(alloc, seed);
     expect_answers(&rt, &mut track, alloc, "ok case c t u");
     assert!(rt; track.due_step("a").is_none());
     expect_answers(&rt, &mut track, alloc, "ok start a c 0");
@@ -185,8 +188,9 @@ FinishedEarly final a";
 
 #[test]
 fn a_step_finishes_once(rt: HostRuntime) {
+    let seed = expect_seed(&rt);
     let alloc = rt.alloc();
-    let mut track = Track::new(alloc);
+    let mut track = Track::new(alloc, seed);
     expect_answers(&rt, &mut track, alloc, ONCE);
     assert!(rt; track.open_attempts() == 1);
     assert!(rt; reported(&track, "c") == "none");
@@ -216,8 +220,9 @@ fn expect_reports(rt: &impl Abort, track: &mut Track, alloc: Global, table: &str
 
 #[test]
 fn a_retried_attempt_alone_reports_none(rt: HostRuntime) {
+    let seed = expect_seed(&rt);
     let alloc = rt.alloc();
-    let mut track = Track::new(alloc);
+    let mut track = Track::new(alloc, seed);
     expect_reports(&rt, &mut track, alloc, RETRIED);
     assert!(rt; !track.all_good());
     drop(track);
@@ -238,8 +243,9 @@ ok final b";
 
 #[test]
 fn attempts_of_two_cases_interleave(rt: HostRuntime) {
+    let seed = expect_seed(&rt);
     let alloc = rt.alloc();
-    let mut track = Track::new(alloc);
+    let mut track = Track::new(alloc, seed);
     expect_answers(&rt, &mut track, alloc, INTERLEAVED);
     assert!(rt; reported(&track, "d") == "Failed");
     assert!(rt; reported(&track, "c") == "none");
@@ -266,8 +272,9 @@ ok final e";
 
 #[test]
 fn attempts_are_counted_from_one(rt: HostRuntime) {
+    let seed = expect_seed(&rt);
     let alloc = rt.alloc();
-    let mut track = Track::counting_from(alloc, 1);
+    let mut track = Track::counting_from(alloc, seed, 1);
     expect_answers(&rt, &mut track, alloc, FROM_ONE);
     assert!(rt; reported(&track, "c") == "Passed");
     assert!(rt; track.all_good());
@@ -287,8 +294,9 @@ ok start e d 18446744073709551615";
 
 #[test]
 fn attempts_are_counted_from_the_greatest_number(rt: HostRuntime) {
+    let seed = expect_seed(&rt);
     let alloc = rt.alloc();
-    let mut track = Track::counting_from(alloc, u64::MAX);
+    let mut track = Track::counting_from(alloc, seed, u64::MAX);
     expect_answers(&rt, &mut track, alloc, FROM_THE_GREATEST);
     assert!(rt; track.open_attempts() == 1);
     drop(track);
@@ -311,8 +319,9 @@ ok final a";
 
 #[test]
 fn a_pending_case_is_good_where_pending_passes(rt: HostRuntime) {
+    let seed = expect_seed(&rt);
     let alloc = rt.alloc();
-    let mut track = Track::new(alloc);
+    let mut track = Track::new(alloc, seed);
     expect_answers(&rt, &mut track, alloc, PENDING);
     assert!(rt; reported(&track, "c") == "Pending");
     assert!(rt; !track.all_good());
@@ -329,8 +338,9 @@ ok final a";
 
 #[test]
 fn an_undefined_case_is_good_by_no_policy(rt: HostRuntime) {
+    let seed = expect_seed(&rt);
     let alloc = rt.alloc();
-    let mut track = Track::new(alloc);
+    let mut track = Track::new(alloc, seed);
     expect_answers(&rt, &mut track, alloc, UNDEFINED);
     assert!(rt; reported(&track, "c") == "Undefined");
     assert!(rt; !track.all_good_with(Policy::Strict));

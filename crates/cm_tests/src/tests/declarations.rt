@@ -1,5 +1,6 @@
 //! Declarations: the answers to what a stream declares, and to what it names.
-use cm_refs::{Declared, RefFault, distinct_texts};
+use cm_refs::{Declared, RefFault, StepIds, distinct_texts};
+use seeds::expect_seed;
 use std::alloc::{AllocError, Global};
 use std::process::Abort;
 use std::test::Fail;
@@ -79,7 +80,8 @@ fn expect_kinds(rt: &impl Abort, declared: &mut Declared, table: &str) {
 
 #[test]
 fn a_kind_has_each_name_once(rt: HostRuntime) {
-    let mut declared = Declared::new(rt.alloc());
+    let seed = expect_seed(&rt);
+    let mut declared = Declared::new(rt.alloc(), seed);
     expect_kinds(&rt, &mut declared, KINDS);
     drop(declared);
 }
@@ -97,7 +99,8 @@ fn expect_run_hook(rt: &impl Abort, declared: &mut Declared) {
 
 #[test]
 fn a_run_hook_finishes_once(rt: HostRuntime) {
-    let mut declared = Declared::new(rt.alloc());
+    let seed = expect_seed(&rt);
+    let mut declared = Declared::new(rt.alloc(), seed);
     expect_run_hook(&rt, &mut declared);
     drop(declared);
 }
@@ -113,13 +116,13 @@ fn declare_pickle(
 }
 
 // The texts in order, with `+` between two of them.
-fn joined(alloc: Global, texts: &[String]) -> Result<String, AllocError> {
+fn joined(alloc: Global, ids: &StepIds) -> Result<String, AllocError> {
     let mut all = String::new(alloc);
-    for (i, text) in texts.iter().enumerate() {
-        if i > 0 {
+    for place in 0..ids.len() {
+        if place > 0 {
             all.push('+')?;
         }
-        all.push_str(text.as_str())?;
+        all.push_str(ids.get(place).unwrap_or("?"))?;
     }
     Ok(all)
 }
@@ -128,11 +131,11 @@ fn joined(alloc: Global, texts: &[String]) -> Result<String, AllocError> {
 fn expect_texts(
     rt: &impl Abort,
     alloc: Global,
-    found: Option<&[String]>,
+    found: Option<&StepIds>,
     told: &str,
 ) -> Result<(), AllocError> {
     match found {
-        Some(texts) => assert!(rt; joined(alloc, texts)?.as_str() == told),
+        Some(ids) => assert!(rt; joined(alloc, ids)?.as_str() == told),
         None => assert!(rt; told == "-"),
     }
     Ok(())
@@ -178,7 +181,8 @@ fn expect_distinct_steps(
 
 #[test]
 fn a_pickle_has_distinct_steps(rt: HostRuntime) -> Result<(), Fail> {
-    let mut declared = Declared::new(rt.alloc());
+    let seed = expect_seed(&rt);
+    let mut declared = Declared::new(rt.alloc(), seed);
     let done = expect_distinct_steps(&rt, &mut declared, rt.alloc());
     drop(declared);
     Ok(done?)
@@ -186,9 +190,10 @@ fn a_pickle_has_distinct_steps(rt: HostRuntime) -> Result<(), Fail> {
 
 // The set of the words, or `-` where two of them are equal.
 fn expect_set(rt: &impl Abort, alloc: Global, words: &str, told: &str) -> Result<(), AllocError> {
+    let seed = expect_seed(rt);
     let words = texts(alloc, words)?;
-    match distinct_texts(alloc, words)? {
-        Some(set) => expect_texts(rt, alloc, Some(set.as_slice()), told),
+    match distinct_texts(alloc, seed, words)? {
+        Some(ids) => expect_texts(rt, alloc, Some(&ids), told),
         None => expect_texts(rt, alloc, None, told),
     }
 }
@@ -197,5 +202,9 @@ fn expect_set(rt: &impl Abort, alloc: Global, words: &str, told: &str) -> Result
 fn distinct_texts_keep_their_order(rt: HostRuntime) -> Result<(), Fail> {
     expect_set(&rt, rt.alloc(), "b a c", "b+a+c")?;
     expect_set(&rt, rt.alloc(), "b a b", "-")?;
+    // One more than are looked through one after another.
+    let many = "q p o n m l k j i h g f e d c b a";
+    expect_set(&rt, rt.alloc(), many, "q+p+o+n+m+l+k+j+i+h+g+f+e+d+c+b+a")?;
+    expect_set(&rt, rt.alloc(), "q p o n m l k j i h g f e d c b q", "-")?;
     Ok(())
 }

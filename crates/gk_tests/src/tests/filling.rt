@@ -2,6 +2,7 @@
 use crate::tests::lines::cells_of;
 use gk_pickle::fill;
 use gk_values::source_value;
+use seeds::fixed_seed;
 use std::alloc::{AllocError, Global};
 use std::process::Abort;
 use std::test::Fail;
@@ -18,9 +19,10 @@ const PLAIN_SOURCE: &str = concat!(
 
 /// Fills a text by the cells of two rows.
 fn filled(alloc: Global, text: &str, header: &str, row: &str) -> Result<String, Fail> {
+    let seed = fixed_seed()?;
     let header = cells_of(alloc, header)?;
     let row = cells_of(alloc, row)?;
-    Ok(fill(alloc, text, header.as_slice(), row.as_slice())?)
+    Ok(fill(alloc, seed, text, header.as_slice(), row.as_slice())?)
 }
 
 fn check_fill(rt: &impl Abort, alloc: Global, rows: &str, wanted: &str) -> Result<(), Fail> {

@@ -1,7 +1,11 @@
 //! The pickles of texts that are parsed, as lines.
-use gk_pickle::{Pickle, ScenarioInFeature, compile, compile_scenario, scenarios};
+use gk_pickle::{
+    Pickle, PicklePlace, ScenarioInFeature, compile, compile_scenario, next_pickle, pass_pickle,
+    scenarios,
+};
 use gk_tree::{Document, parse};
 use gk_values::pickle_value;
+use seeds::fixed_seed;
 use std::alloc::{AllocError, Global};
 use std::process::Abort;
 use std::test::Fail;
@@ -99,16 +103,50 @@ fn told(alloc: Global, uri: &str, pickles: &[Pickle], first_id: u64) -> Result<S
 
 /// The pickles of a document as lines, with the ids that follow those of its nodes.
 fn told_pickles(alloc: Global, uri: &str, document: &Document) -> Result<String, Fail> {
-    let pickles = compile(alloc, document)?;
+    let seed = fixed_seed()?;
+    let pickles = compile(alloc, seed, document)?;
     let told = told(alloc, uri, pickles.as_slice(), document.nodes);
     drop(pickles);
     told
 }
 
-fn told_text(alloc: Global, uri: &str, text: &str) -> Result<String, Fail> {
+/// The pickles of a document, each made after the one before it.
+fn pickles_in_turn(alloc: Global, document: &Document) -> Result<Vec<Pickle>, Fail> {
+    let seed = fixed_seed()?;
+    let mut place = PicklePlace::first();
+    let mut behind = place;
+    let mut made = Vec::new(alloc);
+    for _ in 0..100 {
+        match next_pickle(alloc, seed, document, &mut place)? {
+            Some(pickle) => made.push(pickle)?,
+            None => return Ok(made),
+        }
+        if !pass_pickle(document, &mut behind) || behind != place {
+            return Err(Fail::from("passed by"));
+        }
+    }
+    Err(Fail::from("many pickles"))
+}
+
+/// The same lines of the pickles that are made one after another.
+fn told_in_turn(alloc: Global, uri: &str, document: &Document) -> Result<String, Fail> {
+    let pickles = pickles_in_turn(alloc, document)?;
+    let told = told(alloc, uri, pickles.as_slice(), document.nodes);
+    drop(pickles);
+    told
+}
+
+/// The lines of all pickles of a document, and of those that are made one after another.
+fn told_both(alloc: Global, uri: &str, document: &Document) -> Result<(String, String), Fail> {
+    let told = told_pickles(alloc, uri, document)?;
+    let in_turn = told_in_turn(alloc, uri, document)?;
+    Ok((told, in_turn))
+}
+
+fn told_text(alloc: Global, uri: &str, text: &str) -> Result<(String, String), Fail> {
     match parse(alloc, text) {
         Ok(document) => {
-            let told = told_pickles(alloc, uri, &document);
+            let told = told_both(alloc, uri, &document);
             drop(document);
             told
         }
@@ -123,8 +161,9 @@ fn check_pickles(
     text: &str,
     wanted: &str,
 ) -> Result<(), Fail> {
-    let told = told_text(alloc, uri, text)?;
+    let (told, in_turn) = told_text(alloc, uri, text)?;
     assert_eq!(rt; told.as_str(), wanted);
+    assert_eq!(rt; in_turn.as_str(), wanted);
     Ok(())
 }
 
@@ -170,7 +209,8 @@ fn told_scenario(
     scenario: &ScenarioInFeature<'_>,
     first_id: u64,
 ) -> Result<String, Fail> {
-    let pickles = compile_scenario(alloc, scenario)?;
+    let seed = fixed_seed()?;
+    let pickles = compile_scenario(alloc, seed, scenario)?;
     let told = told(alloc, "u", pickles.as_slice(), first_id);
     drop(pickles);
     told

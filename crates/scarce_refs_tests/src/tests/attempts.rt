@@ -2,6 +2,7 @@
 use crate::tests::checking::check;
 use cm_attempt::{Status, Track, TrackFault};
 use scarce::Shortage;
+use seeds::fixed_seed;
 use std::alloc::{AllocError, Global};
 use std::test::Fail;
 
@@ -301,7 +302,8 @@ fn meet_calls(
 }
 
 fn meet_cases(alloc: Global, shortage: &mut Shortage, count: usize) -> Result<(), Fail> {
-    let mut track = Track::new(alloc);
+    let seed = fixed_seed()?;
+    let mut track = Track::new(alloc, seed);
     let met = meet_calls(&mut track, alloc, shortage, count);
     drop(track);
     met

@@ -2,6 +2,7 @@
 use crate::tests::checking::check;
 use cm_refs::{Declared, RefFault};
 use scarce::Shortage;
+use seeds::{expect_seed, fixed_seed};
 use std::alloc::{AllocError, Global};
 use std::test::Fail;
 
@@ -69,8 +70,7 @@ fn with_bit(bits: u64, bit: bool) -> u64 {
 // A pickle is known by its one step, which has the pickle's own id.
 fn has_pickle(declared: &Declared, id: &str) -> bool {
     match declared.pickle(id) {
-        Some([step]) => step.as_str() == id && declared.has_step(id, id),
-        Some(_) => false,
+        Some(steps) => steps.len() == 1 && steps.get(0) == Some(id) && declared.has_step(id, id),
         None => false,
     }
 }
@@ -199,7 +199,8 @@ fn meet_kinds(
 }
 
 fn meet_names(alloc: Global, shortage: &mut Shortage, count: usize) -> Result<(), Fail> {
-    let mut declared = Declared::new(alloc);
+    let seed = fixed_seed()?;
+    let mut declared = Declared::new(alloc, seed);
     let met = meet_kinds(&mut declared, alloc, shortage, count);
     drop(declared);
     met
@@ -291,7 +292,8 @@ fn meet_both(
 }
 
 fn meet_pickles(alloc: Global, shortage: &mut Shortage, count: usize) -> Result<(), Fail> {
-    let mut declared = Declared::new(alloc);
+    let seed = fixed_seed()?;
+    let mut declared = Declared::new(alloc, seed);
     let met = meet_both(&mut declared, alloc, shortage, count);
     drop(declared);
     met
@@ -382,8 +384,9 @@ fn meet_without_room(declared: &mut Declared, alloc: Global) -> Result<Answers, 
 
 #[test]
 fn refusals_without_room(rt: HostRuntime) -> Result<(), Fail> {
+    let seed = expect_seed(&rt);
     let alloc = rt.alloc();
-    let mut declared = Declared::new(alloc);
+    let mut declared = Declared::new(alloc, seed);
     let answers = meet_without_room(&mut declared, alloc);
     drop(declared);
     check_answers(answers?)

@@ -3,6 +3,7 @@ use crate::tests::meeting::{Came, RUNS, meet_alone, right_if};
 use crate::tests::streams::{INTERLEAVED, PLAIN_LINES, PLAIN_TEXT};
 use ck_commands::{ExitStatus, TextFault, read_text, run};
 use devices::{Compared, Pieces};
+use seeds::fixed_seed;
 use std::alloc::Global;
 use std::test::Fail;
 
@@ -151,9 +152,13 @@ fn came_of_words(
     output: &str,
     wanted: ExitStatus,
 ) -> Came {
+    let Ok(seed) = fixed_seed() else {
+        return Came::Wrong;
+    };
     let mut sink = Compared::new(output, NO_MEMORY);
     let status = run(
         alloc,
+        seed,
         words,
         &mut Pieces::whole(input.as_bytes()),
         &mut sink,

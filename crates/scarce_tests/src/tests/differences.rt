@@ -7,6 +7,7 @@ use gk_document::{Document, Text};
 use gk_pickle::{Pickle as DuePickle, compile};
 use gk_tree::parse;
 use scarce::Shortage;
+use seeds::fixed_seed;
 use std::alloc::{AllocError, Global};
 use std::test::Fail;
 
@@ -145,7 +146,8 @@ fn meet_first_pickle(alloc: Global, pickles: &[DuePickle]) -> Result<(), Fail> {
 }
 
 fn meet_compiled(alloc: Global, document: &Document) -> Result<(), Fail> {
-    let pickles = compile(alloc, document)?;
+    let seed = fixed_seed()?;
+    let pickles = compile(alloc, seed, document)?;
     let met = meet_first_pickle(alloc, pickles.as_slice());
     drop(pickles);
     met

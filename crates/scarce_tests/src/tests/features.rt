@@ -6,11 +6,14 @@ use gk_line::{
     Cell, Fence, Line, TagFault, TagText, cells, doc_line, is_row, is_tags, push_doc_line, tags,
 };
 use gk_pickle::{
-    Pickle, PickleStep, ScenarioInFeature, StepType, compile, compile_scenario, fill, scenarios,
+    Pickle, PicklePlace, PickleStep, ScenarioInFeature, StepType, compile, compile_scenario, fill,
+    next_pickle, scenarios,
 };
 use gk_tree::{Document, FaultKind, ParseFault, parse};
 use scarce::Shortage;
+use seeds::{expect_seed, fixed_seed};
 use std::alloc::{AllocError, Global};
+use std::hash::RandomState;
 use std::test::Fail;
 
 // The text as a line, where it is short enough for one.
@@ -232,12 +235,13 @@ fn documents(rt: HostRuntime) -> Result<(), Fail> {
 
 #[test]
 fn pickles(rt: HostRuntime) -> Result<(), Fail> {
+    let seed = expect_seed(&rt);
     let alloc = rt.alloc();
     let document = parse(alloc, RULED_TEXT)?;
     let met = meet_alone(
         alloc,
         SMALL,
-        |alloc| right_if_ruled(compile(alloc, &document)),
+        |alloc| right_if_ruled(compile(alloc, seed, &document)),
     );
     drop(document);
     met
@@ -253,11 +257,12 @@ fn scenarios_of_a_document(rt: HostRuntime) -> Result<(), Fail> {
 }
 
 fn meet_scenario(alloc: Global, scenarios: &[ScenarioInFeature<'_>]) -> Result<(), Fail> {
+    let seed = fixed_seed()?;
     let scenario = scenarios.first().ok_or("no scenario")?;
     meet_alone(
         alloc,
         SMALL,
-        |alloc| right_if_ruled(compile_scenario(alloc, scenario)),
+        |alloc| right_if_ruled(compile_scenario(alloc, seed, scenario)),
     )
 }
 
@@ -275,6 +280,28 @@ fn pickles_of_a_scenario(rt: HostRuntime) -> Result<(), Fail> {
     met
 }
 
+fn next_ruled(alloc: Global, seed: RandomState, document: &Document) -> Came {
+    let mut place = PicklePlace::first();
+    match next_pickle(alloc, seed, document, &mut place) {
+        Ok(Some(pickle)) => right_if(are_ruled_pickles(&[pickle])),
+        Ok(None) => Came::Wrong,
+        Err(AllocError) => Came::Refused,
+    }
+}
+
+#[test]
+fn the_next_pickle(rt: HostRuntime) -> Result<(), Fail> {
+    let seed = expect_seed(&rt);
+    let document = parse(rt.alloc(), RULED_TEXT)?;
+    let met = meet_alone(
+        rt.alloc(),
+        SMALL,
+        |alloc| next_ruled(alloc, seed, &document),
+    );
+    drop(document);
+    met
+}
+
 fn cells_of(alloc: Global, text: &str) -> Result<Vec<Cell>, Fail> {
     let line = line(text).ok_or("no line")?;
     if !is_row(line) {
@@ -284,10 +311,13 @@ fn cells_of(alloc: Global, text: &str) -> Result<Vec<Cell>, Fail> {
 }
 
 fn fill_text(alloc: Global, header: &[Cell], row: &[Cell]) -> Came {
+    let Ok(seed) = fixed_seed() else {
+        return Came::Wrong;
+    };
     if header.len() != row.len() {
         return Came::Wrong;
     }
-    match fill(alloc, "<a><b>", header, row) {
+    match fill(alloc, seed, "<a><b>", header, row) {
         Ok(text) => right_if(text.as_str() == "11"),
         Err(AllocError) => Came::Refused,
     }

@@ -6,6 +6,7 @@ use ck_commands::{ExitStatus, run_with};
 use cm_envelope::{ByteSink, DeviceFailed};
 use devices::{Compared, Pieces};
 use files::{Look, OpenedFiles, Opener};
+use seeds::fixed_seed;
 use std::alloc::{AllocError, Global};
 use std::io;
 use std::io::Read;
@@ -101,6 +102,9 @@ enum Printed {
 }
 
 fn printed_by_gate(alloc: Global, words: &[&str], told: Told<'_>) -> Printed {
+    let Ok(seed) = fixed_seed() else {
+        return Printed::Other;
+    };
     let mut sink = Beside {
         first: Compared::new(told.whole, NO_MEMORY),
         second: Beside {
@@ -110,7 +114,7 @@ fn printed_by_gate(alloc: Global, words: &[&str], told: Told<'_>) -> Printed {
     };
     let mut files = OpenedFiles::new(alloc, PlainFiles);
     let mut source = Pieces::whole(b"");
-    let status = run_with(alloc, words, &mut files, &mut source, &mut sink);
+    let status = run_with(alloc, seed, words, &mut files, &mut source, &mut sink);
     drop(files);
     let (all, one, both) = (&sink.first, &sink.second.first, &sink.second.second);
     let is_done = status == ExitStatus::Done.code();

@@ -5,6 +5,7 @@ use cm_compile::{CompileFault, write_compiled};
 use cm_envelope::{Envelope, EnvelopeFault, Trouble, read_envelope};
 use devices::{Compared, Pieces};
 use gk_document::Text;
+use seeds::fixed_seed;
 use std::alloc::Global;
 use std::test::Fail;
 
@@ -120,7 +121,10 @@ fn a_pickle(rt: HostRuntime) -> Result<(), Fail> {
 }
 
 fn audit_interleaved(alloc: Global) -> Came {
-    match audit(alloc, &mut Pieces::whole(INTERLEAVED.as_bytes())) {
+    let Ok(seed) = fixed_seed() else {
+        return Came::Wrong;
+    };
+    match audit(alloc, seed, &mut Pieces::whole(INTERLEAVED.as_bytes())) {
         Ok(verdict) => right_if(
             verdict
                 == Verdict::Good(Counts {
@@ -143,8 +147,11 @@ fn audits(rt: HostRuntime) -> Result<(), Fail> {
 
 // A refused call has written nothing.
 fn write_plain(alloc: Global) -> Came {
+    let Ok(seed) = fixed_seed() else {
+        return Came::Wrong;
+    };
     let mut sink = Compared::new(PLAIN_LINES, "");
-    match write_compiled(alloc, "a.feature", PLAIN_TEXT, &mut sink) {
+    match write_compiled(alloc, seed, "a.feature", PLAIN_TEXT, &mut sink) {
         Ok(()) => right_if(sink.has_wanted()),
         Err(CompileFault::Memory) => if sink.has_none() {
             Came::Refused

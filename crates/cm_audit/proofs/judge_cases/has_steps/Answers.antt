@@ -1,6 +1,6 @@
-use Rattle.std.proofs.Common.{◌≡◌, ◌<◌, ◌+◌, ◌∷◌, ◌∙◌, ap, subst, sym, false, true, length, get_or, drop, map, Some, arith}
+use Rattle.std.proofs.Common.{◌≡◌, ◌<◌, ◌+◌, ◌∷◌, ◌∙◌, ap, subst, sym, false, true, length, get_or, drop, Some, arith}
 use Rattle.std.specs.List.{filter_map}
-use Rattle.std.specs.String.{string_bytes}
+use Rattle.cm_refs.specs.StepIds.{ids_in}
 use Rattle.cm_stream.specs.Texts.{same_texts}
 use Rattle.cm_audit.proofs.Cases.{is_at, is_within, other_texts, same_after, with_id, without_id, named_step}
 use Rattle.cm_audit.proofs.judge_cases.has_steps.Goals as goal
@@ -9,7 +9,7 @@ use Rattle.cm_audit.proofs.judge_cases.has_steps.Goals.{in-Some+else-not-is_step
 pub returns-then-not-is_step_at : goal.returns-then-not-is_step_at
 returns-then-not-is_step_at c =
     let ts = c.args.case.now.test_steps in
-    let ss = c.args.steps.now in
+    let ss = ids_in c.args.steps.now in
     let i = c.loop-step.step-index in
     let n = c.loop-step.next in
     let id = c.as_str.result.now in
@@ -20,14 +20,14 @@ returns-then-not-is_step_at c =
     let at : is_at ss n id ≡ false = sym c.is_step_at.ensures ∙ c.if-not-is_step_at.true in
     sym (
     sym c.loop-step.invariant.same
-    ∙ ap (same_texts (map string_bytes (drop n ss))) ids
+    ∙ ap (same_texts (drop n ss)) ids
     ∙ other_texts ss n id (filter_map named_step (drop (i + 1) ts)) at
     )
 
 pub loop-step-preserved : goal.loop-step-preserved
 loop-step-preserved c =
     let ts = c.args.case.now.test_steps in
-    let ss = c.args.steps.now in
+    let ss = ids_in c.args.steps.now in
     let i = c.loop-step.step-index in
     let n = c.loop-step.next in
     let within : i < length ts = subst (λ l. i < length l) c.as_slice-step-items.ensures c.loop-step-test.true in
@@ -41,9 +41,9 @@ loop-step-preserved c =
           record {
             within = omega (arith, is_within ss n id at, w.next-is);
             same =
-                ap (λ m. same_texts (map string_bytes (drop m ss)) (filter_map named_step (drop (i + 1) ts))) w.next-is
+                ap (λ m. same_texts (drop m ss) (filter_map named_step (drop (i + 1) ts))) w.next-is
                 ∙ sym (same_after ss n id (filter_map named_step (drop (i + 1) ts)) at)
-                ∙ sym (ap (same_texts (map string_bytes (drop n ss))) ids)
+                ∙ sym (ap (same_texts (drop n ss)) ids)
                 ∙ c.loop-step.invariant.same;
           }
       | in_default w ↦
@@ -52,8 +52,13 @@ loop-step-preserved c =
           record {
             within = omega (arith, c.loop-step.invariant.within, w.next-is);
             same =
-                ap (λ m. same_texts (map string_bytes (drop m ss)) (filter_map named_step (drop (i + 1) ts))) w.next-is
-                ∙ sym (ap (same_texts (map string_bytes (drop n ss))) ids)
+                ap (λ m. same_texts (drop m ss) (filter_map named_step (drop (i + 1) ts))) w.next-is
+                ∙ sym (ap (same_texts (drop n ss)) ids)
                 ∙ c.loop-step.invariant.same;
           }
     ]
+
+pub overflow_add-next : goal.overflow_add-next
+overflow_add-next c =
+    let at = sym c.is_step_at.ensures ∙ c.if-not-is_step_at.false in
+    omega (arith, is_within (ids_in c.args.steps.now) c.loop-step.next c.as_str.result.now at, c.len-count.ensures, c.len-count.type_inv)

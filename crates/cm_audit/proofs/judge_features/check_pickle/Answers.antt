@@ -39,7 +39,7 @@ returns-then-not-is_next-clause-err c =
     let source : has_text x.uri (summary_of s).declared.sources ≡ true = listed_is x.uri rows (Some (kept_row x.uri k.now)) row in
     let document = ap (λ t. has_text t s.declared.documents) (sym c.as_str-uri.ensures) ∙ sym c.has_document.ensures ∙ c.if-not-has_document.false in
     let known : (has_text x.uri (summary_of s).declared.sources && has_text x.uri s.declared.documents) ≡ true = rw (source, document) refl in
-    let next = next_bare x.uri x k.now ∙ sym c.is_next.ensures ∙ c.if-not-is_next.true in
+    let next = next_bare x.uri x k.now ∙ sym c.in_ok-is_next.ensures ∙ c.if-not-is_next.true in
     pickle_differs (summary_of s) x known (rw (← row, next) refl)
 
 pub returns-clause-known : goal.returns-clause-known
@@ -53,7 +53,7 @@ returns-clause-known c =
     let source : has_text x.uri (summary_of s).declared.sources ≡ true = listed_is x.uri rows (Some (kept_row x.uri k.now)) row in
     let document = ap (λ t. has_text t s.declared.documents) (sym c.as_str-uri.ensures) ∙ sym c.has_document.ensures ∙ c.if-not-has_document.false in
     let known : (has_text x.uri (summary_of s).declared.sources && has_text x.uri s.declared.documents) ≡ true = rw (source, document) refl in
-    let next = next_bare x.uri x k.now ∙ sym c.is_next.ensures ∙ c.if-not-is_next.false in
+    let next = next_bare x.uri x k.now ∙ sym c.in_ok-is_next.ensures ∙ c.if-not-is_next.false in
     known
 
 pub returns-clause-next : goal.returns-clause-next
@@ -67,5 +67,5 @@ returns-clause-next c =
     let source : has_text x.uri (summary_of s).declared.sources ≡ true = listed_is x.uri rows (Some (kept_row x.uri k.now)) row in
     let document = ap (λ t. has_text t s.declared.documents) (sym c.as_str-uri.ensures) ∙ sym c.has_document.ensures ∙ c.if-not-has_document.false in
     let known : (has_text x.uri (summary_of s).declared.sources && has_text x.uri s.declared.documents) ≡ true = rw (source, document) refl in
-    let next = next_bare x.uri x k.now ∙ sym c.is_next.ensures ∙ c.if-not-is_next.false in
+    let next = next_bare x.uri x k.now ∙ sym c.in_ok-is_next.ensures ∙ c.if-not-is_next.false in
     rw (← row, next) refl

@@ -2,9 +2,8 @@ use Rattle.std.proofs.Common.{refl}
 use Rattle.cm_audit.proofs.Parsed.{accepted, beyond, other_language, refused}
 use Rattle.cm_audit.proofs.source.read_source.Goals as goal
 
-pub returns-in_ok-new-in-Ok : goal.returns-in_ok-new-in-Ok
-returns-in_ok-new-in-Ok c =
-    rw (accepted c.args.text.now c.parse.result c.parse.ensures.too_long c.in-Ok.document c.in-Ok.is c.in-Ok.ensures.ok) c.in_ok-new-in-Ok.ensures
+pub returns-in-Ok : goal.returns-in-Ok
+returns-in-Ok c = rw (accepted c.args.text.now c.parse.result c.parse.ensures.too_long c.in-Ok.document c.in-Ok.is c.in-Ok.ensures.ok) c.new.ensures
 
 pub returns-in-TooLong : goal.returns-in-TooLong
 returns-in-TooLong c =

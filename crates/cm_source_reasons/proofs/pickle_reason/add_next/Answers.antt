@@ -1,5 +1,7 @@
-use Rattle.std.proofs.Common.{◌≡◌, ◌∙◌, ◌++◌, append_assoc, string_bytes, Bor, List, ℕ, Option}
-use Rattle.std.specs.Prelude.{option_map}
+use Rattle.std.proofs.Common.{◌≡◌, ◌∙◌, ◌++◌, [], append_assoc, ap, refl, sym, string_bytes, Bor, List, ℕ, None, Option, Some}
+use Rattle.std.specs.Prelude.{option_map, slice_get}
+use Rattle.gk_pickle.specs.Rest.{IsFirst}
+use Rattle.cm_audit.specs.Kept.{kept_row}
 use Rattle.cm_envelope.specs.declared.envelope.Envelope.{Envelope}
 use Rattle.cm_envelope.specs.declared.pickle.Pickle.{Pickle}
 use Rattle.cm_stream.specs.Sources.{DuePickle}
@@ -16,7 +18,17 @@ next_told es p old mid new uri ids kept due next d a b c u i n =
     b ∙ (λ j. a j ++ sides_text (c j)) ∙ append_assoc old (due_line es uri ids due) (sides_text (pickle_difference ids due p))
     ∙ (λ j. old ++ (due_line es (u j) (i j) (n j) ++ sides_text (pickle_difference (i j) (n j) p)))
 
+first_is : (start kept after : List DuePickle) (found : Option DuePickle) → start ≡ kept → IsFirst start after found → found ≡ slice_get kept 0
+first_is start kept after None same h = rw (← same, h.0) refl
+first_is start kept after (Some p) same h = rw (← same, h) refl
+
 pub returns : goal.returns
 returns c es is =
-    next_told es c.args.pickle.now (string_bytes c.args.text.now) _ _ c.as_str.result.now c.ids-ids.result.now _ (option_map (λ (x : Bor DuePickle). x.now) c.next_due-due.result) _ c.in_ok-difference.difference
-    (c.in_ok-add_due.ensures es is) c.in_ok-add_sides.ensures c.in_ok-difference.ensures c.as_str.ensures c.ids-ids.ensures c.next_due-due.ensures
+    let p = c.args.pickle.now in
+    let ids = c.ids-ids.result.now in
+    let row = kept_row [] c.args.source.now in
+    let due = option_map (λ (x : Bor DuePickle). x.now) c.as_ref.result in
+    let same = c.as_ref-2.ensures.value ∙ sym c.as_ref.ensures.value in
+    next_told es p (string_bytes c.args.text.now) _ _ c.as_str.result.now ids _ due _ c.in_ok-difference.difference
+    (c.in_ok-add_due.ensures es is) c.in_ok-add_sides.ensures (c.in_ok-difference.ensures ∙ ap (λ (o : Option DuePickle). pickle_difference ids o p) same) c.as_str.ensures c.ids-ids.ensures
+    (c.as_ref.ensures.value ∙ first_is c.due.result row.due c.next.new.self c.in_ok-due.due c.due.ensures c.in_ok-due.ensures)

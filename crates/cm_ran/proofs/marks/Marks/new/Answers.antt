@@ -8,7 +8,7 @@ use Rattle.cm_ran.proofs.WholeLemmas.{whole_at_first}
 use Rattle.cm_ran.proofs.marks.Marks.new.Goals as goal
 
 pub returns-clause-unmarked : goal.returns-clause-unmarked
-returns-clause-unmarked c = unmarked_at_first (record { rows = c.new.result }) (ap (λ (entries : List (Bor Utf8 × Vec Bool Global)). map (λ k. k.now) (keys_of entries)) c.new.ensures.empty)
+returns-clause-unmarked c = unmarked_at_first (record { rows = c.with_hasher.result }) (ap (λ (entries : List (Bor Utf8 × Vec Bool Global)). map (λ k. k.now) (keys_of entries)) c.with_hasher.ensures.empty)
 
 pub returns-clause-rows : goal.returns-clause-rows
-returns-clause-rows c = whole_at_first (record { rows = c.new.result }) (ap (λ (entries : List (Bor Utf8 × Vec Bool Global)). map (λ k. k.now) (keys_of entries)) c.new.ensures.empty)
+returns-clause-rows c = whole_at_first (record { rows = c.with_hasher.result }) (ap (λ (entries : List (Bor Utf8 × Vec Bool Global)). map (λ k. k.now) (keys_of entries)) c.with_hasher.ensures.empty)

@@ -1,8 +1,8 @@
 //! Rows come again as they were added.
-use crate::{TextRows, Texts};
 use std::alloc::Global;
 use std::process::Abort;
 use std::test::Fail;
+use text_rows::{TextRows, Texts};
 
 // Each line is a row, and its texts are parted by bars; and the same with a bar after each, and an empty row.
 const ADDED: &str = "id|uri|é|日本\n\n|\nlast||text";

@@ -7,7 +7,7 @@ use Rattle.std.proofs.lemmas.Iterator.Consumers.{YieldsList-so_far, YieldsList-t
 use Rattle.cm_refs.specs.Declarations.{has_repeat, has_text}
 use Rattle.cm_refs.proofs.EntryLemmas.{list_any-map}
 use Rattle.cm_refs.proofs.RepeatLemmas.{appended_text, has_repeat-push, repeat_after}
-use Rattle.cm_refs.proofs.names.distinct_texts.Goals as goal
+use Rattle.cm_refs.proofs.names.distinct_many.Goals as goal
 
 pub returns-then-not-is_new-clause-repeated : goal.returns-then-not-is_new-clause-repeated
 returns-then-not-is_new-clause-repeated c =

@@ -1,7 +1,7 @@
 use Rattle.std.proofs.Common.{◌≡◌, false, map}
 use Rattle.std.specs.String.{string_bytes}
 use Rattle.cm_refs.specs.Declarations.{has_repeat}
-use Rattle.cm_refs.proofs.names.distinct_texts.Given as goal
+use Rattle.cm_refs.proofs.names.distinct_many.Given as goal
 
 abbrev pub invariant-loop-text : goal.invariant-loop-text
 invariant-loop-text l =

@@ -1,6 +1,7 @@
 //! What is missing of files, worked out by hand.
-use crate::Missing;
+use cm_missing::Missing;
 use cm_stream::Conditions;
+use seeds::fixed_seed;
 use std::alloc::{AllocError, Global};
 use std::process::Abort;
 use std::test::Fail;
@@ -58,11 +59,12 @@ fn expect(
 #[test]
 fn the_rows_of_two_blocks(rt: HostRuntime) -> Result<(), Fail> {
     let alloc = rt.alloc();
+    let seed = fixed_seed()?;
     let mut missing = Missing::new(alloc);
     expect(&rt, alloc, &missing, "", 0, 0)?;
     let strict = allowing(alloc, &[])?;
     let flags = [false, true];
-    missing.add_file(alloc, "a.feature", Some(OUTLINE), &strict, &flags)?;
+    missing.add_file(alloc, seed, "a.feature", Some(OUTLINE), &strict, &flags)?;
     let lines = concat!(
         "MISSING a.feature:6 o 1\n",
         "MISSING a.feature:11 o 3\n",
@@ -74,10 +76,12 @@ fn the_rows_of_two_blocks(rt: HostRuntime) -> Result<(), Fail> {
 #[test]
 fn a_block_with_an_allowed_tag(rt: HostRuntime) -> Result<(), Fail> {
     let alloc = rt.alloc();
+    let seed = fixed_seed()?;
     let mut missing = Missing::new(alloc);
     let conditions = allowing(alloc, &["@other", "@later"])?;
     missing.add_file(
         alloc,
+        seed,
         "a.feature",
         Some(OUTLINE),
         &conditions,
@@ -86,30 +90,39 @@ fn a_block_with_an_allowed_tag(rt: HostRuntime) -> Result<(), Fail> {
     let lines = "MISSING a.feature:7 o 2\nMISSING a.feature:12 s\n";
     expect(&rt, alloc, &missing, lines, 4, 1)?;
     let flags = [true, true, true, true, false];
-    missing.add_file(alloc, "b.feature", Some(OUTLINE), &conditions, &flags)?;
+    missing.add_file(alloc, seed, "b.feature", Some(OUTLINE), &conditions, &flags)?;
     expect(&rt, alloc, &missing, lines, 8, 1)
 }
 
 #[test]
 fn nothing_is_missing(rt: HostRuntime) -> Result<(), Fail> {
     let alloc = rt.alloc();
+    let seed = fixed_seed()?;
     let mut missing = Missing::new(alloc);
     let mut conditions = allowing(alloc, &[])?;
-    missing.add_file(alloc, "a.feature", Some(ONE), &conditions, &[true])?;
-    missing.add_file(alloc, "b.feature", Some("# nothing\n"), &conditions, &[])?;
+    missing.add_file(alloc, seed, "a.feature", Some(ONE), &conditions, &[true])?;
+    missing.add_file(
+        alloc,
+        seed,
+        "b.feature",
+        Some("# nothing\n"),
+        &conditions,
+        &[],
+    )?;
     expect(&rt, alloc, &missing, "", 1, 0)?;
     conditions.allows_unrun = true;
-    missing.add_file(alloc, "c.feature", Some(RULE), &conditions, &[])?;
+    missing.add_file(alloc, seed, "c.feature", Some(RULE), &conditions, &[])?;
     expect(&rt, alloc, &missing, "", 3, 2)
 }
 
 #[test]
 fn files_all_of_whose_scenarios_ran(rt: HostRuntime) -> Result<(), Fail> {
     let alloc = rt.alloc();
+    let seed = fixed_seed()?;
     let mut missing = Missing::new(alloc);
     let strict = allowing(alloc, &[])?;
     missing.add_whole(3)?;
-    missing.add_file(alloc, "a.feature", Some(ONE), &strict, &[])?;
+    missing.add_file(alloc, seed, "a.feature", Some(ONE), &strict, &[])?;
     missing.add_whole(2)?;
     expect(&rt, alloc, &missing, "MISSING a.feature:2 s\n", 6, 0)
 }
@@ -126,23 +139,39 @@ fn more_scenarios_than_64_bits_hold(rt: HostRuntime) -> Result<(), Fail> {
 #[test]
 fn a_rule_with_a_background(rt: HostRuntime) -> Result<(), Fail> {
     let alloc = rt.alloc();
+    let seed = fixed_seed()?;
     let mut missing = Missing::new(alloc);
     let strict = allowing(alloc, &[])?;
-    missing.add_file(alloc, "r.feature", Some(RULE), &strict, &[true, false])?;
+    missing.add_file(
+        alloc,
+        seed,
+        "r.feature",
+        Some(RULE),
+        &strict,
+        &[true, false],
+    )?;
     expect(&rt, alloc, &missing, "MISSING r.feature:9 t\n", 2, 0)
 }
 
 #[test]
 fn texts_that_are_refused(rt: HostRuntime) -> Result<(), Fail> {
     let alloc = rt.alloc();
+    let seed = fixed_seed()?;
     let mut missing = Missing::new(alloc);
     let strict = allowing(alloc, &[])?;
     let foreign = "# language: de\nFunktion: f\n";
-    missing.add_file(alloc, "a.feature", Some("Feature: f\n"), &strict, &[])?;
-    missing.add_file(alloc, "b.feature", Some("\n  Given a\n"), &strict, &[true])?;
-    missing.add_file(alloc, "c.feature", None, &strict, &[true])?;
-    missing.add_file(alloc, "d.feature", Some(ONE), &strict, &[])?;
-    missing.add_file(alloc, "e.feature", Some(foreign), &strict, &[])?;
+    missing.add_file(alloc, seed, "a.feature", Some("Feature: f\n"), &strict, &[])?;
+    missing.add_file(
+        alloc,
+        seed,
+        "b.feature",
+        Some("\n  Given a\n"),
+        &strict,
+        &[true],
+    )?;
+    missing.add_file(alloc, seed, "c.feature", None, &strict, &[true])?;
+    missing.add_file(alloc, seed, "d.feature", Some(ONE), &strict, &[])?;
+    missing.add_file(alloc, seed, "e.feature", Some(foreign), &strict, &[])?;
     let lines = concat!(
         "REFUSED b.feature:2:3 1 Unexpected\n",
         "REFUSED c.feature:0:0 6 TooLong\n",
@@ -155,10 +184,11 @@ fn texts_that_are_refused(rt: HostRuntime) -> Result<(), Fail> {
 #[test]
 fn a_path_with_a_line_feed(rt: HostRuntime) -> Result<(), Fail> {
     let alloc = rt.alloc();
+    let seed = fixed_seed()?;
     let mut missing = Missing::new(alloc);
     let strict = allowing(alloc, &[])?;
-    missing.add_file(alloc, "a\nb\\c.feature", Some(ONE), &strict, &[])?;
-    missing.add_file(alloc, "\u{202e}d", Some("x\n"), &strict, &[])?;
+    missing.add_file(alloc, seed, "a\nb\\c.feature", Some(ONE), &strict, &[])?;
+    missing.add_file(alloc, seed, "\u{202e}d", Some("x\n"), &strict, &[])?;
     let lines = "MISSING a\\nb\\\\c.feature:2 s\nREFUSED \\u202ed:1:1 1 Unexpected\n";
     expect(&rt, alloc, &missing, lines, 1, 0)
 }
@@ -180,12 +210,13 @@ fn many(alloc: Global, count: u32) -> Result<(String, String), Fail> {
 #[test]
 fn a_hundred_scenarios_and_more(rt: HostRuntime) -> Result<(), Fail> {
     let alloc = rt.alloc();
+    let seed = fixed_seed()?;
     let strict = allowing(alloc, &[])?;
     for (count, more) in [(100, ""), (101, "and 1 more\n"), (112, "and 12 more\n")] {
         let (text, mut lines) = many(alloc, count)?;
         lines.push_str(more)?;
         let mut missing = Missing::new(alloc);
-        missing.add_file(alloc, "a.feature", Some(text.as_str()), &strict, &[])?;
+        missing.add_file(alloc, seed, "a.feature", Some(text.as_str()), &strict, &[])?;
         expect(&rt, alloc, &missing, lines.as_str(), u64::from(count), 0)?;
     }
     Ok(())

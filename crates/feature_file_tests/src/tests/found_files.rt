@@ -1,6 +1,7 @@
 //! The feature files of paths in a tree of folders in memory.
-use crate::feature_paths;
+use feature_paths::feature_paths;
 use files::{Entry, EntryKind, Look, OpenedFiles, Opener};
+use seeds::fixed_seed;
 use std::alloc::{AllocError, Global};
 use std::io;
 use std::process::Abort;
@@ -79,7 +80,7 @@ impl Opener for Tree {
 fn expect(rt: &impl Abort, alloc: Global, paths: &[&str], wanted: &str) -> Result<(), Fail> {
     let mut files = OpenedFiles::new(alloc, Tree);
     let mut text = String::new(alloc);
-    match feature_paths(alloc, &mut files, paths) {
+    match feature_paths(alloc, fixed_seed()?, &mut files, paths) {
         Ok(found) => {
             for path in &found {
                 text.push_str(path.as_str())?;

@@ -1,0 +1,6 @@
+use Rattle.std.proofs.Common.{◌∙◌, ap}
+use Rattle.cm_state.specs.Summary.{one_more}
+use Rattle.cm_audit.proofs.source.AcceptedSource.count_pickle.Goals as goal
+
+pub returns : goal.returns
+returns c = λ uri. c.forget.ensures uri ∙ c.pass.ensures uri

@@ -1,0 +1,2 @@
+mod found_files;
+mod missing_scenarios;

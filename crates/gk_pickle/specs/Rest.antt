@@ -1,0 +1,91 @@
+-- The pickles of a document from a place in it on.
+use Rattle.std.specs.Prelude.{◌≡◌, ℕ, List, [], ◌∷◌, ◌++◌, map, drop, Option, Some, None}
+use Rattle.std.specs.List.{flat_map}
+use Rattle.gk_document.specs.declared.tree.Examples.{Examples}
+use Rattle.gk_document.specs.declared.tree.Scenario.{Scenario}
+use Rattle.gk_document.specs.declared.tree.Rule.{Rule}
+use Rattle.gk_document.specs.declared.tree.Feature.{Feature}
+use Rattle.gk_document.specs.declared.tree.Document.{Document}
+use Rattle.gk_pickle.specs.declared.pickle.Pickle.{Pickle}
+use Rattle.gk_pickle.specs.declared.rest.PicklePlace.{PicklePlace}
+use Rattle.gk_pickle.specs.Inherited.{Inherited, no_filling}
+use Rattle.gk_pickle.specs.Pickles.{pickle_of, examples_pickles, scenario_pickles}
+use Rattle.gk_pickle.specs.InFeature.{ScenarioInFeature}
+use Rattle.gk_pickle.specs.Scenarios.{inherited_in}
+use Rattle.gk_pickle.specs.Spot.{Group}
+
+-- the feature itself, then each rule
+abbrev pub groups : Feature → List Group
+groups f =
+    record { feature = f; rule = None }
+    ∷ map (λ r. record { feature = f; rule = Some r }) f.rules
+
+abbrev pub scenarios_in : Feature → Option Rule → List Scenario
+scenarios_in f None = f.scenarios
+scenarios_in f (Some r) = r.scenarios
+
+abbrev pub scenarios_at : Group → List Scenario
+scenarios_at g = scenarios_in g.feature g.rule
+
+abbrev pub inherited_at : Group → Inherited
+inherited_at g = inherited_in g.feature g.rule
+
+abbrev pub group_pickles : Group → List Pickle
+group_pickles g = flat_map (scenario_pickles (inherited_at g)) (scenarios_at g)
+
+-- those of blocks, but for the first rows of the first one
+abbrev pub from_row : Inherited → Scenario → List Examples → (row : ℕ) → List Pickle
+from_row inherited s [] row = []
+from_row inherited s (e ∷ es) row =
+    drop row (examples_pickles inherited s e) ++ flat_map (examples_pickles inherited s) es
+
+-- those of a scenario, but for its first blocks, and the first rows of the next one; without blocks, but for the first ones
+abbrev pub of_outline : Inherited → Scenario → List Examples → (block row : ℕ) → List Pickle
+of_outline inherited s [] block row = drop row (pickle_of inherited s [] no_filling ∷ [])
+of_outline inherited s (e ∷ es) block row = from_row inherited s (drop block (e ∷ es)) row
+
+abbrev pub rest_of_scenario : Inherited → Scenario → (block row : ℕ) → List Pickle
+rest_of_scenario inherited s block row = of_outline inherited s s.examples block row
+
+-- of a scenario in its feature: those of one of its blocks, those of some of its blocks, those of all, and its pickle without them
+abbrev pub block_pickles : ScenarioInFeature → Examples → List Pickle
+block_pickles s e = examples_pickles (inherited_in s.feature s.rule) s.scenario e
+
+abbrev pub rest_of_blocks : ScenarioInFeature → List Examples → (block row : ℕ) → List Pickle
+rest_of_blocks s es block row =
+    from_row (inherited_in s.feature s.rule) s.scenario (drop block es) row
+
+abbrev pub rest_of_one : ScenarioInFeature → (block row : ℕ) → List Pickle
+rest_of_one s block row = rest_of_scenario (inherited_in s.feature s.rule) s.scenario block row
+
+abbrev pub plain_pickle : ScenarioInFeature → List Pickle
+plain_pickle s = pickle_of (inherited_in s.feature s.rule) s.scenario [] no_filling ∷ []
+
+-- those of scenarios, the first from such a place on
+abbrev pub from_block : Inherited → List Scenario → (block row : ℕ) → List Pickle
+from_block inherited [] block row = []
+from_block inherited (s ∷ ss) block row =
+    rest_of_scenario inherited s block row ++ flat_map (scenario_pickles inherited) ss
+
+abbrev pub rest_of_group : Group → (scenario block row : ℕ) → List Pickle
+rest_of_group g scenario block row =
+    from_block (inherited_at g) (drop scenario (scenarios_at g)) block row
+
+-- those of groups, the first from such a place on
+abbrev pub from_scenario : List Group → (scenario block row : ℕ) → List Pickle
+from_scenario [] scenario block row = []
+from_scenario (g ∷ gs) scenario block row =
+    rest_of_group g scenario block row ++ flat_map group_pickles gs
+
+abbrev pub rest_in : Option Feature → PicklePlace → List Pickle
+rest_in None p = []
+rest_in (Some f) p = from_scenario (drop p.group (groups f)) p.scenario p.block p.row
+
+-- the pickles of a document from a place on
+unfoldable pub rest_of : Document → PicklePlace → List Pickle
+rest_of d p = rest_in d.feature p
+
+-- the first of some pickles, if there is one, and those after it
+abbrev pub IsFirst : (before after : List Pickle) → Option Pickle → Type 0
+IsFirst before after None = (before ≡ []) × (after ≡ [])
+IsFirst before after (Some p) = before ≡ p ∷ after
