@@ -7,4 +7,4 @@ mod members;
 mod pickles;
 mod producers;
 mod std_devices;
-mod text_rows;
+mod rows_of_texts;

@@ -15,7 +15,6 @@
 
 use std::hash::RandomState;
 use std::io;
-use std::process::Abort;
 use std::random::RandomSource;
 
 /// A source of bytes that are all alike.
@@ -34,12 +33,4 @@ impl RandomSource for Alike {
 /// None that its source of bytes makes.
 pub fn fixed_seed() -> io::Result<RandomState> {
     RandomState::new(&Alike)
-}
-
-/// That seed, where a test can end by `rt`.
-pub fn expect_seed(rt: &impl Abort) -> RandomState {
-    match fixed_seed() {
-        Ok(seed) => seed,
-        Err(_) => panic!(rt; "no seed"),
-    }
 }

@@ -4,7 +4,7 @@ use ck_commands::{TextFault, read_text};
 use cm_audit::{Counts, Reason, StreamFault, Verdict, audit};
 use cm_envelope::{ByteSource, LineFault, Trouble};
 use devices::{Pieces, Repeating};
-use seeds::expect_seed;
+use seeds::fixed_seed;
 use std::alloc::Global;
 use std::process::Abort;
 use std::test::Fail;
@@ -15,7 +15,7 @@ fn expect_verdict(
     words: &str,
     wanted: Verdict,
 ) -> Result<(), Fail> {
-    let seed = expect_seed(rt);
+    let seed = fixed_seed().expect(rt, "a seed");
     let stream = stream_of(alloc, words)?;
     let found = audit(alloc, seed, &mut Pieces::whole(stream.as_bytes()));
     assert!(rt; found == Ok(wanted), "{words}");
@@ -64,7 +64,7 @@ fn other_streams_have_a_line_and_why(rt: HostRuntime) -> Result<(), Fail> {
 
 #[test]
 fn a_failed_read_of_a_stream(rt: HostRuntime) {
-    let seed = expect_seed(&rt);
+    let seed = fixed_seed().expect(&rt, "a seed");
     let mut source = Pieces::whole(b"").failing_at_end();
     assert!(rt; audit(rt.alloc(), seed, &mut source) == Err(Trouble::ReadFailed));
 }

@@ -2,7 +2,7 @@
 use crate::tests::running::expect_run;
 use ck_commands::run;
 use devices::{FailedWrite, Failing, Pieces, Store};
-use seeds::expect_seed;
+use seeds::fixed_seed;
 use std::alloc::Global;
 use std::process::Abort;
 use std::test::Fail;
@@ -79,7 +79,7 @@ fn a_read_that_fails_before_any_line(rt: HostRuntime) {
 
 #[test]
 fn a_write_that_fails_after_100_bytes(rt: HostRuntime) {
-    let seed = expect_seed(&rt);
+    let seed = fixed_seed().expect(&rt, "a seed");
     for failed in [FailedWrite::Refuses, FailedWrite::TakesNone] {
         let mut source = Pieces::whole(TEXT.as_bytes());
         let mut sink = Store::new(rt.alloc(), 100)

@@ -4,7 +4,7 @@ use crate::tests::lines::{RETRIED, stream_of};
 use crate::tests::running::{Runner, WithoutFiles, expect_run_by};
 use ck_commands::run;
 use devices::{FailedWrite, Failing, Pieces, Store};
-use seeds::expect_seed;
+use seeds::fixed_seed;
 use std::alloc::Global;
 use std::process::Abort;
 use std::test::Fail;
@@ -234,7 +234,7 @@ fn expect_words_to_fail(
     words: &[&str],
     status: u8,
 ) -> Result<(), Fail> {
-    let seed = expect_seed(rt);
+    let seed = fixed_seed().expect(rt, "a seed");
     let mut sink = Store::new(alloc, usize::MAX);
     assert_eq!(rt;
         run(alloc, seed, words, &mut Pieces::whole(b""), &mut sink),

@@ -2,7 +2,7 @@
 use crate::tests::memory_files::{A_RUN, BAD_RUN, EMPTY_RUN, expect_gate};
 use ck_commands::run;
 use devices::{Pieces, Store};
-use seeds::expect_seed;
+use seeds::fixed_seed;
 use std::test::Fail;
 
 #[test]
@@ -204,7 +204,7 @@ MISSING x\\n\\u202e.feature:3 t
 
 #[test]
 fn without_files_no_feature_can_be_read(rt: HostRuntime) -> Result<(), Fail> {
-    let seed = expect_seed(&rt);
+    let seed = fixed_seed().expect(&rt, "a seed");
     let mut source = Pieces::whole(b"");
     let mut sink = Store::new(rt.alloc(), 7);
     let words = ["gate", "--features", "a.feature"];

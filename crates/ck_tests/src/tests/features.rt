@@ -3,7 +3,7 @@ use crate::tests::lines::repeated;
 use crate::tests::running::expect_told;
 use ck_commands::run;
 use devices::{Failing, Pieces, Repeating, Store};
-use seeds::expect_seed;
+use seeds::fixed_seed;
 use std::alloc::Global;
 use std::process::Abort;
 use std::test::Fail;
@@ -64,7 +64,7 @@ fn bytes_that_are_no_text(rt: HostRuntime) -> Result<(), Fail> {
 
 #[test]
 fn a_told_text_whose_flush_fails(rt: HostRuntime) {
-    let seed = expect_seed(&rt);
+    let seed = fixed_seed().expect(&rt, "a seed");
     let mut source = Pieces::whole(b"Feature: f");
     let mut sink = Store::new(rt.alloc(), 3).failing_flushes(Failing::EverSince(1));
     assert_eq!(rt;
@@ -98,7 +98,7 @@ fn texts_at_the_limit_of_lines(rt: HostRuntime) -> Result<(), Fail> {
 // The text is refused once 65,536 bytes beyond the limit were read.
 #[test]
 fn a_text_without_end(rt: HostRuntime) {
-    let seed = expect_seed(&rt);
+    let seed = fixed_seed().expect(&rt, "a seed");
     let mut source = Repeating::new(b'\xff');
     let mut sink = Store::new(rt.alloc(), 7);
     assert_eq!(rt;

@@ -2,12 +2,12 @@
 //! 1,073,741,824 bytes with all line feeds. Their sources make up the bytes, blank lines all, so that no stream is held.
 use ck_commands::run;
 use devices::{Repeating, Store};
-use seeds::expect_seed;
+use seeds::fixed_seed;
 use std::alloc::Global;
 use std::process::Abort;
 
 fn expect_answer(rt: &impl Abort, alloc: Global, source: Repeating, status: u8, told: &str) {
-    let seed = expect_seed(rt);
+    let seed = fixed_seed().expect(rt, "a seed");
     let mut source = source;
     let mut sink = Store::new(alloc, 7);
     assert_eq!(rt;

@@ -3,7 +3,7 @@ use crate::tests::lines::{RETRIED, stream_of};
 use ck_commands::run_with;
 use devices::{Pieces, Store};
 use files::{Entry, EntryKind, Look, OpenedFiles, Opener};
-use seeds::expect_seed;
+use seeds::fixed_seed;
 use std::alloc::{AllocError, Global};
 use std::process::Abort;
 use std::test::Fail;
@@ -109,7 +109,7 @@ pub(crate) fn expect_gate(
     text: &str,
     status: u8,
 ) -> Result<(), Fail> {
-    let seed = expect_seed(rt);
+    let seed = fixed_seed().expect(rt, "a seed");
     let a_run = stream_of(alloc, A_RUN)?;
     let b_run = stream_of(alloc, B_RUN)?;
     let failed_run = stream_of(alloc, FAILED_RUN)?;

@@ -4,7 +4,7 @@ use crate::tests::memory_files::{A_RUN, BAD_RUN, expect_gate};
 use ck_commands::{run, run_with};
 use devices::{Failing, Pieces, Store};
 use files::{NoOpener, OpenedFiles};
-use seeds::expect_seed;
+use seeds::fixed_seed;
 use std::test::Fail;
 
 #[test]
@@ -95,7 +95,7 @@ a: due 1
 
 #[test]
 fn without_files_none_can_be_opened(rt: HostRuntime) -> Result<(), Fail> {
-    let seed = expect_seed(&rt);
+    let seed = fixed_seed().expect(&rt, "a seed");
     let stream = stream_of(rt.alloc(), A_RUN)?;
     let mut source = Pieces::whole(stream.as_bytes());
     let mut sink = Store::new(rt.alloc(), 7);
@@ -112,7 +112,7 @@ fn without_files_none_can_be_opened(rt: HostRuntime) -> Result<(), Fail> {
 
 #[test]
 fn a_failed_read_of_standard_input_is_told_of_it_alone(rt: HostRuntime) -> Result<(), Fail> {
-    let seed = expect_seed(&rt);
+    let seed = fixed_seed().expect(&rt, "a seed");
     let stream = stream_of(rt.alloc(), A_RUN)?;
     let mut source = Pieces::whole(stream.as_bytes()).failing_reads(Failing::Once(1));
     let mut sink = Store::new(rt.alloc(), 7);
@@ -126,7 +126,7 @@ fn a_failed_read_of_standard_input_is_told_of_it_alone(rt: HostRuntime) -> Resul
 
 #[test]
 fn no_line_is_printed_where_a_write_fails(rt: HostRuntime) -> Result<(), Fail> {
-    let seed = expect_seed(&rt);
+    let seed = fixed_seed().expect(&rt, "a seed");
     let mut source = Pieces::whole(b"");
     let mut sink = Store::new(rt.alloc(), 7).failing_writes(Failing::EverSince(1));
     let words = ["gate", "missing"];

@@ -6,7 +6,7 @@ use cm_audit_release::{AuditedRelease, audit_release};
 use cm_envelope::Trouble;
 use cm_stream::{Conditions, ReleaseCounts};
 use devices::Pieces;
-use seeds::{expect_seed, fixed_seed};
+use seeds::fixed_seed;
 use std::alloc::Global;
 use std::test::Fail;
 
@@ -89,7 +89,7 @@ fn a_stream_that_is_not_good(rt: HostRuntime) -> Result<(), Fail> {
 
 #[test]
 fn a_failed_read(rt: HostRuntime) -> Result<(), Fail> {
-    let seed = expect_seed(&rt);
+    let seed = fixed_seed().expect(&rt, "a seed");
     let conditions = conditions_with(rt.alloc(), "@wip")?;
     let settings = Settings::from(Policy::Strict);
     let mut source = Pieces::whole(b"").failing_at_end();

@@ -1,7 +1,7 @@
 //! Runs over devices in memory.
 use ck_commands::run;
 use devices::{Pieces, Store};
-use seeds::expect_seed;
+use seeds::fixed_seed;
 use std::alloc::Global;
 use std::hash::RandomState;
 use std::process::Abort;
@@ -47,7 +47,7 @@ pub(crate) fn expect_run_by<R: Runner>(
     status: u8,
 ) {
     assert_eq!(rt;
-        runner.run_words(alloc, expect_seed(rt), words, source, sink),
+        runner.run_words(alloc, fixed_seed().expect(rt, "a seed"), words, source, sink),
         status
     );
     assert_eq!(rt; sink.bytes(), text.as_bytes());

@@ -2,7 +2,7 @@
 use crate::tests::running::expect_run;
 use ck_commands::run;
 use devices::{Pieces, Store};
-use seeds::expect_seed;
+use seeds::fixed_seed;
 use std::alloc::Global;
 use std::process::Abort;
 use std::test::Fail;
@@ -102,7 +102,7 @@ fn expect_text(
     status: u8,
     wanted: &str,
 ) -> Result<(), Fail> {
-    let seed = expect_seed(rt);
+    let seed = fixed_seed().expect(rt, "a seed");
     let mut source = Pieces::whole(b"[]");
     let mut sink = Store::new(alloc, 7);
     assert_eq!(rt; run(alloc, seed, words, &mut source, &mut sink), status);

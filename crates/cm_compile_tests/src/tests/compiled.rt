@@ -3,7 +3,7 @@ use cm_compile::{CompileFault, write_compiled};
 use cm_envelope::{DeviceFailed, write_all};
 use devices::{FailedWrite, Failing, Store};
 use gk_tree::{FaultKind, ParseFault};
-use seeds::expect_seed;
+use seeds::fixed_seed;
 use std::alloc::Global;
 use std::process::Abort;
 use std::test::Fail;
@@ -46,7 +46,7 @@ const FULL_LINES: &str =
 
 /// A sink that takes all: the lines are the wanted ones.
 fn check_lines(rt: &impl Abort, alloc: Global, uri: &str, text: &str, wanted: &str) {
-    let seed = expect_seed(rt);
+    let seed = fixed_seed().expect(rt, "a seed");
     let mut sink = Store::new(alloc, usize::MAX);
     assert_eq!(rt; write_compiled(alloc, seed, uri, text, &mut sink), Ok(()));
     assert!(rt; sink.bytes() == wanted.as_bytes());
@@ -78,7 +78,7 @@ fn ids_go_on_from_pickle_to_pickle(rt: HostRuntime) -> Result<(), Fail> {
 }
 
 fn check_refused(rt: &impl Abort, alloc: Global, text: &str, fault: ParseFault) {
-    let seed = expect_seed(rt);
+    let seed = fixed_seed().expect(rt, "a seed");
     let mut sink = Store::new(alloc, usize::MAX);
     let done = write_compiled(alloc, seed, "u", text, &mut sink);
     assert_eq!(rt; done, Err(CompileFault::Parse(fault)));
@@ -105,7 +105,7 @@ fn nothing_is_written_of_a_refused_text(rt: HostRuntime) -> Result<(), Fail> {
 
 #[test]
 fn the_bytes_before_a_failed_write_are_written(rt: HostRuntime) -> Result<(), Fail> {
-    let seed = expect_seed(&rt);
+    let seed = fixed_seed().expect(&rt, "a seed");
     let alloc = rt.alloc();
     let mut sink = Store::new(alloc, usize::MAX).with_room(100);
     let done = write_compiled(alloc, seed, "a.feature", PLAIN_TEXT, &mut sink);
@@ -118,7 +118,7 @@ fn the_bytes_before_a_failed_write_are_written(rt: HostRuntime) -> Result<(), Fa
 
 /// One byte a write, and the write after `room` bytes fails or takes nothing: it isn't repeated.
 fn check_failed(rt: &impl Abort, alloc: Global, room: usize, sink: Store) {
-    let seed = expect_seed(rt);
+    let seed = fixed_seed().expect(rt, "a seed");
     let mut sink = sink;
     let done = write_compiled(alloc, seed, "a.feature", PLAIN_TEXT, &mut sink);
     assert_eq!(rt; done, Err(CompileFault::WriteFailed));
@@ -130,7 +130,7 @@ fn check_failed(rt: &impl Abort, alloc: Global, room: usize, sink: Store) {
 
 #[test]
 fn each_write_may_fail(rt: HostRuntime) -> Result<(), Fail> {
-    let seed = expect_seed(&rt);
+    let seed = fixed_seed().expect(&rt, "a seed");
     let alloc = rt.alloc();
     for room in 0..PLAIN_LINES.len() {
         for failed in [FailedWrite::Refuses, FailedWrite::TakesNone] {

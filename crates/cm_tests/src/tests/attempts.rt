@@ -1,6 +1,6 @@
 //! Cases, attempts and policies: the answers to calls in and out of order.
 use cm_attempt::{Policy, Settings, Status, Track, TrackFault, worst};
-use seeds::expect_seed;
+use seeds::fixed_seed;
 use std::alloc::{AllocError, Global};
 use std::process::Abort;
 use std::test::Fail;
@@ -139,7 +139,7 @@ AttemptOverlap start b c 1";
 
 #[test]
 fn refuses_duplicates_and_unknown_ids(rt: HostRuntime) {
-    let seed = expect_seed(&rt);
+    let seed = fixed_seed().expect(&rt, "a seed");
     let alloc = rt.alloc();
     let mut track = Track::new(alloc, seed);
     expect_answers(&rt, &mut track, alloc, REFUSED);
@@ -160,7 +160,7 @@ fn is_due(track: &Track, attempt: &str, step: &str, is_running: bool) -> bool {
 
 #[test]
 fn the_step_that_is_due(rt: HostRuntime) {
-    let seed = expect_seed(&rt);
+    let seed = fixed_seed().expect(&rt, "a seed");
     let alloc = rt.alloc();
     let mut track = Track::new(alloc, seed);
     expect_answers(&rt, &mut track, alloc, "ok case c t u");
@@ -188,7 +188,7 @@ FinishedEarly final a";
 
 #[test]
 fn a_step_finishes_once(rt: HostRuntime) {
-    let seed = expect_seed(&rt);
+    let seed = fixed_seed().expect(&rt, "a seed");
     let alloc = rt.alloc();
     let mut track = Track::new(alloc, seed);
     expect_answers(&rt, &mut track, alloc, ONCE);
@@ -220,7 +220,7 @@ fn expect_reports(rt: &impl Abort, track: &mut Track, alloc: Global, table: &str
 
 #[test]
 fn a_retried_attempt_alone_reports_none(rt: HostRuntime) {
-    let seed = expect_seed(&rt);
+    let seed = fixed_seed().expect(&rt, "a seed");
     let alloc = rt.alloc();
     let mut track = Track::new(alloc, seed);
     expect_reports(&rt, &mut track, alloc, RETRIED);
@@ -243,7 +243,7 @@ ok final b";
 
 #[test]
 fn attempts_of_two_cases_interleave(rt: HostRuntime) {
-    let seed = expect_seed(&rt);
+    let seed = fixed_seed().expect(&rt, "a seed");
     let alloc = rt.alloc();
     let mut track = Track::new(alloc, seed);
     expect_answers(&rt, &mut track, alloc, INTERLEAVED);
@@ -272,7 +272,7 @@ ok final e";
 
 #[test]
 fn attempts_are_counted_from_one(rt: HostRuntime) {
-    let seed = expect_seed(&rt);
+    let seed = fixed_seed().expect(&rt, "a seed");
     let alloc = rt.alloc();
     let mut track = Track::counting_from(alloc, seed, 1);
     expect_answers(&rt, &mut track, alloc, FROM_ONE);
@@ -294,7 +294,7 @@ ok start e d 18446744073709551615";
 
 #[test]
 fn attempts_are_counted_from_the_greatest_number(rt: HostRuntime) {
-    let seed = expect_seed(&rt);
+    let seed = fixed_seed().expect(&rt, "a seed");
     let alloc = rt.alloc();
     let mut track = Track::counting_from(alloc, seed, u64::MAX);
     expect_answers(&rt, &mut track, alloc, FROM_THE_GREATEST);
@@ -319,7 +319,7 @@ ok final a";
 
 #[test]
 fn a_pending_case_is_good_where_pending_passes(rt: HostRuntime) {
-    let seed = expect_seed(&rt);
+    let seed = fixed_seed().expect(&rt, "a seed");
     let alloc = rt.alloc();
     let mut track = Track::new(alloc, seed);
     expect_answers(&rt, &mut track, alloc, PENDING);
@@ -338,7 +338,7 @@ ok final a";
 
 #[test]
 fn an_undefined_case_is_good_by_no_policy(rt: HostRuntime) {
-    let seed = expect_seed(&rt);
+    let seed = fixed_seed().expect(&rt, "a seed");
     let alloc = rt.alloc();
     let mut track = Track::new(alloc, seed);
     expect_answers(&rt, &mut track, alloc, UNDEFINED);

@@ -1,6 +1,6 @@
 //! Declarations: the answers to what a stream declares, and to what it names.
 use cm_refs::{Declared, RefFault, StepIds, distinct_texts};
-use seeds::expect_seed;
+use seeds::fixed_seed;
 use std::alloc::{AllocError, Global};
 use std::process::Abort;
 use std::test::Fail;
@@ -80,7 +80,7 @@ fn expect_kinds(rt: &impl Abort, declared: &mut Declared, table: &str) {
 
 #[test]
 fn a_kind_has_each_name_once(rt: HostRuntime) {
-    let seed = expect_seed(&rt);
+    let seed = fixed_seed().expect(&rt, "a seed");
     let mut declared = Declared::new(rt.alloc(), seed);
     expect_kinds(&rt, &mut declared, KINDS);
     drop(declared);
@@ -99,7 +99,7 @@ fn expect_run_hook(rt: &impl Abort, declared: &mut Declared) {
 
 #[test]
 fn a_run_hook_finishes_once(rt: HostRuntime) {
-    let seed = expect_seed(&rt);
+    let seed = fixed_seed().expect(&rt, "a seed");
     let mut declared = Declared::new(rt.alloc(), seed);
     expect_run_hook(&rt, &mut declared);
     drop(declared);
@@ -181,7 +181,7 @@ fn expect_distinct_steps(
 
 #[test]
 fn a_pickle_has_distinct_steps(rt: HostRuntime) -> Result<(), Fail> {
-    let seed = expect_seed(&rt);
+    let seed = fixed_seed().expect(&rt, "a seed");
     let mut declared = Declared::new(rt.alloc(), seed);
     let done = expect_distinct_steps(&rt, &mut declared, rt.alloc());
     drop(declared);
@@ -190,7 +190,7 @@ fn a_pickle_has_distinct_steps(rt: HostRuntime) -> Result<(), Fail> {
 
 // The set of the words, or `-` where two of them are equal.
 fn expect_set(rt: &impl Abort, alloc: Global, words: &str, told: &str) -> Result<(), AllocError> {
-    let seed = expect_seed(rt);
+    let seed = fixed_seed().expect(rt, "a seed");
     let words = texts(alloc, words)?;
     match distinct_texts(alloc, seed, words)? {
         Some(ids) => expect_texts(rt, alloc, Some(&ids), told),

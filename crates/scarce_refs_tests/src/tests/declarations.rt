@@ -2,7 +2,7 @@
 use crate::tests::checking::check;
 use cm_refs::{Declared, RefFault};
 use scarce::Shortage;
-use seeds::{expect_seed, fixed_seed};
+use seeds::fixed_seed;
 use std::alloc::{AllocError, Global};
 use std::test::Fail;
 
@@ -384,7 +384,7 @@ fn meet_without_room(declared: &mut Declared, alloc: Global) -> Result<Answers, 
 
 #[test]
 fn refusals_without_room(rt: HostRuntime) -> Result<(), Fail> {
-    let seed = expect_seed(&rt);
+    let seed = fixed_seed().expect(&rt, "a seed");
     let alloc = rt.alloc();
     let mut declared = Declared::new(alloc, seed);
     let answers = meet_without_room(&mut declared, alloc);

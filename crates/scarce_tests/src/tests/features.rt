@@ -11,7 +11,7 @@ use gk_pickle::{
 };
 use gk_tree::{Document, FaultKind, ParseFault, parse};
 use scarce::Shortage;
-use seeds::{expect_seed, fixed_seed};
+use seeds::fixed_seed;
 use std::alloc::{AllocError, Global};
 use std::hash::RandomState;
 use std::test::Fail;
@@ -235,7 +235,7 @@ fn documents(rt: HostRuntime) -> Result<(), Fail> {
 
 #[test]
 fn pickles(rt: HostRuntime) -> Result<(), Fail> {
-    let seed = expect_seed(&rt);
+    let seed = fixed_seed().expect(&rt, "a seed");
     let alloc = rt.alloc();
     let document = parse(alloc, RULED_TEXT)?;
     let met = meet_alone(
@@ -291,7 +291,7 @@ fn next_ruled(alloc: Global, seed: RandomState, document: &Document) -> Came {
 
 #[test]
 fn the_next_pickle(rt: HostRuntime) -> Result<(), Fail> {
-    let seed = expect_seed(&rt);
+    let seed = fixed_seed().expect(&rt, "a seed");
     let document = parse(rt.alloc(), RULED_TEXT)?;
     let met = meet_alone(
         rt.alloc(),
