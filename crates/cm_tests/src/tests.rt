@@ -6,5 +6,6 @@ mod feeds;
 mod members;
 mod pickles;
 mod producers;
-mod std_devices;
 mod rows_of_texts;
+mod std_devices;
+mod words;

@@ -8,6 +8,7 @@ use ck_commands::run_with;
 use cm_envelope::{ByteSource, DeviceFailed};
 use devices::{Failing, Pieces, Store};
 use files::{Look, OpenedFiles, Opener};
+use seeds::fixed_seed;
 use std::alloc::{AllocError, Global};
 use std::cell::Cell;
 use std::hash::RandomState;
@@ -64,6 +65,7 @@ struct BrokenFiles<'a> {
     b_run: &'a [u8],
     failing_reads: Failing,
     counts: &'a Counts,
+    seed: RandomState,
 }
 
 impl<'a> BrokenFiles<'a> {
@@ -105,16 +107,9 @@ impl<'a> Opener for BrokenFiles<'a> {
 }
 
 impl Runner for BrokenFiles<'_> {
-    fn run_words(
-        &self,
-        alloc: Global,
-        seed: RandomState,
-        words: &[&str],
-        source: &mut Pieces<'_>,
-        sink: &mut Store,
-    ) -> u8 {
+    fn run(&self, alloc: Global, words: &[&str], source: &mut Pieces<'_>, sink: &mut Store) -> u8 {
         let mut files = OpenedFiles::new(alloc, *self);
-        run_with(alloc, seed, words, &mut files, source, sink)
+        run_with(alloc, self.seed, words, &mut files, source, sink)
     }
 }
 
@@ -153,6 +148,7 @@ fn seen_of(
         b_run: b"",
         failing_reads,
         counts: &counts,
+        seed: fixed_seed().expect(rt, "a seed"),
     };
     let mut source = Pieces::whole(b"");
     let mut sink = Store::new(alloc, 7);
@@ -221,67 +217,58 @@ release files=1 scenarios=1 retried=0 skipped=0 unrun=0
     Ok(())
 }
 
-// Runs of which no read fails.
-fn sound_runs<'a>(a_run: &'a str, b_run: &'a str, counts: &'a Counts) -> BrokenFiles<'a> {
-    BrokenFiles {
+// Each read of standard input, each write and the flush fails in turn, and no read of a file.
+fn expect_failures_of(
+    rt: &impl Abort,
+    alloc: Global,
+    words: &[&str],
+    text: &str,
+) -> Result<(), Fail> {
+    let a_run = stream_of(alloc, A_RUN)?;
+    let b_run = stream_of(alloc, B_RUN)?;
+    let counts = Counts::none();
+    let runner = BrokenFiles {
         a_run: a_run.as_bytes(),
         b_run: b_run.as_bytes(),
         failing_reads: Failing::Never,
-        counts,
-    }
+        counts: &counts,
+        seed: fixed_seed().expect(rt, "a seed"),
+    };
+    let case = Case {
+        runner,
+        words,
+        input: a_run.as_str(),
+        text,
+        status: 0,
+    };
+    expect_failures(rt, alloc, &case);
+    Ok(())
 }
 
-// Each read of standard input, each write and the flush fails in turn.
 #[test]
 fn failures_of_a_gate_over_runs(rt: HostRuntime) -> Result<(), Fail> {
-    let a_run = stream_of(rt.alloc(), A_RUN)?;
-    let b_run = stream_of(rt.alloc(), B_RUN)?;
-    let counts = Counts::none();
-    let case = Case {
-        runner: sound_runs(a_run.as_str(), b_run.as_str(), &counts),
-        words: &["gate", "a", "b"],
-        input: a_run.as_str(),
-        text: "a: good sources=1 pickles=1 cases=1 attempts=1
+    let text = "a: good sources=1 pickles=1 cases=1 attempts=1
 a: release retried=0 skipped=0 unrun=0
 b: good sources=1 pickles=1 cases=1 attempts=1
 b: release retried=0 skipped=0 unrun=0
-",
-        status: 0,
-    };
-    expect_failures(&rt, rt.alloc(), &case);
-    Ok(())
+";
+    expect_failures_of(&rt, rt.alloc(), &["gate", "a", "b"], text)
 }
 
 #[test]
 fn failures_of_a_gate_over_feature_files(rt: HostRuntime) -> Result<(), Fail> {
-    let a_run = stream_of(rt.alloc(), A_RUN)?;
-    let counts = Counts::none();
-    let case = Case {
-        runner: sound_runs(a_run.as_str(), "", &counts),
-        words: &["gate", "--features", "a.feature", "a"],
-        input: a_run.as_str(),
-        text: "a: good sources=1 pickles=1 cases=1 attempts=1
+    let text = "a: good sources=1 pickles=1 cases=1 attempts=1
 release files=1 scenarios=1 retried=0 skipped=0 unrun=0
-",
-        status: 0,
-    };
-    expect_failures(&rt, rt.alloc(), &case);
-    Ok(())
+";
+    let words = ["gate", "--features", "a.feature", "a"];
+    expect_failures_of(&rt, rt.alloc(), &words, text)
 }
 
 #[test]
 fn failures_of_a_gate_over_feature_files_and_standard_input(rt: HostRuntime) -> Result<(), Fail> {
-    let a_run = stream_of(rt.alloc(), A_RUN)?;
-    let counts = Counts::none();
-    let case = Case {
-        runner: sound_runs("", "", &counts),
-        words: &["gate", "--features", "a.feature"],
-        input: a_run.as_str(),
-        text: "good sources=1 pickles=1 cases=1 attempts=1
+    let text = "good sources=1 pickles=1 cases=1 attempts=1
 release files=1 scenarios=1 retried=0 skipped=0 unrun=0
-",
-        status: 0,
-    };
-    expect_failures(&rt, rt.alloc(), &case);
-    Ok(())
+";
+    let words = ["gate", "--features", "a.feature"];
+    expect_failures_of(&rt, rt.alloc(), &words, text)
 }

@@ -93,9 +93,7 @@ fn expect_failed_write<R: Runner>(
 ) {
     let mut source = Pieces::whole(case.input.as_bytes());
     let mut sink = sink;
-    let status = case
-        .runner
-        .run_words(alloc, case.words, &mut source, &mut sink);
+    let status = case.runner.run(alloc, case.words, &mut source, &mut sink);
     assert_eq!(rt; status, 3);
     expect_front(rt, sink.bytes(), case.text, front, told);
 }
@@ -152,6 +150,27 @@ pub(crate) fn expect_failures<R: Runner>(rt: &impl Abort, alloc: Global, case: &
     expect_failed_flush(rt, alloc, case);
 }
 
+// The same of a command over no files.
+fn expect_failures_of(
+    rt: &impl Abort,
+    alloc: Global,
+    words: &[&str],
+    input: &str,
+    text: &str,
+    status: u8,
+) {
+    let seed = fixed_seed().expect(rt, "a seed");
+    let runner = WithoutFiles { seed };
+    let case = Case {
+        runner,
+        words,
+        input,
+        text,
+        status,
+    };
+    expect_failures(rt, alloc, &case);
+}
+
 // The same of a stream of these lines.
 fn expect_stream(
     rt: &impl Abort,
@@ -162,69 +181,35 @@ fn expect_stream(
     status: u8,
 ) -> Result<(), Fail> {
     let stream = stream_of(alloc, lines)?;
-    let case = Case {
-        runner: WithoutFiles,
-        words: &[word],
-        input: stream.as_str(),
-        text,
-        status,
-    };
-    expect_failures(rt, alloc, &case);
+    expect_failures_of(rt, alloc, &[word], stream.as_str(), text, status);
     Ok(())
 }
 
 #[test]
 fn failures_of_parse(rt: HostRuntime) {
-    let case = Case {
-        runner: WithoutFiles,
-        words: &["parse"],
-        input: TEXT,
-        text: "ok nodes=2 comments=0\n",
-        status: 0,
-    };
-    expect_failures(&rt, rt.alloc(), &case);
+    let text = "ok nodes=2 comments=0\n";
+    expect_failures_of(&rt, rt.alloc(), &["parse"], TEXT, text, 0);
 }
 
 #[test]
 fn failures_of_compile(rt: HostRuntime) {
-    let case = Case {
-        runner: WithoutFiles,
-        words: &["compile", "--uri", "a.feature"],
-        input: TEXT,
-        text: LINES,
-        status: 0,
-    };
-    expect_failures(&rt, rt.alloc(), &case);
-}
-
-// A text that is refused is told of.
-fn expect_refused(rt: &impl Abort, alloc: Global, words: &[&str]) {
-    let case = Case {
-        runner: WithoutFiles,
-        words,
-        input: "Feature: f\n  Scenario: s\n    Given a\n  Background:\n",
-        text: "refused 4:3 1 Unexpected\n",
-        status: 1,
-    };
-    expect_failures(rt, alloc, &case);
+    let words = ["compile", "--uri", "a.feature"];
+    expect_failures_of(&rt, rt.alloc(), &words, TEXT, LINES, 0);
 }
 
 #[test]
 fn failures_with_a_refused_text(rt: HostRuntime) {
-    expect_refused(&rt, rt.alloc(), &["parse"]);
-    expect_refused(&rt, rt.alloc(), &["compile", "--uri", "a.feature"]);
+    let input = "Feature: f\n  Scenario: s\n    Given a\n  Background:\n";
+    let text = "refused 4:3 1 Unexpected\n";
+    expect_failures_of(&rt, rt.alloc(), &["parse"], input, text, 1);
+    let words = ["compile", "--uri", "a.feature"];
+    expect_failures_of(&rt, rt.alloc(), &words, input, text, 1);
 }
 
 #[test]
 fn failures_of_the_version(rt: HostRuntime) {
-    let case = Case {
-        runner: WithoutFiles,
-        words: &["--version"],
-        input: "[]",
-        text: "cukecheck 0.1.0\n",
-        status: 0,
-    };
-    expect_failures(&rt, rt.alloc(), &case);
+    let text = "cukecheck 0.1.0\n";
+    expect_failures_of(&rt, rt.alloc(), &["--version"], "[]", text, 0);
 }
 
 // What the words print where no call fails, of which the rest is told where one does.
@@ -236,20 +221,11 @@ fn expect_words_to_fail(
 ) -> Result<(), Fail> {
     let seed = fixed_seed().expect(rt, "a seed");
     let mut sink = Store::new(alloc, usize::MAX);
-    assert_eq!(rt;
-        run(alloc, seed, words, &mut Pieces::whole(b""), &mut sink),
-        status
-    );
+    let code = run(alloc, seed, words, &mut Pieces::whole(b""), &mut sink);
+    assert_eq!(rt; code, status);
     let text = std::str::from_utf8(sink.bytes())?;
     assert!(rt; !text.is_empty());
-    let case = Case {
-        runner: WithoutFiles,
-        words,
-        input: "[]",
-        text,
-        status,
-    };
-    expect_failures(rt, alloc, &case);
+    expect_failures_of(rt, alloc, words, "[]", text, status);
     Ok(())
 }
 
@@ -318,14 +294,9 @@ fn failures_of_cases(rt: HostRuntime) -> Result<(), Fail> {
 #[test]
 fn failures_of_cases_as_json(rt: HostRuntime) -> Result<(), Fail> {
     let stream = stream_of(rt.alloc(), RETRIED)?;
-    let case = Case {
-        runner: WithoutFiles,
-        words: &["cases", "--json"],
-        input: stream.as_str(),
-        text: r#"{"attempts":2,"line":3,"name":"s","status":"PASSED","tags":[],"uri":"a.feature"}
-"#,
-        status: 0,
-    };
-    expect_failures(&rt, rt.alloc(), &case);
+    let words = ["cases", "--json"];
+    let text = r#"{"attempts":2,"line":3,"name":"s","status":"PASSED","tags":[],"uri":"a.feature"}
+"#;
+    expect_failures_of(&rt, rt.alloc(), &words, stream.as_str(), text, 0);
     Ok(())
 }

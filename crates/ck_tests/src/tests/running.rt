@@ -8,30 +8,18 @@ use std::process::Abort;
 
 /// What runs words over devices in memory, and gives the status.
 pub(crate) trait Runner {
-    fn run_words(
-        &self,
-        alloc: Global,
-        seed: RandomState,
-        words: &[&str],
-        source: &mut Pieces<'_>,
-        sink: &mut Store,
-    ) -> u8;
+    fn run(&self, alloc: Global, words: &[&str], source: &mut Pieces<'_>, sink: &mut Store) -> u8;
 }
 
 /// Runs them where there are no files.
 #[derive(Clone, Copy)]
-pub(crate) struct WithoutFiles;
+pub(crate) struct WithoutFiles {
+    pub(crate) seed: RandomState,
+}
 
 impl Runner for WithoutFiles {
-    fn run_words(
-        &self,
-        alloc: Global,
-        seed: RandomState,
-        words: &[&str],
-        source: &mut Pieces<'_>,
-        sink: &mut Store,
-    ) -> u8 {
-        run(alloc, seed, words, source, sink)
+    fn run(&self, alloc: Global, words: &[&str], source: &mut Pieces<'_>, sink: &mut Store) -> u8 {
+        run(alloc, self.seed, words, source, sink)
     }
 }
 
@@ -46,10 +34,7 @@ pub(crate) fn expect_run_by<R: Runner>(
     text: &str,
     status: u8,
 ) {
-    assert_eq!(rt;
-        runner.run_words(alloc, fixed_seed().expect(rt, "a seed"), words, source, sink),
-        status
-    );
+    assert_eq!(rt; runner.run(alloc, words, source, sink), status);
     assert_eq!(rt; sink.bytes(), text.as_bytes());
 }
 
@@ -63,7 +48,9 @@ pub(crate) fn expect_run(
     text: &str,
     status: u8,
 ) {
-    expect_run_by(rt, alloc, &WithoutFiles, words, source, sink, text, status);
+    let seed = fixed_seed().expect(rt, "a seed");
+    let runner = WithoutFiles { seed };
+    expect_run_by(rt, alloc, &runner, words, source, sink, text, status);
 }
 
 pub(crate) fn expect_words(

@@ -1,22 +1,9 @@
 //! Cases, attempts and policies: the answers to calls in and out of order.
+use crate::tests::words::{cut, texts};
 use cm_attempt::{Policy, Settings, Status, Track, TrackFault, worst};
 use seeds::fixed_seed;
-use std::alloc::{AllocError, Global};
+use std::alloc::Global;
 use std::process::Abort;
-use std::test::Fail;
-
-fn texts(alloc: Global, words: &str) -> Result<Vec<String>, AllocError> {
-    let mut owned = Vec::new(alloc);
-    for word in words.split_whitespace() {
-        owned.push(String::from_str(alloc, word)?)?;
-    }
-    Ok(owned)
-}
-
-// The first word, and what follows it.
-fn cut(text: &str) -> (&str, &str) {
-    text.split_once(' ').unwrap_or((text, ""))
-}
 
 fn name_of(status: Status) -> &'static str {
     match status {
@@ -105,6 +92,14 @@ fn expect_answers(rt: &impl Abort, track: &mut Track, alloc: Global, table: &str
     }
 }
 
+// A track that counts from this number, after calls that have these answers.
+fn track_of(rt: &impl Abort, alloc: Global, first: u64, table: &str) -> Track {
+    let seed = fixed_seed().expect(rt, "a seed");
+    let mut track = Track::counting_from(alloc, seed, first);
+    expect_answers(rt, &mut track, alloc, table);
+    track
+}
+
 // What is reported of a case, or `none`.
 fn reported(track: &Track, case: &str) -> &'static str {
     match track.reported(case) {
@@ -139,10 +134,7 @@ AttemptOverlap start b c 1";
 
 #[test]
 fn refuses_duplicates_and_unknown_ids(rt: HostRuntime) {
-    let seed = fixed_seed().expect(&rt, "a seed");
-    let alloc = rt.alloc();
-    let mut track = Track::new(alloc, seed);
-    expect_answers(&rt, &mut track, alloc, REFUSED);
+    let track = track_of(&rt, rt.alloc(), 0, REFUSED);
     assert!(rt; reported(&track, "c") == "Passed");
     assert!(rt; track.all_good());
     assert!(rt; track.has_attempt("a") && !track.has_attempt("b"));
@@ -160,10 +152,8 @@ fn is_due(track: &Track, attempt: &str, step: &str, is_running: bool) -> bool {
 
 #[test]
 fn the_step_that_is_due(rt: HostRuntime) {
-    let seed = fixed_seed().expect(&rt, "a seed");
     let alloc = rt.alloc();
-    let mut track = Track::new(alloc, seed);
-    expect_answers(&rt, &mut track, alloc, "ok case c t u");
+    let mut track = track_of(&rt, alloc, 0, "ok case c t u");
     assert!(rt; track.due_step("a").is_none());
     expect_answers(&rt, &mut track, alloc, "ok start a c 0");
     assert!(rt; is_due(&track, "a", "t", false));
@@ -188,10 +178,7 @@ FinishedEarly final a";
 
 #[test]
 fn a_step_finishes_once(rt: HostRuntime) {
-    let seed = fixed_seed().expect(&rt, "a seed");
-    let alloc = rt.alloc();
-    let mut track = Track::new(alloc, seed);
-    expect_answers(&rt, &mut track, alloc, ONCE);
+    let track = track_of(&rt, rt.alloc(), 0, ONCE);
     assert!(rt; track.open_attempts() == 1);
     assert!(rt; reported(&track, "c") == "none");
     assert!(rt; track.has_step("a", "u") && !track.has_step("a", "v"));
@@ -220,9 +207,8 @@ fn expect_reports(rt: &impl Abort, track: &mut Track, alloc: Global, table: &str
 
 #[test]
 fn a_retried_attempt_alone_reports_none(rt: HostRuntime) {
-    let seed = fixed_seed().expect(&rt, "a seed");
     let alloc = rt.alloc();
-    let mut track = Track::new(alloc, seed);
+    let mut track = track_of(&rt, alloc, 0, "");
     expect_reports(&rt, &mut track, alloc, RETRIED);
     assert!(rt; !track.all_good());
     drop(track);
@@ -243,10 +229,7 @@ ok final b";
 
 #[test]
 fn attempts_of_two_cases_interleave(rt: HostRuntime) {
-    let seed = fixed_seed().expect(&rt, "a seed");
-    let alloc = rt.alloc();
-    let mut track = Track::new(alloc, seed);
-    expect_answers(&rt, &mut track, alloc, INTERLEAVED);
+    let track = track_of(&rt, rt.alloc(), 0, INTERLEAVED);
     assert!(rt; reported(&track, "d") == "Failed");
     assert!(rt; reported(&track, "c") == "none");
     assert!(rt; track.open_attempts() == 1);
@@ -272,10 +255,7 @@ ok final e";
 
 #[test]
 fn attempts_are_counted_from_one(rt: HostRuntime) {
-    let seed = fixed_seed().expect(&rt, "a seed");
-    let alloc = rt.alloc();
-    let mut track = Track::counting_from(alloc, seed, 1);
-    expect_answers(&rt, &mut track, alloc, FROM_ONE);
+    let track = track_of(&rt, rt.alloc(), 1, FROM_ONE);
     assert!(rt; reported(&track, "c") == "Passed");
     assert!(rt; track.all_good());
     drop(track);
@@ -294,10 +274,7 @@ ok start e d 18446744073709551615";
 
 #[test]
 fn attempts_are_counted_from_the_greatest_number(rt: HostRuntime) {
-    let seed = fixed_seed().expect(&rt, "a seed");
-    let alloc = rt.alloc();
-    let mut track = Track::counting_from(alloc, seed, u64::MAX);
-    expect_answers(&rt, &mut track, alloc, FROM_THE_GREATEST);
+    let track = track_of(&rt, rt.alloc(), u64::MAX, FROM_THE_GREATEST);
     assert!(rt; track.open_attempts() == 1);
     drop(track);
 }
@@ -319,10 +296,7 @@ ok final a";
 
 #[test]
 fn a_pending_case_is_good_where_pending_passes(rt: HostRuntime) {
-    let seed = fixed_seed().expect(&rt, "a seed");
-    let alloc = rt.alloc();
-    let mut track = Track::new(alloc, seed);
-    expect_answers(&rt, &mut track, alloc, PENDING);
+    let track = track_of(&rt, rt.alloc(), 0, PENDING);
     assert!(rt; reported(&track, "c") == "Pending");
     assert!(rt; !track.all_good());
     assert!(rt; !track.all_good_with(Policy::Strict));
@@ -338,10 +312,7 @@ ok final a";
 
 #[test]
 fn an_undefined_case_is_good_by_no_policy(rt: HostRuntime) {
-    let seed = fixed_seed().expect(&rt, "a seed");
-    let alloc = rt.alloc();
-    let mut track = Track::new(alloc, seed);
-    expect_answers(&rt, &mut track, alloc, UNDEFINED);
+    let track = track_of(&rt, rt.alloc(), 0, UNDEFINED);
     assert!(rt; reported(&track, "c") == "Undefined");
     assert!(rt; !track.all_good_with(Policy::Strict));
     assert!(rt; !track.all_good_with(Policy::PendingPasses));

@@ -1,22 +1,10 @@
 //! Declarations: the answers to what a stream declares, and to what it names.
+use crate::tests::words::{cut, texts};
 use cm_refs::{Declared, RefFault, StepIds, distinct_texts};
 use seeds::fixed_seed;
 use std::alloc::{AllocError, Global};
 use std::process::Abort;
 use std::test::Fail;
-
-fn texts(alloc: Global, words: &str) -> Result<Vec<String>, AllocError> {
-    let mut owned = Vec::new(alloc);
-    for word in words.split_whitespace() {
-        owned.push(String::from_str(alloc, word)?)?;
-    }
-    Ok(owned)
-}
-
-// The first word, and what follows it.
-fn cut(text: &str) -> (&str, &str) {
-    text.split_once(' ').unwrap_or((text, ""))
-}
 
 // A line with no kind gives `Memory`, which no table wants.
 fn declare(declared: &mut Declared, kind: &str, name: &str) -> Result<(), RefFault> {
