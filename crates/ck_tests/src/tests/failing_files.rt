@@ -218,11 +218,11 @@ release files=1 scenarios=1 retried=0 skipped=0 unrun=0
 }
 
 // Each read of standard input, each write and the flush fails in turn, and no read of a file.
-fn expect_failures_of(
+fn expect_failures_of<'x>(
     rt: &impl Abort,
     alloc: Global,
-    words: &[&str],
-    text: &str,
+    words: &'x [&'x str],
+    text: &'x str,
 ) -> Result<(), Fail> {
     let a_run = stream_of(alloc, A_RUN)?;
     let b_run = stream_of(alloc, B_RUN)?;
