@@ -217,58 +217,76 @@ release files=1 scenarios=1 retried=0 skipped=0 unrun=0
     Ok(())
 }
 
-// Each read of standard input, each write and the flush fails in turn, and no read of a file.
-fn expect_failures_of<'x>(
-    rt: &impl Abort,
-    alloc: Global,
-    words: &'x [&'x str],
-    text: &'x str,
-) -> Result<(), Fail> {
-    let a_run = stream_of(alloc, A_RUN)?;
-    let b_run = stream_of(alloc, B_RUN)?;
-    let counts = Counts::none();
-    let runner = BrokenFiles {
+// Runs of which no read fails.
+fn sound_runs<'a>(
+    seed: RandomState,
+    a_run: &'a str,
+    b_run: &'a str,
+    counts: &'a Counts,
+) -> BrokenFiles<'a> {
+    BrokenFiles {
         a_run: a_run.as_bytes(),
         b_run: b_run.as_bytes(),
         failing_reads: Failing::Never,
-        counts: &counts,
-        seed: fixed_seed().expect(rt, "a seed"),
-    };
+        counts,
+        seed,
+    }
+}
+
+// Each read of standard input, each write and the flush fails in turn.
+#[test]
+fn failures_of_a_gate_over_runs(rt: HostRuntime) -> Result<(), Fail> {
+    let seed = fixed_seed()?;
+    let a_run = stream_of(rt.alloc(), A_RUN)?;
+    let b_run = stream_of(rt.alloc(), B_RUN)?;
+    let counts = Counts::none();
     let case = Case {
-        runner,
-        words,
+        runner: sound_runs(seed, a_run.as_str(), b_run.as_str(), &counts),
+        words: &["gate", "a", "b"],
         input: a_run.as_str(),
-        text,
+        text: "a: good sources=1 pickles=1 cases=1 attempts=1
+a: release retried=0 skipped=0 unrun=0
+b: good sources=1 pickles=1 cases=1 attempts=1
+b: release retried=0 skipped=0 unrun=0
+",
         status: 0,
     };
-    expect_failures(rt, alloc, &case);
+    expect_failures(&rt, rt.alloc(), &case);
     Ok(())
 }
 
 #[test]
-fn failures_of_a_gate_over_runs(rt: HostRuntime) -> Result<(), Fail> {
-    let text = "a: good sources=1 pickles=1 cases=1 attempts=1
-a: release retried=0 skipped=0 unrun=0
-b: good sources=1 pickles=1 cases=1 attempts=1
-b: release retried=0 skipped=0 unrun=0
-";
-    expect_failures_of(&rt, rt.alloc(), &["gate", "a", "b"], text)
-}
-
-#[test]
 fn failures_of_a_gate_over_feature_files(rt: HostRuntime) -> Result<(), Fail> {
-    let text = "a: good sources=1 pickles=1 cases=1 attempts=1
+    let seed = fixed_seed()?;
+    let a_run = stream_of(rt.alloc(), A_RUN)?;
+    let counts = Counts::none();
+    let case = Case {
+        runner: sound_runs(seed, a_run.as_str(), "", &counts),
+        words: &["gate", "--features", "a.feature", "a"],
+        input: a_run.as_str(),
+        text: "a: good sources=1 pickles=1 cases=1 attempts=1
 release files=1 scenarios=1 retried=0 skipped=0 unrun=0
-";
-    let words = ["gate", "--features", "a.feature", "a"];
-    expect_failures_of(&rt, rt.alloc(), &words, text)
+",
+        status: 0,
+    };
+    expect_failures(&rt, rt.alloc(), &case);
+    Ok(())
 }
 
 #[test]
 fn failures_of_a_gate_over_feature_files_and_standard_input(rt: HostRuntime) -> Result<(), Fail> {
-    let text = "good sources=1 pickles=1 cases=1 attempts=1
+    let seed = fixed_seed()?;
+    let a_run = stream_of(rt.alloc(), A_RUN)?;
+    let counts = Counts::none();
+    let case = Case {
+        runner: sound_runs(seed, "", "", &counts),
+        words: &["gate", "--features", "a.feature"],
+        input: a_run.as_str(),
+        text: "good sources=1 pickles=1 cases=1 attempts=1
 release files=1 scenarios=1 retried=0 skipped=0 unrun=0
-";
-    let words = ["gate", "--features", "a.feature"];
-    expect_failures_of(&rt, rt.alloc(), &words, text)
+",
+        status: 0,
+    };
+    expect_failures(&rt, rt.alloc(), &case);
+    Ok(())
 }
