@@ -24,11 +24,12 @@ struct Parts {
     rules: Vec<Rule>,
 }
 
-/// The items front to back.
+/// The items front to back, in no more memory than they take.
 fn in_order<T>(mut items: Vec<T>) -> Sequence<T>
     ensures { result ≡ reverse items.items }
 {
     items.as_mut_slice().reverse();
+    items.shrink_to_fit();
     Sequence::from(items)
 }
 

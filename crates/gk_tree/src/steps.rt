@@ -48,7 +48,7 @@ pub(crate) fn step_at(
     })
 }
 
-/// The block with its steps below it.
+/// The block with its steps below it, in no more memory than they take.
 pub(crate) fn with_steps(stepped: Box<BlockWithSteps>) -> Result<FlatBlock, AllocError>
     ensures { IfOk result (λ c. flat_block_of c
         ≡ machine.with_steps (flat_block_of stepped.value.flat_block)
@@ -56,11 +56,13 @@ pub(crate) fn with_steps(stepped: Box<BlockWithSteps>) -> Result<FlatBlock, Allo
 {
     let BlockWithSteps {
         mut flat_block,
-        mut before,
+        before,
         last,
     } = Box::into_inner(stepped);
-    before.push(last)?;
-    flat_block.body = Body::Steps(before);
+    let mut steps = before.into_vec();
+    steps.push(last)?;
+    steps.shrink_to_fit();
+    flat_block.body = Body::Steps(Sequence::from(steps));
     Ok(flat_block)
 }
 
