@@ -1,6 +1,6 @@
 //! The pickles of a source that are due, one by one.
 ghost use Rattle.std.specs.Prelude.{◌≡◌, IfOk, length, nat_eq, not};
-ghost use Rattle.gk_pickle.specs.Rest.{IsFirst};
+ghost use Rattle.gk_pickle.specs.Rest.{IsNext};
 
 use gk_document::Document;
 use gk_pickle::{Pickle, PicklePlace, next_pickle, pass_pickle};
@@ -31,7 +31,7 @@ impl DuePickles<'_> {
     /// # Errors
     /// Only where there is no memory for the pickle.
     pub fn next(&mut self, alloc: Global, seed: RandomState) -> Result<Option<Pickle>, AllocError>
-        ensures { IfOk result (IsFirst self.old self.new) }
+        ensures { IfOk result (IsNext self.old self.new) }
     {
         match self.document {
             Some(document) => next_pickle(alloc, seed, document, &mut self.place),

@@ -13,7 +13,7 @@ use Rattle.gk_document.specs.declared.tree.Rule.{Rule}
 use Rattle.gk_document.specs.declared.tree.Feature.{Feature}
 use Rattle.gk_pickle.specs.Inherited.{Inherited}
 use Rattle.gk_pickle.specs.Pickles.{pickle_of, row_filling, examples_pickles, outline_pickles, scenario_pickles, rule_pickles, pickles_in}
-use Rattle.gk_pickle.specs.Rest.{IsFirst, from_block, from_row, from_scenario, group_pickles, groups, inherited_at, of_outline, rest_in, rest_of_group, rest_of_scenario, scenarios_at}
+use Rattle.gk_pickle.specs.Rest.{IsNext, from_block, from_row, from_scenario, group_pickles, groups, inherited_at, of_outline, rest_in, rest_of_group, rest_of_scenario, scenarios_at}
 use Rattle.gk_pickle.specs.Spot.{Group, Spot, spot_pickle}
 
 -- the next value of a list that is made of another
@@ -81,14 +81,14 @@ module _ (gs : List Group) (i : ℕ) (g : Group) (at : slice_get gs i ≡ Some g
   from_here s b r = ap (λ left. from_scenario left s b r) (at_group gs i g at)
 
   -- the first pickle of a group is the first of all that is left
-  pub first_of_group : (found : Option Spot) (some : Bool) → some ≡ is_some found → some ≡ true → IsFirst (rest_of_group g s b r) (rest_of_group g s' b' r') (option_map spot_pickle found)
-      → IsFirst (from_scenario (drop i gs) s b r) (from_scenario (drop i gs) s' b' r') (option_map spot_pickle found)
+  pub first_of_group : (found : Option Spot) (some : Bool) → some ≡ is_some found → some ≡ true → IsNext (rest_of_group g s b r) (rest_of_group g s' b' r') (option_map spot_pickle found)
+      → IsNext (from_scenario (drop i gs) s b r) (from_scenario (drop i gs) s' b' r') (option_map spot_pickle found)
   first_of_group None some is true_is h = cc
   first_of_group (Some p) some is true_is h =
       from_here s b r ∙ ap (λ ps. ps ++ flat_map group_pickles (drop (i + 1) gs)) h ∙ ap (λ ps. spot_pickle p ∷ ps) (sym (from_here s' b' r'))
 
   -- where a group has none, they are those of the groups after it
-  pub none_of_group : (found : Option Spot) (some : Bool) → some ≡ is_some found → some ≡ false → IsFirst (rest_of_group g s b r) (rest_of_group g s' b' r') (option_map spot_pickle found)
+  pub none_of_group : (found : Option Spot) (some : Bool) → some ≡ is_some found → some ≡ false → IsNext (rest_of_group g s b r) (rest_of_group g s' b' r') (option_map spot_pickle found)
       → from_scenario (drop (i + 1) gs) 0 0 0 ≡ from_scenario (drop i gs) s b r
   none_of_group None some is false_is h =
       whole_groups (drop (i + 1) gs) ∙ sym (from_here s b r ∙ ap (λ ps. ps ++ flat_map group_pickles (drop (i + 1) gs)) h.0)

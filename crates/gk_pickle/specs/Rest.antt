@@ -20,12 +20,12 @@ groups f =
     record { feature = f; rule = None }
     ∷ map (λ r. record { feature = f; rule = Some r }) f.rules
 
-abbrev pub scenarios_in : Feature → Option Rule → List Scenario
-scenarios_in f None = f.scenarios
-scenarios_in f (Some r) = r.scenarios
+abbrev pub own_scenarios : Feature → Option Rule → List Scenario
+own_scenarios f None = f.scenarios
+own_scenarios f (Some r) = r.scenarios
 
 abbrev pub scenarios_at : Group → List Scenario
-scenarios_at g = scenarios_in g.feature g.rule
+scenarios_at g = own_scenarios g.feature g.rule
 
 abbrev pub inherited_at : Group → Inherited
 inherited_at g = inherited_in g.feature g.rule
@@ -86,6 +86,6 @@ unfoldable pub rest_of : Document → PicklePlace → List Pickle
 rest_of d p = rest_in d.feature p
 
 -- the first of some pickles, if there is one, and those after it
-abbrev pub IsFirst : (before after : List Pickle) → Option Pickle → Type 0
-IsFirst before after None = (before ≡ []) × (after ≡ [])
-IsFirst before after (Some p) = before ≡ p ∷ after
+abbrev pub IsNext : (before after : List Pickle) → Option Pickle → Type 0
+IsNext before after None = (before ≡ []) × (after ≡ [])
+IsNext before after (Some p) = before ≡ p ∷ after

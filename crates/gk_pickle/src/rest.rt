@@ -2,7 +2,7 @@
 ghost use Rattle.std.specs.Prelude.{◌≡◌, ◌<◌, Some, drop, slice_get, IfOk, IfSome, length, nat_eq, not, option_map};
 ghost use Rattle.gk_document.specs.declared.tree.Document.{Document as SomeDocument};
 ghost use Rattle.gk_pickle.specs.Pickles.{pickles};
-ghost use Rattle.gk_pickle.specs.Rest.{IsFirst, block_pickles, groups, plain_pickle, rest_in, rest_of, rest_of_blocks, rest_of_group, rest_of_one, scenarios_at};
+ghost use Rattle.gk_pickle.specs.Rest.{IsNext, block_pickles, groups, plain_pickle, rest_in, rest_of, rest_of_blocks, rest_of_group, rest_of_one, scenarios_at};
 ghost use Rattle.gk_pickle.specs.Spot.{spot_pickle};
 
 use crate::pickle::Pickle;
@@ -43,7 +43,7 @@ fn next_in_block<'a>(
     block: &'a Examples,
     row: &mut usize,
 ) -> Option<PickleSpot<'a>>
-    ensures { IsFirst
+    ensures { IsNext
         (drop row.old (block_pickles scenario.now block.now))
         (drop row.new (block_pickles scenario.now block.now))
         (option_map spot_pickle result) }
@@ -66,7 +66,7 @@ fn next_in_blocks<'a>(
     block: &mut usize,
     row: &mut usize,
 ) -> Option<PickleSpot<'a>>
-    ensures { IsFirst
+    ensures { IsNext
         (rest_of_blocks scenario.now blocks.now block.old row.old)
         (rest_of_blocks scenario.now blocks.now block.new row.new)
         (option_map spot_pickle result) }
@@ -84,7 +84,7 @@ fn next_in_blocks<'a>(
 
 /// The spot of a scenario without blocks, once.
 fn only_spot<'a>(scenario: &ScenarioInFeature<'a>, row: &mut usize) -> Option<PickleSpot<'a>>
-    ensures { IsFirst
+    ensures { IsNext
         (drop row.old (plain_pickle scenario.now))
         (drop row.new (plain_pickle scenario.now))
         (option_map spot_pickle result) }
@@ -102,7 +102,7 @@ fn next_in_scenario<'a>(
     block: &mut usize,
     row: &mut usize,
 ) -> Option<PickleSpot<'a>>
-    ensures { IsFirst
+    ensures { IsNext
         (rest_of_one scenario.now block.old row.old)
         (rest_of_one scenario.now block.new row.new)
         (option_map spot_pickle result) }
@@ -145,7 +145,7 @@ fn scenarios_at<'a>(group: &Group<'a>) -> &'a [Scenario]
 
 /// The next spot of a feature's own scenarios, or of a rule's.
 fn next_in_group<'a>(group: &Group<'a>, place: &mut PicklePlace) -> Option<PickleSpot<'a>>
-    ensures next { IsFirst
+    ensures next { IsNext
         (rest_of_group group.now place.old.scenario place.old.block place.old.row)
         (rest_of_group group.now place.new.scenario place.new.block place.new.row)
         (option_map spot_pickle result) }
@@ -186,7 +186,7 @@ fn group_at(feature: &Feature, group: usize) -> Option<Group<'_>>
 
 /// The next spot of a feature.
 fn next_in_feature<'a>(feature: &'a Feature, place: &mut PicklePlace) -> Option<PickleSpot<'a>>
-    ensures { IsFirst
+    ensures { IsNext
         (rest_in (Some feature.now) place.old)
         (rest_in (Some feature.now) place.new)
         (option_map spot_pickle result) }
@@ -207,7 +207,7 @@ fn next_in_feature<'a>(feature: &'a Feature, place: &mut PicklePlace) -> Option<
 /// The next spot of a document.
 #[tactic(auto, unfolding(crate::specs::Rest::rest_of))]
 fn next_spot<'a>(document: &'a Document, place: &mut PicklePlace) -> Option<PickleSpot<'a>>
-    ensures { IsFirst
+    ensures { IsNext
         (rest_of document.now place.old)
         (rest_of document.now place.new)
         (option_map spot_pickle result) }
@@ -226,7 +226,7 @@ pub fn next_pickle(
     place: &mut PicklePlace,
 ) -> Result<Option<Pickle>, AllocError>
     ensures { IfOk result
-        (IsFirst (rest_of document.now place.old) (rest_of document.now place.new)) }
+        (IsNext (rest_of document.now place.old) (rest_of document.now place.new)) }
 {
     match next_spot(document, place) {
         Some(spot) => Ok(Some(spot.pickle(alloc, seed)?)),

@@ -1,6 +1,6 @@
 use Rattle.std.proofs.Common.{◌≡◌, ◌∙◌, ◌++◌, [], append_assoc, ap, refl, sym, string_bytes, Bor, List, ℕ, None, Option, Some}
 use Rattle.std.specs.Prelude.{option_map, slice_get}
-use Rattle.gk_pickle.specs.Rest.{IsFirst}
+use Rattle.gk_pickle.specs.Rest.{IsNext}
 use Rattle.cm_audit.specs.Kept.{kept_row}
 use Rattle.cm_envelope.specs.declared.envelope.Envelope.{Envelope}
 use Rattle.cm_envelope.specs.declared.pickle.Pickle.{Pickle}
@@ -18,7 +18,7 @@ next_told es p old mid new uri ids kept due next d a b c u i n =
     b ∙ (λ j. a j ++ sides_text (c j)) ∙ append_assoc old (due_line es uri ids due) (sides_text (pickle_difference ids due p))
     ∙ (λ j. old ++ (due_line es (u j) (i j) (n j) ++ sides_text (pickle_difference (i j) (n j) p)))
 
-first_is : (start kept after : List DuePickle) (found : Option DuePickle) → start ≡ kept → IsFirst start after found → found ≡ slice_get kept 0
+first_is : (start kept after : List DuePickle) (found : Option DuePickle) → start ≡ kept → IsNext start after found → found ≡ slice_get kept 0
 first_is start kept after None same h = rw (← same, h.0) refl
 first_is start kept after (Some p) same h = rw (← same, h) refl
 
