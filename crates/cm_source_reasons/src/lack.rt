@@ -1,74 +1,62 @@
 //! What is told at the end of a run of the first source of which something didn't come.
-ghost use Rattle.std.specs.Prelude.{◌≡◌, ◌++◌, List, [], IfOk, OnOk, Some, None, find, if◌then◌else◌, map, option_map, string_bytes};
+ghost use Rattle.std.specs.Prelude.{◌≡◌, ◌++◌, List, [], IfOk, OnOk, Some, None, drop, find, if◌then◌else◌, length, map, option_map, string_bytes, take};
+ghost use Rattle.gk_pickle.specs.Rest.{title_of};
 ghost use Rattle.cm_cases.specs.Listed.{listing_of};
 ghost use Rattle.cm_envelope.specs.declared.envelope.Envelope.{Envelope as SomeEnvelope};
+ghost use Rattle.cm_reasons.specs.Lines.{ended, most_lines};
 ghost use Rattle.cm_state.specs.StateChecks.{lacks_by};
 ghost use Rattle.cm_audit.specs.Kept.{kept_row};
 ghost use Rattle.cm_audit.specs.State.{summary_of};
 ghost use Rattle.cm_source_reasons.specs.SourceKept.{lack_lines, lack_lines_by};
-ghost use Rattle.cm_source_reasons.specs.MissingPickles.{missing_line, name_and_node, told_of};
+ghost use Rattle.cm_source_reasons.specs.DueLines.{missing_line};
 ghost use Rattle.cm_source_reasons.specs.SourceReasons.{missing_document, missing_pickles};
 
-use crate::pickle_reason::last_node;
+use crate::due_lines::DueLines;
 use crate::sides::add_uri;
 use cm_audit::{DuePickles, KeptSource, Sources, State};
 use cm_cases::Places;
-use cm_reasons::{AddLine, add_limited};
-use gk_document::Text;
-use gk_pickle::Pickle as DuePickle;
+use cm_reasons::add_more;
 use std::alloc::{AllocError, Global};
 use std::hash::RandomState;
 
-/// What is told of a pickle that didn't come: its name, and the id of the last of the nodes that it is made of.
-#[derive(Drop)]
-struct MissingPickle<'a> {
-    name: Text,
-    node: &'a str,
-}
+/// How many of the pickles that didn't come are shown.
+const MOST_LINES: u64 = 100;
 
-/// Lines of such pickles.
-#[derive(Drop)]
-struct MissingLines<'a, 'p> {
-    uri: &'a str,
-    places: &'a Places<'p>,
-}
-
-impl<'a, 'b, 'p> AddLine<MissingPickle<'b>> for MissingLines<'a, 'p> {
-    ghost of = { λ s es. s.places.now ≡ listing_of es };
-
-    ghost line = { λ s es missing. missing_line es s.uri.now (told_of missing) };
-
-    fn add(&self, text: &mut String, item: &MissingPickle<'b>) -> Result<(), AllocError> {
-        text.push_str("missing")?;
-        self.places
-            .add_place(text, self.uri, item.name.as_str(), item.node)
-    }
-}
-
-/// What is told of a pickle that is due. `ids` are those that the stream's document gives its nodes, by their numbers.
-fn missing_pickle(ids: &[Text], due: DuePickle) -> MissingPickle<'_>
-    ensures { told_of result ≡ name_and_node ids.now due }
-{
-    let node = last_node(ids, &due);
-    let DuePickle { name, .. } = due;
-    MissingPickle { name, node }
-}
-
-/// What is told of the pickles that are due, which are made one after another.
-fn missing_of<'a>(
+/// Adds the lines of the first hundred of those that are due, which are then passed. Their steps aren't made.
+fn add_first(
     alloc: Global,
     seed: RandomState,
-    ids: &'a [Text],
-    mut due: DuePickles<'_>,
-) -> Result<Vec<MissingPickle<'a>>, AllocError>
-    ensures { IfOk result (λ missing. map told_of missing.items
-        ≡ map (name_and_node ids.now) due.entry) }
+    text: &mut String,
+    lines: &DueLines<'_, '_>,
+    due: &mut DuePickles<'_>,
+) -> Result<(), AllocError>
+    ensures left { OnOk result (map title_of due.new ≡ drop most_lines (map title_of due.old)) }
+    ensures lines { OnOk result ((es : List SomeEnvelope) → lines.places.now ≡ listing_of es
+        → string_bytes text.new ≡ string_bytes text.old
+        ++ ended (take most_lines
+        (map (missing_line es lines.uri.now lines.ids.now) (map title_of due.old)))) }
 {
-    let mut missing = Vec::new(alloc);
-    while let Some(pickle) = due.next(alloc, seed)? {
-        missing.push(missing_pickle(ids, pickle))?;
+    for _ in 0..MOST_LINES {
+        match due.next_title(alloc, seed)? {
+            Some(title) => lines.add_missing(text, &title)?,
+            None => return Ok(()),
+        }
     }
-    Ok(missing)
+    Ok(())
+}
+
+/// How many pickles are due. They aren't made.
+///
+/// # Errors
+/// Only where they are more than a `u64` can count, and no memory holds the rows of so many.
+fn count_of(mut due: DuePickles<'_>) -> Result<u64, AllocError>
+    ensures { IfOk result (λ count. count ≡ length due.entry) }
+{
+    let mut count: u64 = 0;
+    while due.pass() {
+        count = count.checked_add(1).ok_or(AllocError)?;
+    }
+    Ok(count)
 }
 
 /// Adds the pickles of a source that didn't come.
@@ -84,9 +72,17 @@ fn add_pickles(
         → string_bytes text.new ≡ string_bytes text.old
         ++ missing_pickles es uri.now (kept_row [] source.now).ids (kept_row [] source.now).due) }
 {
-    let missing = missing_of(alloc, seed, source.ids(), source.due())?;
-    let lines = MissingLines { uri, places };
-    add_limited(text, &lines, missing.as_slice())
+    let lines = DueLines {
+        uri,
+        ids: source.ids(),
+        places,
+    };
+    let mut due = source.due();
+    add_first(alloc, seed, text, &lines, &mut due)?;
+    match count_of(due)? {
+        0 => Ok(()),
+        more => add_more(text, more),
+    }
 }
 
 /// Adds that a document didn't come.

@@ -28,6 +28,7 @@
 //! envelopes, in `specs/SourceReasons`.
 #![tactic(auto)]
 
+mod due_lines;
 mod lack;
 mod pickle_reason;
 mod sides;

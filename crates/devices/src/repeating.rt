@@ -36,12 +36,6 @@ impl Repeating {
         self
     }
 
-    /// The same source, but it ends after so many bytes.
-    pub fn up_to(mut self, bytes: usize) -> Self {
-        self.left = bytes;
-        self
-    }
-
     /// How many reads there were.
     pub fn reads(&self) -> u64 {
         self.reads

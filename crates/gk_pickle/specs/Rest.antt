@@ -7,6 +7,7 @@ use Rattle.gk_document.specs.declared.tree.Rule.{Rule}
 use Rattle.gk_document.specs.declared.tree.Feature.{Feature}
 use Rattle.gk_document.specs.declared.tree.Document.{Document}
 use Rattle.gk_pickle.specs.declared.pickle.Pickle.{Pickle}
+use Rattle.gk_pickle.specs.declared.pickle.PickleTitle.{PickleTitle}
 use Rattle.gk_pickle.specs.declared.rest.PicklePlace.{PicklePlace}
 use Rattle.gk_pickle.specs.Inherited.{Inherited, no_filling}
 use Rattle.gk_pickle.specs.Pickles.{pickle_of, examples_pickles, scenario_pickles}
@@ -85,7 +86,11 @@ rest_in (Some f) p = from_scenario (drop p.group (groups f)) p.scenario p.block 
 unfoldable pub rest_of : Document → PicklePlace → List Pickle
 rest_of d p = rest_in d.feature p
 
--- the first of some pickles, if there is one, and those after it
-abbrev pub IsNext : (before after : List Pickle) → Option Pickle → Type 0
+-- what a pickle is called, and the nodes that it is made of
+abbrev pub title_of : Pickle → PickleTitle
+title_of p = record { name = p.name; nodes = p.nodes }
+
+-- the first of a list, if there is one, and those after it
+abbrev pub IsNext : {X : Type 0} → (before after : List X) → Option X → Type 0
 IsNext before after None = (before ≡ []) × (after ≡ [])
-IsNext before after (Some p) = before ≡ p ∷ after
+IsNext before after (Some x) = before ≡ x ∷ after

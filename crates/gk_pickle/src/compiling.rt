@@ -1,11 +1,12 @@
 //! The pickles of a document.
-ghost use Rattle.std.specs.Prelude.{◌≡◌, ◌++◌, Some, map, IfOk, OnOk};
+ghost use Rattle.std.specs.Prelude.{◌≡◌, ◌∷◌, ◌++◌, Some, map, IfOk, OnOk};
 ghost use Rattle.gk_pickle.specs.Pickles.{pickle_tag, pickle_of, table_pickles, scenario_pickles, pickles};
 ghost use Rattle.gk_pickle.specs.Scenarios.{pickles_of_one};
+ghost use Rattle.gk_pickle.specs.Steps.{filled_by};
 
 use crate::columns::Columns;
 use crate::inherited::{Filling, Inherited};
-use crate::pickle::{Pickle, PickleTag};
+use crate::pickle::{Pickle, PickleTag, PickleTitle};
 use crate::scenario_in_feature::{ScenarioInFeature, scenarios};
 use crate::steps::all_steps;
 use gk_document::{Document, ExampleTable, Scenario, Sequence, Tag, Text};
@@ -45,6 +46,22 @@ fn pickle_tags(
     Ok(Sequence::from(made))
 }
 
+/// What a scenario's pickle is called, and its nodes, with what fills it.
+pub(crate) fn title(
+    alloc: Global,
+    scenario: &Scenario,
+    filling: &Filling<'_, '_, '_>,
+) -> Result<PickleTitle, AllocError>
+    ensures { IfOk result (λ title. title ≡ record {
+      name = filled_by filling.now scenario.now.name;
+      nodes = scenario.now.node ∷ filling.now.rows;
+    }) }
+{
+    let name = filling.text(alloc, scenario.name.as_str())?;
+    let nodes = filling.nodes(alloc, scenario.node)?;
+    Ok(PickleTitle { name, nodes })
+}
+
 /// A scenario's pickle, with the tags of its examples and what fills it.
 pub(crate) fn pickle(
     alloc: Global,
@@ -55,8 +72,7 @@ pub(crate) fn pickle(
 ) -> Result<Pickle, AllocError>
     ensures { IfOk result (λ p. p ≡ pickle_of inherited.now scenario.now tags.now filling.now) }
 {
-    let name = filling.text(alloc, scenario.name.as_str())?;
-    let nodes = filling.nodes(alloc, scenario.node)?;
+    let PickleTitle { name, nodes } = title(alloc, scenario, filling)?;
     let tags = pickle_tags(alloc, inherited, scenario.tags.as_slice(), tags)?;
     let steps = all_steps(
         alloc,

@@ -32,6 +32,8 @@ mod steps;
 pub use compiling::{compile, compile_scenario};
 pub use filling::fill;
 pub use laws::{alike_law, characters_law, counting_law, order_law, replacing_law, scenarios_law};
-pub use pickle::{Pickle, PickleArgument, PickleDocString, PickleStep, PickleTag, StepType};
-pub use rest::{PicklePlace, next_pickle, pass_pickle};
+pub use pickle::{
+    Pickle, PickleArgument, PickleDocString, PickleStep, PickleTag, PickleTitle, StepType,
+};
+pub use rest::{PicklePlace, next_pickle, next_title, pass_pickle};
 pub use scenario_in_feature::{ScenarioInFeature, scenarios};

@@ -40,6 +40,13 @@ pub struct PickleStep {
     pub argument: Option<PickleArgument>,
 }
 
+/// What a pickle is called, and the nodes that it is made of: its `name` and its `nodes`.
+#[derive(Debug, PartialEq, Eq, Drop)]
+pub struct PickleTitle {
+    pub name: Text,
+    pub nodes: Sequence<u64>,
+}
+
 /// One scenario to run. It names the scenario, and the row that fills it where it is of an outline.
 #[derive(Debug, PartialEq, Eq, Drop)]
 pub struct Pickle {

@@ -1,11 +1,11 @@
 //! The pickles of a document one by one.
-ghost use Rattle.std.specs.Prelude.{◌≡◌, ◌<◌, Some, drop, slice_get, IfOk, IfSome, length, nat_eq, not, option_map};
+ghost use Rattle.std.specs.Prelude.{◌≡◌, ◌<◌, Some, drop, slice_get, IfOk, IfSome, length, map, nat_eq, not, option_map};
 ghost use Rattle.gk_document.specs.declared.tree.Document.{Document as SomeDocument};
 ghost use Rattle.gk_pickle.specs.Pickles.{pickles};
-ghost use Rattle.gk_pickle.specs.Rest.{IsNext, block_pickles, groups, plain_pickle, rest_in, rest_of, rest_of_blocks, rest_of_group, rest_of_one, scenarios_at};
+ghost use Rattle.gk_pickle.specs.Rest.{IsNext, block_pickles, groups, plain_pickle, rest_in, rest_of, rest_of_blocks, rest_of_group, rest_of_one, scenarios_at, title_of};
 ghost use Rattle.gk_pickle.specs.Spot.{spot_pickle};
 
-use crate::pickle::Pickle;
+use crate::pickle::{Pickle, PickleTitle};
 use crate::scenario_in_feature::ScenarioInFeature;
 use crate::spot::PickleSpot;
 use gk_document::{Document, Examples, Feature, Rule, Scenario};
@@ -230,6 +230,27 @@ pub fn next_pickle(
 {
     match next_spot(document, place) {
         Some(spot) => Ok(Some(spot.pickle(alloc, seed)?)),
+        None => Ok(None),
+    }
+}
+
+/// What the first pickle of a document from a place on is called, and its nodes, if there is one; the place is then behind it.
+/// Steps and tags aren't made.
+///
+/// # Errors
+/// Only where there is no memory for it.
+pub fn next_title(
+    alloc: Global,
+    seed: RandomState,
+    document: &Document,
+    place: &mut PicklePlace,
+) -> Result<Option<PickleTitle>, AllocError>
+    ensures { IfOk result (IsNext
+        (map title_of (rest_of document.now place.old))
+        (map title_of (rest_of document.now place.new))) }
+{
+    match next_spot(document, place) {
+        Some(spot) => Ok(Some(spot.title(alloc, seed)?)),
         None => Ok(None),
     }
 }

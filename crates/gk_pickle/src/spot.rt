@@ -1,11 +1,12 @@
 //! What one pickle is made of.
 ghost use Rattle.std.specs.Prelude.{◌≡◌, IfOk, option_map};
+ghost use Rattle.gk_pickle.specs.Rest.{title_of};
 ghost use Rattle.gk_pickle.specs.Spot.{spot_of, spot_pickle};
 
 use crate::columns::Columns;
-use crate::compiling::pickle;
+use crate::compiling::{pickle, title};
 use crate::inherited::{Filling, Inherited};
-use crate::pickle::Pickle;
+use crate::pickle::{Pickle, PickleTitle};
 use crate::scenario_in_feature::ScenarioInFeature;
 use gk_document::{Row, Tag};
 use std::alloc::{AllocError, Global};
@@ -67,6 +68,23 @@ impl<'a> PickleSpot<'a> {
                 pickle(alloc, &inherited, scenario, self.tags, &filling)
             }
             None => pickle(alloc, &inherited, scenario, self.tags, &Filling::none()),
+        }
+    }
+
+    /// What the pickle is called, and its nodes. It takes no memory for steps and tags.
+    ///
+    /// # Errors
+    /// Only where there is no memory for it.
+    pub(crate) fn title(&self, alloc: Global, seed: RandomState) -> Result<PickleTitle, AllocError>
+        ensures { IfOk result (λ title. title ≡ title_of (spot_pickle self.now)) }
+    {
+        let scenario = self.scenario.scenario;
+        match self.row {
+            Some((header, row)) => {
+                let columns = Columns::of(alloc, seed, header.cells.as_slice())?;
+                title(alloc, scenario, &Filling::of_row(&columns, row))
+            }
+            None => title(alloc, scenario, &Filling::none()),
         }
     }
 }

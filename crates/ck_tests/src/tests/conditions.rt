@@ -45,22 +45,17 @@ fn pickles_that_may_be_unrun_by_their_tags(rt: HostRuntime) -> Result<(), Fail> 
         "--allow-unrun-tagged=@other",
     ];
     expect_rows(&rt, alloc, &first, TAGGED)?;
-    let last = [
-        "gate",
-        "--allow-unrun-tagged",
-        "@other",
-        "--allow-unrun-tagged",
-        "@wip",
-    ];
-    expect_rows(&rt, alloc, &last, TAGGED)?;
-    let twice = [
-        "gate",
-        "--allow-unrun-tagged",
-        "@wip",
-        "--allow-unrun-tagged",
-        "@wip",
-    ];
-    expect_rows(&rt, alloc, &twice, TAGGED)
+    for tag in ["@other", "@wip"] {
+        let words = [
+            "gate",
+            "--allow-unrun-tagged",
+            tag,
+            "--allow-unrun-tagged",
+            "@wip",
+        ];
+        expect_rows(&rt, alloc, &words, TAGGED)?;
+    }
+    Ok(())
 }
 
 const RETRIED: &str =

@@ -119,30 +119,27 @@ fn with_document(alloc: Global, old: &str, new: &str) -> Result<String, Fail> {
     Ok(format!(in alloc; "{source}\n{document}\n")?)
 }
 
-fn expect_node(
+// What is found in the stream has the new text where the old one is expected.
+fn expect_changed(
     rt: &impl Abort,
     alloc: Global,
+    stream: &str,
+    verdict: &str,
     old: &str,
     new: &str,
     expected: &str,
 ) -> Result<(), Fail> {
-    let stream = with_document(alloc, old, new)?;
     let found = expected.replace(alloc, old, new)?;
-    let verdict = "2: 8 TreeDiffers\nuri d.feature";
-    expect_difference(
-        rt,
-        alloc,
-        stream.as_str(),
-        verdict,
-        expected,
-        found.as_str(),
-    )
+    expect_difference(rt, alloc, stream, verdict, expected, found.as_str())
 }
 
 #[test]
 fn nodes_that_differ(rt: HostRuntime) -> Result<(), Fail> {
+    let alloc = rt.alloc();
+    let verdict = "2: 8 TreeDiffers\nuri d.feature";
     for (old, new, expected) in NODES {
-        expect_node(&rt, rt.alloc(), old, new, expected)?;
+        let stream = with_document(alloc, old, new)?;
+        expect_changed(&rt, alloc, stream.as_str(), verdict, old, new, expected)?;
     }
     Ok(())
 }
@@ -223,30 +220,12 @@ fn changed(alloc: Global, old: &str, new: &str) -> Result<String, Fail> {
     Ok(format!(in alloc; "{source}\n{document}\n{pickles}\n")?)
 }
 
-fn expect_pickle(
-    rt: &impl Abort,
-    alloc: Global,
-    old: &str,
-    new: &str,
-    verdict: &str,
-    expected: &str,
-) -> Result<(), Fail> {
-    let stream = changed(alloc, old, new)?;
-    let found = expected.replace(alloc, old, new)?;
-    expect_difference(
-        rt,
-        alloc,
-        stream.as_str(),
-        verdict,
-        expected,
-        found.as_str(),
-    )
-}
-
 #[test]
 fn pickles_that_differ(rt: HostRuntime) -> Result<(), Fail> {
+    let alloc = rt.alloc();
     for (old, new, verdict, expected) in CHANGED {
-        expect_pickle(&rt, rt.alloc(), old, new, verdict, expected)?;
+        let stream = changed(alloc, old, new)?;
+        expect_changed(&rt, alloc, stream.as_str(), verdict, old, new, expected)?;
     }
     Ok(())
 }

@@ -29,14 +29,26 @@ release files=3 scenarios=2 retried=0 skipped=0 unrun=0
     expect_gate(&rt, rt.alloc(), &folder, BAD_RUN, below, 0)
 }
 
+// A path, and what of its feature files the run `a` lacks.
+const LACKS: [(&str, &str); 4] = [
+    ("f", "MISSING f/b.feature:3 t"),
+    ("older.feature", "MISSING older.feature:3 s"),
+    ("tagged.feature", "MISSING tagged.feature:4 s"),
+    ("x\n\u{202e}.feature", r"MISSING x\n\u202e.feature:3 t"),
+];
+
+// A part is lost, a text is older, a tag isn't allowed, and a path would break the line.
 #[test]
-fn a_lost_part_is_missing(rt: HostRuntime) -> Result<(), Fail> {
-    let text = "a: good sources=1 pickles=1 cases=1 attempts=1
-stop Missing
-MISSING f/b.feature:3 t
-";
-    let words = ["gate", "--features", "f", "a"];
-    expect_gate(&rt, rt.alloc(), &words, BAD_RUN, text, 5)
+fn what_no_run_has_is_missing(rt: HostRuntime) -> Result<(), Fail> {
+    let alloc = rt.alloc();
+    for (path, missing) in LACKS {
+        let text = format!(in alloc;
+            "a: good sources=1 pickles=1 cases=1 attempts=1\nstop Missing\n{missing}\n"
+        )?;
+        let words = ["gate", "--features", path, "a"];
+        expect_gate(&rt, alloc, &words, BAD_RUN, text.as_str(), 5)?;
+    }
+    Ok(())
 }
 
 #[test]
@@ -92,12 +104,6 @@ REFUSED refused.feature:1:1 1 Unexpected
 
 #[test]
 fn a_scenario_with_an_allowed_tag_may_be_left_out(rt: HostRuntime) -> Result<(), Fail> {
-    let held = "a: good sources=1 pickles=1 cases=1 attempts=1
-stop Missing
-MISSING tagged.feature:4 s
-";
-    let words = ["gate", "--features", "tagged.feature", "a"];
-    expect_gate(&rt, rt.alloc(), &words, BAD_RUN, held, 5)?;
     let text = "a: good sources=1 pickles=1 cases=1 attempts=1
 release files=1 scenarios=1 retried=0 skipped=0 unrun=1
 ";
@@ -150,16 +156,6 @@ MISSING f/g/a.feature:3 s
 }
 
 #[test]
-fn an_older_text_of_a_file_is_another(rt: HostRuntime) -> Result<(), Fail> {
-    let text = "a: good sources=1 pickles=1 cases=1 attempts=1
-stop Missing
-MISSING older.feature:3 s
-";
-    let words = ["gate", "--features", "older.feature", "a"];
-    expect_gate(&rt, rt.alloc(), &words, BAD_RUN, text, 5)
-}
-
-#[test]
 fn no_run_at_all_is_empty(rt: HostRuntime) -> Result<(), Fail> {
     let text = "good sources=0 pickles=0 cases=0 attempts=0
 stop Empty
@@ -190,16 +186,6 @@ fn a_path_with_trouble_is_told_before_any_run(rt: HostRuntime) -> Result<(), Fai
         expect_gate(&rt, rt.alloc(), &words, BAD_RUN, text, 3)?;
     }
     Ok(())
-}
-
-#[test]
-fn paths_are_shown_within_a_line(rt: HostRuntime) -> Result<(), Fail> {
-    let text = "a: good sources=1 pickles=1 cases=1 attempts=1
-stop Missing
-MISSING x\\n\\u202e.feature:3 t
-";
-    let words = ["gate", "--features", "x\n\u{202e}.feature", "a"];
-    expect_gate(&rt, rt.alloc(), &words, BAD_RUN, text, 5)
 }
 
 #[test]

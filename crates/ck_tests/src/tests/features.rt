@@ -1,5 +1,4 @@
 //! Feature files by the command `parse`.
-use crate::tests::lines::repeated;
 use crate::tests::running::expect_told;
 use ck_commands::run;
 use devices::{Failing, Pieces, Repeating, Store};
@@ -72,27 +71,6 @@ fn a_told_text_whose_flush_fails(rt: HostRuntime) {
         3
     );
     assert_eq!(rt; sink.failed_calls(), 1);
-}
-
-// A text at a limit, and the same with one byte more.
-fn expect_limit(rt: &impl Abort, alloc: Global, text: String, more: &str) -> Result<(), Fail> {
-    let mut text = text;
-    expect_parse(rt, alloc, text.as_bytes(), "ok nodes=0 comments=0", 0)?;
-    text.push_str(more)?;
-    expect_parse(rt, alloc, text.as_bytes(), "refused 0:0 6 TooLong", 1)
-}
-
-#[test]
-fn texts_at_the_limit_of_bytes(rt: HostRuntime) -> Result<(), Fail> {
-    let block = repeated(rt.alloc(), " ", 65_536)?;
-    let spaces = repeated(rt.alloc(), block.as_str(), 256)?;
-    expect_limit(&rt, rt.alloc(), spaces, " ")
-}
-
-#[test]
-fn texts_at_the_limit_of_lines(rt: HostRuntime) -> Result<(), Fail> {
-    let feeds = repeated(rt.alloc(), "\n\n\n\n\n\n\n\n", 125_000)?;
-    expect_limit(&rt, rt.alloc(), feeds, "\n")
 }
 
 // The text is refused once 65,536 bytes beyond the limit were read.

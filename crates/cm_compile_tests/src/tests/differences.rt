@@ -122,20 +122,7 @@ const MORE_SCENARIO: &str =
 
 const SAME_TEXT: &str = "Feature: f\n\n Scenario: s\n     Given a\n  # c\n";
 
-// Whether a document differs from the one that is due in these two texts.
-fn differs_from(
-    alloc: Global,
-    due: &Document,
-    found: &Document,
-    expected: Option<&str>,
-    seen: Option<&str>,
-) -> Result<bool, AllocError> {
-    match tree_difference(alloc, URI, due, found)? {
-        Some(difference) => Ok(is_difference(&difference, expected, seen)),
-        None => Ok(false),
-    }
-}
-
+// Whether the document of a text differs from the one that is due in these two texts.
 fn differs_in(
     alloc: Global,
     due: &Document,
@@ -144,9 +131,12 @@ fn differs_in(
     seen: Option<&str>,
 ) -> Result<bool, Fail> {
     let found = parse(alloc, text)?;
-    let differs = differs_from(alloc, due, &found, expected, seen);
+    let difference = tree_difference(alloc, URI, due, &found);
     drop(found);
-    Ok(differs?)
+    Ok(match difference? {
+        Some(difference) => is_difference(&difference, expected, seen),
+        None => false,
+    })
 }
 
 // Whether a document has the skeleton of the one that is due.

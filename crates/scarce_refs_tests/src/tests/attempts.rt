@@ -72,6 +72,18 @@ struct Met {
     start: Result<(), TrackFault>,
 }
 
+// The call has given this answer, and the look-ups before it were these.
+fn met_after(track: &mut Track, before: LookUps, answer: Result<(), TrackFault>) -> Met {
+    let after = look_ups(track);
+    let start = track.start("x", NEW, 1);
+    Met {
+        answer,
+        before,
+        after,
+        start,
+    }
+}
+
 // Adds a case of these steps with this room, beside its id and its steps. Its attempt with the number 1 isn't started.
 fn add_with_room(
     track: &mut Track,
@@ -85,15 +97,9 @@ fn add_with_room(
     let steps = texts(alloc, steps)?;
     shortage.leave(alloc, room)?;
     let answer = track.add_case(id, steps);
-    let after = look_ups(track);
-    let start = track.start("x", NEW, 1);
+    let met = met_after(track, before, answer);
     shortage.relax(alloc);
-    Ok(Met {
-        answer,
-        before,
-        after,
-        start,
-    })
+    Ok(met)
 }
 
 // Whether the case was refused: then it isn't there, and each look-up answers as before.
@@ -135,15 +141,9 @@ fn start_with_room(
     let before = look_ups(track);
     shortage.leave(alloc, room)?;
     let answer = track.start(NEW, NEW, 0);
-    let after = look_ups(track);
-    let start = track.start("x", NEW, 1);
+    let met = met_after(track, before, answer);
     shortage.relax(alloc);
-    Ok(Met {
-        answer,
-        before,
-        after,
-        start,
-    })
+    Ok(met)
 }
 
 // Whether the start was refused: then no attempt is counted, and each look-up answers as before.

@@ -2,7 +2,7 @@ use Rattle.std.proofs.Common.{◌≡◌, ◌∙◌, ap, sym, refl, ℕ, Option, 
 use Rattle.std.specs.Prelude.{option_map, slice_get, unwrap_or}
 use Rattle.cm_attempt.specs.Calls.{last_of}
 use Rattle.cm_stream.specs.Texts.{Utf8}
-use Rattle.cm_source_reasons.proofs.pickle_reason.last_node.Goals as goal
+use Rattle.cm_source_reasons.proofs.due_lines.last_node.Goals as goal
 
 last_is : {A : Type 0} (xs : List A) → last_of xs ≡ slice_get xs (length xs - 1)
 last_is [] = refl
@@ -24,7 +24,7 @@ last_id ids nodes shown o same e =
     ∙ ap (λ (x : Option Utf8). unwrap_or x []) (sym (last_map (λ n. unwrap_or (slice_get ids n) []) nodes))
 
 pub returns-in-Some : goal.returns-in-Some
-returns-in-Some c = c.id_of.ensures ∙ last_id c.args.ids.now c.args.due.now.nodes c.as_slice.result.now (Some c.in-Some.node.now) c.as_slice.ensures c.in-Some.ensures.value
+returns-in-Some c = c.id_of.ensures ∙ last_id c.args.ids.now c.args.nodes.now c.args.nodes.now (Some c.in-Some.node.now) refl c.in-Some.ensures.value
 
 pub returns-in-None : goal.returns-in-None
-returns-in-None c = last_id c.args.ids.now c.args.due.now.nodes c.as_slice.result.now None c.as_slice.ensures c.in-None.ensures.value
+returns-in-None c = last_id c.args.ids.now c.args.nodes.now c.args.nodes.now None refl c.in-None.ensures.value
