@@ -1,5 +1,6 @@
 -- What is in which file.
 -- Device: what the calls of a device leave
+-- Reads: what the reads of a source left, as the source has it
 -- Writing: what was written where a write failed
 -- Lines: the lines of some bytes (NDJSON: a line is ended by LF), and what a feed of them answers under two limits
 -- Feeds: what a feed stores between two calls, and what one call does to it
@@ -10,6 +11,7 @@
 -- Documents: reading a feature's tree, in which the nodes have ids
 -- Reading: the envelope of a line
 pub mod Device
+pub mod Reads
 pub mod Writing
 pub mod Lines
 pub mod Feeds

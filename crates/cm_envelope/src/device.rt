@@ -1,9 +1,11 @@
 //! Devices that remember their bytes and count their failed calls, over std's readers and writers.
 ghost use Rattle.std.specs.Prelude.{◌≡◌, ◌≤◌, ℕ, [], false, IfOk, is_err, length};
 ghost use Rattle.std.specs.Io.KnownBytes.{Keeps, ReadConsumes, WriteAppends};
+ghost use Rattle.cm_envelope.specs.Reads.{input_with};
 ghost use Rattle.cm_envelope.specs.Device.{AddsRead, AddsWrite, CountsFailure, Input, Output, PassesOn, is_failed_write};
 
-use crate::record::{Heard, Taken};
+use crate::reads::Reads;
+use crate::record::Taken;
 use std::io::{Read, Write};
 use thiserror::Error;
 
@@ -68,8 +70,7 @@ pub trait ByteSink {
 #[derive(Drop)]
 pub struct Reader<R> {
     inner: R,
-    failed_reads: u64,
-    heard: Heard,
+    reads: Reads,
 }
 
 impl<R: Read> Reader<R> {
@@ -82,36 +83,16 @@ impl<R: Read> Reader<R> {
     {
         Reader {
             inner,
-            failed_reads: 0,
-            heard: Heard::new(),
+            reads: Reads::new(),
         }
     }
 }
 
 impl<R: Read> ByteSource for Reader<R> {
-    ghost input = { λ r. record {
-      heard = r.heard.bytes;
-      is_over = r.heard.is_over;
-      to_come = R.remaining r.inner;
-      failed_calls = r.failed_reads;
-    } };
+    ghost input = { λ r. input_with (R.remaining r.inner) r.reads };
 
     fn read_some(&mut self, piece: &mut [u8]) -> Result<usize, DeviceFailed> {
-        match self.inner.read(piece) {
-            Ok(n) => {
-                if n == 0 && !piece.is_empty() {
-                    self.heard.end();
-                } else {
-                    self.heard.note(&piece[..n]);
-                }
-                Ok(n)
-            }
-            Err(_) => {
-                self.heard.note(&piece[..0]);
-                self.failed_reads = self.failed_reads.saturating_add(1);
-                Err(DeviceFailed)
-            }
-        }
+        self.reads.read(&mut self.inner, piece)
     }
 }
 

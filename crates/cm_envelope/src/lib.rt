@@ -16,7 +16,7 @@
 //!
 //! `Reader` and `Writer` make a device of a reader and a writer of std, `Feed` cuts the bytes into lines within limits,
 //! `is_blank_line` finds the lines that have no envelope, and `write_all` writes. `Heard` and
-//! `Taken` are what a device of your own remembers for the clauses.
+//! `Taken` are what a device of your own remembers for the clauses, `Reads` what one over a reader does.
 #![tactic(auto)]
 
 mod blank;
@@ -32,6 +32,7 @@ mod read_documents;
 mod read_envelopes;
 mod read_line;
 mod read_pickles;
+mod reads;
 mod record;
 mod window;
 mod write;
@@ -51,5 +52,6 @@ pub use pickle::{
     PickleTag, StepKind,
 };
 pub use read_line::read_envelope;
+pub use reads::Reads;
 pub use record::{Heard, Taken};
 pub use write::write_all;

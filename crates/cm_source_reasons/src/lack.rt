@@ -36,7 +36,7 @@ fn add_first(
         ++ ended (take most_lines
         (map (missing_line es lines.uri.now lines.ids.now) (map title_of due.old)))) }
 {
-    for _ in 0..MOST_LINES {
+    for _shown in 0..MOST_LINES {
         match due.next_title(alloc, seed)? {
             Some(title) => lines.add_missing(text, &title)?,
             None => return Ok(()),

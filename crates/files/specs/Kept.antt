@@ -1,23 +1,13 @@
 -- The openings and the looks, as the code keeps them.
 use Rattle.std.specs.Prelude.{List, None, map, option_map, string_bytes}
-use Rattle.cm_envelope.specs.Device.{Input}
+use Rattle.cm_envelope.specs.Reads.{input_with}
 use Rattle.files.specs.Openings.{Opening}
 use Rattle.files.specs.Looks.{Looked}
-use Rattle.files.specs.declared.opened.FileRead.{FileRead}
 use Rattle.files.specs.declared.opened.Opened.{Opened}
 use Rattle.files.specs.declared.opened.LookedAt.{LookedAt}
 
--- what the reads of a file left
-abbrev pub input_of : FileRead → Input
-input_of r = record {
-  heard = r.heard.bytes;
-  is_over = r.heard.is_over;
-  to_come = None;
-  failed_calls = r.failed_reads;
-}
-
 abbrev pub opening_of : Opened → Opening
-opening_of o = record { name = string_bytes o.name; input = option_map input_of o.read }
+opening_of o = record { name = string_bytes o.name; input = option_map (input_with None) o.reads }
 
 abbrev pub openings_of : List Opened → List Opening
 openings_of opened = map opening_of opened

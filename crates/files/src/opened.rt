@@ -1,5 +1,6 @@
 //! Files that note what was opened, what was read of it, and what was looked at.
 ghost use Rattle.std.specs.Prelude.{◌≡◌, [], IfOk, None, string_bytes};
+ghost use Rattle.cm_envelope.specs.Reads.{input_with};
 ghost use Rattle.files.specs.Kept.{looks_of, openings_of};
 ghost use Rattle.files.specs.Looks.{NotesLook};
 ghost use Rattle.files.specs.Openings.{IsFresh, NotesClosing, NotesOpening, trouble_in};
@@ -7,7 +8,7 @@ ghost use Rattle.files.specs.Openings.{IsFresh, NotesClosing, NotesOpening, trou
 use crate::files::{FileTrouble, Files, OpenFile};
 use crate::look::Look;
 use crate::opener::Opener;
-use cm_envelope::{ByteSource, DeviceFailed, Heard};
+use cm_envelope::{ByteSource, DeviceFailed, Reads};
 use std::alloc::{AllocError, Global};
 use std::io::Read;
 use std::snapshot::Snapshot;
@@ -16,8 +17,7 @@ use std::snapshot::Snapshot;
 #[derive(Drop)]
 pub struct FileSource<F> {
     inner: F,
-    heard: Heard,
-    failed_reads: u64,
+    reads: Reads,
 }
 
 impl<F: Read> FileSource<F> {
@@ -27,51 +27,24 @@ impl<F: Read> FileSource<F> {
     {
         FileSource {
             inner,
-            heard: Heard::new(),
-            failed_reads: 0,
+            reads: Reads::new(),
         }
     }
 }
 
 impl<F: Read> ByteSource for FileSource<F> {
-    ghost input = { λ f. record {
-      heard = f.heard.bytes;
-      is_over = f.heard.is_over;
-      to_come = None;
-      failed_calls = f.failed_reads;
-    } };
+    ghost input = { λ f. input_with None f.reads };
 
     fn read_some(&mut self, piece: &mut [u8]) -> Result<usize, DeviceFailed> {
-        match self.inner.read(piece) {
-            Ok(n) => {
-                if n == 0 && !piece.is_empty() {
-                    self.heard.end();
-                } else {
-                    self.heard.note(&piece[..n]);
-                }
-                Ok(n)
-            }
-            Err(_) => {
-                self.heard.note(&piece[..0]);
-                self.failed_reads = self.failed_reads.saturating_add(1);
-                Err(DeviceFailed)
-            }
-        }
+        self.reads.read(&mut self.inner, piece)
     }
-}
-
-/// What was read of a file until it was closed.
-#[derive(Drop)]
-pub(crate) struct FileRead {
-    pub(crate) heard: Heard,
-    pub(crate) failed_reads: u64,
 }
 
 /// An opening of a file, and what was read of it where it could be opened.
 #[derive(Drop)]
 pub(crate) struct Opened {
     pub(crate) name: String,
-    pub(crate) read: Option<FileRead>,
+    pub(crate) reads: Option<Reads>,
 }
 
 /// A path that was looked at. What stood there is for clauses alone: it takes no memory.
@@ -131,7 +104,7 @@ impl<O: Opener> Files for OpenedFiles<O> {
         }
         match self.opened.push(Opened {
             name: owned,
-            read: None,
+            reads: None,
         }) {
             Ok(()) => Err(FileTrouble::ReadFailed),
             Err(_) => Err(FileTrouble::Memory),
@@ -145,17 +118,10 @@ impl<O: Opener> Files for OpenedFiles<O> {
         ensures looks { looks_of self.new.looked.items ≡ looks_of self.old.looked.items }
     {
         let OpenFile { name, source } = file;
-        let FileSource {
-            inner,
-            heard,
-            failed_reads,
-        } = source;
+        let FileSource { inner, reads } = source;
         drop(inner);
-        let read = Some(FileRead {
-            heard,
-            failed_reads,
-        });
-        Ok(self.opened.push(Opened { name, read })?)
+        let reads = Some(reads);
+        Ok(self.opened.push(Opened { name, reads })?)
     }
 
     fn look(&mut self, path: &str) -> Result<Look, AllocError>
