@@ -1,9 +1,9 @@
 //! Cases and attempts in want of memory.
-use crate::tests::checking::check;
+use crate::tests::checking::{check, texts};
 use cm_attempt::{Status, Track, TrackFault};
 use scarce::Shortage;
 use seeds::fixed_seed;
-use std::alloc::{AllocError, Global};
+use std::alloc::Global;
 use std::test::Fail;
 
 // Cases that are there before the call that is met, each with an attempt of the same id.
@@ -12,14 +12,6 @@ const NAMES: [&str; 9] = ["a", "b", "c", "d", "e", "f", "g", "h", "i"];
 const NEW: &str = "new";
 
 const STEPS: [&str; 2] = ["t", "u"];
-
-fn texts(alloc: Global, words: &[&str]) -> Result<Vec<String>, AllocError> {
-    let mut owned = Vec::new(alloc);
-    for word in words {
-        owned.push(String::from_str(alloc, word)?)?;
-    }
-    Ok(owned)
-}
 
 // The answers of all look-ups: those of a case and an attempt that are there, if any, and of new ones.
 #[derive(Clone, Copy, PartialEq, Eq)]

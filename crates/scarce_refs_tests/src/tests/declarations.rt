@@ -1,9 +1,9 @@
 //! Declarations in want of memory.
-use crate::tests::checking::check;
+use crate::tests::checking::{check, texts};
 use cm_refs::{Declared, RefFault};
 use scarce::Shortage;
 use seeds::fixed_seed;
-use std::alloc::{AllocError, Global};
+use std::alloc::Global;
 use std::test::Fail;
 
 #[derive(Clone, Copy, PartialEq, Eq)]
@@ -88,14 +88,6 @@ fn look_ups(declared: &Declared) -> LookUps {
         pickles,
         open_run_hooks: declared.open_run_hooks(),
     }
-}
-
-fn texts(alloc: Global, words: &[&str]) -> Result<Vec<String>, AllocError> {
-    let mut owned = Vec::new(alloc);
-    for word in words {
-        owned.push(String::from_str(alloc, word)?)?;
-    }
-    Ok(owned)
 }
 
 // Declares the name for each kind.
