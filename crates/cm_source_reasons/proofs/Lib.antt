@@ -1,3 +1,4 @@
 mod SourceArms
 mod SourceRows
 mod SourceFaults
+mod MissingLemmas

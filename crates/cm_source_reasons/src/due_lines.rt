@@ -36,9 +36,9 @@ pub(crate) struct DueLines<'a, 'p> {
 impl DueLines<'_, '_> {
     /// Adds where the scenario of a pickle of these nodes stands, and its name.
     fn add_scenario(&self, text: &mut String, name: &str, nodes: &[u64]) -> Result<(), AllocError>
-        ensures { OnOk result ((es : List SomeEnvelope) → self.places.now ≡ listing_of es
+        ensures { OnOk result ((es : List SomeEnvelope) → self.now.places.now ≡ listing_of es
             → string_bytes text.new ≡ string_bytes text.old
-            ++ scenario_of es self.uri.now self.ids.now name.now nodes.now) }
+            ++ scenario_of es self.now.uri.now self.now.ids.now name.now nodes.now) }
     {
         let node = last_node(self.ids, nodes);
         self.places.add_place(text, self.uri, name, node)
@@ -49,9 +49,9 @@ impl DueLines<'_, '_> {
     /// # Errors
     /// Only where there is no memory for it.
     pub(crate) fn add_missing(&self, text: &mut String, due: &PickleTitle) -> Result<(), AllocError>
-        ensures { OnOk result ((es : List SomeEnvelope) → self.places.now ≡ listing_of es
+        ensures { OnOk result ((es : List SomeEnvelope) → self.now.places.now ≡ listing_of es
             → string_bytes text.new ≡ string_bytes text.old
-            ++ ended (missing_line es self.uri.now self.ids.now due.now ∷ [])) }
+            ++ ended (missing_line es self.now.uri.now self.now.ids.now due.now ∷ [])) }
     {
         text.push_str("missing")?;
         self.add_scenario(text, due.name.as_str(), due.nodes.as_slice())?;
@@ -61,9 +61,9 @@ impl DueLines<'_, '_> {
 
     /// Adds the line of the next pickle.
     fn add_next(&self, text: &mut String, due: &Pickle) -> Result<(), AllocError>
-        ensures { OnOk result ((es : List SomeEnvelope) → self.places.now ≡ listing_of es
+        ensures { OnOk result ((es : List SomeEnvelope) → self.now.places.now ≡ listing_of es
             → string_bytes text.new ≡ string_bytes text.old
-            ++ due_line es self.uri.now self.ids.now (Some due.now)) }
+            ++ due_line es self.now.uri.now self.now.ids.now (Some due.now)) }
     {
         text.push_str("due")?;
         self.add_scenario(text, due.name.as_str(), due.nodes.as_slice())?;
@@ -76,9 +76,9 @@ impl DueLines<'_, '_> {
     /// # Errors
     /// Only where there is no memory for it.
     pub(crate) fn add_due(&self, text: &mut String, due: Option<&Pickle>) -> Result<(), AllocError>
-        ensures { OnOk result ((es : List SomeEnvelope) → self.places.now ≡ listing_of es
+        ensures { OnOk result ((es : List SomeEnvelope) → self.now.places.now ≡ listing_of es
             → string_bytes text.new ≡ string_bytes text.old
-            ++ due_line es self.uri.now self.ids.now (option_map (λ d. d.now) due.entry)) }
+            ++ due_line es self.now.uri.now self.now.ids.now (option_map (λ d. d.now) due.entry)) }
     {
         match due {
             Some(due) => self.add_next(text, due),

@@ -31,10 +31,10 @@ fn add_first(
     due: &mut DuePickles<'_>,
 ) -> Result<(), AllocError>
     ensures left { OnOk result (map title_of due.new ≡ drop most_lines (map title_of due.old)) }
-    ensures lines { OnOk result ((es : List SomeEnvelope) → lines.places.now ≡ listing_of es
+    ensures lines { OnOk result ((es : List SomeEnvelope) → lines.now.places.now ≡ listing_of es
         → string_bytes text.new ≡ string_bytes text.old
         ++ ended (take most_lines
-        (map (missing_line es lines.uri.now lines.ids.now) (map title_of due.old)))) }
+        (map (missing_line es lines.now.uri.now lines.now.ids.now) (map title_of due.old)))) }
 {
     for _shown in 0..MOST_LINES {
         match due.next_title(alloc, seed)? {

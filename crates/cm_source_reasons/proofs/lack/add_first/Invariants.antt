@@ -10,7 +10,7 @@ abbrev pub invariant-loop-shown : goal.invariant-loop-shown
 invariant-loop-shown l = record {
   left : drop (100 - l._shown) (map title_of l.due) ≡ drop 100 (map title_of l.fn.due);
   lines :
-      (es : List Envelope) → l.lines.places ≡ listing_of es
-      → string_bytes l.text ++ ended (take (100 - l._shown) (map (missing_line es l.lines.uri l.lines.ids) (map title_of l.due)))
-      ≡ string_bytes l.fn.text ++ ended (take 100 (map (missing_line es l.lines.uri l.lines.ids) (map title_of l.fn.due)));
+      (es : List Envelope) → l.lines.places.now ≡ listing_of es
+      → string_bytes l.text ++ ended (take (100 - l._shown) (map (missing_line es l.lines.uri.now l.lines.ids.now) (map title_of l.due)))
+      ≡ string_bytes l.fn.text ++ ended (take 100 (map (missing_line es l.lines.uri.now l.lines.ids.now) (map title_of l.fn.due)));
 }

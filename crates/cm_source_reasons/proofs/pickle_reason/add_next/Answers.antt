@@ -25,10 +25,10 @@ first_is start kept after (Some p) same h = rw (← same, h) refl
 pub returns : goal.returns
 returns c es is =
     let p = c.args.pickle.now in
-    let ids = c.ids-ids.result.now in
+    let ids = c.ids.result.now in
     let row = kept_row [] c.args.source.now in
     let due = option_map (λ (x : Bor DuePickle). x.now) c.as_ref.result in
     let same = c.as_ref-2.ensures.value ∙ sym c.as_ref.ensures.value in
     next_told es p (string_bytes c.args.text.now) _ _ c.as_str.result.now ids _ due _ c.in_ok-difference.difference
-    (c.in_ok-add_due.ensures es is) c.in_ok-add_sides.ensures (c.in_ok-difference.ensures ∙ ap (λ (o : Option DuePickle). pickle_difference ids o p) same) c.as_str.ensures c.ids-ids.ensures
+    (c.in_ok-add_due.ensures es is) c.in_ok-add_sides.ensures (c.in_ok-difference.ensures ∙ ap (λ (o : Option DuePickle). pickle_difference ids o p) same) c.as_str.ensures c.ids.ensures
     (c.as_ref.ensures.value ∙ first_is c.due.result row.due c.next.new.self c.in_ok-due.due c.due.ensures c.in_ok-due.ensures)

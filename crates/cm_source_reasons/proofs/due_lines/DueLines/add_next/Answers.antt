@@ -1,5 +1,4 @@
-use Rattle.std.proofs.Common.{◌≡◌, ◌∙◌, ◌++◌, ap, append_assoc, codes, string_bytes, List, ℕ}
-use Rattle.cm_envelope.specs.declared.envelope.Envelope.{Envelope}
+use Rattle.std.proofs.Common.{◌∙◌, ◌++◌, ap, append_assoc, codes, string_bytes, List, ℕ}
 use Rattle.cm_stream.specs.Texts.{Utf8}
 use Rattle.cm_source_reasons.specs.DueLines.{scenario_of}
 use Rattle.cm_source_reasons.proofs.due_lines.DueLines.add_next.Goals as goal
@@ -13,5 +12,5 @@ returns c es is =
     let end = codes "\n" in
     c.in_ok-push_str-2.ensures.bytes
     ∙ ap (λ (l : List ℕ). l ++ end)
-    (c.in_ok-self.ensures es is ∙ (λ j. c.in_ok-push_str.ensures.bytes j ++ shown (c.as_str.ensures j) (c.as_slice.ensures j)))
+    (c.in_ok-add_scenario.ensures es is ∙ (λ j. c.in_ok-push_str.ensures.bytes j ++ shown (c.as_str.ensures j) (c.as_slice.ensures j)))
     ∙ append_assoc (old ++ codes "due") (shown d.name d.nodes) end ∙ append_assoc old (codes "due") (shown d.name d.nodes ++ end)
