@@ -1,7 +1,6 @@
 //! The changes that a call makes once nothing is refused.
 ghost use Rattle.std.specs.Prelude.{◌≡◌, ◌+◌, ◌<◌, ◌≤◌, ◌++◌, ◌∷◌, [], All, IfSome, None, OnErr, OnOk, Option, Some, find, map, option_map, slice_get};
 ghost use Rattle.std.specs.Str.{bytes_eq};
-ghost use Rattle.std.specs.String.{string_bytes};
 ghost use Rattle.indexmap.specs.IndexMap.{index_map_len, values};
 ghost use Rattle.cm_refs.specs.StepIds.{ids_in};
 ghost use Rattle.cm_attempt.specs.Rows.{attempt_rows, case_rows, place_of};
@@ -12,24 +11,25 @@ ghost use Rattle.cm_attempt.specs.Table.{new_attempt as new_row, new_case};
 use crate::rows::{Attempt, Attempts, Case, Cases, Cursor, Last};
 use crate::status::{Status, worst_with};
 use cm_refs::StepIds;
+use kept_texts::KeptText;
 use std::alloc::{AllocError, Global};
 
 /// Adds a case with its steps. The id is new.
 pub(crate) fn add_case(
     cases: &mut Cases,
-    id: String,
+    alloc: Global,
+    id: &str,
     steps: StepIds,
     most: u64,
 ) -> Result<(), AllocError>
-    requires new { find (λ c. bytes_eq (string_bytes id) c.id) (case_rows cases.old.entries)
-        ≡ None }
+    requires new { find (λ c. bytes_eq id.now c.id) (case_rows cases.old.entries) ≡ None }
     requires few { All (λ c. c.attempts ≤ most) (values cases.old) }
     ensures ok { OnOk result (case_rows cases.new.entries
-        ≡ case_rows cases.old.entries
-        ++ new_case (string_bytes id) (ids_in steps) ∷ []) }
+        ≡ case_rows cases.old.entries ++ new_case id.now (ids_in steps) ∷ []) }
     ensures err { OnErr result (case_rows cases.new.entries ≡ case_rows cases.old.entries) }
     ensures few { All (λ c. c.attempts ≤ most) (values cases.new) }
 {
+    let id = KeptText::copy_of(alloc, id)?;
     let case = Case {
         steps,
         attempts: 0,
@@ -54,8 +54,8 @@ pub(crate) fn add_attempt(
     ensures len { OnOk result (index_map_len attempts.new ≡ index_map_len attempts.old + 1) }
     ensures len_err { OnErr result (index_map_len attempts.new ≡ index_map_len attempts.old) }
 {
-    let id = String::from_str(alloc, id)?;
-    let case_id = String::from_str(alloc, case_id)?;
+    let id = KeptText::copy_of(alloc, id)?;
+    let case_id = KeptText::copy_of(alloc, case_id)?;
     let attempt = Attempt {
         case_id,
         cursor: Some(Cursor {

@@ -1,6 +1,6 @@
 //! What a call has to find before it changes anything.
 ghost use Rattle.std.specs.Prelude.{◌≡◌, ◌<◌, if◌then◌else◌, [], false, IfOk, IfSome, None, Some, length, map, option_map};
-ghost use Rattle.std.specs.String.{string_bytes};
+ghost use Rattle.kept_texts.specs.Kept.{bytes_of};
 ghost use Rattle.indexmap.specs.IndexMap.{index_map_len};
 ghost use Rattle.cm_refs.specs.Due.{RefusesExactly};
 ghost use Rattle.cm_refs.specs.StepIds.{ids_in};
@@ -149,7 +149,7 @@ pub(crate) fn check_end(cases: &Cases, attempt: &Attempt) -> Result<Option<usize
         (finish_fault_at (table_of 0 cases.now.entries []) (Some (attempt_row [] attempt.now)))
         result }
     ensures place { IfOk result
-        (λ place. place_of (string_bytes attempt.now.case_id) cases.now.entries ≡ place) }
+        (λ place. place_of (bytes_of attempt.now.case_id) cases.now.entries ≡ place) }
     ensures within { IfOk result
         (λ place. IfSome place (λ at. at < index_map_len cases.now)) }
 {

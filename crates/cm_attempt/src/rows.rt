@@ -3,7 +3,6 @@ ghost use Rattle.std.specs.Prelude.{◌≡◌, ◌<◌, [], ℕ, IfSome, List, S
 ghost use Rattle.std.specs.Option.{option_map_or};
 ghost use Rattle.std.specs.List.{list_all};
 ghost use Rattle.std.specs.Str.{bytes_eq};
-ghost use Rattle.std.specs.String.{string_bytes};
 ghost use Rattle.indexmap.specs.IndexMap.{index_map_len, values};
 ghost use Rattle.cm_refs.specs.StepIds.{ids_in};
 ghost use Rattle.cm_attempt.specs.Due.{due_at, due_of, due_view};
@@ -16,6 +15,7 @@ use crate::status::Status;
 use crate::track::DueStep;
 use cm_refs::StepIds;
 use indexmap::IndexMap;
+use kept_texts::KeptText;
 use std::hash::RandomState;
 
 /// The state of the last attempt of a case.
@@ -45,14 +45,14 @@ pub(crate) struct Case {
 /// An attempt. It has no cursor once it has ended.
 #[derive(Drop)]
 pub(crate) struct Attempt {
-    pub(crate) case_id: String,
+    pub(crate) case_id: KeptText,
     pub(crate) cursor: Option<Cursor>,
     pub(crate) worst: Option<Status>,
 }
 
-pub(crate) type Cases = IndexMap<String, Case, RandomState>;
+pub(crate) type Cases = IndexMap<KeptText, Case, RandomState>;
 
-pub(crate) type Attempts = IndexMap<String, Attempt, RandomState>;
+pub(crate) type Attempts = IndexMap<KeptText, Attempt, RandomState>;
 
 /// The case, and its place among the cases.
 pub(crate) fn find_case<'a>(cases: &'a Cases, id: &str) -> Option<(usize, &'a Case)>

@@ -116,7 +116,7 @@ impl Track {
             return Err(TrackFault::DuplicateId);
         };
         let most = self.attempts.len() as u64;
-        add_case(&mut self.cases, id, steps, most)?;
+        add_case(&mut self.cases, self.alloc, id.as_str(), steps, most)?;
         Ok(())
     }
 

@@ -1,14 +1,15 @@
 -- Equal texts in a list that grows at its end.
-use Rattle.std.proofs.Common.{◌≡◌, ◌∙◌, ap, sym, refl, subst, ℕ, ◌+◌, ◌<◌, Bool, true, false, List, [], ◌∷◌, ◌++◌, ◌||◌, length, map, get_or, take, drop, if◌then◌else◌}
+use Rattle.std.proofs.Common.{◌≡◌, ◌∙◌, ap, sym, refl, subst, ℕ, ◌+◌, ◌<◌, Bool, true, false, List, [], ◌∷◌, ◌++◌, ◌||◌, length, map, get_or, String, Global, take, drop, if◌then◌else◌}
 use Rattle.std.specs.List.{list_any}
 use Rattle.std.specs.Str.{bytes_eq}
-use Rattle.std.specs.String.{string_bytes, string_eq}
+use Rattle.std.specs.String.{string_bytes}
+use Rattle.kept_texts.specs.Kept.{bytes_of}
 use Rattle.indexmap.specs.IndexSet.{insert_key}
 use Rattle.std.proofs.lemmas.List.{map-append, take_more, take-append-drop}
 use Rattle.std.proofs.lemmas.List.Folds.{list_any-append}
 use Rattle.std.proofs.lemmas.Slice.Eq.{bytes_eq-Decides}
 use Rattle.cm_refs.specs.Declarations.{Utf8, has_repeat, has_text}
-use Rattle.cm_refs.proofs.EntryLemmas.{Key}
+use Rattle.cm_refs.proofs.EntryLemmas.{Key, key_eq}
 use Rattle.cm_refs.proofs.EntryLemmas.{list_any-map}
 
 bytes_eq-swap : (a b : Utf8) → bytes_eq a b ≡ bytes_eq b a
@@ -60,7 +61,7 @@ no_repeat_at xs i d lt new none =
     ap has_repeat (take_more xs i d lt) ∙ has_repeat-push (take i xs) (get_or xs i d) ∙ (λ j. new j || none j)
 
 -- a text that is among those before its place
-pub repeat_after : (all yielded : List Key) (text : Key) → yielded ≡ take (length yielded) all → length yielded < length all → text ≡ get_or all (length yielded) text
+pub repeat_after : (all yielded : List (String Global)) (text : String Global) → yielded ≡ take (length yielded) all → length yielded < length all → text ≡ get_or all (length yielded) text
     → has_text (string_bytes text) (map string_bytes yielded) ≡ true → has_repeat (map string_bytes all) ≡ true
 repeat_after all yielded text so_far lt here there =
     let next = length yielded + 1 in
@@ -77,11 +78,11 @@ repeat_after all yielded text so_far lt here there =
     (has_repeat-push texts (string_bytes text) ∙ ap (λ b. b || has_repeat texts) there)
 
 -- a new text goes last
-pub appended_text : (keys : List Key) (k : Key) (name : Utf8) → string_bytes k ≡ name → has_text name (map string_bytes keys) ≡ false
-    → map string_bytes (insert_key string_eq keys k) ≡ map string_bytes keys ++ name ∷ []
+pub appended_text : (keys : List Key) (k : Key) (name : Utf8) → bytes_of k ≡ name → has_text name (map bytes_of keys) ≡ false
+    → map bytes_of (insert_key key_eq keys k) ≡ map bytes_of keys ++ name ∷ []
 appended_text keys k name same new =
-    let absent : list_any (string_eq k) keys ≡ false =
-    sym (list_any-map (bytes_eq (string_bytes k)) string_bytes keys) ∙ (λ j. list_any (bytes_eq (same j)) (map string_bytes keys)) ∙ new in
-    ap (λ b. map string_bytes (if b then keys else keys ++ k ∷ [])) absent
-    ∙ map-append string_bytes keys (k ∷ [])
-    ∙ (λ j. map string_bytes keys ++ same j ∷ [])
+    let absent : list_any (key_eq k) keys ≡ false =
+    sym (list_any-map (bytes_eq (bytes_of k)) bytes_of keys) ∙ (λ j. list_any (bytes_eq (same j)) (map bytes_of keys)) ∙ new in
+    ap (λ b. map bytes_of (if b then keys else keys ++ k ∷ [])) absent
+    ∙ map-append bytes_of keys (k ∷ [])
+    ∙ (λ j. map bytes_of keys ++ same j ∷ [])

@@ -1,7 +1,7 @@
 -- The rows of pickles and of run hooks, as the entries of their maps have them.
-use Rattle.std.specs.Prelude.{Bool, List, String, map}
-use Rattle.std.specs.String.{string_bytes}
-use Rattle.std.specs.declared.alloc.Global.{Global}
+use Rattle.std.specs.Prelude.{Bool, List, map}
+use Rattle.kept_texts.specs.Kept.{bytes_of}
+use Rattle.kept_texts.specs.declared.kept_text.KeptText.{KeptText}
 use Rattle.cm_refs.specs.Declarations.{PickleRow, RunHookRow, Utf8}
 use Rattle.cm_refs.specs.StepIds.{ids_in}
 use Rattle.cm_refs.specs.declared.step_ids.StepIds.{StepIds}
@@ -9,11 +9,11 @@ use Rattle.cm_refs.specs.declared.step_ids.StepIds.{StepIds}
 abbrev pub pickle_row : Utf8 → StepIds → PickleRow
 pickle_row id steps = record { id = id; steps = ids_in steps }
 
-abbrev pub pickle_rows : List (String Global × StepIds) → List PickleRow
-pickle_rows = map (λ e. pickle_row (string_bytes e.0) e.1)
+abbrev pub pickle_rows : List (KeptText × StepIds) → List PickleRow
+pickle_rows = map (λ e. pickle_row (bytes_of e.0) e.1)
 
 abbrev pub run_hook_row : Utf8 → Bool → RunHookRow
 run_hook_row id is_finished = record { id = id; is_finished = is_finished }
 
-abbrev pub run_hook_rows : List (String Global × Bool) → List RunHookRow
-run_hook_rows = map (λ e. run_hook_row (string_bytes e.0) e.1)
+abbrev pub run_hook_rows : List (KeptText × Bool) → List RunHookRow
+run_hook_rows = map (λ e. run_hook_row (bytes_of e.0) e.1)

@@ -35,18 +35,18 @@ pub struct Declared {
 
 impl Model for Declared {
     ghost use Rattle.std.specs.Prelude.{map};
-    ghost use Rattle.std.specs.String.{string_bytes};
+    ghost use Rattle.kept_texts.specs.Kept.{bytes_of};
     ghost use Rattle.cm_refs.specs.Declarations.{Declarations};
     ghost use Rattle.cm_refs.specs.Rows.{pickle_rows, run_hook_rows};
 
     ghost Value = { Declarations };
 
     ghost view = { λ d. record {
-      sources = map string_bytes d.sources.keys;
-      documents = map string_bytes d.documents.keys;
+      sources = map bytes_of d.sources.keys;
+      documents = map bytes_of d.documents.keys;
       pickles = pickle_rows d.pickles.entries;
-      definitions = map string_bytes d.definitions.keys;
-      hooks = map string_bytes d.hooks.keys;
+      definitions = map bytes_of d.definitions.keys;
+      hooks = map bytes_of d.hooks.keys;
       run_hooks = run_hook_rows d.run_hooks.entries;
     } };
 }
@@ -116,7 +116,7 @@ impl Declared {
         let Some(steps) = distinct_texts(self.alloc, self.seed, steps)? else {
             return Err(RefFault::DuplicateId);
         };
-        append(&mut self.pickles, id, steps)?;
+        append(&mut self.pickles, self.alloc, id.as_str(), steps)?;
         Ok(())
     }
 

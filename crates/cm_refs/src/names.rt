@@ -1,6 +1,7 @@
 //! Sets of ids and uris, in the order of their declaration.
 ghost use Rattle.std.specs.Prelude.{◌≡◌, ◌++◌, ◌∷◌, [], IfOk, IfSome, OnErr, OnOk, false, is_none, map};
 ghost use Rattle.std.specs.String.{string_bytes};
+ghost use Rattle.kept_texts.specs.Kept.{bytes_of};
 ghost use Rattle.cm_refs.specs.Declarations.{has_repeat, has_text, name_fault};
 ghost use Rattle.cm_refs.specs.Due.{RefusesExactlyUnless};
 ghost use Rattle.cm_refs.specs.StepIds.{ids_in};
@@ -8,27 +9,28 @@ ghost use Rattle.cm_refs.specs.StepIds.{ids_in};
 use crate::fault::RefFault;
 use crate::step_ids::StepIds;
 use indexmap::IndexSet;
+use kept_texts::KeptText;
 use std::alloc::{AllocError, Global};
 use std::hash::RandomState;
 use text_rows::Texts;
 
-pub type Names = IndexSet<String, RandomState>;
+pub type Names = IndexSet<KeptText, RandomState>;
 
 pub(crate) fn contains(names: &Names, name: &str) -> bool
-    ensures { result ≡ has_text name.now (map string_bytes names.now.keys) }
+    ensures { result ≡ has_text name.now (map bytes_of names.now.keys) }
 {
     names.contains(name)
 }
 
 /// Appends a name that is new.
 fn append(names: &mut Names, alloc: Global, name: &str) -> Result<(), AllocError>
-    requires { has_text name.now (map string_bytes names.old.keys) ≡ false }
-    ensures ok { OnOk result (map string_bytes names.new.keys
-        ≡ map string_bytes names.old.keys ++ name.now ∷ []) }
+    requires { has_text name.now (map bytes_of names.old.keys) ≡ false }
+    ensures ok { OnOk result (map bytes_of names.new.keys
+        ≡ map bytes_of names.old.keys ++ name.now ∷ []) }
     ensures err { OnErr result
-        (map string_bytes names.new.keys ≡ map string_bytes names.old.keys) }
+        (map bytes_of names.new.keys ≡ map bytes_of names.old.keys) }
 {
-    let owned = String::from_str(alloc, name)?;
+    let owned = KeptText::copy_of(alloc, name)?;
     names.insert(owned)?;
     Ok(())
 }
@@ -41,11 +43,11 @@ pub(crate) fn declare(
     taken: RefFault,
 ) -> Result<(), RefFault>
     ensures answer { RefusesExactlyUnless
-        (name_fault taken name.now (map string_bytes names.old.keys)) result RefFault.Memory }
-    ensures ok { OnOk result (map string_bytes names.new.keys
-        ≡ map string_bytes names.old.keys ++ name.now ∷ []) }
+        (name_fault taken name.now (map bytes_of names.old.keys)) result RefFault.Memory }
+    ensures ok { OnOk result (map bytes_of names.new.keys
+        ≡ map bytes_of names.old.keys ++ name.now ∷ []) }
     ensures err { OnErr result
-        (map string_bytes names.new.keys ≡ map string_bytes names.old.keys) }
+        (map bytes_of names.new.keys ≡ map bytes_of names.old.keys) }
 {
     if contains(names, name) {
         return Err(taken);
@@ -82,14 +84,14 @@ fn distinct_many(
     ensures repeated { IfOk result
         (λ set. is_none set ≡ has_repeat (map string_bytes texts.items)) }
     ensures same { IfOk result (λ set. IfSome set
-        (λ s. map string_bytes s.keys ≡ map string_bytes texts.items)) }
+        (λ s. map bytes_of s.keys ≡ map string_bytes texts.items)) }
 {
     let mut set = IndexSet::with_capacity_and_hasher(alloc, texts.len(), seed)?;
     for text in texts {
-        let is_new = set.insert(text)?;
-        if !is_new {
+        if contains(&set, text.as_str()) {
             return Ok(None);
         }
+        append(&mut set, alloc, text.as_str())?;
     }
     Ok(Some(set))
 }

@@ -2,16 +2,16 @@
 ghost use Rattle.std.specs.Prelude.{◌≡◌, ◌++◌, ◌∷◌, [], None, OnErr, OnOk, find, option_map};
 ghost use Rattle.std.specs.Option.{option_map_or};
 ghost use Rattle.std.specs.Str.{bytes_eq};
-ghost use Rattle.std.specs.String.{string_bytes};
 ghost use Rattle.cm_refs.specs.Declarations.{has_text};
 ghost use Rattle.cm_refs.specs.Rows.{pickle_row, pickle_rows};
 
 use crate::step_ids::StepIds;
 use indexmap::IndexMap;
-use std::alloc::AllocError;
+use kept_texts::KeptText;
+use std::alloc::{AllocError, Global};
 use std::hash::RandomState;
 
-pub(crate) type Pickles = IndexMap<String, StepIds, RandomState>;
+pub(crate) type Pickles = IndexMap<KeptText, StepIds, RandomState>;
 
 /// The step ids of the pickle.
 pub(crate) fn steps_of<'a>(pickles: &'a Pickles, id: &str) -> Option<&'a StepIds>
@@ -34,14 +34,19 @@ pub(crate) fn has_step(pickles: &Pickles, id: &str, step: &str) -> bool
 }
 
 /// Appends a pickle whose id is new.
-pub(crate) fn append(pickles: &mut Pickles, id: String, steps: StepIds) -> Result<(), AllocError>
-    requires { find (λ p. bytes_eq (string_bytes id) p.id) (pickle_rows pickles.old.entries)
-        ≡ None }
+pub(crate) fn append(
+    pickles: &mut Pickles,
+    alloc: Global,
+    id: &str,
+    steps: StepIds,
+) -> Result<(), AllocError>
+    requires { find (λ p. bytes_eq id.now p.id) (pickle_rows pickles.old.entries) ≡ None }
     ensures ok { OnOk result (pickle_rows pickles.new.entries
-        ≡ pickle_rows pickles.old.entries ++ pickle_row (string_bytes id) steps ∷ []) }
+        ≡ pickle_rows pickles.old.entries ++ pickle_row id.now steps ∷ []) }
     ensures err { OnErr result
         (pickle_rows pickles.new.entries ≡ pickle_rows pickles.old.entries) }
 {
+    let id = KeptText::copy_of(alloc, id)?;
     pickles.insert(id, steps)?;
     Ok(())
 }

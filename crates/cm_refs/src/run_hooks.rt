@@ -6,10 +6,11 @@ ghost use Rattle.cm_refs.specs.Declarations.{change_first, finished_run_hook, ne
 ghost use Rattle.cm_refs.specs.Rows.{run_hook_row, run_hook_rows};
 
 use indexmap::IndexMap;
+use kept_texts::KeptText;
 use std::alloc::{AllocError, Global};
 use std::hash::RandomState;
 
-pub(crate) type RunHooks = IndexMap<String, bool, RandomState>;
+pub(crate) type RunHooks = IndexMap<KeptText, bool, RandomState>;
 
 /// Whether the run hook is finished.
 pub(crate) fn finish_of<'a>(run_hooks: &'a RunHooks, id: &str) -> Option<&'a bool>
@@ -27,7 +28,7 @@ pub(crate) fn append(run_hooks: &mut RunHooks, alloc: Global, id: &str) -> Resul
     ensures err { OnErr result
         (run_hook_rows run_hooks.new.entries ≡ run_hook_rows run_hooks.old.entries) }
 {
-    let id = String::from_str(alloc, id)?;
+    let id = KeptText::copy_of(alloc, id)?;
     run_hooks.insert(id, false)?;
     Ok(())
 }

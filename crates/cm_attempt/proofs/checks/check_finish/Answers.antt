@@ -7,4 +7,4 @@ pub returns-in-Some-finished_in_order-clause-answer : goal.returns-in-Some-finis
 returns-in-Some-finished_in_order-clause-answer c =
     let steps = ids_in c.in-Some.case.now.steps in
     let passes = finish_passes c.args.step.now c.args.attempt.now.cursor steps (chosen _ _ _ (sym c.finished_in_order.ensures ∙ c.in-Some-finished_in_order.is)) in
-    rw (← c.as_str.ensures.value, ← c.in-Some.ensures.row, passes) refl
+    rw (← c.as_str.ensures, ← c.in-Some.ensures.row, passes) refl

@@ -1,4 +1,5 @@
-use Rattle.std.proofs.Common.{◌≡◌, ◌∙◌, refl, sym, Some, [], string_bytes}
+use Rattle.std.proofs.Common.{◌≡◌, ◌∙◌, refl, sym, Some, []}
+use Rattle.kept_texts.specs.Kept.{bytes_of}
 use Rattle.cm_attempt.specs.Due.{due_at, due_of}
 use Rattle.cm_attempt.specs.Table.{AttemptRow, CaseRow, Table, find_case}
 use Rattle.cm_attempt.specs.Rows.{attempt_row, case_row, table_of}
@@ -10,5 +11,5 @@ due_found t a c row is found = rw (is, found) refl
 
 pub returns-in-Some-find_case : goal.returns-in-Some-find_case
 returns-in-Some-find_case c =
-    let found = rw c.as_str.ensures.value at c.in-Some-find_case.ensures.row in
-    c.due_of.ensures ∙ due_found (table_of 0 c.args.cases.now.entries []) (attempt_row [] c.args.attempt.now) c.in-Some.cursor (case_row (string_bytes c.args.attempt.now.case_id) c.in-Some-find_case.case.now) c.in-Some.is (sym found)
+    let found = rw c.as_str.ensures at c.in-Some-find_case.ensures.row in
+    c.due_of.ensures ∙ due_found (table_of 0 c.args.cases.now.entries []) (attempt_row [] c.args.attempt.now) c.in-Some.cursor (case_row (bytes_of c.args.attempt.now.case_id) c.in-Some-find_case.case.now) c.in-Some.is (sym found)

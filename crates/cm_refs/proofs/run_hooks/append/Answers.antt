@@ -7,4 +7,4 @@ use Rattle.cm_refs.proofs.run_hooks.append.Goals as goal
 pub returns-clause-ok : goal.returns-clause-ok
 returns-clause-ok c =
     ap run_hook_rows c.in_ok-insert.ensures.entries
-    ∙ inserted_rows run_hook_row c.args.id.now (λ r. bytes_eq c.args.id.now r.id) (λ t v. refl) c.in_ok-id.id c.in_ok-id.ensures.ok c.args.run_hooks.now _ c.requires
+    ∙ inserted_rows run_hook_row c.args.id.now (λ r. bytes_eq c.args.id.now r.id) (λ t v. refl) c.in_ok-id.id c.in_ok-id.ensures c.args.run_hooks.now _ c.requires
