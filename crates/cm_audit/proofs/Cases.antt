@@ -4,14 +4,14 @@ use Rattle.std.specs.Prelude.{Option, None, Some, slice_get, not}
 use Rattle.std.specs.List.{filter_map, list_any}
 use Rattle.std.specs.Option.{option_map_or}
 use Rattle.std.specs.Str.{bytes_eq}
-use Rattle.std.specs.String.{string_bytes, string_eq}
+use Rattle.kept_texts.specs.Kept.{bytes_of}
 use Rattle.std.proofs.lemmas.List.{at_drop_more, map-append}
 use Rattle.indexmap.specs.IndexSet.{insert_key}
 use Rattle.cm_stream.specs.Texts.{Utf8, same_texts}
 use Rattle.cm_envelope.specs.declared.envelope.TestStep.{TestStep}
 use Rattle.cm_attempt.specs.Table.{has_text}
 use Rattle.cm_attempt.proofs.Refused.{not_twice}
-use Rattle.cm_refs.proofs.EntryLemmas.{Key, list_any-map}
+use Rattle.cm_refs.proofs.EntryLemmas.{Key, key_eq, list_any-map}
 use Rattle.cm_state.specs.Summary.{with_name}
 
 -- ---- the ids that some of the elements have, from an index on
@@ -59,13 +59,13 @@ same_after ss n id ids h = rw add-one (same_further ss n id ids h)
 -- ---- names
 
 -- a name that is inserted goes last, if it is new
-pub with_inserted : (keys : List Key) (k : Key) → map string_bytes (insert_key string_eq keys k) ≡ with_name (map string_bytes keys) (string_bytes k)
-with_inserted keys k = go (list_any (string_eq k) keys) refl (list_any-map (bytes_eq (string_bytes k)) string_bytes keys)
+pub with_inserted : (keys : List Key) (k : Key) → map bytes_of (insert_key key_eq keys k) ≡ with_name (map bytes_of keys) (bytes_of k)
+with_inserted keys k = go (list_any (key_eq k) keys) refl (list_any-map (bytes_eq (bytes_of k)) bytes_of keys)
   where
-    go : (b : Bool) → list_any (string_eq k) keys ≡ b → has_text (string_bytes k) (map string_bytes keys) ≡ list_any (string_eq k) keys
-        → map string_bytes (insert_key string_eq keys k) ≡ with_name (map string_bytes keys) (string_bytes k)
+    go : (b : Bool) → list_any (key_eq k) keys ≡ b → has_text (bytes_of k) (map bytes_of keys) ≡ list_any (key_eq k) keys
+        → map bytes_of (insert_key key_eq keys k) ≡ with_name (map bytes_of keys) (bytes_of k)
     go true e same = rw (same, e) refl
-    go false e same = rw (same, e) (map-append string_bytes keys (k ∷ []))
+    go false e same = rw (same, e) (map-append bytes_of keys (k ∷ []))
 
-pub not_new : (keys : List Key) (k : Key) (is_new : Bool) → is_new ≡ not (list_any (string_eq k) keys) → not is_new ≡ has_text (string_bytes k) (map string_bytes keys)
-not_new keys k is_new e = ap not e ∙ not_twice (list_any (string_eq k) keys) ∙ sym (list_any-map (bytes_eq (string_bytes k)) string_bytes keys)
+pub not_new : (keys : List Key) (k : Key) (is_new : Bool) → is_new ≡ not (list_any (key_eq k) keys) → not is_new ≡ has_text (bytes_of k) (map bytes_of keys)
+not_new keys k is_new e = ap not e ∙ not_twice (list_any (key_eq k) keys) ∙ sym (list_any-map (bytes_eq (bytes_of k)) bytes_of keys)

@@ -1,6 +1,6 @@
 -- What an audit keeps, as a summary of the lines so far.
 use Rattle.std.specs.Prelude.{◌≡◌, ◌<◌, ℕ, ⊤, List, map, Option, Result, Ok, Err, None, Some}
-use Rattle.std.specs.String.{string_bytes}
+use Rattle.kept_texts.specs.Kept.{bytes_of}
 use Rattle.cm_envelope.specs.declared.envelope.Envelope.{Envelope}
 use Rattle.cm_stream.specs.declared.verdict.Counts.{Counts}
 use Rattle.cm_refs.specs.Declarations.{Declarations}
@@ -24,7 +24,7 @@ summary_of s = record {
   declared = with_uris (kept_rows s.sources.entries) s.declared;
   table = s.track;
   sources = kept_rows s.sources.entries;
-  named = map string_bytes s.named.keys;
+  named = map bytes_of s.named.keys;
   run = s.run;
   is_finished = s.is_finished;
   success = s.success;

@@ -5,6 +5,7 @@ ghost use Rattle.std.specs.Option.{option_map_or};
 ghost use Rattle.std.specs.Str.{bytes_eq};
 ghost use Rattle.std.specs.String.{string_bytes};
 ghost use Rattle.indexmap.specs.IndexSet.{spare};
+ghost use Rattle.kept_texts.specs.Kept.{bytes_of};
 ghost use Rattle.cm_attempt.specs.Table.{has_text};
 ghost use Rattle.cm_refs.specs.Declarations.{find_pickle, steps_of};
 ghost use Rattle.cm_refs.specs.StepIds.{ids_in};
@@ -23,6 +24,7 @@ use cm_envelope::{TestCase, TestStep};
 use cm_refs::{Declared, StepIds};
 use cm_stream::{Counts, StreamFault};
 use gk_document::Text;
+use kept_texts::KeptText;
 use std::alloc::AllocFailed;
 
 /// Whether the step names no hook, or a declared one.
@@ -126,14 +128,14 @@ fn has_steps_of_pickle(declared: &Declared, case: &TestCase) -> bool
 }
 
 /// Adds the pickle that a case names, and gives whether no case named it before.
-fn add_name(named: &mut Names, pickle: String) -> Result<bool, AllocFailed<String>>
-    ensures named { OnOk result (map string_bytes named.new.keys
-        ≡ with_name (map string_bytes named.old.keys) (string_bytes pickle)) }
+fn add_name(named: &mut Names, pickle: String) -> Result<bool, AllocFailed<KeptText>>
+    ensures named { OnOk result (map bytes_of named.new.keys
+        ≡ with_name (map bytes_of named.old.keys) (string_bytes pickle)) }
     ensures first { IfOk result (λ is_first. not is_first
-        ≡ has_text (string_bytes pickle) (map string_bytes named.old.keys)) }
+        ≡ has_text (string_bytes pickle) (map bytes_of named.old.keys)) }
     ensures room { 0 < spare named.old → IsOk result }
 {
-    let is_first = named.insert(pickle)?;
+    let is_first = named.insert(KeptText::from(pickle))?;
     Ok(is_first)
 }
 

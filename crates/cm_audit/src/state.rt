@@ -13,6 +13,7 @@ use cm_refs::Declared;
 use cm_stream::Counts;
 use gk_document::Text;
 use indexmap::{IndexMap, IndexSet};
+use kept_texts::KeptText;
 use std::alloc::Global;
 use std::hash::RandomState;
 
@@ -20,7 +21,7 @@ use std::hash::RandomState;
 pub type Sources = IndexMap<String, KeptSource, RandomState>;
 
 /// The ids of pickles that test cases name, each once.
-pub(crate) type Names = IndexSet<String, RandomState>;
+pub(crate) type Names = IndexSet<KeptText, RandomState>;
 
 /// What an audit keeps: each source by its uri, what else was declared, the record of attempts, the pickles that cases name,
 /// what the run's envelopes said, its success among it, and the worst status of its hooks.

@@ -1,5 +1,6 @@
 //! A text that stays for long.
 ghost use Rattle.std.specs.Prelude.{◌≡◌, IfOk};
+ghost use Rattle.std.specs.String.{string_bytes};
 ghost use Rattle.kept_texts.specs.Kept.{bytes_of};
 
 use arrayvec::ArrayString;
@@ -35,6 +36,18 @@ impl KeptText {
         match self {
             KeptText::Short(text) => text.as_str(),
             KeptText::Long(text) => text.as_str(),
+        }
+    }
+}
+
+impl From<String> for KeptText {
+    /// The text itself, which takes no more memory.
+    fn from(text: String) -> KeptText
+        ensures { bytes_of result ≡ string_bytes text }
+    {
+        match ArrayString::from(text.as_str()) {
+            Ok(short) => KeptText::Short(short),
+            Err(_) => KeptText::Long(text),
         }
     }
 }
