@@ -2,7 +2,7 @@
 use Rattle.std.proofs.Common.{◌≡◌, refl, List, [], ◌∷◌, ◌||◌}
 use Rattle.std.specs.List.{list_all, list_any}
 use Rattle.std.specs.Map.{values_of}
-use Rattle.std.specs.String.{string_bytes}
+use Rattle.kept_texts.specs.Kept.{bytes_of}
 use Rattle.cm_stream.specs.Texts.{Utf8}
 use Rattle.cm_refs.proofs.EntryLemmas.{Key}
 use Rattle.cm_attempt.proofs.EntryLemmas.{list_all-rows}
@@ -21,7 +21,7 @@ accepted_anywhere uri (kept.Accepted a) = refl
 
 pub rows_lack : (es : List (Key × KeptSource)) → list_any lacks_by (kept_rows es) ≡ list_any (λ k. lacks_by (kept_row [] k)) (values_of es)
 rows_lack [] = refl
-rows_lack (e ∷ es) = λ i. lacks_anywhere (string_bytes e.0) e.1 i || rows_lack es i
+rows_lack (e ∷ es) = λ i. lacks_anywhere (bytes_of e.0) e.1 i || rows_lack es i
 
 pub rows_accepted : (es : List (Key × KeptSource)) → list_all (λ r. r.is_accepted) (kept_rows es) ≡ list_all (λ k. (kept_row [] k).is_accepted) (values_of es)
 rows_accepted es = list_all-rows kept_row (λ r. r.is_accepted) accepted_anywhere es

@@ -1,8 +1,8 @@
 -- The sources that an audit keeps, as rows of what it has seen.
-use Rattle.std.specs.Prelude.{◌≡◌, List, [], String, Result, Ok, Err, IfSome, None, true, find, if◌then◌else◌, map}
+use Rattle.std.specs.Prelude.{◌≡◌, List, [], Result, Ok, Err, IfSome, None, true, find, if◌then◌else◌, map}
 use Rattle.std.specs.Str.{bytes_eq}
-use Rattle.std.specs.String.{string_bytes}
-use Rattle.std.specs.declared.alloc.Global.{Global}
+use Rattle.kept_texts.specs.Kept.{bytes_of}
+use Rattle.kept_texts.specs.declared.kept_text.KeptText.{KeptText}
 use Rattle.cm_stream.specs.Texts.{Utf8}
 use Rattle.cm_stream.specs.Readings.{Reading, Accepted, Refused, OtherLanguage, TooLong}
 use Rattle.cm_stream.specs.declared.verdict.Reason.TheVariants as reason
@@ -28,8 +28,8 @@ abbrev pub kept_row : Utf8 → KeptSource → SourceRow
 kept_row uri kept.Refused = new_row uri Refused
 kept_row uri (kept.Accepted a) = accepted_row uri a
 
-abbrev pub kept_rows : List (String Global × KeptSource) → List SourceRow
-kept_rows = map (λ e. kept_row (string_bytes e.0) e.1)
+abbrev pub kept_rows : List (KeptText × KeptSource) → List SourceRow
+kept_rows = map (λ e. kept_row (bytes_of e.0) e.1)
 
 -- the source of the uri, if there is one, is accepted
 abbrev pub IsAcceptedAt : Utf8 → List SourceRow → Type 0

@@ -18,6 +18,7 @@ use cm_envelope::{GherkinDocument, Hook, ParseError, Pickle, Source, StepDefinit
 use cm_stream::{Reason, StreamFault};
 use gk_document::{Sequence, Text};
 use indexmap::IndexSet;
+use kept_texts::KeptText;
 use std::alloc::{AllocError, Global};
 use std::hash::RandomState;
 
@@ -41,7 +42,8 @@ pub(crate) fn judge_source(state: &mut State, source: Source) -> Result<(), Stop
         return Err(Stop::Unsupported(Reason::MediaType));
     }
     let kept = read_source(state.alloc, content.as_str())?;
-    drop(state.sources.insert(uri.into_string(), kept)?);
+    let uri = KeptText::from(uri.into_string());
+    drop(state.sources.insert(uri, kept)?);
     state.counts.sources += 1;
     Ok(())
 }

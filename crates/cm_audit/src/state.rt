@@ -18,7 +18,7 @@ use std::alloc::Global;
 use std::hash::RandomState;
 
 /// The sources by their uris, in the order of the stream.
-pub type Sources = IndexMap<String, KeptSource, RandomState>;
+pub type Sources = IndexMap<KeptText, KeptSource, RandomState>;
 
 /// The ids of pickles that test cases name, each once.
 pub(crate) type Names = IndexSet<KeptText, RandomState>;

@@ -13,7 +13,7 @@ ghost use Rattle.cm_missing.specs.Told.{KeepsMore, line_told, pickles_told, read
 use crate::asked::{flag_at, flags_after, may_be_left_out};
 use crate::pickle_lines::pickle_lines;
 use cm_cases::add_shown;
-use cm_reasons::{add_more, kind_label};
+use cm_reasons::{MOST_LINES, add_more, kind_label};
 use cm_stream::Conditions;
 use gk_document::Document;
 use gk_grammar::FaultKind;
@@ -21,9 +21,6 @@ use gk_pickle::{Pickle, ScenarioInFeature, compile_scenario, scenarios};
 use gk_tree::{ParseFault, parse};
 use std::alloc::{AllocError, Global};
 use std::hash::RandomState;
-
-/// How many lines are shown.
-const MOST_LINES: u64 = 100;
 
 /// What one line tells of a file.
 #[derive(Drop)]

@@ -40,7 +40,7 @@ mod words;
 pub use laws::{
     hook_causes_are_of_bad_hooks, refused_lines_are_determined, undefined_steps_are_told,
 };
-pub use lines::{AddLine, add_limited, add_more};
+pub use lines::{AddLine, MOST_LINES, add_limited, add_more};
 pub use refused::{add_refused, add_refused_of};
 pub use run_hooks::{add_hook_causes, add_open_hooks, add_run_hook};
 pub use run_listing::RunListing;

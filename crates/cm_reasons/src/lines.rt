@@ -6,7 +6,7 @@ ghost use Rattle.cm_reasons.specs.Lines.{ended, limited, more_text};
 use std::alloc::AllocError;
 
 /// How many lines of a kind are shown.
-const MOST_LINES: usize = 100;
+pub const MOST_LINES: u64 = 100;
 
 /// Writes a line for an item, by what it keeps of a stream's envelopes.
 pub trait AddLine<T> {
@@ -61,9 +61,10 @@ pub fn add_limited<T, L: AddLine<T>>(
     ensures { OnOk result ((es : List SomeEnvelope) → L.of lines.now es → string_bytes text.new
         ≡ string_bytes text.old ++ limited (map (L.line lines.now es) items.now)) }
 {
-    if items.len() <= MOST_LINES {
+    let count = items.len() as u64;
+    if count <= MOST_LINES {
         return add_each(text, lines, items);
     }
-    add_each(text, lines, &items[..MOST_LINES])?;
-    add_more(text, (items.len() - MOST_LINES) as u64)
+    add_each(text, lines, &items[..MOST_LINES as usize])?;
+    add_more(text, count - MOST_LINES)
 }

@@ -1,10 +1,10 @@
 -- In what an envelope differs from the row of its source.
-use Rattle.std.proofs.Common.{◌≡◌, refl, sym, ap, ◌∙◌, subst, Bool, true, false, if◌then◌else◌, List, [], ◌∷◌, Option, Some, None, Result, Ok, Err, String}
+use Rattle.std.proofs.Common.{◌≡◌, refl, sym, ap, ◌∙◌, subst, Bool, true, false, if◌then◌else◌, List, [], ◌∷◌, Option, Some, None, Result, Ok, Err}
 use Rattle.std.specs.Option.{option_or}
 use Rattle.std.proofs.Math.Path.{fun_ext}
 use Rattle.std.specs.Prelude.{◌↔◌, IfOk, IfSome, IsNone, find, option_map}
-use Rattle.std.specs.String.{string_bytes}
-use Rattle.std.specs.declared.alloc.Global.{Global}
+use Rattle.kept_texts.specs.Kept.{bytes_of}
+use Rattle.kept_texts.specs.declared.kept_text.KeptText.{KeptText}
 use Rattle.gk_document.specs.Skeleton.{skeleton}
 use Rattle.gk_document.specs.declared.tree.Document.{Document}
 use Rattle.cm_envelope.specs.declared.envelope.GherkinDocument.{GherkinDocument}
@@ -51,11 +51,11 @@ tree_of uri k x r h = subst (λ (row : SourceRow). IfOk r (DiffersInTree row x))
 
 -- ---- the first source of which something is missing
 
-abbrev pub entry_row : String Global × KeptSource → SourceRow
-entry_row e = kept_row (string_bytes e.0) e.1
+abbrev pub entry_row : KeptText × KeptSource → SourceRow
+entry_row e = kept_row (bytes_of e.0) e.1
 
-pub first_row : (entries : List (String Global × KeptSource)) → find lacks_by (kept_rows entries) ≡ option_map entry_row (find (λ e. lacks_by (kept_row [] e.1)) entries)
-first_row entries = find_map lacks_by entry_row entries ∙ ap (λ q. option_map entry_row (find q entries)) (fun_ext (λ e. lacks_anywhere (string_bytes e.0) e.1))
+pub first_row : (entries : List (KeptText × KeptSource)) → find lacks_by (kept_rows entries) ≡ option_map entry_row (find (λ e. lacks_by (kept_row [] e.1)) entries)
+first_row entries = find_map lacks_by entry_row entries ∙ ap (λ q. option_map entry_row (find q entries)) (fun_ext (λ e. lacks_anywhere (bytes_of e.0) e.1))
 
 -- entries that are looked at one after the other, as a loop does
 module _ {X Y : Type 0} (shown : X → Y) (test : Y → Bool) (all : List Y) where

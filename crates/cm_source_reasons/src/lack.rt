@@ -15,12 +15,10 @@ use crate::due_lines::DueLines;
 use crate::sides::add_uri;
 use cm_audit::{DuePickles, KeptSource, Sources, State};
 use cm_cases::Places;
-use cm_reasons::add_more;
+use cm_reasons::{MOST_LINES, add_more};
+use kept_texts::KeptText;
 use std::alloc::{AllocError, Global};
 use std::hash::RandomState;
-
-/// How many of the pickles that didn't come are shown.
-const MOST_LINES: u64 = 100;
 
 /// Adds the lines of the first hundred of those that are due, which are then passed. Their steps aren't made.
 fn add_first(
@@ -114,9 +112,9 @@ fn add_lack(
 
 /// The source with its uri, where something of it is missing.
 fn if_incomplete<'a>(
-    uri: &'a String,
+    uri: &'a KeptText,
     source: &'a KeptSource,
-) -> Option<(&'a String, &'a KeptSource)>
+) -> Option<(&'a KeptText, &'a KeptSource)>
     ensures { result
         ≡ (if lacks_by (kept_row [] source.now) then Some (uri.entry, source.entry) else None) }
 {
@@ -128,7 +126,7 @@ fn if_incomplete<'a>(
 }
 
 /// The first source of which something is missing, with its uri.
-fn first_incomplete(sources: &Sources) -> Option<(&String, &KeptSource)>
+fn first_incomplete(sources: &Sources) -> Option<(&KeptText, &KeptSource)>
     ensures { option_map (λ e. (e.0.now, e.1.now)) result
         ≡ find (λ e. lacks_by (kept_row [] e.1)) sources.now.entries }
 {

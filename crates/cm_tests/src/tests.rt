@@ -8,4 +8,5 @@ mod pickles;
 mod producers;
 mod rows_of_texts;
 mod std_devices;
+mod texts_kept;
 mod words;

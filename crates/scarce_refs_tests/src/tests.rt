@@ -1,3 +1,4 @@
 mod attempts;
 mod checking;
 mod declarations;
+mod texts_kept;

@@ -1,6 +1,6 @@
 //! Readers and writers of std that fail.
 use cm_envelope::{
-    ByteSink, ByteSource, DeviceFailed, Feed, Heard, Reader, Taken, Trouble, Writer,
+    ByteSink, ByteSource, DeviceFailed, Feed, Heard, Reader, Reads, Taken, Trouble, Writer,
 };
 use std::io;
 use std::mem::size_of;
@@ -104,6 +104,19 @@ fn a_failed_call_is_not_repeated(rt: HostRuntime) {
     let flushed = Writer::new(&mut device).flush();
     assert_eq!(rt; flushed, Err(DeviceFailed));
     assert_eq!(rt; device.calls, 1);
+}
+
+// The second call reads what the first would have.
+#[test]
+fn a_reader_is_read_once_by_each_call(rt: HostRuntime) {
+    let mut device = Recovering { calls: 0 };
+    let mut reads = Reads::new();
+    let mut piece = [0; 4];
+    assert_eq!(rt; reads.read(&mut device, &mut piece), Err(DeviceFailed));
+    assert!(rt; piece == [0; 4]);
+    assert_eq!(rt; reads.read(&mut device, &mut piece), Ok(4));
+    assert!(rt; piece == *b"aaaa");
+    assert_eq!(rt; device.calls, 2);
 }
 
 // The reader would go on after its failure, but the feed doesn't read again.

@@ -1,6 +1,7 @@
 //! The pickles of texts that are parsed, as lines.
 use gk_pickle::{
-    Pickle, PicklePlace, ScenarioInFeature, compile, compile_scenario, next_pickle, pass_pickle,
+    Pickle, PicklePlace, ScenarioInFeature, compile, compile_scenario, next_pickle, next_title,
+    pass_pickle,
     scenarios,
 };
 use gk_tree::{Document, parse};
@@ -110,20 +111,37 @@ fn told_pickles(alloc: Global, uri: &str, document: &Document) -> Result<String,
     told
 }
 
+/// Whether the pickle at a place is called so and ends at this place, by its title alone and by passing it.
+fn lies_there(
+    alloc: Global,
+    document: &Document,
+    pickle: &Pickle,
+    from: PicklePlace,
+    to: PicklePlace,
+) -> Result<bool, Fail> {
+    let mut titled = from;
+    let mut passed = from;
+    let title = next_title(alloc, fixed_seed()?, document, &mut titled)?.ok_or("no title")?;
+    let is_passed = pass_pickle(document, &mut passed);
+    let is_called_so = title.name == pickle.name && title.nodes == pickle.nodes;
+    drop(title);
+    Ok(is_called_so && is_passed && titled == to && passed == to)
+}
+
 /// The pickles of a document, each made after the one before it.
 fn pickles_in_turn(alloc: Global, document: &Document) -> Result<Vec<Pickle>, Fail> {
     let seed = fixed_seed()?;
     let mut place = PicklePlace::first();
-    let mut behind = place;
     let mut made = Vec::new(alloc);
     for _ in 0..100 {
-        match next_pickle(alloc, seed, document, &mut place)? {
-            Some(pickle) => made.push(pickle)?,
-            None => return Ok(made),
-        }
-        if !pass_pickle(document, &mut behind) || behind != place {
+        let from = place;
+        let Some(pickle) = next_pickle(alloc, seed, document, &mut place)? else {
+            return Ok(made);
+        };
+        if !lies_there(alloc, document, &pickle, from, place)? {
             return Err(Fail::from("passed by"));
         }
+        made.push(pickle)?;
     }
     Err(Fail::from("many pickles"))
 }

@@ -9,7 +9,8 @@ use std::test::Fail;
 // Cases that are there before the call that is met, each with an attempt of the same id.
 const NAMES: [&str; 9] = ["a", "b", "c", "d", "e", "f", "g", "h", "i"];
 
-const NEW: &str = "new";
+// It is too long to lie in a map itself.
+const NEW: &str = "an id of more than thirty-six bytes, in a piece of memory";
 
 const STEPS: [&str; 2] = ["t", "u"];
 
