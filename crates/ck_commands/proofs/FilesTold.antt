@@ -24,7 +24,7 @@ use Rattle.files.specs.Openings.{Opening}
 use Rattle.ck_commands.specs.FeatureFiles.{FeatureFile, ReadsFiles, asked_once, faulty_report}
 use Rattle.ck_commands.specs.FilesAsked.{AsksFiles, IsFeaturesReport, files_text, last_report}
 use Rattle.ck_commands.specs.FilesKept.{AddsLast, HasTexts, IsUnmarked, GivesFeatures, JudgesParts, ReportsAsked, TellsFeatures, asked_by, file_of}
-use Rattle.ck_commands.specs.Judged.{Judges, JudgesRuns, MarksStreams, added_counts, no_counts}
+use Rattle.ck_commands.specs.Judged.{JudgesStream, JudgesRuns, MarksStreams, added_counts, no_counts}
 use Rattle.ck_commands.specs.Output.{Report, report_made, trouble_report}
 use Rattle.ck_commands.specs.Runs.{Reading, heard}
 use Rattle.ck_commands.specs.declared.feature_files.FeatureFile as made
@@ -116,7 +116,7 @@ asks_files s asked files readings old new parts r counts unmarked has marks last
 }
 
 -- the one run that standard input gives
-pub one_part : (s : Settings) (asked : Conditions) (before : List Opening) (i j : Input) (old new : Marks) (r : Report) (counts total : RunCounts) → total ≡ added_counts no_counts counts → Judges s asked i j old new r counts
+pub one_part : (s : Settings) (asked : Conditions) (before : List Opening) (i j : Input) (old new : Marks) (r : Report) (counts total : RunCounts) → total ≡ added_counts no_counts counts → JudgesStream s asked i j old new r counts
     → JudgesParts s asked [] before before i j old new r total
 one_part s asked before i j old new r counts total is h = record {
   readings = heard i j ∷ [];
@@ -150,7 +150,7 @@ parts_named s asked names some = go names some
     go [] none = absurd (true≢false none)
     go (n ∷ ns) more = named_parts s asked n ns
 
-pub parts_unnamed : (s : Settings) (asked : Conditions) (names : List Utf8) → (length names == 0) ≡ true → (before : List Opening) (i j : Input) (old new : Marks) (r : Report) (counts total : RunCounts) → total ≡ added_counts no_counts counts → Judges s asked i j old new r counts
+pub parts_unnamed : (s : Settings) (asked : Conditions) (names : List Utf8) → (length names == 0) ≡ true → (before : List Opening) (i j : Input) (old new : Marks) (r : Report) (counts total : RunCounts) → total ≡ added_counts no_counts counts → JudgesStream s asked i j old new r counts
     → JudgesParts s asked names before before i j old new r total
 parts_unnamed s asked [] none before i j old new r counts total is h = one_part s asked before i j old new r counts total is h
 parts_unnamed s asked (name ∷ names) none before i j old new r counts total is h = let some : (suc (length names) == 0) ≡ false = grind (arith, nat_tests) in let no : false ≡ true = sym some ∙ none in cc

@@ -32,7 +32,7 @@ use Rattle.cm_audit_release.specs.declared.audited_release.AuditedRelease.{Audit
 use Rattle.files.specs.Openings.{IsFresh, Opening}
 use Rattle.ck_command_line.specs.CommandLine.{ask_gate}
 use Rattle.ck_commands.specs.Gate.{ReportsHeld, ReportsRelease}
-use Rattle.ck_commands.specs.Judged.{AreStreams, IsReleasedAs, Judges, JudgesRun, JudgesRuns, MarksStream, MarksStreams, ReleasedAs, added_counts, counted_by, counted_in, counts_made, is_run_in, no_counts, run_counts, run_report}
+use Rattle.ck_commands.specs.Judged.{AreStreams, IsReleasedAs, JudgesStream, JudgesRun, JudgesRuns, MarksStream, MarksStreams, ReleasedAs, added_counts, counted_by, counted_in, counts_made, is_run_in, no_counts, run_counts, run_report}
 use Rattle.ck_commands.specs.Output.{Report, report_made, trouble_report}
 use Rattle.ck_commands.specs.Runs.{OfHeard, Reading, ReadsRun, heard, named_text, named_texts, status_after, status_of_all, unnoted, unopened, unread}
 use Rattle.ck_commands.specs.declared.judged_run.JudgedRun as made_run
@@ -97,7 +97,7 @@ module _ (s : Settings) (asked : Conditions) (old new : Marks) where
   judged_done (Err t) (Err e) i j is done h end = absurd (no_trouble Memory (trouble_report Memory) refl done)
 
   -- where standard input or a file was judged
-  pub heard_run : (i j : Input) (r : Report) (counts : RunCounts) → Judges s asked i j old new r counts → JudgesRun s asked (heard i j) old new r counts
+  pub heard_run : (i j : Input) (r : Report) (counts : RunCounts) → JudgesStream s asked i j old new r counts → JudgesRun s asked (heard i j) old new r counts
   heard_run i j r counts h = record {
     reports = h.reported;
     texts = h.texts;
@@ -105,7 +105,7 @@ module _ (s : Settings) (asked : Conditions) (old new : Marks) where
   }
 
 -- a file of which nothing was read before was judged
-pub fresh_run : (s : Settings) (asked : Conditions) (old new : Marks) (i j : Input) (r : Report) (counts : RunCounts) → IsFresh i → Judges s asked i j old new r counts → JudgesRun s asked (heard unread j) old new r counts
+pub fresh_run : (s : Settings) (asked : Conditions) (old new : Marks) (i j : Input) (r : Report) (counts : RunCounts) → IsFresh i → JudgesStream s asked i j old new r counts → JudgesRun s asked (heard unread j) old new r counts
 fresh_run s asked old new i j r counts fresh h = record {
   reports = from_fresh (ask_gate s asked) r i j fresh h.reported;
   texts = h.texts;

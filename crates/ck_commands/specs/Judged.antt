@@ -108,7 +108,7 @@ pub record MarksStream (s : Settings) (asked : Conditions) (old new : Marks) (co
   pub counted : counts ≡ run_counts asked s.policy es
 
 -- From one state of a source to a later one a run was judged: its report is that of `gate`, and with status 0 it was marked.
-pub record Judges (s : Settings) (asked : Conditions) (i j : Input) (old new : Marks) (r : Report)
+pub record JudgesStream (s : Settings) (asked : Conditions) (i j : Input) (old new : Marks) (r : Report)
     (counts : RunCounts) : Type 0 where
   pub reported : Reported (ask_gate s asked) r i j
   pub texts : marked_texts new ≡ marked_texts old

@@ -2,7 +2,7 @@
 ghost use Rattle.std.specs.Prelude.{◌≡◌, ◌++◌, IfOk, List, Ok};
 ghost use Rattle.cm_stream.specs.Release.{conditions_of};
 ghost use Rattle.files.specs.Openings.{Opening};
-ghost use Rattle.ck_commands.specs.Judged.{JudgesRun, Judges, added_counts, counted_in, counts_made, no_counts, run_report};
+ghost use Rattle.ck_commands.specs.Judged.{JudgesRun, JudgesStream, added_counts, counted_in, counts_made, no_counts, run_report};
 ghost use Rattle.ck_commands.specs.Output.{report_made, trouble_report};
 ghost use Rattle.ck_commands.specs.Runs.{NotesReading, Reading, ReadsRun};
 
@@ -99,7 +99,7 @@ pub(crate) fn judge<R: ByteSource>(
     source: &mut R,
     marks: &mut Marks<'_>,
 ) -> Result<JudgedRun, AllocError>
-    ensures { Judges settings (conditions_of conditions.now) (R.input source.old)
+    ensures { JudgesStream settings (conditions_of conditions.now) (R.input source.old)
         (R.input source.new) marks.old marks.new (run_report result) (counts_made result) }
 {
     let answer = audit_part(alloc, seed, source, settings, conditions, marks);

@@ -11,7 +11,7 @@ ghost use Rattle.cm_missing.specs.Findings.{finding_line};
 ghost use Rattle.cm_missing.specs.Told.{KeepsMore, line_told, pickles_told, reading_of};
 
 use crate::asked::{flag_at, flags_after, may_be_left_out};
-use crate::pickle_lines::pickle_lines;
+use crate::pickle_lines::lines_of_pickles;
 use cm_cases::add_shown;
 use cm_reasons::{MOST_LINES, add_more, kind_label};
 use cm_stream::Conditions;
@@ -184,7 +184,7 @@ impl Missing {
             (asked_from flags.now 0 (pickles_of_one scenario.now) (lines_of_one scenario.now)))) }
     {
         let pickles = compile_scenario(alloc, seed, scenario)?;
-        let lines = pickle_lines(alloc, scenario)?;
+        let lines = lines_of_pickles(alloc, scenario)?;
         self.add_pickles(
             path,
             conditions,

@@ -38,7 +38,7 @@ fn add_outline(scenario: &Scenario, lines: &mut Vec<u32>) -> Result<(), AllocErr
 
 /// The lines of the pickles of one scenario, in their order: of an outline's pickle that of its row.
 #[tactic(auto, unfolding(crate::specs::PickleLines::lines_of_one))]
-pub(crate) fn pickle_lines(
+pub(crate) fn lines_of_pickles(
     alloc: Global,
     scenario: &ScenarioInFeature<'_>,
 ) -> Result<Vec<u32>, AllocError>

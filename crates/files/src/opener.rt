@@ -64,7 +64,7 @@ fn list<R: rt::Files + Alloc + Clone + Drop>(
         match entry {
             Ok(entry) => entries.push(Entry {
                 name: String::from_str(alloc, entry.file_name())?,
-                kind: kind_of(system, &entry),
+                kind: entry_kind(system, &entry),
             })?,
             Err(error) => return unlisted(error),
         }
@@ -82,7 +82,7 @@ fn unlisted(error: io::Error) -> Result<Look, AllocError> {
 }
 
 // What an entry of a folder is. Of a link the system is asked what it leads to.
-fn kind_of<R: rt::Files + Alloc>(system: &R, entry: &DirEntry<R, R::A>) -> EntryKind {
+fn entry_kind<R: rt::Files + Alloc>(system: &R, entry: &DirEntry<R, R::A>) -> EntryKind {
     match entry.file_type() {
         Ok(found) if found.is_dir() => EntryKind::Folder,
         Ok(found) if found.is_symlink() => kind_behind(system, entry.path()),

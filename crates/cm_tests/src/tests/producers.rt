@@ -9,7 +9,7 @@ use std::alloc::{AllocError, Global};
 use std::process::Abort;
 use std::test::Fail;
 
-fn kind_of(envelope: &Envelope) -> &'static str {
+fn kind_name(envelope: &Envelope) -> &'static str {
     match envelope {
         Envelope::Source(_) => "source",
         Envelope::GherkinDocument(_) => "gherkinDocument",
@@ -180,7 +180,7 @@ fn add_attempt(told: &mut String, envelope: &Envelope) -> Result<(), AllocError>
 
 // The kind and the members, with a slash for each line feed in them.
 fn told_of(alloc: Global, envelope: &Envelope) -> Result<String, AllocError> {
-    let mut told = String::from_str(alloc, kind_of(envelope))?;
+    let mut told = String::from_str(alloc, kind_name(envelope))?;
     add_feature(&mut told, envelope)?;
     add_run(&mut told, envelope)?;
     add_attempt(&mut told, envelope)?;
