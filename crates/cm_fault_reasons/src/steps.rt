@@ -85,7 +85,7 @@ fn add_order_at(
 }
 
 /// The step that a line is about.
-fn found(step: &str, is_running: bool) -> Option<DueStep<'_>>
+fn found_step(step: &str, is_running: bool) -> Option<DueStep<'_>>
     ensures { option_map due_view result
         ≡ Some (record { step = step.now; is_running = is_running }) }
 {
@@ -129,12 +129,12 @@ pub(crate) fn add_order(
 {
     match envelope {
         Envelope::TestStepStarted(step) => {
-            let found = found(step.test_step_id.as_str(), false);
+            let found = found_step(step.test_step_id.as_str(), false);
             let attempt = step.test_case_started_id.as_str();
             add_order_of(alloc, seed, text, state, trail, attempt, found)
         }
         Envelope::TestStepFinished(step) => {
-            let found = found(step.test_step_id.as_str(), true);
+            let found = found_step(step.test_step_id.as_str(), true);
             let attempt = step.test_case_started_id.as_str();
             add_order_of(alloc, seed, text, state, trail, attempt, found)
         }
@@ -172,7 +172,7 @@ fn add_status_of(
 ///
 /// # Errors
 /// Only where there is no memory for it.
-pub(crate) fn add_status(
+pub(crate) fn add_step_status(
     alloc: Global,
     seed: RandomState,
     text: &mut String,

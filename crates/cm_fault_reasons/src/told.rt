@@ -12,7 +12,7 @@ ghost use Rattle.cm_fault_reasons.specs.UnknownKept.{told_view};
 use crate::duplicate::first_duplicate;
 use crate::run::{add_ended_hook, add_open_cases};
 use crate::scenario::{add_declared, add_misnumbered, add_started};
-use crate::steps::{add_order, add_status};
+use crate::steps::{add_order, add_step_status};
 use crate::unknown::{Told, first_unknown};
 use cm_attempt::Settings;
 use cm_audit::State;
@@ -145,7 +145,7 @@ pub(crate) fn add_reason(
         ≡ string_bytes text.old ++ reason_lines reason es envelope.now) }
 {
     match reason {
-        Reason::UnknownStatus => add_status(alloc, seed, text, trail, envelope),
+        Reason::UnknownStatus => add_step_status(alloc, seed, text, trail, envelope),
         _ => add_told(text, &uri_of(envelope)),
     }
 }

@@ -13,7 +13,7 @@ returns-in-TestStepStarted c =
     (λ added es is.
     let old = string_bytes c.args.text.now in
     let due = due_step (summary_of c.args.state.now).table in
-    added es is ∙ (λ i. old ++ order_at due es (c.found-found.ensures i) (c.as_str-attempt.ensures i))
+    added es is ∙ (λ i. old ++ order_at due es (c.found_step-found.ensures i) (c.as_str-attempt.ensures i))
     ∙ ap (λ (id : Utf8). old ++ order_at due es (Some (record { step = id; is_running = false })) c.in-TestStepStarted.step.test_case_started_id) c.as_str.ensures
     ∙ ap (λ (e : Envelope). old ++ order_lines due es e) (sym c.in-TestStepStarted.is))
 
@@ -23,7 +23,7 @@ returns-in-TestStepFinished c =
     (λ added es is.
     let old = string_bytes c.args.text.now in
     let due = due_step (summary_of c.args.state.now).table in
-    added es is ∙ (λ i. old ++ order_at due es (c.found-found-in-TestStepFinished.ensures i) (c.as_str-attempt-in-TestStepFinished.ensures i))
+    added es is ∙ (λ i. old ++ order_at due es (c.found_step-found-in-TestStepFinished.ensures i) (c.as_str-attempt-in-TestStepFinished.ensures i))
     ∙ ap (λ (id : Utf8). old ++ order_at due es (Some (record { step = id; is_running = true })) c.in-TestStepFinished.step.test_case_started_id) c.as_str-in-TestStepFinished.ensures
     ∙ ap (λ (e : Envelope). old ++ order_lines due es e) (sym c.in-TestStepFinished.is))
 
