@@ -4,10 +4,10 @@ use Rattle.cm_reasons.specs.Lines.{ended, more_text}
 use Rattle.cm_reasons.proofs.LineLemmas.{few, many}
 use Rattle.cm_reasons.proofs.lines.add_limited.Goals as goal
 
-pub returns-then-items-le-MOST_LINES : goal.returns-then-items-le-MOST_LINES
-returns-then-items-le-MOST_LINES g c =
+pub returns-then-count-le-MOST_LINES : goal.returns-then-count-le-MOST_LINES
+returns-then-count-le-MOST_LINES g c =
     on_ok c.add_each.result c.add_each.ensures
-    (λ added es of. added es of ∙ ap (λ (t : List ℕ). string_bytes c.args.text.now ++ t) (few (g.L.AddLine.line c.args.lines.now es) c.args.items.now c.if-items-le-MOST_LINES.true))
+    (λ added es of. added es of ∙ ap (λ (t : List ℕ). string_bytes c.args.text.now ++ t) (few (g.L.AddLine.line c.args.lines.now es) c.args.items.now c.if-count-le-MOST_LINES.true))
 
 pub slice_bounds-add_each-end : goal.slice_bounds-add_each-end
 slice_bounds-add_each-end g c = omega (arith, length-take 100 c.args.items.now)
