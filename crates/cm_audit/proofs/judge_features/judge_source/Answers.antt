@@ -64,7 +64,7 @@ returns c =
     let read : ReadsAs (reads c.args.source.content) (Ok kept) = subst (λ t. ReadsAs (reads t) (Ok kept)) c.as_str-3.ensures c.in_ok-kept.ensures in
     let grown : kept_rows c.insert.new.self.entries ≡ rows ++ new_source c.args.source ∷ [] =
     ap kept_rows c.in_ok-insert.ensures.entries
-    ∙ inserted_rows kept_row uri (λ r. bytes_eq uri r.uri) (row_says uri) c.from.result (c.from.ensures ∙ c.into_string.ensures) old.sources kept (row_absent uri rows new)
+    ∙ inserted_rows kept_row uri (λ r. bytes_eq uri r.uri) (row_says uri) c.from-uri.result (c.from-uri.ensures ∙ c.into_string.ensures) old.sources kept (row_absent uri rows new)
     ∙ ap (λ r. rows ++ r ∷ []) (kept_source c.args.source uri kept refl read) in
     let uris : map (λ r. r.uri) (kept_rows c.insert.new.self.entries) ≡ map (λ r. r.uri) rows ++ uri ∷ [] =
     ap (map (λ (r : SourceRow). r.uri)) grown ∙ map-append (λ (r : SourceRow). r.uri) rows (new_source c.args.source ∷ []) in (
