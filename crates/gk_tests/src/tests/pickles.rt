@@ -1,8 +1,7 @@
 //! The pickles of texts that are parsed, as lines.
 use gk_pickle::{
     Pickle, PicklePlace, ScenarioInFeature, compile, compile_scenario, next_pickle, next_title,
-    pass_pickle,
-    scenarios,
+    pass_pickle, scenarios,
 };
 use gk_tree::{Document, parse};
 use gk_values::pickle_value;

@@ -33,10 +33,7 @@ fn meet_copies(alloc: Global, shortage: &mut Shortage) -> Result<(), Fail> {
         !is_copy_refused(alloc, shortage, 0, SHORT)?,
         "a short text takes memory",
     )?;
-    check(
-        is_copy_refused(alloc, shortage, 0, LONG)?,
-        "never refused",
-    )?;
+    check(is_copy_refused(alloc, shortage, 0, LONG)?, "never refused")?;
     check(
         !is_copy_refused(alloc, shortage, 256, LONG)?,
         "refused with room",
