@@ -1,5 +1,5 @@
 -- What is kept: one envelope more.
-use Rattle.std.proofs.Common.{◌≡◌, ◌∙◌, ap, sym, refl, Bool, true, false, ◌||◌, List, [], ◌∷◌, ◌++◌, append-nil, append_assoc, get_or, length, map, take, ℕ, ◌+◌, ◌<◌, Option, None, Some, Result, Ok, Err}
+use Rattle.std.proofs.Common.{◌≡◌, ◌∙◌, ap, sym, refl, Bool, String, Global, true, false, ◌||◌, List, [], ◌∷◌, ◌++◌, append-nil, append_assoc, get_or, length, map, take, ℕ, ◌+◌, ◌<◌, Option, None, Some, Result, Ok, Err}
 use Rattle.std.specs.Prelude.{OnOk, if◌then◌else◌}
 use Rattle.std.specs.List.{filter_map, flat_map, list_any}
 use Rattle.std.specs.Str.{bytes_eq}
@@ -17,7 +17,7 @@ use Rattle.cm_envelope.specs.declared.envelope.TestCase.{TestCase}
 use Rattle.cm_envelope.specs.declared.envelope.TestCaseStarted.{TestCaseStarted}
 use Rattle.cm_envelope.specs.declared.envelope.TestStepFinished.{TestStepFinished}
 use Rattle.cm_envelope.specs.declared.pickle.Pickle.{Pickle}
-use Rattle.cm_refs.proofs.EntryLemmas.{Key, list_any-map}
+use Rattle.cm_refs.proofs.EntryLemmas.{list_any-map}
 use Rattle.cm_stream.specs.References.{as_case, as_pickle, as_start}
 use Rattle.cm_stream.specs.Texts.{Utf8}
 use Rattle.cm_stream.proofs.Lists.{found_more, found_push, or_no}
@@ -142,7 +142,7 @@ other_noted es envelope.Other p c s f = not_noted es envelope.Other refl refl re
 -- ---- ids
 
 -- a set with one id more has the texts that a list with it has
-pub id_added : (keys : List Key) (k : Key) (text : Utf8) → has_text text (map string_bytes (insert_key string_eq keys k)) ≡ has_text text (map string_bytes keys ++ string_bytes k ∷ [])
+pub id_added : (keys : List (String Global)) (k : String Global) (text : Utf8) → has_text text (map string_bytes (insert_key string_eq keys k)) ≡ has_text text (map string_bytes keys ++ string_bytes k ∷ [])
 id_added keys k text = go (list_any (string_eq k) keys) refl
   where
     there : (b : Bool) → bytes_eq text (string_bytes k) ≡ b → list_any (string_eq k) keys ≡ true → has_text text (map string_bytes keys) ≡ (has_text text (map string_bytes keys) || (b || false))
