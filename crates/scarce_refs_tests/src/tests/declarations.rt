@@ -23,11 +23,11 @@ const KINDS: [Kind; 5] = [
     Kind::RunHook,
 ];
 
-// What is declared before the call that is met. The last name is that of the call.
-const NAMES: [&str; 10] = ["a", "b", "c", "d", "e", "f", "g", "h", "i", "new"];
-
-// It is too long to lie in a map itself.
+// What the call that is met declares. It is too long to lie in a map itself.
 const NEW: &str = "an id of more than thirty-six bytes, in a piece of memory";
+
+// What is declared before the call, and what it declares.
+const NAMES: [&str; 10] = ["a", "b", "c", "d", "e", "f", "g", "h", "i", NEW];
 
 fn declare(declared: &mut Declared, kind: Kind, name: &str) -> Result<(), RefFault> {
     match kind {
