@@ -28,7 +28,7 @@ use Rattle.ck_commands.specs.Judged.{JudgesStream, JudgesRuns, MarksStreams, add
 use Rattle.ck_commands.specs.Output.{Report, report_made, trouble_report}
 use Rattle.ck_commands.specs.Runs.{Reading, heard}
 use Rattle.ck_commands.specs.declared.feature_files.FeatureFile as made
-use Rattle.ck_commands.specs.declared.judged_run.RunCounts.{RunCounts}
+use Rattle.ck_commands.specs.declared.run_counts.RunCounts.{RunCounts}
 use Rattle.ck_commands.specs.declared.output.ExitStatus.TheVariants as exit
 use Rattle.ck_commands.specs.declared.output.Report as output
 use Rattle.ck_commands.proofs.JudgedLemmas.{marks_push, nothing_ran}

@@ -36,7 +36,7 @@ use Rattle.ck_commands.specs.Judged.{AreStreams, IsReleasedAs, JudgesStream, Jud
 use Rattle.ck_commands.specs.Output.{Report, report_made, trouble_report}
 use Rattle.ck_commands.specs.Runs.{OfHeard, Reading, ReadsRun, heard, named_text, named_texts, status_after, status_of_all, unnoted, unopened, unread}
 use Rattle.ck_commands.specs.declared.judged_run.JudgedRun as made_run
-use Rattle.ck_commands.specs.declared.judged_run.RunCounts.{RunCounts}
+use Rattle.ck_commands.specs.declared.run_counts.RunCounts.{RunCounts}
 use Rattle.ck_commands.specs.declared.output.ExitStatus.{ExitStatus}
 use Rattle.ck_commands.specs.declared.output.ExitStatus.TheVariants as exit
 use Rattle.ck_commands.specs.declared.output.Report as made

@@ -19,7 +19,7 @@ use Rattle.ck_commands.specs.Judged.{AreStreams, counts_of_all, is_run_in}
 use Rattle.ck_commands.specs.Output.{Delivers, Report, trouble_report}
 use Rattle.ck_commands.specs.Run.{Reported}
 use Rattle.ck_commands.specs.Runs.{IsRunsReport, Reading, heard}
-use Rattle.ck_commands.specs.declared.judged_run.RunCounts.{RunCounts}
+use Rattle.ck_commands.specs.declared.run_counts.RunCounts.{RunCounts}
 use Rattle.ck_commands.specs.declared.output.ExitStatus.TheVariants.{Done, Held}
 
 -- ---- the runs

@@ -14,7 +14,7 @@ use Rattle.ck_commands.specs.FilesAsked.{IsPartsReport, ToldOfFiles, last_report
 use Rattle.ck_commands.specs.Judged.{MarksStreams}
 use Rattle.ck_commands.specs.Output.{Report}
 use Rattle.ck_commands.specs.Runs.{Reading}
-use Rattle.ck_commands.specs.declared.judged_run.RunCounts.{RunCounts}
+use Rattle.ck_commands.specs.declared.run_counts.RunCounts.{RunCounts}
 use Rattle.ck_commands.specs.declared.output.ExitStatus.{ExitStatus}
 use Rattle.ck_commands.specs.declared.output.ExitStatus.TheVariants.{Done}
 use Rattle.cm_stream.specs.Texts.{Utf8}

@@ -25,7 +25,7 @@ use Rattle.ck_commands.specs.Output.{Report, report_made, trouble_report}
 use Rattle.ck_commands.specs.Run.{Reported}
 use Rattle.ck_commands.specs.Runs.{IsRunsReport, OfHeard, Reading, ReportsRun}
 use Rattle.ck_commands.specs.declared.judged_run.JudgedRun as made
-use Rattle.ck_commands.specs.declared.judged_run.RunCounts.{RunCounts}
+use Rattle.ck_commands.specs.declared.run_counts.RunCounts.{RunCounts}
 use Rattle.ck_commands.specs.declared.output.ExitStatus.TheVariants.{Done}
 
 -- ---- the streams of released runs

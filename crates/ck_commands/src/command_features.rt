@@ -5,54 +5,27 @@ ghost use Rattle.cm_missing.specs.Missing.{AskedFile, IsMissingOf};
 ghost use Rattle.cm_ran.specs.Marks.{HasWholeRows};
 ghost use Rattle.cm_stream.specs.Release.{Conditions as SomeConditions};
 ghost use Rattle.cm_stream.specs.Release.{conditions_of};
-ghost use Rattle.feature_paths.specs.Shown.{faulty};
 ghost use Rattle.ck_command_line.specs.CommandLine.{FeaturesGate};
-ghost use Rattle.ck_commands.specs.FeatureFiles.{fault_name, faulty_report};
+ghost use Rattle.ck_commands.specs.FeatureFiles.{faulty_report};
 ghost use Rattle.ck_commands.specs.FilesAsked.{GatesFeatures, IsFeaturesReport, files_text};
 ghost use Rattle.ck_commands.specs.FilesKept.{AddsLast, JudgesParts, ReportsAsked, all_ran, asked_by, file_of};
 ghost use Rattle.ck_commands.specs.Output.{report_made};
 
 use crate::command_runs::judge_runs;
 use crate::feature_files::{FeatureFile, asked_files, flags_of, read_features};
-use crate::judged_run::{JudgedRun, RunCounts, judge};
+use crate::feature_report::faulty_report;
+use crate::judged_run::{JudgedRun, judge};
 use crate::output::{ExitStatus, Report, write_report};
+use crate::run_counts::RunCounts;
 use cm_attempt::Settings;
-use cm_cases::add_shown;
 use cm_envelope::{ByteSink, ByteSource};
 use cm_missing::Missing;
 use cm_ran::Marks;
 use cm_stream::Conditions;
-use feature_paths::{Fault, FaultyPath, PathTrouble};
+use feature_paths::PathTrouble;
 use files::Files;
 use std::alloc::{AllocError, Global};
 use std::hash::RandomState;
-
-/// The name of what is wrong with a path.
-fn fault_name(fault: Fault) -> &'static str
-    ensures { result.now ≡ fault_name fault }
-{
-    match fault {
-        Fault::LinkedFolder => "LinkedFolder",
-        Fault::NoFeatures => "NoFeatures",
-        Fault::NotUtf8 => "NotUtf8",
-        Fault::ReadFailed => "ReadFailed",
-    }
-}
-
-/// The report of a path with which something is wrong.
-fn faulty_report(alloc: Global, wrong: &FaultyPath) -> Result<Report, AllocError>
-    ensures { IfOk result (λ report. report_made (Ok report) ≡ faulty_report (faulty wrong.now)) }
-{
-    let mut text = String::from_str(alloc, "trouble ")?;
-    text.push_str(fault_name(wrong.fault))?;
-    text.push_str(" ")?;
-    add_shown(&mut text, wrong.path.as_str())?;
-    text.push_str("\n")?;
-    Ok(Report {
-        text,
-        status: ExitStatus::Trouble,
-    })
-}
 
 /// Judges the runs that are named, or where none is, the one that the source gives.
 fn judge_parts<F: Files, R: ByteSource>(

@@ -6,9 +6,10 @@ ghost use Rattle.ck_commands.specs.Judged.{JudgesRuns, counts_made, run_report};
 ghost use Rattle.ck_commands.specs.Output.{report_made};
 ghost use Rattle.ck_commands.specs.Runs.{GatesRuns, named_text, status_after};
 
-use crate::judged_run::{JudgedRun, RunCounts, judge_run};
+use crate::judged_run::{JudgedRun, judge_run};
 use crate::named_lines::add_named;
 use crate::output::{ExitStatus, Report, write_report};
+use crate::run_counts::RunCounts;
 use cm_attempt::Settings;
 use cm_envelope::{ByteSink, ByteSource};
 use cm_ran::Marks;

@@ -1,12 +1,16 @@
 //! The report of a feature file that gives no document.
-ghost use Rattle.std.specs.Prelude.{◌≡◌, IfOk, string_bytes};
+ghost use Rattle.std.specs.Prelude.{◌≡◌, IfOk, string_bytes, Ok};
 ghost use Rattle.ck_commands.specs.Features.{fault_report, refused_text};
-ghost use Rattle.ck_commands.specs.Output.{DeliversOne};
+ghost use Rattle.ck_commands.specs.Output.{DeliversOne, report_made};
+ghost use Rattle.feature_paths.specs.Shown.{faulty};
+ghost use Rattle.ck_commands.specs.FeatureFiles.{fault_name, faulty_report};
 
 use crate::feature_input::FeatureFault;
 use crate::output::{ExitStatus, Report, trouble_text, write_report};
+use cm_cases::add_shown;
 use cm_envelope::{ByteSink, Trouble};
 use cm_reasons::kind_label;
+use feature_paths::{Fault, FaultyPath};
 use gk_tree::ParseFault;
 use std::alloc::{AllocError, Global};
 
@@ -48,4 +52,31 @@ pub(crate) fn print_fault<W: ByteSink>(alloc: Global, fault: FeatureFault, sink:
         (W.output sink.new) }
 {
     write_report(sink, fault_report(alloc, fault))
+}
+
+/// The name of what is wrong with a path.
+fn fault_name(fault: Fault) -> &'static str
+    ensures { result.now ≡ fault_name fault }
+{
+    match fault {
+        Fault::LinkedFolder => "LinkedFolder",
+        Fault::NoFeatures => "NoFeatures",
+        Fault::NotUtf8 => "NotUtf8",
+        Fault::ReadFailed => "ReadFailed",
+    }
+}
+
+/// The report of a path with which something is wrong.
+pub(crate) fn faulty_report(alloc: Global, wrong: &FaultyPath) -> Result<Report, AllocError>
+    ensures { IfOk result (λ report. report_made (Ok report) ≡ faulty_report (faulty wrong.now)) }
+{
+    let mut text = String::from_str(alloc, "trouble ")?;
+    text.push_str(fault_name(wrong.fault))?;
+    text.push_str(" ")?;
+    add_shown(&mut text, wrong.path.as_str())?;
+    text.push_str("\n")?;
+    Ok(Report {
+        text,
+        status: ExitStatus::Trouble,
+    })
 }

@@ -2,92 +2,27 @@
 ghost use Rattle.std.specs.Prelude.{◌≡◌, ◌++◌, IfOk, List, Ok};
 ghost use Rattle.cm_stream.specs.Release.{conditions_of};
 ghost use Rattle.files.specs.Openings.{Opening};
-ghost use Rattle.ck_commands.specs.Judged.{JudgesRun, JudgesStream, added_counts, counted_in, counts_made, no_counts, run_report};
-ghost use Rattle.ck_commands.specs.Output.{report_made, trouble_report};
+ghost use Rattle.ck_commands.specs.Judged.{JudgesRun, JudgesStream, counts_made, run_report};
+ghost use Rattle.ck_commands.specs.Output.{trouble_report};
 ghost use Rattle.ck_commands.specs.Runs.{NotesReading, Reading, ReadsRun};
 
 use crate::command_gate::answer_report;
 use crate::output::{ExitStatus, Report, trouble_text};
+use crate::run_counts::{RunCounts, counts_of, with_counts};
 use cm_attempt::Settings;
-use cm_audit_release::{AuditedRelease, audit_part};
+use cm_audit_release::audit_part;
 use cm_envelope::{ByteSource, Trouble};
 use cm_ran::Marks;
-use cm_stream::{Conditions, Verdict};
+use cm_stream::Conditions;
 use files::{FileTrouble, Files};
 use std::alloc::{AllocError, Global};
 use std::hash::RandomState;
-
-/// What is counted of released runs.
-#[derive(Clone, Copy, PartialEq, Eq, Debug, Drop)]
-pub(crate) struct RunCounts {
-    /// Test cases.
-    pub(crate) cases: u64,
-    /// Pickles with more than one attempt.
-    pub(crate) retried: u64,
-    /// Test cases whose last attempt has a skipped step.
-    pub(crate) skipped: u64,
-}
-
-impl RunCounts {
-    /// Those of no run.
-    pub(crate) fn none() -> RunCounts
-        ensures { result ≡ no_counts }
-    {
-        RunCounts {
-            cases: 0,
-            retried: 0,
-            skipped: 0,
-        }
-    }
-
-    /// Those of these runs and of one more.
-    pub(crate) fn with(self, more: RunCounts) -> RunCounts
-        ensures { result ≡ added_counts self more }
-    {
-        RunCounts {
-            cases: self.cases.saturating_add(more.cases),
-            retried: self.retried.saturating_add(more.retried),
-            skipped: self.skipped.saturating_add(more.skipped),
-        }
-    }
-}
 
 /// What was judged of a run, or of several: the report, and what is counted of those that are released.
 #[derive(Drop)]
 pub(crate) struct JudgedRun {
     pub(crate) report: Report,
     pub(crate) counts: RunCounts,
-}
-
-/// What is counted of a run that was audited; of one that isn't good nothing.
-fn counts_of(answer: &Result<AuditedRelease, Trouble>) -> RunCounts
-    ensures { result ≡ counted_in answer.now }
-{
-    let Ok(release) = answer else {
-        return RunCounts::none();
-    };
-    match release.audited.verdict {
-        Verdict::Good(counts) => RunCounts {
-            cases: counts.cases,
-            retried: release.found.retried,
-            skipped: release.found.skipped,
-        },
-        Verdict::Bad { .. } | Verdict::Unsupported { .. } => RunCounts::none(),
-    }
-}
-
-/// The report with the counts.
-fn with_counts(
-    report: Result<Report, AllocError>,
-    counts: RunCounts,
-) -> Result<JudgedRun, AllocError>
-    ensures report { run_report result ≡ report_made report }
-    ensures counts { IfOk result (λ run. run.counts ≡ counts) }
-{
-    Ok(JudgedRun {
-        report: report?,
-        counts,
-    })
 }
 
 /// Judges the run whose stream the source gives. Where it is released, what ran of the marked texts is marked.

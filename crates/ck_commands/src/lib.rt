@@ -34,6 +34,7 @@ mod judged_run;
 mod laws;
 mod named_lines;
 mod output;
+mod run_counts;
 mod standard;
 mod status_words;
 mod text_input;

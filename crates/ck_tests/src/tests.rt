@@ -4,6 +4,7 @@ mod cases;
 mod compiled;
 mod conditions;
 mod differences;
+mod due_pickles;
 mod failing_files;
 mod failures;
 mod feature_runs;

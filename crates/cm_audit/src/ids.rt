@@ -1,10 +1,18 @@
 //! The ids of the steps of a pickle or of a test case.
-ghost use Rattle.std.specs.Prelude.{◌≡◌, ℕ, List, IfOk, map};
+ghost use Rattle.std.specs.Prelude.{◌≡◌, ℕ, List, IfOk, map, false, true, ◌<◌, IsOk, OnOk, not};
 ghost use Rattle.std.specs.String.{string_bytes};
+ghost use Rattle.cm_attempt.specs.Table.{has_repeat, has_text};
+ghost use Rattle.indexmap.specs.IndexSet.{spare};
+ghost use Rattle.kept_texts.specs.Kept.{bytes_of};
+ghost use Rattle.cm_state.specs.Summary.{with_name};
 
-use cm_envelope::{PickleStep, TestStep};
+use crate::state::Names;
+use cm_envelope::{NodeId, PickleStep, TestStep};
 use gk_document::{Sequence, Text};
-use std::alloc::{AllocError, Global};
+use indexmap::IndexSet;
+use kept_texts::KeptText;
+use std::alloc::{AllocError, AllocFailed, Global};
+use std::hash::RandomState;
 
 /// What has an id of its own.
 pub(crate) trait HasId: Drop {
@@ -42,4 +50,34 @@ pub(crate) fn step_ids<Step: HasId>(
         ids.push(step.into_id().into_string())?;
     }
     Ok(ids)
+}
+
+/// Whether two of the texts are equal.
+pub(crate) fn have_repeat(
+    alloc: Global,
+    seed: RandomState,
+    texts: &[NodeId],
+) -> Result<bool, AllocError>
+    ensures { IfOk result (λ found. found ≡ has_repeat texts.now) }
+{
+    let mut set = IndexSet::with_capacity_and_hasher(alloc, texts.len(), seed)?;
+    for text in texts {
+        let is_new = set.insert(text.as_str())?;
+        if !is_new {
+            return Ok(true);
+        }
+    }
+    Ok(false)
+}
+
+/// Adds the pickle that a case names, and gives whether no case named it before.
+pub(crate) fn add_name(named: &mut Names, pickle: String) -> Result<bool, AllocFailed<KeptText>>
+    ensures named { OnOk result (map bytes_of named.new.keys
+        ≡ with_name (map bytes_of named.old.keys) (string_bytes pickle)) }
+    ensures first { IfOk result (λ is_first. not is_first
+        ≡ has_text (string_bytes pickle) (map bytes_of named.old.keys)) }
+    ensures room { 0 < spare named.old → IsOk result }
+{
+    let is_first = named.insert(KeptText::from(pickle))?;
+    Ok(is_first)
 }

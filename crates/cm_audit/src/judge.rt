@@ -5,14 +5,15 @@ ghost use Rattle.cm_stream.specs.Redeclared.{passed_over};
 ghost use Rattle.cm_state.specs.StateChecks.{is_redeclared_by, judged_by};
 ghost use Rattle.cm_audit.specs.State.{AreFewer, JudgesBy, Takes, summary_of};
 
-use crate::judge_cases::judge_case;
-use crate::judge_features::{
-    judge_definition, judge_document, judge_hook, judge_parse_error, judge_pickle, judge_source,
-};
-use crate::judge_run::{
-    judge_attachment, judge_attempt_finished, judge_attempt_started, judge_run_finished,
-    judge_run_hook_finished, judge_run_hook_started, judge_run_started, judge_step_finished,
+use crate::judge_attempts::{
+    judge_attachment, judge_attempt_finished, judge_attempt_started, judge_step_finished,
     judge_step_started,
+};
+use crate::judge_cases::judge_case;
+use crate::judge_definitions::{judge_definition, judge_hook};
+use crate::judge_features::{judge_document, judge_parse_error, judge_pickle, judge_source};
+use crate::judge_run::{
+    judge_run_finished, judge_run_hook_finished, judge_run_hook_started, judge_run_started,
 };
 use crate::limits::MOST;
 use crate::state::State;

@@ -1,26 +1,21 @@
 //! The envelopes that say what a run is to execute: sources, documents, parse errors, pickles, definitions and hooks.
-ghost use Rattle.std.specs.Prelude.{◌≡◌, ◌&&◌, IfErr, IfOk, OnOk, false, true};
-ghost use Rattle.cm_attempt.specs.Table.{has_repeat, has_text};
+ghost use Rattle.std.specs.Prelude.{◌≡◌, ◌&&◌, IfErr, OnOk, false, true};
+ghost use Rattle.cm_attempt.specs.Table.{has_text};
 ghost use Rattle.cm_envelope.specs.declared.envelope.Envelope.TheVariants as envelope;
 ghost use Rattle.cm_state.specs.StateChecks.{is_next_by};
 ghost use Rattle.cm_state.specs.ByOnePass.{plain_finding};
-ghost use Rattle.cm_state.specs.Summary.{change_source, one_more, with_ids};
 ghost use Rattle.cm_audit.specs.Kept.{IsAcceptedAt, kept_rows};
 ghost use Rattle.cm_audit.specs.State.{AreFewer, Checks, Judges, summary_of};
 ghost use Rattle.cm_audit.specs.Stops.{StopsFor};
 
-use crate::ids::step_ids;
+use crate::ids::{have_repeat, step_ids};
 use crate::limits::MOST;
-use crate::source::{KeptSource, read_source};
-use crate::state::{Sources, State, find_source};
+use crate::source::{KeptSource, count_pickle, find_source, read_source, set_ids};
+use crate::state::State;
 use crate::stop::Stop;
-use cm_envelope::{GherkinDocument, Hook, ParseError, Pickle, Source, StepDefinition};
+use cm_envelope::{GherkinDocument, ParseError, Pickle, Source};
 use cm_stream::{Reason, StreamFault};
-use gk_document::{Sequence, Text};
-use indexmap::IndexSet;
 use kept_texts::KeptText;
-use std::alloc::{AllocError, Global};
-use std::hash::RandomState;
 
 /// The media type of plain Gherkin.
 const PLAIN: &str = "text/x.cucumber.gherkin+plain";
@@ -46,43 +41,6 @@ pub(crate) fn judge_source(state: &mut State, source: Source) -> Result<(), Stop
     drop(state.sources.insert(uri, kept)?);
     state.counts.sources += 1;
     Ok(())
-}
-
-/// Whether two of the texts are equal.
-fn have_repeat(alloc: Global, seed: RandomState, texts: &[Text]) -> Result<bool, AllocError>
-    ensures { IfOk result (λ found. found ≡ has_repeat texts.now) }
-{
-    let mut set = IndexSet::with_capacity_and_hasher(alloc, texts.len(), seed)?;
-    for text in texts {
-        let is_new = set.insert(text.as_str())?;
-        if !is_new {
-            return Ok(true);
-        }
-    }
-    Ok(false)
-}
-
-/// The stream's document of an accepted source came, with these ids.
-fn set_ids(sources: &mut Sources, uri: &str, ids: Sequence<Text>)
-    requires { IsAcceptedAt uri.now (kept_rows sources.old.entries) }
-    ensures { kept_rows sources.new.entries ≡ change_source uri.now (with_ids ids)
-        (kept_rows sources.old.entries) }
-{
-    if let Some(at) = sources.get_index_of(uri) {
-        let kept = &mut sources[at];
-        kept.set_ids(ids);
-    }
-}
-
-/// The next pickle of a source came.
-fn count_pickle(sources: &mut Sources, uri: &str)
-    ensures { kept_rows sources.new.entries ≡ change_source uri.now one_more
-        (kept_rows sources.old.entries) }
-{
-    if let Some(at) = sources.get_index_of(uri) {
-        let kept = &mut sources[at];
-        kept.count_pickle();
-    }
 }
 
 /// Whether the stream's document is the one of its source.
@@ -173,21 +131,5 @@ pub(crate) fn judge_pickle(state: &mut State, pickle: Pickle) -> Result<(), Stop
     count_pickle(&mut state.sources, uri.as_str());
     state.counts.pickles += 1;
     state.counts.unrun += 1;
-    Ok(())
-}
-
-/// The id of a step definition is new.
-pub(crate) fn judge_definition(state: &mut State, definition: &StepDefinition) -> Result<(), Stop>
-    ensures { Judges state.old state.new (envelope.StepDefinition definition.now) result }
-{
-    state.declared.declare_definition(definition.id.as_str())?;
-    Ok(())
-}
-
-/// The id of a hook is new.
-pub(crate) fn judge_hook(state: &mut State, hook: &Hook) -> Result<(), Stop>
-    ensures { Judges state.old state.new (envelope.Hook hook.now) result }
-{
-    state.declared.declare_hook(hook.id.as_str())?;
     Ok(())
 }

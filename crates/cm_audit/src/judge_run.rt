@@ -1,24 +1,18 @@
 //! The envelopes that report what was run: the run, its hooks, attempts and their steps, and attachments.
-ghost use Rattle.std.specs.Prelude.{◌≡◌, ◌&&◌, [], not, unwrap_or};
-ghost use Rattle.std.specs.List.{list_all, list_any};
+ghost use Rattle.std.specs.Prelude.{◌≡◌, ◌&&◌, not, unwrap_or};
+ghost use Rattle.std.specs.List.{list_any};
 ghost use Rattle.cm_envelope.specs.declared.envelope.Envelope.TheVariants as Envelope;
-ghost use Rattle.indexmap.specs.IndexMap.{values};
 ghost use Rattle.cm_attempt.specs.Table.{is_good_status};
 ghost use Rattle.cm_stream.specs.Checks.{same_flag};
-ghost use Rattle.cm_state.specs.StateChecks.{is_well, knows_place, knows_run_hook, lacks_by};
-ghost use Rattle.cm_audit.specs.Kept.{kept_row};
-ghost use Rattle.cm_audit.specs.State.{AreFewer, Judges, JudgesBy, summary_of};
+ghost use Rattle.cm_state.specs.StateChecks.{is_well, knows_run_hook, lacks_by};
+ghost use Rattle.cm_audit.specs.State.{Judges, JudgesBy, summary_of};
 
-use crate::limits::MOST;
-use crate::record::{finish_attempt, finish_step, start_attempt, start_step};
-use crate::source::KeptSource;
-use crate::state::{Sources, State, knows_run};
+use crate::known::{knows_run, knows_run_hook};
+use crate::source::{are_accepted, lack_some};
+use crate::state::State;
 use crate::stop::Stop;
 use cm_attempt::{Policy, Status, worst_with};
-use cm_envelope::{
-    Attachment, TestCaseFinished, TestCaseStarted, TestRunFinished, TestRunHookFinished,
-    TestRunHookStarted, TestRunStarted, TestStepFinished, TestStepStarted,
-};
+use cm_envelope::{TestRunFinished, TestRunHookFinished, TestRunHookStarted, TestRunStarted};
 use cm_stream::{Reason, StreamFault, kept_status};
 
 /// A run starts once.
@@ -30,14 +24,6 @@ pub(crate) fn judge_run_started(state: &mut State, run: TestRunStarted) -> Resul
     }
     state.run = Some(run);
     Ok(())
-}
-
-/// Whether the hook is declared, and the run is the one that started, where one is named.
-fn knows_run_hook(state: &State, started: &TestRunHookStarted) -> bool
-    ensures { result ≡ knows_run_hook (summary_of state.now) started.now }
-{
-    knows_run(state, &started.test_run_started_id)
-        && state.declared.has_hook(started.hook_id.as_str())
 }
 
 /// A run hook starts within the run, of a declared hook, and its id is new.
@@ -73,95 +59,6 @@ pub(crate) fn judge_run_hook_finished(
     }
     state.hooks_worst = Some(worst_with(state.hooks_worst, status));
     Ok(())
-}
-
-/// An attempt starts within the run, as the record of attempts lets it.
-pub(crate) fn judge_attempt_started(
-    state: &mut State,
-    started: &TestCaseStarted,
-) -> Result<(), Stop>
-    requires few { AreFewer MOST state.old.counts }
-    ensures { Judges state.old state.new (Envelope.TestCaseStarted started.now) result }
-{
-    if state.run.is_none() {
-        return Err(Stop::Bad(StreamFault::OutsideRun));
-    }
-    start_attempt(&mut state.track, started)?;
-    state.counts.attempts += 1;
-    Ok(())
-}
-
-/// A step starts as the record of attempts lets it.
-pub(crate) fn judge_step_started(state: &mut State, started: &TestStepStarted) -> Result<(), Stop>
-    ensures { Judges state.old state.new (Envelope.TestStepStarted started.now) result }
-{
-    start_step(&mut state.track, started)?;
-    Ok(())
-}
-
-/// A step finishes as the record of attempts lets it, and with a status that is judged.
-pub(crate) fn judge_step_finished(
-    state: &mut State,
-    finished: &TestStepFinished,
-) -> Result<(), Stop>
-    ensures { Judges state.old state.new (Envelope.TestStepFinished finished.now) result }
-{
-    finish_step(&mut state.track, finished)?;
-    if kept_status(finished.test_step_result.status) == Status::Unknown {
-        return Err(Stop::Unsupported(Reason::UnknownStatus));
-    }
-    Ok(())
-}
-
-/// An attempt finishes as the record of attempts lets it.
-pub(crate) fn judge_attempt_finished(
-    state: &mut State,
-    finished: &TestCaseFinished,
-) -> Result<(), Stop>
-    ensures { Judges state.old state.new (Envelope.TestCaseFinished finished.now) result }
-{
-    finish_attempt(&mut state.track, finished)?;
-    Ok(())
-}
-
-/// Whether no attempt is named, or one that was started, with no step or one of its case's.
-fn knows_place(state: &State, attachment: &Attachment) -> bool
-    ensures { result
-        ≡ knows_place
-        (summary_of state.now) attachment.now.test_case_started_id attachment.now.test_step_id }
-{
-    match (&attachment.test_case_started_id, &attachment.test_step_id) {
-        (None, _) => true,
-        (Some(attempt), None) => state.track.has_attempt(attempt.as_str()),
-        (Some(attempt), Some(step)) => state.track.has_step(attempt.as_str(), step.as_str()),
-    }
-}
-
-/// An attachment names a place that is known.
-pub(crate) fn judge_attachment(state: &State, attachment: &Attachment) -> Result<(), Stop>
-    ensures { Judges state.now state.now (Envelope.Attachment attachment.now) result }
-{
-    if knows_place(state, attachment) {
-        Ok(())
-    } else {
-        Err(Stop::Bad(StreamFault::UnknownReference))
-    }
-}
-
-/// Whether one of the sources lacks its document or one of its pickles.
-fn lack_some(sources: &Sources) -> bool
-    ensures { result ≡ list_any (λ k. lacks_by (kept_row [] k)) (values sources.now) }
-{
-    sources.values().any(|kept| kept.lacks_some())
-}
-
-/// Whether no source is refused.
-fn are_accepted(sources: &Sources) -> bool
-    ensures { result ≡ list_all (λ k. (kept_row [] k).is_accepted) (values sources.now) }
-{
-    sources
-        .values()
-        .all(|kept| matches!(kept, KeptSource::Accepted(_)))
 }
 
 /// Whether a document or a pickle of a source is still to come.

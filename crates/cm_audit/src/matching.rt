@@ -5,9 +5,10 @@ ghost use Rattle.cm_stream.specs.Sources.{fits_type, has_cells, ids_at, is_argum
 ghost use Rattle.cm_audit.specs.Matching.{has_value, is_id};
 
 use cm_envelope::{
-    Pickle, PickleArgument, PickleCell, PickleDocString, PickleRow, PickleStep, PickleTag, StepKind,
+    NodeId, Pickle, PickleArgument, PickleCell, PickleDocString, PickleRow, PickleStep, PickleTag,
+    StepKind, id_of,
 };
-use gk_document::{Sequence, Text, id_of};
+use gk_document::{Sequence, Text};
 use gk_pickle::{
     Pickle as DuePickle, PickleArgument as DueArgument, PickleDocString as DueDocString,
     PickleStep as DueStep, PickleTag as DueTag, StepType,
@@ -21,12 +22,12 @@ trait Fits<Due> {
     // the part is the one that is due
     ghost is_due: { List (List ℕ) → Self → Due → Bool };
 
-    fn fits(&self, ids: &[Text], due: &Due) -> bool
+    fn fits(&self, ids: &[NodeId], due: &Due) -> bool
         ensures { result ≡ is_due ids.now self.now due.now };
 }
 
 /// Whether each part is the one that is due, and there are no more of either.
-fn all_fit<Part: Fits<Due>, Due>(ids: &[Text], parts: &[Part], due: &[Due]) -> bool
+fn all_fit<Part: Fits<Due>, Due>(ids: &[NodeId], parts: &[Part], due: &[Due]) -> bool
     ensures { result ≡ same_list (Part.is_due ids.now) parts.now due.now }
 {
     if parts.len() != due.len() {
@@ -43,14 +44,14 @@ fn all_fit<Part: Fits<Due>, Due>(ids: &[Text], parts: &[Part], due: &[Due]) -> b
 impl Fits<u64> for Text {
     ghost is_due = { is_id };
 
-    fn fits(&self, ids: &[Text], due: &u64) -> bool {
+    fn fits(&self, ids: &[NodeId], due: &u64) -> bool {
         self.as_str() == id_of(ids, *due)
     }
 }
 
 /// Whether the texts are the ids of the nodes.
 #[tactic(auto, using(crate::proofs::SameLists::same_ids))]
-fn are_ids(ids: &[Text], texts: &[Text], nodes: &[u64]) -> bool
+fn are_ids(ids: &[NodeId], texts: &[Text], nodes: &[u64]) -> bool
     ensures { result ≡ same_texts texts.now (ids_at ids.now nodes.now) }
 {
     all_fit(ids, texts, nodes)
@@ -59,7 +60,7 @@ fn are_ids(ids: &[Text], texts: &[Text], nodes: &[u64]) -> bool
 impl Fits<Text> for PickleCell {
     ghost is_due = { has_value };
 
-    fn fits(&self, _ids: &[Text], due: &Text) -> bool {
+    fn fits(&self, _ids: &[NodeId], due: &Text) -> bool {
         self.value == *due
     }
 }
@@ -67,7 +68,7 @@ impl Fits<Text> for PickleCell {
 impl Fits<Sequence<Text>> for PickleRow {
     ghost is_due = { λ ids. has_cells };
 
-    fn fits(&self, ids: &[Text], due: &Sequence<Text>) -> bool {
+    fn fits(&self, ids: &[NodeId], due: &Sequence<Text>) -> bool {
         all_fit(ids, self.cells.as_slice(), due.as_slice())
     }
 }
@@ -83,7 +84,7 @@ fn same_doc_string(text: &PickleDocString, due: &DueDocString) -> bool
 impl Fits<DueArgument> for PickleArgument {
     ghost is_due = { λ ids. is_argument };
 
-    fn fits(&self, ids: &[Text], due: &DueArgument) -> bool {
+    fn fits(&self, ids: &[NodeId], due: &DueArgument) -> bool {
         match (self, due) {
             (PickleArgument::Table(table), DueArgument::Table(rows)) => {
                 all_fit(ids, table.rows.as_slice(), rows.as_slice())
@@ -109,7 +110,11 @@ fn same_type(kind: Option<StepKind>, due: StepType) -> bool
 }
 
 /// Whether a step has the argument that is due, or none where none is.
-fn same_argument(ids: &[Text], argument: &Option<PickleArgument>, due: &Option<DueArgument>) -> bool
+fn same_argument(
+    ids: &[NodeId],
+    argument: &Option<PickleArgument>,
+    due: &Option<DueArgument>,
+) -> bool
     ensures { result ≡ same_option is_argument argument.now due.now }
 {
     match (argument, due) {
@@ -122,7 +127,7 @@ fn same_argument(ids: &[Text], argument: &Option<PickleArgument>, due: &Option<D
 impl Fits<DueStep> for PickleStep {
     ghost is_due = { is_due_step };
 
-    fn fits(&self, ids: &[Text], due: &DueStep) -> bool {
+    fn fits(&self, ids: &[NodeId], due: &DueStep) -> bool {
         self.text == due.text
             && same_type(self.kind, due.kind)
             && are_ids(ids, self.ast_node_ids.as_slice(), due.nodes.as_slice())
@@ -133,7 +138,7 @@ impl Fits<DueStep> for PickleStep {
 impl Fits<DueTag> for PickleTag {
     ghost is_due = { is_due_tag };
 
-    fn fits(&self, ids: &[Text], due: &DueTag) -> bool {
+    fn fits(&self, ids: &[NodeId], due: &DueTag) -> bool {
         self.name == due.name && self.ast_node_id.fits(ids, &due.node)
     }
 }
@@ -141,7 +146,7 @@ impl Fits<DueTag> for PickleTag {
 impl Fits<DuePickle> for Pickle {
     ghost is_due = { is_due };
 
-    fn fits(&self, ids: &[Text], due: &DuePickle) -> bool {
+    fn fits(&self, ids: &[NodeId], due: &DuePickle) -> bool {
         self.language.as_str() == ENGLISH
             && self.name == due.name
             && are_ids(ids, self.ast_node_ids.as_slice(), due.nodes.as_slice())
@@ -152,7 +157,7 @@ impl Fits<DuePickle> for Pickle {
 
 /// Whether the pickle is the one that is due, where the document's nodes have these ids. The pickle's own id and those of
 /// its steps are free.
-pub(crate) fn is_due_pickle(pickle: &Pickle, ids: &[Text], due: &DuePickle) -> bool
+pub(crate) fn is_due_pickle(pickle: &Pickle, ids: &[NodeId], due: &DuePickle) -> bool
     ensures { result ≡ is_due ids.now pickle.now due.now }
 {
     pickle.fits(ids, due)

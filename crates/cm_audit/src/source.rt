@@ -1,17 +1,21 @@
 //! What an audit keeps of a source.
-ghost use Rattle.std.specs.Prelude.{◌≡◌, ℕ, List, [], IfOk, option_map, true};
+ghost use Rattle.std.specs.Prelude.{◌≡◌, ℕ, List, [], IfOk, option_map, true, find};
 ghost use Rattle.cm_stream.specs.Readings.{Accepted as accepted_text};
 ghost use Rattle.cm_stream.specs.OnePass.{reads};
-ghost use Rattle.cm_state.specs.StateChecks.{is_awaited_of, is_next_of, lacks_by};
-ghost use Rattle.cm_state.specs.Summary.{new_row, one_more, with_ids};
-ghost use Rattle.cm_audit.specs.Kept.{ReadsAs, accepted_row, kept_row};
+ghost use Rattle.cm_state.specs.StateChecks.{is_awaited_of, is_next_of, lacks_by, find_source};
+ghost use Rattle.cm_state.specs.Summary.{new_row, one_more, with_ids, change_source};
+ghost use Rattle.cm_audit.specs.Kept.{ReadsAs, accepted_row, kept_row, IsAcceptedAt, kept_rows};
+ghost use Rattle.std.specs.List.{list_all, list_any};
+ghost use Rattle.indexmap.specs.IndexMap.{values};
+ghost use Rattle.std.specs.Str.{bytes_eq};
 
 use crate::due::DuePickles;
 use crate::matching::is_due_pickle;
+use crate::state::Sources;
 use crate::stop::Stop;
-use cm_envelope::Pickle;
+use cm_envelope::{NodeId, Pickle};
 use cm_stream::Reason;
-use gk_document::{Document, Sequence, Text, same_skeleton};
+use gk_document::{Document, Sequence, same_skeleton};
 use gk_grammar::FaultKind;
 use gk_pickle::{PicklePlace, pass_pickle};
 use gk_tree::parse;
@@ -24,7 +28,7 @@ use std::hash::RandomState;
 pub struct AcceptedSource {
     document: Option<Document>,
     awaits_document: bool,
-    ids: Sequence<Text>,
+    ids: Sequence<NodeId>,
     place: PicklePlace,
 }
 
@@ -82,7 +86,7 @@ impl AcceptedSource {
     }
 
     /// The stream's document came, with these ids.
-    pub(crate) fn set_ids(&mut self, ids: Sequence<Text>)
+    pub(crate) fn set_ids(&mut self, ids: Sequence<NodeId>)
         ensures { (uri : List ℕ)
             → accepted_row uri self.new ≡ with_ids ids (accepted_row uri self.old) }
     {
@@ -157,7 +161,7 @@ impl KeptSource {
     }
 
     /// The ids of the stream's document, once it came.
-    pub fn ids(&self) -> &[Text]
+    pub fn ids(&self) -> &[NodeId]
         ensures { result.now ≡ (kept_row [] self.now).ids }
     {
         match self {
@@ -208,7 +212,7 @@ impl KeptSource {
     }
 
     /// The stream's document of an accepted source came, with these ids.
-    pub(crate) fn set_ids(&mut self, ids: Sequence<Text>)
+    pub(crate) fn set_ids(&mut self, ids: Sequence<NodeId>)
         requires { (kept_row [] self.old).is_accepted ≡ true }
         ensures { (uri : List ℕ)
             → kept_row uri self.new ≡ with_ids ids (kept_row uri self.old) }
@@ -241,4 +245,51 @@ pub(crate) fn read_source(alloc: Global, text: &str) -> Result<KeptSource, Stop>
             _ => Ok(KeptSource::Refused),
         },
     }
+}
+
+/// The stream's document of an accepted source came, with these ids.
+pub(crate) fn set_ids(sources: &mut Sources, uri: &str, ids: Sequence<NodeId>)
+    requires { IsAcceptedAt uri.now (kept_rows sources.old.entries) }
+    ensures { kept_rows sources.new.entries ≡ change_source uri.now (with_ids ids)
+        (kept_rows sources.old.entries) }
+{
+    if let Some(at) = sources.get_index_of(uri) {
+        let kept = &mut sources[at];
+        kept.set_ids(ids);
+    }
+}
+
+/// The next pickle of a source came.
+pub(crate) fn count_pickle(sources: &mut Sources, uri: &str)
+    ensures { kept_rows sources.new.entries ≡ change_source uri.now one_more
+        (kept_rows sources.old.entries) }
+{
+    if let Some(at) = sources.get_index_of(uri) {
+        let kept = &mut sources[at];
+        kept.count_pickle();
+    }
+}
+
+/// Whether one of the sources lacks its document or one of its pickles.
+pub(crate) fn lack_some(sources: &Sources) -> bool
+    ensures { result ≡ list_any (λ k. lacks_by (kept_row [] k)) (values sources.now) }
+{
+    sources.values().any(|kept| kept.lacks_some())
+}
+
+/// Whether no source is refused.
+pub(crate) fn are_accepted(sources: &Sources) -> bool
+    ensures { result ≡ list_all (λ k. (kept_row [] k).is_accepted) (values sources.now) }
+{
+    sources
+        .values()
+        .all(|kept| matches!(kept, KeptSource::Accepted(_)))
+}
+
+/// What is kept of a source.
+pub(crate) fn find_source<'a>(sources: &'a Sources, uri: &str) -> Option<&'a KeptSource>
+    ensures { option_map (λ k. kept_row uri.now k.now) result
+        ≡ find (λ r. bytes_eq uri.now r.uri) (kept_rows sources.now.entries) }
+{
+    sources.get(uri)
 }

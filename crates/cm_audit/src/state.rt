@@ -1,17 +1,15 @@
 //! What an audit keeps of the lines so far.
-ghost use Rattle.std.specs.Prelude.{◌≡◌, find, option_map};
-ghost use Rattle.std.specs.Str.{bytes_eq};
-ghost use Rattle.cm_state.specs.StateChecks.{find_source, knows_run};
+ghost use Rattle.std.specs.Prelude.{◌≡◌, option_map};
+ghost use Rattle.cm_state.specs.StateChecks.{find_source};
 ghost use Rattle.cm_state.specs.Summary.{empty_summary};
 ghost use Rattle.cm_audit.specs.Kept.{kept_row, kept_rows};
 ghost use Rattle.cm_audit.specs.State.{summary_of, with_uris};
 
-use crate::source::KeptSource;
+use crate::source::{KeptSource, find_source};
 use cm_attempt::{Status, Track};
 use cm_envelope::TestRunStarted;
 use cm_refs::Declared;
 use cm_stream::Counts;
-use gk_document::Text;
 use indexmap::{IndexMap, IndexSet};
 use kept_texts::KeptText;
 use std::alloc::Global;
@@ -120,27 +118,5 @@ impl State {
         drop(named);
         drop(run);
         track
-    }
-}
-
-/// What is kept of a source.
-pub(crate) fn find_source<'a>(sources: &'a Sources, uri: &str) -> Option<&'a KeptSource>
-    ensures { option_map (λ k. kept_row uri.now k.now) result
-        ≡ find (λ r. bytes_eq uri.now r.uri) (kept_rows sources.now.entries) }
-{
-    sources.get(uri)
-}
-
-/// Whether no run is named, or the one that started.
-pub(crate) fn knows_run(state: &State, id: &Option<Text>) -> bool
-    ensures { result ≡ knows_run (summary_of state.now) id.now }
-{
-    match (id, &state.run) {
-        (None, _) => true,
-        (Some(_), None) => false,
-        (Some(id), Some(run)) => match &run.id {
-            Some(started) => id == started,
-            None => false,
-        },
     }
 }

@@ -1,7 +1,7 @@
 //! The first of some values with each text, by maps.
-ghost use Rattle.std.specs.Prelude.{◌≡◌, List, ℕ, None, Some, IfOk, OnOk, find, option_map, if◌then◌else◌};
+ghost use Rattle.std.specs.Prelude.{◌≡◌, List, ℕ, None, Some, IfOk, OnOk, find, option_map, if◌then◌else◌, ◌+◌, ◌<◌, ◌^◌};
 ghost use Rattle.std.specs.Str.{bytes_eq};
-ghost use Rattle.cm_cases.specs.Firsts.{HasFirsts, or_else, value_at};
+ghost use Rattle.cm_cases.specs.Firsts.{HasFirsts, or_else, value_at, count_at, times_in};
 
 use crate::listing::{CaseEntry, DocumentEntry, PickleEntry, Place};
 use gk_document::Text;
@@ -120,4 +120,41 @@ pub fn firsts_of<'a, K: Key<T>, T>(
         add_first(&mut map, K::of(item), item)?;
     }
     Ok(map)
+}
+
+/// How often a text was counted.
+pub(crate) fn count_of(counts: &ByText<'_, u64>, text: &str) -> u64
+    ensures { result ≡ count_at counts.now text.now }
+{
+    match counts.get(text) {
+        Some(count) => *count,
+        None => 0,
+    }
+}
+
+/// Counts a text.
+fn count_one<'a>(counts: &mut ByText<'a, u64>, text: &'a str) -> Result<(), AllocError>
+    requires few { count_at counts.old text.now + 1 < 2 ^ 64 }
+    ensures { OnOk result ((other : List ℕ) → count_at counts.new other
+        ≡ count_at counts.old other + (if bytes_eq other text.now then 1 else 0)) }
+{
+    let count = count_of(counts, text) + 1;
+    counts.insert(text, count)?;
+    Ok(())
+}
+
+/// How often each text is among these.
+pub(crate) fn counts_of<'a>(
+    alloc: Global,
+    seed: RandomState,
+    texts: &'a [Text],
+) -> Result<ByText<'a, u64>, AllocError>
+    ensures { IfOk result
+        (λ counts. (text : List ℕ) → count_at counts text ≡ times_in texts.now text) }
+{
+    let mut counts = IndexMap::with_hasher(alloc, seed);
+    for text in texts {
+        count_one(&mut counts, text.as_str())?;
+    }
+    Ok(counts)
 }

@@ -1,6 +1,5 @@
 //! The lines of cases and pickles as JSON.
-ghost use Rattle.std.specs.Prelude.{◌≡◌, ◌+◌, ◌<◌, ◌^◌, ◌++◌, ℕ, List, IfOk, OnOk, codes, if◌then◌else◌, option_map, string_bytes};
-ghost use Rattle.std.specs.Str.{bytes_eq};
+ghost use Rattle.std.specs.Prelude.{◌≡◌, ◌+◌, ◌<◌, ◌++◌, ℕ, List, IfOk, OnOk, codes, option_map, string_bytes};
 ghost use Rattle.serde_json.specs.Data.{number, string, unsigned};
 ghost use Rattle.serde_json.specs.Written.{compact_text};
 ghost use Rattle.cm_envelope.specs.declared.envelope.Envelope.{Envelope};
@@ -9,13 +8,12 @@ ghost use Rattle.cm_cases.specs.Firsts.{count_at, entry_values, times_in, values
 ghost use Rattle.cm_cases.specs.JsonLines.{case_data, case_json, json_line, unrun_json};
 ghost use Rattle.cm_cases.specs.Listed.{listing_of};
 
-use crate::firsts::ByText;
+use crate::firsts::{ByText, count_of, counts_of};
 use crate::listing::{Listing, PickleEntry};
 use crate::places::Places;
 use crate::shown::add_shown_json;
 use cm_messages::{SendJson, json_text, send_list_member, send_number, send_str, send_text};
 use gk_document::Text;
-use indexmap::IndexMap;
 use serde::Serializer;
 use std::alloc::{AllocError, Global};
 use std::hash::RandomState;
@@ -91,43 +89,6 @@ fn add_line(alloc: Global, text: &mut String, case: &CaseJson<'_>) -> Result<(),
 }
 
 // ---- how often
-
-/// How often a text was counted.
-fn count_of(counts: &ByText<'_, u64>, text: &str) -> u64
-    ensures { result ≡ count_at counts.now text.now }
-{
-    match counts.get(text) {
-        Some(count) => *count,
-        None => 0,
-    }
-}
-
-/// Counts a text.
-fn count_one<'a>(counts: &mut ByText<'a, u64>, text: &'a str) -> Result<(), AllocError>
-    requires few { count_at counts.old text.now + 1 < 2 ^ 64 }
-    ensures { OnOk result ((other : List ℕ) → count_at counts.new other
-        ≡ count_at counts.old other + (if bytes_eq other text.now then 1 else 0)) }
-{
-    let count = count_of(counts, text) + 1;
-    counts.insert(text, count)?;
-    Ok(())
-}
-
-/// How often each text is among these.
-fn counts_of<'a>(
-    alloc: Global,
-    seed: RandomState,
-    texts: &'a [Text],
-) -> Result<ByText<'a, u64>, AllocError>
-    ensures { IfOk result
-        (λ counts. (text : List ℕ) → count_at counts text ≡ times_in texts.now text) }
-{
-    let mut counts = IndexMap::with_hasher(alloc, seed);
-    for text in texts {
-        count_one(&mut counts, text.as_str())?;
-    }
-    Ok(counts)
-}
 
 // ---- all lines
 

@@ -1,13 +1,13 @@
 //! What is kept of a stream's envelopes for the lines of its cases.
 ghost use Rattle.std.specs.Prelude.{◌≡◌, ◌++◌, ◌∷◌, [], List, IfOk, OnErr, OnOk, map, option_map};
-ghost use Rattle.std.specs.List.{flat_map};
 ghost use Rattle.cm_envelope.specs.declared.envelope.Envelope.{Envelope as SomeEnvelope};
 ghost use Rattle.cm_stream.specs.References.{cases, pickles};
 ghost use Rattle.cm_cases.specs.Listed.{both_texts, case_entry, document_entry, id_and_uri, listing_of, pickle_entry};
-ghost use Rattle.cm_cases.specs.Places.{example_rows, last_node, place, places_of, rows_of, scenario_places};
+ghost use Rattle.cm_cases.specs.Places.{last_node, places_of, rows_of};
 
+use crate::places::places_of;
 use cm_envelope::{Envelope, GherkinDocument, Pickle, PickleTag, TestCase};
-use gk_document::{Examples, Location, Row, Rule, Scenario, Sequence, Text, id_of};
+use gk_document::{Sequence, Text};
 use std::alloc::{AllocError, Global};
 
 /// A test case, by the pickle that it names.
@@ -48,90 +48,6 @@ pub struct Listing {
     pub(crate) pickles: Sequence<PickleEntry>,
     pub(crate) documents: Sequence<DocumentEntry>,
     pub(crate) starts: Sequence<Text>,
-}
-
-fn place_of(alloc: Global, ids: &[Text], node: u64, at: Location) -> Result<Place, AllocError>
-    ensures { IfOk result (λ p. p ≡ place ids.now node at) }
-{
-    let id = Text::copy_of(alloc, id_of(ids, node))?;
-    Ok(Place { id, line: at.line })
-}
-
-fn add_rows(
-    alloc: Global,
-    places: &mut Sequence<Place>,
-    ids: &[Text],
-    rows: &[Row],
-) -> Result<(), AllocError>
-    ensures { OnOk result (places.new
-        ≡ places.old ++ map (λ r. place ids.now r.node r.location) rows.now) }
-{
-    for row in rows {
-        places.push(place_of(alloc, ids, row.node, row.location)?)?;
-    }
-    Ok(())
-}
-
-fn add_examples(
-    alloc: Global,
-    places: &mut Sequence<Place>,
-    ids: &[Text],
-    examples: &[Examples],
-) -> Result<(), AllocError>
-    ensures { OnOk result (places.new ≡ places.old
-        ++ map (λ r. place ids.now r.node r.location)
-        (flat_map (λ x. example_rows x.table) examples.now)) }
-{
-    for block in examples {
-        if let Some(table) = &block.table {
-            add_rows(alloc, places, ids, table.body.as_slice())?;
-        }
-    }
-    Ok(())
-}
-
-fn add_scenarios(
-    alloc: Global,
-    places: &mut Sequence<Place>,
-    ids: &[Text],
-    scenarios: &[Scenario],
-) -> Result<(), AllocError>
-    ensures { OnOk result (places.new
-        ≡ places.old ++ flat_map (scenario_places ids.now) scenarios.now) }
-{
-    for scenario in scenarios {
-        places.push(place_of(alloc, ids, scenario.node, scenario.location)?)?;
-        add_examples(alloc, places, ids, scenario.examples.as_slice())?;
-    }
-    Ok(())
-}
-
-fn add_rules(
-    alloc: Global,
-    places: &mut Sequence<Place>,
-    ids: &[Text],
-    rules: &[Rule],
-) -> Result<(), AllocError>
-    ensures { OnOk result (places.new ≡ places.old
-        ++ flat_map (scenario_places ids.now) (flat_map (λ r. r.scenarios) rules.now)) }
-{
-    for rule in rules {
-        add_scenarios(alloc, places, ids, rule.scenarios.as_slice())?;
-    }
-    Ok(())
-}
-
-fn places_of(alloc: Global, document: &GherkinDocument) -> Result<Sequence<Place>, AllocError>
-    ensures { IfOk result (λ places. places ≡ places_of document.now) }
-{
-    let mut places = Sequence::new(alloc);
-    let Some(feature) = &document.document.feature else {
-        return Ok(places);
-    };
-    let ids = document.ids.as_slice();
-    add_scenarios(alloc, &mut places, ids, feature.scenarios.as_slice())?;
-    add_rules(alloc, &mut places, ids, feature.rules.as_slice())?;
-    Ok(places)
 }
 
 fn case_entry(alloc: Global, case: &TestCase) -> Result<CaseEntry, AllocError>

@@ -1,16 +1,18 @@
 //! The lines of cases and pickles.
-ghost use Rattle.std.specs.Prelude.{◌≡◌, ◌++◌, List, [], IfOk, OnOk, find, option_map, string_bytes};
+ghost use Rattle.std.specs.Prelude.{◌≡◌, ◌++◌, List, [], IfOk, OnOk, find, option_map, string_bytes, map};
 ghost use Rattle.std.specs.Option.{option_map_or};
 ghost use Rattle.std.specs.Str.{bytes_eq};
 ghost use Rattle.cm_envelope.specs.declared.envelope.Envelope.{Envelope};
 ghost use Rattle.cm_cases.specs.Firsts.{HasFirsts, case_place_text, entry_of, entry_scenario, entry_text, is_named, line_at_in, line_in, scenario_in, unrun_entries_text};
 ghost use Rattle.cm_cases.specs.Listed.{listing_of};
-ghost use Rattle.cm_cases.specs.Places.{case_place, case_scenario, pickle_scenario, scenario_at, unrun_lines};
+ghost use Rattle.cm_cases.specs.Places.{case_place, case_scenario, pickle_scenario, scenario_at, unrun_lines, example_rows, place, places_of, scenario_places};
+ghost use Rattle.std.specs.List.{flat_map};
 
 use crate::firsts::{ByText, CaseId, CasePickle, PickleId, PlaceId, add_first, firsts_of};
 use crate::listing::{CaseEntry, DocumentEntry, Listing, PickleEntry, Place};
 use crate::shown::add_shown;
-use gk_document::Sequence;
+use cm_envelope::{GherkinDocument, NodeId, id_of};
+use gk_document::{Examples, Location, Row, Rule, Scenario, Sequence, Text};
 use indexmap::IndexMap;
 use std::alloc::{AllocError, Global};
 use std::hash::RandomState;
@@ -258,4 +260,91 @@ impl<'a> Places<'a> {
         }
         Ok(())
     }
+}
+
+fn place_of(alloc: Global, ids: &[NodeId], node: u64, at: Location) -> Result<Place, AllocError>
+    ensures { IfOk result (λ p. p ≡ place ids.now node at) }
+{
+    let id = Text::copy_of(alloc, id_of(ids, node))?;
+    Ok(Place { id, line: at.line })
+}
+
+fn add_rows(
+    alloc: Global,
+    places: &mut Sequence<Place>,
+    ids: &[NodeId],
+    rows: &[Row],
+) -> Result<(), AllocError>
+    ensures { OnOk result (places.new
+        ≡ places.old ++ map (λ r. place ids.now r.node r.location) rows.now) }
+{
+    for row in rows {
+        places.push(place_of(alloc, ids, row.node, row.location)?)?;
+    }
+    Ok(())
+}
+
+fn add_examples(
+    alloc: Global,
+    places: &mut Sequence<Place>,
+    ids: &[NodeId],
+    examples: &[Examples],
+) -> Result<(), AllocError>
+    ensures { OnOk result (places.new ≡ places.old
+        ++ map (λ r. place ids.now r.node r.location)
+        (flat_map (λ x. example_rows x.table) examples.now)) }
+{
+    for block in examples {
+        if let Some(table) = &block.table {
+            add_rows(alloc, places, ids, table.body.as_slice())?;
+        }
+    }
+    Ok(())
+}
+
+fn add_scenarios(
+    alloc: Global,
+    places: &mut Sequence<Place>,
+    ids: &[NodeId],
+    scenarios: &[Scenario],
+) -> Result<(), AllocError>
+    ensures { OnOk result (places.new
+        ≡ places.old ++ flat_map (scenario_places ids.now) scenarios.now) }
+{
+    for scenario in scenarios {
+        places.push(place_of(alloc, ids, scenario.node, scenario.location)?)?;
+        add_examples(alloc, places, ids, scenario.examples.as_slice())?;
+    }
+    Ok(())
+}
+
+fn add_rules(
+    alloc: Global,
+    places: &mut Sequence<Place>,
+    ids: &[NodeId],
+    rules: &[Rule],
+) -> Result<(), AllocError>
+    ensures { OnOk result (places.new ≡ places.old
+        ++ flat_map (scenario_places ids.now) (flat_map (λ r. r.scenarios) rules.now)) }
+{
+    for rule in rules {
+        add_scenarios(alloc, places, ids, rule.scenarios.as_slice())?;
+    }
+    Ok(())
+}
+
+pub(crate) fn places_of(
+    alloc: Global,
+    document: &GherkinDocument,
+) -> Result<Sequence<Place>, AllocError>
+    ensures { IfOk result (λ places. places ≡ places_of document.now) }
+{
+    let mut places = Sequence::new(alloc);
+    let Some(feature) = &document.document.feature else {
+        return Ok(places);
+    };
+    let ids = document.ids.as_slice();
+    add_scenarios(alloc, &mut places, ids, feature.scenarios.as_slice())?;
+    add_rules(alloc, &mut places, ids, feature.rules.as_slice())?;
+    Ok(places)
 }

@@ -8,7 +8,7 @@ ghost use Rattle.cm_differs.specs.PickleData.{pickle_text};
 use crate::due_pickle::due_pickle;
 use crate::part_json::text_of_some;
 use crate::pickle_json::pickle_text;
-use cm_envelope::{Pickle, PickleStep};
+use cm_envelope::{NodeId, Pickle, PickleStep};
 use gk_document::{Document, Text};
 use gk_parts::first_difference;
 use gk_pickle::Pickle as DuePickle;
@@ -54,7 +54,7 @@ pub fn tree_difference(
 fn due_text(
     alloc: Global,
     uri: &str,
-    ids: &[Text],
+    ids: &[NodeId],
     beside: &[PickleStep],
     due: &DuePickle,
 ) -> Result<Text, AllocError>
@@ -69,7 +69,7 @@ fn due_text(
 fn due_text_of_some(
     alloc: Global,
     uri: &str,
-    ids: &[Text],
+    ids: &[NodeId],
     beside: &[PickleStep],
     due: Option<&DuePickle>,
 ) -> Result<Option<Text>, AllocError>
@@ -89,7 +89,7 @@ fn due_text_of_some(
 /// Where there is no memory for the texts, as `serde_json` says.
 pub fn pickle_difference(
     alloc: Global,
-    ids: &[Text],
+    ids: &[NodeId],
     due: Option<&DuePickle>,
     found: &Pickle,
 ) -> Result<Difference, AllocError>

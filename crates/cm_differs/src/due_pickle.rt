@@ -4,10 +4,10 @@ ghost use Rattle.cm_stream.specs.Sources.{ids_at};
 ghost use Rattle.cm_differs.specs.DuePickles.{argument_of, due_pickle, due_row, due_pickle_step, due_pickle_steps, due_tag, kind_beside, step_kind};
 
 use cm_envelope::{
-    Pickle, PickleArgument, PickleCell, PickleDocString, PickleRow, PickleStep, PickleTable,
-    PickleTag, StepKind,
+    NodeId, Pickle, PickleArgument, PickleCell, PickleDocString, PickleRow, PickleStep,
+    PickleTable, PickleTag, StepKind, id_of,
 };
-use gk_document::{Sequence, Text, id_of};
+use gk_document::{Sequence, Text};
 use gk_pickle::{
     Pickle as DuePickle, PickleArgument as DueArgument, PickleStep as DueStep, PickleTag as DueTag,
     StepType,
@@ -25,7 +25,7 @@ fn no_id(alloc: Global) -> Text
 }
 
 /// The ids of the nodes.
-fn ids_at(alloc: Global, ids: &[Text], nodes: &[u64]) -> Result<Sequence<Text>, AllocError>
+fn ids_at(alloc: Global, ids: &[NodeId], nodes: &[u64]) -> Result<Sequence<Text>, AllocError>
     ensures { IfOk result (λ texts. texts ≡ ids_at ids.now nodes.now) }
 {
     let mut texts = Sequence::new(alloc);
@@ -124,7 +124,7 @@ fn argument_of_some(
 /// A step that is due, beside a step of the stream.
 fn due_pickle_step(
     alloc: Global,
-    ids: &[Text],
+    ids: &[NodeId],
     beside: Option<&PickleStep>,
     due: &DueStep,
 ) -> Result<PickleStep, AllocError>
@@ -143,7 +143,7 @@ fn due_pickle_step(
 /// The steps that are due, each beside the stream's step at its place.
 fn due_pickle_steps(
     alloc: Global,
-    ids: &[Text],
+    ids: &[NodeId],
     beside: &[PickleStep],
     due: &[DueStep],
 ) -> Result<Sequence<PickleStep>, AllocError>
@@ -158,7 +158,7 @@ fn due_pickle_steps(
 }
 
 /// A tag that is due.
-fn due_tag(alloc: Global, ids: &[Text], due: &DueTag) -> Result<PickleTag, AllocError>
+fn due_tag(alloc: Global, ids: &[NodeId], due: &DueTag) -> Result<PickleTag, AllocError>
     ensures { IfOk result (λ t. t ≡ due_tag ids.now due.now) }
 {
     Ok(PickleTag {
@@ -168,7 +168,11 @@ fn due_tag(alloc: Global, ids: &[Text], due: &DueTag) -> Result<PickleTag, Alloc
 }
 
 /// The tags that are due.
-fn due_tags(alloc: Global, ids: &[Text], due: &[DueTag]) -> Result<Sequence<PickleTag>, AllocError>
+fn due_tags(
+    alloc: Global,
+    ids: &[NodeId],
+    due: &[DueTag],
+) -> Result<Sequence<PickleTag>, AllocError>
     ensures { IfOk result (λ ts. ts ≡ map (due_tag ids.now) due.now) }
 {
     let mut tags = Sequence::new(alloc);
@@ -183,7 +187,7 @@ fn due_tags(alloc: Global, ids: &[Text], due: &[DueTag]) -> Result<Sequence<Pick
 pub(crate) fn due_pickle(
     alloc: Global,
     uri: &str,
-    ids: &[Text],
+    ids: &[NodeId],
     beside: &[PickleStep],
     due: &DuePickle,
 ) -> Result<Pickle, AllocError>

@@ -2,15 +2,14 @@
 //!
 //! ```
 //! use cm_differs::{Difference, pickle_difference};
-//! use cm_envelope::Pickle;
-//! use gk_document::Text;
+//! use cm_envelope::{NodeId, Pickle};
 //! use gk_pickle::Pickle as DuePickle;
 //! use std::alloc::{AllocError, Global};
 //!
 //! /// What the pickles at one place differ in, where the document's nodes have these ids.
 //! fn at_one_place(
 //!     alloc: Global,
-//!     ids: &[Text],
+//!     ids: &[NodeId],
 //!     due: &DuePickle,
 //!     found: &Pickle,
 //! ) -> Result<Difference, AllocError> {

@@ -1,4 +1,5 @@
 //! The envelopes of a stream of Cucumber Messages, with the members that are judged.
+use crate::node_id::NodeId;
 use crate::pickle::Pickle;
 use gk_document::{Document, Sequence, Text};
 
@@ -41,7 +42,7 @@ pub struct GherkinDocument {
     pub uri: Text,
     pub document: Document,
     /// The id of each node, in the order of their numbers.
-    pub ids: Sequence<Text>,
+    pub ids: Sequence<NodeId>,
 }
 
 /// A feature file that the producer could not parse.

@@ -26,6 +26,8 @@ mod fault;
 mod feed;
 mod kind;
 mod member;
+mod node_id;
+mod nodes;
 mod object;
 mod pickle;
 mod read_documents;
@@ -47,6 +49,7 @@ pub use envelope::{
 };
 pub use fault::{EnvelopeFault, LineFault};
 pub use feed::{Feed, LINE_LIMIT, STREAM_LIMIT, Trouble};
+pub use node_id::{NodeId, id_of};
 pub use pickle::{
     Pickle, PickleArgument, PickleCell, PickleDocString, PickleRow, PickleStep, PickleTable,
     PickleTag, StepKind,

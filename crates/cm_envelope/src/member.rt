@@ -1,12 +1,12 @@
 //! Members of a JSON object, by name. Null is absence.
-ghost use Rattle.std.specs.Prelude.{◌≡◌, option_map, option_and_then};
+ghost use Rattle.std.specs.Prelude.{◌≡◌, option_map, option_and_then, Result};
 ghost use Rattle.serde_json.specs.Find.{as_str, as_bool};
-ghost use Rattle.serde_json.specs.View.{view};
-ghost use Rattle.cm_envelope.specs.Member.{GivesMember, present_member, required_member, optional_member, optional_or, as_whole_number, has_both as has_both_members, media_type_member};
+ghost use Rattle.serde_json.specs.View.{view, items_view};
+ghost use Rattle.cm_envelope.specs.Member.{GivesMember, present_member, required_member, optional_member, optional_or, as_whole_number, has_both as has_both_members, media_type_member, items_in, GivesMemberOf, list_of_values, each, good};
 ghost use Rattle.gk_document.specs.MediaType.{unless_empty};
 
 use crate::fault::MemberFault;
-use gk_document::Text;
+use gk_document::{Sequence, Text};
 use serde_json::Value;
 use std::alloc::Global;
 
@@ -96,4 +96,58 @@ fn unless_empty(text: Option<Text>) -> Option<Text>
         Some(text) => gk_document::media_type(text),
         None => None,
     }
+}
+
+/// The items of a list. An absent list is empty.
+pub(crate) fn items<'v>(object: &'v Value, name: &'static str) -> Result<&'v [Value], MemberFault>
+    ensures { GivesMemberOf (λ values. items_view values.now) result
+        (items_in name.now (present_member name.now (view object.now))) }
+{
+    let Some(member) = present(object, name) else {
+        return Ok(&[]);
+    };
+    match member.as_array() {
+        Some(values) => Ok(values),
+        None => Err(MemberFault::Bad(name)),
+    }
+}
+
+pub(crate) fn texts(
+    alloc: Global,
+    object: &Value,
+    name: &'static str,
+) -> Result<Sequence<Text>, MemberFault>
+    ensures { GivesMember result (list_of_values as_str name.now (view object.now)) }
+{
+    let Some(member) = present(object, name) else {
+        return Ok(Sequence::from(Vec::new(alloc)));
+    };
+    match member.as_array() {
+        Some(values) => each_text(alloc, values, name),
+        None => Err(MemberFault::Bad(name)),
+    }
+}
+
+fn text_item(alloc: Global, value: &Value, name: &'static str) -> Result<Text, MemberFault>
+    ensures { GivesMember result (good name.now (as_str (view value.now))) }
+{
+    match value.as_str() {
+        Some(text) => Ok(Text::copy_of(alloc, text)?),
+        None => Err(MemberFault::Bad(name)),
+    }
+}
+
+fn each_text(
+    alloc: Global,
+    values: &[Value],
+    name: &'static str,
+) -> Result<Sequence<Text>, MemberFault>
+    ensures { GivesMember result (each (λ e. good name.now (as_str e)) (items_view values.now)) }
+{
+    let mut texts = Vec::new(alloc);
+    for value in values {
+        let text = text_item(alloc, value, name)?;
+        texts.push(text)?;
+    }
+    Ok(Sequence::from(texts))
 }

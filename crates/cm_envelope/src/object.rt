@@ -1,13 +1,12 @@
 //! Objects within an envelope, and lists of them.
 ghost use Rattle.std.specs.Prelude.{List, Result, ℕ};
 ghost use Rattle.serde_json.specs.Data.{Data};
-ghost use Rattle.serde_json.specs.Find.{as_str};
 ghost use Rattle.serde_json.specs.View.{view, items_view};
-ghost use Rattle.cm_envelope.specs.Member.{GivesMember, nested_member, optional_nested_member, items_in, present_member, GivesMemberOf, list_of as list_of_objects, list_of_values, each, object_in, good};
+ghost use Rattle.cm_envelope.specs.Member.{GivesMember, nested_member, optional_nested_member, list_of as list_of_objects, each, object_in};
 
 use crate::fault::MemberFault;
 use crate::member::present;
-use gk_document::{Sequence, Text};
+use gk_document::Sequence;
 use serde_json::Value;
 use std::alloc::Global;
 
@@ -58,20 +57,6 @@ pub(crate) fn optional_nested<T: ReadObject>(
     }
 }
 
-/// The items of a list. An absent list is empty.
-pub(crate) fn items<'v>(object: &'v Value, name: &'static str) -> Result<&'v [Value], MemberFault>
-    ensures { GivesMemberOf (λ values. items_view values.now) result
-        (items_in name.now (present_member name.now (view object.now))) }
-{
-    let Some(member) = present(object, name) else {
-        return Ok(&[]);
-    };
-    match member.as_array() {
-        Some(values) => Ok(values),
-        None => Err(MemberFault::Bad(name)),
-    }
-}
-
 pub(crate) fn list_of<T: ReadObject + Drop>(
     alloc: Global,
     object: &Value,
@@ -101,44 +86,4 @@ fn objects<T: ReadObject + Drop>(
         objects.push(object)?;
     }
     Ok(Sequence::from(objects))
-}
-
-pub(crate) fn texts(
-    alloc: Global,
-    object: &Value,
-    name: &'static str,
-) -> Result<Sequence<Text>, MemberFault>
-    ensures { GivesMember result (list_of_values as_str name.now (view object.now)) }
-{
-    let Some(member) = present(object, name) else {
-        return Ok(Sequence::from(Vec::new(alloc)));
-    };
-    match member.as_array() {
-        Some(values) => each_text(alloc, values, name),
-        None => Err(MemberFault::Bad(name)),
-    }
-}
-
-fn text_item(alloc: Global, value: &Value, name: &'static str) -> Result<Text, MemberFault>
-    ensures { GivesMember result (good name.now (as_str (view value.now))) }
-{
-    match value.as_str() {
-        Some(text) => Ok(Text::copy_of(alloc, text)?),
-        None => Err(MemberFault::Bad(name)),
-    }
-}
-
-fn each_text(
-    alloc: Global,
-    values: &[Value],
-    name: &'static str,
-) -> Result<Sequence<Text>, MemberFault>
-    ensures { GivesMember result (each (λ e. good name.now (as_str e)) (items_view values.now)) }
-{
-    let mut texts = Vec::new(alloc);
-    for value in values {
-        let text = text_item(alloc, value, name)?;
-        texts.push(text)?;
-    }
-    Ok(Sequence::from(texts))
 }

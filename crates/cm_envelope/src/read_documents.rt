@@ -1,14 +1,15 @@
 //! How a feature's tree is read, member by member, with the ids of its nodes.
 ghost use Rattle.std.specs.Prelude.{◌≡◌, [], codes};
-ghost use Rattle.serde_json.specs.Data.{Data};
 ghost use Rattle.serde_json.specs.View.{view, items_view};
 ghost use Rattle.cm_envelope.specs.Member.{GivesMember, GivesMemberOf, all_items, required_member};
-ghost use Rattle.cm_envelope.specs.Documents.{GivesNode, NodeRead, Ids, node_in, optional_node_in, optional_node as optional_node_of, each_node, nodes_of as nodes_of_member, children_of, background_in, rank_of as rank_of_child, are_in_order as children_are_in_order, children_in as children_in_member, as_line, location, cell, doc_string, mark, title, node_number, tag, row, data_table, argument_of, argument, heading, step, background, is_empty, is_object, table_of_rows, body_rows, example_table as example_table_of, tagged_heading, examples, scenario, body, rule_node, feature_heading, feature_body, feature, gherkin_document};
+ghost use Rattle.cm_envelope.specs.Documents.{GivesNode, node_in, optional_node_in, each_node, children_of, background_in, rank_of as rank_of_child, are_in_order as children_are_in_order, children_in as children_in_member, as_line, location, cell, doc_string, mark, title, tag, row, data_table, argument_of, argument, heading, step, background, is_empty, is_object, table_of_rows, body_rows, example_table as example_table_of, tagged_heading, examples, scenario, body, rule_node, feature_heading, feature_body, feature, gherkin_document};
 
 use crate::envelope::GherkinDocument;
 use crate::fault::MemberFault;
-use crate::member::{has_both, media_type, present, text};
-use crate::object::{ReadObject, items, list_of, nested, optional_nested};
+use crate::member::{has_both, items, media_type, present, text};
+use crate::node_id::NodeId;
+use crate::nodes::{ReadNode, node_id, node_in_member, nodes, nodes_of, numbered, optional_node};
+use crate::object::{ReadObject, list_of, nested, optional_nested};
 use gk_document::{
     Argument, Background, Cell, DocString, Document, ExampleTable, Examples, Feature, Fence,
     KeywordType, Location, Row, Rule, Scenario, Sequence, Step, Tag, Text,
@@ -16,78 +17,12 @@ use gk_document::{
 use serde_json::Value;
 use std::alloc::Global;
 
-/// What is read from a node's members; the ids of the nodes are kept in the order of the nodes.
-pub(crate) trait ReadNode: Sized {
-    ghost reads: { Ids → Data → NodeRead Self };
-
-    fn read(alloc: Global, object: &Value, ids: &mut Sequence<Text>) -> Result<Self, MemberFault>
-        ensures { GivesNode result ids.new (reads ids.old (view object.now)) };
-}
-
-fn node_in_member<T: ReadNode>(
-    alloc: Global,
-    value: &Value,
-    name: &'static str,
-    ids: &mut Sequence<Text>,
-) -> Result<T, MemberFault>
-    ensures { GivesNode result ids.new (node_in name.now T.reads ids.old (view value.now)) }
-{
-    if !value.is_object() {
-        return Err(MemberFault::Bad(name));
-    }
-    T::read(alloc, value, ids)
-}
-
-fn optional_node<T: ReadNode>(
-    alloc: Global,
-    object: &Value,
-    name: &'static str,
-    ids: &mut Sequence<Text>,
-) -> Result<Option<T>, MemberFault>
-    ensures { GivesNode result ids.new (optional_node_of T.reads name.now ids.old
-        (view object.now)) }
-{
-    match present(object, name) {
-        Some(value) => Ok(Some(node_in_member(alloc, value, name, ids)?)),
-        None => Ok(None),
-    }
-}
-
-fn nodes<T: ReadNode + Drop>(
-    alloc: Global,
-    values: &[Value],
-    name: &'static str,
-    ids: &mut Sequence<Text>,
-) -> Result<Sequence<T>, MemberFault>
-    ensures { GivesNode result ids.new
-        (each_node (node_in name.now T.reads) ids.old (items_view values.now)) }
-{
-    let mut nodes = Sequence::new(alloc);
-    for value in values {
-        let node = node_in_member(alloc, value, name, ids)?;
-        nodes.push(node)?;
-    }
-    Ok(nodes)
-}
-
-fn nodes_of<T: ReadNode + Drop>(
-    alloc: Global,
-    object: &Value,
-    name: &'static str,
-    ids: &mut Sequence<Text>,
-) -> Result<Sequence<T>, MemberFault>
-    ensures { GivesNode result ids.new (nodes_of_member T.reads name.now ids.old
-        (view object.now)) }
-{
-    nodes(alloc, items(object, name)?, name, ids)
-}
-
 /// The children of one kind.
 fn children<T: ReadNode + Drop>(
     alloc: Global,
     values: &[Value],
     name: &'static str,
-    ids: &mut Sequence<Text>,
+    ids: &mut Sequence<NodeId>,
 ) -> Result<Sequence<T>, MemberFault>
     ensures { GivesNode result ids.new
         (each_node (node_in name.now T.reads) ids.old
@@ -107,7 +42,7 @@ fn children<T: ReadNode + Drop>(
 fn first_background(
     alloc: Global,
     children: &[Value],
-    ids: &mut Sequence<Text>,
+    ids: &mut Sequence<NodeId>,
 ) -> Result<Option<Background>, MemberFault>
     ensures { GivesNode result ids.new
         (optional_node_in background (codes "background") ids.old
@@ -209,7 +144,7 @@ impl ReadObject for DocString {
 /// What a node that has an id begins with.
 #[derive(Drop)]
 struct Mark {
-    id: Text,
+    id: NodeId,
     location: Location,
 }
 
@@ -217,24 +152,15 @@ fn read_mark(alloc: Global, object: &Value) -> Result<Mark, MemberFault>
     ensures { GivesMember result (mark (view object.now)) }
 {
     Ok(Mark {
-        id: text(alloc, object, "id")?,
+        id: node_id(alloc, object, "id")?,
         location: nested(alloc, object, "location")?,
     })
-}
-
-/// The number of the node that has this id; the id is kept.
-fn numbered(id: Text, ids: &mut Sequence<Text>) -> Result<u64, MemberFault>
-    ensures { GivesNode result ids.new (node_number id ids.old) }
-{
-    let node = ids.len() as u64;
-    ids.push(id)?;
-    Ok(node)
 }
 
 impl ReadNode for Tag {
     ghost reads = { tag };
 
-    fn read(alloc: Global, object: &Value, ids: &mut Sequence<Text>) -> Result<Tag, MemberFault> {
+    fn read(alloc: Global, object: &Value, ids: &mut Sequence<NodeId>) -> Result<Tag, MemberFault> {
         let mark = read_mark(alloc, object)?;
         let name = text(alloc, object, "name")?;
         Ok(Tag {
@@ -248,7 +174,7 @@ impl ReadNode for Tag {
 impl ReadNode for Row {
     ghost reads = { row };
 
-    fn read(alloc: Global, object: &Value, ids: &mut Sequence<Text>) -> Result<Row, MemberFault> {
+    fn read(alloc: Global, object: &Value, ids: &mut Sequence<NodeId>) -> Result<Row, MemberFault> {
         let mark = read_mark(alloc, object)?;
         let cells = list_of(alloc, object, "cells")?;
         Ok(Row {
@@ -288,7 +214,7 @@ fn read_heading(
     alloc: Global,
     object: &Value,
     name: &'static str,
-    ids: &mut Sequence<Text>,
+    ids: &mut Sequence<NodeId>,
 ) -> Result<Heading, MemberFault>
     ensures { GivesNode result ids.new (heading name.now ids.old (view object.now)) }
 {
@@ -313,7 +239,7 @@ struct TaggedHeading {
 fn read_tagged_heading(
     alloc: Global,
     object: &Value,
-    ids: &mut Sequence<Text>,
+    ids: &mut Sequence<NodeId>,
 ) -> Result<TaggedHeading, MemberFault>
     ensures { GivesNode result ids.new (tagged_heading ids.old (view object.now)) }
 {
@@ -340,7 +266,7 @@ impl ReadNode for DataTable {
     fn read(
         alloc: Global,
         object: &Value,
-        ids: &mut Sequence<Text>,
+        ids: &mut Sequence<NodeId>,
     ) -> Result<DataTable, MemberFault> {
         Ok(DataTable {
             rows: nodes_of(alloc, object, "rows", ids)?,
@@ -363,7 +289,7 @@ fn argument_of(table: Option<DataTable>, text: Option<DocString>) -> Option<Argu
 fn read_argument(
     alloc: Global,
     object: &Value,
-    ids: &mut Sequence<Text>,
+    ids: &mut Sequence<NodeId>,
 ) -> Result<Option<Argument>, MemberFault>
     ensures { GivesNode result ids.new (argument ids.old (view object.now)) }
 {
@@ -378,7 +304,11 @@ fn read_argument(
 impl ReadNode for Step {
     ghost reads = { step };
 
-    fn read(alloc: Global, object: &Value, ids: &mut Sequence<Text>) -> Result<Step, MemberFault> {
+    fn read(
+        alloc: Global,
+        object: &Value,
+        ids: &mut Sequence<NodeId>,
+    ) -> Result<Step, MemberFault> {
         let heading = read_heading(alloc, object, "text", ids)?;
         let argument = read_argument(alloc, object, ids)?;
         Ok(Step {
@@ -398,7 +328,7 @@ impl ReadNode for Background {
     fn read(
         alloc: Global,
         object: &Value,
-        ids: &mut Sequence<Text>,
+        ids: &mut Sequence<NodeId>,
     ) -> Result<Background, MemberFault> {
         let heading = read_heading(alloc, object, "name", ids)?;
         let steps = nodes_of(alloc, object, "steps", ids)?;
@@ -466,7 +396,7 @@ fn body_rows(object: &Value, has_header: bool) -> Result<&[Value], MemberFault>
 fn example_table(
     alloc: Global,
     object: &Value,
-    ids: &mut Sequence<Text>,
+    ids: &mut Sequence<NodeId>,
 ) -> Result<Option<ExampleTable>, MemberFault>
     ensures { GivesNode result ids.new (example_table_of ids.old (view object.now)) }
 {
@@ -482,7 +412,7 @@ impl ReadNode for Examples {
     fn read(
         alloc: Global,
         object: &Value,
-        ids: &mut Sequence<Text>,
+        ids: &mut Sequence<NodeId>,
     ) -> Result<Examples, MemberFault> {
         let heading = read_tagged_heading(alloc, object, ids)?;
         let table = example_table(alloc, object, ids)?;
@@ -504,7 +434,7 @@ impl ReadNode for Scenario {
     fn read(
         alloc: Global,
         object: &Value,
-        ids: &mut Sequence<Text>,
+        ids: &mut Sequence<NodeId>,
     ) -> Result<Scenario, MemberFault> {
         let heading = read_tagged_heading(alloc, object, ids)?;
         let steps = nodes_of(alloc, object, "steps", ids)?;
@@ -532,7 +462,7 @@ struct Body {
 fn read_body(
     alloc: Global,
     members: &[Value],
-    ids: &mut Sequence<Text>,
+    ids: &mut Sequence<NodeId>,
 ) -> Result<Body, MemberFault>
     ensures { GivesNode result ids.new (body ids.old (items_view members.now)) }
 {
@@ -545,7 +475,11 @@ fn read_body(
 impl ReadNode for Rule {
     ghost reads = { rule_node };
 
-    fn read(alloc: Global, object: &Value, ids: &mut Sequence<Text>) -> Result<Rule, MemberFault> {
+    fn read(
+        alloc: Global,
+        object: &Value,
+        ids: &mut Sequence<NodeId>,
+    ) -> Result<Rule, MemberFault> {
         let heading = read_tagged_heading(alloc, object, ids)?;
         let members = children_in(object, false)?;
         let body = read_body(alloc, members, ids)?;
@@ -574,7 +508,7 @@ struct FeatureHeading {
 fn read_feature_heading(
     alloc: Global,
     object: &Value,
-    ids: &mut Sequence<Text>,
+    ids: &mut Sequence<NodeId>,
 ) -> Result<FeatureHeading, MemberFault>
     ensures { GivesNode result ids.new (feature_heading ids.old (view object.now)) }
 {
@@ -596,7 +530,7 @@ struct FeatureBody {
 fn read_feature_body(
     alloc: Global,
     object: &Value,
-    ids: &mut Sequence<Text>,
+    ids: &mut Sequence<NodeId>,
 ) -> Result<FeatureBody, MemberFault>
     ensures { GivesNode result ids.new (feature_body ids.old (view object.now)) }
 {
@@ -613,7 +547,7 @@ impl ReadNode for Feature {
     fn read(
         alloc: Global,
         object: &Value,
-        ids: &mut Sequence<Text>,
+        ids: &mut Sequence<NodeId>,
     ) -> Result<Feature, MemberFault> {
         let heading = read_feature_heading(alloc, object, ids)?;
         let children = read_feature_body(alloc, object, ids)?;

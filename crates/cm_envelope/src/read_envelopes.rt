@@ -11,8 +11,8 @@ use crate::envelope::{
     TestRunStarted, TestStep, TestStepFinished, TestStepResult, TestStepStarted,
 };
 use crate::fault::MemberFault;
-use crate::member::{flag, flag_or, optional_text, present, text, whole_number_or};
-use crate::object::{ReadObject, list_of, nested, texts};
+use crate::member::{flag, flag_or, optional_text, present, text, texts, whole_number_or};
+use crate::object::{ReadObject, list_of, nested};
 use serde_json::Value;
 use std::alloc::Global;
 

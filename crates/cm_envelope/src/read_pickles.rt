@@ -5,8 +5,8 @@ ghost use Rattle.cm_envelope.specs.Member.{GivesMember, optional_member};
 ghost use Rattle.cm_envelope.specs.Pickles.{step_kind_of, as_step_kind, pickle_texts, pickle_lists, pickle, pickle_tag, pickle_step, pickle_argument, argument_of, pickle_table, pickle_row, pickle_cell, pickle_doc_string, argument as argument_member};
 
 use crate::fault::MemberFault;
-use crate::member::{has_both, media_type, present, text};
-use crate::object::{ReadObject, list_of, optional_nested, texts};
+use crate::member::{has_both, media_type, present, text, texts};
+use crate::object::{ReadObject, list_of, optional_nested};
 use crate::pickle::{
     Pickle, PickleArgument, PickleCell, PickleDocString, PickleRow, PickleStep, PickleTable,
     PickleTag, StepKind,

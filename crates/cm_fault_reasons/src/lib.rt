@@ -3,6 +3,7 @@
 #![tactic(auto)]
 
 mod at_line;
+mod attempts;
 mod duplicate;
 mod run;
 mod scenario;

@@ -1,10 +1,10 @@
 //! What is kept of a stream's envelopes for its release.
 ghost use Rattle.std.specs.Prelude.{◌≡◌, ◌++◌, ◌∷◌, [], List, IfOk, OnOk, filter};
-ghost use Rattle.cm_stream.specs.Release.{is_unmatched};
-ghost use Rattle.cm_release.specs.Kept.{case_entry, kept_nothing, pickle_entry, start_entry, unmatched_ids};
+ghost use Rattle.cm_release.specs.Kept.{case_entry, kept_nothing, pickle_entry, start_entry};
 
+use crate::undefined::unmatched_of;
 use cm_cases::tag_names;
-use cm_envelope::{Pickle, TestCase, TestCaseStarted, TestStep};
+use cm_envelope::{Pickle, TestCase, TestCaseStarted};
 use gk_document::{Sequence, Text};
 use std::alloc::{AllocError, Global};
 
@@ -74,26 +74,6 @@ pub(crate) fn pickle_entry(alloc: Global, pickle: &Pickle) -> Result<PickleEntry
         tags: tag_names(alloc, pickle.tags.as_slice())?,
         is_stepless: pickle.steps.len() == 0,
     })
-}
-
-/// Whether the step is of a pickle's step, and no step definition matches it.
-fn is_unmatched(step: &TestStep) -> bool
-    ensures { result ≡ is_unmatched step.now }
-{
-    step.pickle_step_id.is_some() && step.step_definition_ids.len() == 0
-}
-
-/// The ids of the steps that are of a pickle and that no step definition matches.
-fn unmatched_of(alloc: Global, steps: &[TestStep]) -> Result<Sequence<Text>, AllocError>
-    ensures { IfOk result (λ ids. ids ≡ unmatched_ids steps.now) }
-{
-    let mut ids = Sequence::new(alloc);
-    for step in steps {
-        if is_unmatched(step) {
-            ids.push(Text::copy_of(alloc, step.id.as_str())?)?;
-        }
-    }
-    Ok(ids)
 }
 
 /// What is kept of a case.

@@ -6,12 +6,16 @@ ghost use Rattle.std.specs.Str.{bytes_eq};
 ghost use Rattle.cm_cases.specs.Firsts.{HasFirsts, value_at};
 ghost use Rattle.cm_reasons.specs.Reasons.{step_ids};
 ghost use Rattle.cm_release.specs.Counts.{has_step, is_end_by, is_undefined_by, is_undefined_in, passes_in, steps_passing, undefined_steps_in};
+ghost use Rattle.cm_stream.specs.Release.{is_unmatched};
+ghost use Rattle.cm_release.specs.Kept.{unmatched_ids};
 
 use crate::kept::{CaseEntry, FinishEntry, Kept, StartEntry};
 use crate::texts::{StartId, TextSet};
 use cm_attempt::Policy;
 use cm_cases::{ByText, add_first, firsts_of};
+use cm_envelope::TestStep;
 use cm_reasons::CaseStep;
+use gk_document::{Sequence, Text};
 use indexmap::{IndexMap, IndexSet};
 use std::alloc::{AllocError, Global};
 use std::hash::RandomState;
@@ -226,4 +230,24 @@ impl<'a> Undefined<'a> {
             steps: steps_of_cases(alloc, &passed, kept.cases.as_slice())?,
         })
     }
+}
+
+/// Whether the step is of a pickle's step, and no step definition matches it.
+fn is_unmatched(step: &TestStep) -> bool
+    ensures { result ≡ is_unmatched step.now }
+{
+    step.pickle_step_id.is_some() && step.step_definition_ids.len() == 0
+}
+
+/// The ids of the steps that are of a pickle and that no step definition matches.
+pub(crate) fn unmatched_of(alloc: Global, steps: &[TestStep]) -> Result<Sequence<Text>, AllocError>
+    ensures { IfOk result (λ ids. ids ≡ unmatched_ids steps.now) }
+{
+    let mut ids = Sequence::new(alloc);
+    for step in steps {
+        if is_unmatched(step) {
+            ids.push(Text::copy_of(alloc, step.id.as_str())?)?;
+        }
+    }
+    Ok(ids)
 }

@@ -10,12 +10,12 @@ ghost use Rattle.cm_source_reasons.specs.SourceReasons.{due_line};
 
 use crate::sides::add_uri;
 use cm_cases::Places;
-use gk_document::{Text, id_of};
+use cm_envelope::{NodeId, id_of};
 use gk_pickle::{Pickle, PickleTitle};
 use std::alloc::AllocError;
 
 /// The id of the last of some nodes.
-fn last_node<'a>(ids: &'a [Text], nodes: &[u64]) -> &'a str
+fn last_node<'a>(ids: &'a [NodeId], nodes: &[u64]) -> &'a str
     ensures { result.now ≡ unwrap_or (last_of (ids_at ids.now nodes.now)) [] }
 {
     match nodes.last() {
@@ -29,7 +29,7 @@ fn last_node<'a>(ids: &'a [Text], nodes: &[u64]) -> &'a str
 #[derive(Drop)]
 pub(crate) struct DueLines<'a, 'p> {
     pub uri: &'a str,
-    pub ids: &'a [Text],
+    pub ids: &'a [NodeId],
     pub places: &'a Places<'p>,
 }
 

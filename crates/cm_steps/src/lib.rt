@@ -29,7 +29,8 @@
 
 mod attempts;
 mod listing;
-mod told;
+mod rows;
+mod step_lines;
 
 pub use attempts::Started;
 pub use listing::{StepListing, is_quiet};

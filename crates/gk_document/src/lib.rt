@@ -22,7 +22,7 @@ mod tree;
 
 pub use sequence::Sequence;
 pub use skeleton::{Bare, are_like, both_like, same_skeleton};
-pub use text::{Text, id_of};
+pub use text::Text;
 pub use tree::{
     Argument, Background, Cell, Comment, DocString, Document, ExampleTable, Examples, Feature,
     Fence, KeywordType, Location, Row, Rule, Scenario, Step, Tag, media_type,

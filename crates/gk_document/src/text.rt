@@ -1,5 +1,5 @@
 //! The texts of a document.
-ghost use Rattle.std.specs.Prelude.{◌≡◌, ◌↔◌, [], length, IfOk, IsTrue, slice_get, string_bytes, unwrap_or, bytes_eq};
+ghost use Rattle.std.specs.Prelude.{◌≡◌, ◌↔◌, [], length, IfOk, IsTrue, string_bytes, bytes_eq};
 ghost use Rattle.std.specs.Cmp.{partial_equiv_from_equiv};
 ghost use Rattle.std.specs.Cmp.Lexicographic.{nat_list_eq_equiv};
 
@@ -83,14 +83,4 @@ impl PartialEq for Text {
 
 impl Eq for Text {
     ghost laws = { nat_list_eq_equiv };
-}
-
-/// The id of a node, where `ids` are those of a document's nodes by their numbers. It is empty where there is none.
-pub fn id_of(ids: &[Text], node: u64) -> &str
-    ensures { result.now ≡ unwrap_or (slice_get ids.now node) [] }
-{
-    match ids.get(node as usize) {
-        Some(id) => id.as_str(),
-        None => "",
-    }
 }

@@ -1,17 +1,21 @@
 //! The lines inside a doc string.
-ghost use Rattle.std.specs.Prelude.{◌≡◌, ◌≤◌, ◌∷◌, ◌+◌, ◌++◌, drop, length, IfOk, IsOk, OnErr, OnOk, IsTrue};
+ghost use Rattle.std.specs.Prelude.{◌≡◌, ◌≤◌, ◌∷◌, ◌+◌, ◌++◌, length, IfOk, IsOk, OnErr, OnOk, IsTrue, codes, nat_eq, IfSome};
 ghost use Rattle.std.specs.Char.{is_ascii};
-ghost use Rattle.std.specs.List.{list_all};
+ghost use Rattle.std.specs.List.{list_all, list_any};
 ghost use Rattle.std.specs.Str.{chars, IsUtf8};
 ghost use Rattle.std.specs.String.{string_bytes, string_capacity, string_len};
 ghost use Rattle.gk_line.specs.declared.limit.TheConstants.{FEATURE_LIMIT};
 ghost use Rattle.gk_document.specs.Fences.{fence_characters, fence_mark};
 ghost use Rattle.gk_line.specs.DocStrings.{doc_line_of, outdented_line, fences_unescaped, escaped_mark};
 ghost use Rattle.gk_line.specs.Characters.{backslash};
-ghost use Rattle.gk_line.specs.Views.{line_chars};
+ghost use Rattle.gk_line.specs.Views.{line_chars, fence_text};
+ghost use Rattle.std.specs.Option.{option_map};
+ghost use Rattle.gk_line.specs.Places.{IsAtColumn};
+ghost use Rattle.gk_line.specs.Tokens.{fence_of};
 
-use crate::texts::{after_first, ascii_spaces, cut, leading_space, strip, trim_start};
-use crate::tokens::Line;
+use crate::kinds::column;
+use crate::texts::{ascii_spaces, cut, first_byte, leading_space, skip, strip, trim, trim_start};
+use crate::tokens::{FenceLine, Line};
 use gk_document::Fence;
 use std::alloc::{AllocError, Global};
 
@@ -114,16 +118,39 @@ fn outdent(text: &str, indent: u32) -> &str
     }
 }
 
-/// What follows the first characters, where `count` says how many.
-fn skip(text: &str, count: u32) -> &str
-    ensures { chars result.now ≡ drop count (chars text.now) }
+/// The fence that the line reads as: after its indent three quotation marks or three backticks, and the media type.
+///
+/// Source: Gherkin reference, "Doc Strings"; `gherkin.berp`, `DocStringSeparator`.
+#[tactic(auto, unfolding(crate::specs::Tokens::fence_of, crate::specs::Texts::first_some))]
+pub fn fence<'a>(line: Line<'a>) -> Option<FenceLine<'a>>
+    requires { length line.text.now ≤ FEATURE_LIMIT }
+    ensures value { option_map fence_text result ≡ fence_of (line_chars line.entry) }
+    ensures place { IfSome result (λ fence. IsAtColumn (line_chars line.entry)
+        (fence_characters fence.fence) (chars fence.media.now) fence.column) }
+    ensures utf8 { IfSome result (λ fence. IsUtf8 fence.media.now) }
 {
-    let mut rest = text;
-    for i in 0..count {
-        match after_first(rest) {
-            Some(next) => rest = next,
-            None => return rest,
-        }
+    let body = trim_start(line.text);
+    if !begins_fence(first_byte(body)) {
+        return None;
     }
-    rest
+    if let Some(rest) = strip(body, "\"\"\"") {
+        return Some(FenceLine {
+            fence: Fence::Quotes,
+            media: trim(rest),
+            column: column(line),
+        });
+    }
+    let rest = strip(body, "```")?;
+    Some(FenceLine {
+        fence: Fence::Backticks,
+        media: trim(rest),
+        column: column(line),
+    })
+}
+
+/// Whether a fence begins with this byte.
+fn begins_fence(byte: u8) -> bool
+    ensures { result ≡ list_any (nat_eq byte) (codes "\"`") }
+{
+    byte == b'"' || byte == b'`'
 }

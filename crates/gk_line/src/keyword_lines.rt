@@ -4,15 +4,14 @@ ghost use Rattle.std.specs.List.{list_any, list_all};
 ghost use Rattle.std.specs.Str.{chars, bytes_eq, IsUtf8};
 ghost use Rattle.std.specs.Option.{option_map};
 ghost use Rattle.gk_line.specs.declared.limit.TheConstants.{FEATURE_LIMIT};
-ghost use Rattle.gk_document.specs.Fences.{fence_characters};
 ghost use Rattle.gk_line.specs.Places.{IsAtColumn};
-ghost use Rattle.gk_line.specs.Tokens.{title_of, block_title_of, blocks, step_of, fence_of, language_of, title_keywords, step_words, is_language_word, is_word_character};
-ghost use Rattle.gk_line.specs.Views.{line_chars, title_text, step_text, fence_text};
+ghost use Rattle.gk_line.specs.Tokens.{title_of, block_title_of, blocks, step_of, language_of, title_keywords, step_words, is_language_word, is_word_character};
+ghost use Rattle.gk_line.specs.Views.{line_chars, title_text, step_text};
 
 use crate::kinds::column;
 use crate::texts::{cut, first_byte, strip, trim, trim_start};
-use crate::tokens::{Block, FenceLine, Line, StepLine, Title};
-use gk_document::{Fence, KeywordType};
+use crate::tokens::{Block, Line, StepLine, Title};
+use gk_document::KeywordType;
 
 /// The block that the line is the title of, and that title: after its indent one of the block's keywords, at once a
 /// colon, and the name. No line is the title of two blocks.
@@ -150,43 +149,6 @@ fn keyword_type(word: &str) -> Option<KeywordType>
     } else {
         None
     }
-}
-
-/// The fence that the line reads as: after its indent three quotation marks or three backticks, and the media type.
-///
-/// Source: Gherkin reference, "Doc Strings"; `gherkin.berp`, `DocStringSeparator`.
-#[tactic(auto, unfolding(crate::specs::Tokens::fence_of, crate::specs::Texts::first_some))]
-pub fn fence<'a>(line: Line<'a>) -> Option<FenceLine<'a>>
-    requires { length line.text.now ≤ FEATURE_LIMIT }
-    ensures value { option_map fence_text result ≡ fence_of (line_chars line.entry) }
-    ensures place { IfSome result (λ fence. IsAtColumn (line_chars line.entry)
-        (fence_characters fence.fence) (chars fence.media.now) fence.column) }
-    ensures utf8 { IfSome result (λ fence. IsUtf8 fence.media.now) }
-{
-    let body = trim_start(line.text);
-    if !begins_fence(first_byte(body)) {
-        return None;
-    }
-    if let Some(rest) = strip(body, "\"\"\"") {
-        return Some(FenceLine {
-            fence: Fence::Quotes,
-            media: trim(rest),
-            column: column(line),
-        });
-    }
-    let rest = strip(body, "```")?;
-    Some(FenceLine {
-        fence: Fence::Backticks,
-        media: trim(rest),
-        column: column(line),
-    })
-}
-
-/// Whether a fence begins with this byte.
-fn begins_fence(byte: u8) -> bool
-    ensures { result ≡ list_any (nat_eq byte) (codes "\"`") }
-{
-    byte == b'"' || byte == b'`'
 }
 
 /// The word of the language line that the line reads as: `#`, `language`, `:` and one or more ASCII letters, `-` or

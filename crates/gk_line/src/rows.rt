@@ -1,7 +1,7 @@
 //! The cells of a table row.
 ghost use Rattle.std.specs.Prelude.{◌≡◌, ◌==◌, ◌≤◌, ◌<◌, ◌+◌, ◌∷◌, ◌++◌, ◌^◌, map, length, IfOk, IfSome, OnOk, MatchOption, [], if◌then◌else◌, codes, IsTrue};
 ghost use Rattle.std.specs.List.{AllByRecursion};
-ghost use Rattle.std.specs.Str.{chars, IsAscii, IsUtf8, NonePass};
+ghost use Rattle.std.specs.Str.{chars, IsUtf8, NonePass};
 ghost use Rattle.std.specs.String.{string_bytes};
 ghost use Rattle.gk_line.specs.declared.limit.TheConstants.{FEATURE_LIMIT};
 ghost use Rattle.gk_line.specs.Characters.{backslash, vertical_bar};
@@ -10,7 +10,7 @@ ghost use Rattle.gk_line.specs.Tokens.{begins_by};
 ghost use Rattle.gk_line.specs.Views.{line_chars, cell_text};
 
 use crate::kinds::column;
-use crate::texts::{after_first, count, leading_space, strip, trim, trim_start};
+use crate::texts::{after_first, leading_space, strip, trim, trim_start, width};
 use crate::tokens::Line;
 use gk_document::{Cell, Text};
 use memchr::memchr2;
@@ -45,21 +45,6 @@ pub fn cells(alloc: Global, line: Line<'_>) -> Result<Vec<Cell>, AllocError>
         rest = next;
     }
     Ok(cells)
-}
-
-/// How many characters the text has, where it is known whether it is ASCII.
-#[inline(always)]
-fn width(text: &str, is_ascii: bool) -> u32
-    requires short { length text.now < 2 ^ 32 }
-    requires ascii { IsTrue is_ascii → IsAscii text.now }
-    ensures value { result ≡ length (chars text.now) }
-    ensures bound { result ≤ length text.now }
-{
-    if is_ascii {
-        text.len() as u32
-    } else {
-        count(text)
-    }
 }
 
 /// The cell that is written as this text from this column on, where a plain text has no backslash.

@@ -1,7 +1,7 @@
 //! The tags of a tag line.
 ghost use Rattle.std.specs.Prelude.{◌≡◌, ◌≤◌, ◌∷◌, ◌++◌, [], ◌&&◌, ℕ, List, length, map, filter, find, false, codes, is_some, None, IfOk, OnOk, IfErr, IsTrue};
 ghost use Rattle.std.specs.Char.{is_whitespace};
-ghost use Rattle.std.specs.List.{list_any, list_all, AllByRecursion};
+ghost use Rattle.std.specs.List.{list_any, AllByRecursion};
 ghost use Rattle.std.specs.Str.{chars, IsUtf8};
 ghost use Rattle.gk_line.specs.declared.limit.TheConstants.{FEATURE_LIMIT};
 ghost use Rattle.gk_line.specs.Places.{IsAtColumn};
@@ -10,7 +10,10 @@ ghost use Rattle.gk_line.specs.Texts.{after, is_visible_ascii};
 ghost use Rattle.gk_line.specs.Tokens.{begins_by};
 ghost use Rattle.gk_line.specs.Views.{line_chars, tag_word, IsTagFault};
 
-use crate::texts::{after_first, count, cut, leading_space, strip, trim, trim_start};
+use crate::texts::{
+    after_first, begins_with_space, count, cut, is_visible_ascii, leading_space, strip, trim,
+    trim_start,
+};
 use crate::tokens::{Line, TagFault, TagText};
 use std::alloc::{AllocError, Global};
 
@@ -88,13 +91,6 @@ fn has_white_space(word: &str) -> bool
     !is_visible_ascii(word) && word.chars().any(|c| c.is_whitespace())
 }
 
-/// Whether each character is ASCII, and past the space.
-fn is_visible_ascii(word: &str) -> bool
-    ensures { result ≡ list_all is_visible_ascii word.now }
-{
-    word.bytes().all(|b| b > b' ' && b < 128)
-}
-
 /// The text up to the first white space that `#` follows.
 fn without_comment(text: &str) -> &str
     ensures value { chars result.now ≡ uncommented_line (chars text.now) }
@@ -127,15 +123,4 @@ fn begins_comment(text: &str, next: &str) -> bool
         → result ≡ (is_whitespace c && is_some (after (codes "#") (chars next.now))) }
 {
     begins_with_space(text) && strip(next, "#").is_some()
-}
-
-/// Whether the text begins with white space.
-fn begins_with_space(text: &str) -> bool
-    ensures { (c : ℕ) (rest : List ℕ)
-        → chars text.now ≡ c ∷ rest → result ≡ is_whitespace c }
-{
-    match text.chars().next() {
-        Some(c) => c.is_whitespace(),
-        None => false,
-    }
 }

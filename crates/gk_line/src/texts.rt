@@ -1,10 +1,10 @@
 //! The text functions that the readings of a line use, by characters.
-ghost use Rattle.std.specs.Prelude.{◌≡◌, ◌≤◌, ◌+◌, ◌-◌, false, [], ◌<◌, ◌==◌, ◌∷◌, ◌++◌, IsTrue, IfSome, MatchOption, length, drop, slice_index, is_some, ◌^◌};
+ghost use Rattle.std.specs.Prelude.{◌≡◌, ◌≤◌, ◌+◌, ◌-◌, false, [], ◌<◌, ◌==◌, ◌∷◌, ◌++◌, IsTrue, IfSome, MatchOption, length, drop, slice_index, is_some, ◌^◌, ◌&&◌, ℕ, List, None};
 ghost use Rattle.std.specs.Char.{is_ascii, is_whitespace};
 ghost use Rattle.std.specs.List.{list_all, prefix_len};
 ghost use Rattle.std.specs.Option.{option_map};
-ghost use Rattle.std.specs.Str.{chars, drop_trailing_whitespace, NonePass, IsUtf8};
-ghost use Rattle.gk_line.specs.Texts.{text_after_indent, trimmed_text, after, is_ascii_space, TakesFirst, IsCutAt};
+ghost use Rattle.std.specs.Str.{chars, drop_trailing_whitespace, NonePass, IsUtf8, IsAscii};
+ghost use Rattle.gk_line.specs.Texts.{text_after_indent, trimmed_text, after, is_ascii_space, TakesFirst, IsCutAt, is_visible_ascii};
 
 use memchr::memchr;
 
@@ -201,4 +201,51 @@ pub(crate) fn count(text: &str) -> u32
         return text.len() as u32;
     }
     text.chars().count() as u32
+}
+
+/// Whether each character is ASCII, and past the space.
+pub(crate) fn is_visible_ascii(word: &str) -> bool
+    ensures { result ≡ list_all is_visible_ascii word.now }
+{
+    word.bytes().all(|b| b > b' ' && b < 128)
+}
+
+/// Whether the text begins with white space.
+pub(crate) fn begins_with_space(text: &str) -> bool
+    ensures { (c : ℕ) (rest : List ℕ)
+        → chars text.now ≡ c ∷ rest → result ≡ is_whitespace c }
+{
+    match text.chars().next() {
+        Some(c) => c.is_whitespace(),
+        None => false,
+    }
+}
+
+/// What follows the first characters, where `count` says how many.
+pub(crate) fn skip(text: &str, count: u32) -> &str
+    ensures { chars result.now ≡ drop count (chars text.now) }
+{
+    let mut rest = text;
+    for i in 0..count {
+        match after_first(rest) {
+            Some(next) => rest = next,
+            None => return rest,
+        }
+    }
+    rest
+}
+
+/// How many characters the text has, where it is known whether it is ASCII.
+#[inline(always)]
+pub(crate) fn width(text: &str, is_ascii: bool) -> u32
+    requires short { length text.now < 2 ^ 32 }
+    requires ascii { IsTrue is_ascii → IsAscii text.now }
+    ensures value { result ≡ length (chars text.now) }
+    ensures bound { result ≤ length text.now }
+{
+    if is_ascii {
+        text.len() as u32
+    } else {
+        count(text)
+    }
 }

@@ -1,12 +1,16 @@
 //! Filling placeholders from a row of examples.
-ghost use Rattle.std.specs.Prelude.{◌≡◌, ◌<◌, ◌++◌, List, ℕ, length, IfOk, IfSome, IfNone, string_bytes};
+ghost use Rattle.std.specs.Prelude.{◌≡◌, ◌<◌, ◌++◌, List, ℕ, length, IfOk, IfSome, IfNone, string_bytes, map, option_and_then};
 ghost use Rattle.std.specs.Bool.{OnTrue};
 ghost use Rattle.gk_document.specs.declared.tree.Cell.{Cell};
 ghost use Rattle.gk_pickle.specs.Fill.{placeholder, replaced_text, filled_text};
+ghost use Rattle.gk_document.specs.MediaType.{unless_empty};
+ghost use Rattle.gk_pickle.specs.Steps.{filled_by, filled_row, filled_argument};
 
 use crate::columns::Columns;
 use crate::fill_single_pass::fill_in_one_pass;
-use gk_document::Cell;
+use crate::inherited::Filling;
+use crate::pickle::{PickleArgument, PickleDocString};
+use gk_document::{Argument, Cell, DocString, Row, Sequence, Text, media_type};
 use memchr::memchr;
 use memchr::memmem::Finder;
 use std::alloc::{AllocError, Global};
@@ -118,4 +122,67 @@ pub fn fill(
 {
     let columns = Columns::of(alloc, seed, header)?;
     fill_from(alloc, text, &columns, row)
+}
+
+/// The values of a row's cells, filled.
+fn filled_cells(
+    alloc: Global,
+    filling: &Filling<'_, '_, '_>,
+    row: &Row,
+) -> Result<Sequence<Text>, AllocError>
+    ensures { IfOk result (λ texts. texts ≡ filled_row filling.now row.now) }
+{
+    let mut texts = Vec::new(alloc);
+    for cell in row.cells.as_slice() {
+        let text = filling.text(alloc, cell.value.as_str())?;
+        texts.push(text)?;
+    }
+    Ok(Sequence::from(texts))
+}
+
+/// The rows of a table, filled.
+pub(crate) fn filled_rows(
+    alloc: Global,
+    filling: &Filling<'_, '_, '_>,
+    rows: &[Row],
+) -> Result<Sequence<Sequence<Text>>, AllocError>
+    ensures { IfOk result (λ table. table ≡ map (filled_row filling.now) rows.now) }
+{
+    let mut table = Vec::new(alloc);
+    for row in rows {
+        let cells = filled_cells(alloc, filling, row)?;
+        table.push(cells)?;
+    }
+    Ok(Sequence::from(table))
+}
+
+/// A media type, filled, where one is left.
+fn filled_media(
+    alloc: Global,
+    filling: &Filling<'_, '_, '_>,
+    media: &Option<Text>,
+) -> Result<Option<Text>, AllocError>
+    ensures { IfOk result
+        (λ o. o ≡ option_and_then (λ m. unless_empty (filled_by filling.now m)) media.now) }
+{
+    match media {
+        Some(media) => {
+            let media = filling.text(alloc, media.as_str())?;
+            Ok(media_type(media))
+        }
+        None => Ok(None),
+    }
+}
+
+/// A doc string, filled.
+pub(crate) fn filled_doc_string(
+    alloc: Global,
+    filling: &Filling<'_, '_, '_>,
+    doc_string: &DocString,
+) -> Result<PickleArgument, AllocError>
+    ensures { IfOk result (λ a. a ≡ filled_argument filling.now (Argument.Text doc_string.now)) }
+{
+    let media = filled_media(alloc, filling, &doc_string.media)?;
+    let content = filling.text(alloc, doc_string.content.as_str())?;
+    Ok(PickleArgument::Text(PickleDocString { media, content }))
 }

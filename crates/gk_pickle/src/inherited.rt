@@ -1,14 +1,15 @@
 //! What a scenario's pickles inherit of its feature and its rule, and what fills their texts.
 ghost use Rattle.std.specs.Prelude.{◌≡◌, ◌∷◌, [], IfOk};
 ghost use Rattle.gk_pickle.specs.Inherited.{no_filling};
-ghost use Rattle.gk_pickle.specs.Pickles.{background_steps, in_feature, in_rule};
+ghost use Rattle.gk_pickle.specs.Pickles.{in_feature, in_rule};
 ghost use Rattle.gk_pickle.specs.Scenarios.{inherited_in};
 ghost use Rattle.gk_pickle.specs.Steps.{filled_by};
 
 use crate::columns::Columns;
 use crate::filling::fill_from;
 use crate::scenario_in_feature::ScenarioInFeature;
-use gk_document::{Background, Cell, Feature, Row, Rule, Sequence, Step, Tag, Text};
+use crate::steps::steps_of;
+use gk_document::{Cell, Feature, Row, Rule, Sequence, Step, Tag, Text};
 use std::alloc::{AllocError, Global};
 use std::marker::Model;
 
@@ -31,16 +32,6 @@ impl<'a> Model for Inherited<'a> {
       tags = a.feature_tags.now ++ a.rule_tags.now;
       steps = a.feature_steps.now ++ a.rule_steps.now;
     } };
-}
-
-/// The steps of a background, where there is one.
-fn steps_of(background: &Option<Background>) -> &[Step]
-    ensures { result.now ≡ background_steps background.now }
-{
-    match background {
-        Some(background) => background.steps.as_slice(),
-        None => &[],
-    }
 }
 
 impl<'a> Inherited<'a> {

@@ -4,9 +4,8 @@ ghost use Rattle.gk_pickle.specs.Rest.{title_of};
 ghost use Rattle.gk_pickle.specs.Spot.{spot_of, spot_pickle};
 
 use crate::columns::Columns;
-use crate::compiling::{pickle, title};
 use crate::inherited::{Filling, Inherited};
-use crate::pickle::{Pickle, PickleTitle};
+use crate::pickle::{Pickle, PickleTitle, pickle, title};
 use crate::scenario_in_feature::ScenarioInFeature;
 use gk_document::{Row, Tag};
 use std::alloc::{AllocError, Global};

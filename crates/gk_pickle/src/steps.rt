@@ -1,12 +1,13 @@
 //! The steps of a pickle.
-ghost use Rattle.std.specs.Prelude.{◌≡◌, ◌++◌, ◌∷◌, [], List, map, option_map, option_and_then, IfOk, OnOk};
-ghost use Rattle.gk_document.specs.MediaType.{unless_empty};
+ghost use Rattle.std.specs.Prelude.{◌≡◌, ◌++◌, ◌∷◌, [], List, option_map, IfOk, OnOk};
 ghost use Rattle.gk_document.specs.declared.tree.KeywordType.{KeywordType};
-ghost use Rattle.gk_pickle.specs.Steps.{type_of, filled_by, filled_row, filled_argument, filled_step, steps_after, keyword_types, pickle_steps};
+ghost use Rattle.gk_pickle.specs.Steps.{type_of, filled_argument, filled_step, steps_after, keyword_types, pickle_steps};
+ghost use Rattle.gk_pickle.specs.Pickles.{background_steps};
 
+use crate::filling::{filled_doc_string, filled_rows};
 use crate::inherited::Filling;
-use crate::pickle::{PickleArgument, PickleDocString, PickleStep, StepType};
-use gk_document::{Argument, DocString, KeywordType, Row, Sequence, Step, Text, media_type};
+use crate::pickle::{PickleArgument, PickleStep, StepType};
+use gk_document::{Argument, Background, KeywordType, Sequence, Step, Text};
 use std::alloc::{AllocError, Global};
 
 /// The type of a step with this keyword, after a step of type `before`.
@@ -21,69 +22,6 @@ fn type_after(keyword: KeywordType, before: StepType) -> StepType
         KeywordType::Outcome => StepType::Outcome,
         KeywordType::Conjunction => before,
     }
-}
-
-/// The values of a row's cells, filled.
-fn filled_cells(
-    alloc: Global,
-    filling: &Filling<'_, '_, '_>,
-    row: &Row,
-) -> Result<Sequence<Text>, AllocError>
-    ensures { IfOk result (λ texts. texts ≡ filled_row filling.now row.now) }
-{
-    let mut texts = Vec::new(alloc);
-    for cell in row.cells.as_slice() {
-        let text = filling.text(alloc, cell.value.as_str())?;
-        texts.push(text)?;
-    }
-    Ok(Sequence::from(texts))
-}
-
-/// The rows of a table, filled.
-fn filled_rows(
-    alloc: Global,
-    filling: &Filling<'_, '_, '_>,
-    rows: &[Row],
-) -> Result<Sequence<Sequence<Text>>, AllocError>
-    ensures { IfOk result (λ table. table ≡ map (filled_row filling.now) rows.now) }
-{
-    let mut table = Vec::new(alloc);
-    for row in rows {
-        let cells = filled_cells(alloc, filling, row)?;
-        table.push(cells)?;
-    }
-    Ok(Sequence::from(table))
-}
-
-/// A media type, filled, where one is left.
-fn filled_media(
-    alloc: Global,
-    filling: &Filling<'_, '_, '_>,
-    media: &Option<Text>,
-) -> Result<Option<Text>, AllocError>
-    ensures { IfOk result
-        (λ o. o ≡ option_and_then (λ m. unless_empty (filled_by filling.now m)) media.now) }
-{
-    match media {
-        Some(media) => {
-            let media = filling.text(alloc, media.as_str())?;
-            Ok(media_type(media))
-        }
-        None => Ok(None),
-    }
-}
-
-/// A doc string, filled.
-fn filled_doc_string(
-    alloc: Global,
-    filling: &Filling<'_, '_, '_>,
-    doc_string: &DocString,
-) -> Result<PickleArgument, AllocError>
-    ensures { IfOk result (λ a. a ≡ filled_argument filling.now (Argument.Text doc_string.now)) }
-{
-    let media = filled_media(alloc, filling, &doc_string.media)?;
-    let content = filling.text(alloc, doc_string.content.as_str())?;
-    Ok(PickleArgument::Text(PickleDocString { media, content }))
 }
 
 /// What is below a step, filled.
@@ -168,4 +106,14 @@ pub(crate) fn all_steps(
     let last = add_steps(alloc, &nothing, last, rule_steps, &mut made)?;
     add_steps(alloc, filling, last, steps, &mut made)?;
     Ok(Sequence::from(made))
+}
+
+/// The steps of a background, where there is one.
+pub(crate) fn steps_of(background: &Option<Background>) -> &[Step]
+    ensures { result.now ≡ background_steps background.now }
+{
+    match background {
+        Some(background) => background.steps.as_slice(),
+        None => &[],
+    }
 }

@@ -8,7 +8,8 @@ ghost use Rattle.gk_plain.specs.PlainFaults as spec;
 ghost use Rattle.gk_plain.specs.PlainFaults.{first_column};
 
 use crate::kinds::{Kind, kinds};
-use crate::plain::{first_bad, is_gap};
+use crate::parts::is_gap;
+use crate::plain::first_bad;
 use gk_grammar::FaultKind;
 use gk_line::{indent, lines};
 use std::alloc::{AllocError, Global};

@@ -1,8 +1,12 @@
 //! The rules of the grammar as a table: which parts a part is cut into.
-ghost use Rattle.std.specs.Prelude.{◌≡◌};
+ghost use Rattle.std.specs.Prelude.{◌≡◌, [], None};
 ghost use Rattle.gk_plain.specs.Plain.{rule_of};
+ghost use Rattle.std.specs.List.{list_all};
+ghost use Rattle.gk_plain.specs.PlainLines as spec;
 
 use self::Production::{Both, Either, EqualRows, Lines, Many, Maybe};
+use crate::kinds::Kind;
+use gk_document::Fence;
 use gk_line::Block;
 
 /// A part of a text.
@@ -106,5 +110,162 @@ pub(crate) fn rule_of(part: Part) -> Production
         Part::SpokenGap => Both(Part::PlainGap, Part::EnglishLine),
         Part::Opening => Either(Part::PlainGap, Part::SpokenGap),
         Part::FeatureText => Both(Part::Opening, Part::Feature),
+    }
+}
+
+/// Whether the line is a comment or blank.
+pub(crate) fn is_gap(kind: Kind) -> bool
+    ensures { result ≡ spec.is_gap_kind kind }
+{
+    match kind {
+        Kind::Blank | Kind::Comment | Kind::English | Kind::OtherLanguage => true,
+        _ => false,
+    }
+}
+
+/// Whether the lines are comments and blank lines.
+fn are_gap(lines: &[Kind]) -> bool
+    ensures { result ≡ list_all spec.is_gap_kind lines.now }
+{
+    lines.iter().all(|kind| is_gap(*kind))
+}
+
+/// Whether a line of the kind is a comment or a blank line, but no language line.
+fn is_plain(kind: Kind) -> bool
+    ensures { result ≡ spec.is_plain kind }
+{
+    match kind {
+        Kind::Blank | Kind::Comment => true,
+        _ => false,
+    }
+}
+
+/// Whether these are comments and blank lines, without a language line.
+fn are_plain(lines: &[Kind]) -> bool
+    ensures { result ≡ list_all spec.is_plain lines.now }
+{
+    lines.iter().all(|kind| is_plain(*kind))
+}
+
+/// Whether the line ends a description of the block.
+fn stops(block: Block, kind: Kind) -> bool
+    ensures { result ≡ spec.kind_stops block kind }
+{
+    match kind {
+        Kind::Tags | Kind::SpacedTag(_) => true,
+        Kind::Title(Block::Rule | Block::Scenario) => true,
+        Kind::Title(Block::Background) => block == Block::Feature || block == Block::Rule,
+        Kind::Title(Block::Examples) => block == Block::Scenario || block == Block::Examples,
+        Kind::Step => block == Block::Background || block == Block::Scenario,
+        Kind::Row(_) => block == Block::Examples,
+        _ => false,
+    }
+}
+
+/// Whether no line ends a description of the block.
+fn are_text(block: Block, lines: &[Kind]) -> bool
+    ensures { result ≡ list_all (spec.is_text block) lines.now }
+{
+    lines.iter().all(|kind| !stops(block, *kind))
+}
+
+/// Whether a line of the kind is a title line of the block.
+fn is_title(block: Block, kind: Kind) -> bool
+    ensures { result ≡ spec.is_title block kind }
+{
+    match kind {
+        Kind::Title(other) => other == block,
+        _ => false,
+    }
+}
+
+/// Whether the lines are a title line of the block and a description.
+fn is_heading(block: Block, lines: &[Kind]) -> bool
+    ensures { result ≡ spec.is_heading block lines.now }
+{
+    match lines {
+        [] => false,
+        [first, rest @ ..] => is_title(block, *first) && are_text(block, rest),
+    }
+}
+
+/// Whether a part of one line, with the gap after it, begins with the line.
+fn begins(part: Part, kind: Kind) -> bool
+    ensures { result ≡ spec.begins part kind }
+{
+    match (part, kind) {
+        (Part::EnglishLine, Kind::English)
+        | (Part::TagLine, Kind::Tags)
+        | (Part::StepLine, Kind::Step) => true,
+        (Part::Row(count), Kind::Row(other)) => other == count,
+        _ => false,
+    }
+}
+
+/// Whether the lines are the one line of the part, and the gap after it.
+fn is_line(part: Part, lines: &[Kind]) -> bool
+    ensures { result ≡ spec.is_line part lines.now }
+{
+    match lines {
+        [] => false,
+        [first, rest @ ..] => begins(part, *first) && are_gap(rest),
+    }
+}
+
+/// Whether a line of the kind begins with the fence.
+fn is_fence(fence: Fence, kind: Kind) -> bool
+    ensures { result ≡ spec.is_fence_kind fence kind }
+{
+    match kind {
+        Kind::Fenced(other) => other == fence,
+        _ => false,
+    }
+}
+
+/// Whether the lines are the content of a doc string, the line that closes it, and a gap.
+fn closes(fence: Fence, lines: &[Kind]) -> bool
+    ensures { result ≡ spec.closes fence lines.now }
+{
+    match lines {
+        [] => false,
+        [first, rest @ ..] => {
+            if is_fence(fence, *first) {
+                are_gap(rest)
+            } else {
+                closes(fence, rest)
+            }
+        }
+    }
+}
+
+/// Whether the lines are an opening fence, content and the fence that closes it, and the gap after it.
+fn is_doc_string(lines: &[Kind]) -> bool
+    ensures { result ≡ spec.is_doc_string lines.now }
+{
+    match lines {
+        [Kind::Fenced(fence), rest @ ..] => closes(*fence, rest),
+        _ => false,
+    }
+}
+
+/// Whether the lines are those of a part that is cut no further.
+pub(crate) fn are_lines(part: Part, lines: &[Kind]) -> bool
+    ensures { result ≡ spec.are_lines part lines.now }
+{
+    match part {
+        Part::PlainGap => are_plain(lines),
+        Part::DocString => is_doc_string(lines),
+        Part::Heading(block) => is_heading(block, lines),
+        _ => is_line(part, lines),
+    }
+}
+
+/// How many cells the first line has, if it is a row.
+pub(crate) fn row_count(lines: &[Kind]) -> Option<usize>
+    ensures { result ≡ spec.row_count lines.now }
+{
+    match lines {
+        [Kind::Row(count), ..] => Some(*count),
+        _ => None,
     }
 }

@@ -7,8 +7,9 @@ ghost use Rattle.gk_tree.specs.Views.{flat_block_of, body_of};
 ghost use Rattle.gk_tree.specs.Assembling.{parts_view};
 
 use crate::flat_block::{Body, FlatBlock};
+use crate::rows::header_and_body;
 use gk_document::{
-    Background, ExampleTable, Examples, Feature, Row, Rule, Scenario, Sequence, Step, Text,
+    Background, ExampleTable, Examples, Feature, Rule, Scenario, Sequence, Step, Text,
 };
 use gk_line::Block;
 use std::alloc::{AllocError, Global};
@@ -211,19 +212,4 @@ fn table(body: Body) -> Option<ExampleTable>
         return None;
     };
     header_and_body(rows)
-}
-
-/// The table whose header is the first of these rows, if there is a row.
-fn header_and_body(rows: Sequence<Row>) -> Option<ExampleTable>
-    ensures { result ≡ example_table_of rows }
-{
-    let mut rows = rows.into_vec();
-    if rows.is_empty() {
-        return None;
-    }
-    let header = rows.remove(0);
-    Some(ExampleTable {
-        header,
-        body: Sequence::from(rows),
-    })
 }

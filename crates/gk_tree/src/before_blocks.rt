@@ -1,12 +1,13 @@
 //! The lines before the first block, and those after tags.
 ghost use Rattle.std.specs.Prelude.{◌≡◌, ◌<◌, ◌^◌};
-ghost use Rattle.gk_grammar.specs.Grammar.{english};
 ghost use Rattle.gk_grammar.specs.Machine as machine;
-ghost use Rattle.gk_tree.specs.Views.{text_of, line_at, phase_of, head_of, state_so_far, state_in, Gives};
+ghost use Rattle.gk_tree.specs.Views.{line_at, phase_of, head_of, state_so_far, state_in, Gives};
 
-use crate::blocks::{follows, title_line};
+use crate::blocks::{follows, open_block, title_line};
+use crate::comments::keep_comment_and_stay;
 use crate::fault::{ParseFault, fault, spaced_tag, unexpected};
-use crate::headings::{add_tags, keep_comment_and_stay, open_block};
+use crate::headings::add_tags;
+use crate::line_tokens::is_english;
 use crate::state::{Phase, Progress};
 use crate::token::{IndentedLine, Token, location};
 use gk_document::{Sequence, Tag};
@@ -66,13 +67,6 @@ pub(crate) fn at_start<'a>(
         return Ok(Phase::AfterLanguage);
     }
     before_first_block(alloc, progress, false, at, token)
-}
-
-/// Whether the word of a language line is `en`.
-fn is_english(word: &str) -> bool
-    ensures { result ≡ machine.same_text (text_of word.now) english }
-{
-    word == "en"
 }
 
 /// A line after the language line, before the first tag line or feature line.

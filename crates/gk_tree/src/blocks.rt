@@ -1,17 +1,20 @@
 //! The lines after a block: what may come next.
-ghost use Rattle.std.specs.Prelude.{◌≡◌, ◌<◌, ◌+◌, ◌^◌, [], if◌then◌else◌, Ok, Err};
+ghost use Rattle.std.specs.Prelude.{◌≡◌, ◌<◌, ◌+◌, ◌^◌, [], if◌then◌else◌, Ok, Err, IfOk, ◌∷◌, ◌++◌};
 ghost use Rattle.gk_grammar.specs.declared.fault.FaultKind.TheVariants as kinds;
 ghost use Rattle.gk_grammar.specs.Machine as machine;
 ghost use Rattle.gk_tree.specs.Views.{text_of, line_at, flat_block_of, state_so_far, state_in, Gives};
+ghost use Rattle.gk_tree.specs.declared.state.Progress.{Progress};
 
 use crate::fault::{ParseFault, spaced_tag, unexpected};
 use crate::flat_block::FlatBlock;
-use crate::headings::{add_tags, open_block};
-use crate::state::{Phase, Progress};
-use crate::token::{IndentedLine, Token};
-use gk_document::Sequence;
+use crate::headings::{add_tags, empty_body, title_node_count};
+use crate::state::{BlockWithSteps, Phase, Progress};
+use crate::steps::with_steps;
+use crate::texts::copied;
+use crate::token::{IndentedLine, Token, location};
+use gk_document::{Sequence, Tag, Text};
 use gk_line::{Block, Title};
-use std::alloc::Global;
+use std::alloc::{AllocError, Global};
 
 /// Whether the block may come after the other one, or be the first.
 pub(crate) fn follows(before: Option<Block>, block: Block) -> bool
@@ -77,4 +80,68 @@ pub(crate) fn title_line<'a>(
     } else {
         Err(unexpected(at))
     }
+}
+
+/// A title line after these tags.
+pub(crate) fn open_block<'a>(
+    alloc: Global,
+    progress: &mut Progress,
+    block: Block,
+    tags: Sequence<Tag>,
+    at: IndentedLine<'a>,
+    title: Title<'a>,
+) -> Result<Phase<'a>, ParseFault>
+    requires room { progress.old.nodes < 2 ^ 63 }
+    ensures { Gives (state_in progress.new) result
+        (Ok (machine.open_block (state_so_far progress.old) block tags
+        at.entry.line.number at.entry.indent
+        (text_of title.entry.keyword.now) (text_of title.entry.name.now))) }
+{
+    let flat_block = new_block(alloc, progress.nodes, block, tags, at, title)?;
+    progress.nodes += title_node_count(block);
+    Ok(Phase::InDescription(Box::new(alloc, flat_block)?, Vec::new(alloc)))
+}
+
+/// The block of a title line, without its description and what is below it.
+fn new_block(
+    alloc: Global,
+    node: u64,
+    block: Block,
+    tags: Sequence<Tag>,
+    at: IndentedLine<'_>,
+    title: Title<'_>,
+) -> Result<FlatBlock, AllocError>
+    ensures { IfOk result (λ c. flat_block_of c
+        ≡ machine.new_block node block tags at.entry.line.number at.entry.indent
+        (text_of title.entry.keyword.now) (text_of title.entry.name.now)) }
+{
+    let keyword = copied(alloc, title.keyword)?;
+    let name = copied(alloc, title.name)?;
+    Ok(FlatBlock {
+        block,
+        node,
+        location: location(at),
+        tags,
+        keyword,
+        name,
+        description: Text::from(String::new(alloc)),
+        body: empty_body(alloc, block),
+    })
+}
+
+/// A line after a whole block with steps, which isn't part of it.
+pub(crate) fn close_stepped_block<'a>(
+    alloc: Global,
+    progress: &mut Progress,
+    stepped: Box<BlockWithSteps>,
+    at: IndentedLine<'a>,
+    token: Token<'a>,
+) -> Result<Phase<'a>, ParseFault>
+    requires room { progress.old.nodes < 2 ^ 63 }
+    ensures { Gives (state_in progress.new) result (machine.close_block (state_so_far progress.old)
+        (machine.with_steps (flat_block_of stepped.value.flat_block)
+        (stepped.value.before ++ stepped.value.last ∷ [])) (line_at at.entry token.entry)) }
+{
+    let flat_block = with_steps(stepped)?;
+    close_block(alloc, progress, flat_block, at, token)
 }

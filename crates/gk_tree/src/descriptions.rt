@@ -1,24 +1,24 @@
 //! The lines in a description, and the first one after it.
-ghost use Rattle.std.specs.Prelude.{◌≡◌, ◌<◌, ◌^◌, ℕ, List, map};
-ghost use Rattle.gk_line.specs.Views.{line_chars, step_text};
+ghost use Rattle.std.specs.Prelude.{◌≡◌, ◌<◌, ◌^◌, ℕ, List, map, reverse, filter, not, IfOk};
 ghost use Rattle.gk_grammar.specs.Token as read;
 ghost use Rattle.gk_grammar.specs.Grammar as grammar;
 ghost use Rattle.gk_grammar.specs.Machine as machine;
 ghost use Rattle.gk_tree.specs.Views.{token_view, line_at, flat_block_of, kept_line, state_so_far, state_in, Gives};
 ghost use Rattle.gk_tree.specs.Read.{IsRead};
+ghost use Rattle.gk_grammar.specs.Grammar.{description_of, from_text};
 
 use crate::blocks::{close_block, follows};
+use crate::comments::keep_if_comment;
 use crate::fault::ParseFault;
 use crate::flat_block::FlatBlock;
-use crate::headings::keep_if_comment;
-use crate::rows::{row_at, single_row};
-use crate::state::{BlockWithSteps, Phase, Progress};
-use crate::steps::step_at;
-use crate::texts::description;
+use crate::rows::first_row;
+use crate::state::{Phase, Progress};
+use crate::steps::first_step;
+use crate::texts::joined;
 use crate::token::{IndentedLine, Token};
-use gk_document::{Cell, Sequence};
-use gk_line::{Block, StepLine};
-use std::alloc::Global;
+use gk_document::Text;
+use gk_line::{Block, is_blank, is_comment};
+use std::alloc::{AllocError, Global};
 
 /// A line in or after a description.
 pub(crate) fn in_description<'a>(
@@ -78,45 +78,53 @@ fn after_description<'a>(
     }
 }
 
-/// The first step of a block.
-fn first_step<'a>(
-    alloc: Global,
-    progress: &mut Progress,
-    flat_block: Box<FlatBlock>,
-    at: IndentedLine<'a>,
-    line: StepLine<'a>,
-) -> Result<Phase<'a>, ParseFault>
-    requires room { progress.old.nodes < 2 ^ 63 }
-    ensures { Gives (state_in progress.new) result
-        (machine.after_description (state_so_far progress.old) (flat_block_of flat_block.value)
-        (read.line at.entry.line.number (line_chars at.entry.line) at.entry.indent
-        (read.step_token (step_text line.entry)))) }
+/// The text of a description of these lines.
+pub(crate) fn description(alloc: Global, lines: &[IndentedLine<'_>]) -> Result<Text, AllocError>
+    ensures { IfOk result (λ t. t ≡ description_of (map kept_line lines.now)) }
 {
-    let last = step_at(alloc, progress.nodes, at, line)?;
-    progress.nodes += 1;
-    let stepped = BlockWithSteps {
-        flat_block: Box::into_inner(flat_block),
-        before: Sequence::new(alloc),
-        last,
-    };
-    Ok(Phase::AfterStep(Box::new(alloc, stepped)?))
+    let kept = without_comments(alloc, lines)?;
+    joined(alloc, without_last_blanks(without_first_blanks(&kept)))
 }
 
-/// The first row of an examples table.
-fn first_row<'a>(
+/// The lines that are no comments.
+fn without_comments<'a>(
     alloc: Global,
-    progress: &mut Progress,
-    flat_block: Box<FlatBlock>,
-    at: IndentedLine<'a>,
-    cells: Sequence<Cell>,
-) -> Result<Phase<'a>, ParseFault>
-    requires room { progress.old.nodes < 2 ^ 63 }
-    ensures { Gives (state_in progress.new) result
-        (machine.after_description (state_so_far progress.old) (flat_block_of flat_block.value)
-        (read.line at.entry.line.number (line_chars at.entry.line) at.entry.indent
-        (read.Row cells))) }
+    lines: &[IndentedLine<'a>],
+) -> Result<Vec<IndentedLine<'a>>, AllocError>
+    ensures { IfOk result (λ v. map kept_line v.items
+        ≡ filter (λ l. not (read.is_comment l)) (map kept_line lines.now)) }
 {
-    let rows = single_row(alloc, row_at(progress.nodes, at, cells))?;
-    progress.nodes += 1;
-    Ok(Phase::InExamplesTable(flat_block, rows))
+    let mut kept = Vec::new(alloc);
+    for line in lines {
+        if !is_comment(line.line) {
+            kept.push(*line)?;
+        }
+    }
+    Ok(kept)
+}
+
+/// The lines from the first one on that is not blank.
+fn without_first_blanks<'a, 'l>(lines: &'l [IndentedLine<'a>]) -> &'l [IndentedLine<'a>]
+    ensures { map kept_line result.now ≡ from_text (map kept_line lines.now) }
+{
+    for (i, line) in lines.iter().enumerate() {
+        if !is_blank(line.line) {
+            return &lines[i..];
+        }
+    }
+    &lines[lines.len()..]
+}
+
+/// The lines up to the last one that is not blank.
+fn without_last_blanks<'a, 'l>(lines: &'l [IndentedLine<'a>]) -> &'l [IndentedLine<'a>]
+    ensures { map kept_line result.now ≡ reverse (from_text (reverse (map kept_line lines.now))) }
+{
+    let mut end = lines.len();
+    while end > 0 {
+        if !is_blank(lines[end - 1].line) {
+            return &lines[..end];
+        }
+        end -= 1;
+    }
+    &lines[..0]
 }

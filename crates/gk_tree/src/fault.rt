@@ -1,6 +1,7 @@
 //! The fault of a text that is no feature file, and the faults of lines.
 ghost use Rattle.std.specs.Prelude.{◌≡◌, ◌+◌};
 ghost use Rattle.gk_grammar.specs.declared.fault.FaultKind.TheVariants as kinds;
+ghost use Rattle.gk_grammar.specs.declared.fault.FaultKind.TheVariants as kind;
 
 use crate::token::{IndentedLine, location};
 use gk_document::Location;
@@ -76,5 +77,16 @@ pub(crate) fn spaced_tag(at: IndentedLine<'_>, column: u32) -> ParseFault
         kind: FaultKind::TagSpace,
         line: at.line.number,
         column,
+    }
+}
+
+/// The fault of a text that ends where it may not, at the line after the last one.
+pub(crate) fn early_end(end_line: u32) -> ParseFault
+    ensures { result ≡ record { kind = kind.UnexpectedEnd; line = end_line; column = 1 } }
+{
+    ParseFault {
+        kind: FaultKind::UnexpectedEnd,
+        line: end_line,
+        column: 1,
     }
 }

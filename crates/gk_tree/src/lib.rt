@@ -17,6 +17,7 @@
 mod assemble;
 mod before_blocks;
 mod blocks;
+mod comments;
 mod descriptions;
 mod fault;
 mod flat_block;

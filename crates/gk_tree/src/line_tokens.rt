@@ -1,21 +1,23 @@
 //! What a line is read as: its token, and its indent.
-ghost use Rattle.std.specs.Prelude.{◌≡◌, ◌≤◌, length, map, codes, IfOk, IsTrue};
+ghost use Rattle.std.specs.Prelude.{◌≡◌, ◌≤◌, length, codes, IfOk, IsTrue, ◌++◌};
 ghost use Rattle.std.specs.Str.{chars};
 ghost use Rattle.std.specs.Option.{option_map};
 ghost use Rattle.gk_line.specs.declared.limit.TheConstants.{FEATURE_LIMIT};
-ghost use Rattle.gk_line.specs.Cells.{cells_of};
 ghost use Rattle.gk_line.specs.Texts.{text_after_indent, first_some};
 ghost use Rattle.gk_line.specs.Tokens.{indent_of, title_of, step_of, fence_of, begins_by, language_of, blocks};
 ghost use Rattle.gk_line.specs.Tags.{spaced_piece, tags_of};
 ghost use Rattle.gk_line.specs.Views.{line_chars};
 ghost use Rattle.gk_grammar.specs.Token as read;
-ghost use Rattle.gk_grammar.specs.Token.{token_of, comment_token as comment_or_language, title_token as titled, step_token as stepped, fence_token as fenced, tag_list, word_token as by_word, token_or_other, cell};
+ghost use Rattle.gk_grammar.specs.Token.{token_of, comment_token as comment_or_language, title_token as titled, step_token as stepped, fence_token as fenced, tag_list, word_token as by_word, token_or_other};
 ghost use Rattle.gk_tree.specs.Read.{first_character};
-ghost use Rattle.gk_tree.specs.Views.{token_view};
+ghost use Rattle.gk_tree.specs.Views.{token_view, text_of};
+ghost use Rattle.gk_grammar.specs.Grammar.{english};
+ghost use Rattle.gk_grammar.specs.Machine as machine;
 
+use crate::rows::row_cells;
 use crate::token::{Head, TagLine, Token};
-use gk_document::{Cell, Sequence};
-use gk_line::{Line, TagFault, block_title, cells, fence, language, step, tags};
+use gk_document::Text;
+use gk_line::{Line, TagFault, block_title, fence, language, step, tags};
 use std::alloc::{AllocError, Global};
 
 /// The indent of a line with this text, and the first character after it.
@@ -85,16 +87,6 @@ fn tag_token(alloc: Global, line: Line<'_>) -> Result<Token<'_>, AllocError>
     }
 }
 
-/// The cells of a row.
-fn row_cells(alloc: Global, line: Line<'_>) -> Result<Sequence<Cell>, AllocError>
-    requires row { IsTrue (begins_by (codes "|") (line_chars line)) }
-    requires short { length line.text.now ≤ FEATURE_LIMIT }
-    ensures { IfOk result (λ found. found ≡ map cell (cells_of (line_chars line.entry))) }
-{
-    let cells = cells(alloc, line)?;
-    Ok(Sequence::from(cells))
-}
-
 /// A line that begins with a keyword or a fence, or any other one.
 fn word_token(line: Line<'_>) -> Token<'_>
     requires { length line.text.now ≤ FEATURE_LIMIT }
@@ -138,4 +130,21 @@ fn title_token(line: Line<'_>) -> Option<Token<'_>>
 {
     let (block, title) = block_title(line)?;
     Some(Token::Title(block, title))
+}
+
+/// The name of a tag.
+pub(crate) fn tag_name(alloc: Global, word: &str) -> Result<Text, AllocError>
+    ensures { IfOk result (λ t. t ≡ codes "@" ++ text_of word.now) }
+{
+    let mut name = String::with_capacity(alloc, word.len() + 1)?;
+    name.push('@')?;
+    name.push_str(word)?;
+    Ok(Text::from(name))
+}
+
+/// Whether the word of a language line is `en`.
+pub(crate) fn is_english(word: &str) -> bool
+    ensures { result ≡ machine.same_text (text_of word.now) english }
+{
+    word == "en"
 }

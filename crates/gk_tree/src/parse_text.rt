@@ -15,14 +15,13 @@ ghost use Rattle.gk_tree.specs.EndViews.{last_as_list};
 
 use crate::assemble::build_feature;
 use crate::before_blocks::{after_language, after_tags, at_start};
-use crate::descriptions::in_description;
-use crate::fault::ParseFault;
+use crate::descriptions::{description, in_description};
+use crate::fault::{ParseFault, early_end};
 use crate::flat_block::FlatBlock;
 use crate::line_tokens::{head, token};
 use crate::rows::{in_examples_table, with_rows};
 use crate::state::{Parser, Phase, Progress};
 use crate::steps::{after_step, in_doc_string, with_steps};
-use crate::texts::description;
 use crate::token::{Head, IndentedLine, Token};
 use gk_document::{Document, Sequence};
 use gk_grammar::FaultKind;
@@ -189,17 +188,6 @@ fn last_block(
             Ok(Some(with_rows(Box::into_inner(flat_block), rows)))
         }
         _ => Err(early_end(end_line)),
-    }
-}
-
-/// The fault of a text that ends where it may not, at the line after the last one.
-fn early_end(end_line: u32) -> ParseFault
-    ensures { result ≡ record { kind = kind.UnexpectedEnd; line = end_line; column = 1 } }
-{
-    ParseFault {
-        kind: FaultKind::UnexpectedEnd,
-        line: end_line,
-        column: 1,
     }
 }
 

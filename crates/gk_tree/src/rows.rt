@@ -1,18 +1,28 @@
 //! Rows, their tables, and the lines after those of an examples table.
-ghost use Rattle.std.specs.Prelude.{◌≡◌, ◌<◌, ◌^◌, ◌+◌, ◌∷◌, [], IfOk};
+ghost use Rattle.std.specs.Prelude.{◌≡◌, ◌<◌, ◌^◌, ◌+◌, ◌∷◌, [], IfOk, ◌≤◌, length, map, codes, IsTrue, Ok};
 ghost use Rattle.gk_grammar.specs.Grammar as grammar;
 ghost use Rattle.gk_grammar.specs.Machine as machine;
 ghost use Rattle.gk_tree.specs.Views.{line_at, flat_block_of, state_so_far, state_in, Gives};
 ghost use Rattle.gk_tree.specs.Rows.{rows_with};
+ghost use Rattle.gk_line.specs.declared.limit.TheConstants.{FEATURE_LIMIT};
+ghost use Rattle.gk_line.specs.Cells.{cells_of};
+ghost use Rattle.gk_line.specs.Tokens.{begins_by};
+ghost use Rattle.gk_line.specs.Views.{line_chars};
+ghost use Rattle.gk_grammar.specs.Token.{cell};
+ghost use Rattle.gk_grammar.specs.Token as read;
+ghost use Rattle.gk_tree.specs.declared.state.Progress.{Progress};
+ghost use Rattle.gk_grammar.specs.Assembly.{example_table_of};
 
 use crate::blocks::close_block;
+use crate::comments::keep_comment_and_stay;
 use crate::fault::{ParseFault, fault};
 use crate::flat_block::{Body, FlatBlock};
-use crate::headings::keep_comment_and_stay;
-use crate::state::{Phase, Progress};
+use crate::state::{BlockWithSteps, Phase, Progress};
+use crate::steps::add_step_row;
 use crate::token::{IndentedLine, Token, location};
-use gk_document::{Cell, Row, Sequence};
+use gk_document::{Cell, ExampleTable, Row, Sequence};
 use gk_grammar::FaultKind;
+use gk_line::{Line, cells};
 use std::alloc::{AllocError, Global};
 
 /// The row that the line is.
@@ -103,4 +113,69 @@ pub(crate) fn with_rows(mut flat_block: FlatBlock, rows: Sequence<Row>) -> FlatB
 {
     flat_block.body = Body::Rows(rows);
     flat_block
+}
+
+/// The cells of a row.
+pub(crate) fn row_cells(alloc: Global, line: Line<'_>) -> Result<Sequence<Cell>, AllocError>
+    requires row { IsTrue (begins_by (codes "|") (line_chars line)) }
+    requires short { length line.text.now ≤ FEATURE_LIMIT }
+    ensures { IfOk result (λ found. found ≡ map cell (cells_of (line_chars line.entry))) }
+{
+    let cells = cells(alloc, line)?;
+    Ok(Sequence::from(cells))
+}
+
+/// A row line after steps.
+pub(crate) fn row_line<'a>(
+    alloc: Global,
+    progress: &mut Progress,
+    mut stepped: Box<BlockWithSteps>,
+    at: IndentedLine<'a>,
+    cells: Sequence<Cell>,
+) -> Result<Phase<'a>, ParseFault>
+    requires room { progress.old.nodes < 2 ^ 63 }
+    ensures { Gives (state_in progress.new) result
+        (machine.after_step (state_so_far progress.old)
+        (flat_block_of stepped.value.flat_block) stepped.value.before stepped.value.last
+        (read.line at.entry.line.number (line_chars at.entry.line) at.entry.indent
+        (read.Row cells))) }
+{
+    let row = row_at(progress.nodes, at, cells);
+    add_step_row(alloc, &mut stepped.last, row)?;
+    progress.nodes += 1;
+    Ok(Phase::AfterStep(stepped))
+}
+
+/// The table whose header is the first of these rows, if there is a row.
+pub(crate) fn header_and_body(rows: Sequence<Row>) -> Option<ExampleTable>
+    ensures { result ≡ example_table_of rows }
+{
+    let mut rows = rows.into_vec();
+    if rows.is_empty() {
+        return None;
+    }
+    let header = rows.remove(0);
+    Some(ExampleTable {
+        header,
+        body: Sequence::from(rows),
+    })
+}
+
+/// The first row of an examples table.
+pub(crate) fn first_row<'a>(
+    alloc: Global,
+    progress: &mut Progress,
+    flat_block: Box<FlatBlock>,
+    at: IndentedLine<'a>,
+    cells: Sequence<Cell>,
+) -> Result<Phase<'a>, ParseFault>
+    requires room { progress.old.nodes < 2 ^ 63 }
+    ensures { Gives (state_in progress.new) result
+        (machine.after_description (state_so_far progress.old) (flat_block_of flat_block.value)
+        (read.line at.entry.line.number (line_chars at.entry.line) at.entry.indent
+        (read.Row cells))) }
+{
+    let rows = single_row(alloc, row_at(progress.nodes, at, cells))?;
+    progress.nodes += 1;
+    Ok(Phase::InExamplesTable(flat_block, rows))
 }

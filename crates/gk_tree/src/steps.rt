@@ -8,15 +8,15 @@ ghost use Rattle.gk_tree.specs.Views.{text_of, token_view, line_at, flat_block_o
 ghost use Rattle.gk_tree.specs.Rows.{row_after};
 ghost use Rattle.gk_tree.specs.declared.state.Progress.{Progress};
 
-use crate::blocks::close_block;
+use crate::blocks::close_stepped_block;
+use crate::comments::keep_comment_and_stay;
 use crate::fault::{ParseFault, fault, unexpected};
 use crate::flat_block::{Body, FlatBlock};
-use crate::headings::keep_comment_and_stay;
-use crate::rows::{add_row, row_at, single_row};
+use crate::rows::{add_row, row_line, single_row};
 use crate::state::{BlockWithSteps, OpenDocString, Phase, Progress};
 use crate::texts::{content, copied, copied_media};
 use crate::token::{IndentedLine, Token, location};
-use gk_document::{Argument, Cell, DocString, Fence, Row, Sequence, Step};
+use gk_document::{Argument, DocString, Fence, Row, Sequence, Step};
 use gk_grammar::FaultKind;
 use gk_line::{FenceLine, StepLine, fence};
 use std::alloc::{AllocError, Global};
@@ -89,7 +89,7 @@ fn step_line<'a>(
 }
 
 /// Adds a row to the table of a step, which may be its first row.
-fn add_step_row(alloc: Global, step: &mut Step, row: Row) -> Result<(), ParseFault>
+pub(crate) fn add_step_row(alloc: Global, step: &mut Step, row: Row) -> Result<(), ParseFault>
     ensures { Gives (λ _. step.new) result (row_after step.old step.old.argument row) }
 {
     let rows = match step.argument.take() {
@@ -102,27 +102,6 @@ fn add_step_row(alloc: Global, step: &mut Step, row: Row) -> Result<(), ParseFau
     };
     step.argument = Some(Argument::Table(rows));
     Ok(())
-}
-
-/// A row line after steps.
-fn row_line<'a>(
-    alloc: Global,
-    progress: &mut Progress,
-    mut stepped: Box<BlockWithSteps>,
-    at: IndentedLine<'a>,
-    cells: Sequence<Cell>,
-) -> Result<Phase<'a>, ParseFault>
-    requires room { progress.old.nodes < 2 ^ 63 }
-    ensures { Gives (state_in progress.new) result
-        (machine.after_step (state_so_far progress.old)
-        (flat_block_of stepped.value.flat_block) stepped.value.before stepped.value.last
-        (read.line at.entry.line.number (line_chars at.entry.line) at.entry.indent
-        (read.Row cells))) }
-{
-    let row = row_at(progress.nodes, at, cells);
-    add_step_row(alloc, &mut stepped.last, row)?;
-    progress.nodes += 1;
-    Ok(Phase::AfterStep(stepped))
 }
 
 /// A fence after a step.
@@ -148,23 +127,6 @@ fn step_fence<'a>(
         indent: at.indent,
     };
     Ok(Phase::InDocString(stepped, opening, Vec::new(alloc)))
-}
-
-/// A line after a whole block with steps, which isn't part of it.
-fn close_stepped_block<'a>(
-    alloc: Global,
-    progress: &mut Progress,
-    stepped: Box<BlockWithSteps>,
-    at: IndentedLine<'a>,
-    token: Token<'a>,
-) -> Result<Phase<'a>, ParseFault>
-    requires room { progress.old.nodes < 2 ^ 63 }
-    ensures { Gives (state_in progress.new) result (machine.close_block (state_so_far progress.old)
-        (machine.with_steps (flat_block_of stepped.value.flat_block)
-        (stepped.value.before ++ stepped.value.last ∷ [])) (line_at at.entry token.entry)) }
-{
-    let flat_block = with_steps(stepped)?;
-    close_block(alloc, progress, flat_block, at, token)
 }
 
 /// A line after steps.
@@ -240,4 +202,28 @@ fn closes(opened: Fence, at: IndentedLine<'_>) -> bool
         Some(line) => line.fence == opened,
         None => false,
     }
+}
+
+/// The first step of a block.
+pub(crate) fn first_step<'a>(
+    alloc: Global,
+    progress: &mut Progress,
+    flat_block: Box<FlatBlock>,
+    at: IndentedLine<'a>,
+    line: StepLine<'a>,
+) -> Result<Phase<'a>, ParseFault>
+    requires room { progress.old.nodes < 2 ^ 63 }
+    ensures { Gives (state_in progress.new) result
+        (machine.after_description (state_so_far progress.old) (flat_block_of flat_block.value)
+        (read.line at.entry.line.number (line_chars at.entry.line) at.entry.indent
+        (read.step_token (step_text line.entry)))) }
+{
+    let last = step_at(alloc, progress.nodes, at, line)?;
+    progress.nodes += 1;
+    let stepped = BlockWithSteps {
+        flat_block: Box::into_inner(flat_block),
+        before: Sequence::new(alloc),
+        last,
+    };
+    Ok(Phase::AfterStep(Box::new(alloc, stepped)?))
 }

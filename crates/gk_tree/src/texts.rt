@@ -1,17 +1,16 @@
 //! Texts of the tree.
-ghost use Rattle.std.specs.Prelude.{◌≡◌, ◌++◌, map, reverse, filter, not, codes, IfOk, OnOk, if◌then◌else◌, [], ◌∷◌};
+ghost use Rattle.std.specs.Prelude.{◌≡◌, ◌++◌, map, IfOk, OnOk, if◌then◌else◌, [], ◌∷◌};
 ghost use Rattle.std.specs.String.{string_bytes};
 ghost use Rattle.std.specs.List.{join_with_byte};
 ghost use Rattle.gk_line.specs.Characters.{line_feed};
 ghost use Rattle.gk_document.specs.MediaType.{unless_empty};
 ghost use Rattle.gk_grammar.specs.Token.{bytes};
-ghost use Rattle.gk_grammar.specs.Token as read;
-ghost use Rattle.gk_grammar.specs.Grammar.{description_of, from_text, content_line};
+ghost use Rattle.gk_grammar.specs.Grammar.{content_line};
 ghost use Rattle.gk_tree.specs.Views.{text_of, kept_line};
 
 use crate::token::IndentedLine;
 use gk_document::{Fence, Text, media_type};
-use gk_line::{is_blank, is_comment, push_doc_line};
+use gk_line::push_doc_line;
 use std::alloc::{AllocError, Global};
 
 /// A text of its own with these characters.
@@ -26,67 +25,6 @@ pub(crate) fn copied_media(alloc: Global, media: &str) -> Result<Option<Text>, A
     ensures { IfOk result (λ m. m ≡ unless_empty (text_of media.now)) }
 {
     Ok(media_type(copied(alloc, media)?))
-}
-
-/// The name of a tag.
-pub(crate) fn tag_name(alloc: Global, word: &str) -> Result<Text, AllocError>
-    ensures { IfOk result (λ t. t ≡ codes "@" ++ text_of word.now) }
-{
-    let mut name = String::with_capacity(alloc, word.len() + 1)?;
-    name.push('@')?;
-    name.push_str(word)?;
-    Ok(Text::from(name))
-}
-
-/// The text of a description of these lines.
-pub(crate) fn description(alloc: Global, lines: &[IndentedLine<'_>]) -> Result<Text, AllocError>
-    ensures { IfOk result (λ t. t ≡ description_of (map kept_line lines.now)) }
-{
-    let kept = without_comments(alloc, lines)?;
-    joined(alloc, without_last_blanks(without_first_blanks(&kept)))
-}
-
-/// The lines that are no comments.
-fn without_comments<'a>(
-    alloc: Global,
-    lines: &[IndentedLine<'a>],
-) -> Result<Vec<IndentedLine<'a>>, AllocError>
-    ensures { IfOk result (λ v. map kept_line v.items
-        ≡ filter (λ l. not (read.is_comment l)) (map kept_line lines.now)) }
-{
-    let mut kept = Vec::new(alloc);
-    for line in lines {
-        if !is_comment(line.line) {
-            kept.push(*line)?;
-        }
-    }
-    Ok(kept)
-}
-
-/// The lines from the first one on that is not blank.
-fn without_first_blanks<'a, 'l>(lines: &'l [IndentedLine<'a>]) -> &'l [IndentedLine<'a>]
-    ensures { map kept_line result.now ≡ from_text (map kept_line lines.now) }
-{
-    for (i, line) in lines.iter().enumerate() {
-        if !is_blank(line.line) {
-            return &lines[i..];
-        }
-    }
-    &lines[lines.len()..]
-}
-
-/// The lines up to the last one that is not blank.
-fn without_last_blanks<'a, 'l>(lines: &'l [IndentedLine<'a>]) -> &'l [IndentedLine<'a>]
-    ensures { map kept_line result.now ≡ reverse (from_text (reverse (map kept_line lines.now))) }
-{
-    let mut end = lines.len();
-    while end > 0 {
-        if !is_blank(lines[end - 1].line) {
-            return &lines[..end];
-        }
-        end -= 1;
-    }
-    &lines[..0]
 }
 
 /// Adds a line, after a line feed if it isn't the first.
@@ -106,7 +44,7 @@ fn push_line(text: &mut String, is_first: bool, line: &str) -> Result<(), AllocE
 }
 
 /// The lines with a line feed between them.
-fn joined(alloc: Global, lines: &[IndentedLine<'_>]) -> Result<Text, AllocError>
+pub(crate) fn joined(alloc: Global, lines: &[IndentedLine<'_>]) -> Result<Text, AllocError>
     ensures { IfOk result (λ t. t ≡ join_with_byte line_feed
         (map bytes (map kept_line lines.now))) }
 {

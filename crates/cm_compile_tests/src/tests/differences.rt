@@ -1,7 +1,7 @@
 //! In what streams differ from what their sources' texts compile to.
 use crate::tests::compiled::PLAIN_TEXT;
 use cm_differs::{Difference, pickle_difference, tree_difference};
-use cm_envelope::{Envelope, EnvelopeFault, Pickle as FoundPickle, read_envelope};
+use cm_envelope::{Envelope, EnvelopeFault, NodeId, Pickle as FoundPickle, read_envelope};
 use gk_document::{Document, Text};
 use gk_pickle::{Pickle, compile};
 use gk_tree::parse;
@@ -26,10 +26,10 @@ fn is_difference(difference: &Difference, expected: Option<&str>, found: Option<
         && is_text(&difference.found, found)
 }
 
-fn two_ids(alloc: Global) -> Result<Vec<Text>, AllocError> {
+fn two_ids(alloc: Global) -> Result<Vec<NodeId>, AllocError> {
     let mut ids = Vec::new(alloc);
-    ids.push(Text::copy_of(alloc, "x0")?)?;
-    ids.push(Text::copy_of(alloc, "x1")?)?;
+    ids.push(NodeId::copy_of(alloc, "x0")?)?;
+    ids.push(NodeId::copy_of(alloc, "x1")?)?;
     Ok(ids)
 }
 
@@ -46,14 +46,14 @@ const FOUND_PICKLE: &str =
 fn beside_differs(
     alloc: Global,
     due: &Pickle,
-    ids: &[Text],
+    ids: &[NodeId],
     found: &FoundPickle,
 ) -> Result<bool, AllocError> {
     let beside = pickle_difference(alloc, ids, Some(due), found)?;
     Ok(is_difference(&beside, Some(UNTYPED_PICKLE), Some(FOUND_PICKLE)))
 }
 
-fn surplus_differs(alloc: Global, ids: &[Text], found: &FoundPickle) -> Result<bool, AllocError> {
+fn surplus_differs(alloc: Global, ids: &[NodeId], found: &FoundPickle) -> Result<bool, AllocError> {
     let surplus = pickle_difference(alloc, ids, None, found)?;
     Ok(is_difference(&surplus, None, Some(FOUND_PICKLE)))
 }
@@ -61,7 +61,7 @@ fn surplus_differs(alloc: Global, ids: &[Text], found: &FoundPickle) -> Result<b
 fn pickles_differ(
     alloc: Global,
     due: &Pickle,
-    ids: &[Text],
+    ids: &[NodeId],
     found: &FoundPickle,
 ) -> Result<bool, AllocError> {
     Ok(beside_differs(alloc, due, ids, found)? && surplus_differs(alloc, ids, found)?)
@@ -70,7 +70,7 @@ fn pickles_differ(
 fn read_differs(
     alloc: Global,
     due: &Pickle,
-    ids: &[Text],
+    ids: &[NodeId],
     read: &Result<Envelope, EnvelopeFault>,
 ) -> Result<bool, AllocError> {
     match read {
@@ -79,7 +79,12 @@ fn read_differs(
     }
 }
 
-fn line_differs(alloc: Global, due: &Pickle, ids: &[Text], line: &str) -> Result<bool, AllocError> {
+fn line_differs(
+    alloc: Global,
+    due: &Pickle,
+    ids: &[NodeId],
+    line: &str,
+) -> Result<bool, AllocError> {
     let read = read_envelope(alloc, line.as_bytes());
     let differs = read_differs(alloc, due, ids, &read);
     drop(read);

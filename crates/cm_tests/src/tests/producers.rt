@@ -1,7 +1,7 @@
 //! Lines as today's producers write them, with members that aren't judged.
 use crate::tests::envelopes::word_of;
 use cm_envelope::{
-    Envelope, EnvelopeFault, GherkinDocument, Pickle, PickleStep, StepKind, TestCase,
+    Envelope, EnvelopeFault, GherkinDocument, NodeId, Pickle, PickleStep, StepKind, TestCase,
     TestRunFinished, TestStep, read_envelope,
 };
 use gk_document::Text;
@@ -43,6 +43,13 @@ fn add_all(told: &mut String, texts: &[Text]) -> Result<(), AllocError> {
     Ok(())
 }
 
+fn add_node_ids(told: &mut String, ids: &[NodeId]) -> Result<(), AllocError> {
+    for id in ids {
+        add(told, id.as_str())?;
+    }
+    Ok(())
+}
+
 // Adds the text, or `-` where there is none.
 fn add_optional(told: &mut String, text: &Option<Text>) -> Result<(), AllocError> {
     match text {
@@ -57,7 +64,7 @@ fn add_flag(told: &mut String, flag: bool) -> Result<(), AllocError> {
 
 fn add_document(told: &mut String, document: &GherkinDocument) -> Result<(), AllocError> {
     add(told, document.uri.as_str())?;
-    add_all(told, document.ids.as_slice())
+    add_node_ids(told, document.ids.as_slice())
 }
 
 fn kind_word(kind: Option<StepKind>) -> &'static str {

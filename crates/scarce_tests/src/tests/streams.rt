@@ -2,9 +2,8 @@
 use crate::tests::meeting::{Came, PIECES, SMALL, meet_alone, right_if};
 use cm_audit::{Counts, Verdict, audit};
 use cm_compile::{CompileFault, write_compiled};
-use cm_envelope::{Envelope, EnvelopeFault, Trouble, read_envelope};
+use cm_envelope::{Envelope, EnvelopeFault, NodeId, Trouble, read_envelope};
 use devices::{Compared, Pieces};
-use gk_document::Text;
 use seeds::fixed_seed;
 use std::alloc::Global;
 use std::test::Fail;
@@ -63,7 +62,7 @@ fn is_source(read: &Result<Envelope, EnvelopeFault>) -> bool {
     }
 }
 
-fn are_ids(ids: &[Text]) -> bool {
+fn are_ids(ids: &[NodeId]) -> bool {
     match ids {
         [scenario, step] => scenario.as_str() == "0" && step.as_str() == "1",
         _ => false,

@@ -2,7 +2,7 @@ use Rattle.std.proofs.Common.{◌∙◌, ap, map, sym}
 use Rattle.std.proofs.lemmas.Result.{IfOk-weaker}
 use Rattle.cm_stream.specs.Release.{conditions_of}
 use Rattle.ck_commands.specs.Judged.{added_counts}
-use Rattle.ck_commands.specs.declared.judged_run.RunCounts.{RunCounts}
+use Rattle.ck_commands.specs.declared.run_counts.RunCounts.{RunCounts}
 use Rattle.ck_commands.proofs.FilesTold.{names_count, parts_named, parts_unnamed}
 use Rattle.ck_commands.proofs.command_features.judge_parts.Goals as goal
 

@@ -1,0 +1,5 @@
+use Rattle.std.proofs.Common.{rules}
+use Rattle.cm_envelope.proofs.node_id.NodeId.copy_of.Goals as goal
+
+pub returns : goal.returns
+returns c = search rules
