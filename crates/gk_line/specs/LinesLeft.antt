@@ -5,7 +5,7 @@ use Rattle.std.specs.Str.{chars, IsUtf8}
 use Rattle.gk_line.specs.Lines.{numbered_lines}
 use Rattle.gk_line.specs.Views.{numbered_line}
 use Rattle.gk_line.specs.declared.limit.TheConstants.{FEATURE_LIMIT}
-use Rattle.gk_line.specs.declared.cut_lines.Lines.{Lines}
+use Rattle.gk_line.specs.declared.line_ends.Lines.{Lines}
 use Rattle.gk_line.specs.declared.tokens.Line.{Line}
 
 abbrev pub lines_left : Lines → List (ℕ × List ℕ)

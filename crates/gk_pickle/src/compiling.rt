@@ -5,8 +5,9 @@ ghost use Rattle.gk_pickle.specs.Scenarios.{pickles_of_one};
 
 use crate::columns::Columns;
 use crate::inherited::{Filling, Inherited};
-use crate::pickle::{Pickle, pickle};
+use crate::pickle::Pickle;
 use crate::scenario_in_feature::{ScenarioInFeature, scenarios};
+use crate::spot::pickle;
 use gk_document::{Document, ExampleTable, Scenario, Tag};
 use std::alloc::{AllocError, Global};
 use std::hash::RandomState;

@@ -1,12 +1,6 @@
 //! What is run of a feature file, as the Messages' `pickle` has it.
-ghost use Rattle.std.specs.Prelude.{◌≡◌, ◌∷◌, ◌++◌, map, IfOk, OnOk};
-ghost use Rattle.gk_pickle.specs.Pickles.{pickle_tag, pickle_of};
-ghost use Rattle.gk_pickle.specs.Steps.{filled_by};
 
-use crate::inherited::{Filling, Inherited};
-use crate::steps::all_steps;
-use gk_document::{Scenario, Sequence, Tag, Text};
-use std::alloc::{AllocError, Global};
+use gk_document::{Sequence, Text};
 
 /// The type of a pickle's step. A conjunction has taken that of the step before it.
 #[derive(Clone, Copy, Debug, PartialEq, Eq)]
@@ -61,80 +55,4 @@ pub struct Pickle {
     pub nodes: Sequence<u64>,
     pub tags: Sequence<PickleTag>,
     pub steps: Sequence<PickleStep>,
-}
-
-/// Adds what pickles take of tags.
-fn add_tags(alloc: Global, tags: &[Tag], made: &mut Vec<PickleTag>) -> Result<(), AllocError>
-    ensures { OnOk result (made.new.items ≡ made.old.items ++ map pickle_tag tags.now) }
-{
-    for tag in tags {
-        let name = Text::copy_of(alloc, tag.name.as_str())?;
-        made.push(PickleTag {
-            name,
-            node: tag.node,
-        })?;
-    }
-    Ok(())
-}
-
-/// What a pickle takes of the tags of its feature, rule, scenario and examples block.
-fn pickle_tags(
-    alloc: Global,
-    inherited: &Inherited<'_>,
-    scenario_tags: &[Tag],
-    block_tags: &[Tag],
-) -> Result<Sequence<PickleTag>, AllocError>
-    ensures { IfOk result
-        (λ made. made
-        ≡ map pickle_tag (inherited.now.tags ++ scenario_tags.now ++ block_tags.now)) }
-{
-    let mut made = Vec::new(alloc);
-    add_tags(alloc, inherited.feature_tags, &mut made)?;
-    add_tags(alloc, inherited.rule_tags, &mut made)?;
-    add_tags(alloc, scenario_tags, &mut made)?;
-    add_tags(alloc, block_tags, &mut made)?;
-    Ok(Sequence::from(made))
-}
-
-/// What a scenario's pickle is called, and its nodes, with what fills it.
-pub(crate) fn title(
-    alloc: Global,
-    scenario: &Scenario,
-    filling: &Filling<'_, '_, '_>,
-) -> Result<PickleTitle, AllocError>
-    ensures { IfOk result (λ title. title ≡ record {
-      name = filled_by filling.now scenario.now.name;
-      nodes = scenario.now.node ∷ filling.now.rows;
-    }) }
-{
-    let name = filling.text(alloc, scenario.name.as_str())?;
-    let nodes = filling.nodes(alloc, scenario.node)?;
-    Ok(PickleTitle { name, nodes })
-}
-
-/// A scenario's pickle, with the tags of its examples and what fills it.
-pub(crate) fn pickle(
-    alloc: Global,
-    inherited: &Inherited<'_>,
-    scenario: &Scenario,
-    tags: &[Tag],
-    filling: &Filling<'_, '_, '_>,
-) -> Result<Pickle, AllocError>
-    ensures { IfOk result (λ p. p ≡ pickle_of inherited.now scenario.now tags.now filling.now) }
-{
-    let PickleTitle { name, nodes } = title(alloc, scenario, filling)?;
-    let tags = pickle_tags(alloc, inherited, scenario.tags.as_slice(), tags)?;
-    let steps = all_steps(
-        alloc,
-        inherited.feature_steps,
-        inherited.rule_steps,
-        filling,
-        scenario.steps.as_slice(),
-    )?;
-    Ok(Pickle {
-        name,
-        nodes,
-        tags,
-        steps,
-    })
 }

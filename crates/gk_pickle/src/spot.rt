@@ -1,13 +1,16 @@
 //! What one pickle is made of.
-ghost use Rattle.std.specs.Prelude.{◌≡◌, IfOk, option_map};
+ghost use Rattle.std.specs.Prelude.{◌≡◌, IfOk, option_map, ◌∷◌, ◌++◌, map, OnOk};
 ghost use Rattle.gk_pickle.specs.Rest.{title_of};
 ghost use Rattle.gk_pickle.specs.Spot.{spot_of, spot_pickle};
+ghost use Rattle.gk_pickle.specs.Pickles.{pickle_tag, pickle_of};
+ghost use Rattle.gk_pickle.specs.Steps.{filled_by};
 
 use crate::columns::Columns;
 use crate::inherited::{Filling, Inherited};
-use crate::pickle::{Pickle, PickleTitle, pickle, title};
+use crate::pickle::{Pickle, PickleTag, PickleTitle};
 use crate::scenario_in_feature::ScenarioInFeature;
-use gk_document::{Row, Tag};
+use crate::steps::all_steps;
+use gk_document::{Row, Scenario, Sequence, Tag, Text};
 use std::alloc::{AllocError, Global};
 use std::hash::RandomState;
 use std::marker::Model;
@@ -86,4 +89,80 @@ impl<'a> PickleSpot<'a> {
             None => title(alloc, scenario, &Filling::none()),
         }
     }
+}
+
+/// Adds what pickles take of tags.
+fn add_tags(alloc: Global, tags: &[Tag], made: &mut Vec<PickleTag>) -> Result<(), AllocError>
+    ensures { OnOk result (made.new.items ≡ made.old.items ++ map pickle_tag tags.now) }
+{
+    for tag in tags {
+        let name = Text::copy_of(alloc, tag.name.as_str())?;
+        made.push(PickleTag {
+            name,
+            node: tag.node,
+        })?;
+    }
+    Ok(())
+}
+
+/// What a pickle takes of the tags of its feature, rule, scenario and examples block.
+fn pickle_tags(
+    alloc: Global,
+    inherited: &Inherited<'_>,
+    scenario_tags: &[Tag],
+    block_tags: &[Tag],
+) -> Result<Sequence<PickleTag>, AllocError>
+    ensures { IfOk result
+        (λ made. made
+        ≡ map pickle_tag (inherited.now.tags ++ scenario_tags.now ++ block_tags.now)) }
+{
+    let mut made = Vec::new(alloc);
+    add_tags(alloc, inherited.feature_tags, &mut made)?;
+    add_tags(alloc, inherited.rule_tags, &mut made)?;
+    add_tags(alloc, scenario_tags, &mut made)?;
+    add_tags(alloc, block_tags, &mut made)?;
+    Ok(Sequence::from(made))
+}
+
+/// What a scenario's pickle is called, and its nodes, with what fills it.
+pub(crate) fn title(
+    alloc: Global,
+    scenario: &Scenario,
+    filling: &Filling<'_, '_, '_>,
+) -> Result<PickleTitle, AllocError>
+    ensures { IfOk result (λ title. title ≡ record {
+      name = filled_by filling.now scenario.now.name;
+      nodes = scenario.now.node ∷ filling.now.rows;
+    }) }
+{
+    let name = filling.text(alloc, scenario.name.as_str())?;
+    let nodes = filling.nodes(alloc, scenario.node)?;
+    Ok(PickleTitle { name, nodes })
+}
+
+/// A scenario's pickle, with the tags of its examples and what fills it.
+pub(crate) fn pickle(
+    alloc: Global,
+    inherited: &Inherited<'_>,
+    scenario: &Scenario,
+    tags: &[Tag],
+    filling: &Filling<'_, '_, '_>,
+) -> Result<Pickle, AllocError>
+    ensures { IfOk result (λ p. p ≡ pickle_of inherited.now scenario.now tags.now filling.now) }
+{
+    let PickleTitle { name, nodes } = title(alloc, scenario, filling)?;
+    let tags = pickle_tags(alloc, inherited, scenario.tags.as_slice(), tags)?;
+    let steps = all_steps(
+        alloc,
+        inherited.feature_steps,
+        inherited.rule_steps,
+        filling,
+        scenario.steps.as_slice(),
+    )?;
+    Ok(Pickle {
+        name,
+        nodes,
+        tags,
+        steps,
+    })
 }

@@ -3,7 +3,7 @@ use Rattle.std.proofs.lemmas.Str.{IsCharBoundary-after_ascii}
 use Rattle.std.proofs.lemmas.Bool.{eqb-true}
 use Rattle.memchr.specs.Find.{IsFirstByte, is_byte}
 use Rattle.gk_line.proofs.LineLemmas.{lines-found, lines-missed}
-use Rattle.gk_line.proofs.cut_lines.first_line.Goals as goal
+use Rattle.gk_line.proofs.line_ends.first_line.Goals as goal
 use native.Mathlib.Nat.{sub-zero}
 use Rattle.gk_line.specs.Characters.{line_feed}
 

@@ -2,7 +2,7 @@ use Rattle.std.proofs.Common.{ap, length, arith}
 use Rattle.std.specs.List.{enumerate_from}
 use Rattle.gk_line.specs.Lines.{numbered_lines}
 use Rattle.gk_line.proofs.LineLemmas.{lines_left-nil}
-use Rattle.gk_line.proofs.cut_lines.LinesIterator.next.Goals as goal
+use Rattle.gk_line.proofs.line_ends.LinesIterator.next.Goals as goal
 
 pub returns-clause-steps : goal.returns-clause-steps
 unfolding numbered_lines

@@ -1,7 +1,7 @@
 use Rattle.std.proofs.Common.{refl, lit<}
 use Rattle.std.proofs.lemmas.Str.Pattern.{strip_suffix_char}
 use Rattle.gk_line.proofs.LineLemmas.{stripped-chars}
-use Rattle.gk_line.proofs.cut_lines.without_return.Goals as goal
+use Rattle.gk_line.proofs.line_ends.without_return.Goals as goal
 use Rattle.gk_line.specs.Characters.{carriage_return}
 
 pub returns-clause-value : goal.returns-clause-value

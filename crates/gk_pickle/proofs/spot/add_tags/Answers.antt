@@ -1,7 +1,7 @@
 use Rattle.std.proofs.Common.{map, refl}
 use Rattle.gk_pickle.specs.Pickles.{pickle_tag}
 use Rattle.gk_pickle.proofs.Made.{all_made, one_made}
-use Rattle.gk_pickle.proofs.pickle.add_tags.Goals as goal
+use Rattle.gk_pickle.proofs.spot.add_tags.Goals as goal
 
 pub loop-tag-preserved : goal.loop-tag-preserved
 loop-tag-preserved c =
