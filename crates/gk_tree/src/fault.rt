@@ -1,7 +1,6 @@
 //! The fault of a text that is no feature file, and the faults of lines.
 ghost use Rattle.std.specs.Prelude.{◌≡◌, ◌+◌};
 ghost use Rattle.gk_grammar.specs.declared.fault.FaultKind.TheVariants as kinds;
-ghost use Rattle.gk_grammar.specs.declared.fault.FaultKind.TheVariants as kind;
 
 use crate::token::{IndentedLine, location};
 use gk_document::Location;
@@ -82,7 +81,7 @@ pub(crate) fn spaced_tag(at: IndentedLine<'_>, column: u32) -> ParseFault
 
 /// The fault of a text that ends where it may not, at the line after the last one.
 pub(crate) fn early_end(end_line: u32) -> ParseFault
-    ensures { result ≡ record { kind = kind.UnexpectedEnd; line = end_line; column = 1 } }
+    ensures { result ≡ record { kind = kinds.UnexpectedEnd; line = end_line; column = 1 } }
 {
     ParseFault {
         kind: FaultKind::UnexpectedEnd,
