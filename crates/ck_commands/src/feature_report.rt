@@ -1,4 +1,4 @@
-//! The report of a feature file that gives no document.
+//! The report of a feature file that gives no document, or of a path that gives no feature file.
 ghost use Rattle.std.specs.Prelude.{◌≡◌, IfOk, string_bytes, Ok};
 ghost use Rattle.ck_commands.specs.Features.{fault_report, refused_text};
 ghost use Rattle.ck_commands.specs.Output.{DeliversOne, report_made};

@@ -1,4 +1,4 @@
-//! The ids of the steps of a pickle or of a test case.
+//! The ids of the steps of a pickle or of a test case, and of the pickles that test cases name.
 ghost use Rattle.std.specs.Prelude.{◌≡◌, ℕ, List, IfOk, map, false, true, ◌<◌, IsOk, OnOk, not};
 ghost use Rattle.std.specs.String.{string_bytes};
 ghost use Rattle.cm_attempt.specs.Table.{has_repeat, has_text};

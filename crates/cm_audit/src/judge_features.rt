@@ -1,4 +1,4 @@
-//! The envelopes that say what a run is to execute: sources, documents, parse errors, pickles, definitions and hooks.
+//! The envelopes of features: sources, documents, parse errors and pickles.
 ghost use Rattle.std.specs.Prelude.{◌≡◌, ◌&&◌, IfErr, OnOk, false, true};
 ghost use Rattle.cm_attempt.specs.Table.{has_text};
 ghost use Rattle.cm_envelope.specs.declared.envelope.Envelope.TheVariants as envelope;

@@ -1,4 +1,4 @@
-//! The envelopes that report what was run: the run, its hooks, attempts and their steps, and attachments.
+//! The envelopes of the run itself: its start, its hooks and its end.
 ghost use Rattle.std.specs.Prelude.{◌≡◌, ◌&&◌, not, unwrap_or};
 ghost use Rattle.std.specs.List.{list_any};
 ghost use Rattle.cm_envelope.specs.declared.envelope.Envelope.TheVariants as Envelope;

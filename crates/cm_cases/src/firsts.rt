@@ -1,4 +1,4 @@
-//! The first of some values with each text, by maps.
+//! The first of some values with each text, and how many there are of each, by maps.
 ghost use Rattle.std.specs.Prelude.{◌≡◌, List, ℕ, None, Some, IfOk, OnOk, find, option_map, if◌then◌else◌, ◌+◌, ◌<◌, ◌^◌};
 ghost use Rattle.std.specs.Str.{bytes_eq};
 ghost use Rattle.cm_cases.specs.Firsts.{HasFirsts, or_else, value_at, count_at, times_in};

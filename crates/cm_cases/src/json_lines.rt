@@ -88,8 +88,6 @@ fn add_line(alloc: Global, text: &mut String, case: &CaseJson<'_>) -> Result<(),
     text.push_str("\n")
 }
 
-// ---- how often
-
 // ---- all lines
 
 /// What a listing keeps, for its lines as JSON.

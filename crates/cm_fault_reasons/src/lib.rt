@@ -3,7 +3,6 @@
 #![tactic(auto)]
 
 mod at_line;
-mod attempts;
 mod duplicate;
 mod run;
 mod scenario;

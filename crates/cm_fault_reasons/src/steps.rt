@@ -9,7 +9,7 @@ ghost use Rattle.cm_reasons.specs.Trail.{trail_of};
 ghost use Rattle.cm_steps.specs.Attempts.{start_of};
 ghost use Rattle.cm_fault_reasons.specs.AttemptLines.{move_word, order_at, order_lines, status_lines, status_of_step, step_line, step_lines};
 
-use crate::attempts::add_start;
+use crate::scenario::add_start;
 use cm_attempt::DueStep;
 use cm_audit::State;
 use cm_envelope::Envelope;

@@ -9,10 +9,9 @@ ghost use Rattle.cm_fault_reasons.specs.ToldKept.{lines_by, told_by};
 ghost use Rattle.cm_fault_reasons.specs.Unknown.{told_id, told_line, told_lines};
 ghost use Rattle.cm_fault_reasons.specs.UnknownKept.{told_view};
 
-use crate::attempts::{add_misnumbered, add_started};
 use crate::duplicate::first_duplicate;
 use crate::run::{add_ended_hook, add_open_cases};
-use crate::scenario::add_declared;
+use crate::scenario::{add_declared, add_misnumbered, add_started};
 use crate::steps::{add_order, add_step_status};
 use crate::unknown::{Told, first_unknown};
 use cm_attempt::Settings;

@@ -1,4 +1,4 @@
-//! The lines inside a doc string.
+//! The lines of a doc string: its fences and what stands between them.
 ghost use Rattle.std.specs.Prelude.{◌≡◌, ◌≤◌, ◌∷◌, ◌+◌, ◌++◌, length, IfOk, IsOk, OnErr, OnOk, IsTrue, codes, nat_eq, IfSome};
 ghost use Rattle.std.specs.Char.{is_ascii};
 ghost use Rattle.std.specs.List.{list_all, list_any};

@@ -1,4 +1,4 @@
-//! The lines that begin with a keyword, a fence or a language mark: titles, steps, doc string fences and language lines.
+//! The lines that begin with a keyword, titles and steps, and language lines.
 ghost use Rattle.std.specs.Prelude.{◌≡◌, ◌≤◌, ◌++◌, ℕ, length, find, codes, nat_eq, IfSome};
 ghost use Rattle.std.specs.List.{list_any, list_all};
 ghost use Rattle.std.specs.Str.{chars, bytes_eq, IsUtf8};

@@ -1,4 +1,4 @@
-//! The rules of the grammar as a table: which parts a part is cut into.
+//! The rules of the grammar as a table: which parts a part is cut into, and which lines it may be.
 ghost use Rattle.std.specs.Prelude.{◌≡◌, [], None};
 ghost use Rattle.gk_plain.specs.Plain.{rule_of};
 ghost use Rattle.std.specs.List.{list_all};

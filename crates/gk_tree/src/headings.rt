@@ -1,4 +1,4 @@
-//! Comments, tag lines and title lines.
+//! Tag lines and title lines.
 ghost use Rattle.std.specs.Prelude.{◌≡◌, ◌<◌, ◌≤◌, ◌^◌, ◌+◌, ◌++◌, map, length, Ok, IfOk};
 ghost use Rattle.gk_grammar.specs.Machine as machine;
 ghost use Rattle.gk_tree.specs.Views.{word_of, body_of, state_so_far, state_in, Gives};

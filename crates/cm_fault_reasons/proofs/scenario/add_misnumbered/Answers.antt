@@ -8,7 +8,7 @@ use Rattle.cm_stream.specs.Texts.{Utf8}
 use Rattle.cm_fault_reasons.specs.AttemptLines.{attempt_line, case_line, number_line, number_lines}
 use Rattle.cm_fault_reasons.specs.ToldKept.{last_number}
 use Rattle.cm_fault_reasons.proofs.TextLemmas.{three_more}
-use Rattle.cm_fault_reasons.proofs.attempts.add_misnumbered.Goals as goal
+use Rattle.cm_fault_reasons.proofs.scenario.add_misnumbered.Goals as goal
 
 pub returns-in_ok-add_start-in-TestCaseStarted : goal.returns-in_ok-add_start-in-TestCaseStarted
 returns-in_ok-add_start-in-TestCaseStarted c =

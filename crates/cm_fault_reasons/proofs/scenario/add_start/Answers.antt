@@ -1,7 +1,7 @@
 use Rattle.std.proofs.Common.{◌∙◌, ap, ◌++◌, List, ℕ}
 use Rattle.cm_cases.proofs.ListingLemmas.{on_ok}
 use Rattle.cm_fault_reasons.specs.AttemptLines.{attempt_line}
-use Rattle.cm_fault_reasons.proofs.attempts.add_start.Goals as goal
+use Rattle.cm_fault_reasons.proofs.scenario.add_start.Goals as goal
 
 pub returns : goal.returns
 returns c =
