@@ -5,8 +5,7 @@ ghost use Rattle.cm_fault_reasons.specs.Duplicate.{first_repeat};
 ghost use Rattle.cm_fault_reasons.specs.DuplicateKept.{duplicate_by};
 
 use cm_audit::State;
-use cm_envelope::{Envelope, Pickle, PickleStep, TestCase, TestStep};
-use gk_document::Text;
+use cm_envelope::{Envelope, NodeId, Pickle, PickleStep, TestCase, TestStep};
 use indexmap::IndexSet;
 use std::alloc::{AllocError, Global};
 use std::hash::RandomState;
@@ -31,7 +30,7 @@ fn first_repeat<'a>(
 }
 
 /// The ids of a document's nodes.
-fn node_ids<'a>(alloc: Global, ids: &'a [Text]) -> Result<Vec<&'a str>, AllocError>
+fn node_ids<'a>(alloc: Global, ids: &'a [NodeId]) -> Result<Vec<&'a str>, AllocError>
     ensures { IfOk result (λ texts. map (λ t. t.now) texts.items ≡ ids.now) }
 {
     let mut texts = Vec::new(alloc);
