@@ -1,10 +1,8 @@
 -- Steps after earlier ones, one more and in two parts.
-use Rattle.std.proofs.Common.{◌≡◌, ◌≢◌, ℕ, ◌+◌, ◌<◌, List, [], ◌∷◌, ◌++◌, length, take, drop, get_or, map, refl, sym, ap, ◌∙◌, append_assoc, append-nil}
+use Rattle.std.proofs.Common.{◌≡◌, ◌≢◌, ℕ, ◌+◌, ◌<◌, List, [], ◌∷◌, ◌++◌, length, take, drop, get_or, refl, sym, ap, ◌∙◌, append_assoc, append-nil}
 use Rattle.std.proofs.lemmas.List.{take_more, drop_more, map-append}
 use Rattle.gk_document.specs.declared.tree.KeywordType.{KeywordType}
-use Rattle.gk_document.specs.declared.tree.Row.{Row}
 use Rattle.gk_document.specs.declared.tree.Step.{Step}
-use Rattle.gk_pickle.specs.declared.pickle.Pickle.{Pickle}
 use Rattle.gk_pickle.specs.declared.pickle.StepType.{StepType}
 use Rattle.gk_pickle.specs.declared.pickle.PickleStep.{PickleStep}
 use Rattle.gk_pickle.specs.Inherited.{Filling, no_filling}
@@ -43,10 +41,3 @@ all_made a b (s ∷ ss) f nothing m₁ m₂ m₃ some none e₁ e₂ e₃ =
 
 pub type_after_two : (a b : List Step) (t : StepType) → t ≡ type_of (keyword_types a ++ keyword_types b) → t ≡ type_of (keyword_types (a ++ b))
 type_after_two a b t h = h ∙ ap type_of (sym (map-append (λ (x : Step). x.kind) a b))
-
--- one row more has its pickle
-pub one_row : (made new all : List Pickle) (g : Row → Pickle) (items rows : List Row) (i : ℕ) (row : Row) (p : Pickle) → items ≡ rows → new ≡ made ++ p ∷ []
-    → p ≡ g row → i < length items → row ≡ get_or items i row → made ++ map g (drop i rows) ≡ all → new ++ map g (drop (i + 1) rows) ≡ all
-one_row made new all g items rows i row p same n e l at so_far =
-    let next : drop i rows ≡ row ∷ drop (i + 1) rows = rw (← same) (drop_more items i row l ∙ ap (λ x. x ∷ drop (i + 1) items) (sym at)) in
-    rw (n, e) (append_assoc made (g row ∷ []) (map g (drop (i + 1) rows)) ∙ ap (λ xs. made ++ map g xs) (sym next) ∙ so_far)

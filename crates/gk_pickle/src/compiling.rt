@@ -1,6 +1,6 @@
 //! The pickles of a document.
-ghost use Rattle.std.specs.Prelude.{◌≡◌, ◌++◌, Some, IfOk, OnOk};
-ghost use Rattle.gk_pickle.specs.Pickles.{table_pickles, scenario_pickles, pickles};
+ghost use Rattle.std.specs.Prelude.{◌≡◌, ◌++◌, ◌∷◌, [], map, Some, IfOk, OnOk};
+ghost use Rattle.gk_pickle.specs.Pickles.{pickle_of, table_pickles, scenario_pickles, pickles};
 ghost use Rattle.gk_pickle.specs.Scenarios.{pickles_of_one};
 
 use crate::columns::Columns;
@@ -8,7 +8,7 @@ use crate::inherited::{Filling, Inherited};
 use crate::pickle::Pickle;
 use crate::scenario_in_feature::{ScenarioInFeature, scenarios};
 use crate::spot::pickle;
-use gk_document::{Document, ExampleTable, Scenario, Tag};
+use gk_document::{Document, ExampleTable, Row, Scenario, Tag};
 use std::alloc::{AllocError, Global};
 use std::hash::RandomState;
 
@@ -27,8 +27,28 @@ fn add_rows(
         ≡ made.old.items ++ table_pickles inherited.now scenario.now tags.now (Some table.now)) }
 {
     let columns = Columns::of(alloc, seed, table.header.cells.as_slice())?;
-    for row in table.body.as_slice() {
-        let filling = Filling::of_row(&columns, row);
+    let rows = table.body.as_slice();
+    let added = add_filled_rows(alloc, inherited, scenario, tags, &columns, rows, made);
+    drop(columns);
+    added
+}
+
+/// Adds a pickle for each of these rows, under the columns of their header.
+fn add_filled_rows(
+    alloc: Global,
+    inherited: &Inherited<'_>,
+    scenario: &Scenario,
+    tags: &[Tag],
+    columns: &Columns<'_>,
+    rows: &[Row],
+    made: &mut Vec<Pickle>,
+) -> Result<(), AllocError>
+    ensures { OnOk result (made.new.items ≡ made.old.items
+        ++ map (λ row. pickle_of inherited.now scenario.now tags.now
+        (record { header = columns.now; cells = row.cells; rows = row.node ∷ [] })) rows.now) }
+{
+    for row in rows {
+        let filling = Filling::of_row(columns, row);
         let pickle = pickle(alloc, inherited, scenario, tags, &filling)?;
         made.push(pickle)?;
     }

@@ -158,18 +158,17 @@ fn cut_at_bracket(text: &str) -> Option<(&str, u8, &str)>
 }
 
 /// The text, filled in one pass from a row under a header whose names have no bracket.
-pub(crate) fn fill_in_one_pass(
+pub(crate) fn fill_in_one_pass<'t>(
     alloc: Global,
-    text: &str,
+    text: &'t str,
     columns: &Columns<'_>,
-    row: &[Cell],
+    row: &'t [Cell],
 ) -> Result<String, AllocError>
     requires { HaveNoBracket columns.now }
     ensures { IfOk result (λ s. string_bytes s ≡ filled_text text.now columns.now row.now) }
 {
+    let mut parts = vec![in alloc; Part { text, done: 0 }]?;
     let mut reading = Reading::new(alloc);
-    let mut parts = Vec::new(alloc);
-    parts.push(Part { text, done: 0 })?;
     while let Some(part) = parts.pop() {
         reading.read_part(part, &mut parts, columns, row)?;
     }

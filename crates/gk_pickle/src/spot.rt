@@ -67,7 +67,9 @@ impl<'a> PickleSpot<'a> {
             Some((header, row)) => {
                 let columns = Columns::of(alloc, seed, header.cells.as_slice())?;
                 let filling = Filling::of_row(&columns, row);
-                pickle(alloc, &inherited, scenario, self.tags, &filling)
+                let made = pickle(alloc, &inherited, scenario, self.tags, &filling);
+                drop(columns);
+                made
             }
             None => pickle(alloc, &inherited, scenario, self.tags, &Filling::none()),
         }
@@ -84,7 +86,9 @@ impl<'a> PickleSpot<'a> {
         match self.row {
             Some((header, row)) => {
                 let columns = Columns::of(alloc, seed, header.cells.as_slice())?;
-                title(alloc, scenario, &Filling::of_row(&columns, row))
+                let made = title(alloc, scenario, &Filling::of_row(&columns, row));
+                drop(columns);
+                made
             }
             None => title(alloc, scenario, &Filling::none()),
         }

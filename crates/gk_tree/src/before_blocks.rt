@@ -1,5 +1,7 @@
 //! The lines before the first block, and those after tags.
 ghost use Rattle.std.specs.Prelude.{◌≡◌, ◌<◌, ◌^◌};
+ghost use Rattle.gk_line.specs.Views.{line_chars, title_text};
+ghost use Rattle.gk_grammar.specs.Token as read;
 ghost use Rattle.gk_grammar.specs.Machine as machine;
 ghost use Rattle.gk_tree.specs.Views.{line_at, phase_of, head_of, state_so_far, state_in, Gives};
 
@@ -12,7 +14,7 @@ use crate::state::{Phase, Progress};
 use crate::token::{IndentedLine, Token, location};
 use gk_document::{Sequence, Tag};
 use gk_grammar::FaultKind;
-use gk_line::Block;
+use gk_line::{Block, Title};
 use std::alloc::Global;
 
 /// Before the first block, after the language line or not.
@@ -108,12 +110,31 @@ pub(crate) fn after_tags<'a>(
         Token::Tags(line) => add_tags(alloc, progress, before, tags, at, line),
         Token::SpacedTag(column) => Err(spaced_tag(at, column)),
         Token::Title(block, title) => {
-            if follows(before, block) && block != Block::Background {
-                open_block(alloc, progress, block, tags, at, title)
-            } else {
-                Err(unexpected(at))
-            }
+            title_after_tags(alloc, progress, before, block, tags, at, title)
         }
         _ => Err(unexpected(at)),
+    }
+}
+
+/// A title line after tag lines.
+fn title_after_tags<'a>(
+    alloc: Global,
+    progress: &mut Progress,
+    before: Option<Block>,
+    block: Block,
+    tags: Sequence<Tag>,
+    at: IndentedLine<'a>,
+    title: Title<'a>,
+) -> Result<Phase<'a>, ParseFault>
+    requires room { progress.old.nodes < 2 ^ 63 }
+    ensures { Gives (state_in progress.new) result
+        (machine.after_tags (state_so_far progress.old) before tags
+        (read.line at.entry.line.number (line_chars at.entry.line) at.entry.indent
+        (read.title_token block (title_text title.entry)))) }
+{
+    if follows(before, block) && block != Block::Background {
+        open_block(alloc, progress, block, tags, at, title)
+    } else {
+        Err(unexpected(at))
     }
 }

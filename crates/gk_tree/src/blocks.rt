@@ -46,6 +46,23 @@ pub(crate) fn close_block<'a>(
 {
     let block = flat_block.block;
     progress.flat_blocks.push(flat_block)?;
+    after_block(alloc, progress, block, at, token)
+}
+
+/// A line after a whole block, which is added.
+fn after_block<'a>(
+    alloc: Global,
+    progress: &mut Progress,
+    block: Block,
+    at: IndentedLine<'a>,
+    token: Token<'a>,
+) -> Result<Phase<'a>, ParseFault>
+    requires room { progress.old.nodes < 2 ^ 63 }
+    ensures { (s : machine.State) (c : machine.FlatBlock)
+        → state_so_far progress.old ≡ machine.add_block s c → block ≡ c.block
+        → Gives (state_in progress.new) result
+        (machine.close_block s c (line_at at.entry token.entry)) }
+{
     match token {
         Token::Tags(line) => {
             add_tags(alloc, progress, Some(block), Sequence::new(alloc), at, line)

@@ -1,11 +1,11 @@
 //! The lines in a description, and the first one after it.
-ghost use Rattle.std.specs.Prelude.{◌≡◌, ◌<◌, ◌^◌, ℕ, List, map, reverse, filter, not, IfOk};
+ghost use Rattle.std.specs.Prelude.{◌≡◌, ◌<◌, ◌^◌, ◌++◌, ◌∷◌, [], ℕ, List, map, reverse, filter, not, IfOk, OnOk};
 ghost use Rattle.gk_grammar.specs.Token as read;
 ghost use Rattle.gk_grammar.specs.Grammar as grammar;
 ghost use Rattle.gk_grammar.specs.Machine as machine;
 ghost use Rattle.gk_tree.specs.Views.{token_view, line_at, flat_block_of, kept_line, state_so_far, state_in, Gives};
 ghost use Rattle.gk_tree.specs.Read.{IsRead};
-ghost use Rattle.gk_grammar.specs.Grammar.{description_of, from_text};
+ghost use Rattle.gk_grammar.specs.Grammar.{comments_of, description_of, from_text};
 
 use crate::blocks::{close_block, follows};
 use crate::comments::keep_if_comment;
@@ -24,7 +24,7 @@ use std::alloc::{AllocError, Global};
 pub(crate) fn in_description<'a>(
     alloc: Global,
     progress: &mut Progress,
-    mut flat_block: Box<FlatBlock>,
+    flat_block: Box<FlatBlock>,
     mut lines: Vec<IndentedLine<'a>>,
     at: IndentedLine<'a>,
     token: Token<'a>,
@@ -36,12 +36,42 @@ pub(crate) fn in_description<'a>(
         (line_at at.entry token.entry)) }
 {
     if stops(flat_block.block, &token) {
-        flat_block.description = description(alloc, &lines)?;
+        let flat_block = with_description(alloc, flat_block, lines)?;
         return after_description(alloc, progress, flat_block, at, token);
     }
-    keep_if_comment(alloc, progress, at, &token)?;
-    lines.push(at)?;
+    keep_line(alloc, progress, &mut lines, at, &token)?;
     Ok(Phase::InDescription(flat_block, lines))
+}
+
+/// Keeps a line of a description, also as a comment if it is one.
+fn keep_line<'a>(
+    alloc: Global,
+    progress: &mut Progress,
+    lines: &mut Vec<IndentedLine<'a>>,
+    at: IndentedLine<'a>,
+    token: &Token<'a>,
+) -> Result<(), AllocError>
+    ensures comments { OnOk result (progress.new ≡ record progress.old {
+      comments = progress.old.comments ++ comments_of (line_at at.entry token.now ∷ []);
+    }) }
+    ensures lines { OnOk result (lines.new.items ≡ lines.old.items ++ at.entry ∷ []) }
+{
+    keep_if_comment(alloc, progress, at, token)?;
+    Ok(lines.push(at)?)
+}
+
+/// The block with the description that these lines are.
+pub(crate) fn with_description(
+    alloc: Global,
+    mut flat_block: Box<FlatBlock>,
+    lines: Vec<IndentedLine<'_>>,
+) -> Result<Box<FlatBlock>, AllocError>
+    ensures { IfOk result (λ c. flat_block_of c.value
+        ≡ machine.with_description (flat_block_of flat_block.value)
+        (map kept_line lines.entry.items)) }
+{
+    flat_block.description = description(alloc, &lines)?;
+    Ok(flat_block)
 }
 
 /// Whether the line ends a description of the block.
@@ -79,7 +109,7 @@ fn after_description<'a>(
 }
 
 /// The text of a description of these lines.
-pub(crate) fn description(alloc: Global, lines: &[IndentedLine<'_>]) -> Result<Text, AllocError>
+fn description(alloc: Global, lines: &[IndentedLine<'_>]) -> Result<Text, AllocError>
     ensures { IfOk result (λ t. t ≡ description_of (map kept_line lines.now)) }
 {
     let kept = without_comments(alloc, lines)?;

@@ -15,7 +15,7 @@ ghost use Rattle.gk_tree.specs.EndViews.{last_as_list};
 
 use crate::assemble::build_feature;
 use crate::before_blocks::{after_language, after_tags, at_start};
-use crate::descriptions::{description, in_description};
+use crate::descriptions::{in_description, with_description};
 use crate::fault::{ParseFault, early_end};
 use crate::flat_block::FlatBlock;
 use crate::line_tokens::{head, token};
@@ -179,8 +179,8 @@ fn last_block(
 {
     match phase {
         Phase::Start => Ok(None),
-        Phase::InDescription(mut flat_block, lines) => {
-            flat_block.description = description(alloc, &lines)?;
+        Phase::InDescription(flat_block, lines) => {
+            let flat_block = with_description(alloc, flat_block, lines)?;
             Ok(Some(Box::into_inner(flat_block)))
         }
         Phase::AfterStep(stepped) => Ok(Some(with_steps(stepped)?)),

@@ -59,11 +59,18 @@ pub(crate) fn with_steps(stepped: Box<BlockWithSteps>) -> Result<FlatBlock, Allo
         before,
         last,
     } = Box::into_inner(stepped);
+    flat_block.body = Body::Steps(all_steps(before, last)?);
+    Ok(flat_block)
+}
+
+/// The steps of a block, in no more memory than they take.
+fn all_steps(before: Sequence<Step>, last: Step) -> Result<Sequence<Step>, AllocError>
+    ensures { IfOk result (λ steps. steps ≡ before ++ last ∷ []) }
+{
     let mut steps = before.into_vec();
     steps.push(last)?;
     steps.shrink_to_fit();
-    flat_block.body = Body::Steps(Sequence::from(steps));
-    Ok(flat_block)
+    Ok(Sequence::from(steps))
 }
 
 /// A step line after steps.
