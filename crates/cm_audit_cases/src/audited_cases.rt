@@ -28,11 +28,20 @@ fn with_cases(watched: Result<WatchedAudit<CaseWatch>, Trouble>) -> Result<Audit
     ensures { result ≡ with_cases watched }
 {
     match watched {
-        Ok(watched) => Ok(AuditedCases {
-            audited: watched.audited,
-            listing: watched.watch.listing,
-            attempts: watched.state.into_track(),
-        }),
+        Ok(watched) => {
+            let WatchedAudit {
+                audited,
+                watch,
+                last,
+                state,
+            } = watched;
+            drop(last);
+            Ok(AuditedCases {
+                audited,
+                listing: watch.listing,
+                attempts: state.into_track(),
+            })
+        }
         Err(trouble) => Err(trouble),
     }
 }

@@ -50,8 +50,9 @@ fn add_pickle(
         ++ pickle_reason_text_by (summary_of state.now) es pickle.now) }
 {
     let places = trail.places(alloc, seed)?;
-    add_of_pickle(alloc, seed, text, state, &places, pickle)?;
-    Ok(())
+    let added = add_of_pickle(alloc, seed, text, state, &places, pickle);
+    drop(places);
+    added
 }
 
 /// Adds what is told of an envelope, where it is a pickle.
@@ -86,8 +87,9 @@ fn add_at_end(
         ≡ string_bytes text.old ++ lack_lines_by (summary_of state.now) es) }
 {
     let places = trail.places(alloc, seed)?;
-    add_first_lack(alloc, seed, text, state, &places)?;
-    Ok(())
+    let added = add_first_lack(alloc, seed, text, state, &places);
+    drop(places);
+    added
 }
 
 /// Adds what is told, by what is kept.

@@ -1,4 +1,6 @@
+use Rattle.cm_cases.proofs.ListingLemmas.{on_ok}
 use Rattle.cm_source_reasons.proofs.source_reasons.add_pickle.Goals as goal
 
 pub returns : goal.returns
-returns c es is = c.in_ok-add_of_pickle.ensures es (c.in_ok-places.ensures es is)
+returns c =
+    on_ok c.add_of_pickle-added.result c.add_of_pickle-added.ensures (λ h es is. h es (c.in_ok-places.ensures es is))
