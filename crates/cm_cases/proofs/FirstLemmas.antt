@@ -70,19 +70,34 @@ module _ {V S : Type 0} where
       (λ no. rw no (sym (or_none (value_at old other))))
       (cases_Bool (bytes_eq other text))
 
+  -- the first with one value more
+  pub one_more : {X Y : Type 0} (seen : V → Y) (made : X → Y) (key : X → Utf8) (xs : List X) (x : X) (old new : IndexMap (Bor Utf8) V S) (text : Utf8) (v : V)
+      → text ≡ key x → seen v ≡ made x → HasFirsts seen made key xs old
+      → ((other : Utf8) → value_at new other ≡ or_else (value_at old other) (if bytes_eq other text then Some v else None))
+      → HasFirsts seen made key (xs ++ x ∷ []) new
+  one_more seen made key xs x old new text v t s h a other =
+      ap (option_map seen) (a other) ∙ or_map seen (value_at old other) _
+      ∙ (λ j. or_else (h other j) (map_if seen (bytes_eq other (t j)) v j))
+      ∙ (λ j. or_else (option_map made (find (λ y. bytes_eq other (key y)) xs)) (if bytes_eq other (key x) then Some (s j) else None))
+      ∙ ap (or_else (option_map made (find (λ y. bytes_eq other (key y)) xs))) (sym (map_if made (bytes_eq other (key x)) x))
+      ∙ sym (or_map made (find (λ y. bytes_eq other (key y)) xs) (if bytes_eq other (key x) then Some x else None))
+      ∙ ap (option_map made) (sym (find_push (λ y. bytes_eq other (key y)) xs x))
+
+  -- those before a place and the one there are those before the next
+  pub up_to_next : {X Y : Type 0} (seen : V → Y) (made : X → Y) (key : X → Utf8) (xs : List X) (i : ℕ) (x : X) (m : IndexMap (Bor Utf8) V S)
+      → i < length xs → x ≡ get_or xs i x → HasFirsts seen made key (take i xs ++ x ∷ []) m
+      → HasFirsts seen made key (take (i + 1) xs) m
+  up_to_next {X} {Y} seen made key xs i x m l at h other =
+      h other
+      ∙ ap (λ (ys : List X). option_map made (find (λ y. bytes_eq other (key y)) ys)) (sym (take_more xs i x l ∙ ap (λ y. take i xs ++ y ∷ []) (sym at)))
+
   -- the first of one value more
   pub one_first : {X Y : Type 0} (seen : V → Y) (made : X → Y) (key : X → Utf8) (xs : List X) (i : ℕ) (x : X) (old new : IndexMap (Bor Utf8) V S) (text : Utf8) (v : V)
       → i < length xs → x ≡ get_or xs i x → text ≡ key x → seen v ≡ made x → HasFirsts seen made key (take i xs) old
       → ((other : Utf8) → value_at new other ≡ or_else (value_at old other) (if bytes_eq other text then Some v else None))
       → HasFirsts seen made key (take (i + 1) xs) new
-  one_first {X} {Y} seen made key xs i x old new text v l at t s h a other =
-      ap (option_map seen) (a other) ∙ or_map seen (value_at old other) _
-      ∙ (λ j. or_else (h other j) (map_if seen (bytes_eq other (t j)) v j))
-      ∙ (λ j. or_else (option_map made (find (λ y. bytes_eq other (key y)) (take i xs))) (if bytes_eq other (key x) then Some (s j) else None))
-      ∙ ap (or_else (option_map made (find (λ y. bytes_eq other (key y)) (take i xs)))) (sym (map_if made (bytes_eq other (key x)) x))
-      ∙ sym (or_map made (find (λ y. bytes_eq other (key y)) (take i xs)) (if bytes_eq other (key x) then Some x else None))
-      ∙ ap (option_map made) (sym (find_push (λ y. bytes_eq other (key y)) (take i xs) x))
-      ∙ ap (λ (ys : List X). option_map made (find (λ y. bytes_eq other (key y)) ys)) (sym (take_more xs i x l ∙ ap (λ y. take i xs ++ y ∷ []) (sym at)))
+  one_first seen made key xs i x old new text v l at t s h a =
+      up_to_next seen made key xs i x new l at (one_more seen made key (take i xs) x old new text v t s h a)
 
 map_same : {V : Type 0} (o : Option V) → option_map (λ x. x) o ≡ o
 map_same None = refl

@@ -10,6 +10,7 @@ ghost use Rattle.cm_cases.specs.Listed.{listing_of};
 
 use crate::firsts::{ByText, count_of, counts_of};
 use crate::listing::{Listing, PickleEntry};
+use crate::pairs::both;
 use crate::places::Places;
 use crate::shown::add_shown_json;
 use cm_messages::{SendJson, json_text, send_list_member, send_number, send_str, send_text};
@@ -123,10 +124,13 @@ impl<'a> JsonLines<'a> {
     ) -> Result<JsonLines<'a>, AllocError>
         ensures { IfOk result (λ lines. lines ≡ listing.now) }
     {
+        let places = Places::of(alloc, seed, listing);
+        let attempts = counts_of(alloc, seed, listing.starts.as_slice());
+        let (places, attempts) = both(places, attempts)?;
         Ok(JsonLines {
             listing,
-            places: Places::of(alloc, seed, listing)?,
-            attempts: counts_of(alloc, seed, listing.starts.as_slice())?,
+            places,
+            attempts,
         })
     }
 

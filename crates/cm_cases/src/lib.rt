@@ -31,6 +31,7 @@
 mod firsts;
 mod json_lines;
 mod listing;
+mod pairs;
 mod places;
 mod shown;
 

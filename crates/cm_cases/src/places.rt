@@ -1,15 +1,17 @@
 //! The lines of cases and pickles.
-ghost use Rattle.std.specs.Prelude.{◌≡◌, ◌++◌, List, [], IfOk, OnOk, find, option_map, string_bytes, map};
+ghost use Rattle.std.specs.Prelude.{◌≡◌, ◌++◌, ◌∷◌, List, [], IfOk, OnOk, find, option_map, string_bytes, map};
 ghost use Rattle.std.specs.Option.{option_map_or};
 ghost use Rattle.std.specs.Str.{bytes_eq};
 ghost use Rattle.cm_envelope.specs.declared.envelope.Envelope.{Envelope};
 ghost use Rattle.cm_cases.specs.Firsts.{HasFirsts, case_place_text, entry_of, entry_scenario, entry_text, is_named, line_at_in, line_in, scenario_in, unrun_entries_text};
 ghost use Rattle.cm_cases.specs.Listed.{listing_of};
+ghost use Rattle.cm_cases.specs.declared.listing.DocumentEntry.{DocumentEntry as SomeDocument};
 ghost use Rattle.cm_cases.specs.Places.{case_place, case_scenario, pickle_scenario, scenario_at, unrun_lines, example_rows, place, places_of, scenario_places};
 ghost use Rattle.std.specs.List.{flat_map};
 
 use crate::firsts::{ByText, CaseId, CasePickle, PickleId, PlaceId, add_first, firsts_of};
 use crate::listing::{CaseEntry, DocumentEntry, Listing, PickleEntry, Place};
+use crate::pairs::both;
 use crate::shown::add_shown;
 use cm_envelope::{GherkinDocument, NodeId, id_of};
 use gk_document::{Examples, Location, Row, Rule, Scenario, Sequence, Text};
@@ -57,6 +59,21 @@ impl<'a> Lines<'a> {
     }
 }
 
+/// Adds the places of a document, if its uri has none yet.
+fn add_document<'a>(
+    alloc: Global,
+    seed: RandomState,
+    map: &mut ByText<'a, Lines<'a>>,
+    entry: &'a DocumentEntry,
+) -> Result<(), AllocError>
+    ensures { OnOk result ((before : List SomeDocument)
+        → HasFirsts (λ l. l) (λ d. d.places) (λ d. d.uri) before map.old
+        → HasFirsts (λ l. l) (λ d. d.places) (λ d. d.uri) (before ++ entry.now ∷ []) map.new) }
+{
+    let lines = Lines::of(alloc, seed, entry.places.as_slice())?;
+    add_first(map, entry.uri.as_str(), lines)
+}
+
 /// The documents by their uris.
 fn documents<'a>(
     alloc: Global,
@@ -67,8 +84,7 @@ fn documents<'a>(
 {
     let mut map = IndexMap::with_hasher(alloc, seed);
     for entry in entries {
-        let lines = Lines::of(alloc, seed, entry.places.as_slice())?;
-        add_first(&mut map, entry.uri.as_str(), lines)?;
+        add_document(alloc, seed, &mut map, entry)?;
     }
     Ok(map)
 }
@@ -110,12 +126,20 @@ impl<'a> Places<'a> {
     ) -> Result<Places<'a>, AllocError>
         ensures { IfOk result (λ places. places ≡ listing.now) }
     {
+        let cases = firsts_of::<CaseId, CaseEntry>(alloc, seed, listing.cases.as_slice());
+        let named = firsts_of::<CasePickle, CaseEntry>(alloc, seed, listing.cases.as_slice());
+        let pickles = firsts_of::<PickleId, PickleEntry>(alloc, seed, listing.pickles.as_slice());
+        let documents = documents(alloc, seed, listing.documents.as_slice());
+        let ((cases, named), (pickles, documents)) = both(
+            both(cases, named),
+            both(pickles, documents),
+        )?;
         Ok(Places {
             listing,
-            cases: firsts_of::<CaseId, CaseEntry>(alloc, seed, listing.cases.as_slice())?,
-            named: firsts_of::<CasePickle, CaseEntry>(alloc, seed, listing.cases.as_slice())?,
-            pickles: firsts_of::<PickleId, PickleEntry>(alloc, seed, listing.pickles.as_slice())?,
-            documents: documents(alloc, seed, listing.documents.as_slice())?,
+            cases,
+            named,
+            pickles,
+            documents,
         })
     }
 

@@ -1,9 +1,9 @@
 //! Lines below one another, a hundred at most.
-ghost use Rattle.std.specs.Prelude.{◌≡◌, ◌≢◌, ◌++◌, List, ℕ, OnOk, map, string_bytes};
+ghost use Rattle.std.specs.Prelude.{◌≡◌, ◌≢◌, ◌++◌, List, ℕ, IfOk, OnOk, map, string_bytes};
 ghost use Rattle.cm_envelope.specs.declared.envelope.Envelope.{Envelope as SomeEnvelope};
 ghost use Rattle.cm_reasons.specs.Lines.{ended, limited, more_text};
 
-use std::alloc::AllocError;
+use std::alloc::{AllocError, Global};
 
 /// How many lines of a kind are shown.
 pub const MOST_LINES: u64 = 100;
@@ -67,4 +67,21 @@ pub fn add_limited<T, L: AddLine<T>>(
     }
     add_each(text, lines, &items[..MOST_LINES as usize])?;
     add_more(text, count - MOST_LINES)
+}
+
+/// The lines of the first hundred items, and how many more there are.
+///
+/// # Errors
+/// Only where there is no memory for them.
+pub(crate) fn limited_text<T, L: AddLine<T>>(
+    alloc: Global,
+    lines: &L,
+    items: &[T],
+) -> Result<String, AllocError>
+    ensures { IfOk result (λ text. (es : List SomeEnvelope) → L.of lines.now es
+        → string_bytes text ≡ limited (map (L.line lines.now es) items.now)) }
+{
+    let mut text = String::new(alloc);
+    add_limited(&mut text, lines, items)?;
+    Ok(text)
 }

@@ -7,7 +7,7 @@ ghost use Rattle.cm_reasons.specs.Lines.{limited};
 ghost use Rattle.cm_reasons.specs.Reasons.{case_lines, pickle_lines};
 ghost use Rattle.cm_reasons.specs.Trail.{trail_of};
 
-use crate::lines::{AddLine, add_limited};
+use crate::lines::{AddLine, limited_text};
 use crate::trail::Trail;
 use cm_cases::Places;
 use std::alloc::{AllocError, Global};
@@ -61,13 +61,13 @@ fn pickle_lines(
         → string_bytes text ≡ limited (pickle_lines word.now es (map (λ id. id.now) ids.now))) }
 {
     let places = Places::of(alloc, seed, &trail.listing)?;
-    let mut text = String::new(alloc);
     let lines = PickleLines {
         word,
         places: &places,
     };
-    add_limited(&mut text, &lines, ids)?;
-    Ok(text)
+    let text = limited_text(alloc, &lines, ids);
+    drop(places);
+    text
 }
 
 /// The lines of test cases, after a word.
@@ -82,13 +82,13 @@ fn case_lines(
         → string_bytes text ≡ limited (case_lines word.now es (map (λ id. id.now) ids.now))) }
 {
     let places = Places::of(alloc, seed, &trail.listing)?;
-    let mut text = String::new(alloc);
     let lines = CaseLines {
         word,
         places: &places,
     };
-    add_limited(&mut text, &lines, ids)?;
-    Ok(text)
+    let text = limited_text(alloc, &lines, ids);
+    drop(places);
+    text
 }
 
 /// The lines of pickles that may not be without a test case.

@@ -7,7 +7,7 @@ ghost use Rattle.cm_reasons.specs.Lines.{limited};
 ghost use Rattle.cm_reasons.specs.Reasons.{step_ids, undefined_line, undefined_lines};
 ghost use Rattle.cm_reasons.specs.Trail.{trail_of};
 
-use crate::lines::{AddLine, add_limited};
+use crate::lines::{AddLine, limited_text};
 use crate::trail::Trail;
 use cm_cases::Places;
 use cm_steps::StepListing;
@@ -70,11 +70,11 @@ pub fn undefined_text(
         → string_bytes text ≡ limited (undefined_lines es (map step_ids steps.now))) }
 {
     let places = Places::of(alloc, seed, &trail.listing)?;
-    let mut text = String::new(alloc);
     let lines = UndefinedLines {
         places: &places,
         steps: &trail.steps,
     };
-    add_limited(&mut text, &lines, steps)?;
-    Ok(text)
+    let text = limited_text(alloc, &lines, steps);
+    drop(places);
+    text
 }
