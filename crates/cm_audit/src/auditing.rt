@@ -9,7 +9,7 @@ ghost use Rattle.cm_audit.specs.Audit.{AnswersTold, Audits, DecidesGood, GoodAtE
 ghost use Rattle.cm_audit.specs.Audit.{ShowNoFault, ShowsUnsupported, TakesLine, judged_line};
 ghost use Rattle.cm_envelope.specs.Feeds.{is_failed_read};
 ghost use Rattle.cm_envelope.specs.Reading.{envelope_of_line};
-ghost use Rattle.cm_audit.specs.Judging.{JudgesLine, JudgesWith, UnlessNoMemory};
+ghost use Rattle.cm_audit.specs.Judging.{JudgesLine, JudgesWith, ReadsAgain, UnlessNoMemory};
 ghost use Rattle.cm_audit.specs.Watched.{IsWatchedAuditOf, audit_in, envelope_in, with_watch};
 ghost use Rattle.cm_audit.specs.State.{AreFewer, Takes, summary_of};
 ghost use Rattle.cm_state.specs.Summary.{empty_summary};
@@ -25,6 +25,7 @@ use cm_envelope::{ByteSource, Envelope, Trouble, is_blank_line, read_envelope};
 use cm_stream::{Audited, StreamFault, Verdict};
 use std::alloc::Global;
 use std::hash::RandomState;
+use std::mem::replace;
 
 /// Tells of an envelope and judges it, and takes it where it has no fault.
 fn take_envelope<W: Watch>(
@@ -84,6 +85,22 @@ fn read_again(alloc: Global, line: &[u8]) -> Option<Envelope>
     }
 }
 
+/// The envelope of a line that stops the audit, where the watch wants it and there is memory to read it once more.
+fn read_last<W: Watch>(
+    alloc: Global,
+    watch: &W,
+    line: &[u8],
+    taken: Result<(), Stop>,
+) -> Option<Envelope>
+    ensures { ReadsAgain result line.now taken }
+{
+    if taken.is_err() && watch.wants_last() {
+        read_again(alloc, line)
+    } else {
+        None
+    }
+}
+
 /// An audit that is under way.
 #[derive(Drop)]
 struct Judging<W> {
@@ -101,11 +118,8 @@ impl<W: Watch> TakeLines for Judging<W> {
 
     fn take_line(&mut self, alloc: Global, line: &[u8]) -> Result<(), Stop> {
         let taken = take_line(alloc, &mut self.state, &mut self.watch, line, self.settings);
-        self.last = if taken.is_err() && self.watch.wants_last() {
-            read_again(alloc, line)
-        } else {
-            None
-        };
+        let last = read_last(alloc, &self.watch, line, taken);
+        drop(replace(&mut self.last, last));
         taken
     }
 }
@@ -167,7 +181,12 @@ fn with_watch<W: Drop>(
             last,
             state,
         }),
-        Err(trouble) => Err(trouble),
+        Err(trouble) => {
+            drop(watch);
+            drop(last);
+            drop(state);
+            Err(trouble)
+        }
     }
 }
 
@@ -206,7 +225,11 @@ fn audit_in<W: Drop>(watched: Result<WatchedAudit<W>, Trouble>) -> Result<Audite
     ensures { result ≡ audit_in watched }
 {
     match watched {
-        Ok(watched) => Ok(watched.audited),
+        Ok(watched) => {
+            let audited = watched.audited;
+            drop(watched);
+            Ok(audited)
+        }
         Err(trouble) => Err(trouble),
     }
 }

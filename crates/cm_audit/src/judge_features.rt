@@ -13,8 +13,9 @@ use crate::limits::MOST;
 use crate::source::{KeptSource, count_pickle, find_source, read_source, set_ids};
 use crate::state::State;
 use crate::stop::Stop;
-use cm_envelope::{GherkinDocument, ParseError, Pickle, Source};
+use cm_envelope::{GherkinDocument, ParseError, Pickle, PickleStep, Source};
 use cm_stream::{Reason, StreamFault};
+use gk_document::{Sequence, Text};
 use kept_texts::KeptText;
 
 /// The media type of plain Gherkin.
@@ -119,13 +120,21 @@ fn check_pickle(state: &State, pickle: &Pickle) -> Result<(), Stop>
     Ok(())
 }
 
+/// The id, the uri and the steps of a pickle, without a copy.
+fn id_uri_steps(pickle: Pickle) -> (Text, Text, Sequence<PickleStep>)
+    ensures { result ≡ (pickle.id, pickle.uri, pickle.steps) }
+{
+    let Pickle { id, uri, steps, .. } = pickle;
+    (id, uri, steps)
+}
+
 /// A pickle is the next one of its source, after the document, and its ids are new.
 pub(crate) fn judge_pickle(state: &mut State, pickle: Pickle) -> Result<(), Stop>
     requires few { AreFewer MOST state.old.counts }
     ensures { Judges state.old state.new (envelope.Pickle pickle) result }
 {
     check_pickle(state, &pickle)?;
-    let Pickle { id, uri, steps, .. } = pickle;
+    let (id, uri, steps) = id_uri_steps(pickle);
     let steps = step_ids(state.alloc, steps)?;
     state.declared.declare_pickle(id.into_string(), steps)?;
     count_pickle(&mut state.sources, uri.as_str());

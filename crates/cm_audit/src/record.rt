@@ -126,6 +126,9 @@ pub fn track(alloc: Global, attempts: &mut Track, envelope: Envelope) -> Result<
         Envelope::TestStepStarted(started) => start_step(attempts, &started),
         Envelope::TestStepFinished(finished) => finish_step(attempts, &finished),
         Envelope::TestCaseFinished(finished) => finish_attempt(attempts, &finished),
-        _ => Ok(()),
+        other => {
+            drop(other);
+            Ok(())
+        }
     }
 }

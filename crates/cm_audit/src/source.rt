@@ -81,7 +81,7 @@ impl AcceptedSource {
         ensures { (uri : List ℕ) → accepted_row uri self.new ≡ accepted_row uri self.old }
     {
         if !self.awaits_document && !self.due().has_some() {
-            self.document = None;
+            drop(self.document.take());
         }
     }
 
