@@ -1,14 +1,14 @@
 //! The command line: what the words after the program's name ask for.
-ghost use Rattle.std.specs.List.{list_all};
-ghost use Rattle.std.specs.Prelude.{◌≡◌, IfOk, codes, false, map, option_map};
-ghost use Rattle.clap.specs.Words.{all_of, app_of, first_of, found_of, kind_of, new_app, rows_of, rule_of, subcommand_rows_of};
+ghost use Rattle.std.specs.List.{All, list_all};
+ghost use Rattle.std.specs.Prelude.{◌≡◌, IfOk, IsOkAnd, codes, false, map, option_map};
+ghost use Rattle.clap.specs.Words.{all_of, app_of, first_of, found_of, kind_of, new_app, rows_of, rule_of, subcommand_rows_of, with_subcommand};
 ghost use Rattle.clap.specs.declared.builder.command.Command.TheViews.{out-Command as fields_of};
 ghost use Rattle.ck_command_line.specs.CommandLine.{HelpsByKind, HelpsOnCall, IsNoHelp};
 ghost use Rattle.ck_command_line.specs.CommandLine.{Chooses, as_part, asked_of, asked_of_choice, attempts_rule, audit_command, bare_app, cases_command};
 ghost use Rattle.ck_command_line.specs.CommandLine.{cases_asked, form_in, gate_asked, gate_over, has_two_inputs, json_rule};
 ghost use Rattle.ck_command_line.specs.CommandLine.{command_app, command_named, compile_command, features_in, features_rule};
 ghost use Rattle.ck_command_line.specs.CommandLine.{Shows, conditions_in, first_attempt_in, is_input, is_tag, tagged_rule, tags_allowed};
-ghost use Rattle.ck_command_line.specs.CommandLine.{flag_rule, gate_command, is_given, subcommand_named, parse_command, policy_in, results_command};
+ghost use Rattle.ck_command_line.specs.CommandLine.{flag_rule, gate_command, gate_rules, is_given, subcommand_named, parse_command, policy_in, results_command};
 ghost use Rattle.ck_command_line.specs.CommandLine.{run_rule, runs_in, runs_named, settings_in, settings_rules, uri_rule, with_rules};
 ghost use Rattle.cm_stream.specs.Release.{conditions_of};
 
@@ -184,12 +184,31 @@ fn with_settings<'a>(alloc: Global, command: Command<'a>) -> Result<Command<'a>,
         .arg(flag(alloc, "allow-redeclared", help::ALLOW_REDECLARED))
 }
 
+/// The runs of `gate` and what a release asks of them.
+fn gate_arguments<'a>(alloc: Global) -> Result<Vec<Arg<'a>>, AllocError>
+    ensures rules { IfOk result (λ arguments. map rule_of arguments.items ≡ gate_rules) }
+    ensures local { IfOk result (λ arguments. All (λ a. a.global ≡ false) arguments.items) }
+{
+    Ok(vec![in alloc;
+        run_argument(alloc),
+        features_argument(alloc),
+        flag(alloc, "allow-unrun", help::ALLOW_UNRUN),
+        tagged_argument(alloc),
+        flag(alloc, "no-retries", help::NO_RETRIES),
+        flag(alloc, "no-skips", help::NO_SKIPS),
+        flag(alloc, "no-stepless", help::NO_STEPLESS),
+        flag(alloc, "no-undefined", help::NO_UNDEFINED),
+        flag(alloc, "strict", help::STRICT),
+    ]?)
+}
+
 /// `gate [--features PATH].. [--allow-unrun] [--allow-unrun-tagged TAG].. [--no-retries] [--no-skips] [--no-stepless]
 /// [--no-undefined] [--strict] [--pending-passes] [--attempts-from N] [--allow-redeclared] [RUN]..`.
 fn gate_command<'a>(alloc: Global) -> Result<Command<'a>, AllocError>
     ensures app { IfOk result (λ c. app_of c ≡ gate_command) }
     ensures local { IfOk result (λ c. (fields_of c).has_globals ≡ false) }
 {
+    let arguments = gate_arguments(alloc)?;
     let bare = new_command(
         alloc,
         "gate",
@@ -197,16 +216,7 @@ fn gate_command<'a>(alloc: Global) -> Result<Command<'a>, AllocError>
         help::GATE_USAGE,
         help::AFTER_GATE,
     );
-    let command = bare
-        .arg(run_argument(alloc))?
-        .arg(features_argument(alloc))?
-        .arg(flag(alloc, "allow-unrun", help::ALLOW_UNRUN))?
-        .arg(tagged_argument(alloc))?
-        .arg(flag(alloc, "no-retries", help::NO_RETRIES))?
-        .arg(flag(alloc, "no-skips", help::NO_SKIPS))?
-        .arg(flag(alloc, "no-stepless", help::NO_STEPLESS))?
-        .arg(flag(alloc, "no-undefined", help::NO_UNDEFINED))?
-        .arg(flag(alloc, "strict", help::STRICT))?;
+    let command = bare.args(arguments)?;
     with_settings(alloc, command)
 }
 
@@ -300,17 +310,34 @@ fn bare_command<'a>(alloc: Global) -> Command<'a>
     .subcommand_required(true)
 }
 
+/// The program with one command more, where memory sufficed for that one.
+fn with_command<'a>(
+    program: Command<'a>,
+    command: Result<Command<'a>, AllocError>,
+) -> Result<Command<'a>, AllocError>
+    ensures { IfOk result (λ new. IsOkAnd command.entry (λ c. (fields_of c).has_globals ≡ false
+        → app_of new ≡ with_subcommand (app_of program.entry) (app_of c).top)) }
+{
+    match command {
+        Ok(command) => program.subcommand(command),
+        Err(trouble) => {
+            drop(program);
+            Err(trouble)
+        }
+    }
+}
+
 /// The command line: one of the commands is required. `--help` lists them in this order.
 fn command<'a>(alloc: Global) -> Result<Command<'a>, AllocError>
     ensures { IfOk result (λ c. app_of c ≡ command_app) }
 {
     let bare = bare_command(alloc);
-    let with_gate = bare.subcommand(gate_command(alloc)?)?;
-    let with_audit = with_gate.subcommand(audit_command(alloc)?)?;
-    let with_cases = with_audit.subcommand(cases_command(alloc)?)?;
-    let with_results = with_cases.subcommand(results_command(alloc)?)?;
-    let with_parse = with_results.subcommand(parse_command(alloc))?;
-    with_parse.subcommand(compile_command(alloc)?)
+    let with_gate = with_command(bare, gate_command(alloc))?;
+    let with_audit = with_command(with_gate, audit_command(alloc))?;
+    let with_cases = with_command(with_audit, cases_command(alloc))?;
+    let with_results = with_command(with_cases, results_command(alloc))?;
+    let with_parse = with_command(with_results, Ok(parse_command(alloc)))?;
+    with_command(with_parse, compile_command(alloc))
 }
 
 /// What the user is told of the error.
@@ -569,26 +596,15 @@ fn choice_named<'a>(
     ensures { Shows asked_of_choice
         (command_named name.now (rows_of (found_of values.now))) result }
 {
-    if name == "parse" {
-        return Ok(Choice::Parse);
+    match name {
+        "parse" => Ok(Choice::Parse),
+        "compile" => Ok(Choice::Compile(text_of(values, "uri").ok_or(NoChoice::NoCommand)?)),
+        "audit" => Ok(Choice::Audit(settings_in(values)?)),
+        "gate" => gate_in(alloc, values),
+        "results" => Ok(Choice::Results(first_attempt_in(values)?)),
+        "cases" => Ok(Choice::Cases(settings_in(values)?, form_in(values))),
+        _ => Err(NoChoice::NoCommand),
     }
-    if name == "compile" {
-        return Ok(Choice::Compile(text_of(values, "uri").ok_or(NoChoice::NoCommand)?));
-    }
-    if name == "audit" {
-        return Ok(Choice::Audit(settings_in(values)?));
-    }
-    if name == "gate" {
-        return gate_in(alloc, values);
-    }
-    if name == "results" {
-        return Ok(Choice::Results(first_attempt_in(values)?));
-    }
-    if name == "cases" {
-        let settings = settings_in(values)?;
-        return Ok(Choice::Cases(settings, form_in(values)));
-    }
-    Err(NoChoice::NoCommand)
 }
 
 /// What the command in the matches asks for.

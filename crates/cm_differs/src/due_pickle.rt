@@ -1,6 +1,6 @@
 //! A pickle that is due, as the stream would have it.
 ghost use Rattle.std.specs.Prelude.{◌≡◌, [], IfOk, map, option_map};
-ghost use Rattle.cm_stream.specs.Sources.{ids_at};
+ghost use Rattle.cm_stream.specs.Sources.{english, ids_at};
 ghost use Rattle.cm_differs.specs.DuePickles.{argument_of, due_pickle, due_row, due_pickle_step, due_pickle_steps, due_tag, kind_beside, step_kind};
 
 use cm_envelope::{
@@ -183,6 +183,16 @@ fn due_tags(
     Ok(tags)
 }
 
+/// The uri, the name and the language of a pickle that is due.
+fn due_texts(alloc: Global, uri: &str, name: &str) -> Result<(Text, Text, Text), AllocError>
+    ensures { IfOk result (λ texts. texts ≡ (uri.now, name.now, english)) }
+{
+    let uri = Text::copy_of(alloc, uri)?;
+    let name = Text::copy_of(alloc, name)?;
+    let language = Text::copy_of(alloc, ENGLISH)?;
+    Ok((uri, name, language))
+}
+
 /// The pickle that is due in the stream, beside steps of the stream, where the nodes have these ids.
 pub(crate) fn due_pickle(
     alloc: Global,
@@ -193,13 +203,17 @@ pub(crate) fn due_pickle(
 ) -> Result<Pickle, AllocError>
     ensures { IfOk result (λ p. p ≡ due_pickle uri.now ids.now beside.now due.now) }
 {
+    let steps = due_pickle_steps(alloc, ids, beside, due.steps.as_slice())?;
+    let tags = due_tags(alloc, ids, due.tags.as_slice())?;
+    let ast_node_ids = ids_at(alloc, ids, due.nodes.as_slice())?;
+    let (uri, name, language) = due_texts(alloc, uri, due.name.as_str())?;
     Ok(Pickle {
         id: no_id(alloc),
-        uri: Text::copy_of(alloc, uri)?,
-        name: Text::copy_of(alloc, due.name.as_str())?,
-        language: Text::copy_of(alloc, ENGLISH)?,
-        ast_node_ids: ids_at(alloc, ids, due.nodes.as_slice())?,
-        tags: due_tags(alloc, ids, due.tags.as_slice())?,
-        steps: due_pickle_steps(alloc, ids, beside, due.steps.as_slice())?,
+        uri,
+        name,
+        language,
+        ast_node_ids,
+        tags,
+        steps,
     })
 }
