@@ -1,8 +1,8 @@
 -- The lines of a stream, taken one after another, up to where that ends.
-use Rattle.std.proofs.Common.{◌≡◌, ℕ, ◌+◌, refl, sym, ap, ◌∙◌, subst, List, [], ◌∷◌, ◌++◌, Some, None, Result, Ok, Err, true, false, inl, inr, append-nil, length}
+use Rattle.std.proofs.Common.{◌≡◌, ℕ, ◌+◌, refl, sym, ap, ◌∙◌, subst, List, [], ◌∷◌, ◌++◌, Some, None, Result, Ok, Err, true, inl, inr, append-nil, length}
 use Rattle.std.proofs.lemmas.List.{length-map, map-append}
 use Rattle.cm_envelope.specs.Device.{Input, OfReads}
-use Rattle.cm_envelope.specs.Feeds.{Stored, NextLine, EndsWithSource, GivesLine, GivesNext, IsNextLine, Leaves, feed_left, given_line, is_failed_read, new_feed}
+use Rattle.cm_envelope.specs.Feeds.{Stored, NextLine, EndsWithSource, GivesLine, GivesNext, IsNextLine, Leaves, feed_left, given_line, new_feed}
 use Rattle.cm_envelope.specs.Lines.{Fed, Line, nothing, trouble_alone}
 use Rattle.cm_envelope.specs.declared.feed.Trouble.{Trouble}
 use Rattle.cm_envelope.specs.declared.feed.Trouble.TheVariants.{ReadFailed, LineTooLong, StreamTooLong, Memory}
@@ -12,7 +12,6 @@ use Rattle.cm_stream.specs.declared.verdict.Audited.{Audited}
 use Rattle.cm_audit.specs.Audit.{ReadsNoFurther, audited_at, contents}
 use Rattle.cm_audit.specs.Taking.{TakesEach, TakesStream, TakesUntil, Taking}
 use Rattle.cm_audit.specs.declared.stop.Stop.{Stop}
-use Rattle.cm_audit.specs.declared.stop.Stop.TheVariants as stop
 use Rattle.cm_audit.proofs.Reading.{HasRead, first_lines, lines_then, next_read, next_read_lines, nothing_read, up_to_here}
 
 -- so many lines were given, and each was taken

@@ -15,7 +15,7 @@ use Rattle.cm_stream.specs.Findings.{Finding, IsBad, IsUnsupported, stream_fault
 use Rattle.cm_stream.specs.Good.{Good}
 use Rattle.cm_stream.specs.Record.{table_of_envelopes}
 use Rattle.cm_stream.specs.Results.{results_of}
-use Rattle.cm_stream.specs.Redeclared.{judged_after, judged_as, line_judged_as}
+use Rattle.cm_stream.specs.Redeclared.{judged_after, judged_as}
 use Rattle.cm_stream.specs.Stream.{IsReadAs, feed_of, envelope_unless_blank}
 use Rattle.cm_stream.specs.declared.verdict.Audited.{Audited}
 use Rattle.cm_stream.specs.declared.verdict.StreamFault.{StreamFault}

@@ -1,4 +1,4 @@
-use Rattle.std.proofs.Common.{◌≡◌, ◌∙◌, ap, map}
+use Rattle.std.proofs.Common.{◌∙◌, ap, map}
 use Rattle.kept_texts.specs.Kept.{bytes_of}
 use Rattle.cm_stream.specs.Texts.{Utf8}
 use Rattle.cm_attempt.specs.Table.{has_text}

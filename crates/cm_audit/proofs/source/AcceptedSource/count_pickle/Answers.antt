@@ -1,5 +1,4 @@
-use Rattle.std.proofs.Common.{◌∙◌, ap}
-use Rattle.cm_state.specs.Summary.{one_more}
+use Rattle.std.proofs.Common.{◌∙◌}
 use Rattle.cm_audit.proofs.source.AcceptedSource.count_pickle.Goals as goal
 
 pub returns : goal.returns
