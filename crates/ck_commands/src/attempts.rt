@@ -1,5 +1,5 @@
 //! The record of the attempts of a message stream, read line by line.
-ghost use Rattle.std.specs.Prelude.{◌≡◌, true, Err, ⊤};
+ghost use Rattle.std.specs.Prelude.{◌≡◌, true, Err};
 ghost use Rattle.cm_envelope.specs.Device.{CountsFailure, OfInput, OfReads};
 ghost use Rattle.cm_envelope.specs.declared.feed.Trouble.TheVariants.{ReadFailed};
 ghost use Rattle.cm_stream.specs.Results.{first_results_fault};
@@ -21,8 +21,6 @@ struct Attempts {
 }
 
 impl TakeLines for Attempts {
-    ghost is_ready = { λ _ _. ⊤ };
-
     ghost takes = { λ old line result new. LeavesTable (after_line old.track line) new.track
         result };
 

@@ -1,5 +1,5 @@
 //! The record of test cases and attempts.
-ghost use Rattle.std.specs.Prelude.{◌≡◌, ◌+◌, IfOk, IfSome, OnErr, OnOk, is_some, map, option_map};
+ghost use Rattle.std.specs.Prelude.{◌≡◌, ◌+◌, IfOk, IfSome, OnErr, OnOk, is_some, length, map, option_map};
 ghost use Rattle.std.specs.List.{list_all};
 ghost use Rattle.std.specs.String.{string_bytes};
 ghost use Rattle.cm_refs.specs.Due.{RefusesExactly, RefusesExactlyUnless, RefusesUnless};
@@ -236,6 +236,20 @@ impl Track {
             results.push(CaseResult { id, status })?;
         }
         Ok(results)
+    }
+
+    /// How many cases were added.
+    pub fn case_count(&self) -> u64
+        ensures { result ≡ length self.now.cases }
+    {
+        self.cases.len() as u64
+    }
+
+    /// How many attempts were started.
+    pub fn attempt_count(&self) -> u64
+        ensures { result ≡ length self.now.attempts }
+    {
+        self.attempts.len() as u64
     }
 
     /// How many attempts have not ended.

@@ -1,6 +1,5 @@
 -- What a line makes of an audit, and what is answered once lines were judged one by one.
 use Rattle.std.proofs.Common.{◌≡◌, ℕ, ◌+◌, refl, sym, ap, ◌∙◌, subst, List, [], ◌∷◌, ◌++◌, Option, Some, None, Result, Ok, Err, false, inr, append-nil, length, arith}
-use Rattle.std.specs.Prelude.{OnOk, ⊤}
 use Rattle.cm_envelope.specs.Lines.{is_blank}
 use Rattle.cm_envelope.specs.Reading.{LineFault, FailsAtLine, envelope_of_line}
 use Rattle.cm_envelope.specs.declared.fault.EnvelopeFault.{EnvelopeFault}
@@ -18,22 +17,15 @@ use Rattle.cm_state.specs.Summary.{Summary, empty_summary}
 use Rattle.cm_audit.specs.Audit.{AnswersAs, ReadsNoFurther, ReadsUpTo, TakesLine, audited_at, contents, judged_line}
 use Rattle.cm_audit.specs.Judging.{HoldNoFault, JudgesAs, JudgesLine, UnlessNoMemory, judged, judged_from_first}
 use Rattle.cm_audit.specs.Stops.{unread_line}
-use Rattle.cm_audit.specs.State.{AreFewer, summary_of}
+use Rattle.cm_audit.specs.State.{summary_of}
 use Rattle.cm_audit.specs.Taking.{StopsAtLine, TakesEach, TakesUntil}
 use Rattle.cm_audit.specs.Watched.{envelope_in}
 use Rattle.cm_audit.specs.declared.auditing.Judging.{Judging}
 use Rattle.cm_audit.specs.declared.state.State.{State}
 use Rattle.cm_audit.specs.declared.stop.Stop.{Stop}
 use Rattle.cm_audit.specs.declared.stop.Stop.TheVariants as stop
-use Rattle.cm_audit.proofs.Counted.{still_fewer}
 
 -- ---- a line that is taken
-
--- one more may be taken
-pub still_ready : (settings : Settings) (old new : State) (r : Option (Result Envelope LineFault)) (result : Result ⊤ Stop) → TakesLine settings old new r result
-    → OnOk result ((n : ℕ) → AreFewer (n + 1) old.counts → AreFewer (n + 1 + 1) new.counts)
-still_ready settings old new r (Ok done) k = λ n h. still_fewer settings (n + 1) old new r k h
-still_ready settings old new r (Err why) k = tt
 
 taken : (settings : Settings) (old new : State) (n : ℕ) (r : Option (Result Envelope LineFault)) (more : Summary → Answer) → TakesLine settings old new r (Ok tt)
     → answer_of_line settings (summary_of old) n r more ≡ more (summary_of new)

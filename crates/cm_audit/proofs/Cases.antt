@@ -1,6 +1,6 @@
 -- The steps of a case beside those of its pickle, and the pickles that cases name.
 use Rattle.std.proofs.Common.{◌≡◌, ◌∙◌, ap, sym, refl, ℕ, ◌+◌, ◌<◌, suc, zero, Bool, true, false, List, [], ◌∷◌, length, get_or, drop, map, arith, add-one}
-use Rattle.std.specs.Prelude.{Option, None, Some, slice_get, not}
+use Rattle.std.specs.Prelude.{Option, None, Some, slice_get}
 use Rattle.std.specs.List.{filter_map, list_any}
 use Rattle.std.specs.Option.{option_map_or}
 use Rattle.std.specs.Str.{bytes_eq}
@@ -10,7 +10,6 @@ use Rattle.indexmap.specs.IndexSet.{insert_key}
 use Rattle.cm_stream.specs.Texts.{Utf8, same_texts}
 use Rattle.cm_envelope.specs.declared.envelope.TestStep.{TestStep}
 use Rattle.cm_attempt.specs.Table.{has_text}
-use Rattle.cm_attempt.proofs.Refused.{not_twice}
 use Rattle.cm_refs.proofs.EntryLemmas.{Key, key_eq, list_any-map}
 use Rattle.cm_state.specs.Summary.{with_name}
 
@@ -66,6 +65,3 @@ with_inserted keys k = go (list_any (key_eq k) keys) refl (list_any-map (bytes_e
         → map bytes_of (insert_key key_eq keys k) ≡ with_name (map bytes_of keys) (bytes_of k)
     go true e same = rw (same, e) refl
     go false e same = rw (same, e) (map-append bytes_of keys (k ∷ []))
-
-pub not_new : (keys : List Key) (k : Key) (is_new : Bool) → is_new ≡ not (list_any (key_eq k) keys) → not is_new ≡ has_text (bytes_of k) (map bytes_of keys)
-not_new keys k is_new e = ap not e ∙ not_twice (list_any (key_eq k) keys) ∙ sym (list_any-map (bytes_eq (bytes_of k)) bytes_of keys)

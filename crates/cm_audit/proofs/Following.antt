@@ -29,7 +29,7 @@ use Rattle.cm_stream.proofs.TableSteps.{none_is_refused}
 use Rattle.cm_stream.proofs.Tables.{tables_have_results}
 use Rattle.cm_state.specs.Laws.{answer_at_end}
 use Rattle.cm_state.specs.StateChecks.{finding_at_end, line_judged_by}
-use Rattle.cm_state.specs.Summary.{Summary, empty_summary}
+use Rattle.cm_state.specs.Summary.{Summary, counts_in, empty_summary}
 use Rattle.cm_state.specs.ByOnePass.{finding, summary_after_line, summary_of_lines}
 use Rattle.cm_state.proofs.Checked.{findings_are_faults}
 use Rattle.cm_state.proofs.Judged.{judged_is_told, none_yet, one_more_line, same_line}
@@ -267,10 +267,10 @@ module _ {W : Type 0} (follows : W → List Envelope → Type 0) (first : Judgin
 
   -- the end, once the run is over
   pub ends_well_with : (new : Judging W) (n : ℕ) (a c : Input) → new.state.is_finished ≡ true → OfReads a c (TakesStream (JudgesLine follows) first new (Ok n))
-      → OfReads a c (JudgesWith first.settings (follows new.watch) new.last (summary_of new.state) (Ok (record { verdict = verdict.Good new.state.counts; success = new.state.success })))
+      → OfReads a c (JudgesWith first.settings (follows new.watch) new.last (summary_of new.state) (Ok (record { verdict = verdict.Good (counts_in (summary_of new.state)); success = new.state.success })))
   ends_well_with new n a c e p =
       let s = summary_of new.state in
-      let answer : Result Audited Trouble = Ok (record { verdict = verdict.Good s.counts; success = s.success }) in
+      let answer : Result Audited Trouble = Ok (record { verdict = verdict.Good (counts_in s); success = s.success }) in
       reads_weaker {P = TakesStream (JudgesLine follows) first new (Ok n)} {Q = JudgesWith first.settings (follows new.watch) new.last s answer} a c p
       (λ xs zs h.
       let lines = (feed_of xs).lines in
@@ -279,7 +279,7 @@ module _ {W : Type 0} (follows : W → List Envelope → Type 0) (first : Judgin
       let followed = so_far new lines h.taken in
       record {
         judges = record { told = told; read_failed = λ failed. cc; ahead = tt };
-        follows_it = followed_good first.settings (follows new.watch) xs s s.counts s.success lines told refl followed.followed (ap (λ (u : Summary). u.table) followed.kept);
+        follows_it = followed_good first.settings (follows new.watch) xs s (counts_in s) s.success lines told refl followed.followed (ap (λ (u : Summary). u.table) followed.kept);
         decided = tt;
       })
 

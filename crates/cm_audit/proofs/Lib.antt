@@ -1,6 +1,5 @@
 pub mod Answering
 pub mod Cases
-pub mod Counted
 pub mod Deciding
 pub mod Following
 pub mod Judged

@@ -1,8 +1,7 @@
 -- What an audit keeps, as a summary of the lines so far.
-use Rattle.std.specs.Prelude.{◌≡◌, ◌<◌, ℕ, ⊤, List, map, Option, Result, Ok, Err, None, Some}
+use Rattle.std.specs.Prelude.{◌≡◌, ⊤, List, map, Option, Result, Ok, Err, None, Some}
 use Rattle.kept_texts.specs.Kept.{bytes_of}
 use Rattle.cm_envelope.specs.declared.envelope.Envelope.{Envelope}
-use Rattle.cm_stream.specs.declared.verdict.Counts.{Counts}
 use Rattle.cm_refs.specs.Declarations.{Declarations}
 use Rattle.cm_state.specs.Summary.{SourceRow, Summary}
 use Rattle.cm_attempt.specs.declared.policy.Policy.{Policy}
@@ -29,16 +28,7 @@ summary_of s = record {
   is_finished = s.is_finished;
   success = s.success;
   hooks_worst = s.hooks_worst;
-  counts = s.counts;
 }
-
--- fewer than this number of each
-pub record AreFewer (n : ℕ) (c : Counts) : Type 0 where
-  pub sources : c.sources < n
-  pub pickles : c.pickles < n
-  pub cases : c.cases < n
-  pub attempts : c.attempts < n
-  pub unrun : c.unrun < n
 
 -- a line has the finding, or memory was refused; after a fault and without memory what is kept is as it was
 abbrev pub Refuses : Option Finding → (old new : State) → Stop → Type 0

@@ -11,11 +11,10 @@ ghost use Rattle.cm_envelope.specs.Feeds.{is_failed_read};
 ghost use Rattle.cm_envelope.specs.Reading.{envelope_of_line};
 ghost use Rattle.cm_audit.specs.Judging.{JudgesLine, JudgesWith, ReadsAgain, UnlessNoMemory};
 ghost use Rattle.cm_audit.specs.Watched.{IsWatchedAuditOf, audit_in, envelope_in, with_watch};
-ghost use Rattle.cm_audit.specs.State.{AreFewer, Takes, summary_of};
+ghost use Rattle.cm_audit.specs.State.{Takes, summary_of};
 ghost use Rattle.cm_state.specs.Summary.{empty_summary};
 
 use crate::judge::{judge, judged_as};
-use crate::limits::MOST;
 use crate::lines::{TakeLines, take_lines};
 use crate::state::State;
 use crate::stop::{Stop, unsuccessful};
@@ -35,7 +34,6 @@ fn take_envelope<W: Watch>(
     envelope: Envelope,
     settings: Settings,
 ) -> Result<(), Stop>
-    requires few { AreFewer MOST state.old.counts }
     ensures taken { Takes settings state.old state.new envelope result }
     ensures followed { UnlessNoMemory result ((es : List SomeEnvelope) → W.follows watch.old es
         → W.follows watch.new (es ++ envelope ∷ [])) }
@@ -57,7 +55,6 @@ fn take_line<W: Watch>(
     line: &[u8],
     settings: Settings,
 ) -> Result<(), Stop>
-    requires few { AreFewer MOST state.old.counts }
     ensures taken { TakesLine settings state.old state.new
         (judged_line settings state.old line.now) result }
     ensures followed { UnlessNoMemory result ((es : List SomeEnvelope) → W.follows watch.old es
@@ -112,8 +109,6 @@ struct Judging<W> {
 }
 
 impl<W: Watch> TakeLines for Judging<W> {
-    ghost is_ready = { λ n judging. AreFewer (n + 1) judging.state.counts };
-
     ghost takes = { λ old line result new. JudgesLine W.follows old line result new };
 
     fn take_line(&mut self, alloc: Global, line: &[u8]) -> Result<(), Stop> {
@@ -142,7 +137,7 @@ fn judge_lines<R: ByteSource, W: Watch>(
 {
     match take_lines(alloc, judging, source) {
         Ok(_) if judging.state.is_finished => Ok(Audited {
-            verdict: Verdict::Good(judging.state.counts),
+            verdict: Verdict::Good(judging.state.counts()),
             success: judging.state.success,
         }),
         Ok(lines) => Ok(unsuccessful(Verdict::Bad {

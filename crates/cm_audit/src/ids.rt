@@ -1,7 +1,7 @@
 //! The ids of the steps of a pickle or of a test case, and of the pickles that test cases name.
-ghost use Rattle.std.specs.Prelude.{◌≡◌, ℕ, List, IfOk, map, false, true, ◌<◌, IsOk, OnOk, not};
+ghost use Rattle.std.specs.Prelude.{◌≡◌, ℕ, List, IfOk, map, false, true, ◌<◌, IsOk, OnOk};
 ghost use Rattle.std.specs.String.{string_bytes};
-ghost use Rattle.cm_attempt.specs.Table.{has_repeat, has_text};
+ghost use Rattle.cm_attempt.specs.Table.{has_repeat};
 ghost use Rattle.indexmap.specs.IndexSet.{spare};
 ghost use Rattle.kept_texts.specs.Kept.{bytes_of};
 ghost use Rattle.cm_state.specs.Summary.{with_name};
@@ -70,14 +70,12 @@ pub(crate) fn have_repeat(
     Ok(false)
 }
 
-/// Adds the pickle that a case names, and gives whether no case named it before.
-pub(crate) fn add_name(named: &mut Names, pickle: String) -> Result<bool, AllocFailed<KeptText>>
+/// Adds the pickle that a case names, unless another case named it.
+pub(crate) fn add_name(named: &mut Names, pickle: String) -> Result<(), AllocFailed<KeptText>>
     ensures named { OnOk result (map bytes_of named.new.keys
         ≡ with_name (map bytes_of named.old.keys) (string_bytes pickle)) }
-    ensures first { IfOk result (λ is_first. not is_first
-        ≡ has_text (string_bytes pickle) (map bytes_of named.old.keys)) }
     ensures room { 0 < spare named.old → IsOk result }
 {
-    let is_first = named.insert(KeptText::from(pickle))?;
-    Ok(is_first)
+    named.insert(KeptText::from(pickle))?;
+    Ok(())
 }

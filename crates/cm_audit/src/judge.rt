@@ -3,7 +3,7 @@ ghost use Rattle.std.specs.Prelude.{◌≡◌};
 ghost use Rattle.cm_stream.specs.References.{is_judged};
 ghost use Rattle.cm_stream.specs.Redeclared.{passed_over};
 ghost use Rattle.cm_state.specs.StateChecks.{is_redeclared_by, judged_by};
-ghost use Rattle.cm_audit.specs.State.{AreFewer, JudgesBy, Takes, summary_of};
+ghost use Rattle.cm_audit.specs.State.{JudgesBy, Takes, summary_of};
 
 use crate::judge_attempts::{
     judge_attachment, judge_attempt_finished, judge_attempt_started, judge_step_finished,
@@ -15,7 +15,6 @@ use crate::judge_features::{judge_document, judge_parse_error, judge_pickle, jud
 use crate::judge_run::{
     judge_run_finished, judge_run_hook_finished, judge_run_hook_started, judge_run_started,
 };
-use crate::limits::MOST;
 use crate::state::State;
 use crate::stop::Stop;
 use cm_attempt::{Policy, Settings};
@@ -24,7 +23,6 @@ use cm_stream::StreamFault;
 
 /// Judges an envelope of which no check comes after the end of the run, and takes it where it has no fault.
 fn judge_inside(state: &mut State, envelope: Envelope, policy: Policy) -> Result<(), Stop>
-    requires few { AreFewer MOST state.old.counts }
     ensures { JudgesBy policy state.old state.new envelope result }
 {
     match envelope {
@@ -91,7 +89,6 @@ fn is_judged(envelope: &Envelope) -> bool
 
 /// Judges an envelope after the lines so far, and takes it where it has no fault.
 pub(crate) fn judge(state: &mut State, envelope: Envelope, settings: Settings) -> Result<(), Stop>
-    requires few { AreFewer MOST state.old.counts }
     ensures { Takes settings state.old state.new envelope result }
 {
     if state.is_finished && is_judged(&envelope) {

@@ -1,10 +1,9 @@
 //! The envelopes that report attempts, their steps and what is attached to them.
 ghost use Rattle.cm_envelope.specs.declared.envelope.Envelope.TheVariants as Envelope;
 ghost use Rattle.cm_state.specs.StateChecks.{knows_place};
-ghost use Rattle.cm_audit.specs.State.{AreFewer, Judges};
+ghost use Rattle.cm_audit.specs.State.{Judges};
 
 use crate::known::knows_place;
-use crate::limits::MOST;
 use crate::record::{finish_attempt, finish_step, start_attempt, start_step};
 use crate::state::State;
 use crate::stop::Stop;
@@ -19,14 +18,12 @@ pub(crate) fn judge_attempt_started(
     state: &mut State,
     started: &TestCaseStarted,
 ) -> Result<(), Stop>
-    requires few { AreFewer MOST state.old.counts }
     ensures { Judges state.old state.new (Envelope.TestCaseStarted started.now) result }
 {
     if state.run.is_none() {
         return Err(Stop::Bad(StreamFault::OutsideRun));
     }
     start_attempt(&mut state.track, started)?;
-    state.counts.attempts += 1;
     Ok(())
 }
 

@@ -1,5 +1,5 @@
 //! Test cases.
-ghost use Rattle.std.specs.Prelude.{◌≡◌, ◌<◌, false, not, slice_get};
+ghost use Rattle.std.specs.Prelude.{◌≡◌, false, slice_get};
 ghost use Rattle.std.specs.Option.{option_map_or};
 ghost use Rattle.std.specs.Str.{bytes_eq};
 ghost use Rattle.cm_refs.specs.Declarations.{find_pickle};
@@ -7,19 +7,17 @@ ghost use Rattle.cm_refs.specs.StepIds.{ids_in};
 ghost use Rattle.cm_envelope.specs.declared.envelope.Envelope.TheVariants as Envelope;
 ghost use Rattle.cm_stream.specs.Texts.{same_texts};
 ghost use Rattle.cm_stream.specs.References.{pickle_step_ids};
-ghost use Rattle.cm_state.specs.Summary.{counts_with_case};
 ghost use Rattle.cm_state.specs.StateChecks.{knows_case};
-ghost use Rattle.cm_audit.specs.State.{AreFewer, Judges};
+ghost use Rattle.cm_audit.specs.State.{Judges};
 
 use crate::ids::add_name;
 use crate::known::knows_case;
-use crate::limits::MOST;
 use crate::record::add_case;
 use crate::state::State;
 use crate::stop::Stop;
 use cm_envelope::TestCase;
 use cm_refs::{Declared, StepIds};
-use cm_stream::{Counts, StreamFault};
+use cm_stream::StreamFault;
 
 /// Whether the step at an index has this id.
 fn is_step_at(steps: &StepIds, at: usize, id: &str) -> bool
@@ -60,20 +58,8 @@ fn has_steps_of_pickle(declared: &Declared, case: &TestCase) -> bool
     }
 }
 
-/// Counts a case. Where it is the first of its pickle, that one isn't left to be run.
-fn count_case(counts: &mut Counts, is_first: bool)
-    requires { counts.old.cases < MOST }
-    ensures { counts.new ≡ counts_with_case (not is_first) counts.old }
-{
-    counts.cases += 1;
-    if is_first {
-        counts.unrun = counts.unrun.saturating_sub(1);
-    }
-}
-
 /// A test case names what is declared, and has the steps of its pickle in order.
 pub(crate) fn judge_case(state: &mut State, case: TestCase) -> Result<(), Stop>
-    requires few { AreFewer MOST state.old.counts }
     ensures { Judges state.old state.new (Envelope.TestCase case) result }
 {
     if !knows_case(state, &case) {
@@ -90,7 +76,6 @@ pub(crate) fn judge_case(state: &mut State, case: TestCase) -> Result<(), Stop>
     } = case;
     state.named.reserve(1)?;
     add_case(state.alloc, &mut state.track, id, test_steps)?;
-    let is_first = add_name(&mut state.named, pickle_id.into_string())?;
-    count_case(&mut state.counts, is_first);
+    add_name(&mut state.named, pickle_id.into_string())?;
     Ok(())
 }

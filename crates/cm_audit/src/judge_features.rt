@@ -5,11 +5,10 @@ ghost use Rattle.cm_envelope.specs.declared.envelope.Envelope.TheVariants as env
 ghost use Rattle.cm_state.specs.StateChecks.{is_next_by};
 ghost use Rattle.cm_state.specs.ByOnePass.{plain_finding};
 ghost use Rattle.cm_audit.specs.Kept.{IsAcceptedAt, kept_rows};
-ghost use Rattle.cm_audit.specs.State.{AreFewer, Checks, Judges, summary_of};
+ghost use Rattle.cm_audit.specs.State.{Checks, Judges, summary_of};
 ghost use Rattle.cm_audit.specs.Stops.{StopsFor};
 
 use crate::ids::{have_repeat, step_ids};
-use crate::limits::MOST;
 use crate::source::{KeptSource, count_pickle, find_source, read_source, set_ids};
 use crate::state::State;
 use crate::stop::Stop;
@@ -23,7 +22,6 @@ const PLAIN: &str = "text/x.cucumber.gherkin+plain";
 
 /// A source has a uri of its own and holds plain Gherkin, and what its text is read as is kept.
 pub(crate) fn judge_source(state: &mut State, source: Source) -> Result<(), Stop>
-    requires few { AreFewer MOST state.old.counts }
     ensures { Judges state.old state.new (envelope.Source source) result }
 {
     let Source {
@@ -40,7 +38,6 @@ pub(crate) fn judge_source(state: &mut State, source: Source) -> Result<(), Stop
     let kept = read_source(state.alloc, content.as_str())?;
     let uri = KeptText::from(uri.into_string());
     drop(state.sources.insert(uri, kept)?);
-    state.counts.sources += 1;
     Ok(())
 }
 
@@ -130,7 +127,6 @@ fn id_uri_steps(pickle: Pickle) -> (Text, Text, Sequence<PickleStep>)
 
 /// A pickle is the next one of its source, after the document, and its ids are new.
 pub(crate) fn judge_pickle(state: &mut State, pickle: Pickle) -> Result<(), Stop>
-    requires few { AreFewer MOST state.old.counts }
     ensures { Judges state.old state.new (envelope.Pickle pickle) result }
 {
     check_pickle(state, &pickle)?;
@@ -138,7 +134,5 @@ pub(crate) fn judge_pickle(state: &mut State, pickle: Pickle) -> Result<(), Stop
     let steps = step_ids(state.alloc, steps)?;
     state.declared.declare_pickle(id.into_string(), steps)?;
     count_pickle(&mut state.sources, uri.as_str());
-    state.counts.pickles += 1;
-    state.counts.unrun += 1;
     Ok(())
 }

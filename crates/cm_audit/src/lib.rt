@@ -35,7 +35,6 @@ mod judge_definitions;
 mod judge_features;
 mod judge_run;
 mod known;
-mod limits;
 mod lines;
 mod matching;
 mod record;

@@ -1,5 +1,5 @@
 //! The lines of a stream, taken one after another.
-ghost use Rattle.std.specs.Prelude.{◌≡◌, ◌≤◌, ◌<◌, ◌+◌, ℕ, OnOk, IfOk, true};
+ghost use Rattle.std.specs.Prelude.{◌≡◌, ◌≤◌, OnOk, IfOk, true};
 ghost use Rattle.cm_envelope.specs.Device.{CountsFailure, OfReads};
 ghost use Rattle.cm_envelope.specs.Lines.{max_stream_bytes};
 ghost use Rattle.cm_audit.specs.Taking.{Taking, TakesStream, is_failed_taking};
@@ -11,9 +11,6 @@ use std::alloc::Global;
 
 /// What takes the lines of a stream, one after another, until one of them stops it.
 pub trait TakeLines {
-    /// It may take a line where it has taken so many.
-    ghost is_ready: { ℕ → Self → Type 0 };
-
     /// What it makes of a line: from what it was, by this line, with this result, to what it is.
     ghost takes: { Taking Self };
 
@@ -22,9 +19,7 @@ pub trait TakeLines {
     /// # Errors
     /// Why the reading ends at this line.
     fn take_line(&mut self, alloc: Global, line: &[u8]) -> Result<(), Stop>
-        requires ready { (n : ℕ) × (n < max_stream_bytes) × is_ready n self.old }
-        ensures takes { takes self.old line.now result self.new }
-        ensures ready { OnOk result ((n : ℕ) → is_ready n self.old → is_ready (n + 1) self.new) };
+        ensures { takes self.old line.now result self.new };
 }
 
 /// Lets `taker` take the lines of a stream, from its start, and gives how many there were.
@@ -37,7 +32,6 @@ pub fn take_lines<T: TakeLines, R: ByteSource>(
     taker: &mut T,
     source: &mut R,
 ) -> Result<u64, Result<Audited, Trouble>>
-    requires ready { T.is_ready 0 taker.old }
     // Of the bytes heard in this call, whatever comes after them: which of their lines were taken, and how that ended.
     ensures taken { OfReads (R.input source.old) (R.input source.new)
         (TakesStream T.takes taker.old taker.new result) }

@@ -1,7 +1,7 @@
 //! What an audit keeps of the lines so far.
 ghost use Rattle.std.specs.Prelude.{◌≡◌, option_map};
 ghost use Rattle.cm_state.specs.StateChecks.{find_source};
-ghost use Rattle.cm_state.specs.Summary.{empty_summary};
+ghost use Rattle.cm_state.specs.Summary.{counts_in, empty_summary};
 ghost use Rattle.cm_audit.specs.Kept.{kept_row, kept_rows};
 ghost use Rattle.cm_audit.specs.State.{summary_of, with_uris};
 
@@ -33,7 +33,6 @@ pub struct State {
     pub(crate) is_finished: bool,
     pub(crate) success: bool,
     pub(crate) hooks_worst: Option<Status>,
-    pub(crate) counts: Counts,
     pub(crate) alloc: Global,
     pub(crate) seed: RandomState,
 }
@@ -52,13 +51,6 @@ impl State {
             is_finished: false,
             success: false,
             hooks_worst: None,
-            counts: Counts {
-                sources: 0,
-                pickles: 0,
-                cases: 0,
-                attempts: 0,
-                unrun: 0,
-            },
             alloc,
             seed,
         }
@@ -99,6 +91,20 @@ impl State {
         ensures { option_map (λ r. r.now) result ≡ (summary_of self.now).run }
     {
         self.run.as_ref()
+    }
+
+    /// How much of each is kept.
+    pub(crate) fn counts(&self) -> Counts
+        ensures { result ≡ counts_in (summary_of self.now) }
+    {
+        let pickles = self.declared.pickle_count();
+        Counts {
+            sources: self.sources.len() as u64,
+            pickles,
+            cases: self.track.case_count(),
+            attempts: self.track.attempt_count(),
+            unrun: pickles.saturating_sub(self.named.len() as u64),
+        }
     }
 
     /// The record of attempts alone.

@@ -1,5 +1,5 @@
 //! The declarations of a stream.
-ghost use Rattle.std.specs.Prelude.{◌≡◌, IfSome, OnErr, OnOk, is_some, map, option_map};
+ghost use Rattle.std.specs.Prelude.{◌≡◌, IfSome, OnErr, OnOk, is_some, length, map, option_map};
 ghost use Rattle.std.specs.String.{string_bytes};
 ghost use Rattle.cm_refs.specs.Declarations.{find_pickle, find_run_hook, finish_fault, has_text, name_fault, no_declarations, pickle_fault, steps_of as steps_in};
 ghost use Rattle.cm_refs.specs.StepIds.{ids_in};
@@ -222,6 +222,13 @@ impl Declared {
         ensures { result ≡ open_count self.now }
     {
         count_open(&self.run_hooks)
+    }
+
+    /// How many pickles are declared.
+    pub fn pickle_count(&self) -> u64
+        ensures { result ≡ length self.now.pickles }
+    {
+        self.pickles.len() as u64
     }
 
     /// The step ids of a declared pickle, in their order.

@@ -11,15 +11,17 @@ use Rattle.cm_attempt.specs.declared.settings.Settings.{Settings}
 use Rattle.cm_stream.specs.Checks.{declares_again, fault_at_end}
 use Rattle.cm_stream.specs.Redeclared.{judged_as, line_judged_as, passed_over}
 use Rattle.cm_stream.specs.Findings.{Finding}
-use Rattle.cm_stream.specs.References.{Definition, HookNamed, has_run_finished}
+use Rattle.cm_stream.specs.References.{Definition, HookNamed, has_run_finished, run_succeeded}
 use Rattle.cm_stream.specs.Stream.{answer_for}
 use Rattle.cm_stream.specs.Stream as stream
+use Rattle.cm_stream.specs.declared.verdict.Counts.{Counts}
 use Rattle.cm_stream.specs.ByOnePass.{fault, first_fault_line, first_fault_of, IsFaultless}
 use Rattle.cm_state.specs.Summary.{Summary, declarations_in, empty_summary}
 use Rattle.cm_state.specs.StateChecks.{finding_at_end, judged_by, line_judged_by}
 use Rattle.cm_state.proofs.Checked.{again_one, findings_are_faults as findings}
 use Rattle.cm_state.proofs.Tests.{definition_declared, hook_declared}
 use Rattle.cm_state.proofs.Steps.{summaries_step as steps}
+use Rattle.cm_state.proofs.Counted.{counts_kept}
 use Rattle.cm_stream.specs.OnePass.{reads}
 use Rattle.cm_stream.proofs.ByGrammar.{by_the_grammar}
 use Rattle.cm_state.specs.Laws.{JudgedIsTold, JudgedIsToldBy, answer_at_end, answer_at_line}
@@ -72,17 +74,17 @@ same_line settings es (Some (Ok e)) = ap (λ (x : Envelope). Some (Ok x)) (same_
 
 -- ---- all lines
 
-finished : (first n : ℕ) (before : List Envelope) → answer_at_end n (summary_of_lines first before) (finding_at_end (summary_of_lines first before)) ≡ answer_for (stream.at_end n before (fault_at_end before))
-finished first n before = go (has_run_finished before) refl
+finished : (settings : Settings) (n : ℕ) (before : List Envelope) → IsFaultless settings before → answer_at_end n (summary_of_lines settings.first_attempt before) (finding_at_end (summary_of_lines settings.first_attempt before)) ≡ answer_for (stream.at_end n before (fault_at_end before))
+finished settings n before h = go (has_run_finished before) refl
   where
-    go : (b : Bool) → has_run_finished before ≡ b → answer_at_end n (summary_of_lines first before) (finding_at_end (summary_of_lines first before)) ≡ answer_for (stream.at_end n before (fault_at_end before))
-    go true e = rw e refl
+    go : (b : Bool) → has_run_finished before ≡ b → answer_at_end n (summary_of_lines settings.first_attempt before) (finding_at_end (summary_of_lines settings.first_attempt before)) ≡ answer_for (stream.at_end n before (fault_at_end before))
+    go true e = rw e (ap (λ (c : Counts). stream.GoodWith c (run_succeeded before)) (counts_kept settings before h))
     go false e = rw e refl
 
 module _ (settings : Settings) where
   same : (before : List Envelope) (s : Summary) → s ≡ summary_of_lines settings.first_attempt before → IsFaultless settings before → (n : ℕ) (ls : List (List ℕ)) (t : Option Trouble) → answer_of_lines settings s n ls t ≡ answer_for (first_fault_of settings before n ls t)
   same before s is h n [] (Some t) = refl
-  same before s is h n [] None = ap (λ u. answer_at_end n u (finding_at_end u)) is ∙ finished settings.first_attempt n before
+  same before s is h n [] None = ap (λ u. answer_at_end n u (finding_at_end u)) is ∙ finished settings n before h
   same before s is h n (l ∷ ls) t = go (is_blank l) refl (same before s is h (n + 1) ls t) (λ e u k more. same (before ++ e ∷ []) u k more (n + 1) ls t)
     where
       Later : Envelope → Type 0

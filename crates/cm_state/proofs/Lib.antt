@@ -1,3 +1,4 @@
+pub mod Counted
 pub mod Judged
 pub mod Tests
 pub mod StepTests

@@ -1,5 +1,5 @@
 -- What one more line adds to what the lines so far say.
-use Rattle.std.proofs.Common.{◌≡◌, ℕ, suc, ◌+◌, refl, sym, ap, ◌∙◌, List, [], ◌∷◌, ◌++◌, Option, Some, None, true, false, Bool, map, length, arith}
+use Rattle.std.proofs.Common.{◌≡◌, suc, ◌+◌, refl, sym, ap, ◌∙◌, List, [], ◌∷◌, ◌++◌, Option, Some, None, true, false, Bool, map, length, arith}
 use Rattle.std.specs.Prelude.{nat_lt, find, count_by}
 use Rattle.std.specs.List.{AllByRecursion, list_any, filter, filter_map}
 use Rattle.std.specs.Option.{option_map, option_map_or}
@@ -9,7 +9,7 @@ use Rattle.std.proofs.lemmas.List.{map-append}
 use Rattle.cm_stream.specs.Texts.{Utf8}
 use Rattle.cm_stream.specs.References.{Name, declares_it, times_declared, refers}
 use Rattle.cm_envelope.specs.declared.envelope.Envelope.{Envelope}
-use Rattle.cm_stream.proofs.Lists.{none_any, length-both, found_more, found_push}
+use Rattle.cm_stream.proofs.Lists.{none_any, found_more, found_push}
 use Rattle.cm_stream.proofs.Found.{each_found, still_found, by_id, none_found}
 use Rattle.cm_stream.proofs.Declared.{declarer, same_any}
 use Rattle.cm_stream.proofs.Passing.{AllPass}
@@ -23,11 +23,6 @@ abbrev pub push_if : {X : Type 0} → List X → Option X → List X
 push_if xs None = xs
 push_if xs (Some x) = xs ++ x ∷ []
 
--- one more if it is there
-abbrev pub one_if : {X : Type 0} → ℕ → Option X → ℕ
-one_if n None = n
-one_if n (Some x) = n + 1
-
 pub found_after : {X Y : Type 0} (h : X → Option Y) (xs : List X) (x : X) → filter_map h (xs ++ x ∷ []) ≡ push_if (filter_map h xs) (h x)
 found_after {X} {Y} h xs x = go (h x) refl
   where
@@ -38,10 +33,6 @@ found_after {X} {Y} h xs x = go (h x) refl
 pub map_after : {X Y : Type 0} (f : X → Y) (xs : List X) (o : Option X) → map f (push_if xs o) ≡ push_if (map f xs) (option_map f o)
 map_after f xs None = refl
 map_after f xs (Some x) = map-append f xs (x ∷ [])
-
-pub length_after : {X : Type 0} (xs : List X) (o : Option X) → length (push_if xs o) ≡ one_if (length xs) o
-length_after xs None = refl
-length_after xs (Some x) = length-both xs (x ∷ [])
 
 -- ---- counts
 

@@ -15,7 +15,7 @@ use Rattle.cm_envelope.specs.declared.envelope.TestCase.{TestCase}
 use Rattle.cm_envelope.specs.declared.envelope.TestRunStarted.{TestRunStarted}
 use Rattle.cm_stream.proofs.Passing.{LinePasses, AllPass, plain_passes, last_passes}
 use Rattle.cm_stream.proofs.TableSteps.{table_steps}
-use Rattle.cm_state.specs.Summary.{SourceRow, Summary, as_definition, as_hook, as_run, first_of, pickle_row, declarations_in, with_name, once_each, with_ids, one_more, change_source}
+use Rattle.cm_state.specs.Summary.{SourceRow, Summary, as_definition, as_hook, as_run, first_of, pickle_row, declarations_in, with_name, with_ids, one_more, change_source}
 use Rattle.cm_state.specs.ByOnePass.{summary_of_lines, new_source, summary_after_line}
 use Rattle.cm_stream.specs.OnePass.{reads}
 use Rattle.cm_stream.proofs.ByGrammar.{by_the_grammar}
@@ -23,7 +23,7 @@ use Rattle.cm_state.specs.Laws.{SummariesStep, SummariesStepBy}
 use Rattle.cm_state.proofs.OneMore.{push_if, found_after, map_after}
 use Rattle.cm_state.proofs.Rows.{rows, other_rows, source_rows, document_rows, pickle_rows}
 use Rattle.cm_state.proofs.RunHooks.{hook_rows_after, hook_rows_step, hooks_worst_after, hooks_worst_step}
-use Rattle.cm_state.proofs.Unrun.{named_by, names_push, counts_after, counts_step}
+use Rattle.cm_state.proofs.Unrun.{named_by, one_more_named}
 use Rattle.cm_state.proofs.Tests.{no_run}
 use Rattle.cm_stream.proofs.Lists.{or_no, found_more, found_push}
 
@@ -70,7 +70,7 @@ named_step es e = ap named_by (found_after as_case es e) ∙ go (as_case e)
   where
     go : (o : Option TestCase) → named_by (push_if (cases es) o) ≡ named_after (named_by (cases es)) o
     go None = refl
-    go (Some c) = ap once_each (map_after (λ (x : TestCase). x.pickle_id) (cases es) (Some c)) ∙ names_push [] (map (λ x. x.pickle_id) (cases es)) c.pickle_id
+    go (Some c) = one_more_named (cases es) c
 
 abbrev run_after : Option TestRunStarted → Option TestRunStarted → Option TestRunStarted
 run_after run None = run
@@ -120,7 +120,6 @@ kept_after s e = record {
   is_finished = finished_after s.is_finished (is_run_finished e);
   success = success_after s.success e;
   hooks_worst = hooks_worst_after s.hooks_worst (as_run_hook_end e);
-  counts = counts_after s.named s.counts e;
 }
 
 after_is : (s : Summary) (e : Envelope) → kept_after s e ≡ summary_after_line s e
@@ -156,7 +155,6 @@ summaries_step settings es e none = all ∙ after_is (summary_of_lines first es)
       is_finished = finished_step es e i;
       success = success_step es e (last_passes es e h) i;
       hooks_worst = hooks_worst_step es e i;
-      counts = counts_step es e h i;
     }
 
 pub summaries_step_law : SummariesStep

@@ -1,29 +1,29 @@
--- What one more line changes in the counts, and in the pickles that cases name.
-use Rattle.std.proofs.Common.{◌≡◌, ℕ, ◌+◌, ◌-◌, refl, sym, ap, ◌∙◌, List, [], ◌∷◌, ◌++◌, Option, Some, None, true, false, Bool, not, ◌||◌, subst, map, length, arith}
+-- The pickles that no case names, and those that one does.
+use Rattle.std.proofs.Common.{◌≡◌, ℕ, ◌+◌, refl, sym, ap, ◌∙◌, List, [], ◌∷◌, ◌++◌, Option, Some, None, true, false, Bool, not, ◌||◌, subst, map, length, arith}
 use Rattle.std.specs.Prelude.{count_by, if◌then◌else◌}
 use Rattle.std.specs.List.{AllByRecursion, list_any, filter}
 use Rattle.std.specs.Str.{bytes_eq}
 use Rattle.std.proofs.lemmas.List.Folds.{list_any-append}
 use Rattle.std.proofs.lemmas.List.Sums.{length-filter}
+use Rattle.std.proofs.lemmas.List.{map-append}
 use Rattle.std.proofs.lemmas.Bool.{or_right}
 use Rattle.std.proofs.Math.Bool.{or_assoc}
 use Rattle.cm_refs.proofs.EntryLemmas.{list_any-map}
 use Rattle.cm_attempt.specs.Table.{has_text}
 use Rattle.cm_stream.specs.Texts.{Utf8}
-use Rattle.cm_stream.specs.References.{Name, PickleNamed, Run, times_declared, refers, if_any, as_source, as_pickle, as_case, as_start, sources, pickles, cases, starts}
-use Rattle.cm_stream.specs.Stream.{unrun_count, counts_of}
-use Rattle.cm_stream.specs.declared.verdict.Counts.{Counts}
+use Rattle.cm_stream.specs.References.{Name, PickleNamed, Run, times_declared, refers, if_any, as_pickle, as_case, pickles, cases}
+use Rattle.cm_stream.specs.Stream.{unrun_count}
 use Rattle.cm_envelope.specs.declared.envelope.Envelope.{Envelope}
 use Rattle.cm_envelope.specs.declared.envelope.Envelope.TheVariants as envelope
 use Rattle.cm_envelope.specs.declared.envelope.TestCase.{TestCase}
 use Rattle.cm_envelope.specs.declared.pickle.Pickle.{Pickle}
-use Rattle.cm_stream.proofs.Lists.{or_false, none_counted, count_cut, or_no, found_more, found_push}
+use Rattle.cm_stream.proofs.Lists.{or_false, none_counted, count_cut, length-both, or_no, found_more, found_push}
 use Rattle.cm_stream.proofs.Found.{bytes_same, bytes_are, by_id, differs_back}
 use Rattle.cm_stream.proofs.Declared.{declares_pickle, case_is}
-use Rattle.cm_stream.proofs.Passing.{AllPass, front_passes, last_passes}
+use Rattle.cm_stream.proofs.Passing.{AllPass, by_lines, front_passes, last_passes}
 use Rattle.cm_stream.proofs.Distinct.{all_refer}
-use Rattle.cm_state.specs.Summary.{with_name, names_from, once_each, counts_with_source, counts_with_pickle, counts_with_case, counts_with_attempt}
-use Rattle.cm_state.proofs.OneMore.{one_if, found_after, length_after, same_count, kept_apart, kept_named, not_found, none_refers}
+use Rattle.cm_state.specs.Summary.{with_name, names_from, once_each}
+use Rattle.cm_state.proofs.OneMore.{same_count, kept_apart, kept_named, not_found, none_refers}
 
 -- ---- names, each once
 
@@ -45,7 +45,7 @@ has_names id names [] = sym (or_no (has_text id names))
 has_names id names (name ∷ more) =
     has_names id (with_name names name) more ∙ ap (λ b. b || has_text id more) (has_with id names name) ∙ or_assoc (has_text id names) (bytes_eq id name) (has_text id more)
 
-pub names_push : (names more : List Utf8) (name : Utf8) → names_from names (more ++ name ∷ []) ≡ with_name (names_from names more) name
+names_push : (names more : List Utf8) (name : Utf8) → names_from names (more ++ name ∷ []) ≡ with_name (names_from names more) name
 names_push names [] name = refl
 names_push names (other ∷ more) name = names_push (with_name names other) more name
 
@@ -91,13 +91,13 @@ pickle_unrun es p more =
     tail : (m n : ℕ) → n ≡ 0 → m + 1 + n ≡ m + 1
     tail m n h = omega (arith, h)
 
--- a case that names a pickle that another case named, or not
-abbrev unrun_with : (is_named : Bool) → ℕ → ℕ
-unrun_with true n = n
-unrun_with false n = n - 1
+-- one, where no case named the pickle yet
+abbrev newly : (is_named : Bool) → ℕ
+newly true = 0
+newly false = 1
 
 case_unrun : (es : List Envelope) (c : TestCase) → AllPass (es ++ envelope.TestCase c ∷ [])
-    → unrun_count (es ++ envelope.TestCase c ∷ []) ≡ unrun_with (list_any (names_it c.pickle_id) (cases es)) (unrun_count es)
+    → unrun_count (es ++ envelope.TestCase c ∷ []) + newly (list_any (names_it c.pickle_id) (cases es)) ≡ unrun_count es
 case_unrun es c more = go (list_any (names_it c.pickle_id) (cases es)) refl
   where
     same : unrun_count (es ++ envelope.TestCase c ∷ []) ≡ count_by (unnamed (cases es ++ c ∷ [])) (pickles es)
@@ -123,45 +123,48 @@ case_unrun es c more = go (list_any (names_it c.pickle_id) (cases es)) refl
     one = kept_named (PickleNamed c.pickle_id) as_pickle (λ p. bytes_eq c.pickle_id p.id) (declares_pickle c.pickle_id) es
         ∙ case_refers es (envelope.TestCase c) c refl (all_refer (es ++ envelope.TestCase c ∷ []) more es (envelope.TestCase c) [] refl)
 
-    less : (m n k : ℕ) → m ≡ n + k → k ≡ 1 → n ≡ m - 1
-    less m n k h e = omega (arith, h, e)
-
-    go : (b : Bool) → list_any (names_it c.pickle_id) (cases es) ≡ b → unrun_count (es ++ envelope.TestCase c ∷ []) ≡ unrun_with b (unrun_count es)
-    go true e = same ∙ same_count (unnamed (cases es ++ c ∷ [])) (unnamed (cases es)) (again e) (pickles es)
+    go : (b : Bool) → list_any (names_it c.pickle_id) (cases es) ≡ b → unrun_count (es ++ envelope.TestCase c ∷ []) + newly b ≡ unrun_count es
+    go true e =
+        let as_many = same ∙ same_count (unnamed (cases es ++ c ∷ [])) (unnamed (cases es)) (again e) (pickles es) in
+        omega (arith, as_many)
     go false e =
         let parts = kept_apart (unnamed (cases es)) (unnamed (cases es ++ c ∷ [])) (λ p. bytes_eq c.pickle_id p.id) (first e) (λ p k. sym (away p (differs_back c.pickle_id p.id k))) (pickles es) in
         let all : unrun_count es ≡ count_by (unnamed (cases es ++ c ∷ [])) (pickles es) + length (filter (λ p. bytes_eq c.pickle_id p.id) (pickles es)) =
         sym (length-filter (unnamed (cases es)) (pickles es)) ∙ parts ∙ ap (λ n. n + length (filter (λ (p : Pickle). bytes_eq c.pickle_id p.id) (pickles es))) (length-filter (unnamed (cases es ++ c ∷ [])) (pickles es)) in
-        same ∙ less (unrun_count es) (count_by (unnamed (cases es ++ c ∷ [])) (pickles es)) (length (filter (λ p. bytes_eq c.pickle_id p.id) (pickles es))) all one
+        omega (arith, all, same, one)
 
--- ---- all counts
+-- ---- each pickle is named or left
 
-abbrev pub counts_after : List Utf8 → Counts → Envelope → Counts
-counts_after names n (envelope.Source s) = counts_with_source n
-counts_after names n (envelope.Pickle p) = counts_with_pickle n
-counts_after names n (envelope.TestCase c) = counts_with_case (has_text c.pickle_id names) n
-counts_after names n (envelope.TestCaseStarted s) = counts_with_attempt n
-counts_after names n _ = n
+named_longer : (names : List Utf8) (name : Utf8) → length (with_name names name) ≡ length names + newly (has_text name names)
+named_longer names name = go (has_text name names)
+  where
+    go : (b : Bool) → length (if b then names else names ++ name ∷ []) ≡ length names + newly b
+    go true = omega arith
+    go false = length-both names (name ∷ [])
 
-counts_with : (es : List Envelope) (e : Envelope) (n : ℕ) → unrun_count (es ++ e ∷ []) ≡ n
-    → counts_of (es ++ e ∷ []) ≡ record { sources = one_if (length (sources es)) (as_source e); pickles = one_if (length (pickles es)) (as_pickle e); cases = one_if (length (cases es)) (as_case e); attempts = one_if (length (starts es)) (as_start e); unrun = n }
-counts_with es e n h = λ i. record {
-  sources = (ap length (found_after as_source es e) ∙ length_after (sources es) (as_source e)) i;
-  pickles = (ap length (found_after as_pickle es e) ∙ length_after (pickles es) (as_pickle e)) i;
-  cases = (ap length (found_after as_case es e) ∙ length_after (cases es) (as_case e)) i;
-  attempts = (ap length (found_after as_start es e) ∙ length_after (starts es) (as_start e)) i;
-  unrun = h i;
-}
+pub one_more_named : (cs : List TestCase) (c : TestCase) → named_by (cs ++ c ∷ []) ≡ with_name (named_by cs) c.pickle_id
+one_more_named cs c = ap once_each (map-append (λ (x : TestCase). x.pickle_id) cs (c ∷ [])) ∙ names_push [] (map (λ x. x.pickle_id) cs) c.pickle_id
 
-case_counts : (n : Counts) (b : Bool) → record n { cases = n.cases + 1; unrun = unrun_with b n.unrun } ≡ counts_with_case b n
-case_counts n true = refl
-case_counts n false = refl
+abbrev EachOnce : List Envelope → Type 0
+EachOnce es = unrun_count es + length (named_by (cases es)) ≡ length (pickles es)
 
-pub counts_step : (es : List Envelope) (e : Envelope) → AllPass (es ++ e ∷ []) → counts_of (es ++ e ∷ []) ≡ counts_after (named_by (cases es)) (counts_of es) e
-counts_step es (envelope.Source s) h = counts_with es (envelope.Source s) (unrun_count es) (other_unrun es (envelope.Source s) refl refl)
-counts_step es (envelope.Pickle p) h = counts_with es (envelope.Pickle p) (unrun_count es + 1) (pickle_unrun es p h)
-counts_step es (envelope.TestCase c) h =
-    counts_with es (envelope.TestCase c) (unrun_with (list_any (names_it c.pickle_id) (cases es)) (unrun_count es)) (case_unrun es c h)
-    ∙ case_counts (counts_of es) (list_any (names_it c.pickle_id) (cases es)) ∙ ap (λ b. counts_with_case b (counts_of es)) (sym (is_named c.pickle_id (cases es)))
-counts_step es (envelope.TestCaseStarted s) h = counts_with es (envelope.TestCaseStarted s) (unrun_count es) (other_unrun es (envelope.TestCaseStarted s) refl refl)
-counts_step es e h = counts_with es e (unrun_count es) (other_unrun es e refl refl)
+pub named_or_unrun : (es : List Envelope) → AllPass es → EachOnce es
+named_or_unrun es pass = by_lines EachOnce (omega arith) step es pass
+  where
+    step : (xs : List Envelope) (e : Envelope) → AllPass (xs ++ e ∷ []) → EachOnce xs → EachOnce (xs ++ e ∷ [])
+    step xs (envelope.Pickle p) h rec =
+        let e = envelope.Pickle p in
+        let names = ap (λ cs. length (named_by cs)) (found_more as_case xs e refl) in
+        let longer : length (pickles (xs ++ e ∷ [])) ≡ length (pickles xs) + 1 = ap length (found_push as_pickle xs e p refl) ∙ length-both (pickles xs) (p ∷ []) in
+        omega (arith, pickle_unrun xs p h, names, longer, rec)
+    step xs (envelope.TestCase c) h rec =
+        let e = envelope.TestCase c in
+        let known : newly (has_text c.pickle_id (named_by (cases xs))) ≡ newly (list_any (names_it c.pickle_id) (cases xs)) = ap newly (is_named c.pickle_id (cases xs)) in
+        let names : length (named_by (cases (xs ++ e ∷ []))) ≡ length (named_by (cases xs)) + newly (has_text c.pickle_id (named_by (cases xs))) =
+        ap (λ cs. length (named_by cs)) (found_push as_case xs e c refl) ∙ ap length (one_more_named (cases xs) c) ∙ named_longer (named_by (cases xs)) c.pickle_id in
+        let as_many = ap length (found_more as_pickle xs e refl) in
+        omega (arith, case_unrun xs c h, known, names, as_many, rec)
+    step xs e h rec =
+        let names = ap (λ cs. length (named_by cs)) (found_more as_case xs e refl) in
+        let as_many = ap length (found_more as_pickle xs e refl) in
+        omega (arith, other_unrun xs e refl refl, names, as_many, rec)

@@ -10,7 +10,7 @@ use Rattle.cm_stream.specs.Checks.{fault_by}
 use Rattle.cm_stream.specs.FaultlessLines.{IsFaultlessBy}
 use Rattle.cm_stream.specs.Readings.{Reading, ByTheGrammar}
 use Rattle.cm_stream.specs.Texts.{Utf8}
-use Rattle.cm_state.specs.Summary.{Summary, summary_of_lines_by, empty_summary, summary_after_line_by}
+use Rattle.cm_state.specs.Summary.{Summary, counts_in, summary_of_lines_by, empty_summary, summary_after_line_by}
 use Rattle.cm_state.specs.StateChecks.{finding_by, finding_at_end, line_judged_by}
 
 -- ---- one line
@@ -39,7 +39,7 @@ SummariesStep = ByTheGrammar SummariesStepBy
 -- ---- a stream
 
 abbrev pub answer_at_end : ℕ → Summary → Option Finding → Answer
-answer_at_end n s None = GoodWith s.counts s.success
+answer_at_end n s None = GoodWith (counts_in s) s.success
 answer_at_end n s (Some f) = Found n f
 
 -- a finding at this line, or the answer after it

@@ -1,5 +1,5 @@
 -- What an audit keeps of the lines so far.
-use Rattle.std.specs.Prelude.{ℕ, ◌+◌, ◌-◌, Bool, false, true, List, [], ◌∷◌, ◌++◌, Option, Some, None, if◌then◌else◌, map, length, drop}
+use Rattle.std.specs.Prelude.{ℕ, ◌-◌, Bool, false, true, List, [], ◌∷◌, ◌++◌, Option, Some, None, if◌then◌else◌, map, length, drop}
 use Rattle.std.specs.List.{filter_map}
 use Rattle.std.specs.Str.{bytes_eq}
 use Rattle.gk_document.specs.declared.tree.Document.{Document}
@@ -13,7 +13,6 @@ use Rattle.cm_stream.specs.Readings.{Reading, Accepted}
 use Rattle.cm_stream.specs.Sources.{DuePickle}
 use Rattle.cm_stream.specs.Checks.{due_pickles, first_ids}
 use Rattle.cm_stream.specs.References.{as_document, sources, pickles, cases, run_hooks, hook_statuses, documents_of, pickles_of, has_run_finished, is_accepted, run_succeeded, is_hook_finished}
-use Rattle.cm_stream.specs.Stream.{counts_of}
 use Rattle.cm_stream.specs.Record.{table_of_envelopes, table_after_envelope}
 use Rattle.cm_envelope.specs.declared.envelope.Envelope.{Envelope}
 use Rattle.cm_envelope.specs.declared.envelope.Envelope.TheVariants as envelope
@@ -49,7 +48,16 @@ pub record Summary : Type 0 where
   pub success : Bool
   -- the worst status of the run hooks, which is absent while none is finished
   pub hooks_worst : Option Status
-  pub counts : Counts
+
+-- how much of each is kept, and the pickles that no case names
+abbrev pub counts_in : Summary → Counts
+counts_in s = record {
+  sources = length s.sources;
+  pickles = length s.declared.pickles;
+  cases = length s.table.cases;
+  attempts = length s.table.attempts;
+  unrun = length s.declared.pickles - length s.named;
+}
 
 -- ---- of all the lines so far
 
@@ -133,7 +141,6 @@ summary_of_lines_by read first es = record {
   is_finished = has_run_finished es;
   success = run_succeeded es;
   hooks_worst = worst_so_far (hook_statuses es);
-  counts = counts_of es;
 }
 
 -- ---- line by line
@@ -148,7 +155,6 @@ empty_summary first = record {
   is_finished = false;
   success = false;
   hooks_worst = None;
-  counts = record { sources = 0; pickles = 0; cases = 0; attempts = 0; unrun = 0 };
 }
 
 -- of which nothing came
@@ -169,27 +175,12 @@ one_more r = record r { due = drop 1 r.due }
 abbrev pub change_source : Utf8 → (SourceRow → SourceRow) → List SourceRow → List SourceRow
 change_source uri f = change_first (λ r. bytes_eq uri r.uri) f
 
-abbrev pub counts_with_source : Counts → Counts
-counts_with_source n = record n { sources = n.sources + 1 }
-
-abbrev pub counts_with_pickle : Counts → Counts
-counts_with_pickle n = record n { pickles = n.pickles + 1; unrun = n.unrun + 1 }
-
--- a case whose pickle another case named, or not
-abbrev pub counts_with_case : (is_named : Bool) → Counts → Counts
-counts_with_case true n = record n { cases = n.cases + 1 }
-counts_with_case false n = record n { cases = n.cases + 1; unrun = n.unrun - 1 }
-
-abbrev pub counts_with_attempt : Counts → Counts
-counts_with_attempt n = record n { attempts = n.attempts + 1 }
-
 -- what a line makes of it, where texts are read so
 abbrev pub summary_after_line_by : (read : Utf8 → Reading) → Summary → Envelope → Summary
 summary_after_line_by read s (envelope.Source x) =
     record s {
       declared = with_source x.uri s.declared;
       sources = s.sources ++ new_source_by read x ∷ [];
-      counts = counts_with_source s.counts;
     }
 summary_after_line_by read s (envelope.GherkinDocument d) =
     record s {
@@ -199,7 +190,6 @@ summary_after_line_by read s (envelope.GherkinDocument d) =
 summary_after_line_by read s (envelope.Pickle p) = record s {
   declared = with_pickle p.id (map (λ x. x.id) p.steps) s.declared;
   sources = change_source p.uri one_more s.sources;
-  counts = counts_with_pickle s.counts;
 }
 summary_after_line_by read s (envelope.StepDefinition d) =
     record s { declared = with_definition d.id s.declared }
@@ -207,14 +197,10 @@ summary_after_line_by read s (envelope.Hook h) = record s { declared = with_hook
 summary_after_line_by read s (envelope.TestCase c) = record s {
   table = table_after_envelope s.table (envelope.TestCase c);
   named = with_name s.named c.pickle_id;
-  counts = counts_with_case (has_text c.pickle_id s.named) s.counts;
 }
 summary_after_line_by read s (envelope.TestRunStarted r) = record s { run = Some r }
 summary_after_line_by read s (envelope.TestCaseStarted x) =
-    record s {
-      table = table_after_envelope s.table (envelope.TestCaseStarted x);
-      counts = counts_with_attempt s.counts;
-    }
+    record s { table = table_after_envelope s.table (envelope.TestCaseStarted x) }
 summary_after_line_by read s (envelope.TestRunHookStarted x) =
     record s { declared = with_run_hook x.id s.declared }
 summary_after_line_by read s (envelope.TestRunHookFinished f) =

@@ -1,4 +1,4 @@
-use Rattle.std.proofs.Common.{◌≡◌, ◌∙◌, refl, ap, map, arith, ◌+◌}
+use Rattle.std.proofs.Common.{◌≡◌, ◌∙◌, refl, ap, map}
 use Rattle.std.specs.Str.{bytes_eq}
 use Rattle.std.specs.String.{string_bytes}
 use Rattle.cm_refs.specs.Declarations.{with_pickle}
@@ -32,12 +32,6 @@ returns-in_err-declare_pickle c =
     (pickle_told (summary_of c.args.state.now) c.args.pickle c.in_ok-check_pickle.ensures.known c.in_ok-check_pickle.ensures.next (map string_bytes c.in_ok-steps.steps.items) same fault answer)
     (λ i. summary_of (record (c.args.state.now) { declared = c.in_err-declare_pickle.ensures.err i }))
 
-pub overflow_add-state : goal.overflow_add-state
-overflow_add-state c = omega (arith, c.requires.few.pickles)
-
-pub overflow_add-state-2 : goal.overflow_add-state-2
-overflow_add-state-2 c = omega (arith, c.requires.few.unrun)
-
 pub returns : goal.returns
 returns c =
     let old = c.args.state.now in
@@ -58,6 +52,5 @@ returns c =
       λ i. record (summary_of old) {
         declared = record (made i) { sources = uris i };
         sources = changed i;
-        counts = record old.counts { pickles = old.counts.pickles + 1; unrun = old.counts.unrun + 1 };
       },
     )

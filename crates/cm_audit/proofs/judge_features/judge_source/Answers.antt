@@ -1,4 +1,4 @@
-use Rattle.std.proofs.Common.{◌≡◌, ◌∙◌, refl, ap, sym, subst, false, true, not, ◌+◌, Err, Ok, [], ◌∷◌, ◌++◌, map, arith}
+use Rattle.std.proofs.Common.{◌≡◌, ◌∙◌, refl, ap, sym, subst, false, true, not, Err, Ok, [], ◌∷◌, ◌++◌, map}
 use Rattle.std.specs.Str.{bytes_eq}
 use Rattle.std.proofs.lemmas.List.{map-append}
 use Rattle.cm_attempt.specs.Table.{has_text}
@@ -48,9 +48,6 @@ returns-in_err-insert c =
     let rows = kept_rows (c.in_err-insert.ensures.err i) in
     record (summary_of old) { declared = with_uris rows old.declared; sources = rows })
 
-pub overflow_add-state : goal.overflow_add-state
-overflow_add-state c = omega (arith, c.requires.few.sources)
-
 pub returns : goal.returns
 returns c =
     let old = c.args.state.now in
@@ -72,6 +69,5 @@ returns c =
       λ i. record (summary_of old) {
         declared = record old.declared { sources = uris i };
         sources = grown i;
-        counts = record old.counts { sources = old.counts.sources + 1 };
       },
     )

@@ -11,7 +11,6 @@ lines-init g c = record {
   counted = omega arith;
   few = rw c.new-feed.ensures (omega arith);
   ends = rw c.new-feed.ensures (λ ended. cc);
-  ready = c.requires.ready;
   taken = begins g.T.TakeLines.takes c.args.taker.now c.new-feed.result c.new-feed.ensures (g.R.ByteSource.input c.args.source.now);
   no_failure = refl;
 }
@@ -29,8 +28,7 @@ lines-preserved g c =
       counted = omega (arith, c.lines.invariant.counted, given.some);
       few = omega (arith, given.fits, c.lines.invariant.stream_limit);
       ends = leaves.source c.lines.invariant.ends;
-      ready = c.in-Ok.ensures.ready c.lines.number c.lines.invariant.ready;
-      taken = goes_on g.T.TakeLines.takes c.args.taker.now c.lines.feed later c.lines.number c.lines.taker c.take_line.new.self line _ _ _ c.lines.invariant.taken c.lines.invariant.open_still leaves given c.in-Ok.ensures.takes;
+      taken = goes_on g.T.TakeLines.takes c.args.taker.now c.lines.feed later c.lines.number c.lines.taker c.take_line.new.self line _ _ _ c.lines.invariant.taken c.lines.invariant.open_still leaves given c.in-Ok.ensures;
       no_failure = search rules;
     }
 
@@ -40,7 +38,7 @@ returns-in-Err-take_line-clause-taken g c =
     let line = c.in-Ok-Some.line.now in
     let leaves : Leaves c.lines.feed later (g.R.ByteSource.input c.lines.source) (g.R.ByteSource.input c.next_line.new.source) (Ok (Some line)) = search rules in
     rw c.audited_at.ensures
-    (stops g.T.TakeLines.takes c.args.taker.now c.lines.feed later c.lines.number c.lines.taker c.take_line.new.self line _ _ _ c.lines.invariant.taken c.lines.invariant.open_still c.lines.invariant.ends leaves c.in-Err-take_line.stop c.in-Err-take_line.ensures.takes)
+    (stops g.T.TakeLines.takes c.args.taker.now c.lines.feed later c.lines.number c.lines.taker c.take_line.new.self line _ _ _ c.lines.invariant.taken c.lines.invariant.open_still c.lines.invariant.ends leaves c.in-Err-take_line.stop c.in-Err-take_line.ensures)
 
 pub returns-in-Ok-None-clause-taken : goal.returns-in-Ok-None-clause-taken
 returns-in-Ok-None-clause-taken g c =

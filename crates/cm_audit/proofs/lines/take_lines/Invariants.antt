@@ -12,7 +12,6 @@ invariant-lines g l = record {
   counted : l.number ≤ l.feed.given;
   few : l.feed.given ≤ 1073741824;
   ends : EndsWithSource l.feed (g.R.ByteSource.input l.source);
-  ready : g.T.TakeLines.is_ready l.number l.taker;
   taken : HasReadSo l.feed (g.R.ByteSource.input l.fn.source) (g.R.ByteSource.input l.source) (λ xs ys. HasTaken g.T.TakeLines.takes l.fn.taker xs ys l.feed l.number l.taker);
   no_failure : (g.R.ByteSource.input l.source).failed_calls ≡ (g.R.ByteSource.input l.fn.source).failed_calls;
 }
