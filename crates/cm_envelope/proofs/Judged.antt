@@ -147,7 +147,7 @@ module _ {A : Type 0} (f g : Kind → Option A) (k : Kind) (x : A) (same : (j : 
       go false t rest = rw (same j t) (longer (g j) (rest (rw t at h)))
 
 -- a key that is below the others is none of them
-absent : (k : String Global) (es : List Entry) → AllByRecursion (λ y. string_cmp k y ≡ Less) (keys_of es) → get_member (string_bytes k) (members_view es) ≡ None
+pub absent : (k : String Global) (es : List Entry) → AllByRecursion (λ y. string_cmp k y ≡ Less) (keys_of es) → get_member (string_bytes k) (members_view es) ≡ None
 absent k [] h = refl
 absent k (e ∷ es) h =
     let less : slice_cmp nat_cmp (string_bytes k) (string_bytes e.0) ≡ Less = h.0 in

@@ -10,3 +10,4 @@ pub mod Each
 pub mod Judged
 pub mod Json
 pub mod Writes
+pub mod Walking

@@ -43,8 +43,12 @@ good name (Some x) = Ok x
 
 -- ---- members of one value
 
+abbrev pub required_in : {A : Type 0} → (Data → Option A) → List ℕ → Option Data
+    → Result A (List ℕ)
+required_in type name d = good name (option_and_then type d)
+
 abbrev pub required_member : {A : Type 0} → (Data → Option A) → List ℕ → Data → Result A (List ℕ)
-required_member type name d = good name (option_and_then type (present_member name d))
+required_member type name d = required_in type name (present_member name d)
 
 abbrev pub optional_in : {A : Type 0} → (Data → Option A) → List ℕ → Option Data
     → Result (Option A) (List ℕ)

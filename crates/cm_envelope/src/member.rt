@@ -1,14 +1,65 @@
 //! Members of a JSON object, by name. Null is absence.
-ghost use Rattle.std.specs.Prelude.{◌≡◌, option_map, option_and_then, Result};
+ghost use Rattle.std.specs.Prelude.{◌≡◌, map, None, option_map, option_and_then, Result};
 ghost use Rattle.serde_json.specs.Find.{as_str, as_bool};
 ghost use Rattle.serde_json.specs.View.{view, items_view};
-ghost use Rattle.cm_envelope.specs.Member.{GivesMember, present_member, required_member, optional_member, optional_or, as_whole_number, has_both as has_both_members, media_type_member, items_in, GivesMemberOf, list_of_values, each, good};
+ghost use Rattle.cm_envelope.specs.Member.{GivesMember, present_member, required_in, required_member, optional_member, optional_or, as_whole_number, has_both as has_both_members, media_type_member, items_in, GivesMemberOf, list_of_values, each, good};
+ghost use Rattle.cm_envelope.specs.Members.{value_of, seen, noted, looked_for};
 ghost use Rattle.gk_document.specs.MediaType.{unless_empty};
 
 use crate::fault::MemberFault;
 use gk_document::{Sequence, Text};
 use serde_json::Value;
 use std::alloc::Global;
+
+/// A member of an object: its name, and its value once that is found. One that is absent or null has none.
+#[derive(Clone, Copy, Drop)]
+pub(crate) struct Member<'v> {
+    name: &'static str,
+    value: Option<&'v Value>,
+}
+
+/// The member of this name, which isn't looked for yet.
+pub(crate) fn named<'v>(name: &'static str) -> Member<'v>
+    ensures { seen result ≡ (name.now, None) }
+{
+    Member { name, value: None }
+}
+
+impl Member<'_> {
+    pub(crate) fn text(self, alloc: Global) -> Result<Text, MemberFault>
+        ensures { GivesMember result (required_in as_str self.entry.name.now (value_of self.entry)) }
+    {
+        match self.value.and_then(Value::as_str) {
+            Some(found) => Ok(Text::copy_of(alloc, found)?),
+            None => Err(MemberFault::Bad(self.name)),
+        }
+    }
+}
+
+/// Looks for the members by one walk over those of the object.
+pub(crate) fn find<'v>(object: &'v Value, members: &mut [Member<'v>])
+    ensures { map seen members.new ≡ map (looked_for (view object.now)) (map seen members.old) }
+{
+    if let Some(entries) = object.as_object() {
+        for (name, value) in entries.iter() {
+            if !value.is_null() {
+                note(members, name.as_str(), value);
+            }
+        }
+    }
+}
+
+/// Keeps the value in the members of this name.
+fn note<'v>(members: &mut [Member<'v>], name: &str, value: &'v Value)
+    ensures { map seen members.new
+        ≡ map (noted name.now (view value.now)) (map seen members.old) }
+{
+    for i in 0..members.len() {
+        if members[i].name == name {
+            members[i].value = Some(value);
+        }
+    }
+}
 
 pub(crate) fn present<'v>(object: &'v Value, name: &str) -> Option<&'v Value>
     ensures { option_map (λ v. view v.now) result ≡ present_member name.now (view object.now) }

@@ -11,7 +11,7 @@ use crate::envelope::{
     TestRunStarted, TestStep, TestStepFinished, TestStepResult, TestStepStarted,
 };
 use crate::fault::MemberFault;
-use crate::member::{flag, flag_or, optional_text, present, text, texts, whole_number_or};
+use crate::member::{find, named, flag, flag_or, optional_text, present, text, texts, whole_number_or};
 use crate::object::{ReadObject, list_of, nested};
 use serde_json::Value;
 use std::alloc::Global;
@@ -76,10 +76,13 @@ impl ReadObject for Source {
 
     #[inline(never)]
     fn read(alloc: Global, object: &Value) -> Result<Source, MemberFault> {
+        let mut members = [named("uri"), named("data"), named("mediaType")];
+        find(object, &mut members);
+        let [uri, content, media_type] = members;
         Ok(Source {
-            uri: text(alloc, object, "uri")?,
-            content: text(alloc, object, "data")?,
-            media_type: text(alloc, object, "mediaType")?,
+            uri: uri.text(alloc)?,
+            content: content.text(alloc)?,
+            media_type: media_type.text(alloc)?,
         })
     }
 }
