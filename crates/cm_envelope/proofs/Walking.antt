@@ -1,5 +1,5 @@
 -- Looking for members by one walk over those of an object.
-use Rattle.std.proofs.Common.{◌≡◌, ℕ, ◌+◌, ◌<◌, List, [], ◌∷◌, ◌++◌, map, take, drop, length, set, get_or, arith, Bool, true, false, cond, Option, Some, None, option_map, option_and_then, is_some, Bor, String, Global, string_bytes, string_cmp, nat_cmp, Less, refl, sym, ap, ◌∙◌, subst, true≢false}
+use Rattle.std.proofs.Common.{◌≡◌, ℕ, suc, ◌+◌, ◌<◌, List, [], ◌∷◌, ◌++◌, map, take, drop, length, set, get_or, arith, Bool, true, false, cond, Option, Some, None, option_map, option_and_then, is_some, Bor, String, Global, string_bytes, string_cmp, nat_cmp, Less, refl, sym, ap, ◌∙◌, subst, true≢false}
 use Rattle.std.proofs.lemmas.List.{length-map, get_or-map, map-set, map-id, set-get_or}
 use Rattle.std.proofs.lemmas.List.Edits.{map_over_more}
 use Rattle.std.proofs.lemmas.Slice.Eq.{bytes_eq-Decides}
@@ -14,27 +14,23 @@ use Rattle.serde_json.specs.View.{view, members_view}
 use Rattle.serde_json.specs.declared.value.Value.{Value}
 use Rattle.serde_json.proofs.Views.{Entry, member_here, member_later}
 use Rattle.cm_envelope.specs.declared.member.Member.{Member}
-use Rattle.cm_envelope.specs.Member.{present_member, unless_null}
-use Rattle.cm_envelope.specs.Members.{value_of, seen, noted, or_before, looked_for}
+use Rattle.cm_envelope.specs.Member.{Named, present_member, unless_null}
+use Rattle.cm_envelope.specs.Members.{value_of, seen, noted, or_before, looked_for, AreFound}
 use Rattle.cm_envelope.proofs.Judged.{absent}
 
--- a member that is looked for, with what is found of it
-abbrev pub Looked : Type 0
-Looked = List ℕ × Option Data
-
 -- once this member of the object is passed
-abbrev pub past : Entry → Looked → Looked
+abbrev pub past : Entry → Named → Named
 past e m = cond (is_some (as_null (view e.1))) m (noted (string_bytes e.0) (view e.1) m)
 
 -- once these are
-abbrev pub past_all : List Entry → Looked → Looked
+abbrev pub past_all : List Entry → Named → Named
 past_all [] m = m
 past_all (e ∷ es) m = past_all es (past e m)
 
-abbrev the_same : List ℕ → Option Data → Looked
+abbrev the_same : List ℕ → Option Data → Named
 the_same name d = (name, d)
 
-abbrev looked_at : List ℕ → Option Data → Option Data → Looked
+abbrev looked_at : List ℕ → Option Data → Option Data → Named
 looked_at name before d = (name, or_before d before)
 
 -- what is found of a member of this name
@@ -105,27 +101,27 @@ get_of_none (string s) is name = refl
 get_of_none (array ds) is name = refl
 get_of_none (object ns) is name = absurd cc
 
-same_maps : (f g : Looked → Looked) → ((m : Looked) → f m ≡ g m) → (ms : List Looked) → map f ms ≡ map g ms
+same_maps : (f g : Named → Named) → ((m : Named) → f m ≡ g m) → (ms : List Named) → map f ms ≡ map g ms
 same_maps f g same [] = refl
 same_maps f g same (m ∷ ms) = let rest = same_maps f g same ms in λ i. same m i ∷ rest i
 
 -- ---- member by member
 
-pub walk_starts : (d : Data) (es : List Entry) → as_object d ≡ Some (members_view es) → IsStrictlySortedBy string_cmp (keys_of es) → (ms : List Looked) → map (past_all es) ms ≡ map (looked_for d) ms
+pub walk_starts : (d : Data) (es : List Entry) → as_object d ≡ Some (members_view es) → IsStrictlySortedBy string_cmp (keys_of es) → (ms : List Named) → map (past_all es) ms ≡ map (looked_for d) ms
 walk_starts d es is sorted ms = same_maps _ _ (λ m. found_by_walk m.0 m.1 es sorted ∙ ap (λ o. looked_at m.0 m.1 (option_and_then unless_null o)) (sym (get_of_object d (members_view es) is m.0))) ms
 
-pub nothing_found : (d : Data) → as_object d ≡ None → (ms : List Looked) → ms ≡ map (looked_for d) ms
+pub nothing_found : (d : Data) → as_object d ≡ None → (ms : List Named) → ms ≡ map (looked_for d) ms
 nothing_found d is ms = sym (map-id ms) ∙ same_maps _ _ (λ m. kept_before m.0 m.1 ∙ ap (λ o. looked_at m.0 m.1 (option_and_then unless_null o)) (sym (get_of_none d is m.0))) ms
   where
     kept_before : (name : List ℕ) (before : Option Data) → the_same name before ≡ looked_at name before None
     kept_before name None = refl
     kept_before name (Some d) = refl
 
-module _ (es : List Entry) (ms : List Looked) (total : List Looked) (so_far : map (past_all es) ms ≡ total) where
-  pub walk_goes_on : (e : Entry) (rest : List Entry) (new : List Looked) → es ≡ e ∷ rest → is_some (as_null (view e.1)) ≡ false → new ≡ map (noted (string_bytes e.0) (view e.1)) ms → map (past_all rest) new ≡ total
+module _ (es : List Entry) (ms : List Named) (total : List Named) (so_far : map (past_all es) ms ≡ total) where
+  pub walk_goes_on : (e : Entry) (rest : List Entry) (new : List Named) → es ≡ e ∷ rest → is_some (as_null (view e.1)) ≡ false → new ≡ map (noted (string_bytes e.0) (view e.1)) ms → map (past_all rest) new ≡ total
   walk_goes_on e rest new is not_null noted_all = ap (map (past_all rest)) noted_all ∙ go ms ∙ sym (ap (λ es. map (past_all es) ms) is) ∙ so_far
     where
-      go : (ms : List Looked) → map (past_all rest) (map (noted (string_bytes e.0) (view e.1)) ms) ≡ map (past_all (e ∷ rest)) ms
+      go : (ms : List Named) → map (past_all rest) (map (noted (string_bytes e.0) (view e.1)) ms) ≡ map (past_all (e ∷ rest)) ms
       go [] = refl
       go (m ∷ ms) = let first = ap (λ b. past_all rest (cond b m (noted (string_bytes e.0) (view e.1) m))) (sym not_null) in let others = go ms in λ i. first i ∷ others i
 
@@ -154,3 +150,31 @@ module _ (name : List ℕ) (d : Data) (old ms : List Member) (i : ℕ) (x : Memb
     where
       stays : seen x ≡ noted name d (seen x)
       stays = rw t
+
+-- ---- what was found of each
+
+module _ (ms : List Member) (ns : List Named) (is : map seen ms ≡ ns) where
+  pub nth : (i : ℕ) (x : Member) → i < length ns → seen (get_or ms i x) ≡ get_or ns i (seen x)
+  nth i x h =
+      let within : i < length ms = omega (arith, length-map ms seen, ap length is) in
+      sym (get_or-map seen ms i x (seen x) within) ∙ ap (λ l. get_or l i (seen x)) is
+
+each_found : (d : Data) (new : List Member) (at : ℕ) (old : List Member) → ((j : ℕ) (x y : Member) → j < length old → seen (get_or new (at + j) x) ≡ looked_for d (seen (get_or old j y))) → AreFound d new at old
+each_found d new at [] h = tt
+each_found d new at (m ∷ ms) h =
+    let here : at + 0 ≡ at = omega arith in (
+      (λ x. subst (λ k. seen (get_or new k x) ≡ looked_for d (seen m)) here (h 0 x m (omega arith))),
+      each_found d new (at + 1) ms (λ j x y l. let later : at + suc j ≡ at + 1 + j = omega arith in subst (λ k. seen (get_or new k x) ≡ looked_for d (seen (get_or ms j y))) later (h (suc j) x y (omega arith))),
+    )
+
+pub all_found : (d : Data) (old new : List Member) → map seen new ≡ map (looked_for d) (map seen old) → AreFound d new 0 old
+all_found d old new is =
+    each_found d new 0 old
+    (λ j x y l. let here : j ≡ 0 + j = omega arith in subst (λ k. seen (get_or new k x) ≡ looked_for d (seen (get_or old j y))) here (go j x y l))
+  where
+    go : (j : ℕ) (x y : Member) → j < length old → seen (get_or new j x) ≡ looked_for d (seen (get_or old j y))
+    go j x y l =
+        let within : j < length (map seen old) = omega (arith, length-map old seen) in
+        nth new _ is j x (omega (arith, length-map (map seen old) (looked_for d), length-map old seen))
+        ∙ get_or-map (looked_for d) (map seen old) j (seen y) (seen x) within
+        ∙ ap (looked_for d) (get_or-map seen old j y (seen y) l)

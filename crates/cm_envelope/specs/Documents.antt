@@ -30,7 +30,7 @@ use Rattle.cm_envelope.specs.declared.read_documents.TaggedHeading.{TaggedHeadin
 use Rattle.cm_envelope.specs.declared.read_documents.Body.{Body}
 use Rattle.cm_envelope.specs.declared.read_documents.FeatureHeading.{FeatureHeading}
 use Rattle.cm_envelope.specs.declared.read_documents.FeatureBody.{FeatureBody}
-use Rattle.cm_envelope.specs.Member.{◌>>=◌, FailsAtMember, all_items, good, required_member, nested_member, optional_nested_member, list_of, items_in, present_member, rule, has_both, media_type_member, as_whole_number}
+use Rattle.cm_envelope.specs.Member.{◌>>=◌, FailsAtMember, Named, member_of, all_items, good, required_in, required_member, nested_in, nested_member, optional_nested_in, list_of, items_in, present_member, rule, has_both, media_type_member, as_whole_number}
 
 abbrev pub Ids : Type 0
 Ids = List (List ℕ)
@@ -67,10 +67,13 @@ each_node read ids (item d ds) = do
   others ← each_node read first.1 ds
   Ok (first.0 ∷ others.0, others.1)
 
+abbrev pub nodes_in : {A : Type 0} → (Ids → Data → NodeRead A) → List ℕ → Ids → Option Data
+    → NodeRead (List A)
+nodes_in read name ids d = items_in name d >>= each_node (node_in name read) ids
+
 abbrev pub nodes_of : {A : Type 0} → (Ids → Data → NodeRead A) → List ℕ → Ids → Data
     → NodeRead (List A)
-nodes_of read name ids d =
-    items_in name (present_member name d) >>= each_node (node_in name read) ids
+nodes_of read name ids d = nodes_in read name ids (present_member name d)
 
 -- ---- the children of a feature and of a rule
 
@@ -110,11 +113,14 @@ are_in_order in_feature least (item d ds) =
     (rank_of in_feature d)) false
 
 -- the children, once each has its kind and they are in order
-abbrev pub children_in : Bool → Data → Result Items (List ℕ)
-children_in in_feature d = do
-  children ← items_in (codes "children") (present_member (codes "children") d)
-  checked ← rule (codes "children") (are_in_order in_feature 0 children)
+abbrev pub ordered_children : Bool → Named → Result Items (List ℕ)
+ordered_children in_feature m = do
+  children ← items_in m.0 m.1
+  checked ← rule m.0 (are_in_order in_feature 0 children)
   Ok children
+
+abbrev pub children_in : Bool → Data → Result Items (List ℕ)
+children_in in_feature d = ordered_children in_feature (member_of (codes "children") d)
 
 -- ---- places, cells and doc strings
 
@@ -144,11 +150,14 @@ doc_string d = do
 -- ---- nodes
 
 -- what a node that has an id begins with
-abbrev pub mark : Data → Result Mark (List ℕ)
-mark d = do
-  id ← required_member as_str (codes "id") d
-  place ← nested_member location (codes "location") d
+abbrev pub mark_in : Named → Named → Result Mark (List ℕ)
+mark_in own_id at = do
+  id ← required_in as_str own_id.0 own_id.1
+  place ← nested_in location at.0 at.1
   Ok (record { id = id; location = place })
+
+abbrev pub mark : Data → Result Mark (List ℕ)
+mark d = mark_in (member_of (codes "id") d) (member_of (codes "location") d)
 
 -- the number of the node that has this id
 abbrev pub node_number : List ℕ → Ids → NodeRead ℕ
@@ -180,27 +189,38 @@ argument_of None (Some text) = Some (Text text)
 argument_of None None = None
 
 -- the argument of a step
-abbrev pub argument : Ids → Data → NodeRead (Option Argument)
-argument ids d = do
-  table ← optional_node data_table (codes "dataTable") ids d
-  checked ← rule (codes "docString") (not (has_both (codes "dataTable") (codes "docString") d))
-  content ← optional_nested_member doc_string (codes "docString") d
+abbrev pub argument_in : Named → Named → Ids → NodeRead (Option Argument)
+argument_in of_table of_text ids = do
+  table ← optional_node_in data_table of_table.0 ids of_table.1
+  checked ← rule of_text.0 (not (is_some of_table.1 && is_some of_text.1))
+  content ← optional_nested_in doc_string of_text.0 of_text.1
   Ok (argument_of table.0 content, table.1)
 
+abbrev pub argument : Ids → Data → NodeRead (Option Argument)
+argument ids d = argument_in (member_of (codes "dataTable") d) (member_of (codes "docString") d) ids
+
 -- the keyword, and the name or a step's text
-abbrev pub title : List ℕ → Data → Result Title (List ℕ)
-title name d = do
-  keyword ← required_member as_str (codes "keyword") d
-  text ← required_member as_str name d
+abbrev pub title_in : Named → Named → Result Title (List ℕ)
+title_in of_keyword of_text = do
+  keyword ← required_in as_str of_keyword.0 of_keyword.1
+  text ← required_in as_str of_text.0 of_text.1
   Ok (record { keyword = keyword; text = text })
 
+abbrev pub title : List ℕ → Data → Result Title (List ℕ)
+title name d = title_in (member_of (codes "keyword") d) (member_of name d)
+
 -- what a step and a background begin with
-abbrev pub heading : List ℕ → Ids → Data → NodeRead Heading
-heading name ids d = do
-  own ← mark d
-  words ← title name d
+abbrev pub heading_in : Named → Named → Named → Named → Ids → NodeRead Heading
+heading_in own_id at of_keyword of_text ids = do
+  own ← mark_in own_id at
+  words ← title_in of_keyword of_text
   node ← node_number own.id ids
   Ok (record { node = node.0; location = own.location; title = words }, node.1)
+
+abbrev pub heading : List ℕ → Ids → Data → NodeRead Heading
+heading name ids d =
+    heading_in (member_of (codes "id") d) (member_of (codes "location") d)
+    (member_of (codes "keyword") d) (member_of name d) ids
 
 abbrev pub step : Ids → Data → NodeRead Step
 step ids d = do
@@ -246,31 +266,44 @@ abbrev pub is_object : Data → Bool
 is_object d = is_some (as_object d)
 
 -- Each element of the body is an object, and a body that isn't empty needs a header.
-abbrev pub body_rows : Bool → Data → Result Items (List ℕ)
-body_rows has_header d = do
-  rows ← items_in (codes "tableBody") (present_member (codes "tableBody") d)
-  objects ← rule (codes "tableBody") (all_items is_object rows)
-  checked ← rule (codes "tableBody") (has_header || is_empty rows)
+abbrev pub body_rows_in : Bool → Named → Result Items (List ℕ)
+body_rows_in has_header m = do
+  rows ← items_in m.0 m.1
+  objects ← rule m.0 (all_items is_object rows)
+  checked ← rule m.0 (has_header || is_empty rows)
   Ok rows
 
-abbrev pub example_table : Ids → Data → NodeRead (Option ExampleTable)
-example_table ids d = do
-  header ← optional_node row (codes "tableHeader") ids d
-  rows ← body_rows (is_some header.0) d
-  body ← each_node (node_in (codes "tableBody") row) header.1 rows
+abbrev pub body_rows : Bool → Data → Result Items (List ℕ)
+body_rows has_header d = body_rows_in has_header (member_of (codes "tableBody") d)
+
+abbrev pub example_table_in : Named → Named → Ids → NodeRead (Option ExampleTable)
+example_table_in of_header of_body ids = do
+  header ← optional_node_in row of_header.0 ids of_header.1
+  rows ← body_rows_in (is_some header.0) of_body
+  body ← each_node (node_in of_body.0 row) header.1 rows
   Ok (table_of_rows header.0 body.0, body.1)
 
+abbrev pub example_table : Ids → Data → NodeRead (Option ExampleTable)
+example_table ids d =
+    example_table_in (member_of (codes "tableHeader") d) (member_of (codes "tableBody") d) ids
+
 -- what an examples block, a scenario and a rule begin with
-abbrev pub tagged_heading : Ids → Data → NodeRead TaggedHeading
-tagged_heading ids d = do
-  own ← mark d
-  tags ← nodes_of tag (codes "tags") ids d
-  words ← title (codes "name") d
+abbrev pub tagged_heading_in : Named → Named → Named → Named → Named → Ids
+    → NodeRead TaggedHeading
+tagged_heading_in own_id at of_tags of_keyword of_name ids = do
+  own ← mark_in own_id at
+  tags ← nodes_in tag of_tags.0 ids of_tags.1
+  words ← title_in of_keyword of_name
   node ← node_number own.id tags.1
   Ok (
     record { node = node.0; location = own.location; tags = tags.0; title = words },
     node.1,
   )
+
+abbrev pub tagged_heading : Ids → Data → NodeRead TaggedHeading
+tagged_heading ids d =
+    tagged_heading_in (member_of (codes "id") d) (member_of (codes "location") d)
+    (member_of (codes "tags") d) (member_of (codes "keyword") d) (member_of (codes "name") d) ids
 
 abbrev pub examples : Ids → Data → NodeRead Examples
 examples ids d = do
@@ -336,25 +369,35 @@ rule_node ids d = do
   )
 
 -- what a feature begins with, which has no id
-abbrev pub feature_heading : Ids → Data → NodeRead FeatureHeading
-feature_heading ids d = do
-  place ← nested_member location (codes "location") d
-  tags ← nodes_of tag (codes "tags") ids d
-  language ← required_member as_str (codes "language") d
-  words ← title (codes "name") d
+abbrev pub feature_heading_in : Named → Named → Named → Named → Named → Ids
+    → NodeRead FeatureHeading
+feature_heading_in at of_tags of_language of_keyword of_name ids = do
+  place ← nested_in location at.0 at.1
+  tags ← nodes_in tag of_tags.0 ids of_tags.1
+  language ← required_in as_str of_language.0 of_language.1
+  words ← title_in of_keyword of_name
   Ok (
     record { location = place; tags = tags.0; language = language; title = words },
     tags.1,
   )
 
+abbrev pub feature_heading : Ids → Data → NodeRead FeatureHeading
+feature_heading ids d =
+    feature_heading_in (member_of (codes "location") d) (member_of (codes "tags") d)
+    (member_of (codes "language") d) (member_of (codes "keyword") d) (member_of (codes "name") d)
+    ids
+
 -- the children of a feature, by kind
-abbrev pub feature_body : Ids → Data → NodeRead FeatureBody
-feature_body ids d = do
-  children ← children_in true d
+abbrev pub feature_body_in : Named → Ids → NodeRead FeatureBody
+feature_body_in m ids = do
+  children ← ordered_children true m
   parts ← body ids children
   rules ← each_node (node_in (codes "rule") rule_node) parts.1
       (children_of (codes "rule") children)
   Ok (record { body = parts.0; rules = rules.0 }, rules.1)
+
+abbrev pub feature_body : Ids → Data → NodeRead FeatureBody
+feature_body ids d = feature_body_in (member_of (codes "children") d) ids
 
 abbrev pub feature : Ids → Data → NodeRead Feature
 feature ids d = do

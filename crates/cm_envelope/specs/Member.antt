@@ -33,6 +33,13 @@ unless_null d = if is_some (as_null d) then None else Some d
 abbrev pub present_member : List ℕ → Data → Option Data
 present_member name d = option_and_then unless_null (get name d)
 
+-- a member: its name, and its value unless it is absent or null
+abbrev pub Named : Type 0
+Named = List ℕ × Option Data
+
+abbrev pub member_of : List ℕ → Data → Named
+member_of name d = (name, present_member name d)
+
 abbrev pub as_whole_number : Data → Option ℕ
 as_whole_number d = option_and_then as_u64 (as_number d)
 
@@ -60,16 +67,23 @@ abbrev pub optional_member : {A : Type 0} → (Data → Option A) → List ℕ �
 optional_member type name d = optional_in type name (present_member name d)
 
 -- with a value for an absent member
-abbrev pub optional_or : {A : Type 0} → A → (Data → Option A) → List ℕ → Data → Result A (List ℕ)
-optional_or absent type name d = do
-  found ← optional_member type name d
+abbrev pub optional_or_in : {A : Type 0} → A → (Data → Option A) → List ℕ → Option Data
+    → Result A (List ℕ)
+optional_or_in absent type name d = do
+  found ← optional_in type name d
   Ok (unwrap_or found absent)
 
+abbrev pub optional_or : {A : Type 0} → A → (Data → Option A) → List ℕ → Data → Result A (List ℕ)
+optional_or absent type name d = optional_or_in absent type name (present_member name d)
+
 -- the media type of a doc string, which is none where it is empty
-abbrev pub media_type_member : Data → Result (Option (List ℕ)) (List ℕ)
-media_type_member d = do
-  media ← optional_member as_str (codes "mediaType") d
+abbrev pub media_type_in : List ℕ → Option Data → Result (Option (List ℕ)) (List ℕ)
+media_type_in name d = do
+  media ← optional_in as_str name d
   Ok (option_and_then unless_empty media)
+
+abbrev pub media_type_member : Data → Result (Option (List ℕ)) (List ℕ)
+media_type_member d = media_type_in (codes "mediaType") (present_member (codes "mediaType") d)
 
 -- ---- objects and lists
 
@@ -77,9 +91,13 @@ media_type_member d = do
 abbrev pub object_in : {A : Type 0} → List ℕ → (Data → Result A (List ℕ)) → Data → Result A (List ℕ)
 object_in name read d = good name (as_object d) >>= λ members. read d
 
+abbrev pub nested_in : {A : Type 0} → (Data → Result A (List ℕ)) → List ℕ → Option Data
+    → Result A (List ℕ)
+nested_in read name d = good name d >>= object_in name read
+
 abbrev pub nested_member : {A : Type 0} → (Data → Result A (List ℕ)) → List ℕ → Data
     → Result A (List ℕ)
-nested_member read name d = good name (present_member name d) >>= object_in name read
+nested_member read name d = nested_in read name (present_member name d)
 
 abbrev pub optional_nested_in : {A : Type 0} → (Data → Result A (List ℕ)) → List ℕ → Option Data
     → Result (Option A) (List ℕ)
@@ -103,14 +121,21 @@ abbrev pub items_in : List ℕ → Option Data → Result Items (List ℕ)
 items_in name None = Ok no_items
 items_in name (Some d) = good name (as_array d)
 
+abbrev pub list_in : {A : Type 0} → (Data → Result A (List ℕ)) → List ℕ → Option Data
+    → Result (List A) (List ℕ)
+list_in read name d = items_in name d >>= each (object_in name read)
+
 abbrev pub list_of : {A : Type 0} → (Data → Result A (List ℕ)) → List ℕ → Data
     → Result (List A) (List ℕ)
-list_of read name d = items_in name (present_member name d) >>= each (object_in name read)
+list_of read name d = list_in read name (present_member name d)
+
+abbrev pub values_in : {A : Type 0} → (Data → Option A) → List ℕ → Option Data
+    → Result (List A) (List ℕ)
+values_in type name d = items_in name d >>= each (λ e. good name (type e))
 
 abbrev pub list_of_values : {A : Type 0} → (Data → Option A) → List ℕ → Data
     → Result (List A) (List ℕ)
-list_of_values type name d =
-    items_in name (present_member name d) >>= each (λ e. good name (type e))
+list_of_values type name d = values_in type name (present_member name d)
 
 -- ---- rules, checked when their member is reached
 
@@ -130,6 +155,8 @@ all_items test no_items = true
 all_items test (item d ds) = test d && all_items test ds
 
 -- where the member is a list, each item passes the test
+abbrev pub each_item_in : (Data → Bool) → Option Data → Bool
+each_item_in test d = unwrap_or (option_map (all_items test) (option_and_then as_array d)) true
+
 abbrev pub each_item : (Data → Bool) → List ℕ → Data → Bool
-each_item test name d =
-    unwrap_or (option_map (all_items test) (option_and_then as_array (present_member name d))) true
+each_item test name d = each_item_in test (present_member name d)

@@ -16,7 +16,7 @@ use Rattle.cm_envelope.specs.declared.pickle.PickleCell.{PickleCell}
 use Rattle.cm_envelope.specs.declared.pickle.PickleDocString.{PickleDocString}
 use Rattle.cm_envelope.specs.declared.read_pickles.PickleTexts.{PickleTexts}
 use Rattle.cm_envelope.specs.declared.read_pickles.PickleLists.{PickleLists}
-use Rattle.cm_envelope.specs.Member.{◌>>=◌, required_member, optional_member, optional_nested_member, list_of, list_of_values, rule, has_both, media_type_member}
+use Rattle.cm_envelope.specs.Member.{◌>>=◌, Named, member_of, present_member, required_in, required_member, optional_member, optional_nested_in, optional_nested_member, list_in, list_of, values_in, list_of_values, rule, has_both, media_type_member}
 
 -- Messages: PickleStepType
 abbrev pub step_kind_of : List ℕ → Option StepKind
@@ -75,10 +75,13 @@ inner_option None = None
 inner_option (Some o) = o
 
 -- An argument with neither counts as absent.
-abbrev pub argument : Data → Result (Option PickleArgument) (List ℕ)
-argument d = do
-  found ← optional_nested_member pickle_argument (codes "argument") d
+abbrev pub argument_in : List ℕ → Option Data → Result (Option PickleArgument) (List ℕ)
+argument_in name d = do
+  found ← optional_nested_in pickle_argument name d
   Ok (inner_option found)
+
+abbrev pub argument : Data → Result (Option PickleArgument) (List ℕ)
+argument d = argument_in (codes "argument") (present_member (codes "argument") d)
 
 abbrev pub pickle_step : Data → Result PickleStep (List ℕ)
 pickle_step d = do
@@ -89,20 +92,30 @@ pickle_step d = do
   below ← argument d
   Ok (record { id = id; text = text; kind = kind; ast_node_ids = nodes; argument = below })
 
-abbrev pub pickle_texts : Data → Result PickleTexts (List ℕ)
-pickle_texts d = do
-  id ← required_member as_str (codes "id") d
-  uri ← required_member as_str (codes "uri") d
-  name ← required_member as_str (codes "name") d
-  language ← required_member as_str (codes "language") d
+abbrev pub texts_in : Named → Named → Named → Named → Result PickleTexts (List ℕ)
+texts_in own_id of_uri own_name of_language = do
+  id ← required_in as_str own_id.0 own_id.1
+  uri ← required_in as_str of_uri.0 of_uri.1
+  name ← required_in as_str own_name.0 own_name.1
+  language ← required_in as_str of_language.0 of_language.1
   Ok (record { id = id; uri = uri; name = name; language = language })
 
-abbrev pub pickle_lists : Data → Result PickleLists (List ℕ)
-pickle_lists d = do
-  nodes ← list_of_values as_str (codes "astNodeIds") d
-  tags ← list_of pickle_tag (codes "tags") d
-  steps ← list_of pickle_step (codes "steps") d
+abbrev pub pickle_texts : Data → Result PickleTexts (List ℕ)
+pickle_texts d =
+    texts_in (member_of (codes "id") d) (member_of (codes "uri") d) (member_of (codes "name") d)
+    (member_of (codes "language") d)
+
+abbrev pub lists_in : Named → Named → Named → Result PickleLists (List ℕ)
+lists_in of_nodes of_tags of_steps = do
+  nodes ← values_in as_str of_nodes.0 of_nodes.1
+  tags ← list_in pickle_tag of_tags.0 of_tags.1
+  steps ← list_in pickle_step of_steps.0 of_steps.1
   Ok (record { ast_node_ids = nodes; tags = tags; steps = steps })
+
+abbrev pub pickle_lists : Data → Result PickleLists (List ℕ)
+pickle_lists d =
+    lists_in (member_of (codes "astNodeIds") d) (member_of (codes "tags") d)
+    (member_of (codes "steps") d)
 
 -- its texts, then its lists
 abbrev pub pickle : Data → Result Pickle (List ℕ)

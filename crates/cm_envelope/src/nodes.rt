@@ -2,11 +2,12 @@
 ghost use Rattle.serde_json.specs.Data.{Data};
 ghost use Rattle.serde_json.specs.Find.{as_str};
 ghost use Rattle.serde_json.specs.View.{view, items_view};
-ghost use Rattle.cm_envelope.specs.Member.{GivesMember, required_member};
-ghost use Rattle.cm_envelope.specs.Documents.{GivesNode, NodeRead, Ids, node_in, optional_node as optional_node_of, each_node, nodes_of as nodes_of_member, node_number};
+ghost use Rattle.cm_envelope.specs.Member.{GivesMember, required_in};
+ghost use Rattle.cm_envelope.specs.Members.{value_of};
+ghost use Rattle.cm_envelope.specs.Documents.{GivesNode, NodeRead, Ids, node_in, optional_node_in, each_node, nodes_in, node_number};
 
 use crate::fault::MemberFault;
-use crate::member::{items, present};
+use crate::member::Member;
 use crate::node_id::NodeId;
 use gk_document::Sequence;
 use serde_json::Value;
@@ -34,21 +35,6 @@ pub(crate) fn node_in_member<T: ReadNode>(
     T::read(alloc, value, ids)
 }
 
-pub(crate) fn optional_node<T: ReadNode>(
-    alloc: Global,
-    object: &Value,
-    name: &'static str,
-    ids: &mut Sequence<NodeId>,
-) -> Result<Option<T>, MemberFault>
-    ensures { GivesNode result ids.new (optional_node_of T.reads name.now ids.old
-        (view object.now)) }
-{
-    match present(object, name) {
-        Some(value) => Ok(Some(node_in_member(alloc, value, name, ids)?)),
-        None => Ok(None),
-    }
-}
-
 pub(crate) fn nodes<T: ReadNode + Drop>(
     alloc: Global,
     values: &[Value],
@@ -66,28 +52,40 @@ pub(crate) fn nodes<T: ReadNode + Drop>(
     Ok(nodes)
 }
 
-pub(crate) fn nodes_of<T: ReadNode + Drop>(
-    alloc: Global,
-    object: &Value,
-    name: &'static str,
-    ids: &mut Sequence<NodeId>,
-) -> Result<Sequence<T>, MemberFault>
-    ensures { GivesNode result ids.new (nodes_of_member T.reads name.now ids.old
-        (view object.now)) }
-{
-    nodes(alloc, items(object, name)?, name, ids)
-}
+impl Member<'_> {
+    pub(crate) fn optional_node<T: ReadNode>(
+        self,
+        alloc: Global,
+        ids: &mut Sequence<NodeId>,
+    ) -> Result<Option<T>, MemberFault>
+        ensures { GivesNode result ids.new
+            (optional_node_in T.reads self.entry.name.now ids.old (value_of self.entry)) }
+    {
+        match self.value {
+            Some(value) => Ok(Some(node_in_member(alloc, value, self.name, ids)?)),
+            None => Ok(None),
+        }
+    }
 
-pub(crate) fn node_id(
-    alloc: Global,
-    object: &Value,
-    name: &'static str,
-) -> Result<NodeId, MemberFault>
-    ensures { GivesMember result (required_member as_str name.now (view object.now)) }
-{
-    match present(object, name).and_then(Value::as_str) {
-        Some(found) => Ok(NodeId::copy_of(alloc, found)?),
-        None => Err(MemberFault::Bad(name)),
+    pub(crate) fn nodes_of<T: ReadNode + Drop>(
+        self,
+        alloc: Global,
+        ids: &mut Sequence<NodeId>,
+    ) -> Result<Sequence<T>, MemberFault>
+        ensures { GivesNode result ids.new
+            (nodes_in T.reads self.entry.name.now ids.old (value_of self.entry)) }
+    {
+        nodes(alloc, self.items()?, self.name, ids)
+    }
+
+    pub(crate) fn node_id(self, alloc: Global) -> Result<NodeId, MemberFault>
+        ensures { GivesMember result
+            (required_in as_str self.entry.name.now (value_of self.entry)) }
+    {
+        match self.value.and_then(Value::as_str) {
+            Some(found) => Ok(NodeId::copy_of(alloc, found)?),
+            None => Err(MemberFault::Bad(self.name)),
+        }
     }
 }
 

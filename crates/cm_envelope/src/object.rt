@@ -2,10 +2,11 @@
 ghost use Rattle.std.specs.Prelude.{List, Result, ℕ};
 ghost use Rattle.serde_json.specs.Data.{Data};
 ghost use Rattle.serde_json.specs.View.{view, items_view};
-ghost use Rattle.cm_envelope.specs.Member.{GivesMember, nested_member, optional_nested_member, list_of as list_of_objects, each, object_in};
+ghost use Rattle.cm_envelope.specs.Member.{GivesMember, nested_in, optional_nested_in, list_in, each, object_in};
+ghost use Rattle.cm_envelope.specs.Members.{value_of};
 
 use crate::fault::MemberFault;
-use crate::member::present;
+use crate::member::Member;
 use gk_document::Sequence;
 use serde_json::Value;
 use std::alloc::Global;
@@ -31,45 +32,44 @@ fn object_in_member<T: ReadObject>(
     T::read(alloc, value)
 }
 
-pub(crate) fn nested<T: ReadObject>(
-    alloc: Global,
-    object: &Value,
-    name: &'static str,
-) -> Result<T, MemberFault>
-    ensures { GivesMember result (nested_member T.reads name.now (view object.now)) }
-{
-    match present(object, name) {
-        Some(value) => object_in_member(alloc, value, name),
-        None => Err(MemberFault::Bad(name)),
+impl Member<'_> {
+    pub(crate) fn nested<T: ReadObject>(self, alloc: Global) -> Result<T, MemberFault>
+        ensures { GivesMember result
+            (nested_in T.reads self.entry.name.now (value_of self.entry)) }
+    {
+        match self.value {
+            Some(value) => object_in_member(alloc, value, self.name),
+            None => Err(MemberFault::Bad(self.name)),
+        }
     }
-}
 
-pub(crate) fn optional_nested<T: ReadObject>(
-    alloc: Global,
-    object: &Value,
-    name: &'static str,
-) -> Result<Option<T>, MemberFault>
-    ensures { GivesMember result (optional_nested_member T.reads name.now (view object.now)) }
-{
-    match present(object, name) {
-        Some(value) => Ok(Some(object_in_member(alloc, value, name)?)),
-        None => Ok(None),
+    pub(crate) fn optional_nested<T: ReadObject>(
+        self,
+        alloc: Global,
+    ) -> Result<Option<T>, MemberFault>
+        ensures { GivesMember result
+            (optional_nested_in T.reads self.entry.name.now (value_of self.entry)) }
+    {
+        match self.value {
+            Some(value) => Ok(Some(object_in_member(alloc, value, self.name)?)),
+            None => Ok(None),
+        }
     }
-}
 
-pub(crate) fn list_of<T: ReadObject + Drop>(
-    alloc: Global,
-    object: &Value,
-    name: &'static str,
-) -> Result<Sequence<T>, MemberFault>
-    ensures { GivesMember result (list_of_objects T.reads name.now (view object.now)) }
-{
-    let Some(member) = present(object, name) else {
-        return Ok(Sequence::from(Vec::new(alloc)));
-    };
-    match member.as_array() {
-        Some(values) => objects(alloc, values, name),
-        None => Err(MemberFault::Bad(name)),
+    pub(crate) fn list_of<T: ReadObject + Drop>(
+        self,
+        alloc: Global,
+    ) -> Result<Sequence<T>, MemberFault>
+        ensures { GivesMember result
+            (list_in T.reads self.entry.name.now (value_of self.entry)) }
+    {
+        let Some(value) = self.value else {
+            return Ok(Sequence::from(Vec::new(alloc)));
+        };
+        match value.as_array() {
+            Some(values) => objects(alloc, values, self.name),
+            None => Err(MemberFault::Bad(self.name)),
+        }
     }
 }
 

@@ -1,15 +1,16 @@
 //! How a feature's tree is read, member by member, with the ids of its nodes.
 ghost use Rattle.std.specs.Prelude.{◌≡◌, [], codes};
 ghost use Rattle.serde_json.specs.View.{view, items_view};
-ghost use Rattle.cm_envelope.specs.Member.{GivesMember, GivesMemberOf, all_items, required_member};
-ghost use Rattle.cm_envelope.specs.Documents.{GivesNode, node_in, optional_node_in, each_node, children_of, background_in, rank_of as rank_of_child, are_in_order as children_are_in_order, children_in as children_in_member, as_line, location, cell, doc_string, mark, title, tag, row, data_table, argument_of, argument, heading, step, background, is_empty, is_object, table_of_rows, body_rows, example_table as example_table_of, tagged_heading, examples, scenario, body, rule_node, feature_heading, feature_body, feature, gherkin_document};
+ghost use Rattle.cm_envelope.specs.Member.{GivesMember, GivesMemberOf, all_items, required_in};
+ghost use Rattle.cm_envelope.specs.Members.{value_of, seen};
+ghost use Rattle.cm_envelope.specs.Documents.{GivesNode, node_in, optional_node_in, each_node, children_of, background_in, rank_of as rank_of_child, are_in_order as children_are_in_order, ordered_children, as_line, location, cell, doc_string, mark_in, title_in, tag, row, data_table, argument_of, argument_in, heading_in, step, background, is_empty, is_object, table_of_rows, body_rows_in, example_table_in, tagged_heading_in, examples, scenario, body, rule_node, feature_heading_in, feature_body_in, feature, gherkin_document};
 
 use crate::envelope::GherkinDocument;
 use crate::fault::MemberFault;
-use crate::member::{has_both, items, media_type, present, text};
+use crate::member::{Member, find, look_up, named, present};
 use crate::node_id::NodeId;
-use crate::nodes::{ReadNode, node_id, node_in_member, nodes, nodes_of, numbered, optional_node};
-use crate::object::{ReadObject, list_of, nested, optional_nested};
+use crate::nodes::{ReadNode, node_in_member, nodes, numbered};
+use crate::object::ReadObject;
 use gk_document::{
     Argument, Background, Cell, DocString, Document, ExampleTable, Examples, Feature, Fence,
     KeywordType, Location, Row, Rule, Scenario, Sequence, Step, Tag, Text,
@@ -49,7 +50,7 @@ fn first_background(
         (background_in (items_view children.now))) }
 {
     match children {
-        [first, ..] => optional_node(alloc, first, "background", ids),
+        [first, ..] => look_up(first, "background").optional_node(alloc, ids),
         [] => Ok(None),
     }
 }
@@ -58,10 +59,11 @@ fn first_background(
 fn rank_of(child: &Value, in_feature: bool) -> Option<u8>
     ensures { result ≡ rank_of_child in_feature (view child.now) }
 {
-    let background = present(child, "background").is_some();
-    let scenario = present(child, "scenario").is_some();
-    let rule = in_feature && present(child, "rule").is_some();
-    match (background, scenario, rule) {
+    let mut members = [named("background"), named("scenario"), named("rule")];
+    find(child, &mut members);
+    let [background, scenario, rule] = members;
+    let is_rule = in_feature && rule.is_present();
+    match (background.is_present(), scenario.is_present(), is_rule) {
         (true, false, false) => Some(0),
         (false, true, false) => Some(1),
         (false, false, true) => Some(2),
@@ -83,23 +85,24 @@ fn are_in_order(children: &[Value], in_feature: bool) -> bool
 }
 
 /// The children, once each has its kind and they are in order.
-fn children_in(object: &Value, in_feature: bool) -> Result<&[Value], MemberFault>
+fn children_in<'v>(member: Member<'v>, in_feature: bool) -> Result<&'v [Value], MemberFault>
     ensures { GivesMemberOf (λ values. items_view values.now) result
-        (children_in_member in_feature (view object.now)) }
+        (ordered_children in_feature (seen member.entry)) }
 {
-    let children = items(object, "children")?;
+    let children = member.items()?;
     if !are_in_order(children, in_feature) {
-        return Err(MemberFault::Bad("children"));
+        return Err(MemberFault::Bad(member.name));
     }
     Ok(children)
 }
 
-fn line(object: &Value, name: &'static str) -> Result<u32, MemberFault>
-    ensures { GivesMember result (required_member as_line name.now (view object.now)) }
+fn line(member: Member<'_>) -> Result<u32, MemberFault>
+    ensures { GivesMember result
+        (required_in as_line member.entry.name.now (value_of member.entry)) }
 {
-    match present(object, name).and_then(Value::as_u64) {
+    match member.value.and_then(Value::as_u64) {
         Some(line) if 0 < line && line < 1 << 32 => Ok(line as u32),
-        _ => Err(MemberFault::Bad(name)),
+        _ => Err(MemberFault::Bad(member.name)),
     }
 }
 
@@ -108,7 +111,7 @@ impl ReadObject for Location {
 
     fn read(_alloc: Global, object: &Value) -> Result<Location, MemberFault> {
         Ok(Location {
-            line: line(object, "line")?,
+            line: line(look_up(object, "line"))?,
             column: 0,
         })
     }
@@ -119,7 +122,7 @@ impl ReadObject for Cell {
 
     fn read(alloc: Global, object: &Value) -> Result<Cell, MemberFault> {
         Ok(Cell {
-            value: text(alloc, object, "value")?,
+            value: look_up(object, "value").text(alloc)?,
             column: 0,
         })
     }
@@ -129,9 +132,12 @@ impl ReadObject for DocString {
     ghost reads = { doc_string };
 
     fn read(alloc: Global, object: &Value) -> Result<DocString, MemberFault> {
-        let location = nested(alloc, object, "location")?;
-        let content = text(alloc, object, "content")?;
-        let media = media_type(alloc, object)?;
+        let mut members = [named("location"), named("content"), named("mediaType")];
+        find(object, &mut members);
+        let [location, content, media_type] = members;
+        let location = location.nested(alloc)?;
+        let content = content.text(alloc)?;
+        let media = media_type.media_type(alloc)?;
         Ok(DocString {
             location,
             media,
@@ -148,12 +154,12 @@ struct Mark {
     location: Location,
 }
 
-fn read_mark(alloc: Global, object: &Value) -> Result<Mark, MemberFault>
-    ensures { GivesMember result (mark (view object.now)) }
+fn read_mark(alloc: Global, id: Member<'_>, location: Member<'_>) -> Result<Mark, MemberFault>
+    ensures { GivesMember result (mark_in (seen id.entry) (seen location.entry)) }
 {
     Ok(Mark {
-        id: node_id(alloc, object, "id")?,
-        location: nested(alloc, object, "location")?,
+        id: id.node_id(alloc)?,
+        location: location.nested(alloc)?,
     })
 }
 
@@ -161,8 +167,11 @@ impl ReadNode for Tag {
     ghost reads = { tag };
 
     fn read(alloc: Global, object: &Value, ids: &mut Sequence<NodeId>) -> Result<Tag, MemberFault> {
-        let mark = read_mark(alloc, object)?;
-        let name = text(alloc, object, "name")?;
+        let mut members = [named("id"), named("location"), named("name")];
+        find(object, &mut members);
+        let [id, location, name] = members;
+        let mark = read_mark(alloc, id, location)?;
+        let name = name.text(alloc)?;
         Ok(Tag {
             node: numbered(mark.id, ids)?,
             location: mark.location,
@@ -175,8 +184,11 @@ impl ReadNode for Row {
     ghost reads = { row };
 
     fn read(alloc: Global, object: &Value, ids: &mut Sequence<NodeId>) -> Result<Row, MemberFault> {
-        let mark = read_mark(alloc, object)?;
-        let cells = list_of(alloc, object, "cells")?;
+        let mut members = [named("id"), named("location"), named("cells")];
+        find(object, &mut members);
+        let [id, location, cells] = members;
+        let mark = read_mark(alloc, id, location)?;
+        let cells = cells.list_of(alloc)?;
         Ok(Row {
             node: numbered(mark.id, ids)?,
             location: mark.location,
@@ -193,12 +205,12 @@ struct Title {
     text: Text,
 }
 
-fn read_title(alloc: Global, object: &Value, name: &'static str) -> Result<Title, MemberFault>
-    ensures { GivesMember result (title name.now (view object.now)) }
+fn read_title(alloc: Global, keyword: Member<'_>, text: Member<'_>) -> Result<Title, MemberFault>
+    ensures { GivesMember result (title_in (seen keyword.entry) (seen text.entry)) }
 {
     Ok(Title {
-        keyword: text(alloc, object, "keyword")?,
-        text: text(alloc, object, name)?,
+        keyword: keyword.text(alloc)?,
+        text: text.text(alloc)?,
     })
 }
 
@@ -212,14 +224,17 @@ struct Heading {
 
 fn read_heading(
     alloc: Global,
-    object: &Value,
-    name: &'static str,
+    id: Member<'_>,
+    location: Member<'_>,
+    keyword: Member<'_>,
+    text: Member<'_>,
     ids: &mut Sequence<NodeId>,
 ) -> Result<Heading, MemberFault>
-    ensures { GivesNode result ids.new (heading name.now ids.old (view object.now)) }
+    ensures { GivesNode result ids.new (heading_in (seen id.entry) (seen location.entry)
+        (seen keyword.entry) (seen text.entry) ids.old) }
 {
-    let mark = read_mark(alloc, object)?;
-    let title = read_title(alloc, object, name)?;
+    let mark = read_mark(alloc, id, location)?;
+    let title = read_title(alloc, keyword, text)?;
     Ok(Heading {
         node: numbered(mark.id, ids)?,
         location: mark.location,
@@ -238,14 +253,19 @@ struct TaggedHeading {
 
 fn read_tagged_heading(
     alloc: Global,
-    object: &Value,
+    id: Member<'_>,
+    location: Member<'_>,
+    tags: Member<'_>,
+    keyword: Member<'_>,
+    name: Member<'_>,
     ids: &mut Sequence<NodeId>,
 ) -> Result<TaggedHeading, MemberFault>
-    ensures { GivesNode result ids.new (tagged_heading ids.old (view object.now)) }
+    ensures { GivesNode result ids.new (tagged_heading_in (seen id.entry) (seen location.entry)
+        (seen tags.entry) (seen keyword.entry) (seen name.entry) ids.old) }
 {
-    let mark = read_mark(alloc, object)?;
-    let tags = nodes_of(alloc, object, "tags", ids)?;
-    let title = read_title(alloc, object, "name")?;
+    let mark = read_mark(alloc, id, location)?;
+    let tags = tags.nodes_of(alloc, ids)?;
+    let title = read_title(alloc, keyword, name)?;
     Ok(TaggedHeading {
         node: numbered(mark.id, ids)?,
         location: mark.location,
@@ -269,7 +289,7 @@ impl ReadNode for DataTable {
         ids: &mut Sequence<NodeId>,
     ) -> Result<DataTable, MemberFault> {
         Ok(DataTable {
-            rows: nodes_of(alloc, object, "rows", ids)?,
+            rows: look_up(object, "rows").nodes_of(alloc, ids)?,
         })
     }
 }
@@ -288,16 +308,18 @@ fn argument_of(table: Option<DataTable>, text: Option<DocString>) -> Option<Argu
 
 fn read_argument(
     alloc: Global,
-    object: &Value,
+    data_table: Member<'_>,
+    doc_string: Member<'_>,
     ids: &mut Sequence<NodeId>,
 ) -> Result<Option<Argument>, MemberFault>
-    ensures { GivesNode result ids.new (argument ids.old (view object.now)) }
+    ensures { GivesNode result ids.new
+        (argument_in (seen data_table.entry) (seen doc_string.entry) ids.old) }
 {
-    let table = optional_node(alloc, object, "dataTable", ids)?;
-    if has_both(object, "dataTable", "docString") {
-        return Err(MemberFault::Bad("docString"));
+    let table = data_table.optional_node(alloc, ids)?;
+    if data_table.is_present() && doc_string.is_present() {
+        return Err(MemberFault::Bad(doc_string.name));
     }
-    let content = optional_nested(alloc, object, "docString")?;
+    let content = doc_string.optional_nested(alloc)?;
     Ok(argument_of(table, content))
 }
 
@@ -309,8 +331,18 @@ impl ReadNode for Step {
         object: &Value,
         ids: &mut Sequence<NodeId>,
     ) -> Result<Step, MemberFault> {
-        let heading = read_heading(alloc, object, "text", ids)?;
-        let argument = read_argument(alloc, object, ids)?;
+        let mut members = [
+            named("id"),
+            named("location"),
+            named("keyword"),
+            named("text"),
+            named("dataTable"),
+            named("docString"),
+        ];
+        find(object, &mut members);
+        let [id, location, keyword, text, data_table, doc_string] = members;
+        let heading = read_heading(alloc, id, location, keyword, text, ids)?;
+        let argument = read_argument(alloc, data_table, doc_string, ids)?;
         Ok(Step {
             node: heading.node,
             location: heading.location,
@@ -330,8 +362,17 @@ impl ReadNode for Background {
         object: &Value,
         ids: &mut Sequence<NodeId>,
     ) -> Result<Background, MemberFault> {
-        let heading = read_heading(alloc, object, "name", ids)?;
-        let steps = nodes_of(alloc, object, "steps", ids)?;
+        let mut members = [
+            named("id"),
+            named("location"),
+            named("keyword"),
+            named("name"),
+            named("steps"),
+        ];
+        find(object, &mut members);
+        let [id, location, keyword, name, steps] = members;
+        let heading = read_heading(alloc, id, location, keyword, name, ids)?;
+        let steps = steps.nodes_of(alloc, ids)?;
         Ok(Background {
             node: heading.node,
             location: heading.location,
@@ -379,30 +420,32 @@ fn table_of_rows(header: Option<Row>, body: Sequence<Row>) -> Option<ExampleTabl
 }
 
 /// The rows of a table's body: each is an object, and a body that isn't empty needs a header.
-fn body_rows(object: &Value, has_header: bool) -> Result<&[Value], MemberFault>
+fn body_rows<'v>(member: Member<'v>, has_header: bool) -> Result<&'v [Value], MemberFault>
     ensures { GivesMemberOf (λ values. items_view values.now) result
-        (body_rows has_header (view object.now)) }
+        (body_rows_in has_header (seen member.entry)) }
 {
-    let rows = items(object, "tableBody")?;
+    let rows = member.items()?;
     if !are_objects(rows) {
-        return Err(MemberFault::Bad("tableBody"));
+        return Err(MemberFault::Bad(member.name));
     }
     if !has_header && !is_empty(rows) {
-        return Err(MemberFault::Bad("tableBody"));
+        return Err(MemberFault::Bad(member.name));
     }
     Ok(rows)
 }
 
 fn example_table(
     alloc: Global,
-    object: &Value,
+    header: Member<'_>,
+    body: Member<'_>,
     ids: &mut Sequence<NodeId>,
 ) -> Result<Option<ExampleTable>, MemberFault>
-    ensures { GivesNode result ids.new (example_table_of ids.old (view object.now)) }
+    ensures { GivesNode result ids.new
+        (example_table_in (seen header.entry) (seen body.entry) ids.old) }
 {
-    let header = optional_node(alloc, object, "tableHeader", ids)?;
-    let rows = body_rows(object, header.is_some())?;
-    let body = nodes(alloc, rows, "tableBody", ids)?;
+    let header = header.optional_node(alloc, ids)?;
+    let rows = body_rows(body, header.is_some())?;
+    let body = nodes(alloc, rows, body.name, ids)?;
     Ok(table_of_rows(header, body))
 }
 
@@ -414,8 +457,19 @@ impl ReadNode for Examples {
         object: &Value,
         ids: &mut Sequence<NodeId>,
     ) -> Result<Examples, MemberFault> {
-        let heading = read_tagged_heading(alloc, object, ids)?;
-        let table = example_table(alloc, object, ids)?;
+        let mut members = [
+            named("id"),
+            named("location"),
+            named("tags"),
+            named("keyword"),
+            named("name"),
+            named("tableHeader"),
+            named("tableBody"),
+        ];
+        find(object, &mut members);
+        let [id, location, tags, keyword, name, header, body] = members;
+        let heading = read_tagged_heading(alloc, id, location, tags, keyword, name, ids)?;
+        let table = example_table(alloc, header, body, ids)?;
         Ok(Examples {
             node: heading.node,
             location: heading.location,
@@ -436,9 +490,20 @@ impl ReadNode for Scenario {
         object: &Value,
         ids: &mut Sequence<NodeId>,
     ) -> Result<Scenario, MemberFault> {
-        let heading = read_tagged_heading(alloc, object, ids)?;
-        let steps = nodes_of(alloc, object, "steps", ids)?;
-        let examples = nodes_of(alloc, object, "examples", ids)?;
+        let mut members = [
+            named("id"),
+            named("location"),
+            named("tags"),
+            named("keyword"),
+            named("name"),
+            named("steps"),
+            named("examples"),
+        ];
+        find(object, &mut members);
+        let [id, location, tags, keyword, name, steps, examples] = members;
+        let heading = read_tagged_heading(alloc, id, location, tags, keyword, name, ids)?;
+        let steps = steps.nodes_of(alloc, ids)?;
+        let examples = examples.nodes_of(alloc, ids)?;
         Ok(Scenario {
             node: heading.node,
             location: heading.location,
@@ -480,9 +545,19 @@ impl ReadNode for Rule {
         object: &Value,
         ids: &mut Sequence<NodeId>,
     ) -> Result<Rule, MemberFault> {
-        let heading = read_tagged_heading(alloc, object, ids)?;
-        let members = children_in(object, false)?;
-        let body = read_body(alloc, members, ids)?;
+        let mut members = [
+            named("id"),
+            named("location"),
+            named("tags"),
+            named("keyword"),
+            named("name"),
+            named("children"),
+        ];
+        find(object, &mut members);
+        let [id, location, tags, keyword, name, children] = members;
+        let heading = read_tagged_heading(alloc, id, location, tags, keyword, name, ids)?;
+        let children = children_in(children, false)?;
+        let body = read_body(alloc, children, ids)?;
         Ok(Rule {
             node: heading.node,
             location: heading.location,
@@ -507,16 +582,21 @@ struct FeatureHeading {
 
 fn read_feature_heading(
     alloc: Global,
-    object: &Value,
+    location: Member<'_>,
+    tags: Member<'_>,
+    language: Member<'_>,
+    keyword: Member<'_>,
+    name: Member<'_>,
     ids: &mut Sequence<NodeId>,
 ) -> Result<FeatureHeading, MemberFault>
-    ensures { GivesNode result ids.new (feature_heading ids.old (view object.now)) }
+    ensures { GivesNode result ids.new (feature_heading_in (seen location.entry)
+        (seen tags.entry) (seen language.entry) (seen keyword.entry) (seen name.entry) ids.old) }
 {
     Ok(FeatureHeading {
-        location: nested(alloc, object, "location")?,
-        tags: nodes_of(alloc, object, "tags", ids)?,
-        language: text(alloc, object, "language")?,
-        title: read_title(alloc, object, "name")?,
+        location: location.nested(alloc)?,
+        tags: tags.nodes_of(alloc, ids)?,
+        language: language.text(alloc)?,
+        title: read_title(alloc, keyword, name)?,
     })
 }
 
@@ -529,15 +609,15 @@ struct FeatureBody {
 
 fn read_feature_body(
     alloc: Global,
-    object: &Value,
+    member: Member<'_>,
     ids: &mut Sequence<NodeId>,
 ) -> Result<FeatureBody, MemberFault>
-    ensures { GivesNode result ids.new (feature_body ids.old (view object.now)) }
+    ensures { GivesNode result ids.new (feature_body_in (seen member.entry) ids.old) }
 {
-    let members = children_in(object, true)?;
+    let values = children_in(member, true)?;
     Ok(FeatureBody {
-        body: read_body(alloc, members, ids)?,
-        rules: children(alloc, members, "rule", ids)?,
+        body: read_body(alloc, values, ids)?,
+        rules: children(alloc, values, "rule", ids)?,
     })
 }
 
@@ -549,8 +629,18 @@ impl ReadNode for Feature {
         object: &Value,
         ids: &mut Sequence<NodeId>,
     ) -> Result<Feature, MemberFault> {
-        let heading = read_feature_heading(alloc, object, ids)?;
-        let children = read_feature_body(alloc, object, ids)?;
+        let mut members = [
+            named("location"),
+            named("tags"),
+            named("language"),
+            named("keyword"),
+            named("name"),
+            named("children"),
+        ];
+        find(object, &mut members);
+        let [location, tags, language, keyword, name, children] = members;
+        let heading = read_feature_heading(alloc, location, tags, language, keyword, name, ids)?;
+        let children = read_feature_body(alloc, children, ids)?;
         Ok(Feature {
             location: heading.location,
             tags: heading.tags,
@@ -570,9 +660,12 @@ impl ReadObject for GherkinDocument {
 
     #[inline(never)]
     fn read(alloc: Global, object: &Value) -> Result<GherkinDocument, MemberFault> {
-        let uri = text(alloc, object, "uri")?;
+        let mut members = [named("uri"), named("feature")];
+        find(object, &mut members);
+        let [uri, feature] = members;
+        let uri = uri.text(alloc)?;
         let mut ids = Sequence::new(alloc);
-        let feature = optional_node(alloc, object, "feature", &mut ids)?;
+        let feature = feature.optional_node(alloc, &mut ids)?;
         let nodes = ids.len() as u64;
         Ok(GherkinDocument {
             uri,

@@ -2,7 +2,8 @@
 ghost use Rattle.std.specs.Prelude.{◌≡◌, codes};
 ghost use Rattle.serde_json.specs.Find.{as_str};
 ghost use Rattle.serde_json.specs.View.{view, items_view};
-ghost use Rattle.cm_envelope.specs.Member.{GivesMember, required_member, has_one_of as has_one_member, each_item, all_items};
+ghost use Rattle.cm_envelope.specs.Member.{GivesMember, required_in, has_one_of as has_one_member, each_item_in, all_items};
+ghost use Rattle.cm_envelope.specs.Members.{value_of};
 ghost use Rattle.cm_envelope.specs.Envelopes.{source, source_reference, parse_error, step_definition, hook, test_run_started, test_run_finished, attachment, status_of, as_status, test_step, test_case, test_case_started, test_step_started, test_step_result, test_step_finished, test_case_finished, test_run_hook_started, test_run_hook_finished};
 
 use crate::envelope::{
@@ -11,8 +12,8 @@ use crate::envelope::{
     TestRunStarted, TestStep, TestStepFinished, TestStepResult, TestStepStarted,
 };
 use crate::fault::MemberFault;
-use crate::member::{find, named, flag, flag_or, optional_text, present, text, texts, whole_number_or};
-use crate::object::{ReadObject, list_of, nested};
+use crate::member::{Member, find, look_up, named};
+use crate::object::ReadObject;
 use serde_json::Value;
 use std::alloc::Global;
 
@@ -31,36 +32,36 @@ fn status_of(word: &str) -> Option<Status>
     }
 }
 
-fn status(object: &Value, name: &'static str) -> Result<Status, MemberFault>
-    ensures { GivesMember result (required_member as_status name.now (view object.now)) }
+fn status(member: Member<'_>) -> Result<Status, MemberFault>
+    ensures { GivesMember result
+        (required_in as_status member.entry.name.now (value_of member.entry)) }
 {
-    match present(object, name).and_then(Value::as_str) {
-        Some(word) => status_of(word).ok_or(MemberFault::Bad(name)),
-        None => Err(MemberFault::Bad(name)),
+    match member.value.and_then(Value::as_str) {
+        Some(word) => status_of(word).ok_or(MemberFault::Bad(member.name)),
+        None => Err(MemberFault::Bad(member.name)),
     }
 }
 
-fn has_one_of(object: &Value, first: &str, second: &str) -> bool
+fn has_one_of(object: &Value, first: &'static str, second: &'static str) -> bool
     ensures { result ≡ has_one_member first.now second.now (view object.now) }
 {
-    if present(object, first).is_some() {
-        present(object, second).is_none()
-    } else {
-        present(object, second).is_some()
-    }
+    let mut members = [named(first), named(second)];
+    find(object, &mut members);
+    let [first, second] = members;
+    first.is_present() != second.is_present()
 }
 
-fn steps_have_one_origin(test_case: &Value, name: &str) -> bool
-    ensures { result ≡ each_item (has_one_member (codes "hookId") (codes "pickleStepId")) name.now
-        (view test_case.now) }
+fn steps_have_one_origin(steps: Member<'_>) -> bool
+    ensures { result ≡ each_item_in (has_one_member (codes "hookId") (codes "pickleStepId"))
+        (value_of steps.entry) }
 {
-    match present(test_case, name).and_then(Value::as_array) {
+    match steps.value.and_then(Value::as_array) {
         Some(steps) => all_have_one_of(steps, "hookId", "pickleStepId"),
         None => true,
     }
 }
 
-fn all_have_one_of(objects: &[Value], first: &str, second: &str) -> bool
+fn all_have_one_of(objects: &[Value], first: &'static str, second: &'static str) -> bool
     ensures { result ≡ all_items (has_one_member first.now second.now) (items_view objects.now) }
 {
     for object in objects {
@@ -92,7 +93,7 @@ impl ReadObject for SourceReference {
 
     fn read(alloc: Global, object: &Value) -> Result<SourceReference, MemberFault> {
         Ok(SourceReference {
-            uri: text(alloc, object, "uri")?,
+            uri: look_up(object, "uri").text(alloc)?,
         })
     }
 }
@@ -103,7 +104,7 @@ impl ReadObject for ParseError {
     #[inline(never)]
     fn read(alloc: Global, object: &Value) -> Result<ParseError, MemberFault> {
         Ok(ParseError {
-            source: nested(alloc, object, "source")?,
+            source: look_up(object, "source").nested(alloc)?,
         })
     }
 }
@@ -114,7 +115,7 @@ impl ReadObject for StepDefinition {
     #[inline(never)]
     fn read(alloc: Global, object: &Value) -> Result<StepDefinition, MemberFault> {
         Ok(StepDefinition {
-            id: text(alloc, object, "id")?,
+            id: look_up(object, "id").text(alloc)?,
         })
     }
 }
@@ -125,7 +126,7 @@ impl ReadObject for Hook {
     #[inline(never)]
     fn read(alloc: Global, object: &Value) -> Result<Hook, MemberFault> {
         Ok(Hook {
-            id: text(alloc, object, "id")?,
+            id: look_up(object, "id").text(alloc)?,
         })
     }
 }
@@ -136,7 +137,7 @@ impl ReadObject for TestRunStarted {
     #[inline(never)]
     fn read(alloc: Global, object: &Value) -> Result<TestRunStarted, MemberFault> {
         Ok(TestRunStarted {
-            id: optional_text(alloc, object, "id")?,
+            id: look_up(object, "id").optional_text(alloc)?,
         })
     }
 }
@@ -146,10 +147,17 @@ impl ReadObject for TestRunFinished {
 
     #[inline(never)]
     fn read(alloc: Global, object: &Value) -> Result<TestRunFinished, MemberFault> {
+        let mut members = [
+            named("testRunStartedId"),
+            named("success"),
+            named("exception"),
+        ];
+        find(object, &mut members);
+        let [test_run_started_id, success, exception] = members;
         Ok(TestRunFinished {
-            test_run_started_id: optional_text(alloc, object, "testRunStartedId")?,
-            success: flag(object, "success")?,
-            has_exception: present(object, "exception").is_some(),
+            test_run_started_id: test_run_started_id.optional_text(alloc)?,
+            success: success.flag()?,
+            has_exception: exception.is_present(),
         })
     }
 }
@@ -159,9 +167,12 @@ impl ReadObject for Attachment {
 
     #[inline(never)]
     fn read(alloc: Global, object: &Value) -> Result<Attachment, MemberFault> {
+        let mut members = [named("testCaseStartedId"), named("testStepId")];
+        find(object, &mut members);
+        let [test_case_started_id, test_step_id] = members;
         Ok(Attachment {
-            test_case_started_id: optional_text(alloc, object, "testCaseStartedId")?,
-            test_step_id: optional_text(alloc, object, "testStepId")?,
+            test_case_started_id: test_case_started_id.optional_text(alloc)?,
+            test_step_id: test_step_id.optional_text(alloc)?,
         })
     }
 }
@@ -170,11 +181,19 @@ impl ReadObject for TestStep {
     ghost reads = { test_step };
 
     fn read(alloc: Global, object: &Value) -> Result<TestStep, MemberFault> {
+        let mut members = [
+            named("id"),
+            named("hookId"),
+            named("pickleStepId"),
+            named("stepDefinitionIds"),
+        ];
+        find(object, &mut members);
+        let [id, hook_id, pickle_step_id, step_definition_ids] = members;
         Ok(TestStep {
-            id: text(alloc, object, "id")?,
-            hook_id: optional_text(alloc, object, "hookId")?,
-            pickle_step_id: optional_text(alloc, object, "pickleStepId")?,
-            step_definition_ids: texts(alloc, object, "stepDefinitionIds")?,
+            id: id.text(alloc)?,
+            hook_id: hook_id.optional_text(alloc)?,
+            pickle_step_id: pickle_step_id.optional_text(alloc)?,
+            step_definition_ids: step_definition_ids.texts(alloc)?,
         })
     }
 }
@@ -184,17 +203,25 @@ impl ReadObject for TestCase {
 
     #[inline(never)]
     fn read(alloc: Global, object: &Value) -> Result<TestCase, MemberFault> {
-        let id = text(alloc, object, "id")?;
-        let pickle_id = text(alloc, object, "pickleId")?;
-        let test_run_started_id = optional_text(alloc, object, "testRunStartedId")?;
-        if !steps_have_one_origin(object, "testSteps") {
+        let mut members = [
+            named("id"),
+            named("pickleId"),
+            named("testRunStartedId"),
+            named("testSteps"),
+        ];
+        find(object, &mut members);
+        let [id, pickle_id, test_run_started_id, test_steps] = members;
+        let id = id.text(alloc)?;
+        let pickle_id = pickle_id.text(alloc)?;
+        let test_run_started_id = test_run_started_id.optional_text(alloc)?;
+        if !steps_have_one_origin(test_steps) {
             return Err(MemberFault::Bad("testSteps"));
         }
         Ok(TestCase {
             id,
             pickle_id,
             test_run_started_id,
-            test_steps: list_of(alloc, object, "testSteps")?,
+            test_steps: test_steps.list_of(alloc)?,
         })
     }
 }
@@ -204,10 +231,13 @@ impl ReadObject for TestCaseStarted {
 
     #[inline(never)]
     fn read(alloc: Global, object: &Value) -> Result<TestCaseStarted, MemberFault> {
+        let mut members = [named("id"), named("testCaseId"), named("attempt")];
+        find(object, &mut members);
+        let [id, test_case_id, attempt] = members;
         Ok(TestCaseStarted {
-            id: text(alloc, object, "id")?,
-            test_case_id: text(alloc, object, "testCaseId")?,
-            attempt: whole_number_or(0, object, "attempt")?,
+            id: id.text(alloc)?,
+            test_case_id: test_case_id.text(alloc)?,
+            attempt: attempt.whole_number_or(0)?,
         })
     }
 }
@@ -217,9 +247,12 @@ impl ReadObject for TestStepStarted {
 
     #[inline(never)]
     fn read(alloc: Global, object: &Value) -> Result<TestStepStarted, MemberFault> {
+        let mut members = [named("testCaseStartedId"), named("testStepId")];
+        find(object, &mut members);
+        let [test_case_started_id, test_step_id] = members;
         Ok(TestStepStarted {
-            test_case_started_id: text(alloc, object, "testCaseStartedId")?,
-            test_step_id: text(alloc, object, "testStepId")?,
+            test_case_started_id: test_case_started_id.text(alloc)?,
+            test_step_id: test_step_id.text(alloc)?,
         })
     }
 }
@@ -229,7 +262,7 @@ impl ReadObject for TestStepResult {
 
     fn read(_alloc: Global, object: &Value) -> Result<TestStepResult, MemberFault> {
         Ok(TestStepResult {
-            status: status(object, "status")?,
+            status: status(look_up(object, "status"))?,
         })
     }
 }
@@ -239,10 +272,17 @@ impl ReadObject for TestStepFinished {
 
     #[inline(never)]
     fn read(alloc: Global, object: &Value) -> Result<TestStepFinished, MemberFault> {
+        let mut members = [
+            named("testCaseStartedId"),
+            named("testStepId"),
+            named("testStepResult"),
+        ];
+        find(object, &mut members);
+        let [test_case_started_id, test_step_id, test_step_result] = members;
         Ok(TestStepFinished {
-            test_case_started_id: text(alloc, object, "testCaseStartedId")?,
-            test_step_id: text(alloc, object, "testStepId")?,
-            test_step_result: nested(alloc, object, "testStepResult")?,
+            test_case_started_id: test_case_started_id.text(alloc)?,
+            test_step_id: test_step_id.text(alloc)?,
+            test_step_result: test_step_result.nested(alloc)?,
         })
     }
 }
@@ -252,9 +292,12 @@ impl ReadObject for TestCaseFinished {
 
     #[inline(never)]
     fn read(alloc: Global, object: &Value) -> Result<TestCaseFinished, MemberFault> {
+        let mut members = [named("testCaseStartedId"), named("willBeRetried")];
+        find(object, &mut members);
+        let [test_case_started_id, will_be_retried] = members;
         Ok(TestCaseFinished {
-            test_case_started_id: text(alloc, object, "testCaseStartedId")?,
-            will_be_retried: flag_or(false, object, "willBeRetried")?,
+            test_case_started_id: test_case_started_id.text(alloc)?,
+            will_be_retried: will_be_retried.flag_or(false)?,
         })
     }
 }
@@ -264,10 +307,13 @@ impl ReadObject for TestRunHookStarted {
 
     #[inline(never)]
     fn read(alloc: Global, object: &Value) -> Result<TestRunHookStarted, MemberFault> {
+        let mut members = [named("id"), named("testRunStartedId"), named("hookId")];
+        find(object, &mut members);
+        let [id, test_run_started_id, hook_id] = members;
         Ok(TestRunHookStarted {
-            id: text(alloc, object, "id")?,
-            test_run_started_id: optional_text(alloc, object, "testRunStartedId")?,
-            hook_id: text(alloc, object, "hookId")?,
+            id: id.text(alloc)?,
+            test_run_started_id: test_run_started_id.optional_text(alloc)?,
+            hook_id: hook_id.text(alloc)?,
         })
     }
 }
@@ -277,9 +323,12 @@ impl ReadObject for TestRunHookFinished {
 
     #[inline(never)]
     fn read(alloc: Global, object: &Value) -> Result<TestRunHookFinished, MemberFault> {
+        let mut members = [named("testRunHookStartedId"), named("result")];
+        find(object, &mut members);
+        let [test_run_hook_started_id, result] = members;
         Ok(TestRunHookFinished {
-            test_run_hook_started_id: text(alloc, object, "testRunHookStartedId")?,
-            result: nested(alloc, object, "result")?,
+            test_run_hook_started_id: test_run_hook_started_id.text(alloc)?,
+            result: result.nested(alloc)?,
         })
     }
 }

@@ -1,12 +1,12 @@
 //! How a pickle is read, member by member.
 ghost use Rattle.std.specs.Prelude.{◌≡◌};
-ghost use Rattle.serde_json.specs.View.{view};
-ghost use Rattle.cm_envelope.specs.Member.{GivesMember, optional_member};
-ghost use Rattle.cm_envelope.specs.Pickles.{step_kind_of, as_step_kind, pickle_texts, pickle_lists, pickle, pickle_tag, pickle_step, pickle_argument, argument_of, pickle_table, pickle_row, pickle_cell, pickle_doc_string, argument as argument_member};
+ghost use Rattle.cm_envelope.specs.Member.{GivesMember, optional_in};
+ghost use Rattle.cm_envelope.specs.Members.{value_of, seen};
+ghost use Rattle.cm_envelope.specs.Pickles.{step_kind_of, as_step_kind, texts_in, lists_in, pickle, pickle_tag, pickle_step, pickle_argument, argument_of, pickle_table, pickle_row, pickle_cell, pickle_doc_string, argument_in};
 
 use crate::fault::MemberFault;
-use crate::member::{has_both, media_type, present, text, texts};
-use crate::object::{ReadObject, list_of, optional_nested};
+use crate::member::{Member, find, look_up, named};
+use crate::object::ReadObject;
 use crate::pickle::{
     Pickle, PickleArgument, PickleCell, PickleDocString, PickleRow, PickleStep, PickleTable,
     PickleTag, StepKind,
@@ -27,15 +27,16 @@ fn step_kind_of(word: &str) -> Option<StepKind>
     }
 }
 
-fn optional_step_kind(object: &Value, name: &'static str) -> Result<Option<StepKind>, MemberFault>
-    ensures { GivesMember result (optional_member as_step_kind name.now (view object.now)) }
+fn optional_step_kind(member: Member<'_>) -> Result<Option<StepKind>, MemberFault>
+    ensures { GivesMember result
+        (optional_in as_step_kind member.entry.name.now (value_of member.entry)) }
 {
-    let Some(member) = present(object, name) else {
+    let Some(value) = member.value else {
         return Ok(None);
     };
-    match member.as_str().and_then(step_kind_of) {
+    match value.as_str().and_then(step_kind_of) {
         Some(kind) => Ok(Some(kind)),
-        None => Err(MemberFault::Bad(name)),
+        None => Err(MemberFault::Bad(member.name)),
     }
 }
 
@@ -43,9 +44,12 @@ impl ReadObject for PickleTag {
     ghost reads = { pickle_tag };
 
     fn read(alloc: Global, object: &Value) -> Result<PickleTag, MemberFault> {
+        let mut members = [named("name"), named("astNodeId")];
+        find(object, &mut members);
+        let [name, ast_node_id] = members;
         Ok(PickleTag {
-            name: text(alloc, object, "name")?,
-            ast_node_id: text(alloc, object, "astNodeId")?,
+            name: name.text(alloc)?,
+            ast_node_id: ast_node_id.text(alloc)?,
         })
     }
 }
@@ -55,7 +59,7 @@ impl ReadObject for PickleCell {
 
     fn read(alloc: Global, object: &Value) -> Result<PickleCell, MemberFault> {
         Ok(PickleCell {
-            value: text(alloc, object, "value")?,
+            value: look_up(object, "value").text(alloc)?,
         })
     }
 }
@@ -65,7 +69,7 @@ impl ReadObject for PickleRow {
 
     fn read(alloc: Global, object: &Value) -> Result<PickleRow, MemberFault> {
         Ok(PickleRow {
-            cells: list_of(alloc, object, "cells")?,
+            cells: look_up(object, "cells").list_of(alloc)?,
         })
     }
 }
@@ -75,7 +79,7 @@ impl ReadObject for PickleTable {
 
     fn read(alloc: Global, object: &Value) -> Result<PickleTable, MemberFault> {
         Ok(PickleTable {
-            rows: list_of(alloc, object, "rows")?,
+            rows: look_up(object, "rows").list_of(alloc)?,
         })
     }
 }
@@ -84,9 +88,12 @@ impl ReadObject for PickleDocString {
     ghost reads = { pickle_doc_string };
 
     fn read(alloc: Global, object: &Value) -> Result<PickleDocString, MemberFault> {
+        let mut members = [named("content"), named("mediaType")];
+        find(object, &mut members);
+        let [content, media_type] = members;
         Ok(PickleDocString {
-            content: text(alloc, object, "content")?,
-            media_type: media_type(alloc, object)?,
+            content: content.text(alloc)?,
+            media_type: media_type.media_type(alloc)?,
         })
     }
 }
@@ -107,19 +114,23 @@ impl ReadObject for Option<PickleArgument> {
     ghost reads = { pickle_argument };
 
     fn read(alloc: Global, object: &Value) -> Result<Option<PickleArgument>, MemberFault> {
-        let table = optional_nested(alloc, object, "dataTable")?;
-        if has_both(object, "dataTable", "docString") {
+        let mut members = [named("dataTable"), named("docString")];
+        find(object, &mut members);
+        let [data_table, doc_string] = members;
+        let table = data_table.optional_nested(alloc)?;
+        if data_table.is_present() && doc_string.is_present() {
             return Err(MemberFault::Bad("docString"));
         }
-        let text = optional_nested(alloc, object, "docString")?;
+        let text = doc_string.optional_nested(alloc)?;
         Ok(argument_of(table, text))
     }
 }
 
-fn argument(alloc: Global, object: &Value) -> Result<Option<PickleArgument>, MemberFault>
-    ensures { GivesMember result (argument_member (view object.now)) }
+fn read_argument(alloc: Global, member: Member<'_>) -> Result<Option<PickleArgument>, MemberFault>
+    ensures { GivesMember result
+        (argument_in member.entry.name.now (value_of member.entry)) }
 {
-    match optional_nested(alloc, object, "argument")? {
+    match member.optional_nested(alloc)? {
         Some(argument) => Ok(argument),
         None => Ok(None),
     }
@@ -129,12 +140,21 @@ impl ReadObject for PickleStep {
     ghost reads = { pickle_step };
 
     fn read(alloc: Global, object: &Value) -> Result<PickleStep, MemberFault> {
+        let mut members = [
+            named("id"),
+            named("text"),
+            named("type"),
+            named("astNodeIds"),
+            named("argument"),
+        ];
+        find(object, &mut members);
+        let [id, text, kind, ast_node_ids, argument] = members;
         Ok(PickleStep {
-            id: text(alloc, object, "id")?,
-            text: text(alloc, object, "text")?,
-            kind: optional_step_kind(object, "type")?,
-            ast_node_ids: texts(alloc, object, "astNodeIds")?,
-            argument: argument(alloc, object)?,
+            id: id.text(alloc)?,
+            text: text.text(alloc)?,
+            kind: optional_step_kind(kind)?,
+            ast_node_ids: ast_node_ids.texts(alloc)?,
+            argument: read_argument(alloc, argument)?,
         })
     }
 }
@@ -148,14 +168,21 @@ struct PickleTexts {
     language: Text,
 }
 
-fn read_pickle_texts(alloc: Global, object: &Value) -> Result<PickleTexts, MemberFault>
-    ensures { GivesMember result (pickle_texts (view object.now)) }
+fn read_pickle_texts(
+    alloc: Global,
+    id: Member<'_>,
+    uri: Member<'_>,
+    name: Member<'_>,
+    language: Member<'_>,
+) -> Result<PickleTexts, MemberFault>
+    ensures { GivesMember result
+        (texts_in (seen id.entry) (seen uri.entry) (seen name.entry) (seen language.entry)) }
 {
     Ok(PickleTexts {
-        id: text(alloc, object, "id")?,
-        uri: text(alloc, object, "uri")?,
-        name: text(alloc, object, "name")?,
-        language: text(alloc, object, "language")?,
+        id: id.text(alloc)?,
+        uri: uri.text(alloc)?,
+        name: name.text(alloc)?,
+        language: language.text(alloc)?,
     })
 }
 
@@ -167,13 +194,19 @@ struct PickleLists {
     steps: Sequence<PickleStep>,
 }
 
-fn read_pickle_lists(alloc: Global, object: &Value) -> Result<PickleLists, MemberFault>
-    ensures { GivesMember result (pickle_lists (view object.now)) }
+fn read_pickle_lists(
+    alloc: Global,
+    ast_node_ids: Member<'_>,
+    tags: Member<'_>,
+    steps: Member<'_>,
+) -> Result<PickleLists, MemberFault>
+    ensures { GivesMember result
+        (lists_in (seen ast_node_ids.entry) (seen tags.entry) (seen steps.entry)) }
 {
     Ok(PickleLists {
-        ast_node_ids: texts(alloc, object, "astNodeIds")?,
-        tags: list_of(alloc, object, "tags")?,
-        steps: list_of(alloc, object, "steps")?,
+        ast_node_ids: ast_node_ids.texts(alloc)?,
+        tags: tags.list_of(alloc)?,
+        steps: steps.list_of(alloc)?,
     })
 }
 
@@ -182,8 +215,19 @@ impl ReadObject for Pickle {
 
     #[inline(never)]
     fn read(alloc: Global, object: &Value) -> Result<Pickle, MemberFault> {
-        let texts = read_pickle_texts(alloc, object)?;
-        let lists = read_pickle_lists(alloc, object)?;
+        let mut members = [
+            named("id"),
+            named("uri"),
+            named("name"),
+            named("language"),
+            named("astNodeIds"),
+            named("tags"),
+            named("steps"),
+        ];
+        find(object, &mut members);
+        let [id, uri, name, language, ast_node_ids, tags, steps] = members;
+        let texts = read_pickle_texts(alloc, id, uri, name, language)?;
+        let lists = read_pickle_lists(alloc, ast_node_ids, tags, steps)?;
         Ok(Pickle {
             id: texts.id,
             uri: texts.uri,

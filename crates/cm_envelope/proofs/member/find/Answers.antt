@@ -2,7 +2,7 @@ use Rattle.std.proofs.Common.{◌∙◌, ap, sym, map, option_map}
 use Rattle.serde_json.specs.View.{view, members_view}
 use Rattle.serde_json.proofs.Views.{Entry}
 use Rattle.cm_envelope.specs.Members.{seen, noted}
-use Rattle.cm_envelope.proofs.Walking.{past_all, walk_starts, walk_goes_on, walk_ends, nothing_found}
+use Rattle.cm_envelope.proofs.Walking.{past_all, walk_starts, walk_goes_on, walk_ends, nothing_found, all_found}
 use Rattle.cm_envelope.proofs.member.find.Goals as goal
 
 pub loop-name-init : goal.loop-name-init
@@ -17,7 +17,7 @@ loop-name-preserved-then-not-is_null c =
     (c.note.ensures ∙ ap (λ name. map (noted name (view e.1)) (map seen c.loop-name.members)) c.as_str.ensures.value)
 
 pub returns-in-None : goal.returns-in-None
-returns-in-None c = walk_ends _ _ _ c.loop-name.invariant c.in-None.ensures.steps.0
+returns-in-None c = all_found _ _ _ (walk_ends _ _ _ c.loop-name.invariant c.in-None.ensures.steps.0)
 
 pub returns-in_default : goal.returns-in_default
-returns-in_default c = nothing_found (view c.args.object.now) (sym c.as_object.ensures ∙ ap (option_map (λ m. members_view m.now.entries)) c.in_default.is) (map seen c.args.members.now)
+returns-in_default c = all_found _ _ _ (nothing_found (view c.args.object.now) (sym c.as_object.ensures ∙ ap (option_map (λ m. members_view m.now.entries)) c.in_default.is) (map seen c.args.members.now))

@@ -12,6 +12,6 @@ loop-i-preserved c =
     let long : length c.loop-i.members ≡ length c.args.members.now = omega arith in
     let test = ap (λ m. bytes_eq m.name.now c.args.name.now) c.index-members-i.is ∙ sym c.eq.ensures in
     elim c.if-eq.branch [
-      then-eq w ↦ rw w.members-is (noted_here c.args.name.now (view c.args.value.now) c.args.members.now c.loop-i.members c.loop-i.i x within long c.loop-i.invariant c.index-members-i.is _ (test ∙ w.if-eq.true) (ap (λ m. m.name) (get_or_default c.loop-i.members c.loop-i.i _ x within ∙ sym c.index-members-i.is)) refl)
-    | else-eq w ↦ rw w.members-is (not_noted c.args.name.now (view c.args.value.now) c.args.members.now c.loop-i.members c.loop-i.i x within long c.loop-i.invariant c.index-members-i.is (test ∙ w.if-eq.false))
+      | then-eq w ↦ rw w.members-is (noted_here c.args.name.now (view c.args.value.now) c.args.members.now c.loop-i.members c.loop-i.i x within long c.loop-i.invariant c.index-members-i.is _ (test ∙ w.if-eq.true) (ap (λ m. m.name) (get_or_default c.loop-i.members c.loop-i.i _ x within ∙ sym c.index-members-i.is)) refl)
+      | else-eq w ↦ rw w.members-is (not_noted c.args.name.now (view c.args.value.now) c.args.members.now c.loop-i.members c.loop-i.i x within long c.loop-i.invariant c.index-members-i.is (test ∙ w.if-eq.false))
     ]

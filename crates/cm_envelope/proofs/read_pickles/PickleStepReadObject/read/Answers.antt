@@ -1,0 +1,15 @@
+use Rattle.std.proofs.Common.{◌≡◌, ◌∙◌, ap, codes, get_or, arith}
+use Rattle.std.proofs.lemmas.Grind.{common_steps}
+use Rattle.serde_json.specs.View.{view}
+use Rattle.cm_envelope.specs.Member.{member_of}
+use Rattle.cm_envelope.specs.Members.{seen, looked_for}
+use Rattle.cm_envelope.proofs.read_pickles.PickleStepReadObject.read.Goals as goal
+
+pub returns-in_err-read_argument : goal.returns-in_err-read_argument
+returns-in_err-read_argument c =
+    let m0 : seen (get_or c.find.new.members 0 c.index-members-0.result) ≡ member_of (codes "id") (view c.args.object.now) = c.find.ensures.0 _ ∙ ap (looked_for (view c.args.object.now)) c.named.ensures in
+    let m1 : seen (get_or c.find.new.members 1 c.index-members-1.result) ≡ member_of (codes "text") (view c.args.object.now) = c.find.ensures.1.0 _ ∙ ap (looked_for (view c.args.object.now)) c.named-2.ensures in
+    let m2 : seen (get_or c.find.new.members 2 c.index-members-2.result) ≡ member_of (codes "type") (view c.args.object.now) = c.find.ensures.1.1.0 _ ∙ ap (looked_for (view c.args.object.now)) c.named-3.ensures in
+    let m3 : seen (get_or c.find.new.members 3 c.index-members-3.result) ≡ member_of (codes "astNodeIds") (view c.args.object.now) = c.find.ensures.1.1.1.0 _ ∙ ap (looked_for (view c.args.object.now)) c.named-4.ensures in
+    let m4 : seen (get_or c.find.new.members 4 c.index-members-4.result) ≡ member_of (codes "argument") (view c.args.object.now) = c.find.ensures.1.1.1.1.0 _ ∙ ap (looked_for (view c.args.object.now)) c.named-5.ensures in
+    grind (arith, common_steps, m0, m1, m2, m3, m4)
