@@ -1,9 +1,8 @@
 -- Looking for members by one walk over those of an object.
-use Rattle.std.proofs.Common.{◌≡◌, ℕ, suc, ◌+◌, ◌<◌, List, [], ◌∷◌, ◌++◌, map, take, drop, length, set, get_or, arith, Bool, true, false, cond, Option, Some, None, option_map, option_and_then, is_some, Bor, String, Global, string_bytes, string_cmp, nat_cmp, Less, refl, sym, ap, ◌∙◌, subst, true≢false}
+use Rattle.std.proofs.Common.{◌≡◌, ℕ, suc, ◌+◌, ◌<◌, List, [], ◌∷◌, ◌++◌, map, take, drop, length, set, get_or, arith, Bool, true, false, cond, Option, Some, None, option_and_then, is_some, String, Global, string_bytes, string_cmp, Less, refl, sym, ap, ◌∙◌, subst, true≢false}
 use Rattle.std.proofs.lemmas.List.{length-map, get_or-map, map-set, map-id, set-get_or}
 use Rattle.std.proofs.lemmas.List.Edits.{map_over_more}
 use Rattle.std.proofs.lemmas.Slice.Eq.{bytes_eq-Decides}
-use Rattle.std.specs.Cmp.Lexicographic.{slice_cmp}
 use Rattle.std.specs.List.{AllByRecursion}
 use Rattle.std.specs.List.Sorted.{IsStrictlySortedBy}
 use Rattle.std.specs.Map.{keys_of}
@@ -11,10 +10,9 @@ use Rattle.std.specs.Str.{bytes_eq}
 use Rattle.serde_json.specs.Data.{Data, Members, null, boolean, number, string, array, object}
 use Rattle.serde_json.specs.Find.{as_null, as_object, get, get_member}
 use Rattle.serde_json.specs.View.{view, members_view}
-use Rattle.serde_json.specs.declared.value.Value.{Value}
 use Rattle.serde_json.proofs.Views.{Entry, member_here, member_later}
 use Rattle.cm_envelope.specs.declared.member.Member.{Member}
-use Rattle.cm_envelope.specs.Member.{Named, present_member, unless_null}
+use Rattle.cm_envelope.specs.Member.{Named, unless_null}
 use Rattle.cm_envelope.specs.Members.{value_of, seen, noted, or_before, looked_for, AreFound}
 use Rattle.cm_envelope.proofs.Judged.{absent}
 

@@ -30,7 +30,7 @@ use Rattle.cm_envelope.specs.declared.read_documents.TaggedHeading.{TaggedHeadin
 use Rattle.cm_envelope.specs.declared.read_documents.Body.{Body}
 use Rattle.cm_envelope.specs.declared.read_documents.FeatureHeading.{FeatureHeading}
 use Rattle.cm_envelope.specs.declared.read_documents.FeatureBody.{FeatureBody}
-use Rattle.cm_envelope.specs.Member.{◌>>=◌, FailsAtMember, Named, member_of, all_items, good, required_in, required_member, nested_in, nested_member, optional_nested_in, list_of, items_in, present_member, rule, has_both, media_type_member, as_whole_number}
+use Rattle.cm_envelope.specs.Member.{◌>>=◌, FailsAtMember, Named, member_of, all_items, good, required_in, required_member, nested_in, nested_member, optional_nested_in, list_of, items_in, present_member, rule, media_type_member, as_whole_number}
 
 abbrev pub Ids : Type 0
 Ids = List (List ℕ)
