@@ -71,17 +71,17 @@ fn open_of<'a>(
 fn plans_in<'a>(
     alloc: Global,
     plans: &'a TextRows,
-    open: &ByText<'_, &StartEntry>,
+    open_cases: &ByText<'_, &StartEntry>,
 ) -> Result<Vec<&'a str>, AllocError>
     ensures { IfOk result (λ ids. map (λ t. t.now) ids.items
-        ≡ filter (λ id. is_some (value_at open.now id)) (ids_of plans.now)) }
+        ≡ filter (λ id. is_some (value_at open_cases.now id)) (ids_of plans.now)) }
 {
     let mut ids = Vec::new(alloc);
     for plan in plans.iter() {
         let Some(id) = plan.first() else {
             continue;
         };
-        if open.contains_key(id) {
+        if open_cases.contains_key(id) {
             ids.push(id)?;
         }
     }

@@ -7,4 +7,4 @@ use Rattle.cm_steps.proofs.attempts.plans_in.Given as goal
 
 abbrev pub invariant-loop-plan : goal.invariant-loop-plan
 invariant-loop-plan l =
-    map (λ t. t.now) l.ids.items ++ filter (λ id. is_some (value_at l.open id)) (ids_of l.plan-iterator) ≡ filter (λ id. is_some (value_at l.open id)) (ids_of l.plans)
+    map (λ t. t.now) l.ids.items ++ filter (λ id. is_some (value_at l.open_cases id)) (ids_of l.plan-iterator) ≡ filter (λ id. is_some (value_at l.open_cases id)) (ids_of l.plans)
