@@ -11,8 +11,8 @@ ghost use Rattle.cm_state.specs.StateChecks.{knows_case};
 ghost use Rattle.cm_audit.specs.State.{Judges};
 
 use crate::ids::add_name;
+use crate::judge_attempts::add_case;
 use crate::known::knows_case;
-use crate::record::add_case;
 use crate::state::State;
 use crate::stop::Stop;
 use cm_envelope::TestCase;

@@ -25,10 +25,8 @@
 //! of envelopes, in `specs/Causes`; `laws` says that there is one exactly where not all is well.
 #![tactic(auto)]
 
-mod cases;
 mod causes;
 mod laws;
-mod results;
 
 pub use causes::{add_causes, add_truth};
 pub use laws::{

@@ -23,7 +23,6 @@
 #![tactic(auto)]
 
 mod difference;
-mod due_pickle;
 mod laws;
 mod layout;
 mod part_json;

@@ -7,7 +7,6 @@ mod duplicate;
 mod run;
 mod scenario;
 mod steps;
-mod told;
 mod unknown;
 
 pub use at_line::verdict_told;

@@ -26,7 +26,6 @@
 //! line of its text a pickle stands, and `specs/Laws` what it means that there is no line.
 #![tactic(auto)]
 
-mod asked;
 mod laws;
 mod missing;
 mod pickle_lines;

@@ -1,23 +1,24 @@
 //! What is missing of feature files.
-ghost use Rattle.std.specs.Prelude.{◌≡◌, ◌≢◌, ◌↔◌, ◌+◌, ◌++◌, ◌∷◌, [], List, ℕ, true, IfOk, OnErr, OnOk, length, option_map, string_bytes};
+ghost use Rattle.std.specs.Prelude.{◌≡◌, ◌≢◌, ◌↔◌, ◌+◌, ◌++◌, ◌∷◌, [], List, ℕ, true, IfOk, OnErr, OnOk, length, option_map, string_bytes, drop};
 ghost use Rattle.cm_reasons.specs.Lines.{limited, more_text};
 ghost use Rattle.cm_stream.specs.Release.{Conditions as SomeConditions, conditions_of};
 ghost use Rattle.gk_pickle.specs.Scenarios.{pickles_of_one};
 ghost use Rattle.gk_tree.specs.Views.{too_long};
-ghost use Rattle.cm_missing.specs.Missing.{AllScenariosRan, AreMissingLines, AskedFile, IsFileReading, IsMissingOf, IsScenarioCount, IsUnrunCount};
-ghost use Rattle.cm_missing.specs.Missing.{asked_from, asked_pickles};
+ghost use Rattle.cm_missing.specs.Missing.{AllScenariosRan, AreMissingLines, AskedFile, IsFileReading, IsMissingOf, IsScenarioCount, IsUnrunCount, asked_from, asked_pickles, flag_at};
 ghost use Rattle.cm_missing.specs.PickleLines.{lines_of_one};
 ghost use Rattle.cm_missing.specs.Findings.{finding_line};
 ghost use Rattle.cm_missing.specs.Told.{KeepsMore, line_told, pickles_told, reading_of};
+ghost use Rattle.std.specs.List.{list_any};
+ghost use Rattle.std.specs.Str.{bytes_eq};
+ghost use Rattle.cm_stream.specs.ReleasedRuns.{may_be_left_out};
 
-use crate::asked::{flag_at, flags_after, may_be_left_out};
 use crate::pickle_lines::lines_of_pickles;
 use cm_cases::add_shown;
 use cm_reasons::{MOST_LINES, add_more, kind_label};
 use cm_stream::Conditions;
 use gk_document::Document;
 use gk_grammar::FaultKind;
-use gk_pickle::{Pickle, ScenarioInFeature, compile_scenario, scenarios};
+use gk_pickle::{Pickle, PickleTag, ScenarioInFeature, compile_scenario, scenarios};
 use gk_tree::{ParseFault, parse};
 use std::alloc::{AllocError, Global};
 use std::hash::RandomState;
@@ -301,4 +302,47 @@ impl Missing {
         }
         Ok(())
     }
+}
+
+/// Whether the pickle at this place ran, by the flags.
+fn flag_at(flags: &[bool], place: usize) -> bool
+    ensures { result ≡ flag_at flags.now place }
+{
+    match flags.get(place) {
+        Some(has_run) => *has_run,
+        None => false,
+    }
+}
+
+/// The flags after the first ones.
+fn flags_after(flags: &[bool], count: usize) -> &[bool]
+    ensures { result.now ≡ drop count flags.now }
+{
+    if count <= flags.len() {
+        &flags[count..]
+    } else {
+        &[]
+    }
+}
+
+/// Whether one of the tags has this name.
+fn has_tag(tags: &[PickleTag], name: &str) -> bool
+    ensures { result ≡ list_any (λ t. bytes_eq name.now t.name) tags.now }
+{
+    tags.iter().any(|tag| name == tag.name.as_str())
+}
+
+/// Whether one of the tags has one of these names.
+fn has_one(tags: &[PickleTag], names: &[&str]) -> bool
+    ensures { result ≡ list_any (λ name. list_any (λ t. bytes_eq name.now t.name) tags.now)
+        names.now }
+{
+    names.iter().any(|name| has_tag(tags, name))
+}
+
+/// Whether the pickle may be left out.
+fn may_be_left_out(conditions: &Conditions<'_>, pickle: &Pickle) -> bool
+    ensures { result ≡ may_be_left_out (conditions_of conditions.now) pickle.now }
+{
+    conditions.allows_unrun || has_one(pickle.tags.as_slice(), conditions.allowed_tags.as_slice())
 }

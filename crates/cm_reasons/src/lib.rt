@@ -31,7 +31,6 @@ mod laws;
 mod lines;
 mod refused;
 mod run_hooks;
-mod run_listing;
 mod scenarios;
 mod steps;
 mod trail;
@@ -42,8 +41,7 @@ pub use laws::{
 };
 pub use lines::{AddLine, MOST_LINES, add_limited, add_more};
 pub use refused::{add_refused, add_refused_of};
-pub use run_hooks::{add_hook_causes, add_open_hooks, add_run_hook};
-pub use run_listing::RunListing;
+pub use run_hooks::{RunListing, add_hook_causes, add_open_hooks, add_run_hook};
 pub use scenarios::{retried_text, skipped_text, stepless_text, unrun_text};
 pub use steps::{CaseStep, undefined_text};
 pub use trail::Trail;

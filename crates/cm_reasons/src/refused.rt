@@ -9,7 +9,7 @@ ghost use Rattle.cm_reasons.specs.RunReasons.{AreRefusedLines, first_source};
 ghost use Rattle.cm_reasons.specs.Trail.{trail_of};
 
 use crate::lines::{AddLine, add_limited};
-use crate::run_listing::SourceEntry;
+use crate::run_hooks::SourceEntry;
 use crate::trail::Trail;
 use crate::words::kind_label;
 use cm_cases::add_shown;

@@ -1,5 +1,5 @@
 //! The lines of run hooks.
-ghost use Rattle.std.specs.Prelude.{◌≡◌, ◌++◌, List, ℕ, IfOk, OnOk, find, map, option_map, string_bytes};
+ghost use Rattle.std.specs.Prelude.{◌≡◌, ◌++◌, List, ℕ, IfOk, OnOk, find, map, option_map, string_bytes, ◌∷◌, [], OnErr};
 ghost use Rattle.std.specs.Str.{bytes_eq};
 ghost use Rattle.cm_cases.specs.Firsts.{value_at};
 ghost use Rattle.cm_envelope.specs.declared.envelope.Envelope.{Envelope as SomeEnvelope};
@@ -7,13 +7,18 @@ ghost use Rattle.cm_reasons.specs.Lines.{ended, limited};
 ghost use Rattle.cm_reasons.specs.RunKept.{bad_end_in, bad_entry_lines, bad_line, entry_line, open_entries};
 ghost use Rattle.cm_reasons.specs.RunReasons.{hook_causes, open_hook_lines, run_hook_lines};
 ghost use Rattle.cm_reasons.specs.Trail.{trail_of};
+ghost use Rattle.cm_cases.specs.Listed.{both_texts};
+ghost use Rattle.cm_stream.specs.References.{sources};
+ghost use Rattle.cm_reasons.specs.Run.{run_hook_end, run_hook_entry, run_listing_of, source_entry, uri_and_text};
 
 use crate::lines::{AddLine, add_limited};
-use crate::run_listing::{RunHookEnd, RunHookEntry, RunListing};
 use crate::trail::Trail;
 use crate::words::status_word;
 use cm_attempt::{Policy, Status};
 use cm_cases::{ByText, Key, add_first, add_shown, firsts_of};
+use cm_envelope::{Envelope, Source, TestRunHookFinished, TestRunHookStarted};
+use cm_stream::kept_status;
+use gk_document::{Sequence, Text};
 use indexmap::IndexMap;
 use std::alloc::{AllocError, Global};
 use std::hash::RandomState;
@@ -190,4 +195,105 @@ pub fn add_hook_causes(
 {
     let bad = bad_hooks(alloc, seed, &trail.run, policy)?;
     add_limited(text, &BadHookLines, bad.as_slice())
+}
+
+/// A source, by its uri and its text.
+#[derive(Debug, Drop)]
+pub(crate) struct SourceEntry {
+    pub(crate) uri: Text,
+    pub(crate) content: Text,
+}
+
+/// The start of a run hook, with the id of the hook that runs.
+#[derive(Debug, Drop)]
+pub(crate) struct RunHookEntry {
+    pub(crate) id: Text,
+    pub(crate) hook_id: Text,
+}
+
+/// The end of a run hook, by the id that its start has.
+#[derive(Debug, Drop)]
+pub(crate) struct RunHookEnd {
+    pub(crate) run_hook: Text,
+    pub(crate) status: Status,
+}
+
+/// What the lines of a stream's sources and run hooks name, kept envelope by envelope.
+#[derive(Debug, Drop)]
+pub struct RunListing {
+    pub(crate) sources: Sequence<SourceEntry>,
+    pub(crate) hooks: Sequence<RunHookEntry>,
+    pub(crate) ends: Sequence<RunHookEnd>,
+}
+
+fn source_entry(alloc: Global, source: &Source) -> Result<SourceEntry, AllocError>
+    ensures { IfOk result (λ entry. entry ≡ source_entry source.now) }
+{
+    Ok(SourceEntry {
+        uri: Text::copy_of(alloc, source.uri.as_str())?,
+        content: Text::copy_of(alloc, source.content.as_str())?,
+    })
+}
+
+fn run_hook_entry(alloc: Global, start: &TestRunHookStarted) -> Result<RunHookEntry, AllocError>
+    ensures { IfOk result (λ entry. entry ≡ run_hook_entry start.now) }
+{
+    Ok(RunHookEntry {
+        id: Text::copy_of(alloc, start.id.as_str())?,
+        hook_id: Text::copy_of(alloc, start.hook_id.as_str())?,
+    })
+}
+
+fn run_hook_end(alloc: Global, end: &TestRunHookFinished) -> Result<RunHookEnd, AllocError>
+    ensures { IfOk result (λ entry. entry ≡ run_hook_end end.now) }
+{
+    Ok(RunHookEnd {
+        run_hook: Text::copy_of(alloc, end.test_run_hook_started_id.as_str())?,
+        status: kept_status(end.result.status),
+    })
+}
+
+impl RunListing {
+    /// That of no envelope. It takes no memory.
+    pub fn new(alloc: Global) -> RunListing
+        ensures { result ≡ run_listing_of [] }
+    {
+        RunListing {
+            sources: Sequence::new(alloc),
+            hooks: Sequence::new(alloc),
+            ends: Sequence::new(alloc),
+        }
+    }
+
+    /// Keeps what the lines name of one envelope more.
+    ///
+    /// # Errors
+    /// Only where there is no memory for it; then the listing is as it was.
+    pub fn note(&mut self, alloc: Global, envelope: &Envelope) -> Result<(), AllocError>
+        ensures ok { OnOk result ((es : List SomeEnvelope) → self.old ≡ run_listing_of es
+            → self.new ≡ run_listing_of (es ++ envelope.now ∷ [])) }
+        ensures err { OnErr result (self.new ≡ self.old) }
+    {
+        match envelope {
+            Envelope::Source(source) => self.sources.push(source_entry(alloc, source)?),
+            Envelope::TestRunHookStarted(start) => self.hooks.push(run_hook_entry(alloc, start)?),
+            Envelope::TestRunHookFinished(end) => self.ends.push(run_hook_end(alloc, end)?),
+            _ => Ok(()),
+        }
+    }
+
+    /// The uri and the text of each of its sources.
+    ///
+    /// # Errors
+    /// Only where there is no memory for the list.
+    pub(crate) fn source_texts(&self, alloc: Global) -> Result<Vec<(&str, &str)>, AllocError>
+        ensures { IfOk result (λ found. (es : List SomeEnvelope) → self.now ≡ run_listing_of es
+            → map both_texts found.items ≡ map uri_and_text (sources es)) }
+    {
+        let mut found = Vec::new(alloc);
+        for source in self.sources.as_slice() {
+            found.push((source.uri.as_str(), source.content.as_str()))?;
+        }
+        Ok(found)
+    }
 }

@@ -6,7 +6,7 @@ ghost use Rattle.cm_envelope.specs.declared.envelope.Envelope.{Envelope as SomeE
 ghost use Rattle.cm_reasons.specs.Run.{uri_and_text};
 ghost use Rattle.cm_reasons.specs.Trail.{ends_with_exception, has_exception, trail_of};
 
-use crate::run_listing::RunListing;
+use crate::run_hooks::RunListing;
 use cm_cases::{Listing, Places};
 use cm_envelope::Envelope;
 use cm_steps::StepListing;

@@ -18,7 +18,7 @@ use Rattle.cm_stream.specs.declared.verdict.Hold.{Hold}
 use Rattle.cm_stream.specs.declared.verdict.Hold.TheVariants as hold
 use Rattle.cm_release.specs.Counts.{texts_of}
 use Rattle.cm_release.specs.Reasons.{AreReasons}
-use Rattle.cm_release.specs.declared.counting.Found.{Found}
+use Rattle.cm_release.specs.declared.judgement.Found.{Found}
 
 -- of a stream that isn't good
 abbrev pub nothing_counted : ReleaseCounts

@@ -1,12 +1,20 @@
 //! What is kept of a stream's envelopes for its release.
-ghost use Rattle.std.specs.Prelude.{◌≡◌, ◌++◌, ◌∷◌, [], List, IfOk, OnOk, filter};
-ghost use Rattle.cm_release.specs.Kept.{case_entry, kept_nothing, pickle_entry, start_entry};
+ghost use Rattle.std.specs.Prelude.{◌≡◌, ◌++◌, ◌∷◌, [], List, IfOk, OnOk, filter, ℕ, map};
+ghost use Rattle.cm_release.specs.Kept.{case_entry, kept_nothing, pickle_entry, start_entry, HasUnmatched, Keeps, finish_among, pass_among, skip_of};
+ghost use Rattle.std.specs.String.{string_bytes};
+ghost use Rattle.cm_attempt.specs.Table.{has_text};
+ghost use Rattle.cm_envelope.specs.declared.envelope.Envelope.{Envelope as SomeEnvelope};
+ghost use Rattle.std.specs.List.{list_any};
+ghost use Rattle.std.specs.Str.{bytes_eq};
 
-use crate::undefined::unmatched_of;
-use cm_cases::tag_names;
-use cm_envelope::{Pickle, TestCase, TestCaseStarted};
+use crate::judgement::unmatched_of;
+use cm_cases::{ByText, CaseId, CasePickle, Key, PickleId, Whole, firsts_of, tag_names};
+use cm_envelope::{Envelope, Pickle, Status, TestCase, TestCaseStarted, TestStepFinished};
 use gk_document::{Sequence, Text};
+use indexmap::IndexSet;
 use std::alloc::{AllocError, Global};
+use std::hash::RandomState;
+use std::marker::Model;
 
 /// A pickle, with the names of its tags.
 #[derive(Debug, Drop)]
@@ -66,7 +74,7 @@ impl Kept {
 }
 
 /// What is kept of a pickle.
-pub(crate) fn pickle_entry(alloc: Global, pickle: &Pickle) -> Result<PickleEntry, AllocError>
+fn pickle_entry(alloc: Global, pickle: &Pickle) -> Result<PickleEntry, AllocError>
     ensures { IfOk result (λ entry. entry ≡ pickle_entry pickle.now) }
 {
     Ok(PickleEntry {
@@ -77,7 +85,7 @@ pub(crate) fn pickle_entry(alloc: Global, pickle: &Pickle) -> Result<PickleEntry
 }
 
 /// What is kept of a case.
-pub(crate) fn case_entry(alloc: Global, case: &TestCase) -> Result<CaseEntry, AllocError>
+fn case_entry(alloc: Global, case: &TestCase) -> Result<CaseEntry, AllocError>
     ensures { IfOk result (λ entry. entry ≡ case_entry case.now) }
 {
     Ok(CaseEntry {
@@ -88,11 +96,219 @@ pub(crate) fn case_entry(alloc: Global, case: &TestCase) -> Result<CaseEntry, Al
 }
 
 /// What is kept of the start of an attempt.
-pub(crate) fn start_entry(alloc: Global, start: &TestCaseStarted) -> Result<StartEntry, AllocError>
+fn start_entry(alloc: Global, start: &TestCaseStarted) -> Result<StartEntry, AllocError>
     ensures { IfOk result (λ entry. entry ≡ start_entry start.now) }
 {
     Ok(StartEntry {
         id: Text::copy_of(alloc, start.id.as_str())?,
         case_id: Text::copy_of(alloc, start.test_case_id.as_str())?,
     })
+}
+
+/// What is kept of the envelopes so far, and the ids of the unmatched steps among them.
+#[derive(Drop)]
+pub(crate) struct Keeping {
+    pub(crate) kept: Kept,
+    pub(crate) unmatched: IndexSet<String, RandomState>,
+}
+
+/// Adds an id, where it isn't there yet.
+fn add_id(
+    ids: &mut IndexSet<String, RandomState>,
+    alloc: Global,
+    id: &Text,
+) -> Result<(), AllocError>
+    ensures { OnOk result ((text : List ℕ) → has_text text (map string_bytes ids.new.keys)
+        ≡ has_text text (map string_bytes ids.old.keys ++ id.now ∷ [])) }
+{
+    let owned = String::from_str(alloc, id.as_str())?;
+    ids.insert(owned)?;
+    Ok(())
+}
+
+/// Adds ids, each where it isn't there yet.
+fn add_ids(
+    ids: &mut IndexSet<String, RandomState>,
+    alloc: Global,
+    added: &[Text],
+) -> Result<(), AllocError>
+    ensures { OnOk result ((text : List ℕ) → has_text text (map string_bytes ids.new.keys)
+        ≡ has_text text (map string_bytes ids.old.keys ++ added.now)) }
+{
+    for id in added {
+        add_id(ids, alloc, id)?;
+    }
+    Ok(())
+}
+
+impl Keeping {
+    /// That of no envelope. It takes no memory.
+    pub(crate) fn new(alloc: Global, seed: RandomState) -> Keeping
+        ensures { Keeps result.kept result.unmatched [] }
+    {
+        Keeping {
+            kept: Kept::new(alloc),
+            unmatched: IndexSet::with_hasher(alloc, seed),
+        }
+    }
+
+    /// Keeps a case and the ids of its unmatched steps.
+    fn note_case(&mut self, alloc: Global, case: &TestCase) -> Result<(), AllocError>
+        ensures kept { OnOk result (self.new.kept
+            ≡ record self.old.kept { cases = self.old.kept.cases ++ case_entry case.now ∷ [] }) }
+        ensures unmatched { OnOk result (HasUnmatched self.old.unmatched self.old.kept.cases
+            → HasUnmatched self.new.unmatched self.new.kept.cases) }
+    {
+        let entry = case_entry(alloc, case)?;
+        add_ids(&mut self.unmatched, alloc, entry.unmatched.as_slice())?;
+        self.kept.cases.push(entry)
+    }
+}
+
+/// Whether the id is among these. In an empty set nothing is looked up.
+fn contains(ids: &IndexSet<String, RandomState>, id: &str) -> bool
+    ensures { result ≡ has_text id.now (map string_bytes ids.now.keys) }
+{
+    !ids.is_empty() && ids.contains(id)
+}
+
+/// Keeps the end of a step that passed or is pending, where it has the id of an unmatched step.
+fn note_pass(
+    alloc: Global,
+    kept: &mut Kept,
+    unmatched: &IndexSet<String, RandomState>,
+    finish: &TestStepFinished,
+    is_pending: bool,
+) -> Result<(), AllocError>
+    ensures { OnOk result (kept.new ≡ record kept.old {
+      finishes = kept.old.finishes
+          ++ pass_among (map string_bytes unmatched.now.keys) finish.now is_pending;
+    }) }
+{
+    if !contains(unmatched, finish.test_step_id.as_str()) {
+        return Ok(());
+    }
+    kept.finishes.push(FinishEntry {
+        attempt_id: Text::copy_of(alloc, finish.test_case_started_id.as_str())?,
+        step_id: Text::copy_of(alloc, finish.test_step_id.as_str())?,
+        is_pending,
+    })
+}
+
+/// Keeps what the end of a step comes to.
+fn note_finish(
+    alloc: Global,
+    kept: &mut Kept,
+    unmatched: &IndexSet<String, RandomState>,
+    finish: &TestStepFinished,
+) -> Result<(), AllocError>
+    ensures { OnOk result (kept.new ≡ record kept.old {
+      skips = kept.old.skips ++ skip_of finish.now finish.now.test_step_result.status;
+      finishes = kept.old.finishes
+          ++ finish_among (map string_bytes unmatched.now.keys) finish.now
+          finish.now.test_step_result.status;
+    }) }
+{
+    match finish.test_step_result.status {
+        Status::Skipped => {
+            let attempt = Text::copy_of(alloc, finish.test_case_started_id.as_str())?;
+            kept.skips.push(attempt)
+        }
+        Status::Passed => note_pass(alloc, kept, unmatched, finish, false),
+        Status::Pending => note_pass(alloc, kept, unmatched, finish, true),
+        _ => Ok(()),
+    }
+}
+
+impl Keeping {
+    /// Keeps what is counted of one envelope more.
+    pub(crate) fn note(&mut self, alloc: Global, envelope: &Envelope) -> Result<(), AllocError>
+        ensures { OnOk result ((es : List SomeEnvelope)
+            → Keeps self.old.kept self.old.unmatched es
+            → Keeps self.new.kept self.new.unmatched (es ++ envelope.now ∷ [])) }
+    {
+        match envelope {
+            Envelope::Pickle(pickle) => self.kept.pickles.push(pickle_entry(alloc, pickle)?),
+            Envelope::TestCase(case) => self.note_case(alloc, case),
+            Envelope::TestCaseStarted(start) => self.kept.starts.push(start_entry(alloc, start)?),
+            Envelope::TestStepFinished(finish) => {
+                note_finish(alloc, &mut self.kept, &self.unmatched, finish)
+            }
+            _ => Ok(()),
+        }
+    }
+}
+
+impl Key<PickleEntry> for PickleId {
+    ghost text = { λ p. p.id };
+
+    fn of(item: &PickleEntry) -> &str {
+        item.id.as_str()
+    }
+}
+
+impl Key<CaseEntry> for CaseId {
+    ghost text = { λ c. c.id };
+
+    fn of(item: &CaseEntry) -> &str {
+        item.id.as_str()
+    }
+}
+
+impl Key<CaseEntry> for CasePickle {
+    ghost text = { λ c. c.pickle_id };
+
+    fn of(item: &CaseEntry) -> &str {
+        item.pickle_id.as_str()
+    }
+}
+
+/// The id of an attempt.
+pub(crate) struct StartId;
+
+impl Key<StartEntry> for StartId {
+    ghost text = { λ s. s.id };
+
+    fn of(item: &StartEntry) -> &str {
+        item.id.as_str()
+    }
+}
+
+/// Texts, of which each is found by itself.
+#[derive(Drop)]
+pub(crate) struct TextSet<'a> {
+    texts: &'a [Text],
+    by_text: ByText<'a, &'a Text>,
+}
+
+impl<'a> Model for TextSet<'a> {
+    ghost use Rattle.std.specs.Prelude.{List, ℕ};
+    ghost use Rattle.cm_cases.specs.Firsts.{HasFirsts};
+
+    ghost Value = { List (List ℕ) };
+
+    ghost view = { λ s. s.texts.now };
+
+    ghost invariant = { λ s. HasFirsts (λ x. x.now) (λ x. x) (λ x. x) s.texts.now s.by_text };
+}
+
+impl<'a> TextSet<'a> {
+    /// A set of these.
+    pub(crate) fn of(
+        alloc: Global,
+        seed: RandomState,
+        texts: &'a [Text],
+    ) -> Result<TextSet<'a>, AllocError>
+        ensures { IfOk result (λ set. set ≡ texts.now) }
+    {
+        let by_text = firsts_of::<Whole, Text>(alloc, seed, texts)?;
+        Ok(TextSet { texts, by_text })
+    }
+
+    /// Whether it is one of them.
+    pub(crate) fn contains(&self, text: &str) -> bool
+        ensures { result ≡ list_any (bytes_eq text.now) self.now }
+    {
+        self.by_text.contains_key(text)
+    }
 }

@@ -35,13 +35,9 @@
 //! stream is what `cm_stream` says of its envelopes for a release.
 #![tactic(auto)]
 
-mod counting;
 mod judgement;
-mod keeping;
 mod kept;
 mod tally;
-mod texts;
-mod undefined;
 
 pub use judgement::Judgement;
 pub use tally::Tally;

@@ -3,7 +3,7 @@ ghost use Rattle.std.specs.Prelude.{◌≡◌, ◌++◌, ◌∷◌, [], List, On
 ghost use Rattle.cm_envelope.specs.declared.envelope.Envelope.{Envelope as SomeEnvelope};
 ghost use Rattle.cm_release.specs.Tallied.{IsTallyOf};
 
-use crate::keeping::Keeping;
+use crate::kept::Keeping;
 use cm_envelope::Envelope;
 use cm_reasons::Trail;
 use std::alloc::{AllocError, Global};

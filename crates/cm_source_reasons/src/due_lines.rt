@@ -8,7 +8,7 @@ ghost use Rattle.cm_stream.specs.Sources.{ids_at};
 ghost use Rattle.cm_source_reasons.specs.DueLines.{missing_line, scenario_of};
 ghost use Rattle.cm_source_reasons.specs.SourceReasons.{due_line};
 
-use crate::sides::add_uri;
+use crate::source_reasons::add_uri;
 use cm_cases::Places;
 use cm_envelope::{NodeId, id_of};
 use gk_pickle::{Pickle, PickleTitle};

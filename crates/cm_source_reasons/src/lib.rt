@@ -29,10 +29,6 @@
 #![tactic(auto)]
 
 mod due_lines;
-mod lack;
-mod pickle_reason;
-mod sides;
 mod source_reasons;
-mod tree_reason;
 
 pub use source_reasons::add_source_reasons;

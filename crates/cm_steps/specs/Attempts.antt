@@ -15,7 +15,7 @@ use Rattle.cm_envelope.specs.declared.envelope.TestStepFinished.{TestStepFinishe
 use Rattle.cm_stream.specs.References.{cases, is_ended, starts, starts_of}
 use Rattle.cm_stream.specs.Statuses.{kept_status}
 use Rattle.cm_stream.specs.Texts.{Utf8}
-use Rattle.cm_steps.specs.declared.attempts.Started.{Started}
+use Rattle.cm_steps.specs.declared.listing.Started.{Started}
 
 -- ---- the envelopes of one kind, in order
 

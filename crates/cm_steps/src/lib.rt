@@ -27,10 +27,6 @@
 //! over all attempts. What is told is defined over the whole list of envelopes, in `specs/Steps` and `specs/Attempts`.
 #![tactic(auto)]
 
-mod attempts;
 mod listing;
-mod rows;
-mod step_lines;
 
-pub use attempts::Started;
-pub use listing::{StepListing, is_quiet};
+pub use listing::{Started, StepListing, is_quiet};
