@@ -13,11 +13,11 @@ use Rattle.ck_commands.specs.Features.{IsFaultOf, IsFeatureOf, IsRefusedFeature,
 use Rattle.ck_commands.specs.Output.{DeliversOne, Report, trouble_report}
 use Rattle.ck_commands.specs.Run.{Reports, ReportsCompiled}
 use Rattle.ck_commands.specs.TextInput.{HasTextFault, IsTextOf, is_failed_text_read as text_failed}
-use Rattle.ck_commands.specs.declared.output.ExitStatus.TheVariants as exit
+use Rattle.ck_commands.specs.declared.report.ExitStatus.TheVariants as exit
 use Rattle.ck_commands.specs.declared.text_input.TextFault.{TextFault}
 use Rattle.ck_commands.specs.declared.text_input.TextFault.TheVariants as text
-use Rattle.ck_commands.specs.declared.feature_input.FeatureFault.{FeatureFault}
-use Rattle.ck_commands.specs.declared.feature_input.FeatureFault.TheVariants.{Memory, NotUtf8, ReadFailed, Refused}
+use Rattle.ck_commands.specs.declared.text_input.FeatureFault.{FeatureFault}
+use Rattle.ck_commands.specs.declared.text_input.FeatureFault.TheVariants.{Memory, NotUtf8, ReadFailed, Refused}
 use Rattle.ck_commands.proofs.Printing.{IsOne, none_failed, some_failed}
 use Rattle.ck_commands.specs.Run.{Reported}
 use Rattle.ck_commands.proofs.TextLemmas.{failed_fault, input_of_whole, other_fault}

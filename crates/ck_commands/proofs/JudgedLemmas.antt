@@ -35,11 +35,11 @@ use Rattle.ck_commands.specs.Gate.{ReportsHeld, ReportsRelease}
 use Rattle.ck_commands.specs.Judged.{AreStreams, IsReleasedAs, JudgesStream, JudgesRun, JudgesRuns, MarksStream, MarksStreams, ReleasedAs, added_counts, counted_by, counted_in, counts_made, is_run_in, no_counts, run_counts, run_report}
 use Rattle.ck_commands.specs.Output.{Report, report_made, trouble_report}
 use Rattle.ck_commands.specs.Runs.{OfHeard, Reading, ReadsRun, heard, named_text, named_texts, status_after, status_of_all, unnoted, unopened, unread}
-use Rattle.ck_commands.specs.declared.judged_run.JudgedRun as made_run
-use Rattle.ck_commands.specs.declared.run_counts.RunCounts.{RunCounts}
-use Rattle.ck_commands.specs.declared.output.ExitStatus.{ExitStatus}
-use Rattle.ck_commands.specs.declared.output.ExitStatus.TheVariants as exit
-use Rattle.ck_commands.specs.declared.output.Report as made
+use Rattle.ck_commands.specs.declared.command_gate.JudgedRun as made_run
+use Rattle.ck_commands.specs.declared.command_gate.RunCounts.{RunCounts}
+use Rattle.ck_commands.specs.declared.report.ExitStatus.{ExitStatus}
+use Rattle.ck_commands.specs.declared.report.ExitStatus.TheVariants as exit
+use Rattle.ck_commands.specs.declared.report.Report as made
 use Rattle.ck_commands.proofs.GatePrinted.{done_at_end}
 use Rattle.ck_commands.proofs.RunsReleased.{from_fresh, from_fresh_whole}
 use Rattle.ck_commands.proofs.RunsLemmas.{both_done, each_push, reads_push, status_push, texts_push}

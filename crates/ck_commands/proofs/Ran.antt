@@ -23,10 +23,10 @@ use Rattle.ck_commands.specs.Output.{Breaks, Delivers, DeliversOne, Prints, Repo
 use Rattle.ck_commands.specs.Results.{results_report}
 use Rattle.ck_commands.specs.Run.{IsBadFor, IsDone, PrintsCompiled, PrintsDocument, PrintsFault, PrintsRefused, PrintsResults, Reported, Reports, ReportsCompiled, Runs, Tells}
 use Rattle.ck_commands.specs.Verdicts.{PrintsBad, PrintsGood, counts_text, verdict_report}
-use Rattle.ck_commands.specs.declared.feature_input.FeatureFault.{FeatureFault}
-use Rattle.ck_commands.specs.declared.feature_input.FeatureFault.TheVariants as fault
-use Rattle.ck_commands.specs.declared.output.ExitStatus.{ExitStatus}
-use Rattle.ck_commands.specs.declared.output.ExitStatus.TheVariants as exit
+use Rattle.ck_commands.specs.declared.text_input.FeatureFault.{FeatureFault}
+use Rattle.ck_commands.specs.declared.text_input.FeatureFault.TheVariants as fault
+use Rattle.ck_commands.specs.declared.report.ExitStatus.{ExitStatus}
+use Rattle.ck_commands.specs.declared.report.ExitStatus.TheVariants as exit
 
 pub not_both : (m n k : ℕ) → k ≡ m → k ≡ n → (m ≡ n → ⊥) → ⊥
 not_both m n k is other differ = differ (sym is ∙ other)

@@ -10,11 +10,11 @@ use Rattle.gk_grammar.specs.declared.fault.FaultKind.TheVariants as kind
 use Rattle.gk_tree.specs.Views.{too_long}
 use Rattle.gk_tree.specs.declared.fault.ParseFault.{ParseFault}
 use Rattle.ck_commands.specs.Output.{Report, trouble_text}
-use Rattle.ck_commands.specs.declared.output.ExitStatus.TheVariants as exit
+use Rattle.ck_commands.specs.declared.report.ExitStatus.TheVariants as exit
 use Rattle.ck_commands.specs.declared.text_input.TextFault.{TextFault}
 use Rattle.ck_commands.specs.declared.text_input.TextFault.TheVariants as text
-use Rattle.ck_commands.specs.declared.feature_input.FeatureFault.{FeatureFault}
-use Rattle.ck_commands.specs.declared.feature_input.FeatureFault.TheVariants.{Refused, ReadFailed, NotUtf8, Memory}
+use Rattle.ck_commands.specs.declared.text_input.FeatureFault.{FeatureFault}
+use Rattle.ck_commands.specs.declared.text_input.FeatureFault.TheVariants.{Refused, ReadFailed, NotUtf8, Memory}
 
 -- ---- what the bytes are
 

@@ -24,9 +24,9 @@ use Rattle.ck_command_line.specs.CommandLine.{RunsGate, ask_gate}
 use Rattle.ck_commands.specs.Output.{Report, report_made, trouble_report}
 use Rattle.ck_commands.specs.Run.{Reported}
 use Rattle.ck_commands.specs.Runs.{IsRunsReport, OfHeard, Reading, ReportsRun}
-use Rattle.ck_commands.specs.declared.judged_run.JudgedRun as made
-use Rattle.ck_commands.specs.declared.run_counts.RunCounts.{RunCounts}
-use Rattle.ck_commands.specs.declared.output.ExitStatus.TheVariants.{Done}
+use Rattle.ck_commands.specs.declared.command_gate.JudgedRun as made
+use Rattle.ck_commands.specs.declared.command_gate.RunCounts.{RunCounts}
+use Rattle.ck_commands.specs.declared.report.ExitStatus.TheVariants.{Done}
 
 -- ---- the streams of released runs
 

@@ -5,7 +5,7 @@ ghost use Rattle.cm_envelope.specs.declared.feed.Trouble.TheVariants.{ReadFailed
 ghost use Rattle.cm_stream.specs.Results.{first_results_fault};
 ghost use Rattle.ck_commands.specs.Reading.{HasOutcome, LeavesTable, after_line, is_failed_attempts_read, report_of_read};
 ghost use Rattle.ck_commands.specs.Results.{ResultsShowNoFault};
-ghost use Rattle.ck_commands.specs.declared.output.ExitStatus.TheVariants.{Done};
+ghost use Rattle.ck_commands.specs.declared.report.ExitStatus.TheVariants.{Done};
 
 use cm_attempt::Track;
 use cm_audit::{Stop, TakeLines, take_lines, track};

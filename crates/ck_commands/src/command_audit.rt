@@ -2,8 +2,7 @@
 ghost use Rattle.ck_command_line.specs.CommandLine.{ask_audit};
 ghost use Rattle.ck_commands.specs.Run.{Runs};
 
-use crate::output::write_report;
-use crate::verdict_report::verdict_report;
+use crate::report::{verdict_report, write_report};
 use cm_attempt::Settings;
 use cm_audit::audit_run;
 use cm_envelope::{ByteSink, ByteSource};

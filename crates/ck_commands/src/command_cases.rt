@@ -11,9 +11,7 @@ ghost use Rattle.ck_command_line.specs.CommandLine.{ask_cases};
 ghost use Rattle.ck_commands.specs.Cases.{IsCasesText, ReportsCases, case_object, case_text};
 ghost use Rattle.ck_commands.specs.Run.{Runs};
 
-use crate::output::{ExitStatus, Report, write_report};
-use crate::status_words::word_of;
-use crate::verdict_report::verdict_report;
+use crate::report::{ExitStatus, Report, verdict_report, word_of, write_report};
 use ck_command_line::CaseForm;
 use cm_attempt::{CaseResult, Settings, Track};
 use cm_audit_cases::{AuditedCases, audit_cases};
@@ -24,7 +22,7 @@ use std::alloc::{AllocError, Global};
 use std::hash::RandomState;
 
 /// One line for each of these cases, and then one for each pickle that no case names.
-fn lines_of(
+fn case_lines_of(
     alloc: Global,
     places: &Places<'_>,
     results: &[CaseResult<'_>],
@@ -43,7 +41,7 @@ fn lines_of(
 }
 
 /// The same lines as JSON.
-fn json_of(
+fn case_json_of(
     alloc: Global,
     lines: &JsonLines<'_>,
     results: &[CaseResult<'_>],
@@ -72,7 +70,7 @@ fn cases_text(
 {
     let results = attempts.results()?;
     let places = Places::of(alloc, seed, listing)?;
-    let text = lines_of(alloc, &places, results.as_slice());
+    let text = case_lines_of(alloc, &places, results.as_slice());
     drop(places);
     text
 }
@@ -89,13 +87,13 @@ fn cases_json(
 {
     let results = attempts.results()?;
     let lines = JsonLines::of(alloc, seed, listing)?;
-    let text = json_of(alloc, &lines, results.as_slice());
+    let text = case_json_of(alloc, &lines, results.as_slice());
     drop(lines);
     text
 }
 
 /// The lines in this form.
-fn lines_in(
+fn case_lines_in(
     alloc: Global,
     seed: RandomState,
     form: CaseForm,
@@ -122,7 +120,7 @@ fn cases_report(
     match answer {
         Ok(cases) => match cases.audited.verdict {
             Verdict::Good(_) => Ok(Report {
-                text: lines_in(alloc, seed, form, &cases.listing, &cases.attempts)?,
+                text: case_lines_in(alloc, seed, form, &cases.listing, &cases.attempts)?,
                 status: ExitStatus::Done,
             }),
             Verdict::Bad { .. } | Verdict::Unsupported { .. } => {

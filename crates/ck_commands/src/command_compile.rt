@@ -3,10 +3,8 @@ ghost use Rattle.ck_command_line.specs.CommandLine.{ask_compile};
 ghost use Rattle.ck_commands.specs.Output.{DeliversOne};
 ghost use Rattle.ck_commands.specs.Run.{ReportsCompiled, Runs};
 
-use crate::feature_input::FeatureFault;
-use crate::feature_report::print_fault;
-use crate::output::{ExitStatus, flush_text, write_trouble};
-use crate::text_input::read_text;
+use crate::report::{ExitStatus, flush_text, print_fault, write_trouble};
+use crate::text_input::{FeatureFault, read_text};
 use cm_compile::{CompileFault, write_compiled};
 use cm_envelope::{ByteSink, ByteSource, Trouble};
 use std::alloc::Global;

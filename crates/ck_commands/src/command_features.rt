@@ -1,34 +1,30 @@
 //! The command `gate` over feature files: whether each of their scenarios ran, in one of the runs.
-ghost use Rattle.std.specs.Prelude.{◌≡◌, ◌++◌, ◌∷◌, [], IfOk, List, Ok, OnOk, map, string_bytes};
+ghost use Rattle.std.specs.Prelude.{◌≡◌, ◌++◌, ◌∷◌, [], IfOk, List, Ok, OnOk, map, string_bytes, IfErr, option_map};
 ghost use Rattle.std.specs.List.{list_all};
 ghost use Rattle.cm_missing.specs.Missing.{AskedFile, IsMissingOf};
-ghost use Rattle.cm_ran.specs.Marks.{HasWholeRows};
-ghost use Rattle.cm_stream.specs.Release.{Conditions as SomeConditions};
-ghost use Rattle.cm_stream.specs.Release.{conditions_of};
+ghost use Rattle.cm_ran.specs.Marks.{HasWholeRows, marked_texts};
+ghost use Rattle.cm_stream.specs.Release.{Conditions as SomeConditions, conditions_of};
 ghost use Rattle.ck_command_line.specs.CommandLine.{FeaturesGate};
-ghost use Rattle.ck_commands.specs.FeatureFiles.{faulty_report};
+ghost use Rattle.ck_commands.specs.FeatureFiles.{faulty_report, asked_once, ReadsFiles};
 ghost use Rattle.ck_commands.specs.FilesAsked.{GatesFeatures, IsFeaturesReport, files_text};
-ghost use Rattle.ck_commands.specs.FilesKept.{AddsLast, JudgesParts, ReportsAsked, all_ran, asked_by, file_of};
+ghost use Rattle.ck_commands.specs.FilesKept.{AddsLast, JudgesParts, ReportsAsked, all_ran, asked_by, file_of, AsFileText, FailsFor, GivesFeatures, HasTexts, IsUnmarked, ReadsText, TellsFeatures, TellsFile, path_trouble, row_of};
 ghost use Rattle.ck_commands.specs.Output.{report_made};
 
-use crate::command_runs::judge_runs;
-use crate::feature_files::{FeatureFile, asked_files, flags_of, read_features};
-use crate::feature_report::faulty_report;
-use crate::judged_run::{JudgedRun, judge};
-use crate::output::{ExitStatus, Report, write_report};
-use crate::run_counts::RunCounts;
+use crate::command_gate::{JudgedRun, RunCounts, judge, judge_runs};
+use crate::report::{ExitStatus, Report, faulty_report, write_report};
+use crate::text_input::{TextFault, read_text};
 use cm_attempt::Settings;
 use cm_envelope::{ByteSink, ByteSource};
 use cm_missing::Missing;
 use cm_ran::Marks;
 use cm_stream::Conditions;
-use feature_paths::PathTrouble;
-use files::Files;
+use feature_paths::{Fault, FaultyPath, PathTrouble, feature_paths};
+use files::{FileTrouble, Files};
 use std::alloc::{AllocError, Global};
 use std::hash::RandomState;
 
 /// Judges the runs that are named, or where none is, the one that the source gives.
-fn judge_parts<F: Files, R: ByteSource>(
+fn judge_feature_runs<F: Files, R: ByteSource>(
     alloc: Global,
     seed: RandomState,
     settings: Settings,
@@ -55,21 +51,21 @@ fn judge_parts<F: Files, R: ByteSource>(
 }
 
 /// Whether all flags are set.
-fn are_set(flags: &[bool]) -> bool
+fn scenarios_ran(flags: &[bool]) -> bool
     ensures { result ≡ list_all (λ flag. flag) flags.now }
 {
     flags.iter().all(|flag| *flag)
 }
 
 /// Whether there are flags, and all are set.
-fn all_ran(flags: &[bool]) -> bool
+fn feature_ran(flags: &[bool]) -> bool
     ensures { result ≡ all_ran flags.now }
 {
-    !flags.is_empty() && are_set(flags)
+    !flags.is_empty() && scenarios_ran(flags)
 }
 
 /// Adds a file to what is missing. Where each of its scenarios ran, its text isn't parsed again.
-fn add_file(
+fn add_feature(
     alloc: Global,
     seed: RandomState,
     conditions: &Conditions<'_>,
@@ -82,8 +78,8 @@ fn add_file(
         → IsMissingOf (conditions_of conditions.now)
         (files ++ asked_by marks.now (file_of file.now) ∷ []) missing.new) }
 {
-    let flags = flags_of(marks, file);
-    if all_ran(flags) {
+    let flags = feature_flags_of(marks, file);
+    if feature_ran(flags) {
         return missing.add_whole(flags.len());
     }
     let path = file.path.as_str();
@@ -91,7 +87,7 @@ fn add_file(
 }
 
 /// What is missing of the files.
-fn missing_of(
+fn missing_features(
     alloc: Global,
     seed: RandomState,
     conditions: &Conditions<'_>,
@@ -104,13 +100,13 @@ fn missing_of(
 {
     let mut missing = Missing::new(alloc);
     for file in asked {
-        add_file(alloc, seed, conditions, file, marks, &mut missing)?;
+        add_feature(alloc, seed, conditions, file, marks, &mut missing)?;
     }
     Ok(missing)
 }
 
 /// The line of a release of all files.
-fn files_text(
+fn features_text(
     alloc: Global,
     files: usize,
     scenarios: u64,
@@ -128,7 +124,7 @@ fn files_text(
 }
 
 /// Adds what is told last, and gives its status: what is missing; else that nothing ran, or that all is well.
-fn add_last(
+fn add_features_end(
     alloc: Global,
     text: &mut String,
     files: usize,
@@ -148,13 +144,13 @@ fn add_last(
         text.push_str("stop Empty\n")?;
         return Ok(ExitStatus::Held);
     }
-    let line = files_text(alloc, files, missing.scenarios(), missing.unrun(), counts)?;
+    let line = features_text(alloc, files, missing.scenarios(), missing.unrun(), counts)?;
     text.push_str(line.as_str())?;
     Ok(ExitStatus::Done)
 }
 
 /// The report of released runs, with what is told of the files below it.
-fn told_report(
+fn told_features_report(
     alloc: Global,
     files: usize,
     parts: JudgedRun,
@@ -166,12 +162,12 @@ fn told_report(
         (string_bytes report.text) report.status) }
 {
     let mut text = parts.report.text;
-    let status = add_last(alloc, &mut text, files, parts.counts, missing)?;
+    let status = add_features_end(alloc, &mut text, files, parts.counts, missing)?;
     Ok(Report { text, status })
 }
 
 /// Judges the runs, and where all are released, asks whether each scenario of the files ran in one of them.
-fn asked_report<F: Files, R: ByteSource>(
+fn asked_features_report<F: Files, R: ByteSource>(
     alloc: Global,
     seed: RandomState,
     settings: Settings,
@@ -188,14 +184,14 @@ fn asked_report<F: Files, R: ByteSource>(
     ensures looks { F.looks files.new ≡ F.looks files.old }
 {
     let mut marks = Marks::new(alloc, seed);
-    let asked = asked_files(alloc, found, &mut marks)?;
-    let parts = judge_parts(
+    let asked = asked_feature_files(alloc, found, &mut marks)?;
+    let parts = judge_feature_runs(
         alloc, seed, settings, conditions, runs, files, source, &mut marks,
     )?;
     match parts.report.status {
         ExitStatus::Done => {
-            let missing = missing_of(alloc, seed, conditions, asked.as_slice(), &marks)?;
-            told_report(alloc, found.len(), parts, &missing)
+            let missing = missing_features(alloc, seed, conditions, asked.as_slice(), &marks)?;
+            told_features_report(alloc, found.len(), parts, &missing)
         }
         _ => Ok(parts.report),
     }
@@ -223,7 +219,7 @@ fn features_report<F: Files, R: ByteSource>(
     match read_features(alloc, seed, files, features) {
         Ok(found) => {
             let found = found.as_slice();
-            asked_report(
+            asked_features_report(
                 alloc, seed, settings, conditions, found, runs, files, source,
             )
         }
@@ -257,4 +253,168 @@ pub(crate) fn print_features<F: Files, R: ByteSource, W: ByteSink>(
         alloc, seed, settings, conditions, features, runs, files, source,
     );
     write_report(sink, report)
+}
+
+/// A feature file that was read. Its text is None where it is longer than a feature file may be.
+#[derive(Drop)]
+struct FeatureFile {
+    pub(crate) path: String,
+    pub(crate) text: Option<String>,
+}
+
+impl FeatureFile {
+    /// Its text, if it isn't too long.
+    pub(crate) fn text(&self) -> Option<&str>
+        ensures { option_map (λ text. text.now) result ≡ option_map string_bytes self.now.text }
+    {
+        match &self.text {
+            Some(text) => Some(text.as_str()),
+            None => None,
+        }
+    }
+}
+
+/// Why a file can't be read.
+#[derive(Clone, Copy, PartialEq, Eq, Debug, Drop)]
+enum FileFault {
+    /// It can't be opened, or a read fails.
+    ReadFailed,
+    /// Its bytes are no UTF-8.
+    NotUtf8,
+    /// There is no memory.
+    Memory,
+}
+
+/// What was read of a file, as its text.
+fn feature_text_of(read: Result<String, TextFault>) -> Result<Option<String>, FileFault>
+    ensures { AsFileText read result }
+{
+    match read {
+        Ok(text) => Ok(Some(text)),
+        Err(TextFault::TooLong) => Ok(None),
+        Err(TextFault::ReadFailed) => Err(FileFault::ReadFailed),
+        Err(TextFault::NotUtf8) => Err(FileFault::NotUtf8),
+        Err(TextFault::Memory) => Err(FileFault::Memory),
+    }
+}
+
+/// Reads the file of a path.
+fn read_feature_file<F: Files>(
+    alloc: Global,
+    files: &mut F,
+    path: &str,
+) -> Result<Option<String>, FileFault>
+    ensures text { IfOk result (λ text. ReadsText path.now (F.openings files.old)
+        (F.openings files.new) (option_map string_bytes text)) }
+    ensures fault { IfErr result
+        (FailsFor path.now (F.openings files.old) (F.openings files.new)) }
+    ensures looks { F.looks files.new ≡ F.looks files.old }
+{
+    match files.open(path) {
+        Ok(mut file) => {
+            let read = read_text(alloc, &mut file.source);
+            match files.close(file) {
+                Ok(()) => feature_text_of(read),
+                Err(AllocError) => {
+                    drop(read);
+                    Err(FileFault::Memory)
+                }
+            }
+        }
+        Err(FileTrouble::ReadFailed) => Err(FileFault::ReadFailed),
+        Err(FileTrouble::Memory) => Err(FileFault::Memory),
+    }
+}
+
+/// The trouble of a file that can't be read.
+fn feature_trouble_of(path: String, fault: FileFault) -> PathTrouble
+    ensures { result ≡ path_trouble path fault }
+{
+    let fault = match fault {
+        FileFault::ReadFailed => Fault::ReadFailed,
+        FileFault::NotUtf8 => Fault::NotUtf8,
+        FileFault::Memory => return PathTrouble::Memory,
+    };
+    PathTrouble::Faulty(FaultyPath { path, fault })
+}
+
+/// Reads the files of the paths, in order.
+fn read_feature_files<F: Files>(
+    alloc: Global,
+    files: &mut F,
+    paths: &[String],
+) -> Result<Vec<FeatureFile>, PathTrouble>
+    ensures files { IfOk result (λ found. ReadsFiles (map string_bytes paths.now)
+        (F.openings files.old) (F.openings files.new) (map file_of found.items)) }
+    ensures trouble { IfErr result (TellsFile (map string_bytes paths.now)
+        (F.openings files.old) (F.openings files.new)) }
+    ensures looks { F.looks files.new ≡ F.looks files.old }
+{
+    let mut found = Vec::new(alloc);
+    for path in paths {
+        let path = String::from_str(alloc, path.as_str())?;
+        match read_feature_file(alloc, files, path.as_str()) {
+            Ok(text) => found.push(FeatureFile { path, text })?,
+            Err(fault) => return Err(feature_trouble_of(path, fault)),
+        }
+    }
+    Ok(found)
+}
+
+/// Finds the feature files of the paths, and reads them.
+fn read_features<F: Files>(
+    alloc: Global,
+    seed: RandomState,
+    files: &mut F,
+    features: &[&str],
+) -> Result<Vec<FeatureFile>, PathTrouble>
+    ensures files { IfOk result (λ found. GivesFeatures (map (λ path. path.now) features.now)
+        (F.openings files.old) (F.openings files.new) (F.looks files.old) (F.looks files.new)
+        (map file_of found.items)) }
+    ensures trouble { IfErr result (TellsFeatures (map (λ path. path.now) features.now)
+        (F.openings files.old) (F.openings files.new) (F.looks files.old)
+        (F.looks files.new)) }
+{
+    let paths = feature_paths(alloc, seed, files, features)?;
+    read_feature_files(alloc, files, paths.as_slice())
+}
+
+/// The files that are asked: of those with one text the first, and each that is too long. Their texts are put among the marks,
+/// which have none before.
+fn asked_feature_files<'a>(
+    alloc: Global,
+    files: &'a [FeatureFile],
+    marks: &mut Marks<'a>,
+) -> Result<Vec<&'a FeatureFile>, AllocError>
+    requires none { marked_texts marks.old ≡ [] }
+    requires unmarked { IsUnmarked marks.old }
+    requires rows { HasWholeRows marks.old }
+    ensures files { IfOk result (λ asked. map (λ f. file_of f.now) asked.items
+        ≡ asked_once (map file_of files.now)) }
+    ensures texts { IfOk result (λ asked. HasTexts marks.new
+        (asked_once (map file_of files.now))) }
+    ensures unmarked { IsUnmarked marks.new }
+    ensures rows { HasWholeRows marks.new }
+{
+    let mut asked = Vec::new(alloc);
+    for file in files {
+        if let Some(text) = file.text() {
+            if marks.has_text(text) {
+                continue;
+            }
+            marks.add(alloc, text)?;
+        }
+        asked.push(file)?;
+    }
+    Ok(asked)
+}
+
+/// The flags of a file's text: which of its scenarios ran, by their places.
+fn feature_flags_of<'m>(marks: &'m Marks<'_>, file: &FeatureFile) -> &'m [bool]
+    ensures { result.now ≡ row_of marks.now (option_map string_bytes file.now.text) }
+{
+    match file.text() {
+        Some(text) => marks.row(text),
+        None => &[],
+    }
 }

@@ -1,20 +1,25 @@
 //! The command `gate`: whether a run is to be released.
-ghost use Rattle.std.specs.Prelude.{◌≡◌, ◌++◌, IfOk, Ok, Some, string_bytes};
+ghost use Rattle.std.specs.Prelude.{◌≡◌, ◌++◌, IfOk, Ok, Some, string_bytes, OnOk, map, List};
 ghost use Rattle.cm_stream.specs.Release.{conditions_of};
 ghost use Rattle.cm_stream.specs.Stream.{answer_of_audit};
-ghost use Rattle.ck_command_line.specs.CommandLine.{ask_gate};
-ghost use Rattle.ck_commands.specs.Output.{IsReport, report_made};
-ghost use Rattle.ck_commands.specs.Gate.{ReportsRelease, held_report, hold_name, release_text};
-ghost use Rattle.ck_commands.specs.Gate.{held_status, second_line};
+ghost use Rattle.ck_command_line.specs.CommandLine.{ask_gate, RunsGate};
+ghost use Rattle.ck_commands.specs.Output.{IsReport, report_made, trouble_report};
+ghost use Rattle.ck_commands.specs.Gate.{ReportsRelease, held_report, hold_name, release_text, held_status, second_line};
 ghost use Rattle.ck_commands.specs.Run.{Reported, Runs};
 ghost use Rattle.ck_commands.specs.Verdicts.{verdict_report};
+ghost use Rattle.ck_commands.specs.Judged.{JudgesRuns, counts_made, run_report, JudgesRun, JudgesStream, added_counts, counted_in, no_counts};
+ghost use Rattle.ck_commands.specs.Runs.{GatesRuns, named_text, status_after, NotesReading, Reading, ReadsRun};
+ghost use Rattle.files.specs.Openings.{Opening};
 
-use crate::output::{ExitStatus, Report, write_report};
-use crate::verdict_report::{good_text, verdict_report};
+use crate::report::{
+    ExitStatus, Report, add_named, good_text, trouble_text, verdict_report, write_report,
+};
 use cm_attempt::Settings;
-use cm_audit_release::{AuditedRelease, audit_release};
+use cm_audit_release::{AuditedRelease, audit_part, audit_release};
 use cm_envelope::{ByteSink, ByteSource, Trouble};
+use cm_ran::Marks;
 use cm_stream::{Conditions, Counts, Hold, ReleaseCounts, Verdict};
+use files::{FileTrouble, Files};
 use std::alloc::{AllocError, Global};
 use std::hash::RandomState;
 
@@ -46,7 +51,7 @@ fn release_text(alloc: Global, counts: Counts, found: ReleaseCounts) -> Result<S
 
 /// Adds the line of why the run isn't to be released and the reasons below it, or the line of what was let pass; of a part that is
 /// released nothing.
-fn add_second_line(
+fn add_gate_line(
     alloc: Global,
     text: &mut String,
     is_part: bool,
@@ -69,7 +74,7 @@ fn add_second_line(
 }
 
 /// The status of a good run.
-fn status_of(hold: Option<Hold>) -> ExitStatus
+fn held_status(hold: Option<Hold>) -> ExitStatus
     ensures { result ≡ held_status hold }
 {
     match hold {
@@ -79,7 +84,7 @@ fn status_of(hold: Option<Hold>) -> ExitStatus
 }
 
 /// The report of a good stream.
-fn held_report(
+fn good_gate_report(
     alloc: Global,
     is_part: bool,
     counts: Counts,
@@ -89,15 +94,15 @@ fn held_report(
         release.now.found (string_bytes release.now.reasons))) }
 {
     let mut text = good_text(alloc, counts)?;
-    add_second_line(alloc, &mut text, is_part, counts, release)?;
+    add_gate_line(alloc, &mut text, is_part, counts, release)?;
     Ok(Report {
         text,
-        status: status_of(release.hold),
+        status: held_status(release.hold),
     })
 }
 
 /// The report of an audit, with what is told of the line that decides below it.
-fn told_report(alloc: Global, release: &AuditedRelease) -> Result<Report, AllocError>
+fn told_gate_report(alloc: Global, release: &AuditedRelease) -> Result<Report, AllocError>
     ensures text { IfOk result (λ report. string_bytes report.text
         ≡ (verdict_report (answer_of_audit (Ok release.now.audited))).text
         ++ string_bytes release.now.reasons) }
@@ -110,7 +115,7 @@ fn told_report(alloc: Global, release: &AuditedRelease) -> Result<Report, AllocE
 }
 
 /// The report of a stream that was audited.
-pub(crate) fn answer_report(
+fn gate_report_of(
     alloc: Global,
     is_part: bool,
     answer: &Result<AuditedRelease, Trouble>,
@@ -119,8 +124,8 @@ pub(crate) fn answer_report(
 {
     match answer {
         Ok(release) => match release.audited.verdict {
-            Verdict::Good(counts) => held_report(alloc, is_part, counts, release),
-            Verdict::Bad { .. } | Verdict::Unsupported { .. } => told_report(alloc, release),
+            Verdict::Good(counts) => good_gate_report(alloc, is_part, counts, release),
+            Verdict::Bad { .. } | Verdict::Unsupported { .. } => told_gate_report(alloc, release),
         },
         Err(trouble) => verdict_report(alloc, &Err(*trouble)),
     }
@@ -139,7 +144,7 @@ fn gate_report<R: ByteSource>(
         (R.input source.old) (R.input source.new) }
 {
     let answer = audit_release(alloc, seed, source, settings, conditions);
-    let report = answer_report(alloc, conditions.is_part, &answer);
+    let report = gate_report_of(alloc, conditions.is_part, &answer);
     drop(answer);
     report
 }
@@ -158,4 +163,277 @@ pub(crate) fn print_gate<R: ByteSource, W: ByteSink>(
 {
     let report = gate_report(alloc, seed, settings, conditions, source);
     write_report(sink, report)
+}
+
+/// The first of the two that isn't that of what was done.
+fn first_gate_status(first: ExitStatus, next: ExitStatus) -> ExitStatus
+    ensures { result ≡ status_after first next }
+{
+    match first {
+        ExitStatus::Done => next,
+        other => other,
+    }
+}
+
+/// Adds the lines of a run's report, or that there was no memory for it, each after the run's name.
+fn add_run(
+    alloc: Global,
+    text: &mut String,
+    name: &str,
+    run: &Result<JudgedRun, AllocError>,
+) -> Result<(), AllocError>
+    ensures { OnOk result (string_bytes text.new ≡ string_bytes text.old
+        ++ named_text name.now (run_report run.now).text) }
+{
+    match run {
+        Ok(run) => add_named(alloc, text, name, run.report.text.as_str()),
+        Err(_) => add_named(alloc, text, name, "trouble Memory\n"),
+    }
+}
+
+/// The status of a run's report, or that of trouble where there was no memory for it.
+fn run_status(run: &Result<JudgedRun, AllocError>) -> ExitStatus
+    ensures { result ≡ (run_report run.now).status }
+{
+    match run {
+        Ok(run) => run.report.status,
+        Err(_) => ExitStatus::Trouble,
+    }
+}
+
+/// What is counted of a run.
+fn counts_made(run: &Result<JudgedRun, AllocError>) -> RunCounts
+    ensures { result ≡ counts_made run.now }
+{
+    match run {
+        Ok(run) => run.counts,
+        Err(_) => RunCounts::none(),
+    }
+}
+
+/// Judges all runs, each in its turn, whatever the ones before gave. The report has all lines, each after the name of its run.
+pub(crate) fn judge_runs<F: Files, R: ByteSource>(
+    alloc: Global,
+    seed: RandomState,
+    settings: Settings,
+    conditions: &Conditions<'_>,
+    runs: &[&str],
+    files: &mut F,
+    source: &mut R,
+    marks: &mut Marks<'_>,
+) -> Result<JudgedRun, AllocError>
+    ensures judged { IfOk result (λ all. JudgesRuns (record {
+      settings = settings;
+      asked = conditions_of conditions.now;
+      runs = map (λ run. run.now) runs.now;
+    }) (F.openings files.old) (F.openings files.new) (R.input source.old)
+        (R.input source.new) marks.old marks.new (report_made (Ok all.report)) all.counts) }
+    ensures looks { F.looks files.new ≡ F.looks files.old }
+{
+    let mut text = String::new(alloc);
+    let mut status = ExitStatus::Done;
+    let mut counts = RunCounts::none();
+    for run in runs {
+        let judged = judge_run(alloc, seed, settings, conditions, files, source, run, marks);
+        add_run(alloc, &mut text, run, &judged)?;
+        status = first_gate_status(status, run_status(&judged));
+        counts = counts.with(counts_made(&judged));
+        drop(judged);
+    }
+    let report = Report { text, status };
+    Ok(JudgedRun { report, counts })
+}
+
+/// Prints the report of all runs, and gives the exit code: that of the first run that isn't to be released, if any.
+pub(crate) fn print_runs<F: Files, R: ByteSource, W: ByteSink>(
+    alloc: Global,
+    seed: RandomState,
+    settings: Settings,
+    conditions: &Conditions<'_>,
+    runs: &[&str],
+    files: &mut F,
+    source: &mut R,
+    sink: &mut W,
+) -> u8
+    ensures gate { GatesRuns (record {
+      settings = settings;
+      asked = conditions_of conditions.now;
+      runs = map (λ run. run.now) runs.now;
+    }) result (F.openings files.old) (F.openings files.new) (R.input source.old)
+        (R.input source.new) (W.output sink.old) (W.output sink.new) }
+    ensures looks { F.looks files.new ≡ F.looks files.old }
+{
+    let mut marks = Marks::new(alloc, seed);
+    let judged = judge_runs(
+        alloc, seed, settings, conditions, runs, files, source, &mut marks,
+    );
+    drop(marks);
+    match judged {
+        Ok(judged) => write_report(sink, Ok(judged.report)),
+        Err(refused) => write_report(sink, Err(refused)),
+    }
+}
+
+/// What was judged of a run, or of several: the report, and what is counted of those that are released.
+#[derive(Drop)]
+pub(crate) struct JudgedRun {
+    pub(crate) report: Report,
+    pub(crate) counts: RunCounts,
+}
+
+/// Judges the run whose stream the source gives. Where it is released, what ran of the marked texts is marked.
+pub(crate) fn judge<R: ByteSource>(
+    alloc: Global,
+    seed: RandomState,
+    settings: Settings,
+    conditions: &Conditions<'_>,
+    source: &mut R,
+    marks: &mut Marks<'_>,
+) -> Result<JudgedRun, AllocError>
+    ensures { JudgesStream settings (conditions_of conditions.now) (R.input source.old)
+        (R.input source.new) marks.old marks.new (run_report result) (counts_made result) }
+{
+    let answer = audit_part(alloc, seed, source, settings, conditions, marks);
+    let counts = run_counts_of(&answer);
+    let report = gate_report_of(alloc, conditions.is_part, &answer);
+    drop(answer);
+    with_counts(report, counts)
+}
+
+/// The report of a file that can't be opened.
+fn unopened_run(alloc: Global) -> Result<JudgedRun, AllocError>
+    ensures { IfOk result (λ run. run_report (Ok run) ≡ trouble_report Trouble.ReadFailed) }
+{
+    let report = Report {
+        text: trouble_text(alloc, Trouble::ReadFailed)?,
+        status: ExitStatus::Trouble,
+    };
+    Ok(JudgedRun {
+        report,
+        counts: RunCounts::none(),
+    })
+}
+
+/// Judges the run whose stream is the file of this name.
+fn judge_file<F: Files>(
+    alloc: Global,
+    seed: RandomState,
+    settings: Settings,
+    conditions: &Conditions<'_>,
+    files: &mut F,
+    name: &str,
+    marks: &mut Marks<'_>,
+) -> Result<JudgedRun, AllocError>
+    ensures judged { (noted : List Opening) × (reading : Reading)
+        × (F.openings files.new ≡ F.openings files.old ++ noted)
+        × NotesReading name.now noted reading
+        × JudgesRun settings (conditions_of conditions.now) reading marks.old marks.new
+        (run_report result) (counts_made result) }
+    ensures looks { F.looks files.new ≡ F.looks files.old }
+{
+    match files.open(name) {
+        Ok(mut file) => {
+            let run = judge(alloc, seed, settings, conditions, &mut file.source, marks);
+            match files.close(file) {
+                Ok(()) => run,
+                Err(refused) => {
+                    drop(run);
+                    Err(refused)
+                }
+            }
+        }
+        Err(FileTrouble::ReadFailed) => unopened_run(alloc),
+        Err(FileTrouble::Memory) => Err(AllocError),
+    }
+}
+
+/// Judges the run of this name: standard input, or else a file.
+fn judge_run<F: Files, R: ByteSource>(
+    alloc: Global,
+    seed: RandomState,
+    settings: Settings,
+    conditions: &Conditions<'_>,
+    files: &mut F,
+    source: &mut R,
+    name: &str,
+    marks: &mut Marks<'_>,
+) -> Result<JudgedRun, AllocError>
+    ensures judged { (noted : List Opening) × (reading : Reading)
+        × (F.openings files.new ≡ F.openings files.old ++ noted)
+        × ReadsRun name.now noted (R.input source.old) (R.input source.new) reading
+        × JudgesRun settings (conditions_of conditions.now) reading marks.old marks.new
+        (run_report result) (counts_made result) }
+    ensures looks { F.looks files.new ≡ F.looks files.old }
+{
+    if name == "-" {
+        judge(alloc, seed, settings, conditions, source, marks)
+    } else {
+        judge_file(alloc, seed, settings, conditions, files, name, marks)
+    }
+}
+
+/// What is counted of released runs.
+#[derive(Clone, Copy, PartialEq, Eq, Debug, Drop)]
+pub(crate) struct RunCounts {
+    /// Test cases.
+    pub(crate) cases: u64,
+    /// Pickles with more than one attempt.
+    pub(crate) retried: u64,
+    /// Test cases whose last attempt has a skipped step.
+    pub(crate) skipped: u64,
+}
+
+impl RunCounts {
+    /// Those of no run.
+    pub(crate) fn none() -> RunCounts
+        ensures { result ≡ no_counts }
+    {
+        RunCounts {
+            cases: 0,
+            retried: 0,
+            skipped: 0,
+        }
+    }
+
+    /// Those of these runs and of one more.
+    pub(crate) fn with(self, more: RunCounts) -> RunCounts
+        ensures { result ≡ added_counts self more }
+    {
+        RunCounts {
+            cases: self.cases.saturating_add(more.cases),
+            retried: self.retried.saturating_add(more.retried),
+            skipped: self.skipped.saturating_add(more.skipped),
+        }
+    }
+}
+
+/// What is counted of a run that was audited; of one that isn't good nothing.
+fn run_counts_of(answer: &Result<AuditedRelease, Trouble>) -> RunCounts
+    ensures { result ≡ counted_in answer.now }
+{
+    let Ok(release) = answer else {
+        return RunCounts::none();
+    };
+    match release.audited.verdict {
+        Verdict::Good(counts) => RunCounts {
+            cases: counts.cases,
+            retried: release.found.retried,
+            skipped: release.found.skipped,
+        },
+        Verdict::Bad { .. } | Verdict::Unsupported { .. } => RunCounts::none(),
+    }
+}
+
+/// The report with the counts.
+fn with_counts(
+    report: Result<Report, AllocError>,
+    counts: RunCounts,
+) -> Result<JudgedRun, AllocError>
+    ensures report { run_report result ≡ report_made report }
+    ensures counts { IfOk result (λ run. run.counts ≡ counts) }
+{
+    Ok(JudgedRun {
+        report: report?,
+        counts,
+    })
 }

@@ -4,9 +4,8 @@ ghost use Rattle.ck_command_line.specs.CommandLine.{ask_parse};
 ghost use Rattle.ck_commands.specs.Features.{document_text, parse_report};
 ghost use Rattle.ck_commands.specs.Run.{Runs};
 
-use crate::feature_input::{FeatureFault, read_document};
-use crate::feature_report::fault_report;
-use crate::output::{ExitStatus, Report, write_report};
+use crate::report::{ExitStatus, Report, fault_report, write_report};
+use crate::text_input::{FeatureFault, read_document};
 use cm_envelope::{ByteSink, ByteSource};
 use gk_document::Document;
 use std::alloc::{AllocError, Global};

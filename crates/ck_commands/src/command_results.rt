@@ -8,9 +8,7 @@ ghost use Rattle.ck_commands.specs.Results.{result_text};
 ghost use Rattle.ck_commands.specs.Run.{Runs};
 
 use crate::attempts::read_attempts;
-use crate::output::{ExitStatus, Report, write_report};
-use crate::status_words::word_of;
-use crate::verdict_report::verdict_report;
+use crate::report::{ExitStatus, Report, verdict_report, word_of, write_report};
 use cm_attempt::Track;
 use cm_envelope::{ByteSink, ByteSource, Trouble};
 use cm_stream::Audited;
@@ -18,7 +16,7 @@ use std::alloc::{AllocError, Global};
 use std::hash::RandomState;
 
 /// One line for each case, in order of declaration.
-fn table_text(alloc: Global, attempts: &Track) -> Result<String, AllocError>
+fn results_text(alloc: Global, attempts: &Track) -> Result<String, AllocError>
     ensures { IfOk result
         (λ text. string_bytes text ≡ flat_map result_text (case_results attempts.now)) }
 {
@@ -44,7 +42,7 @@ fn results_report(
 {
     match read {
         Ok(attempts) => Ok(Report {
-            text: table_text(alloc, attempts)?,
+            text: results_text(alloc, attempts)?,
             status: ExitStatus::Done,
         }),
         Err(answer) => verdict_report(alloc, answer),

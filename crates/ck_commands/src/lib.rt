@@ -25,25 +25,14 @@ mod command_features;
 mod command_gate;
 mod command_parse;
 mod command_results;
-mod command_runs;
 mod commands;
-mod feature_files;
-mod feature_input;
-mod feature_report;
-mod judged_run;
 mod laws;
-mod named_lines;
-mod output;
-mod run_counts;
-mod standard;
-mod status_words;
+mod report;
 mod text_input;
-mod verdict_report;
 
-pub use commands::{run, run_with};
+pub use commands::{Ended, run, run_over, run_with};
 pub use laws::{
     gate_releases_exactly, runs_come_in_any_order, shown_bytes_are_heard, strict_features_passed,
 };
-pub use output::ExitStatus;
-pub use standard::{Ended, run_over};
+pub use report::ExitStatus;
 pub use text_input::{TextFault, read_text};

@@ -14,8 +14,10 @@ ghost use Rattle.cm_fault_reasons.specs.Unknown.{told_id, told_line, told_lines}
 ghost use Rattle.cm_fault_reasons.specs.UnknownKept.{told_view};
 
 use crate::duplicate::first_duplicate;
-use crate::run::{add_at_end, add_ended_hook, add_open_cases, add_refused_at, add_truth_at};
-use crate::scenario::{add_declared, add_misnumbered, add_started};
+use crate::run::{
+    add_at_end, add_ended_hook, add_open_cases, add_refused_run_at, add_run_truth_at,
+};
+use crate::scenario::{add_declared_scenario, add_misnumbered, add_started};
 use crate::steps::{add_order, add_step_status};
 use crate::unknown::{Told, first_unknown};
 use cm_attempt::Settings;
@@ -73,9 +75,9 @@ fn add_fault(
     if is_of_source(fault) {
         add_source_reasons(alloc, seed, text, state, trail, envelope, fault)
     } else if is_of_success(fault) {
-        add_truth_at(alloc, seed, text, settings.policy, state, trail, envelope)
+        add_run_truth_at(alloc, seed, text, settings.policy, state, trail, envelope)
     } else if is_of_refused(fault) {
-        add_refused_at(alloc, text, trail, envelope)
+        add_refused_run_at(alloc, text, trail, envelope)
     } else {
         add_lines(alloc, seed, text, settings, state, trail, envelope, fault)
     }
@@ -297,7 +299,7 @@ fn add_lines(
 {
     let first = settings.first_attempt;
     match fault {
-        StreamFault::CaseStepsDiffer => add_declared(alloc, seed, text, trail, envelope),
+        StreamFault::CaseStepsDiffer => add_declared_scenario(alloc, seed, text, trail, envelope),
         StreamFault::AttemptNumber => add_misnumbered(alloc, seed, text, first, trail, envelope),
         StreamFault::AttemptOverlap => add_started(alloc, seed, text, trail, envelope),
         StreamFault::StepOrder => add_order(alloc, seed, text, state, trail, envelope),

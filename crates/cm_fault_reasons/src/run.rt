@@ -78,7 +78,7 @@ pub(crate) fn add_ended_hook(
 ///
 /// # Errors
 /// Only where there is no memory for it.
-pub(crate) fn add_refused_at(
+pub(crate) fn add_refused_run_at(
     alloc: Global,
     text: &mut String,
     trail: &Trail,
@@ -99,7 +99,7 @@ pub(crate) fn add_refused_at(
 ///
 /// # Errors
 /// Only where there is no memory for it.
-pub(crate) fn add_truth_at(
+pub(crate) fn add_run_truth_at(
     alloc: Global,
     seed: RandomState,
     text: &mut String,

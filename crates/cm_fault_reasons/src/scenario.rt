@@ -60,7 +60,7 @@ fn add_attempt(text: &mut String, number: u64) -> Result<(), AllocError>
 ///
 /// # Errors
 /// Only where there is no memory for it.
-pub(crate) fn add_start(
+pub(crate) fn add_scenario_start(
     alloc: Global,
     seed: RandomState,
     text: &mut String,
@@ -80,7 +80,7 @@ pub(crate) fn add_start(
 ///
 /// # Errors
 /// Only where there is no memory for it.
-pub(crate) fn add_declared(
+pub(crate) fn add_declared_scenario(
     alloc: Global,
     seed: RandomState,
     text: &mut String,
@@ -119,14 +119,14 @@ pub(crate) fn add_started(
     match envelope {
         Envelope::TestCaseStarted(started) => {
             let case = started.test_case_id.as_str();
-            add_start(alloc, seed, text, trail, case, started.attempt)
+            add_scenario_start(alloc, seed, text, trail, case, started.attempt)
         }
         _ => Ok(()),
     }
 }
 
 /// Adds `due M`, the number of an attempt before which there are as many others, where the first has this number.
-fn add_number(text: &mut String, first: u64, others: usize) -> Result<(), AllocError>
+fn add_scenario_number(text: &mut String, first: u64, others: usize) -> Result<(), AllocError>
     ensures { OnOk result
         (string_bytes text.new ≡ string_bytes text.old ++ number_line (first + others)) }
 {
@@ -154,9 +154,9 @@ pub(crate) fn add_misnumbered(
     match envelope {
         Envelope::TestCaseStarted(start) => {
             let case = start.test_case_id.as_str();
-            add_start(alloc, seed, text, trail, case, start.attempt)?;
+            add_scenario_start(alloc, seed, text, trail, case, start.attempt)?;
             let attempts = trail.steps().attempt_count(case);
-            add_number(text, first, attempts.saturating_sub(1))
+            add_scenario_number(text, first, attempts.saturating_sub(1))
         }
         _ => Ok(()),
     }

@@ -9,7 +9,7 @@ ghost use Rattle.cm_reasons.specs.Trail.{trail_of};
 ghost use Rattle.cm_steps.specs.Attempts.{start_of};
 ghost use Rattle.cm_fault_reasons.specs.AttemptLines.{move_word, order_at, order_lines, status_lines, status_of_step, step_line, step_lines};
 
-use crate::scenario::add_start;
+use crate::scenario::add_scenario_start;
 use cm_attempt::DueStep;
 use cm_audit::State;
 use cm_envelope::Envelope;
@@ -18,7 +18,7 @@ use std::alloc::{AllocError, Global};
 use std::hash::RandomState;
 
 /// By whether a step is running.
-fn move_word(is_running: bool) -> &'static str
+fn step_move_word(is_running: bool) -> &'static str
     ensures { result.now ≡ move_word is_running }
 {
     if is_running { " finish " } else { " start " }
@@ -37,14 +37,14 @@ fn add_step(
         ≡ string_bytes text.old ++ step_line word.now es case.now (due_view step.now)) }
 {
     text.push_str(word)?;
-    text.push_str(move_word(step.is_running))?;
+    text.push_str(step_move_word(step.is_running))?;
     trail.steps().add_step(text, case, step.step)?;
     text.push_str("\n")?;
     Ok(())
 }
 
 /// Adds that, where there is a step.
-fn add_if_any(
+fn add_step_if_any(
     text: &mut String,
     trail: &Trail,
     word: &str,
@@ -62,7 +62,7 @@ fn add_if_any(
 }
 
 /// Adds the test case and the attempt, the step that is due, and the one that is found.
-fn add_order_at(
+fn add_step_order_at(
     alloc: Global,
     seed: RandomState,
     text: &mut String,
@@ -79,9 +79,9 @@ fn add_order_at(
     let Some(start) = trail.steps().start(attempt) else {
         return Ok(());
     };
-    add_start(alloc, seed, text, trail, start.case_id, start.number)?;
-    add_if_any(text, trail, "due", start.case_id, due)?;
-    add_if_any(text, trail, "found", start.case_id, found)
+    add_scenario_start(alloc, seed, text, trail, start.case_id, start.number)?;
+    add_step_if_any(text, trail, "due", start.case_id, due)?;
+    add_step_if_any(text, trail, "found", start.case_id, found)
 }
 
 /// The step that a line is about.
@@ -108,7 +108,7 @@ fn add_order_of(
         attempt.now) }
 {
     let due = state.attempts().due_step(attempt);
-    add_order_at(alloc, seed, text, trail, attempt, &due, &found)
+    add_step_order_at(alloc, seed, text, trail, attempt, &due, &found)
 }
 
 /// Adds the test case and the attempt that a line names, the step that is due of the attempt, and the one that the line is about.
@@ -162,7 +162,7 @@ fn add_status_of(
     let Some(start) = trail.steps().start(attempt) else {
         return Ok(());
     };
-    add_start(alloc, seed, text, trail, start.case_id, start.number)?;
+    add_scenario_start(alloc, seed, text, trail, start.case_id, start.number)?;
     trail.steps().add_named_step(text, start.case_id, step)?;
     text.push_str("\n")?;
     Ok(())

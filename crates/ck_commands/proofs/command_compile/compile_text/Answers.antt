@@ -1,8 +1,8 @@
 use Rattle.std.proofs.Common.{◌≡◌, ◌∙◌, List, ℕ, Err, ap, inl, refl, sym}
 use Rattle.ck_commands.specs.Features.{IsReadableText}
 use Rattle.ck_commands.specs.Output.{Report}
-use Rattle.ck_commands.specs.declared.feature_input.FeatureFault.TheVariants.{Refused}
-use Rattle.ck_commands.specs.declared.output.ExitStatus.TheVariants.{Done}
+use Rattle.ck_commands.specs.declared.text_input.FeatureFault.TheVariants.{Refused}
+use Rattle.ck_commands.specs.declared.report.ExitStatus.TheVariants.{Done}
 use Rattle.ck_commands.proofs.Compiles.{fault_delivered, refused_of}
 use Rattle.ck_commands.proofs.Delivering.{not_written}
 use Rattle.ck_commands.proofs.command_compile.compile_text.Goals as goal

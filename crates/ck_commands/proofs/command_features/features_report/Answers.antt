@@ -13,4 +13,4 @@ returns-in-Ok g c =
       features = map (λ path. path.now) c.args.features.now;
       runs = map (λ run. run.now) c.args.runs.now;
     } in
-    IfOk-weaker c.asked_report.result _ _ (λ report is. features_told gate c.in-Ok.found.items c.as_slice-found.result.now c.as_slice-found.ensures.value _ _ _ _ _ _ _ _ _ c.in-Ok.ensures.files c.asked_report.ensures.looks is) c.asked_report.ensures.report
+    IfOk-weaker c.asked_features_report.result _ _ (λ report is. features_told gate c.in-Ok.found.items c.as_slice-found.result.now c.as_slice-found.ensures.value _ _ _ _ _ _ _ _ _ c.in-Ok.ensures.files c.asked_features_report.ensures.looks is) c.asked_features_report.ensures.report

@@ -15,7 +15,7 @@ returns-then-is_of_source c =
 
 pub returns-then-is_of_success : goal.returns-then-is_of_success
 returns-then-is_of_success c =
-    on_ok c.add_truth_at.result c.add_truth_at.ensures
+    on_ok c.add_run_truth_at.result c.add_run_truth_at.ensures
     (λ added before d.
     let e = c.args.envelope.now in
     let told = added (before ++ e ∷ []) d.upto (has_results c.args.settings (summary_of c.args.state.now) c.args.trail.now before e (IsBad (stream_fault_named c.args.fault)) d) in
@@ -23,7 +23,7 @@ returns-then-is_of_success c =
 
 pub returns-then-is_of_refused : goal.returns-then-is_of_refused
 returns-then-is_of_refused c =
-    on_ok c.add_refused_at.result c.add_refused_at.ensures
+    on_ok c.add_refused_run_at.result c.add_refused_run_at.ensures
     (λ added before d.
     let e = c.args.envelope.now in
     let told = added (before ++ e ∷ []) d.upto in

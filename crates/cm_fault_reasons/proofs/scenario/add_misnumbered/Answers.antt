@@ -10,16 +10,16 @@ use Rattle.cm_fault_reasons.specs.ToldKept.{last_number}
 use Rattle.cm_fault_reasons.proofs.TextLemmas.{three_more}
 use Rattle.cm_fault_reasons.proofs.scenario.add_misnumbered.Goals as goal
 
-pub returns-in_ok-add_start-in-TestCaseStarted : goal.returns-in_ok-add_start-in-TestCaseStarted
-returns-in_ok-add_start-in-TestCaseStarted c =
-    on_ok c.add_number.result c.add_number.ensures
+pub returns-in_ok-add_scenario_start-in-TestCaseStarted : goal.returns-in_ok-add_scenario_start-in-TestCaseStarted
+returns-in_ok-add_scenario_start-in-TestCaseStarted c =
+    on_ok c.add_scenario_number.result c.add_scenario_number.ensures
     (λ added es is.
     let old = string_bytes c.args.text.now in
     let first = c.args.first in
     let start = c.in-TestCaseStarted.start in
     let listed = c.steps.ensures ∙ ap (λ (t : Trail). t.steps) is in
     let others = c.saturating_sub.ensures ∙ ap (λ n. n - 1) (c.attempt_count-attempts.ensures es listed ∙ ap (λ (id : Utf8). length (starts_of id es)) c.as_str-case.ensures) in
-    added ∙ ap (λ (text : List ℕ). text ++ number_line (first + c.saturating_sub.result)) (c.in_ok-add_start-in-TestCaseStarted.ensures es is)
+    added ∙ ap (λ (text : List ℕ). text ++ number_line (first + c.saturating_sub.result)) (c.in_ok-add_scenario_start-in-TestCaseStarted.ensures es is)
     ∙ three_more old (case_line (case_scenario es c.as_str-case.result.now)) (attempt_line start.attempt) (number_line (first + c.saturating_sub.result))
     ∙ ap (λ (id : Utf8). old ++ (case_line (case_scenario es id) ++ attempt_line start.attempt ++ number_line (first + c.saturating_sub.result))) c.as_str-case.ensures
     ∙ ap (λ n. old ++ (case_line (case_scenario es start.test_case_id) ++ attempt_line start.attempt ++ number_line (first + n))) others

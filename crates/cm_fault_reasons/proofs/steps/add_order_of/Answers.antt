@@ -9,7 +9,7 @@ use Rattle.cm_fault_reasons.proofs.steps.add_order_of.Goals as goal
 
 pub returns : goal.returns
 returns c =
-    on_ok c.add_order_at.result c.add_order_at.ensures
+    on_ok c.add_step_order_at.result c.add_step_order_at.ensures
     (λ added es is.
     let attempt = c.args.attempt.now in
     added es is

@@ -17,6 +17,6 @@ returns c es is =
     let found = ap (option_map started_facts) (sym c.in-Some.is) ∙ c.start.ensures es (c.steps.ensures ∙ ap (λ (t : Trail). t.steps) is) in
     let told = c.in_ok-add_named_step.ensures es (c.steps-2.ensures ∙ ap (λ (t : Trail). t.steps) is) in
     c.in_ok-push_str.ensures.bytes
-    ∙ ap (λ (text : List ℕ). text ++ codes "\n") (told ∙ ap (λ (text : List ℕ). text ++ named) (c.in_ok-add_start.ensures es is))
+    ∙ ap (λ (text : List ℕ). text ++ codes "\n") (told ∙ ap (λ (text : List ℕ). text ++ named) (c.in_ok-add_scenario_start.ensures es is))
     ∙ four_more old (case_line (case_scenario es case)) (attempt_line number) named (codes "\n")
     ∙ ap (λ (text : List ℕ). old ++ text) (start_told (λ (id : Utf8) (n : ℕ). case_line (case_scenario es id) ++ attempt_line n ++ named_case_step es id c.args.step.now ++ codes "\n") (start_of c.args.attempt.now es) case number found)

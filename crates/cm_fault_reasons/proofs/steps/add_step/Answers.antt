@@ -12,7 +12,7 @@ returns c es is =
     let step = due_view c.args.step.now in
     let shown = case_step_text es c.args.case.now step.step in
     let listed = c.steps.ensures ∙ ap (λ (t : Trail). t.steps) is in
-    let moved = c.in_ok-push_str-2.ensures.bytes ∙ (λ i. c.in_ok-push_str.ensures.bytes i ++ c.move_word.ensures i) in
+    let moved = c.in_ok-push_str-2.ensures.bytes ∙ (λ i. c.in_ok-push_str.ensures.bytes i ++ c.step_move_word.ensures i) in
     c.in_ok-push_str-3.ensures.bytes
     ∙ ap (λ (text : List ℕ). text ++ codes "\n") (c.in_ok-add_step.ensures es listed ∙ ap (λ (text : List ℕ). text ++ shown) moved)
     ∙ four_more old c.args.word.now (move_word step.is_running) shown (codes "\n")

@@ -1,0 +1,11 @@
+use Rattle.std.proofs.Common.{◌≡◌, List, map, string_bytes, take}
+use Rattle.std.specs.List.{flat_map}
+use Rattle.cm_attempt.specs.Results.{result_view}
+use Rattle.cm_cases.specs.Listed.{listing_of}
+use Rattle.cm_envelope.specs.declared.envelope.Envelope.{Envelope}
+use Rattle.ck_commands.specs.Cases.{case_object}
+use Rattle.ck_commands.proofs.command_cases.case_json_of.Given as goal
+
+abbrev pub invariant-loop-case : goal.invariant-loop-case
+invariant-loop-case l =
+    (es : List Envelope) → l.lines ≡ listing_of es → string_bytes l.text ≡ flat_map (case_object es) (map result_view (take l.case-index l.results))
