@@ -7,7 +7,7 @@ use Rattle.clap.specs.Words.{Row, Text, first_of}
 use Rattle.clap.specs.Walk.{Held, bundle_met, nothing_held, reading_by, rows_after, walk_from, walked, with_default}
 use Rattle.clap.specs.Simple.{Shape}
 use Rattle.clap.specs.Faults.{flags_fault, walk_fault}
-use Rattle.cm_attempt.specs.declared.settings.Settings.{Settings}
+use Rattle.cm_attempt.specs.declared.status.Settings.{Settings}
 use Rattle.ck_command_line.specs.CommandLine.{Asked, Command, ask_audit, command_like_audit, command_named, is_given, over_input, settings_in}
 use Rattle.ck_command_line.specs.Asked.{Written, features, allow_unrun, allow_unrun_tagged, no_retries, no_skips, no_stepless, no_undefined, strict, as_json, pending_passes, attempts_from, allow_redeclared, run}
 use Rattle.ck_command_line.specs.Asked.{IsPlain, all_words, are_distinct, asked_with, has_name, is_there, number_of, settings_written, usage_like_audit}

@@ -9,7 +9,7 @@ use Rattle.clap.specs.Lexer.{long_of, short_of}
 use Rattle.clap.specs.Walk.{Held, Waiting, bundle_met, idle, nothing_held, rows_after, walked}
 use Rattle.clap.specs.Simple.{entered, names_of}
 use Rattle.clap.specs.Faults.{defaults_fault, flags_fault, walk_fault}
-use Rattle.cm_attempt.specs.declared.settings.Settings.{Settings}
+use Rattle.cm_attempt.specs.declared.status.Settings.{Settings}
 use Rattle.cm_stream.specs.Release.{Conditions}
 use Rattle.ck_command_line.specs.CommandLine.{Asked, Command, ask_audit, ask_cases, ask_compile, ask_results, asked_of, command_app, conditions_in, features_in, first_attempt_in, form_in, gate_asked, gate_over, over_input}
 use Rattle.ck_command_line.specs.CommandLine.{audit_command, cases_command, compile_command, gate_command, results_command, runs_in, settings_in, subcommand_named, where_none}

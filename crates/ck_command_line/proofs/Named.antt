@@ -3,7 +3,7 @@ use Rattle.std.proofs.Common.{◌≡◌, ◌∙◌, Bool, true, false, List, [],
 use Rattle.std.specs.Prelude.{◌≢◌, ⊤, codes, if◌then◌else◌}
 use Rattle.std.specs.Str.{bytes_eq}
 use Rattle.clap.specs.Words.{Kinds, Row, Text, all_of, fault_of, first_of, subcommand_of}
-use Rattle.cm_attempt.specs.declared.settings.Settings.{Settings}
+use Rattle.cm_attempt.specs.declared.status.Settings.{Settings}
 use Rattle.cm_stream.specs.Release.{Conditions}
 use Rattle.ck_command_line.specs.CommandLine.{Asked, Command, ask_audit, ask_cases, ask_compile, ask_gate, ask_results, asked_of, command_app, command_named, over_features, over_input, over_runs}
 use Rattle.ck_command_line.specs.CommandLine.{conditions_by, conditions_in, features_in, features_named, first_attempt_in, form_in, gate_asked, has_flag, has_two_inputs, runs_in, runs_named, settings_in, subcommand_named, tags_allowed, where_none}

@@ -6,10 +6,10 @@ use Rattle.std.specs.Borrow.{Bor}
 use Rattle.std.specs.Str.{bytes_eq}
 use Rattle.clap.specs.Words.{Text}
 use Rattle.clap.specs.Lexer.{long_of}
-use Rattle.cm_attempt.specs.declared.policy.Policy.{Policy}
-use Rattle.cm_attempt.specs.declared.policy.Policy.TheVariants.{Strict, PendingPasses}
+use Rattle.cm_attempt.specs.declared.status.Policy.{Policy}
+use Rattle.cm_attempt.specs.declared.status.Policy.TheVariants.{Strict, PendingPasses}
 use Rattle.cm_attempt.specs.Settings.{settings_of}
-use Rattle.cm_attempt.specs.declared.settings.Settings.{Settings}
+use Rattle.cm_attempt.specs.declared.status.Settings.{Settings}
 use Rattle.cm_stream.specs.Release.{Conditions, each_runs, strict_conditions}
 use Rattle.ck_command_line.specs.CommandLine.{Asked, Asks, AsksFeatures, AsksNothing, AsksRuns}
 use Rattle.ck_command_line.specs.CommandLine.{CallsForHelp, Command, FeaturesGate, RunsGate}

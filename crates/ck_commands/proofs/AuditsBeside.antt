@@ -2,19 +2,19 @@
 use Rattle.std.proofs.Common.{◌≡◌, ◌∙◌, ◌⊎◌, ℕ, List, Result, Ok, Err, true, false, inl, inr, refl, sym}
 use Rattle.std.specs.Prelude.{IfOk}
 use Rattle.std.specs.declared.alloc.AllocError.{AllocError}
-use Rattle.cm_attempt.specs.declared.settings.Settings.{Settings}
+use Rattle.cm_attempt.specs.declared.status.Settings.{Settings}
 use Rattle.cm_envelope.specs.Device.{CountsFailure, Input, OfReads}
 use Rattle.cm_envelope.specs.Feeds.{is_failed_read}
 use Rattle.cm_envelope.specs.declared.feed.Trouble.{Trouble}
 use Rattle.cm_envelope.specs.declared.feed.Trouble.TheVariants.{ReadFailed, LineTooLong, StreamTooLong, Memory}
 use Rattle.cm_envelope.proofs.Sources.{of_reads, reads_weaker}
 use Rattle.cm_audit.specs.Audit.{AnswersTold, GoodAtEnd, IsAuditOf, ShowNoFault}
-use Rattle.cm_stream.specs.declared.verdict.Audited.{Audited}
+use Rattle.cm_stream.specs.declared.laws.Audited.{Audited}
 use Rattle.ck_command_line.specs.CommandLine.{Command}
 use Rattle.ck_commands.specs.Output.{IsReport, Report, ReportsAnswer, report_made, trouble_report}
 use Rattle.ck_commands.specs.Run.{Reports, ShowsNone, Tells}
-use Rattle.ck_commands.specs.declared.report.ExitStatus.TheVariants as exit
-use Rattle.ck_commands.specs.declared.report.Report as made
+use Rattle.ck_commands.specs.declared.commands.ExitStatus.TheVariants as exit
+use Rattle.ck_commands.specs.declared.commands.Report as made
 use Rattle.ck_commands.proofs.Printing.{none_failed, some_failed}
 use Rattle.ck_commands.specs.Run.{Reported}
 

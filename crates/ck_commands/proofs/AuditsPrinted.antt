@@ -3,18 +3,18 @@ use Rattle.std.proofs.Common.{◌≡◌, ◌≢◌, ◌∙◌, ℕ, Result, Ok, 
 use Rattle.cm_envelope.specs.Device.{CountsFailure, Input, OfInput, OfReads}
 use Rattle.cm_envelope.proofs.Sources.{of_reads, reads_weaker}
 use Rattle.cm_envelope.specs.declared.feed.Trouble.{Trouble}
-use Rattle.cm_attempt.specs.declared.settings.Settings.{Settings}
+use Rattle.cm_attempt.specs.declared.status.Settings.{Settings}
 use Rattle.cm_audit.specs.Audit.{AnswersTold, Audits, GoodAtEnd, GoodAtEndIn, IsAuditOf, ShowNoFault}
 use Rattle.cm_envelope.specs.Feeds.{is_failed_read}
 use Rattle.cm_stream.specs.Findings.{Finding, IsBad, IsUnsupported}
 use Rattle.cm_stream.specs.Stream.{Answer, Failed, Found, answer_of_audit}
-use Rattle.cm_stream.specs.declared.verdict.Audited.{Audited}
-use Rattle.cm_stream.specs.declared.verdict.Verdict.{Verdict}
-use Rattle.cm_stream.specs.declared.verdict.Verdict.TheVariants as verdict
+use Rattle.cm_stream.specs.declared.laws.Audited.{Audited}
+use Rattle.cm_stream.specs.declared.laws.Verdict.{Verdict}
+use Rattle.cm_stream.specs.declared.laws.Verdict.TheVariants as verdict
 use Rattle.ck_command_line.specs.CommandLine.{ask_audit}
 use Rattle.ck_commands.specs.Output.{Report}
 use Rattle.ck_commands.specs.Verdicts.{verdict_report}
-use Rattle.ck_commands.specs.declared.report.ExitStatus.TheVariants as exit
+use Rattle.ck_commands.specs.declared.commands.ExitStatus.TheVariants as exit
 use Rattle.ck_commands.proofs.Printing.{IsOne, audit_reported, failed_answer, first_reported, none_failed, read_failed_reported, some_failed}
 use Rattle.ck_commands.specs.Run.{Reported}
 

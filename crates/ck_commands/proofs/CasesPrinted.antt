@@ -3,16 +3,16 @@ use Rattle.std.proofs.Common.{◌≡◌, ◌∙◌, ◌⊎◌, ℕ, List, Result
 use Rattle.std.specs.Prelude.{IfOk}
 use Rattle.std.specs.declared.alloc.AllocError.{AllocError}
 use Rattle.cm_attempt.specs.Table.{Table}
-use Rattle.cm_attempt.specs.declared.settings.Settings.{Settings}
+use Rattle.cm_attempt.specs.declared.status.Settings.{Settings}
 use Rattle.cm_cases.specs.Listed.{listing_of}
-use Rattle.cm_cases.specs.declared.listing.Listing.{Listing}
+use Rattle.cm_cases.specs.declared.places.Listing.{Listing}
 use Rattle.cm_envelope.specs.Device.{CountsFailure, Input, OfReads}
 use Rattle.cm_envelope.specs.declared.envelope.Envelope.{Envelope}
 use Rattle.cm_envelope.specs.declared.feed.Trouble.{Trouble}
 use Rattle.cm_envelope.specs.declared.feed.Trouble.TheVariants.{ReadFailed, LineTooLong, StreamTooLong, Memory}
 use Rattle.cm_stream.specs.Stream.{Answer, At, Failed, FirstFault, NoFault, Troubled, answer_for, answer_of_audit}
-use Rattle.cm_stream.specs.declared.verdict.Verdict.{Verdict}
-use Rattle.cm_stream.specs.declared.verdict.Verdict.TheVariants as verdict
+use Rattle.cm_stream.specs.declared.laws.Verdict.{Verdict}
+use Rattle.cm_stream.specs.declared.laws.Verdict.TheVariants as verdict
 use Rattle.cm_stream.proofs.ByGrammar.{is_first}
 use Rattle.cm_stream.proofs.Streams.{read_is_told}
 use Rattle.cm_audit.specs.Audit.{AnswersTold, GoodAtEnd, GoodAtEndIn, IsAuditOf}
@@ -26,8 +26,8 @@ use Rattle.ck_commands.specs.Cases.{ListsOrTells, ReportsCases, ReportsVerdict, 
 use Rattle.ck_commands.specs.Output.{IsReport, report_made, trouble_report}
 use Rattle.ck_commands.specs.Run.{Reports}
 use Rattle.ck_commands.specs.Verdicts.{verdict_report}
-use Rattle.ck_commands.specs.declared.report.ExitStatus.TheVariants as exit
-use Rattle.ck_commands.specs.declared.report.Report as made
+use Rattle.ck_commands.specs.declared.commands.ExitStatus.TheVariants as exit
+use Rattle.ck_commands.specs.declared.commands.Report as made
 use Rattle.ck_commands.proofs.AuditsBeside.{Shows, alone, audit_beside_is_reported, report_is}
 use Rattle.ck_commands.specs.Run.{Reported}
 

@@ -1,7 +1,7 @@
 -- What the words chose is what they ask for.
 use Rattle.std.proofs.Common.{◌≡◌, ◌∙◌, ◌∷◌, ℕ, List, Some, Ok, Err, ap, inr, refl, subst, map, codes}
 use Rattle.std.specs.Borrow.{Bor}
-use Rattle.cm_attempt.specs.declared.settings.Settings.{Settings}
+use Rattle.cm_attempt.specs.declared.status.Settings.{Settings}
 use Rattle.cm_envelope.specs.Device.{Input, Output}
 use Rattle.cm_envelope.specs.declared.feed.Trouble.TheVariants.{Memory}
 use Rattle.cm_stream.specs.Release.{Conditions}

@@ -5,21 +5,21 @@ use Rattle.std.proofs.lemmas.List.{append_cancel_left}
 use Rattle.cm_envelope.specs.Device.{OfInput, Output}
 use Rattle.cm_envelope.specs.declared.feed.Trouble.{Trouble as SomeTrouble}
 use Rattle.cm_envelope.specs.declared.feed.Trouble.TheVariants.{Memory, ReadFailed}
-use Rattle.cm_attempt.specs.declared.settings.Settings.{Settings}
+use Rattle.cm_attempt.specs.declared.status.Settings.{Settings}
 use Rattle.cm_stream.specs.Findings.{IsBad, IsUnsupported}
 use Rattle.cm_stream.specs.References.{run_succeeded}
 use Rattle.cm_stream.specs.Release.{Conditions, IsReleasedStream, hold_of, release_counts_of}
 use Rattle.cm_stream.specs.Stream.{At, FirstFault, IsFirstFault, NoFault, Troubled, counts_of}
-use Rattle.cm_stream.specs.declared.conditions.ReleaseCounts.{ReleaseCounts}
-use Rattle.cm_stream.specs.declared.verdict.Counts.{Counts}
-use Rattle.cm_stream.specs.declared.verdict.Hold.{Hold}
+use Rattle.cm_stream.specs.declared.laws.ReleaseCounts.{ReleaseCounts}
+use Rattle.cm_stream.specs.declared.laws.Counts.{Counts}
+use Rattle.cm_stream.specs.declared.laws.Hold.{Hold}
 use Rattle.cm_stream.proofs.Released.{first_fault_releases}
 use Rattle.ck_commands.specs.Gate.{IsGateReport, held_status, hold_in}
 use Rattle.ck_command_line.specs.CommandLine.{ask_gate}
 use Rattle.ck_commands.specs.Laws.{GateReleasesExactly, ReleasedEndsWell}
 use Rattle.ck_commands.specs.Output.{Breaks, Delivers, DeliversOne, Prints, Report, code_of, trouble_report}
 use Rattle.ck_commands.specs.Run.{Reports, TellsFailedRead}
-use Rattle.ck_commands.specs.declared.report.ExitStatus.TheVariants.{Done, Refused, Trouble, Unsupported}
+use Rattle.ck_commands.specs.declared.commands.ExitStatus.TheVariants.{Done, Refused, Trouble, Unsupported}
 
 not_held : (h : Option Hold) → held_status h ≡ Done → h ≡ None
 not_held None e = refl

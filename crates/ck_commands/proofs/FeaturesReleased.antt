@@ -6,7 +6,7 @@ use Rattle.std.specs.List.{AllByRecursion}
 use Rattle.std.specs.Option.{option_map_or}
 use Rattle.std.specs.Prelude.{codes, fold}
 use Rattle.std.specs.Str.{bytes_eq}
-use Rattle.cm_attempt.specs.declared.settings.Settings.{Settings}
+use Rattle.cm_attempt.specs.declared.status.Settings.{Settings}
 use Rattle.cm_envelope.specs.Device.{Input, Output}
 use Rattle.cm_envelope.specs.declared.envelope.Envelope.{Envelope}
 use Rattle.cm_envelope.specs.declared.feed.Trouble.TheVariants.{Memory}
@@ -33,7 +33,7 @@ use Rattle.ck_commands.specs.Output.{Report, trouble_report}
 use Rattle.ck_commands.specs.Runs.{OfHeard, Reading, heard, unnoted, unopened}
 use Rattle.ck_commands.specs.Standard.{GaveFeatures}
 use Rattle.ck_commands.specs.declared.command_gate.RunCounts.{RunCounts}
-use Rattle.ck_commands.specs.declared.report.ExitStatus.TheVariants as exit
+use Rattle.ck_commands.specs.declared.commands.ExitStatus.TheVariants as exit
 use Rattle.ck_commands.proofs.Ran.{is_done, not_both, was_printed}
 use Rattle.ck_commands.proofs.RunsReleased.{each_released_as, none_failed_in, reads_standard}
 

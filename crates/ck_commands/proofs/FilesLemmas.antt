@@ -5,17 +5,17 @@ use Rattle.std.specs.Prelude.{IfErr, IfOk}
 use Rattle.std.specs.declared.alloc.Global.{Global}
 use Rattle.cm_envelope.specs.Device.{CountsFailure, Input, OfInput, OfWhole}
 use Rattle.cm_stream.specs.Texts.{Utf8}
-use Rattle.feature_paths.specs.declared.trouble.Fault.{Fault}
-use Rattle.feature_paths.specs.declared.trouble.Fault.TheVariants.{NotUtf8, ReadFailed}
+use Rattle.feature_paths.specs.declared.paths.Fault.{Fault}
+use Rattle.feature_paths.specs.declared.paths.Fault.TheVariants.{NotUtf8, ReadFailed}
 use Rattle.files.specs.Openings.{IsFresh, Opening}
 use Rattle.gk_grammar.specs.Documents.{max_bytes}
 use Rattle.ck_commands.specs.FeatureFiles.{FailsAtFile, FailsToRead, FeatureFile, ReadsFiles, WasRead, WereRead}
 use Rattle.ck_commands.specs.Features.{IsNoText}
 use Rattle.ck_commands.specs.FilesKept.{AsFileText, FailsFor, ReadsText, TellsFile, file_of, path_trouble}
 use Rattle.ck_commands.specs.TextInput.{HasTextFault, IsTextOf, is_failed_text_read}
-use Rattle.ck_commands.specs.declared.command_features.FeatureFile as made
-use Rattle.ck_commands.specs.declared.command_features.FileFault.{FileFault}
-use Rattle.ck_commands.specs.declared.command_features.FileFault.TheVariants as fault
+use Rattle.ck_commands.specs.declared.command_gate.FeatureFile as made
+use Rattle.ck_commands.specs.declared.command_gate.FileFault.{FileFault}
+use Rattle.ck_commands.specs.declared.command_gate.FileFault.TheVariants as fault
 use Rattle.ck_commands.specs.declared.text_input.TextFault.{TextFault}
 use Rattle.ck_commands.specs.declared.text_input.TextFault.TheVariants as text
 use Rattle.ck_commands.proofs.RunsReleased.{from_fresh_reads, from_fresh_whole}

@@ -5,7 +5,7 @@ use Rattle.std.proofs.lemmas.List.{length-map}
 use Rattle.std.specs.Borrow.{Bor}
 use Rattle.std.specs.Prelude.{IfOk, codes}
 use Rattle.std.specs.declared.alloc.AllocError.{AllocError}
-use Rattle.cm_attempt.specs.declared.settings.Settings.{Settings}
+use Rattle.cm_attempt.specs.declared.status.Settings.{Settings}
 use Rattle.cm_envelope.specs.Device.{Input}
 use Rattle.cm_envelope.specs.declared.feed.Trouble.TheVariants.{Memory}
 use Rattle.cm_missing.specs.Missing.{AreMissingLines, AskedFile, IsMissingOf, IsScenarioCount, IsUnrunCount, scenarios_in, unrun_in}
@@ -17,8 +17,8 @@ use Rattle.cm_stream.specs.Texts.{Utf8}
 use Rattle.ck_command_line.specs.CommandLine.{FeaturesGate}
 use Rattle.feature_paths.specs.FeaturePaths.{FindsFiles}
 use Rattle.feature_paths.specs.Shown.{faulty}
-use Rattle.feature_paths.specs.declared.trouble.FaultyPath.{FaultyPath}
-use Rattle.feature_paths.specs.declared.trouble.PathTrouble.TheVariants as trouble
+use Rattle.feature_paths.specs.declared.paths.FaultyPath.{FaultyPath}
+use Rattle.feature_paths.specs.declared.paths.PathTrouble.TheVariants as trouble
 use Rattle.files.specs.Looks.{Looked}
 use Rattle.files.specs.Openings.{Opening}
 use Rattle.ck_commands.specs.FeatureFiles.{FeatureFile, ReadsFiles, asked_once, faulty_report}
@@ -27,10 +27,10 @@ use Rattle.ck_commands.specs.FilesKept.{AddsLast, HasTexts, IsUnmarked, GivesFea
 use Rattle.ck_commands.specs.Judged.{JudgesStream, JudgesRuns, MarksStreams, added_counts, no_counts}
 use Rattle.ck_commands.specs.Output.{Report, report_made, trouble_report}
 use Rattle.ck_commands.specs.Runs.{Reading, heard}
-use Rattle.ck_commands.specs.declared.command_features.FeatureFile as made
+use Rattle.ck_commands.specs.declared.command_gate.FeatureFile as made
 use Rattle.ck_commands.specs.declared.command_gate.RunCounts.{RunCounts}
-use Rattle.ck_commands.specs.declared.report.ExitStatus.TheVariants as exit
-use Rattle.ck_commands.specs.declared.report.Report as output
+use Rattle.ck_commands.specs.declared.commands.ExitStatus.TheVariants as exit
+use Rattle.ck_commands.specs.declared.commands.Report as output
 use Rattle.ck_commands.proofs.JudgedLemmas.{marks_push, nothing_ran}
 use Rattle.ck_commands.proofs.AskedLemmas.{flags_told}
 

@@ -2,7 +2,7 @@
 use Rattle.std.proofs.Common.{◌≡◌, ◌∙◌, ◌⊎◌, ℕ, List, Option, Result, Ok, Err, Bool, true, inl, inr, string_bytes, subst, sym, ap}
 use Rattle.std.specs.Prelude.{IfOk}
 use Rattle.std.specs.declared.alloc.AllocError.{AllocError}
-use Rattle.cm_attempt.specs.declared.settings.Settings.{Settings}
+use Rattle.cm_attempt.specs.declared.status.Settings.{Settings}
 use Rattle.cm_envelope.specs.Device.{CountsFailure, Input, OfReads}
 use Rattle.cm_envelope.specs.declared.envelope.Envelope.{Envelope}
 use Rattle.cm_envelope.specs.declared.feed.Trouble.{Trouble}
@@ -11,10 +11,10 @@ use Rattle.cm_stream.specs.References.{run_succeeded}
 use Rattle.cm_stream.specs.Release.{Conditions, hold_of, release_counts_of}
 use Rattle.cm_stream.specs.Findings.{Finding, IsBad, IsUnsupported, stream_fault_named}
 use Rattle.cm_stream.specs.Stream.{At, Failed, FirstFault, Found, GoodRunIn, GoodWith, NoFault, Troubled, answer_for, counts_of}
-use Rattle.cm_stream.specs.declared.conditions.ReleaseCounts.{ReleaseCounts}
-use Rattle.cm_stream.specs.declared.verdict.Hold.{Hold}
-use Rattle.cm_stream.specs.declared.verdict.Verdict.{Verdict}
-use Rattle.cm_stream.specs.declared.verdict.Verdict.TheVariants as verdict
+use Rattle.cm_stream.specs.declared.laws.ReleaseCounts.{ReleaseCounts}
+use Rattle.cm_stream.specs.declared.laws.Hold.{Hold}
+use Rattle.cm_stream.specs.declared.laws.Verdict.{Verdict}
+use Rattle.cm_stream.specs.declared.laws.Verdict.TheVariants as verdict
 use Rattle.cm_stream.proofs.ByGrammar.{is_first, reported}
 use Rattle.cm_stream.proofs.Streams.{read_is_told}
 use Rattle.cm_audit.specs.Audit.{AnswersTold, GoodAtEnd, GoodAtEndIn, IsAuditOf}
@@ -27,8 +27,8 @@ use Rattle.cm_fault_reasons.specs.AtLine.{IsToldUnder}
 use Rattle.ck_commands.specs.Gate.{IsGateReport, ReleasesOrTells, ReportsHeld, ReportsRelease, finding_told, held_report, hold_in}
 use Rattle.ck_commands.specs.Output.{IsReport, report_made, trouble_report}
 use Rattle.ck_commands.specs.Run.{Reports}
-use Rattle.ck_commands.specs.declared.report.ExitStatus.TheVariants as exit
-use Rattle.ck_commands.specs.declared.report.Report as made
+use Rattle.ck_commands.specs.declared.commands.ExitStatus.TheVariants as exit
+use Rattle.ck_commands.specs.declared.commands.Report as made
 use Rattle.ck_commands.proofs.AuditsBeside.{Shows, alone, audit_beside_is_reported, report_is}
 use Rattle.ck_commands.specs.Run.{Reported}
 

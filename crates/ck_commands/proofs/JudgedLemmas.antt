@@ -6,7 +6,7 @@ use Rattle.std.proofs.lemmas.List.Sums.{fold-append}
 use Rattle.std.specs.Prelude.{IfOk}
 use Rattle.std.specs.declared.alloc.AllocError.{AllocError}
 use Rattle.cm_attempt.specs.Table.{has_text}
-use Rattle.cm_attempt.specs.declared.settings.Settings.{Settings}
+use Rattle.cm_attempt.specs.declared.status.Settings.{Settings}
 use Rattle.cm_envelope.specs.Device.{Input, OfReads, OfWhole}
 use Rattle.cm_envelope.proofs.Sources.{whole_of}
 use Rattle.cm_envelope.specs.declared.envelope.Envelope.{Envelope}
@@ -14,11 +14,11 @@ use Rattle.cm_envelope.specs.declared.feed.Trouble.{Trouble}
 use Rattle.cm_envelope.specs.declared.feed.Trouble.TheVariants.{Memory}
 use Rattle.cm_stream.specs.Release.{Conditions, release_counts_of}
 use Rattle.cm_stream.specs.Stream.{GoodRunIn}
-use Rattle.cm_stream.specs.declared.conditions.ReleaseCounts.{ReleaseCounts}
-use Rattle.cm_stream.specs.declared.verdict.Counts.{Counts}
-use Rattle.cm_stream.specs.declared.verdict.Hold.{Hold}
-use Rattle.cm_stream.specs.declared.verdict.Verdict.{Verdict}
-use Rattle.cm_stream.specs.declared.verdict.Verdict.TheVariants as verdict
+use Rattle.cm_stream.specs.declared.laws.ReleaseCounts.{ReleaseCounts}
+use Rattle.cm_stream.specs.declared.laws.Counts.{Counts}
+use Rattle.cm_stream.specs.declared.laws.Hold.{Hold}
+use Rattle.cm_stream.specs.declared.laws.Verdict.{Verdict}
+use Rattle.cm_stream.specs.declared.laws.Verdict.TheVariants as verdict
 use Rattle.cm_stream.specs.ReleasedRuns.{EachSourceIsCompiled}
 use Rattle.cm_stream.proofs.Released.{released_is_not_held, released_ran}
 use Rattle.cm_stream.proofs.Streams.{read_is_told}
@@ -37,9 +37,9 @@ use Rattle.ck_commands.specs.Output.{Report, report_made, trouble_report}
 use Rattle.ck_commands.specs.Runs.{OfHeard, Reading, ReadsRun, heard, named_text, named_texts, status_after, status_of_all, unnoted, unopened, unread}
 use Rattle.ck_commands.specs.declared.command_gate.JudgedRun as made_run
 use Rattle.ck_commands.specs.declared.command_gate.RunCounts.{RunCounts}
-use Rattle.ck_commands.specs.declared.report.ExitStatus.{ExitStatus}
-use Rattle.ck_commands.specs.declared.report.ExitStatus.TheVariants as exit
-use Rattle.ck_commands.specs.declared.report.Report as made
+use Rattle.ck_commands.specs.declared.commands.ExitStatus.{ExitStatus}
+use Rattle.ck_commands.specs.declared.commands.ExitStatus.TheVariants as exit
+use Rattle.ck_commands.specs.declared.commands.Report as made
 use Rattle.ck_commands.proofs.GatePrinted.{done_at_end}
 use Rattle.ck_commands.proofs.RunsReleased.{from_fresh, from_fresh_whole}
 use Rattle.ck_commands.proofs.RunsLemmas.{both_done, each_push, reads_push, status_push, texts_push}

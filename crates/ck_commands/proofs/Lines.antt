@@ -21,12 +21,12 @@ use Rattle.cm_stream.specs.Findings.{Finding, IsBad, NoEnvelope}
 use Rattle.cm_stream.specs.Record.{table_after_envelope}
 use Rattle.cm_stream.specs.Results.{results_fault, first_results_fault, first_results_fault_line, first_results_fault_of}
 use Rattle.cm_stream.specs.Stream.{At, FirstFault, Troubled, at_line, feed_of}
-use Rattle.cm_stream.specs.declared.verdict.Audited.{Audited}
+use Rattle.cm_stream.specs.declared.laws.Audited.{Audited}
 use Rattle.cm_stream.proofs.Tables.{refused_for_faults, tables_change, tables_have_results}
 use Rattle.ck_commands.specs.Reading.{HasOutcome, LeavesTable, after_envelope, after_line, fault_answer, is_failed_attempts_read, report_of_read, unless_found}
 use Rattle.ck_commands.specs.Results.{ResultsShowNoFault}
-use Rattle.ck_commands.specs.declared.attempts.Attempts.{Attempts}
-use Rattle.ck_commands.specs.declared.report.ExitStatus.TheVariants.{Done}
+use Rattle.ck_commands.specs.declared.commands.Attempts.{Attempts}
+use Rattle.ck_commands.specs.declared.commands.ExitStatus.TheVariants.{Done}
 use Rattle.ck_commands.proofs.ResultsPrinted.{not_good_at}
 
 -- what a line makes of the record

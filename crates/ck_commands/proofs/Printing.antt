@@ -8,21 +8,21 @@ use Rattle.cm_envelope.proofs.Sources.{input_weaker, reads_weaker}
 use Rattle.cm_envelope.specs.declared.feed.Trouble.{Trouble}
 use Rattle.cm_envelope.specs.declared.feed.Trouble.TheVariants.{ReadFailed, LineTooLong, StreamTooLong, Memory}
 use Rattle.cm_attempt.specs.Table.{Table}
-use Rattle.cm_attempt.specs.declared.settings.Settings.{Settings}
+use Rattle.cm_attempt.specs.declared.status.Settings.{Settings}
 use Rattle.cm_attempt.specs.declared.status.Status.{Status}
 use Rattle.cm_audit.specs.Audit.{AnswersAs, AnswersTold, IsAuditOf}
 use Rattle.cm_envelope.specs.Feeds.{is_failed_read}
 use Rattle.cm_stream.specs.Results.{first_results_fault}
 use Rattle.cm_stream.specs.Stream.{Answer, At, Failed, FirstFault, Found, IsFirstFault, NoFault, Troubled, answer_for, answer_of_audit}
 use Rattle.cm_stream.specs.Texts.{Utf8}
-use Rattle.cm_stream.specs.declared.verdict.Audited.{Audited}
+use Rattle.cm_stream.specs.declared.laws.Audited.{Audited}
 use Rattle.ck_commands.specs.Output.{NoneFailed, Report, report_made, trouble_report}
 use Rattle.ck_commands.specs.Reading.{HasOutcome, fault_answer, is_failed_attempts_read as results_failed, report_of_read}
 use Rattle.ck_commands.specs.Results.{result_text, results_report}
 use Rattle.ck_commands.specs.Run.{ReportsAudit, ReportsFirst}
 use Rattle.ck_commands.specs.Verdicts.{verdict_report}
-use Rattle.ck_commands.specs.declared.report.ExitStatus.TheVariants as exit
-use Rattle.ck_commands.specs.declared.report.Report as made
+use Rattle.ck_commands.specs.declared.commands.ExitStatus.TheVariants as exit
+use Rattle.ck_commands.specs.declared.commands.Report as made
 
 -- this report, or that of no memory
 abbrev pub IsOne : Report → Report → Type 0

@@ -3,16 +3,16 @@ use Rattle.std.proofs.Common.{◌≡◌, ◌∙◌, ◌⊎◌, ◌++◌, [], ℕ
 use Rattle.cm_envelope.specs.Device.{Input, Output, Writes}
 use Rattle.cm_envelope.proofs.Sources.{input_weaker, of_any, of_reads, reads_weaker, whole_of}
 use Rattle.cm_envelope.specs.declared.feed.Trouble.TheVariants.{Memory}
-use Rattle.cm_attempt.specs.declared.settings.Settings.{Settings}
+use Rattle.cm_attempt.specs.declared.status.Settings.{Settings}
 use Rattle.gk_grammar.specs.Tree.{Document}
 use Rattle.cm_stream.specs.Findings.{IsBad, IsUnsupported}
 use Rattle.cm_stream.specs.Release.{Conditions, hold_of, release_counts_of}
 use Rattle.cm_stream.specs.Results.{first_results_fault}
 use Rattle.cm_stream.specs.Stream.{At, FirstFault, GoodRunIn, NoFault, NoneIsGood, Troubled, answer_of_audit}
-use Rattle.cm_stream.specs.declared.verdict.Audited.{Audited}
-use Rattle.cm_stream.specs.declared.verdict.Hold.{Hold}
-use Rattle.cm_stream.specs.declared.verdict.Verdict.{Verdict}
-use Rattle.cm_stream.specs.declared.verdict.Verdict.TheVariants as verdict
+use Rattle.cm_stream.specs.declared.laws.Audited.{Audited}
+use Rattle.cm_stream.specs.declared.laws.Hold.{Hold}
+use Rattle.cm_stream.specs.declared.laws.Verdict.{Verdict}
+use Rattle.cm_stream.specs.declared.laws.Verdict.TheVariants as verdict
 use Rattle.cm_stream.proofs.Released.{released_is_not_held}
 use Rattle.ck_command_line.specs.CommandLine.{Command, ask_audit, ask_cases, ask_compile, ask_gate, ask_parse, ask_results}
 use Rattle.ck_command_line.specs.declared.command_line.CaseForm.{CaseForm}
@@ -25,8 +25,8 @@ use Rattle.ck_commands.specs.Run.{IsBadFor, IsDone, PrintsCompiled, PrintsDocume
 use Rattle.ck_commands.specs.Verdicts.{PrintsBad, PrintsGood, counts_text, verdict_report}
 use Rattle.ck_commands.specs.declared.text_input.FeatureFault.{FeatureFault}
 use Rattle.ck_commands.specs.declared.text_input.FeatureFault.TheVariants as fault
-use Rattle.ck_commands.specs.declared.report.ExitStatus.{ExitStatus}
-use Rattle.ck_commands.specs.declared.report.ExitStatus.TheVariants as exit
+use Rattle.ck_commands.specs.declared.commands.ExitStatus.{ExitStatus}
+use Rattle.ck_commands.specs.declared.commands.ExitStatus.TheVariants as exit
 
 pub not_both : (m n k : ℕ) → k ≡ m → k ≡ n → (m ≡ n → ⊥) → ⊥
 not_both m n k is other differ = differ (sym is ∙ other)

@@ -4,13 +4,13 @@ use Rattle.std.proofs.lemmas.List.{map-append, take_more}
 use Rattle.std.specs.Char.{encode_utf8}
 use Rattle.std.specs.Prelude.{◌==◌, if◌then◌else◌}
 use Rattle.cm_envelope.specs.Device.{Input}
-use Rattle.cm_attempt.specs.declared.settings.Settings.{Settings}
+use Rattle.cm_attempt.specs.declared.status.Settings.{Settings}
 use Rattle.cm_stream.specs.Release.{Conditions}
 use Rattle.files.specs.Openings.{Opening}
 use Rattle.ck_commands.specs.Output.{Report}
 use Rattle.ck_commands.specs.Runs.{Reading, ReadsRun, ReadsRuns, ReportEach, ReportsRun, lines_after, named_text, named_texts, status_after, status_of_all}
-use Rattle.ck_commands.specs.declared.report.ExitStatus.{ExitStatus}
-use Rattle.ck_commands.specs.declared.report.ExitStatus.TheVariants as exit
+use Rattle.ck_commands.specs.declared.commands.ExitStatus.{ExitStatus}
+use Rattle.ck_commands.specs.declared.commands.ExitStatus.TheVariants as exit
 
 -- ---- lines
 

@@ -3,10 +3,10 @@ use Rattle.std.proofs.Common.{◌≡◌, ◌≢◌, ◌∙◌, ◌⊎◌, ◌∷
 use Rattle.cm_envelope.specs.Device.{Input, OfReads, OfWhole, Output}
 use Rattle.cm_envelope.proofs.Sources.{whole_of}
 use Rattle.cm_envelope.specs.declared.feed.Trouble.TheVariants.{Memory, ReadFailed}
-use Rattle.cm_attempt.specs.declared.settings.Settings.{Settings}
+use Rattle.cm_attempt.specs.declared.status.Settings.{Settings}
 use Rattle.cm_stream.specs.Release.{Conditions, IsReleasedStream}
-use Rattle.cm_stream.specs.declared.conditions.ReleaseCounts.{ReleaseCounts}
-use Rattle.cm_stream.specs.declared.verdict.Counts.{Counts}
+use Rattle.cm_stream.specs.declared.laws.ReleaseCounts.{ReleaseCounts}
+use Rattle.cm_stream.specs.declared.laws.Counts.{Counts}
 use Rattle.files.specs.Openings.{IsFresh, NotesOpening, Opening}
 use Rattle.files.specs.declared.files.FileTrouble.{FileTrouble}
 use Rattle.files.specs.declared.files.FileTrouble.TheVariants as trouble
@@ -18,7 +18,7 @@ use Rattle.ck_commands.specs.Output.{NoneFailed, Prints, Report, code_of, troubl
 use Rattle.ck_commands.specs.Run.{Reported, Reports, ShowsNone, Tells}
 use Rattle.ck_commands.specs.Runs.{GatesRuns, IsRunsReport, OfHeard, Reading, ReadsBy, ReadsRun, ReadsRuns, ReportEach, ReportsRun, heard, status_of_all, unnoted, unopened, unread}
 use Rattle.ck_commands.specs.Standard.{GaveReleasedEach}
-use Rattle.ck_commands.specs.declared.report.ExitStatus.TheVariants as exit
+use Rattle.ck_commands.specs.declared.commands.ExitStatus.TheVariants as exit
 use Rattle.ck_commands.proofs.Ran.{done_of, is_done, not_both, was_printed}
 use Rattle.ck_commands.proofs.RunsLemmas.{both_done}
 

@@ -2,7 +2,7 @@
 use Rattle.std.proofs.Common.{◌≡◌, ◌∙◌, ◌++◌, [], ℕ, List, Option, Some, None, refl, sym, ap, subst}
 use Rattle.std.specs.Io.KnownBytes.{Consumes, IsAtEnd}
 use Rattle.cm_envelope.specs.Device.{Input, OfWhole, Output}
-use Rattle.cm_attempt.specs.declared.settings.Settings.{Settings}
+use Rattle.cm_attempt.specs.declared.status.Settings.{Settings}
 use Rattle.cm_stream.specs.Release.{Conditions, IsReleasedStream}
 use Rattle.ck_commands.specs.Gate.{PrintsReleased}
 use Rattle.ck_commands.specs.Laws.{ShownAreHeard, ShownAreReported}

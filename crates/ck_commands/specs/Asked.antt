@@ -3,8 +3,8 @@ use Rattle.std.specs.List.{AllByRecursion}
 use Rattle.std.specs.Prelude.{◌≡◌, ◌⊎◌, ℕ, ◌++◌, Bool, true, false, Contains, IfSome, List, [], ◌∷◌, Some, codes, slice_get}
 use Rattle.std.specs.Borrow.{Bor}
 use Rattle.cm_envelope.specs.Device.{Input, OfWhole, Output}
-use Rattle.cm_attempt.specs.declared.policy.Policy.{Policy}
-use Rattle.cm_attempt.specs.declared.settings.Settings.{Settings}
+use Rattle.cm_attempt.specs.declared.status.Policy.{Policy}
+use Rattle.cm_attempt.specs.declared.status.Settings.{Settings}
 use Rattle.cm_envelope.specs.declared.envelope.Envelope.{Envelope}
 use Rattle.cm_ran.specs.RunAt.{ScenarioRanAt}
 use Rattle.cm_stream.specs.Readings.{Accepted, IsReading}
@@ -13,8 +13,8 @@ use Rattle.cm_stream.specs.Texts.{Utf8}
 use Rattle.gk_document.specs.declared.tree.Document.{Document}
 use Rattle.gk_pickle.specs.Pickles.{pickles as compiled}
 use Rattle.cm_stream.specs.Release.{Conditions, IsReleasedStream}
-use Rattle.cm_stream.specs.declared.conditions.ReleaseCounts.{ReleaseCounts}
-use Rattle.cm_stream.specs.declared.verdict.Counts.{Counts}
+use Rattle.cm_stream.specs.declared.laws.ReleaseCounts.{ReleaseCounts}
+use Rattle.cm_stream.specs.declared.laws.Counts.{Counts}
 use Rattle.feature_paths.specs.FeaturePaths.{FindsFiles}
 use Rattle.files.specs.Looks.{Looked}
 use Rattle.files.specs.Openings.{Opening}

@@ -4,29 +4,29 @@ use Rattle.cm_envelope.specs.Device.{Output, Writes}
 use Rattle.std.specs.List.{flat_map}
 use Rattle.cm_attempt.specs.Results.{case_results}
 use Rattle.cm_attempt.specs.Table.{Table}
-use Rattle.cm_attempt.specs.declared.settings.Settings.{Settings}
+use Rattle.cm_attempt.specs.declared.status.Settings.{Settings}
 use Rattle.cm_attempt.specs.declared.status.Status.{Status}
 use Rattle.cm_cases.specs.Listed.{listing_of}
 use Rattle.cm_cases.specs.JsonLines.{case_json, unrun_json}
 use Rattle.cm_cases.specs.Places.{case_place, unrun_lines}
-use Rattle.cm_cases.specs.declared.listing.Listing.{Listing}
+use Rattle.cm_cases.specs.declared.places.Listing.{Listing}
 use Rattle.cm_envelope.specs.declared.envelope.Envelope.{Envelope}
 use Rattle.cm_envelope.specs.declared.feed.Trouble.{Trouble}
 use Rattle.cm_stream.specs.Good.{Good}
 use Rattle.cm_stream.specs.Results.{results_of}
 use Rattle.cm_stream.specs.Stream.{FirstFault, At, Troubled, NoFault, IsReadAs, answer_of_audit}
 use Rattle.cm_stream.specs.Texts.{Utf8}
-use Rattle.cm_stream.specs.declared.verdict.Audited.{Audited}
-use Rattle.cm_stream.specs.declared.verdict.Verdict.{Verdict}
-use Rattle.cm_stream.specs.declared.verdict.Verdict.TheVariants as verdict
+use Rattle.cm_stream.specs.declared.laws.Audited.{Audited}
+use Rattle.cm_stream.specs.declared.laws.Verdict.{Verdict}
+use Rattle.cm_stream.specs.declared.laws.Verdict.TheVariants as verdict
 use Rattle.cm_audit_cases.specs.declared.audited_cases.AuditedCases.{AuditedCases}
 use Rattle.ck_command_line.specs.declared.command_line.CaseForm.{CaseForm}
 use Rattle.ck_command_line.specs.declared.command_line.CaseForm.TheVariants.{Plain, Json}
 use Rattle.ck_commands.specs.Output.{IsReport, Report, ReportsAnswer, trouble_report}
 use Rattle.ck_commands.specs.Statuses.{reported_word}
 use Rattle.ck_commands.specs.Verdicts.{finding_report, verdict_report}
-use Rattle.ck_commands.specs.declared.report.ExitStatus.TheVariants.{Done}
-use Rattle.ck_commands.specs.declared.report.Report as made
+use Rattle.ck_commands.specs.declared.commands.ExitStatus.TheVariants.{Done}
+use Rattle.ck_commands.specs.declared.commands.Report as made
 
 -- `STATUS URI:LINE NAME` of a case, by its result
 abbrev pub case_text : List Envelope → Utf8 × Option Status → List ℕ

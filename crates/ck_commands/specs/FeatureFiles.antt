@@ -8,15 +8,15 @@ use Rattle.cm_envelope.specs.Lines.{line_feed}
 use Rattle.cm_cases.specs.Shown.{shown_text}
 use Rattle.cm_stream.specs.Texts.{Utf8}
 use Rattle.feature_paths.specs.Shown.{Faulty}
-use Rattle.feature_paths.specs.declared.trouble.Fault.{Fault}
-use Rattle.feature_paths.specs.declared.trouble.Fault.TheVariants.{LinkedFolder, NoFeatures, NotUtf8, ReadFailed}
+use Rattle.feature_paths.specs.declared.paths.Fault.{Fault}
+use Rattle.feature_paths.specs.declared.paths.Fault.TheVariants.{LinkedFolder, NoFeatures, NotUtf8, ReadFailed}
 use Rattle.files.specs.Openings.{Opening}
 use Rattle.gk_grammar.specs.Documents.{max_bytes}
 use Rattle.ck_commands.specs.Features.{IsNoText}
 use Rattle.ck_commands.specs.Output.{Report}
 use Rattle.ck_commands.specs.Runs.{unread}
 use Rattle.ck_commands.specs.TextInput.{IsTextOf}
-use Rattle.ck_commands.specs.declared.report.ExitStatus.TheVariants.{Trouble}
+use Rattle.ck_commands.specs.declared.commands.ExitStatus.TheVariants.{Trouble}
 
 -- ---- files
 

@@ -4,7 +4,7 @@ use Rattle.cm_envelope.specs.Device.{Input, Output}
 use Rattle.cm_envelope.specs.Lines.{line_feed}
 use Rattle.cm_envelope.specs.declared.envelope.Envelope.{Envelope}
 use Rattle.cm_envelope.specs.declared.feed.Trouble.TheVariants.{Memory}
-use Rattle.cm_attempt.specs.declared.settings.Settings.{Settings}
+use Rattle.cm_attempt.specs.declared.status.Settings.{Settings}
 use Rattle.cm_missing.specs.Missing.{AreMissingLines, AskedFile, IsScenarioCount, IsUnrunCount, flag_at}
 use Rattle.cm_reasons.specs.Lines.{limited}
 use Rattle.cm_stream.specs.Release.{Conditions}
@@ -20,7 +20,7 @@ use Rattle.ck_commands.specs.Output.{Delivers, Report, trouble_report}
 use Rattle.ck_commands.specs.Run.{Reported}
 use Rattle.ck_commands.specs.Runs.{IsRunsReport, Reading, heard}
 use Rattle.ck_commands.specs.declared.command_gate.RunCounts.{RunCounts}
-use Rattle.ck_commands.specs.declared.report.ExitStatus.TheVariants.{Done, Held}
+use Rattle.ck_commands.specs.declared.commands.ExitStatus.TheVariants.{Done, Held}
 
 -- ---- the runs
 

@@ -6,7 +6,7 @@ use Rattle.cm_ran.specs.Marks.{marked_texts, ran}
 use Rattle.cm_ran.specs.Rows.{row_at}
 use Rattle.cm_ran.specs.declared.marks.Marks.{Marks}
 use Rattle.cm_attempt.specs.Table.{has_text}
-use Rattle.cm_attempt.specs.declared.settings.Settings.{Settings}
+use Rattle.cm_attempt.specs.declared.status.Settings.{Settings}
 use Rattle.cm_envelope.specs.Device.{Input}
 use Rattle.cm_missing.specs.Missing.{AreMissingLines, AskedFile, IsScenarioCount, IsUnrunCount}
 use Rattle.cm_stream.specs.Release.{Conditions}
@@ -15,20 +15,20 @@ use Rattle.ck_commands.specs.Judged.{MarksStreams}
 use Rattle.ck_commands.specs.Output.{Report}
 use Rattle.ck_commands.specs.Runs.{Reading}
 use Rattle.ck_commands.specs.declared.command_gate.RunCounts.{RunCounts}
-use Rattle.ck_commands.specs.declared.report.ExitStatus.{ExitStatus}
-use Rattle.ck_commands.specs.declared.report.ExitStatus.TheVariants.{Done}
+use Rattle.ck_commands.specs.declared.commands.ExitStatus.{ExitStatus}
+use Rattle.ck_commands.specs.declared.commands.ExitStatus.TheVariants.{Done}
 use Rattle.cm_stream.specs.Texts.{Utf8}
 use Rattle.feature_paths.specs.FeaturePaths.{FindsFault, FindsFiles}
 use Rattle.feature_paths.specs.Shown.{faulty}
-use Rattle.feature_paths.specs.declared.trouble.PathTrouble.{PathTrouble}
-use Rattle.feature_paths.specs.declared.trouble.PathTrouble.TheVariants as trouble
+use Rattle.feature_paths.specs.declared.paths.PathTrouble.{PathTrouble}
+use Rattle.feature_paths.specs.declared.paths.PathTrouble.TheVariants as trouble
 use Rattle.files.specs.Looks.{Looked}
 use Rattle.files.specs.Openings.{Opening}
 use Rattle.ck_commands.specs.FeatureFiles.{FailsAtFile, FailsToRead, FeatureFile, ReadsFiles, WasRead}
-use Rattle.ck_commands.specs.declared.command_features.FeatureFile as made
-use Rattle.ck_commands.specs.declared.command_features.FileFault.{FileFault}
-use Rattle.ck_commands.specs.declared.command_features.FileFault.TheVariants as fault
-use Rattle.feature_paths.specs.declared.trouble.Fault.TheVariants.{NotUtf8, ReadFailed}
+use Rattle.ck_commands.specs.declared.command_gate.FeatureFile as made
+use Rattle.ck_commands.specs.declared.command_gate.FileFault.{FileFault}
+use Rattle.ck_commands.specs.declared.command_gate.FileFault.TheVariants as fault
+use Rattle.feature_paths.specs.declared.paths.Fault.TheVariants.{NotUtf8, ReadFailed}
 use Rattle.ck_commands.specs.declared.text_input.TextFault.{TextFault}
 use Rattle.ck_commands.specs.declared.text_input.TextFault.TheVariants as text
 

@@ -6,15 +6,15 @@ use Rattle.cm_envelope.specs.Device.{Input, OfWhole, greatest_count}
 use Rattle.cm_envelope.specs.declared.envelope.Envelope.{Envelope}
 use Rattle.cm_envelope.specs.declared.feed.Trouble.{Trouble}
 use Rattle.cm_envelope.specs.declared.feed.Trouble.TheVariants.{Memory}
-use Rattle.cm_attempt.specs.declared.policy.Policy.{Policy}
-use Rattle.cm_attempt.specs.declared.settings.Settings.{Settings}
+use Rattle.cm_attempt.specs.declared.status.Policy.{Policy}
+use Rattle.cm_attempt.specs.declared.status.Settings.{Settings}
 use Rattle.cm_stream.specs.References.{cases}
 use Rattle.cm_stream.specs.Release.{Conditions, IsReleasedStream, release_counts_of}
 use Rattle.cm_stream.specs.Texts.{Utf8}
-use Rattle.cm_stream.specs.declared.conditions.ReleaseCounts.{ReleaseCounts}
-use Rattle.cm_stream.specs.declared.verdict.Counts.{Counts}
-use Rattle.cm_stream.specs.declared.verdict.Verdict.{Verdict}
-use Rattle.cm_stream.specs.declared.verdict.Verdict.TheVariants as verdict
+use Rattle.cm_stream.specs.declared.laws.ReleaseCounts.{ReleaseCounts}
+use Rattle.cm_stream.specs.declared.laws.Counts.{Counts}
+use Rattle.cm_stream.specs.declared.laws.Verdict.{Verdict}
+use Rattle.cm_stream.specs.declared.laws.Verdict.TheVariants as verdict
 use Rattle.cm_ran.specs.Marks.{AlsoRan, HasWholeRows, Marked, marked_texts}
 use Rattle.cm_ran.specs.RunAt.{is_run_at}
 use Rattle.cm_ran.specs.declared.marks.Marks.{Marks}
@@ -26,7 +26,7 @@ use Rattle.ck_commands.specs.Run.{Reported}
 use Rattle.ck_commands.specs.Runs.{IsRunsReport, OfHeard, Reading, ReportsRun}
 use Rattle.ck_commands.specs.declared.command_gate.JudgedRun as made
 use Rattle.ck_commands.specs.declared.command_gate.RunCounts.{RunCounts}
-use Rattle.ck_commands.specs.declared.report.ExitStatus.TheVariants.{Done}
+use Rattle.ck_commands.specs.declared.commands.ExitStatus.TheVariants.{Done}
 
 -- ---- the streams of released runs
 

@@ -2,8 +2,8 @@
 use Rattle.std.specs.List.{AllByRecursion}
 use Rattle.std.specs.Prelude.{◌≡◌, ◌⊎◌, ◌<◌, ◌↔◌, ◌++◌, ℕ, true, false, Contains, IsPermutation, List, [], Some, length}
 use Rattle.cm_envelope.specs.Device.{EndsAsShown, Hears, Input, MayCome, OfInput, OfReads, Output, greatest_count}
-use Rattle.cm_attempt.specs.declared.policy.Policy.TheVariants.{Strict}
-use Rattle.cm_attempt.specs.declared.settings.Settings.{Settings}
+use Rattle.cm_attempt.specs.declared.status.Policy.TheVariants.{Strict}
+use Rattle.cm_attempt.specs.declared.status.Settings.{Settings}
 use Rattle.cm_envelope.specs.declared.envelope.Envelope.{Envelope}
 use Rattle.cm_ran.specs.RunAt.{ScenarioRanAt}
 use Rattle.cm_stream.specs.Good.{Everywhere}
@@ -15,15 +15,15 @@ use Rattle.files.specs.Openings.{Opening}
 use Rattle.gk_document.specs.declared.tree.Document.{Document}
 use Rattle.gk_pickle.specs.Pickles.{pickles as compiled}
 use Rattle.cm_stream.specs.Release.{Conditions, IsReleasedStream}
-use Rattle.cm_stream.specs.declared.conditions.ReleaseCounts.{ReleaseCounts}
-use Rattle.cm_stream.specs.declared.verdict.Counts.{Counts}
+use Rattle.cm_stream.specs.declared.laws.ReleaseCounts.{ReleaseCounts}
+use Rattle.cm_stream.specs.declared.laws.Counts.{Counts}
 use Rattle.ck_command_line.specs.CommandLine.{Command, FeaturesGate, ask_gate}
 use Rattle.ck_commands.specs.Asked.{ReleasesFeatures}
 use Rattle.ck_commands.specs.FeatureFiles.{FeatureFile}
 use Rattle.ck_commands.specs.Judged.{is_run_in}
 use Rattle.ck_commands.specs.Output.{Report, code_of}
 use Rattle.ck_commands.specs.Run.{Reports, Runs, Tells}
-use Rattle.ck_commands.specs.declared.report.ExitStatus.TheVariants.{Done, Trouble}
+use Rattle.ck_commands.specs.declared.commands.ExitStatus.TheVariants.{Done, Trouble}
 
 -- The bytes that a source shows to come are those heard of it, and then those that it shows afterwards, which may come.
 abbrev pub ShownAreHeard : Type 0

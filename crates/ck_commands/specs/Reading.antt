@@ -15,11 +15,11 @@ use Rattle.cm_stream.specs.Findings.{Finding, IsBad, IsUnsupported, NoEnvelope, 
 use Rattle.cm_stream.specs.Record.{table_after_envelope}
 use Rattle.cm_stream.specs.Results.{results_of}
 use Rattle.cm_stream.specs.Stream.{Answer, Found, Failed, FirstFault, At, Troubled, NoFault, answer_of_audit}
-use Rattle.cm_stream.specs.declared.verdict.Audited.{Audited}
+use Rattle.cm_stream.specs.declared.laws.Audited.{Audited}
 use Rattle.ck_commands.specs.Output.{Report}
 use Rattle.ck_commands.specs.Results.{result_text}
 use Rattle.ck_commands.specs.Verdicts.{verdict_report}
-use Rattle.ck_commands.specs.declared.report.ExitStatus.TheVariants.{Done}
+use Rattle.ck_commands.specs.declared.commands.ExitStatus.TheVariants.{Done}
 
 -- ---- a line
 

@@ -9,12 +9,12 @@ use Rattle.cm_compile.specs.Compiled.{IsCompiledOf}
 use Rattle.cm_envelope.specs.Device.{Input, OfInput, OfReads, OfWhole, Output, Writes}
 use Rattle.cm_envelope.specs.declared.envelope.Envelope.{Envelope}
 use Rattle.cm_envelope.specs.declared.feed.Trouble.TheVariants.{Memory, ReadFailed}
-use Rattle.cm_attempt.specs.declared.settings.Settings.{Settings}
+use Rattle.cm_attempt.specs.declared.status.Settings.{Settings}
 use Rattle.cm_stream.specs.Findings.{Fault, IsBad}
 use Rattle.cm_stream.specs.Release.{Conditions}
 use Rattle.cm_stream.specs.Results.{first_results_fault, results_of}
 use Rattle.cm_stream.specs.Stream.{At, FirstFault, IsFirstFault, NoFault, answer_for, answer_of_audit}
-use Rattle.cm_stream.specs.declared.verdict.Audited.{Audited}
+use Rattle.cm_stream.specs.declared.laws.Audited.{Audited}
 use Rattle.cm_audit.specs.Audit.{IsAuditOf, ShowNoFault}
 use Rattle.ck_command_line.specs.CommandLine.{Command, CallsForHelp, ask_audit, ask_cases, ask_compile, ask_gate, ask_parse, ask_results}
 use Rattle.ck_command_line.specs.declared.command_line.Refusal.{Refusal}
@@ -26,7 +26,7 @@ use Rattle.ck_commands.specs.Output.{DeliversOne, NoneFailed, Prints, Report, co
 use Rattle.ck_commands.specs.Results.{ResultsShowNoFault, result_text, results_report}
 use Rattle.ck_commands.specs.Verdicts.{PrintsBad, PrintsGood, finding_text, verdict_report}
 use Rattle.ck_commands.specs.declared.text_input.FeatureFault.{FeatureFault}
-use Rattle.ck_commands.specs.declared.report.ExitStatus.TheVariants as exit
+use Rattle.ck_commands.specs.declared.commands.ExitStatus.TheVariants as exit
 
 -- ---- the report
 

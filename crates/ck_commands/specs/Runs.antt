@@ -4,15 +4,15 @@ use Rattle.std.specs.Char.{encode_utf8}
 use Rattle.std.specs.Str.{chars}
 use Rattle.cm_envelope.specs.Device.{Input, Output}
 use Rattle.cm_envelope.specs.declared.feed.Trouble.TheVariants.{Memory, ReadFailed}
-use Rattle.cm_attempt.specs.declared.settings.Settings.{Settings}
+use Rattle.cm_attempt.specs.declared.status.Settings.{Settings}
 use Rattle.cm_stream.specs.Release.{Conditions}
 use Rattle.cm_cases.specs.Shown.{shown_text}
 use Rattle.files.specs.Openings.{Opening}
 use Rattle.ck_command_line.specs.CommandLine.{RunsGate, ask_gate, is_input}
 use Rattle.ck_commands.specs.Output.{Delivers, Report, trouble_report}
 use Rattle.ck_commands.specs.Run.{Reported}
-use Rattle.ck_commands.specs.declared.report.ExitStatus.{ExitStatus}
-use Rattle.ck_commands.specs.declared.report.ExitStatus.TheVariants.{Done}
+use Rattle.ck_commands.specs.declared.commands.ExitStatus.{ExitStatus}
+use Rattle.ck_commands.specs.declared.commands.ExitStatus.TheVariants.{Done}
 
 -- ---- what is read
 

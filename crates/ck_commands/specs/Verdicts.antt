@@ -3,18 +3,18 @@ use Rattle.std.specs.Prelude.{ℕ, List, [], ◌∷◌, ◌++◌, Ok, codes, dec
 use Rattle.cm_envelope.specs.Device.{Output, Writes}
 use Rattle.cm_envelope.specs.Lines.{line_feed}
 use Rattle.cm_envelope.specs.Reading.{LineFault, not_json, shape, field}
-use Rattle.cm_attempt.specs.declared.settings.Settings.{Settings}
+use Rattle.cm_attempt.specs.declared.status.Settings.{Settings}
 use Rattle.cm_stream.specs.Findings as bad
 use Rattle.cm_stream.specs.Findings.{Fault, Finding, IsBad, IsUnsupported, stream_fault_named}
 use Rattle.cm_stream.specs.Stream.{Answer, GoodWith, Found, Failed, IsGoodStream, NoneIsGood}
-use Rattle.cm_stream.specs.declared.verdict.StreamFault.{StreamFault}
-use Rattle.cm_stream.specs.declared.verdict.Verdict.TheVariants as verdict
-use Rattle.cm_stream.specs.declared.verdict.Counts.{Counts}
-use Rattle.cm_stream.specs.declared.verdict.Reason.{Reason}
-use Rattle.cm_stream.specs.declared.verdict.Reason.TheVariants as reason
+use Rattle.cm_stream.specs.declared.laws.StreamFault.{StreamFault}
+use Rattle.cm_stream.specs.declared.laws.Verdict.TheVariants as verdict
+use Rattle.cm_stream.specs.declared.laws.Counts.{Counts}
+use Rattle.cm_stream.specs.declared.laws.Reason.{Reason}
+use Rattle.cm_stream.specs.declared.laws.Reason.TheVariants as reason
 use Rattle.ck_commands.specs.Output.{Report, trouble_report}
-use Rattle.ck_commands.specs.declared.report.ExitStatus.{ExitStatus}
-use Rattle.ck_commands.specs.declared.report.ExitStatus.TheVariants as exit
+use Rattle.ck_commands.specs.declared.commands.ExitStatus.{ExitStatus}
+use Rattle.ck_commands.specs.declared.commands.ExitStatus.TheVariants as exit
 
 -- the number and the name of what is wrong with a line, and for a bad member its kind of envelope and its name
 abbrev pub line_label : LineFault → List ℕ

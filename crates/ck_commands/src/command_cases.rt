@@ -11,7 +11,7 @@ ghost use Rattle.ck_command_line.specs.CommandLine.{ask_cases};
 ghost use Rattle.ck_commands.specs.Cases.{IsCasesText, ReportsCases, case_object, case_text};
 ghost use Rattle.ck_commands.specs.Run.{Runs};
 
-use crate::report::{ExitStatus, Report, verdict_report, word_of, write_report};
+use crate::commands::{ExitStatus, Report, reported_status, verdict_report, write_report};
 use ck_command_line::CaseForm;
 use cm_attempt::{CaseResult, Settings, Track};
 use cm_audit_cases::{AuditedCases, audit_cases};
@@ -33,7 +33,7 @@ fn case_lines_of(
 {
     let mut text = String::new(alloc);
     for case in results {
-        text.push_str(word_of(case.status))?;
+        text.push_str(reported_status(case.status))?;
         places.add_case(&mut text, case.id)?;
     }
     places.add_unrun(&mut text)?;
@@ -52,7 +52,7 @@ fn case_json_of(
 {
     let mut text = String::new(alloc);
     for case in results {
-        lines.add_case(alloc, &mut text, case.id, word_of(case.status))?;
+        lines.add_case(alloc, &mut text, case.id, reported_status(case.status))?;
     }
     lines.add_unrun(alloc, &mut text)?;
     Ok(text)

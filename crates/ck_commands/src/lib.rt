@@ -17,22 +17,14 @@
 //! `run_over` is the same over a reader and a writer of std, as the program calls it. `ExitStatus` has the codes that they give. `read_text` reads a source as a text.
 #![tactic(auto)]
 
-mod attempts;
-mod command_audit;
 mod command_cases;
-mod command_compile;
-mod command_features;
 mod command_gate;
-mod command_parse;
-mod command_results;
 mod commands;
 mod laws;
-mod report;
 mod text_input;
 
-pub use commands::{Ended, run, run_over, run_with};
+pub use commands::{Ended, ExitStatus, run, run_over, run_with};
 pub use laws::{
     gate_releases_exactly, runs_come_in_any_order, shown_bytes_are_heard, strict_features_passed,
 };
-pub use report::ExitStatus;
 pub use text_input::{TextFault, read_text};

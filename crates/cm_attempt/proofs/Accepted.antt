@@ -5,7 +5,7 @@ use Rattle.std.specs.List.{list_any, list_all, AllByRecursion}
 use Rattle.std.specs.Str.{bytes_eq}
 use Rattle.std.proofs.lemmas.List.Sums.{length-filter}
 use Rattle.cm_attempt.specs.Table.{Utf8, AttemptRow, Table, table_from, with_finished_attempt_at, has_text, has_repeat, find_attempt, is_closed_to_new, status_of_last, reported_status}
-use Rattle.cm_attempt.specs.declared.rows.Last.{Last}
+use Rattle.cm_attempt.specs.declared.track.Last.{Last}
 use Rattle.cm_attempt.specs.declared.fault.TrackFault.{TrackFault}
 use Rattle.cm_attempt.specs.Calls.{Call, AddCase, Start, StartStep, FinishStep, Finish, call_fault, after_call, unless_refused, table_after_calls, table_after, StartedAttempt, starts, starts_of, steps_of_attempt, moves, all_moves, ends_of, is_ended, is_retried, last_of, final_status, result_of}
 use Rattle.cm_attempt.specs.CallLaws.{IsFront, CasesKnown, AreNumbered, NoneOverlaps, StepsInOrder, FinishedAreWhole, IdsDistinct, ComeInOrder, HasCases, ReportsResults, CountsOpen}

@@ -8,9 +8,9 @@ use Rattle.std.proofs.lemmas.Bool.Decides.{nat_tests}
 use Rattle.std.proofs.lemmas.List.{append_cancel_left}
 use Rattle.std.proofs.lemmas.List.Folds.{list_any-append}
 use Rattle.cm_attempt.specs.Table.{Utf8, AttemptRow, Table, table_from, has_text, has_repeat, find_attempt, steps_of, add_case_fault, start_fault, step_start_fault, step_finish_fault, step_fault_at, finish_fault, finish_fault_at, end_fault_of, may_start, may_finish, is_closed_to_new}
-use Rattle.cm_attempt.specs.declared.rows.Cursor.{Cursor}
+use Rattle.cm_attempt.specs.declared.track.Cursor.{Cursor}
 use Rattle.cm_attempt.specs.declared.status.Status.{Status}
-use Rattle.cm_attempt.specs.declared.rows.Last.{Last}
+use Rattle.cm_attempt.specs.declared.track.Last.{Last}
 use Rattle.cm_attempt.specs.Calls.{Call, AddCase, Start, StartStep, FinishStep, Finish, call_fault, after_call, table_after_calls, table_after, DeclaredCase, StartedAttempt, as_case, as_start, cases, starts, declared_case, start_of, starts_of, steps_of_attempt, Move, Started, StepStarted, StepFinished, Ended, move_of, moves, step_moves, all_moves, ends_of, is_retried}
 use Rattle.cm_attempt.specs.CallLaws.{IsFront, ComeInOrder}
 use Rattle.cm_attempt.proofs.Growing.{bytes_same, by_id, or_false, at_end, found_cut}

@@ -3,7 +3,7 @@ use Rattle.std.proofs.Common.{◌≡◌, ℕ, refl, List, Option, Some, None, tr
 use Rattle.std.specs.Prelude.{is_some, if◌then◌else◌}
 use Rattle.std.proofs.lemmas.Bool.{eqb-true}
 use Rattle.cm_attempt.specs.Table.{Utf8, CaseRow, AttemptRow, Table, has_text, has_repeat, find_case, find_attempt, steps_of, add_case_fault, start_fault, start_fault_at, is_closed_to_new, step_fault_at, step_fault_of, end_fault_of, finish_fault, finish_fault_at}
-use Rattle.cm_attempt.specs.declared.rows.Cursor.{Cursor}
+use Rattle.cm_attempt.specs.declared.track.Cursor.{Cursor}
 use Rattle.cm_attempt.specs.declared.fault.TrackFault.{TrackFault}
 use Rattle.cm_attempt.specs.declared.fault.TrackFault.TheVariants as fault
 use Rattle.cm_attempt.proofs.Growing.{or_false}

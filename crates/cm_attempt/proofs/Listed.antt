@@ -4,7 +4,7 @@ use Rattle.kept_texts.specs.Kept.{bytes_of}
 use Rattle.kept_texts.specs.declared.kept_text.KeptText.{KeptText}
 use Rattle.cm_attempt.specs.Rows.{case_rows}
 use Rattle.cm_attempt.specs.Table.{Utf8}
-use Rattle.cm_attempt.specs.declared.rows.Case.{Case}
+use Rattle.cm_attempt.specs.declared.track.Case.{Case}
 
 -- something of the id of each case, over the ids that a loop yields
 pub over_ids : {B : Type 0} (f : Utf8 → B) (entries : List (KeptText × Case)) (yielded : List (Bor (KeptText))) → map (λ k. k.now) yielded ≡ map (λ e. e.0) entries

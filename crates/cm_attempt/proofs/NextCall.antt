@@ -12,9 +12,9 @@ use Rattle.cm_attempt.specs.Table.{may_start, may_finish, end_fault_of, change_f
 use Rattle.cm_attempt.specs.Worst.{worst_so_far, worst_of, with_status}
 use Rattle.cm_attempt.specs.declared.status.Status.{Status}
 use Rattle.cm_attempt.specs.declared.status.Status.TheVariants.{Passed}
-use Rattle.cm_attempt.specs.declared.rows.Cursor.{Cursor}
-use Rattle.cm_attempt.specs.declared.rows.Last.{Last}
-use Rattle.cm_attempt.specs.declared.rows.Last.TheVariants as last
+use Rattle.cm_attempt.specs.declared.track.Cursor.{Cursor}
+use Rattle.cm_attempt.specs.declared.track.Last.{Last}
+use Rattle.cm_attempt.specs.declared.track.Last.TheVariants as last
 use Rattle.cm_attempt.specs.Calls.{Call, AddCase, Start, StartStep, FinishStep, Finish, DeclaredCase, StartedAttempt, as_case, as_start, cases, starts, start_of, starts_of, Move, Started, StepStarted, StepFinished, Ended, move_of, moves, retry_in, ends_of, status_in, statuses}
 use Rattle.cm_attempt.proofs.Growing.{bytes_same, bytes_are, by_id, found_more, found_push, all_push, still_found, found_new, found_past, find_all, find_passes, find_kept, found_changed, found_elsewhere, same_ids}
 use Rattle.cm_attempt.proofs.IdLaws.{distinct_after_change, distinct_after_push}

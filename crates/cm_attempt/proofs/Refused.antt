@@ -6,8 +6,8 @@ use Rattle.std.specs.Option.{option_map_or}
 use Rattle.std.specs.Str.{bytes_eq}
 use Rattle.std.proofs.lemmas.Bool.Decides.{nat_tests}
 use Rattle.cm_attempt.specs.Table.{Utf8, Table, has_text, has_repeat, find_case, find_attempt, steps_of, start_fault_at, step_fault_at, step_fault_of, finish_fault_at, end_fault_of, may_start, may_finish, is_closed_to_new}
-use Rattle.cm_attempt.specs.declared.rows.Cursor.{Cursor}
-use Rattle.cm_attempt.specs.declared.rows.Last.{Last}
+use Rattle.cm_attempt.specs.declared.track.Cursor.{Cursor}
+use Rattle.cm_attempt.specs.declared.track.Last.{Last}
 use Rattle.cm_attempt.specs.declared.fault.TrackFault.TheVariants as fault
 use Rattle.cm_attempt.specs.Calls.{Call, AddCase, Start, StartStep, FinishStep, Finish, call_fault, StartedAttempt, declared_case, start_of, starts_of, steps_of_attempt, Move, StepStarted, StepFinished, Ended, moves, all_moves, ends_of, is_ended, is_retried}
 use Rattle.cm_attempt.specs.CallFaults.{same_move, is_next_move, step_fault, fault_of, RefusedForFault}

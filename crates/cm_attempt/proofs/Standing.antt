@@ -8,7 +8,7 @@ use Rattle.std.proofs.lemmas.Bool.Decides.{nat_tests}
 use Rattle.std.proofs.lemmas.Grind.{flat_map-append}
 use Rattle.std.proofs.lemmas.List.Folds.{list_any-append}
 use Rattle.cm_attempt.specs.Table.{Utf8, running_cursor, cursor_after_step, may_start, may_finish, end_fault_of}
-use Rattle.cm_attempt.specs.declared.rows.Cursor.{Cursor}
+use Rattle.cm_attempt.specs.declared.track.Cursor.{Cursor}
 use Rattle.cm_attempt.specs.declared.fault.TrackFault.TheVariants as fault
 use Rattle.cm_attempt.specs.Calls.{Move, Started, StepStarted, StepFinished, Ended, step_moves, all_moves, is_end}
 use Rattle.cm_attempt.specs.CallLaws.{IsFront}

@@ -5,7 +5,7 @@ use Rattle.std.specs.Prelude.{slice_get}
 use Rattle.std.specs.Option.{option_map_or}
 use Rattle.std.specs.Str.{bytes_eq}
 use Rattle.cm_attempt.specs.Table.{Utf8, has_text, is_next, may_finish, may_start, step_fault_of}
-use Rattle.cm_attempt.specs.declared.rows.Cursor.{Cursor}
+use Rattle.cm_attempt.specs.declared.track.Cursor.{Cursor}
 
 and_second : (a b : Bool) → (a && b) ≡ true → b ≡ true
 and_second true b h = h

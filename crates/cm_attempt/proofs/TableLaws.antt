@@ -2,7 +2,7 @@
 use Rattle.std.proofs.Common.{◌≡◌, ap, refl, ℕ, ◌+◌, Bool, true, false, cond, List, [], ◌∷◌, Option, None, Some, arith, Result, Err, MatchOption, IsOk, is_ok}
 use Rattle.std.specs.Prelude.{count_by, find, fold, is_some, option_map, unwrap_or}
 use Rattle.cm_attempt.specs.Table.{AttemptRow, Table, change_first, ended_attempt, finish_fault_at}
-use Rattle.cm_attempt.specs.declared.rows.Cursor.{Cursor}
+use Rattle.cm_attempt.specs.declared.track.Cursor.{Cursor}
 use Rattle.cm_attempt.specs.declared.fault.TrackFault.{TrackFault}
 use Rattle.cm_attempt.specs.declared.fault.TrackFault.TheVariants as fault
 

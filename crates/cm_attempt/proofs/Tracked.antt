@@ -8,9 +8,9 @@ use Rattle.std.proofs.lemmas.List.Folds.{find-append}
 use Rattle.cm_attempt.specs.Table.{Utf8, CaseRow, AttemptRow, Table, has_repeat, find_case, find_attempt, change_first}
 use Rattle.cm_attempt.specs.Worst.{worst_so_far, worst_of}
 use Rattle.cm_attempt.specs.declared.status.Status.{Status}
-use Rattle.cm_attempt.specs.declared.rows.Cursor.{Cursor}
-use Rattle.cm_attempt.specs.declared.rows.Last.{Last}
-use Rattle.cm_attempt.specs.declared.rows.Last.TheVariants as last
+use Rattle.cm_attempt.specs.declared.track.Cursor.{Cursor}
+use Rattle.cm_attempt.specs.declared.track.Last.{Last}
+use Rattle.cm_attempt.specs.declared.track.Last.TheVariants as last
 use Rattle.cm_attempt.specs.Calls.{Call, DeclaredCase, StartedAttempt, as_case, as_start, cases, starts, declared_case, start_of, starts_of, Move, move_of, moves, retry_in, ends_of, status_in, statuses}
 use Rattle.cm_attempt.proofs.Growing.{by_id, found_more, all_weaker, still_found, found_changed, found_elsewhere}
 use Rattle.cm_attempt.proofs.Standing.{Stands}

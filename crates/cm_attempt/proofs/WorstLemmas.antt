@@ -7,8 +7,8 @@ use Rattle.std.proofs.lemmas.Bool.{and_parts}
 use Rattle.std.proofs.lemmas.List.Elements.{All-cons, All-nil}
 use Rattle.cm_attempt.specs.Worst.{rank, with_status, worst_of}
 use Rattle.cm_attempt.specs.Table.{is_good_status}
-use Rattle.cm_attempt.specs.declared.policy.Policy.{Policy}
-use Rattle.cm_attempt.specs.declared.policy.Policy.TheVariants.{Strict, PendingPasses}
+use Rattle.cm_attempt.specs.declared.status.Policy.{Policy}
+use Rattle.cm_attempt.specs.declared.status.Policy.TheVariants.{Strict, PendingPasses}
 use Rattle.cm_attempt.specs.declared.status.Status.{Status}
 use Rattle.cm_attempt.specs.declared.status.Status.TheVariants.{Unknown, Passed, Skipped, Pending, Undefined, Ambiguous, Failed}
 

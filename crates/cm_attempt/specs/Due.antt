@@ -2,7 +2,7 @@
 use Rattle.std.specs.Prelude.{Bool, List, Option, option_map, slice_get}
 use Rattle.std.specs.Option.{option_and_then}
 use Rattle.cm_attempt.specs.Table.{AttemptRow, Table, Utf8, find_attempt, steps_of}
-use Rattle.cm_attempt.specs.declared.rows.Cursor.{Cursor}
+use Rattle.cm_attempt.specs.declared.track.Cursor.{Cursor}
 use Rattle.cm_attempt.specs.declared.track.DueStep as made
 
 -- A step, and whether it is running.

@@ -6,8 +6,8 @@ use Rattle.kept_texts.specs.Kept.{bytes_of}
 use Rattle.kept_texts.specs.declared.kept_text.KeptText.{KeptText}
 use Rattle.cm_refs.specs.StepIds.{ids_in}
 use Rattle.cm_attempt.specs.Table.{CaseRow, AttemptRow, Table, Utf8}
-use Rattle.cm_attempt.specs.declared.rows.Case.{Case}
-use Rattle.cm_attempt.specs.declared.rows.Attempt.{Attempt}
+use Rattle.cm_attempt.specs.declared.track.Case.{Case}
+use Rattle.cm_attempt.specs.declared.track.Attempt.{Attempt}
 
 abbrev pub case_row : Utf8 → Case → CaseRow
 case_row id c = record {

@@ -9,11 +9,11 @@ pub use Rattle.cm_refs.specs.Declarations.{Utf8, change_first, has_repeat, has_t
 use Rattle.cm_attempt.specs.Worst.{with_status}
 use Rattle.cm_attempt.specs.declared.status.Status.{Status}
 use Rattle.cm_attempt.specs.declared.status.Status.TheVariants.{Passed, Skipped, Pending}
-use Rattle.cm_attempt.specs.declared.policy.Policy.{Policy}
-use Rattle.cm_attempt.specs.declared.policy.Policy.TheVariants.{Strict, PendingPasses}
-use Rattle.cm_attempt.specs.declared.rows.Cursor.{Cursor}
-use Rattle.cm_attempt.specs.declared.rows.Last.{Last}
-use Rattle.cm_attempt.specs.declared.rows.Last.TheVariants as last
+use Rattle.cm_attempt.specs.declared.status.Policy.{Policy}
+use Rattle.cm_attempt.specs.declared.status.Policy.TheVariants.{Strict, PendingPasses}
+use Rattle.cm_attempt.specs.declared.track.Cursor.{Cursor}
+use Rattle.cm_attempt.specs.declared.track.Last.{Last}
+use Rattle.cm_attempt.specs.declared.track.Last.TheVariants as last
 use Rattle.cm_attempt.specs.declared.fault.TrackFault.{TrackFault}
 use Rattle.cm_attempt.specs.declared.fault.TrackFault.TheVariants as fault
 

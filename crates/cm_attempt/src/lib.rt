@@ -25,13 +25,8 @@
 //! what holds of each run whose calls were accepted.
 #![tactic(auto)]
 
-mod changes;
-mod checks;
 mod fault;
 mod laws;
-mod policy;
-mod rows;
-mod settings;
 mod status;
 mod track;
 
@@ -41,7 +36,5 @@ pub use laws::{
     calls_are_refused_for_faults, final_attempts_are_reported, finished_attempts_are_whole,
     open_attempts_are_counted, steps_come_in_order,
 };
-pub use policy::Policy;
-pub use settings::Settings;
-pub use status::{Status, worst, worst_with};
+pub use status::{Policy, Settings, Status, worst, worst_with};
 pub use track::{CaseResult, DueStep, Track};

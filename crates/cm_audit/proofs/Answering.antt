@@ -7,10 +7,10 @@ use Rattle.cm_envelope.specs.declared.fault.EnvelopeFault.TheVariants as shape
 use Rattle.cm_envelope.specs.declared.envelope.Envelope.{Envelope}
 use Rattle.cm_envelope.specs.declared.feed.Trouble.{Trouble}
 use Rattle.cm_envelope.specs.declared.feed.Trouble.TheVariants.{ReadFailed, LineTooLong, StreamTooLong, Memory}
-use Rattle.cm_attempt.specs.declared.settings.Settings.{Settings}
+use Rattle.cm_attempt.specs.declared.status.Settings.{Settings}
 use Rattle.cm_stream.specs.Findings.{IsBad, stream_fault_named, NoEnvelope}
 use Rattle.cm_stream.specs.Stream.{Answer, Found, feed_of, verdict_in}
-use Rattle.cm_stream.specs.declared.verdict.Audited.{Audited}
+use Rattle.cm_stream.specs.declared.laws.Audited.{Audited}
 use Rattle.cm_state.specs.ByOnePass.{answer_of_line, answer_of_lines}
 use Rattle.cm_state.specs.StateChecks.{line_judged_by}
 use Rattle.cm_state.specs.Summary.{Summary, empty_summary}

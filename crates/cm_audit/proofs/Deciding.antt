@@ -1,13 +1,13 @@
 -- What is answered of a good stream, and of one that isn't judged.
 use Rattle.std.proofs.Common.{◌≡◌, sym, ap, ◌∙◌, subst, ℕ, List, Result, Ok, Err, Bool}
 use Rattle.cm_envelope.specs.declared.feed.Trouble.{Trouble}
-use Rattle.cm_attempt.specs.declared.settings.Settings.{Settings}
+use Rattle.cm_attempt.specs.declared.status.Settings.{Settings}
 use Rattle.cm_stream.specs.Findings.{IsUnsupported}
 use Rattle.cm_stream.specs.Stream.{FirstFault, At, Troubled, NoFault, IsFirstFault, Found, answer_for, answer_in, verdict_in}
-use Rattle.cm_stream.specs.declared.verdict.Audited.{Audited}
-use Rattle.cm_stream.specs.declared.verdict.Reason.{Reason}
-use Rattle.cm_stream.specs.declared.verdict.Verdict.{Verdict}
-use Rattle.cm_stream.specs.declared.verdict.Verdict.TheVariants as verdict
+use Rattle.cm_stream.specs.declared.laws.Audited.{Audited}
+use Rattle.cm_stream.specs.declared.laws.Reason.{Reason}
+use Rattle.cm_stream.specs.declared.laws.Verdict.{Verdict}
+use Rattle.cm_stream.specs.declared.laws.Verdict.TheVariants as verdict
 use Rattle.cm_stream.proofs.ByGrammar.{reported}
 use Rattle.cm_stream.proofs.Reasons.{reasons_are_shown}
 use Rattle.cm_stream.proofs.Streams.{run_is_told}

@@ -14,7 +14,7 @@ use Rattle.cm_stream.specs.Sources.{plain}
 use Rattle.cm_stream.specs.Checks.{is_too_long, is_other_language}
 use Rattle.cm_stream.specs.Findings as bad
 use Rattle.cm_stream.specs.Findings.{Finding, IsBad, IsUnsupported}
-use Rattle.cm_stream.specs.declared.verdict.Reason.TheVariants as reason
+use Rattle.cm_stream.specs.declared.laws.Reason.TheVariants as reason
 use Rattle.cm_envelope.specs.declared.envelope.Envelope.{Envelope}
 use Rattle.cm_envelope.specs.declared.envelope.Envelope.TheVariants as envelope
 use Rattle.cm_envelope.specs.declared.envelope.Source.{Source}
@@ -28,8 +28,8 @@ use Rattle.cm_state.specs.ByOnePass.{new_source, plain_finding}
 use Rattle.cm_audit.specs.Kept.{ReadsAs, accepted_row, kept_row}
 use Rattle.cm_audit.specs.State.{Checks, Judges, Refuses, summary_of}
 use Rattle.cm_audit.specs.Stops.{StopsFor, refused_reference}
-use Rattle.cm_audit.specs.declared.source.AcceptedSource.{AcceptedSource}
-use Rattle.cm_audit.specs.declared.source.KeptSource.{KeptSource}
+use Rattle.cm_audit.specs.declared.state.AcceptedSource.{AcceptedSource}
+use Rattle.cm_audit.specs.declared.state.KeptSource.{KeptSource}
 use Rattle.cm_audit.specs.declared.state.State.{State}
 use Rattle.cm_audit.specs.declared.stop.Stop.{Stop}
 use Rattle.cm_audit.specs.declared.stop.Stop.TheVariants as stop

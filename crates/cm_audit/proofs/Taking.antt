@@ -8,7 +8,7 @@ use Rattle.cm_envelope.specs.declared.feed.Trouble.{Trouble}
 use Rattle.cm_envelope.specs.declared.feed.Trouble.TheVariants.{ReadFailed, LineTooLong, StreamTooLong, Memory}
 use Rattle.cm_envelope.proofs.Sources.{HasReadSo, read_so_far, reads_no_more, reads_then}
 use Rattle.cm_stream.specs.Stream.{feed_of}
-use Rattle.cm_stream.specs.declared.verdict.Audited.{Audited}
+use Rattle.cm_stream.specs.declared.laws.Audited.{Audited}
 use Rattle.cm_audit.specs.Audit.{ReadsNoFurther, audited_at, contents}
 use Rattle.cm_audit.specs.Taking.{TakesEach, TakesStream, TakesUntil, Taking}
 use Rattle.cm_audit.specs.declared.stop.Stop.{Stop}

@@ -5,12 +5,12 @@ use Rattle.cm_envelope.specs.Lines.{Line}
 use Rattle.cm_envelope.proofs.Sources.{whole_of}
 use Rattle.cm_envelope.specs.declared.feed.Trouble.{Trouble}
 use Rattle.cm_envelope.specs.declared.feed.Trouble.TheVariants.{ReadFailed, LineTooLong, StreamTooLong, Memory}
-use Rattle.cm_attempt.specs.declared.settings.Settings.{Settings}
+use Rattle.cm_attempt.specs.declared.status.Settings.{Settings}
 use Rattle.cm_stream.specs.Stream.{IsGoodRun, FirstFault, At, Troubled, NoFault, Failed, answer_for, feed_of, verdict_in, GoodRunsOnly, NoneIsGood}
 use Rattle.cm_stream.specs.ByOnePass.{first_fault}
-use Rattle.cm_stream.specs.declared.verdict.Audited.{Audited}
-use Rattle.cm_stream.specs.declared.verdict.Verdict.{Verdict}
-use Rattle.cm_stream.specs.declared.verdict.Verdict.TheVariants as verdict
+use Rattle.cm_stream.specs.declared.laws.Audited.{Audited}
+use Rattle.cm_stream.specs.declared.laws.Verdict.{Verdict}
+use Rattle.cm_stream.specs.declared.laws.Verdict.TheVariants as verdict
 use Rattle.cm_stream.proofs.ByGrammar.{is_first, is_first_of}
 use Rattle.cm_stream.proofs.Streams.{answers_are_right}
 use Rattle.cm_state.proofs.Judged.{judged_is_told}

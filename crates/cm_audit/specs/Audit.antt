@@ -8,14 +8,14 @@ use Rattle.cm_envelope.specs.Feeds.{ShowNothing, is_failed_read, bytes_with_end}
 use Rattle.cm_envelope.specs.declared.envelope.Envelope.{Envelope}
 use Rattle.cm_envelope.specs.declared.feed.Trouble.{Trouble}
 use Rattle.cm_envelope.specs.declared.feed.Trouble.TheVariants.{ReadFailed, Memory}
-use Rattle.cm_attempt.specs.declared.settings.Settings.{Settings}
+use Rattle.cm_attempt.specs.declared.status.Settings.{Settings}
 use Rattle.cm_stream.specs.Findings.{IsBad, NoEnvelope}
 use Rattle.cm_stream.specs.Stream.{FirstFault, IsFirstFault, IsFirstFaultOf, IsGoodRun, GoodWith, Answer, GoodRunsOnly, NoneIsGood, Troubled, envelope_unless_blank, feed_of, answer_of_audit, answer_for, verdict_in}
 use Rattle.cm_stream.specs.Unsupported.{ShowsReason}
-use Rattle.cm_stream.specs.declared.verdict.Counts.{Counts}
-use Rattle.cm_stream.specs.declared.verdict.Audited.{Audited}
-use Rattle.cm_stream.specs.declared.verdict.Verdict.{Verdict}
-use Rattle.cm_stream.specs.declared.verdict.Verdict.TheVariants as verdict
+use Rattle.cm_stream.specs.declared.laws.Counts.{Counts}
+use Rattle.cm_stream.specs.declared.laws.Audited.{Audited}
+use Rattle.cm_stream.specs.declared.laws.Verdict.{Verdict}
+use Rattle.cm_stream.specs.declared.laws.Verdict.TheVariants as verdict
 use Rattle.cm_state.specs.StateChecks.{line_judged_by}
 use Rattle.cm_audit.specs.State.{Takes, Refuses, summary_of}
 use Rattle.cm_audit.specs.declared.state.State.{State}

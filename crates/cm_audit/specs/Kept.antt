@@ -5,12 +5,12 @@ use Rattle.kept_texts.specs.Kept.{bytes_of}
 use Rattle.kept_texts.specs.declared.kept_text.KeptText.{KeptText}
 use Rattle.cm_stream.specs.Texts.{Utf8}
 use Rattle.cm_stream.specs.Readings.{Reading, Accepted, Refused, OtherLanguage, TooLong}
-use Rattle.cm_stream.specs.declared.verdict.Reason.TheVariants as reason
+use Rattle.cm_stream.specs.declared.laws.Reason.TheVariants as reason
 use Rattle.cm_state.specs.Summary.{SourceRow, new_row}
 use Rattle.cm_audit.specs.Due.{left_of}
-use Rattle.cm_audit.specs.declared.source.AcceptedSource.{AcceptedSource}
-use Rattle.cm_audit.specs.declared.source.KeptSource.{KeptSource}
-use Rattle.cm_audit.specs.declared.source.KeptSource.TheVariants as kept
+use Rattle.cm_audit.specs.declared.state.AcceptedSource.{AcceptedSource}
+use Rattle.cm_audit.specs.declared.state.KeptSource.{KeptSource}
+use Rattle.cm_audit.specs.declared.state.KeptSource.TheVariants as kept
 use Rattle.cm_audit.specs.declared.stop.Stop.{Stop}
 use Rattle.cm_audit.specs.declared.stop.Stop.TheVariants as stop
 

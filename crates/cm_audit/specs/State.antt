@@ -4,8 +4,8 @@ use Rattle.kept_texts.specs.Kept.{bytes_of}
 use Rattle.cm_envelope.specs.declared.envelope.Envelope.{Envelope}
 use Rattle.cm_refs.specs.Declarations.{Declarations}
 use Rattle.cm_state.specs.Summary.{SourceRow, Summary}
-use Rattle.cm_attempt.specs.declared.policy.Policy.{Policy}
-use Rattle.cm_attempt.specs.declared.settings.Settings.{Settings}
+use Rattle.cm_attempt.specs.declared.status.Policy.{Policy}
+use Rattle.cm_attempt.specs.declared.status.Settings.{Settings}
 use Rattle.cm_state.specs.ByOnePass.{summary_after_line, finding, finding_inside, plain_finding}
 use Rattle.cm_audit.specs.Kept.{kept_rows}
 use Rattle.cm_stream.specs.Findings.{Finding, IsBad, IsUnsupported, stream_fault_named}

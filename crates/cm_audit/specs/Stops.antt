@@ -6,7 +6,7 @@ use Rattle.cm_attempt.specs.declared.fault.TrackFault.{TrackFault}
 use Rattle.cm_attempt.specs.declared.fault.TrackFault.TheVariants as track
 use Rattle.cm_envelope.specs.declared.fault.EnvelopeFault.{EnvelopeFault}
 use Rattle.cm_envelope.specs.declared.fault.EnvelopeFault.TheVariants as line
-use Rattle.cm_stream.specs.declared.verdict.StreamFault.TheVariants as bad
+use Rattle.cm_stream.specs.declared.laws.StreamFault.TheVariants as bad
 use Rattle.cm_stream.specs.Findings.{Finding, IsBad, IsUnsupported, stream_fault_named}
 use Rattle.cm_audit.specs.declared.stop.Stop.{Stop}
 use Rattle.cm_audit.specs.declared.stop.Stop.TheVariants as stop

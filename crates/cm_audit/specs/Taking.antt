@@ -5,7 +5,7 @@ use Rattle.cm_envelope.specs.Lines.{Line, max_line_bytes, max_stream_bytes}
 use Rattle.cm_envelope.specs.declared.feed.Trouble.{Trouble}
 use Rattle.cm_envelope.specs.declared.feed.Trouble.TheVariants.{ReadFailed, Memory}
 use Rattle.cm_stream.specs.Stream.{feed_of}
-use Rattle.cm_stream.specs.declared.verdict.Audited.{Audited}
+use Rattle.cm_stream.specs.declared.laws.Audited.{Audited}
 use Rattle.cm_audit.specs.Audit.{Begins, ReadsNoFurther, all_written, audited_at, contents}
 use Rattle.cm_audit.specs.declared.stop.Stop.{Stop}
 

@@ -6,7 +6,7 @@ use Rattle.cm_envelope.specs.declared.envelope.Envelope.{Envelope}
 use Rattle.cm_envelope.specs.declared.feed.Trouble.{Trouble}
 use Rattle.cm_attempt.specs.Results.{case_results}
 use Rattle.cm_attempt.specs.Table.{Table}
-use Rattle.cm_attempt.specs.declared.settings.Settings.{Settings}
+use Rattle.cm_attempt.specs.declared.status.Settings.{Settings}
 use Rattle.cm_stream.specs.Checks.{fault_by}
 use Rattle.cm_stream.specs.FaultlessLines.{IsFaultlessBy}
 use Rattle.cm_stream.specs.Readings.{Reading, ReadsByTheGrammar}
@@ -17,11 +17,11 @@ use Rattle.cm_stream.specs.Record.{table_of_envelopes}
 use Rattle.cm_stream.specs.Results.{results_of}
 use Rattle.cm_stream.specs.Redeclared.{judged_after, judged_as}
 use Rattle.cm_stream.specs.Stream.{IsReadAs, feed_of, envelope_unless_blank}
-use Rattle.cm_stream.specs.declared.verdict.Audited.{Audited}
-use Rattle.cm_stream.specs.declared.verdict.StreamFault.{StreamFault}
-use Rattle.cm_stream.specs.declared.verdict.StreamFault.TheVariants as bad
-use Rattle.cm_stream.specs.declared.verdict.Verdict.{Verdict}
-use Rattle.cm_stream.specs.declared.verdict.Verdict.TheVariants as verdict
+use Rattle.cm_stream.specs.declared.laws.Audited.{Audited}
+use Rattle.cm_stream.specs.declared.laws.StreamFault.{StreamFault}
+use Rattle.cm_stream.specs.declared.laws.StreamFault.TheVariants as bad
+use Rattle.cm_stream.specs.declared.laws.Verdict.{Verdict}
+use Rattle.cm_stream.specs.declared.laws.Verdict.TheVariants as verdict
 use Rattle.cm_state.specs.Summary.{Summary, summary_of_lines_by}
 use Rattle.cm_audit.specs.Audit.{IsAuditOf}
 use Rattle.cm_audit.specs.State.{summary_of}

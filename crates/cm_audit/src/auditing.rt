@@ -1,28 +1,28 @@
-//! The audit of a stream of Cucumber Messages.
-ghost use Rattle.std.specs.Prelude.{◌≡◌, ◌+◌, ◌++◌, ◌∷◌, [], List, Some, Ok, Err, IfSome};
+//! The audit of a stream: the loop over its lines, and who watches it.
+ghost use Rattle.std.specs.Prelude.{◌≡◌, ◌+◌, ◌++◌, ◌∷◌, [], List, Some, Ok, Err, IfSome, ◌≤◌, OnOk, IfOk, true, ⊤};
 ghost use Rattle.cm_envelope.specs.Device.{CountsFailure, OfInput, OfReads};
 ghost use Rattle.cm_envelope.specs.declared.envelope.Envelope.{Envelope as SomeEnvelope};
 ghost use Rattle.cm_envelope.specs.declared.feed.Trouble.TheVariants.{ReadFailed};
 ghost use Rattle.cm_attempt.specs.Settings.{settings_of};
 ghost use Rattle.cm_stream.specs.Stream.{NoneIsGood, verdict_in};
-ghost use Rattle.cm_audit.specs.Audit.{AnswersTold, Audits, DecidesGood, GoodAtEnd, GoodHeard, IsVerdictOf, ReadsUpTo};
-ghost use Rattle.cm_audit.specs.Audit.{ShowNoFault, ShowsUnsupported, TakesLine, judged_line};
+ghost use Rattle.cm_audit.specs.Audit.{AnswersTold, Audits, DecidesGood, GoodAtEnd, GoodHeard, IsVerdictOf, ReadsUpTo, ShowNoFault};
+ghost use Rattle.cm_audit.specs.Audit.{ShowsUnsupported, TakesLine, judged_line, audited_at, unsuccessful};
 ghost use Rattle.cm_envelope.specs.Feeds.{is_failed_read};
 ghost use Rattle.cm_envelope.specs.Reading.{envelope_of_line};
 ghost use Rattle.cm_audit.specs.Judging.{JudgesLine, JudgesWith, ReadsAgain, UnlessNoMemory};
 ghost use Rattle.cm_audit.specs.Watched.{IsWatchedAuditOf, audit_in, envelope_in, with_watch};
 ghost use Rattle.cm_audit.specs.State.{Takes, summary_of};
 ghost use Rattle.cm_state.specs.Summary.{empty_summary};
+ghost use Rattle.cm_envelope.specs.Lines.{max_stream_bytes};
+ghost use Rattle.cm_audit.specs.Taking.{Taking, TakesStream, is_failed_taking};
 
 use crate::judge::{judge, judged_as};
-use crate::lines::{TakeLines, take_lines};
 use crate::state::State;
-use crate::stop::{Stop, unsuccessful};
-use crate::watch::{Unwatched, Watch};
+use crate::stop::Stop;
 use cm_attempt::{Policy, Settings};
-use cm_envelope::{ByteSource, Envelope, Trouble, is_blank_line, read_envelope};
+use cm_envelope::{ByteSource, Envelope, Feed, Trouble, is_blank_line, read_envelope};
 use cm_stream::{Audited, StreamFault, Verdict};
-use std::alloc::Global;
+use std::alloc::{AllocError, Global};
 use std::hash::RandomState;
 use std::mem::replace;
 
@@ -120,7 +120,7 @@ impl<W: Watch> TakeLines for Judging<W> {
 }
 
 /// Judges a stream line by line, from its start.
-fn judge_lines<R: ByteSource, W: Watch>(
+fn audit_lines<R: ByteSource, W: Watch>(
     alloc: Global,
     judging: &mut Judging<W>,
     source: &mut R,
@@ -211,7 +211,7 @@ pub fn audit_watched<R: ByteSource, W: Watch + Drop>(
         last: None,
         settings,
     };
-    let audited = judge_lines(alloc, &mut judging, source);
+    let audited = audit_lines(alloc, &mut judging, source);
     with_watch(audited, judging.watch, judging.last, judging.state)
 }
 
@@ -320,4 +320,107 @@ pub fn audit<R: ByteSource>(
         (R.input source.new) }
 {
     audit_with(alloc, seed, source, Policy::Strict)
+}
+
+/// What takes the lines of a stream, one after another, until one of them stops it.
+pub trait TakeLines {
+    /// What it makes of a line: from what it was, by this line, with this result, to what it is.
+    ghost takes: { Taking Self };
+
+    /// Takes one line more, without its line feed.
+    ///
+    /// # Errors
+    /// Why the reading ends at this line.
+    fn take_line(&mut self, alloc: Global, line: &[u8]) -> Result<(), Stop>
+        ensures { takes self.old line.now result self.new };
+}
+
+/// Lets `taker` take the lines of a stream, from its start, and gives how many there were.
+///
+/// # Errors
+/// The answer at the first line that stops it, or why no further line could be read. No read is repeated, and no more than
+/// 65,536 bytes after that line are read.
+pub fn take_lines<T: TakeLines, R: ByteSource>(
+    alloc: Global,
+    taker: &mut T,
+    source: &mut R,
+) -> Result<u64, Result<Audited, Trouble>>
+    // Of the bytes heard in this call, whatever comes after them: which of their lines were taken, and how that ended.
+    ensures taken { OfReads (R.input source.old) (R.input source.new)
+        (TakesStream T.takes taker.old taker.new result) }
+    ensures few { IfOk result (λ lines. lines ≤ max_stream_bytes) }
+    ensures at_end { OnOk result ((R.input source.new).is_over ≡ true) }
+    ensures failures { CountsFailure (is_failed_taking result) (R.input source.old).failed_calls
+        (R.input source.new).failed_calls }
+{
+    let mut feed = Feed::new(alloc);
+    let mut number: u64 = 0;
+    'lines: loop {
+        match feed.next_line(source) {
+            Ok(Some(line)) => {
+                number += 1;
+                match taker.take_line(alloc, line) {
+                    Ok(()) => {}
+                    Err(stop) => return Err(audited_at(stop, number)),
+                }
+            }
+            Ok(None) => return Ok(number),
+            Err(trouble) => return Err(Err(trouble)),
+        }
+    }
+}
+
+/// What is told of each envelope of a stream, in order, before the envelope is judged. `audit_watched` says by `follows` what it is
+/// then, after all envelopes or after those up to the line that decides.
+pub trait Watch {
+    /// What it is after these envelopes.
+    ghost follows: { Self → List SomeEnvelope → Type 0 };
+
+    /// One envelope more.
+    ///
+    /// # Errors
+    /// Only where there is no memory for it.
+    fn note(&mut self, alloc: Global, envelope: &Envelope) -> Result<(), AllocError>
+        ensures { OnOk result ((es : List SomeEnvelope) → follows self.old es
+            → follows self.new (es ++ envelope.now ∷ [])) };
+
+    /// Whether it wants the envelope of the line that decides, which is then read once more.
+    fn wants_last(&self) -> bool;
+}
+
+/// Nothing is kept of the envelopes.
+#[derive(Drop)]
+pub(crate) struct Unwatched;
+
+impl Watch for Unwatched {
+    ghost follows = { λ _ _. ⊤ };
+
+    fn note(&mut self, _alloc: Global, _envelope: &Envelope) -> Result<(), AllocError> {
+        Ok(())
+    }
+
+    fn wants_last(&self) -> bool {
+        false
+    }
+}
+
+/// The verdict on a stream that isn't good: of its run no success is known.
+pub(crate) fn unsuccessful(verdict: Verdict) -> Audited
+    ensures { result ≡ unsuccessful verdict }
+{
+    Audited {
+        verdict,
+        success: false,
+    }
+}
+
+/// The answer where the reading ends at the line of this number, counted from 1.
+pub(crate) fn audited_at(stop: Stop, line: u64) -> Result<Audited, Trouble>
+    ensures { result ≡ audited_at line stop }
+{
+    match stop {
+        Stop::Bad(fault) => Ok(unsuccessful(Verdict::Bad { line, fault })),
+        Stop::Unsupported(reason) => Ok(unsuccessful(Verdict::Unsupported { line, reason })),
+        Stop::Memory => Err(Trouble::Memory),
+    }
 }

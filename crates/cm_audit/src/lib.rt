@@ -27,28 +27,15 @@
 
 mod auditing;
 mod due;
-mod ids;
 mod judge;
-mod judge_attempts;
-mod judge_cases;
-mod judge_definitions;
-mod judge_features;
-mod judge_run;
-mod known;
-mod lines;
-mod matching;
-mod source;
 mod state;
 mod stop;
-mod watch;
 
-pub use auditing::{WatchedAudit, audit, audit_run, audit_watched, audit_with};
+pub use auditing::{
+    TakeLines, Watch, WatchedAudit, audit, audit_run, audit_watched, audit_with, take_lines,
+};
 pub use cm_attempt::{Policy, Settings};
 pub use cm_stream::{Audited, Counts, Reason, StreamFault, Verdict};
 pub use due::DuePickles;
-pub use judge_attempts::track;
-pub use lines::{TakeLines, take_lines};
-pub use source::{AcceptedSource, KeptSource};
-pub use state::{Sources, State};
+pub use state::{AcceptedSource, KeptSource, Sources, State, track};
 pub use stop::Stop;
-pub use watch::Watch;

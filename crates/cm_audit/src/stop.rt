@@ -1,12 +1,11 @@
 //! Why an audit ends at a line.
 ghost use Rattle.std.specs.Prelude.{◌≡◌};
-ghost use Rattle.cm_audit.specs.Audit.{audited_at, unsuccessful};
 ghost use Rattle.cm_audit.specs.Stops.{refused_reference, refused_call, unread_line};
 
 use cm_attempt::TrackFault;
-use cm_envelope::{EnvelopeFault, Trouble};
+use cm_envelope::EnvelopeFault;
 use cm_refs::RefFault;
-use cm_stream::{Audited, Reason, StreamFault, Verdict};
+use cm_stream::{Reason, StreamFault};
 use std::alloc::{AllocError, AllocFailed};
 
 /// Why the reading of a stream ends at a line.
@@ -88,26 +87,5 @@ impl From<EnvelopeFault> for Stop {
             EnvelopeFault::Line(fault) => Stop::Bad(StreamFault::NoEnvelope(fault)),
             EnvelopeFault::Memory => Stop::Memory,
         }
-    }
-}
-
-/// The verdict on a stream that isn't good: of its run no success is known.
-pub(crate) fn unsuccessful(verdict: Verdict) -> Audited
-    ensures { result ≡ unsuccessful verdict }
-{
-    Audited {
-        verdict,
-        success: false,
-    }
-}
-
-/// The answer where the reading ends at the line of this number, counted from 1.
-pub(crate) fn audited_at(stop: Stop, line: u64) -> Result<Audited, Trouble>
-    ensures { result ≡ audited_at line stop }
-{
-    match stop {
-        Stop::Bad(fault) => Ok(unsuccessful(Verdict::Bad { line, fault })),
-        Stop::Unsupported(reason) => Ok(unsuccessful(Verdict::Unsupported { line, reason })),
-        Stop::Memory => Err(Trouble::Memory),
     }
 }

@@ -1,6 +1,6 @@
 -- The audit with what its cases say, from the audit that was watched.
 use Rattle.std.proofs.Common.{◌≡◌, ℕ, List, Result, Ok, Err}
-use Rattle.cm_attempt.specs.declared.settings.Settings.{Settings}
+use Rattle.cm_attempt.specs.declared.status.Settings.{Settings}
 use Rattle.cm_cases.specs.Listed.{listing_of}
 use Rattle.cm_envelope.specs.Device.{Input, OfReads}
 use Rattle.cm_envelope.specs.declared.envelope.Envelope.{Envelope}
@@ -10,7 +10,7 @@ use Rattle.cm_audit.specs.Audit.{GoodAtEnd}
 use Rattle.cm_audit.specs.Watched.{IsWatchedAuditOf, audit_in}
 use Rattle.cm_audit.specs.declared.auditing.WatchedAudit.{WatchedAudit}
 use Rattle.cm_audit_cases.specs.CasesAudit.{IsCasesAuditOf, audited_in, with_cases}
-use Rattle.cm_audit_cases.specs.declared.case_watch.CaseWatch.{CaseWatch}
+use Rattle.cm_audit_cases.specs.declared.audited_cases.CaseWatch.{CaseWatch}
 
 abbrev Lists : CaseWatch → List Envelope → Type 0
 Lists watch es = watch.listing ≡ listing_of es

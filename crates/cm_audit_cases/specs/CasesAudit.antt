@@ -1,14 +1,14 @@
 -- The audit of a stream, with what its cases say.
 use Rattle.std.specs.Prelude.{◌≡◌, ⊤, ℕ, List, Result, Ok, Err}
 use Rattle.cm_envelope.specs.declared.feed.Trouble.{Trouble}
-use Rattle.cm_attempt.specs.declared.settings.Settings.{Settings}
+use Rattle.cm_attempt.specs.declared.status.Settings.{Settings}
 use Rattle.cm_cases.specs.Listed.{listing_of}
-use Rattle.cm_stream.specs.declared.verdict.Audited.{Audited}
+use Rattle.cm_stream.specs.declared.laws.Audited.{Audited}
 use Rattle.cm_audit.specs.Audit.{IsAuditOf}
 use Rattle.cm_audit.specs.State.{summary_of}
 use Rattle.cm_audit.specs.Watched.{FollowsGood}
 use Rattle.cm_audit.specs.declared.auditing.WatchedAudit.{WatchedAudit}
-use Rattle.cm_audit_cases.specs.declared.case_watch.CaseWatch.{CaseWatch}
+use Rattle.cm_audit_cases.specs.declared.audited_cases.CaseWatch.{CaseWatch}
 use Rattle.cm_audit_cases.specs.declared.audited_cases.AuditedCases.{AuditedCases}
 
 abbrev pub audited_in : Result AuditedCases Trouble → Result Audited Trouble

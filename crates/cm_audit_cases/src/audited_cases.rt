@@ -4,14 +4,14 @@ ghost use Rattle.cm_envelope.specs.Device.{CountsFailure, OfReads};
 ghost use Rattle.cm_audit.specs.Audit.{GoodAtEnd};
 ghost use Rattle.cm_envelope.specs.Feeds.{is_failed_read};
 ghost use Rattle.cm_audit_cases.specs.CasesAudit.{IsCasesAuditOf, audited_in, with_cases};
+ghost use Rattle.cm_cases.specs.Listed.{listing_of};
 
-use crate::case_watch::CaseWatch;
 use cm_attempt::{Settings, Track};
-use cm_audit::{WatchedAudit, audit_watched};
+use cm_audit::{Watch, WatchedAudit, audit_watched};
 use cm_cases::Listing;
-use cm_envelope::{ByteSource, Trouble};
+use cm_envelope::{ByteSource, Envelope, Trouble};
 use cm_stream::Audited;
-use std::alloc::Global;
+use std::alloc::{AllocError, Global};
 use std::hash::RandomState;
 
 /// An audit; and of a good stream, what the lines of its cases name, and the record of their attempts.
@@ -68,4 +68,22 @@ pub fn audit_cases<R: ByteSource>(
         listing: Listing::new(alloc),
     };
     with_cases(audit_watched(alloc, seed, source, settings, watch))
+}
+
+/// The listing of the envelopes so far.
+#[derive(Drop)]
+pub(crate) struct CaseWatch {
+    pub(crate) listing: Listing,
+}
+
+impl Watch for CaseWatch {
+    ghost follows = { λ watch es. watch.listing ≡ listing_of es };
+
+    fn note(&mut self, alloc: Global, envelope: &Envelope) -> Result<(), AllocError> {
+        self.listing.note(alloc, envelope)
+    }
+
+    fn wants_last(&self) -> bool {
+        false
+    }
 }

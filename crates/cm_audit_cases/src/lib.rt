@@ -24,6 +24,5 @@
 #![tactic(auto)]
 
 mod audited_cases;
-mod case_watch;
 
 pub use audited_cases::{AuditedCases, audit_cases};

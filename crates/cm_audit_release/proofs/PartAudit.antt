@@ -1,17 +1,17 @@
 -- The audit with what is marked, from the audit that was watched.
 use Rattle.std.proofs.Common.{◌≡◌, ◌∙◌, refl, sym, ap, subst, ℕ, true, List, Option, Some, None, Result, Ok, Err}
 use Rattle.cm_attempt.specs.Table.{Table}
-use Rattle.cm_attempt.specs.declared.settings.Settings.{Settings}
+use Rattle.cm_attempt.specs.declared.status.Settings.{Settings}
 use Rattle.cm_envelope.specs.declared.envelope.Envelope.{Envelope}
 use Rattle.cm_envelope.specs.Device.{CountsFailure, Input, OfReads}
 use Rattle.cm_envelope.specs.Feeds.{is_failed_read}
 use Rattle.cm_envelope.specs.declared.feed.Trouble.{Trouble}
 use Rattle.cm_envelope.proofs.Sources.{reads_weaker}
 use Rattle.cm_stream.specs.Release.{Conditions}
-use Rattle.cm_stream.specs.declared.verdict.Audited.{Audited}
-use Rattle.cm_stream.specs.declared.verdict.Hold.{Hold}
-use Rattle.cm_stream.specs.declared.verdict.Verdict.{Verdict}
-use Rattle.cm_stream.specs.declared.verdict.Verdict.TheVariants as verdict
+use Rattle.cm_stream.specs.declared.laws.Audited.{Audited}
+use Rattle.cm_stream.specs.declared.laws.Hold.{Hold}
+use Rattle.cm_stream.specs.declared.laws.Verdict.{Verdict}
+use Rattle.cm_stream.specs.declared.laws.Verdict.TheVariants as verdict
 use Rattle.cm_audit.specs.Audit.{GoodAtEnd, GoodAtEndIn, IsAuditOf}
 use Rattle.cm_audit.specs.State.{summary_of}
 use Rattle.cm_audit.specs.Watched.{FollowsGood, IsWatchedAuditOf, audit_in}
@@ -21,11 +21,11 @@ use Rattle.cm_ran.specs.declared.marks.Marks.{Marks}
 use Rattle.cm_audit_release.specs.PartAudit.{IsMarkedBy, IsPartAuditOf, MarksJudged, is_released, is_unheld}
 use Rattle.cm_audit_release.specs.ReleaseAudit.{CountsWatched, IsReleaseAuditOf, audited_in, release_in}
 use Rattle.cm_release.specs.Tallied.{IsTallyOf}
-use Rattle.cm_release.specs.declared.tally.Tally.{Tally}
+use Rattle.cm_release.specs.declared.judgement.Tally.{Tally}
 use Rattle.cm_audit_release.specs.Watched.{Follows}
 use Rattle.cm_audit_release.specs.declared.audited_release.AuditedRelease.{AuditedRelease}
 use Rattle.cm_audit_release.specs.declared.audited_release.JudgedAudit.{JudgedAudit}
-use Rattle.cm_audit_release.specs.declared.release_watch.ReleaseWatch.{ReleaseWatch}
+use Rattle.cm_audit_release.specs.declared.audited_release.ReleaseWatch.{ReleaseWatch}
 use Rattle.cm_audit_release.proofs.ReleaseAudit.{memory_too, release_at_end, release_failures, told}
 
 module _ (settings : Settings) (asked : Conditions) (old new : Marks) where

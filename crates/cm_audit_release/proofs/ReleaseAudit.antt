@@ -1,6 +1,6 @@
 -- The audit with what is counted, from the audit that was watched.
 use Rattle.std.proofs.Common.{◌≡◌, ◌∙◌, refl, sym, ap, subst, string_bytes, ℕ, Bool, List, Option, Result, Ok, Err}
-use Rattle.cm_attempt.specs.declared.settings.Settings.{Settings}
+use Rattle.cm_attempt.specs.declared.status.Settings.{Settings}
 use Rattle.std.specs.Prelude.{IfOk}
 use Rattle.std.specs.declared.alloc.AllocError.{AllocError}
 use Rattle.cm_envelope.specs.Device.{CountsFailure, Input, OfReads}
@@ -11,11 +11,11 @@ use Rattle.cm_envelope.specs.declared.feed.Trouble.TheVariants.{LineTooLong, Mem
 use Rattle.cm_envelope.proofs.Sources.{reads_weaker}
 use Rattle.cm_stream.specs.Release.{Conditions}
 use Rattle.cm_stream.specs.Stream.{FirstFault, IsFirstFault, answer_for, answer_in}
-use Rattle.cm_stream.specs.declared.conditions.ReleaseCounts.{ReleaseCounts}
-use Rattle.cm_stream.specs.declared.verdict.Audited.{Audited}
-use Rattle.cm_stream.specs.declared.verdict.Hold.{Hold}
-use Rattle.cm_stream.specs.declared.verdict.Verdict.{Verdict}
-use Rattle.cm_stream.specs.declared.verdict.Verdict.TheVariants as verdict
+use Rattle.cm_stream.specs.declared.laws.ReleaseCounts.{ReleaseCounts}
+use Rattle.cm_stream.specs.declared.laws.Audited.{Audited}
+use Rattle.cm_stream.specs.declared.laws.Hold.{Hold}
+use Rattle.cm_stream.specs.declared.laws.Verdict.{Verdict}
+use Rattle.cm_stream.specs.declared.laws.Verdict.TheVariants as verdict
 use Rattle.cm_audit.specs.Audit.{GoodAtEnd, GoodAtEndIn, IsAuditOf}
 use Rattle.cm_audit.specs.State.{summary_of}
 use Rattle.cm_audit.specs.Watched.{DecidesVerdict, FollowsGood, IsWatchedAuditOf, audit_in}
@@ -23,14 +23,14 @@ use Rattle.cm_audit.specs.declared.auditing.WatchedAudit.{WatchedAudit}
 use Rattle.cm_audit.specs.declared.state.State.{State}
 use Rattle.cm_fault_reasons.proofs.AtLine.{told_with}
 use Rattle.cm_fault_reasons.specs.AtLine.{TellsWith}
-use Rattle.cm_release.specs.declared.tally.Tally.{Tally}
-use Rattle.cm_stream.specs.declared.verdict.Counts.{Counts}
+use Rattle.cm_release.specs.declared.judgement.Tally.{Tally}
+use Rattle.cm_stream.specs.declared.laws.Counts.{Counts}
 use Rattle.cm_release.specs.declared.judgement.Judgement.{Judgement}
 use Rattle.cm_audit_release.specs.ReleaseAudit.{CountsGood, CountsWatched, IsReleaseAuditOf, JudgesVerdict, audited_in, release_in, with_tally}
 use Rattle.cm_audit_release.specs.Watched.{Follows}
 use Rattle.cm_audit_release.specs.declared.audited_release.AuditedRelease.{AuditedRelease}
 use Rattle.cm_audit_release.specs.declared.audited_release.JudgedAudit.{JudgedAudit}
-use Rattle.cm_audit_release.specs.declared.release_watch.ReleaseWatch.{ReleaseWatch}
+use Rattle.cm_audit_release.specs.declared.audited_release.ReleaseWatch.{ReleaseWatch}
 
 -- want of memory after an audit
 pub memory_too : (settings : Settings) (answer : Result Audited Trouble) (xs ys : List ℕ) → IsAuditOf settings answer xs ys → IsAuditOf settings (Err Memory) xs ys

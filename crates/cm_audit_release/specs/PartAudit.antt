@@ -3,13 +3,13 @@ use Rattle.std.specs.Prelude.{◌≡◌, ⊤, ℕ, Bool, true, false, List, Opti
 use Rattle.cm_envelope.specs.declared.envelope.Envelope.{Envelope}
 use Rattle.cm_envelope.specs.declared.feed.Trouble.{Trouble}
 use Rattle.cm_envelope.specs.declared.feed.Trouble.TheVariants.{Memory}
-use Rattle.cm_attempt.specs.declared.settings.Settings.{Settings}
+use Rattle.cm_attempt.specs.declared.status.Settings.{Settings}
 use Rattle.cm_stream.specs.Good.{Good}
 use Rattle.cm_stream.specs.Release.{Conditions}
 use Rattle.cm_stream.specs.Stream.{IsReadAs}
-use Rattle.cm_stream.specs.declared.verdict.Hold.{Hold}
-use Rattle.cm_stream.specs.declared.verdict.Verdict.{Verdict}
-use Rattle.cm_stream.specs.declared.verdict.Verdict.TheVariants as verdict
+use Rattle.cm_stream.specs.declared.laws.Hold.{Hold}
+use Rattle.cm_stream.specs.declared.laws.Verdict.{Verdict}
+use Rattle.cm_stream.specs.declared.laws.Verdict.TheVariants as verdict
 use Rattle.cm_ran.specs.Marks.{HasSameFlags, Marked}
 use Rattle.cm_ran.specs.declared.marks.Marks.{Marks}
 use Rattle.cm_audit_release.specs.ReleaseAudit.{IsReleaseAuditOf}

@@ -6,17 +6,17 @@ use Rattle.cm_envelope.specs.declared.feed.Trouble.{Trouble}
 use Rattle.cm_envelope.specs.declared.feed.Trouble.TheVariants.{Memory}
 use Rattle.cm_attempt.specs.Results.{case_results}
 use Rattle.cm_attempt.specs.Table.{Table}
-use Rattle.cm_attempt.specs.declared.settings.Settings.{Settings}
+use Rattle.cm_attempt.specs.declared.status.Settings.{Settings}
 use Rattle.cm_stream.specs.Good.{Good}
 use Rattle.cm_stream.specs.Release.{Conditions}
 use Rattle.cm_stream.specs.Results.{results_of}
 use Rattle.cm_stream.specs.Stream.{IsReadAs}
-use Rattle.cm_stream.specs.declared.conditions.ReleaseCounts.{ReleaseCounts}
-use Rattle.cm_stream.specs.declared.verdict.Audited.{Audited}
-use Rattle.cm_stream.specs.declared.verdict.Counts.{Counts}
-use Rattle.cm_stream.specs.declared.verdict.Hold.{Hold}
-use Rattle.cm_stream.specs.declared.verdict.Verdict.{Verdict}
-use Rattle.cm_stream.specs.declared.verdict.Verdict.TheVariants as verdict
+use Rattle.cm_stream.specs.declared.laws.ReleaseCounts.{ReleaseCounts}
+use Rattle.cm_stream.specs.declared.laws.Audited.{Audited}
+use Rattle.cm_stream.specs.declared.laws.Counts.{Counts}
+use Rattle.cm_stream.specs.declared.laws.Hold.{Hold}
+use Rattle.cm_stream.specs.declared.laws.Verdict.{Verdict}
+use Rattle.cm_stream.specs.declared.laws.Verdict.TheVariants as verdict
 use Rattle.cm_audit.specs.Audit.{IsAuditOf}
 use Rattle.cm_audit.specs.State.{summary_of}
 use Rattle.cm_audit.specs.declared.auditing.WatchedAudit.{WatchedAudit}
@@ -25,10 +25,10 @@ use Rattle.cm_fault_reasons.specs.AtLine.{IsToldWith, TellsWith}
 use Rattle.cm_release.specs.Judged.{IsJudged}
 use Rattle.cm_release.specs.Tallied.{IsTallyOf}
 use Rattle.cm_release.specs.declared.judgement.Judgement.{Judgement}
-use Rattle.cm_release.specs.declared.tally.Tally.{Tally}
+use Rattle.cm_release.specs.declared.judgement.Tally.{Tally}
 use Rattle.cm_audit_release.specs.declared.audited_release.AuditedRelease.{AuditedRelease}
 use Rattle.cm_audit_release.specs.declared.audited_release.JudgedAudit.{JudgedAudit}
-use Rattle.cm_audit_release.specs.declared.release_watch.ReleaseWatch.{ReleaseWatch}
+use Rattle.cm_audit_release.specs.declared.audited_release.ReleaseWatch.{ReleaseWatch}
 
 abbrev pub audited_in : Result AuditedRelease Trouble → Result Audited Trouble
 audited_in (Ok a) = Ok a.audited

@@ -8,11 +8,12 @@ ghost use Rattle.cm_fault_reasons.specs.AtLine.{TellsWith};
 ghost use Rattle.cm_ran.specs.Marks.{marked_texts};
 ghost use Rattle.cm_stream.specs.Release.{conditions_of};
 ghost use Rattle.cm_audit_release.specs.PartAudit.{IsPartAuditOf, MarksJudged, is_released};
-ghost use Rattle.cm_audit_release.specs.ReleaseAudit.{CountsWatched, IsReleaseAuditOf, JudgesGood, JudgesVerdict, audited_in, release_in, with_tally};
+ghost use Rattle.cm_audit_release.specs.ReleaseAudit.{CountsWatched, IsReleaseAuditOf, JudgesGood, JudgesVerdict, audited_in, release_in};
+ghost use Rattle.cm_audit_release.specs.ReleaseAudit.{with_tally};
+ghost use Rattle.cm_audit_release.specs.Watched.{Follows};
 
-use crate::release_watch::ReleaseWatch;
 use cm_attempt::Settings;
-use cm_audit::{State, WatchedAudit, audit_watched};
+use cm_audit::{State, Watch, WatchedAudit, audit_watched};
 use cm_envelope::{ByteSource, Envelope, Trouble};
 use cm_fault_reasons::verdict_told;
 use cm_ran::Marks;
@@ -273,4 +274,22 @@ pub fn audit_part<R: ByteSource>(
     let watched = audit_watched(alloc, seed, source, settings, watch);
     let judged = with_judgement(alloc, seed, conditions, settings, watched);
     with_marks(alloc, seed, marks, judged)
+}
+
+/// What a release is judged by of the envelopes so far.
+#[derive(Drop)]
+pub(crate) struct ReleaseWatch {
+    pub(crate) tally: Tally,
+}
+
+impl Watch for ReleaseWatch {
+    ghost follows = { λ watch es. Follows watch es };
+
+    fn note(&mut self, alloc: Global, envelope: &Envelope) -> Result<(), AllocError> {
+        self.tally.note(alloc, envelope)
+    }
+
+    fn wants_last(&self) -> bool {
+        true
+    }
 }

@@ -28,6 +28,5 @@
 #![tactic(auto)]
 
 mod audited_release;
-mod release_watch;
 
 pub use audited_release::{AuditedRelease, audit_part, audit_release};

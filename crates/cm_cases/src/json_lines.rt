@@ -8,10 +8,7 @@ ghost use Rattle.cm_cases.specs.Firsts.{count_at, entry_values, times_in, values
 ghost use Rattle.cm_cases.specs.JsonLines.{case_data, case_json, json_line, unrun_json};
 ghost use Rattle.cm_cases.specs.Listed.{listing_of};
 
-use crate::firsts::{ByText, count_of, counts_of};
-use crate::listing::{Listing, PickleEntry};
-use crate::pairs::both;
-use crate::places::Places;
+use crate::places::{ByText, Listing, PickleEntry, Places, both, count_of, counts_of};
 use crate::shown::add_shown_json;
 use cm_messages::{SendJson, json_text, send_list_member, send_number, send_str, send_text};
 use gk_document::Text;
@@ -102,7 +99,7 @@ pub struct JsonLines<'a> {
 impl<'a> Model for JsonLines<'a> {
     ghost use Rattle.std.specs.Prelude.{◌≡◌, ℕ, List};
     ghost use Rattle.cm_cases.specs.Firsts.{count_at, times_in};
-    ghost use Rattle.cm_cases.specs.declared.listing.Listing.{Listing as SomeListing};
+    ghost use Rattle.cm_cases.specs.declared.places.Listing.{Listing as SomeListing};
 
     ghost Value = { SomeListing };
 

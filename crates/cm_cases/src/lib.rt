@@ -28,15 +28,13 @@
 //! texts, with a `Key` for each kind.
 #![tactic(auto)]
 
-mod firsts;
 mod json_lines;
-mod listing;
-mod pairs;
 mod places;
 mod shown;
 
-pub use firsts::{ByText, CaseId, CasePickle, Key, PickleId, Whole, add_first, firsts_of};
 pub use json_lines::JsonLines;
-pub use listing::{Listing, tag_names};
-pub use places::Places;
+pub use places::{
+    ByText, CaseId, CasePickle, Key, Listing, PickleId, Places, Whole, add_first, firsts_of,
+    tag_names,
+};
 pub use shown::{add_shown, add_shown_json};

@@ -9,7 +9,7 @@ use Rattle.cm_attempt.specs.Calls.{DeclaredCase, last_of, result_of}
 use Rattle.cm_attempt.specs.Results.{case_results, result_view}
 use Rattle.cm_attempt.specs.Table.{Table, is_good_status}
 use Rattle.cm_attempt.specs.Worst.{worst_of}
-use Rattle.cm_attempt.specs.declared.policy.Policy.{Policy}
+use Rattle.cm_attempt.specs.declared.status.Policy.{Policy}
 use Rattle.cm_attempt.specs.declared.status.Status.{Status}
 use Rattle.cm_attempt.specs.declared.status.Status.TheVariants.{Unknown, Passed, Skipped, Pending, Undefined, Ambiguous, Failed}
 use Rattle.cm_attempt.specs.declared.track.CaseResult.{CaseResult}

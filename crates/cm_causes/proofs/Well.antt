@@ -7,8 +7,8 @@ use Rattle.std.proofs.lemmas.Bool.{cases_Bool, not-false}
 use Rattle.std.proofs.lemmas.List.{map-append}
 use Rattle.std.proofs.lemmas.List.Elements.{filter-append}
 use Rattle.cm_attempt.specs.Table.{is_good_status}
-use Rattle.cm_attempt.specs.declared.policy.Policy.{Policy}
-use Rattle.cm_attempt.specs.declared.settings.Settings.{Settings}
+use Rattle.cm_attempt.specs.declared.status.Policy.{Policy}
+use Rattle.cm_attempt.specs.declared.status.Settings.{Settings}
 use Rattle.cm_attempt.specs.declared.status.Status.{Status}
 use Rattle.cm_attempt.proofs.Growing.{all_weaker}
 use Rattle.cm_envelope.specs.declared.envelope.Envelope.{Envelope}

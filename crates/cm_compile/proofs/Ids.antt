@@ -8,7 +8,7 @@ use Rattle.gk_document.specs.declared.tree.Document.{Document}
 use Rattle.gk_grammar.specs.Grammar.{feature_nodes}
 use Rattle.gk_grammar.specs.Documents.{IsDocumentOf}
 use Rattle.gk_grammar.proofs.LawLemmas.{no_more_nodes_than_bytes_holds}
-use Rattle.gk_pickle.specs.declared.pickle.Pickle.{Pickle}
+use Rattle.gk_pickle.specs.declared.pickles.Pickle.{Pickle}
 use Rattle.gk_pickle.specs.Pickles.{pickles}
 use Rattle.gk_pickle.specs.Order.{document_steps, ComesFrom}
 use Rattle.gk_pickle.proofs.Ordering.{steps_in_document_order}

@@ -4,7 +4,7 @@ use Rattle.std.specs.List.{sum_by, concat, flat_map}
 use Rattle.std.proofs.lemmas.List.{at_drop_all, drop_more}
 use Rattle.std.proofs.lemmas.List.Folds.{concat-append}
 use Rattle.std.proofs.lemmas.List.Sums.{sum_by-cons, sum_by-append}
-use Rattle.gk_pickle.specs.declared.pickle.Pickle.{Pickle}
+use Rattle.gk_pickle.specs.declared.pickles.Pickle.{Pickle}
 use Rattle.gk_pickle.specs.InFeature.{ScenarioInFeature}
 use Rattle.gk_pickle.specs.Scenarios.{pickles_of_one}
 use Rattle.cm_messages.specs.PickleLayout.{pickle_data}

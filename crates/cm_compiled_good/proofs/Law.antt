@@ -3,7 +3,7 @@ use Rattle.std.proofs.Common.{ℕ, ◌<◌, ◌≤◌, List, [], ◌∷◌, leng
 use Rattle.std.specs.List.{AllByRecursion}
 use Rattle.gk_document.specs.declared.tree.Document.{Document}
 use Rattle.gk_grammar.specs.Documents.{IsDocumentOf, IsTooLong}
-use Rattle.gk_pickle.specs.declared.pickle.Pickle.{Pickle}
+use Rattle.gk_pickle.specs.declared.pickles.Pickle.{Pickle}
 use Rattle.cm_messages.specs.PickleLayout.{pickle_data}
 use Rattle.gk_pickle.specs.Pickles.{pickles}
 use Rattle.cm_stream.specs.Readings.{Accepted}

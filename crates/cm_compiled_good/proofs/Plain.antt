@@ -6,14 +6,14 @@ use Rattle.std.proofs.lemmas.Bool.Decides.{nat_tests}
 use Rattle.json.proofs.Printed.Utf8.{IsUtf8-are_ascii, are_ascii}
 use Rattle.serde_json.specs.Data.{Data}
 use Rattle.serde_json.specs.View.{items_of}
-use Rattle.gk_pickle.specs.declared.pickle.StepType.{StepType}
-use Rattle.gk_pickle.specs.declared.pickle.StepType.TheVariants as kind
-use Rattle.gk_pickle.specs.declared.pickle.PickleTag.{PickleTag}
-use Rattle.gk_pickle.specs.declared.pickle.PickleDocString.{PickleDocString}
-use Rattle.gk_pickle.specs.declared.pickle.PickleArgument.{PickleArgument}
-use Rattle.gk_pickle.specs.declared.pickle.PickleArgument.TheVariants.{Table, Text}
-use Rattle.gk_pickle.specs.declared.pickle.PickleStep.{PickleStep}
-use Rattle.gk_pickle.specs.declared.pickle.Pickle.{Pickle}
+use Rattle.gk_pickle.specs.declared.pickles.StepType.{StepType}
+use Rattle.gk_pickle.specs.declared.pickles.StepType.TheVariants as kind
+use Rattle.gk_pickle.specs.declared.pickles.PickleTag.{PickleTag}
+use Rattle.gk_pickle.specs.declared.pickles.PickleDocString.{PickleDocString}
+use Rattle.gk_pickle.specs.declared.pickles.PickleArgument.{PickleArgument}
+use Rattle.gk_pickle.specs.declared.pickles.PickleArgument.TheVariants.{Table, Text}
+use Rattle.gk_pickle.specs.declared.pickles.PickleStep.{PickleStep}
+use Rattle.gk_pickle.specs.declared.pickles.Pickle.{Pickle}
 use Rattle.cm_messages.specs.Layout.{id_data}
 use Rattle.cm_messages.specs.SourceLayout.{source_data}
 use Rattle.cm_messages.specs.PickleLayout.{type_word, pickle_tag_data, pickle_cell_data, pickle_row_data, pickle_doc_string_data, pickle_step_data, pickle_steps_data, pickle_data}

@@ -15,7 +15,7 @@ use Rattle.cm_messages.specs.SourceLayout.{source_data}
 use Rattle.cm_messages.specs.DocumentLayout.{document_data}
 use Rattle.cm_messages.specs.PickleLayout.{pickle_data}
 use Rattle.gk_pickle.specs.Pickles.{pickles}
-use Rattle.cm_attempt.specs.declared.policy.Policy.TheVariants.{Strict}
+use Rattle.cm_attempt.specs.declared.status.Policy.TheVariants.{Strict}
 use Rattle.cm_stream.specs.OnePass.{reads}
 use Rattle.cm_stream.specs.Readings.{Accepted, IsReading}
 use Rattle.cm_stream.specs.Stream.{feed_of, IsGoodStream}

@@ -7,7 +7,7 @@ use Rattle.json.specs.Print.{escape_byte}
 use Rattle.serde_json.specs.Data.{Data, boolean, object, no_members, member}
 use Rattle.serde_json.specs.Written.{compact_text}
 use Rattle.gk_document.specs.declared.tree.Document.{Document}
-use Rattle.gk_pickle.specs.declared.pickle.Pickle.{Pickle}
+use Rattle.gk_pickle.specs.declared.pickles.Pickle.{Pickle}
 use Rattle.gk_pickle.specs.Pickles.{pickles}
 use Rattle.cm_messages.specs.SourceLayout.{source_data}
 use Rattle.cm_messages.specs.DocumentLayout.{document_data}

@@ -2,9 +2,9 @@
 use Rattle.std.proofs.Common.{◌≡◌, refl, ap, ◌∙◌, List, [], ◌∷◌, Option, Some, None, true, Bool, map}
 use Rattle.std.specs.Prelude.{option_map, slice_get, unwrap_or}
 use Rattle.std.specs.Str.{bytes_eq}
-use Rattle.gk_pickle.specs.declared.pickle.PickleArgument.TheVariants as due_argument
-use Rattle.gk_pickle.specs.declared.pickle.StepType.{StepType}
-use Rattle.gk_pickle.specs.declared.pickle.StepType.TheVariants as due_kind
+use Rattle.gk_pickle.specs.declared.pickles.PickleArgument.TheVariants as due_argument
+use Rattle.gk_pickle.specs.declared.pickles.StepType.{StepType}
+use Rattle.gk_pickle.specs.declared.pickles.StepType.TheVariants as due_kind
 use Rattle.cm_envelope.specs.declared.pickle.Pickle.{Pickle}
 use Rattle.cm_envelope.specs.declared.pickle.PickleArgument.{PickleArgument}
 use Rattle.cm_envelope.specs.declared.pickle.PickleArgument.TheVariants as argument

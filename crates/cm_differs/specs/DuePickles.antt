@@ -1,8 +1,8 @@
 -- A pickle that is due, as the stream would have it, and a pickle without what is free.
 use Rattle.std.specs.Prelude.{◌≡◌, ◌↔◌, true, List, [], ◌∷◌, Option, Some, None, map, option_map, slice_get, unwrap_or}
-use Rattle.gk_pickle.specs.declared.pickle.PickleArgument.TheVariants as due_argument
-use Rattle.gk_pickle.specs.declared.pickle.StepType.{StepType}
-use Rattle.gk_pickle.specs.declared.pickle.StepType.TheVariants as due_kind
+use Rattle.gk_pickle.specs.declared.pickles.PickleArgument.TheVariants as due_argument
+use Rattle.gk_pickle.specs.declared.pickles.StepType.{StepType}
+use Rattle.gk_pickle.specs.declared.pickles.StepType.TheVariants as due_kind
 use Rattle.cm_envelope.specs.declared.pickle.Pickle.{Pickle}
 use Rattle.cm_envelope.specs.declared.pickle.PickleArgument.{PickleArgument}
 use Rattle.cm_envelope.specs.declared.pickle.PickleArgument.TheVariants as argument

@@ -1,23 +1,43 @@
-//! What is due at a place of a stream, and what the stream has there.
-ghost use Rattle.std.specs.Prelude.{◌≡◌, ◌↔◌, IfOk, IfSome, IsNone, option_map, [], map};
+//! What is due at a place of a stream and what the stream has there, and both as JSON.
+ghost use Rattle.std.specs.Prelude.{◌≡◌, ◌↔◌, IfOk, IfSome, IsNone, option_map, [], map, OnOk, codes, false};
 ghost use Rattle.gk_document.specs.Skeleton.{skeleton};
 ghost use Rattle.cm_differs.specs.Differences.{IsTreeDifference, pickle_difference};
-ghost use Rattle.cm_differs.specs.DuePickles.{due_pickle, argument_of, due_row, due_pickle_step, due_pickle_steps, due_tag, kind_beside, step_kind};
-ghost use Rattle.cm_differs.specs.PickleData.{pickle_text};
+ghost use Rattle.cm_differs.specs.DuePickles.{due_pickle, argument_of, due_row, due_pickle_step, due_pickle_steps, due_tag, kind_beside};
+ghost use Rattle.cm_differs.specs.DuePickles.{step_kind, DueIsEqual};
+ghost use Rattle.cm_differs.specs.PickleData.{pickle_text, argument_data, bare_pickle_data, cell_data as pickle_cell_data};
+ghost use Rattle.cm_differs.specs.PickleData.{doc_string_data as pickle_doc_string_data, kind_data, pickle_members};
+ghost use Rattle.cm_differs.specs.PickleData.{row_data as pickle_row_data, step_data as pickle_step_data, table_data as pickle_table_data};
+ghost use Rattle.cm_differs.specs.PickleData.{tag_data as pickle_tag_data};
 ghost use Rattle.cm_stream.specs.Sources.{english, ids_at};
+ghost use Rattle.serde_json.specs.Events.{SendsValue};
+ghost use Rattle.gk_parts.specs.Parts.{part_view, part_view_alone};
+ghost use Rattle.cm_messages.specs.Layout.{list_data};
+ghost use Rattle.cm_messages.specs.Sending.{SendsMember};
+ghost use Rattle.cm_differs.specs.PartData.{background_data, cell_data, doc_string_data, examples_data, feature_data, location_data};
+ghost use Rattle.cm_differs.specs.PartData.{part_data, part_text, row_data, rule_data, scenario_data, step_data, table_data, tag_data};
+ghost use Rattle.cm_differs.specs.PartData.{tagged_data};
+ghost use Rattle.cm_differs.specs.Sending.{SendsArgument};
+ghost use Rattle.serde_json.specs.Data.{string};
+ghost use Rattle.serde_json.specs.Written.{compact_text, has_float};
 
-use crate::part_json::text_of_some;
-use crate::pickle_json::pickle_text;
 use cm_envelope::{
     NodeId, Pickle, PickleArgument, PickleCell, PickleDocString, PickleRow, PickleStep,
     PickleTable, PickleTag, StepKind, id_of,
 };
-use gk_document::{Document, Sequence, Text};
-use gk_parts::first_difference;
+use cm_messages::{
+    SendJson, json_text, one_if, send_list_member, send_member, send_number, send_only,
+    send_only_list, send_optional, send_text,
+};
+use gk_document::{
+    Argument, Background, Cell, DocString, Document, Examples, Feature, Location, Row, Rule,
+    Scenario, Sequence, Step, Tag, Text,
+};
+use gk_parts::{Part, first_difference};
 use gk_pickle::{
     Pickle as DuePickle, PickleArgument as DueArgument, PickleStep as DueStep, PickleTag as DueTag,
     StepType,
 };
+use serde::Serializer;
 use std::alloc::{AllocError, Global};
 
 /// What differs in a source's part of a stream, as compact JSON without the ids that are free.
@@ -290,7 +310,7 @@ fn due_texts(alloc: Global, uri: &str, name: &str) -> Result<(Text, Text, Text),
 }
 
 /// The pickle that is due in the stream, beside steps of the stream, where the nodes have these ids.
-pub(crate) fn due_pickle(
+fn due_pickle(
     alloc: Global,
     uri: &str,
     ids: &[NodeId],
@@ -312,4 +332,375 @@ pub(crate) fn due_pickle(
         tags,
         steps,
     })
+}
+
+/// A pickle of the stream is the one that is due exactly where both are equal without the ids that are free.
+pub fn due_is_equal()
+    ensures { DueIsEqual }
+{}
+
+impl SendJson<DifferenceLayout> for Location {
+    ghost json = { location_data };
+
+    fn send<S: Serializer>(&self, out: &mut S) -> Result<(), S::Error> {
+        out.begin_map(Some(1))?;
+        send_number("line", self.line, out)?;
+        out.end_map()
+    }
+}
+
+/// Sends the member `location`.
+fn send_location<S: Serializer>(location: &Location, out: &mut S) -> Result<(), S::Error>
+    ensures { OnOk result (SendsMember (codes "location") (location_data location.now)
+        (S.written out.old) (S.written out.new)) }
+{
+    send_member::<DifferenceLayout, _, _>("location", location, out)
+}
+
+impl SendJson<DifferenceLayout> for Tag {
+    ghost json = { tag_data };
+
+    fn send<S: Serializer>(&self, out: &mut S) -> Result<(), S::Error> {
+        out.begin_map(Some(2))?;
+        send_location(&self.location, out)?;
+        send_text("name", &self.name, out)?;
+        out.end_map()
+    }
+}
+
+/// Sends the member `tags`.
+fn send_tags<S: Serializer>(tags: &Sequence<Tag>, out: &mut S) -> Result<(), S::Error>
+    ensures { OnOk result (SendsMember (codes "tags") (list_data tag_data tags.now)
+        (S.written out.old) (S.written out.new)) }
+{
+    send_list_member::<DifferenceLayout, _, _>("tags", tags, out)
+}
+
+impl SendJson<DifferenceLayout> for Cell {
+    ghost json = { cell_data };
+
+    fn send<S: Serializer>(&self, out: &mut S) -> Result<(), S::Error> {
+        send_only::<DifferenceLayout, _, _>("value", &self.value, out)
+    }
+}
+
+impl SendJson<DifferenceLayout> for Row {
+    ghost json = { row_data };
+
+    fn send<S: Serializer>(&self, out: &mut S) -> Result<(), S::Error> {
+        out.begin_map(Some(2))?;
+        send_list_member("cells", &self.cells, out)?;
+        send_location(&self.location, out)?;
+        out.end_map()
+    }
+}
+
+/// A data table.
+impl SendJson<DifferenceLayout> for Sequence<Row> {
+    ghost json = { table_data };
+
+    fn send<S: Serializer>(&self, out: &mut S) -> Result<(), S::Error> {
+        send_only_list::<DifferenceLayout, _, _>("rows", self, out)
+    }
+}
+
+impl SendJson<DifferenceLayout> for DocString {
+    ghost json = { doc_string_data };
+
+    fn send<S: Serializer>(&self, out: &mut S) -> Result<(), S::Error> {
+        let count = one_if(&self.media);
+        out.begin_map(Some(2 + count))?;
+        send_text("content", &self.content, out)?;
+        send_location(&self.location, out)?;
+        send_optional::<DifferenceLayout, _, _>("mediaType", &self.media, out)?;
+        out.end_map()
+    }
+}
+
+/// Sends the data table or doc string of a step, where it has one.
+fn send_argument<S: Serializer>(argument: &Option<Argument>, out: &mut S) -> Result<(), S::Error>
+    ensures { OnOk result
+        (SendsArgument argument.now (S.written out.old) (S.written out.new)) }
+{
+    match argument {
+        Some(Argument::Table(rows)) => send_member("dataTable", rows, out),
+        Some(Argument::Text(text)) => {
+            send_member::<DifferenceLayout, _, _>("docString", text, out)
+        }
+        None => Ok(()),
+    }
+}
+
+impl SendJson<DifferenceLayout> for Step {
+    ghost json = { step_data };
+
+    fn send<S: Serializer>(&self, out: &mut S) -> Result<(), S::Error> {
+        let count = one_if(&self.argument);
+        out.begin_map(Some(3 + count))?;
+        send_argument(&self.argument, out)?;
+        send_text("keyword", &self.keyword, out)?;
+        send_location(&self.location, out)?;
+        send_text("text", &self.text, out)?;
+        out.end_map()
+    }
+}
+
+impl SendJson<DifferenceLayout> for Background {
+    ghost json = { background_data };
+
+    fn send<S: Serializer>(&self, out: &mut S) -> Result<(), S::Error> {
+        out.begin_map(Some(3))?;
+        send_text("keyword", &self.keyword, out)?;
+        send_location(&self.location, out)?;
+        send_text("name", &self.name, out)?;
+        out.end_map()
+    }
+}
+
+/// Sends a node that has tags.
+fn send_tagged<S: Serializer>(
+    keyword: &Text,
+    location: &Location,
+    name: &Text,
+    tags: &Sequence<Tag>,
+    out: &mut S,
+) -> Result<(), S::Error>
+    ensures { OnOk result
+        (SendsValue (tagged_data keyword.now location.now name.now tags.now)
+        (S.written out.old) (S.written out.new)) }
+{
+    out.begin_map(Some(4))?;
+    send_text("keyword", keyword, out)?;
+    send_location(location, out)?;
+    send_text("name", name, out)?;
+    send_tags(tags, out)?;
+    out.end_map()
+}
+
+impl SendJson<DifferenceLayout> for Rule {
+    ghost json = { rule_data };
+
+    fn send<S: Serializer>(&self, out: &mut S) -> Result<(), S::Error> {
+        send_tagged(&self.keyword, &self.location, &self.name, &self.tags, out)
+    }
+}
+
+impl SendJson<DifferenceLayout> for Scenario {
+    ghost json = { scenario_data };
+
+    fn send<S: Serializer>(&self, out: &mut S) -> Result<(), S::Error> {
+        send_tagged(&self.keyword, &self.location, &self.name, &self.tags, out)
+    }
+}
+
+impl SendJson<DifferenceLayout> for Examples {
+    ghost json = { examples_data };
+
+    fn send<S: Serializer>(&self, out: &mut S) -> Result<(), S::Error> {
+        send_tagged(&self.keyword, &self.location, &self.name, &self.tags, out)
+    }
+}
+
+impl SendJson<DifferenceLayout> for Feature {
+    ghost json = { feature_data };
+
+    fn send<S: Serializer>(&self, out: &mut S) -> Result<(), S::Error> {
+        out.begin_map(Some(5))?;
+        send_text("keyword", &self.keyword, out)?;
+        send_text("language", &self.language, out)?;
+        send_location(&self.location, out)?;
+        send_text("name", &self.name, out)?;
+        send_tags(&self.tags, out)?;
+        out.end_map()
+    }
+}
+
+impl SendJson<DifferenceLayout> for Part<'_> {
+    ghost json = { λ p. part_data (part_view p) };
+
+    fn send<S: Serializer>(&self, out: &mut S) -> Result<(), S::Error> {
+        match self {
+            Part::Feature(feature) => send_only::<DifferenceLayout, _, _>("feature", *feature, out),
+            Part::Rule(rule) => send_only::<DifferenceLayout, _, _>("rule", *rule, out),
+            Part::Background(background) => send_only::<DifferenceLayout, _, _>(
+                "background",
+                *background,
+                out,
+            ),
+            Part::Scenario(scenario) => send_only::<DifferenceLayout, _, _>(
+                "scenario", *scenario, out,
+            ),
+            Part::Step(step) => send_only::<DifferenceLayout, _, _>("step", *step, out),
+            Part::Examples(examples) => send_only::<DifferenceLayout, _, _>(
+                "examples", *examples, out,
+            ),
+            Part::Header(row) => send_only::<DifferenceLayout, _, _>("tableHeader", *row, out),
+            Part::Row(row) => send_only::<DifferenceLayout, _, _>("tableRow", *row, out),
+        }
+    }
+}
+
+/// A part without the parts within it, as compact JSON.
+fn part_text(alloc: Global, part: &Part<'_>) -> Result<Text, AllocError>
+    ensures { IfOk result (λ t. t ≡ part_text (part_view_alone part.now)) }
+{
+    let text = text_of(alloc, part)?;
+    Ok(text)
+}
+
+/// The same, where there is a part.
+fn text_of_some(alloc: Global, part: &Option<Part<'_>>) -> Result<Option<Text>, AllocError>
+    ensures { IfOk result (λ t. t ≡ option_map part_text (option_map part_view_alone part.now)) }
+{
+    match part {
+        Some(part) => Ok(Some(part_text(alloc, part)?)),
+        None => Ok(None),
+    }
+}
+
+/// The layout of a difference. Of a document it has what is compared, and of a pickle all but its ids.
+#[derive(Clone, Copy)]
+pub(crate) struct DifferenceLayout;
+
+impl SendJson<DifferenceLayout> for Text {
+    ghost json = { string };
+
+    fn send<S: Serializer>(&self, out: &mut S) -> Result<(), S::Error> {
+        out.str(self.as_str())
+    }
+}
+
+/// The value as compact JSON. Its bytes are checked, since no clause says that they are UTF-8.
+fn text_of<T: SendJson<DifferenceLayout>>(alloc: Global, value: &T) -> Result<Text, AllocError>
+    ensures { IfOk result (λ t. has_float (T.json value.now) ≡ false
+        → t ≡ compact_text (T.json value.now)) }
+{
+    let bytes = json_text(alloc, value)?;
+    match String::from_utf8(bytes) {
+        Ok(text) => Ok(Text::from(text)),
+        Err(_) => Err(AllocError),
+    }
+}
+
+impl SendJson<DifferenceLayout> for StepKind {
+    ghost json = { kind_data };
+
+    fn send<S: Serializer>(&self, out: &mut S) -> Result<(), S::Error> {
+        match self {
+            StepKind::Unknown => out.str("Unknown"),
+            StepKind::Context => out.str("Context"),
+            StepKind::Action => out.str("Action"),
+            StepKind::Outcome => out.str("Outcome"),
+        }
+    }
+}
+
+impl SendJson<DifferenceLayout> for PickleCell {
+    ghost json = { pickle_cell_data };
+
+    fn send<S: Serializer>(&self, out: &mut S) -> Result<(), S::Error> {
+        send_only::<DifferenceLayout, _, _>("value", &self.value, out)
+    }
+}
+
+impl SendJson<DifferenceLayout> for PickleRow {
+    ghost json = { pickle_row_data };
+
+    fn send<S: Serializer>(&self, out: &mut S) -> Result<(), S::Error> {
+        send_only_list("cells", &self.cells, out)
+    }
+}
+
+impl SendJson<DifferenceLayout> for PickleTable {
+    ghost json = { pickle_table_data };
+
+    fn send<S: Serializer>(&self, out: &mut S) -> Result<(), S::Error> {
+        send_only_list("rows", &self.rows, out)
+    }
+}
+
+impl SendJson<DifferenceLayout> for PickleDocString {
+    ghost json = { pickle_doc_string_data };
+
+    fn send<S: Serializer>(&self, out: &mut S) -> Result<(), S::Error> {
+        let count = one_if(&self.media_type);
+        out.begin_map(Some(1 + count))?;
+        send_text("content", &self.content, out)?;
+        send_optional::<DifferenceLayout, _, _>("mediaType", &self.media_type, out)?;
+        out.end_map()
+    }
+}
+
+impl SendJson<DifferenceLayout> for PickleArgument {
+    ghost json = { argument_data };
+
+    fn send<S: Serializer>(&self, out: &mut S) -> Result<(), S::Error> {
+        match self {
+            PickleArgument::Table(table) => send_only("dataTable", table, out),
+            PickleArgument::Text(text) => send_only("docString", text, out),
+        }
+    }
+}
+
+impl SendJson<DifferenceLayout> for PickleStep {
+    ghost json = { pickle_step_data };
+
+    fn send<S: Serializer>(&self, out: &mut S) -> Result<(), S::Error> {
+        let arguments = one_if(&self.argument);
+        let kinds = one_if(&self.kind);
+        out.begin_map(Some(2 + arguments + kinds))?;
+        send_optional("argument", &self.argument, out)?;
+        send_list_member::<DifferenceLayout, _, _>("astNodeIds", &self.ast_node_ids, out)?;
+        send_text("text", &self.text, out)?;
+        send_optional("type", &self.kind, out)?;
+        out.end_map()
+    }
+}
+
+impl SendJson<DifferenceLayout> for PickleTag {
+    ghost json = { pickle_tag_data };
+
+    fn send<S: Serializer>(&self, out: &mut S) -> Result<(), S::Error> {
+        out.begin_map(Some(2))?;
+        send_text("astNodeId", &self.ast_node_id, out)?;
+        send_text("name", &self.name, out)?;
+        out.end_map()
+    }
+}
+
+impl SendJson<DifferenceLayout> for Pickle {
+    ghost json = { pickle_members };
+
+    fn send<S: Serializer>(&self, out: &mut S) -> Result<(), S::Error> {
+        out.begin_map(Some(6))?;
+        send_list_member::<DifferenceLayout, _, _>("astNodeIds", &self.ast_node_ids, out)?;
+        send_text("language", &self.language, out)?;
+        send_text("name", &self.name, out)?;
+        send_list_member("steps", &self.steps, out)?;
+        send_list_member("tags", &self.tags, out)?;
+        send_text("uri", &self.uri, out)?;
+        out.end_map()
+    }
+}
+
+/// A pickle in an envelope.
+#[derive(Clone, Copy)]
+struct PickleMessage<'a> {
+    pickle: &'a Pickle,
+}
+
+impl SendJson<DifferenceLayout> for PickleMessage<'_> {
+    ghost json = { λ m. bare_pickle_data m.pickle.now };
+
+    fn send<S: Serializer>(&self, out: &mut S) -> Result<(), S::Error> {
+        send_only("pickle", self.pickle, out)
+    }
+}
+
+/// A pickle without its ids, in an envelope, as compact JSON.
+fn pickle_text(alloc: Global, pickle: &Pickle) -> Result<Text, AllocError>
+    ensures { IfOk result (λ t. t ≡ pickle_text pickle.now) }
+{
+    let text = text_of(alloc, &PickleMessage { pickle })?;
+    Ok(text)
 }

@@ -23,10 +23,5 @@
 #![tactic(auto)]
 
 mod difference;
-mod laws;
-mod layout;
-mod part_json;
-mod pickle_json;
 
-pub use difference::{Difference, pickle_difference, tree_difference};
-pub use laws::due_is_equal;
+pub use difference::{Difference, due_is_equal, pickle_difference, tree_difference};

@@ -1,7 +1,7 @@
 -- What the reads of a source left, as the source has it.
 use Rattle.std.specs.Prelude.{ℕ, List, Option}
 use Rattle.cm_envelope.specs.Device.{Input}
-use Rattle.cm_envelope.specs.declared.reads.Reads.{Reads}
+use Rattle.cm_envelope.specs.declared.device.Reads.{Reads}
 
 -- with the bytes that are still to come, where the source shows them
 abbrev pub input_with : (to_come : Option (List ℕ)) → Reads → Input

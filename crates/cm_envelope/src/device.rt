@@ -1,11 +1,11 @@
-//! Devices that remember their bytes and count their failed calls, over std's readers and writers.
-ghost use Rattle.std.specs.Prelude.{◌≡◌, ◌≤◌, ℕ, [], false, IfOk, is_err, length};
+//! Devices, what they remember of their bytes and of their failed calls, and writing to them.
+ghost use Rattle.std.specs.Prelude.{◌≡◌, ◌≤◌, ℕ, [], false, IfOk, is_err, length, List, Option, None, OnErr, OnOk};
 ghost use Rattle.std.specs.Io.KnownBytes.{Keeps, ReadConsumes, WriteAppends};
 ghost use Rattle.cm_envelope.specs.Reads.{input_with};
-ghost use Rattle.cm_envelope.specs.Device.{AddsRead, AddsWrite, CountsFailure, Input, Output, PassesOn, is_failed_write};
+ghost use Rattle.cm_envelope.specs.Device.{AddsRead, AddsWrite, CountsFailure, Input, Output, PassesOn, is_failed_write, Writes, count_up};
+ghost use Rattle.cm_envelope.specs.Writing.{WritesFront};
 
-use crate::reads::Reads;
-use crate::record::Taken;
+use crate::record::{Heard, Taken};
 use std::io::{Read, Write};
 use thiserror::Error;
 
@@ -156,4 +156,79 @@ impl<W: Write> ByteSink for Writer<W> {
             }
         }
     }
+}
+
+/// What the reads of a source left so far: each error is a failed call, and no read is repeated. The source itself says what is
+/// still to come, if anything does.
+#[derive(Drop)]
+pub struct Reads {
+    heard: Heard,
+    failed: u64,
+}
+
+impl Reads {
+    /// Nothing was heard yet, and no read has failed.
+    pub fn new() -> Reads
+        ensures heard { (input_with None result).heard ≡ [] }
+        ensures over { (input_with None result).is_over ≡ false }
+        ensures failures { (input_with None result).failed_calls ≡ 0 }
+    {
+        Reads {
+            heard: Heard::new(),
+            failed: 0,
+        }
+    }
+
+    /// Reads some bytes of the reader into the front of `piece`, and gives how many. 0 for a piece that isn't empty is the end.
+    ///
+    /// # Errors
+    /// The read failed. Then no byte was taken from the reader.
+    pub fn read<R: Read>(&mut self, reader: &mut R, piece: &mut [u8]) -> Result<usize, DeviceFailed>
+        ensures count { IfOk result (λ n. n ≤ length piece.new) }
+        ensures heard { (before after : Option (List ℕ))
+            → AddsRead (input_with before self.old) (input_with after self.new) result piece.new }
+        ensures shown { ReadConsumes (R.remaining reader.old) (R.remaining reader.new) result
+            piece.new }
+        ensures failures { CountsFailure (is_err result) (input_with None self.old).failed_calls
+            (input_with None self.new).failed_calls }
+    {
+        match reader.read(piece) {
+            Ok(n) => {
+                if n == 0 && !piece.is_empty() {
+                    self.heard.end();
+                } else {
+                    self.heard.note(&piece[..n]);
+                }
+                Ok(n)
+            }
+            Err(_) => {
+                self.heard.note(&piece[..0]);
+                self.failed = self.failed.saturating_add(1);
+                Err(DeviceFailed)
+            }
+        }
+    }
+}
+
+/// Writes all the bytes. No write is repeated, and one that takes nothing has failed.
+///
+/// # Errors
+/// A write failed. Then the sink has taken the bytes before it, and not all.
+pub fn write_all<W: ByteSink>(sink: &mut W, bytes: &[u8]) -> Result<(), DeviceFailed>
+    ensures taken { OnOk result (Writes (W.output sink.old) (W.output sink.new) bytes.now) }
+    ensures ok { OnOk result ((W.output sink.new).failed_calls ≡ (W.output sink.old).failed_calls) }
+    ensures front { OnErr result
+        (WritesFront (W.output sink.old) (W.output sink.new) bytes.now) }
+    ensures err { OnErr result
+        ((W.output sink.new).failed_calls ≡ count_up (W.output sink.old).failed_calls) }
+{
+    let mut rest = bytes;
+    'writes: while !rest.is_empty() {
+        let taken = sink.write_some(rest)?;
+        if taken == 0 {
+            return Err(DeviceFailed);
+        }
+        rest = &rest[taken..];
+    }
+    Ok(())
 }

@@ -1,11 +1,13 @@
 //! The lines of a stream, within limits.
-ghost use Rattle.std.specs.Prelude.{◌≡◌, ◌≤◌, ◌<◌, ◌-◌, ◌+◌, ◌++◌, ◌&&◌, ℕ, List, length, true, false, [], None, Some, Ok, IfNone, IfSome, is_none};
+ghost use Rattle.std.specs.Prelude.{◌≡◌, ◌≤◌, ◌<◌, ◌-◌, ◌+◌, ◌++◌, ◌&&◌, ℕ, List, length, true, false, [], None, Some, Ok, IfNone, IfSome};
+ghost use Rattle.std.specs.Prelude.{is_none};
 ghost use Rattle.std.specs.Borrow.{sem};
 ghost use Rattle.std.specs.Io.BufRead.{Rests};
 ghost use Rattle.cm_envelope.specs.Device.{CountsFailure, Hears, OfInput};
-ghost use Rattle.cm_envelope.specs.Feeds.{has_line_feed, new_feed, answer_of, last_answer, feed_left, is_failed_read, NeedsNoRead, AnswersFirst, OnLine, IsLineWithin, EndsWithSource, Leaves};
+ghost use Rattle.cm_envelope.specs.Feeds.{has_line_feed, new_feed, answer_of, last_answer, feed_left, is_failed_read, NeedsNoRead};
+ghost use Rattle.cm_envelope.specs.Feeds.{AnswersFirst, OnLine, IsLineWithin, EndsWithSource, Leaves};
 ghost use Rattle.cm_envelope.specs.Held.{items, FindsEnd, JudgesLength, Finds};
-ghost use Rattle.cm_envelope.specs.Lines.{max_line_bytes, max_piece_bytes, max_stream_bytes};
+ghost use Rattle.cm_envelope.specs.Lines.{max_line_bytes, max_piece_bytes, max_stream_bytes, is_blank};
 ghost use Rattle.cm_envelope.specs.contracts.feed.Feed.{the_row};
 
 use crate::device::{ByteSource, DeviceFailed};
@@ -205,14 +207,14 @@ fn find_line<S: ByteSource>(
         match find_line_feed(&bytes[searched..]) {
             Some(at) => {
                 let line = searched + at;
-                return match judge(line, true, line_limit, room) {
+                return match length_trouble(line, true, line_limit, room) {
                     Some(trouble) => Err(trouble),
                     None => Ok(Found::Whole(line)),
                 };
             }
             None => {}
         }
-        match judge(len, false, line_limit, room) {
+        match length_trouble(len, false, line_limit, room) {
             Some(trouble) => return Err(trouble),
             None => {}
         }
@@ -237,7 +239,7 @@ fn find_line_feed(bytes: &[u8]) -> Option<usize>
 }
 
 /// The trouble of a line of this length, with or without its LF, where `room` bytes of the stream are left.
-fn judge(len: usize, has_end: bool, line_limit: u64, room: u64) -> Option<Trouble>
+fn length_trouble(len: usize, has_end: bool, line_limit: u64, room: u64) -> Option<Trouble>
     ensures { JudgesLength line_limit room len has_end result }
 {
     let len = len as u64;
@@ -248,4 +250,12 @@ fn judge(len: usize, has_end: bool, line_limit: u64, room: u64) -> Option<Troubl
     } else {
         None
     }
+}
+
+/// Whether a line is blank: without any byte, or spaces, tabs and CRs alone. A blank line of a stream has no envelope.
+pub fn is_blank_line(line: &[u8]) -> bool
+    ensures { result ≡ is_blank line.now }
+{
+    line.iter()
+        .all(|&byte| byte == b' ' || byte == b'\t' || byte == b'\r')
 }

@@ -19,7 +19,6 @@
 //! `Taken` are what a device of your own remembers for the clauses, `Reads` what one over a reader does.
 #![tactic(auto)]
 
-mod blank;
 mod device;
 mod envelope;
 mod fault;
@@ -27,20 +26,16 @@ mod feed;
 mod kind;
 mod member;
 mod node_id;
-mod nodes;
-mod object;
 mod pickle;
 mod read_documents;
 mod read_envelopes;
-mod read_line;
 mod read_pickles;
-mod reads;
 mod record;
 mod window;
-mod write;
 
-pub use blank::is_blank_line;
-pub use device::{ByteSink, ByteSource, DeviceFailed, PIECE_LIMIT, Reader, Writer};
+pub use device::{
+    ByteSink, ByteSource, DeviceFailed, PIECE_LIMIT, Reader, Reads, Writer, write_all,
+};
 pub use envelope::{
     Attachment, Envelope, GherkinDocument, Hook, ParseError, Source, SourceReference, Status,
     StepDefinition, TestCase, TestCaseFinished, TestCaseStarted, TestRunFinished,
@@ -48,13 +43,11 @@ pub use envelope::{
     TestStepResult, TestStepStarted,
 };
 pub use fault::{EnvelopeFault, LineFault};
-pub use feed::{Feed, LINE_LIMIT, STREAM_LIMIT, Trouble};
+pub use feed::{Feed, LINE_LIMIT, STREAM_LIMIT, Trouble, is_blank_line};
 pub use node_id::{NodeId, id_of};
 pub use pickle::{
     Pickle, PickleArgument, PickleCell, PickleDocString, PickleRow, PickleStep, PickleTable,
     PickleTag, StepKind,
 };
-pub use read_line::read_envelope;
-pub use reads::Reads;
+pub use read_envelopes::read_envelope;
 pub use record::{Heard, Taken};
-pub use write::write_all;

@@ -1,12 +1,17 @@
-//! Members of a JSON object, by name. Null is absence.
-ghost use Rattle.std.specs.Prelude.{◌≡◌, map, None, is_some, option_map, option_and_then, Result};
+//! Members of a JSON object, by name, and lists of objects. Null is absence.
+ghost use Rattle.std.specs.Prelude.{◌≡◌, map, None, is_some, option_map, option_and_then, Result, List, ℕ};
 ghost use Rattle.serde_json.specs.Find.{as_str, as_bool};
 ghost use Rattle.serde_json.specs.View.{view, items_view};
-ghost use Rattle.cm_envelope.specs.Member.{GivesMember, present_member, member_of, required_in, optional_in, optional_or_in, as_whole_number, media_type_in, items_in, GivesMemberOf, values_in, each, good};
+ghost use Rattle.cm_envelope.specs.Member.{GivesMember, present_member, member_of, required_in, optional_in, optional_or_in};
+ghost use Rattle.cm_envelope.specs.Member.{as_whole_number, media_type_in, items_in, GivesMemberOf, values_in, each, good, nested_in};
+ghost use Rattle.cm_envelope.specs.Member.{optional_nested_in, list_in, object_in, has_one_of as has_one_member, all_items};
 ghost use Rattle.cm_envelope.specs.Members.{value_of, seen, noted, AreFound};
 ghost use Rattle.gk_document.specs.MediaType.{unless_empty};
+ghost use Rattle.serde_json.specs.Data.{Data};
+ghost use Rattle.cm_envelope.specs.Documents.{GivesNode, NodeRead, Ids, node_in, optional_node_in, each_node, nodes_in, node_number};
 
 use crate::fault::MemberFault;
+use crate::node_id::NodeId;
 use gk_document::{Sequence, Text};
 use serde_json::Value;
 use std::alloc::Global;
@@ -19,27 +24,27 @@ pub(crate) struct Member<'v> {
 }
 
 /// The member of this name, which isn't looked for yet.
-pub(crate) fn named<'v>(name: &'static str) -> Member<'v>
+fn member_named<'v>(name: &'static str) -> Member<'v>
     ensures { seen result ≡ (name.now, None) }
 {
     Member { name, value: None }
 }
 
 /// Looks for the members by one walk over those of the object.
-pub(crate) fn find<'v>(object: &'v Value, members: &mut [Member<'v>])
+fn find<'v>(object: &'v Value, members: &mut [Member<'v>])
     ensures { AreFound (view object.now) members.new 0 members.old }
 {
     if let Some(entries) = object.as_object() {
         for (name, value) in entries.iter() {
             if !value.is_null() {
-                note(members, name.as_str(), value);
+                note_member(members, name.as_str(), value);
             }
         }
     }
 }
 
 /// Keeps the value in the members of this name.
-fn note<'v>(members: &mut [Member<'v>], name: &str, value: &'v Value)
+fn note_member<'v>(members: &mut [Member<'v>], name: &str, value: &'v Value)
     ensures { map seen members.new
         ≡ map (noted name.now (view value.now)) (map seen members.old) }
 {
@@ -48,6 +53,66 @@ fn note<'v>(members: &mut [Member<'v>], name: &str, value: &'v Value)
             members[i].value = Some(value);
         }
     }
+}
+
+/// The members of these two names, by one walk over those of the object.
+pub(crate) fn two_members<'v>(
+    object: &'v Value,
+    first: &'static str,
+    second: &'static str,
+) -> (Member<'v>, Member<'v>)
+    ensures first { seen result.0 ≡ member_of first.now (view object.now) }
+    ensures second { seen result.1 ≡ member_of second.now (view object.now) }
+{
+    let mut members = [member_named(first), member_named(second)];
+    find(object, &mut members);
+    let [first, second] = members;
+    (first, second)
+}
+
+/// The members of these three names, by one walk over those of the object.
+pub(crate) fn three_members<'v>(
+    object: &'v Value,
+    first: &'static str,
+    second: &'static str,
+    third: &'static str,
+) -> (Member<'v>, Member<'v>, Member<'v>)
+    ensures first { seen result.0 ≡ member_of first.now (view object.now) }
+    ensures second { seen result.1 ≡ member_of second.now (view object.now) }
+    ensures third { seen result.2 ≡ member_of third.now (view object.now) }
+{
+    let mut members = [
+        member_named(first),
+        member_named(second),
+        member_named(third),
+    ];
+    find(object, &mut members);
+    let [first, second, third] = members;
+    (first, second, third)
+}
+
+/// The members of these four names, by one walk over those of the object.
+pub(crate) fn four_members<'v>(
+    object: &'v Value,
+    first: &'static str,
+    second: &'static str,
+    third: &'static str,
+    fourth: &'static str,
+) -> (Member<'v>, Member<'v>, Member<'v>, Member<'v>)
+    ensures first { seen result.0 ≡ member_of first.now (view object.now) }
+    ensures second { seen result.1 ≡ member_of second.now (view object.now) }
+    ensures third { seen result.2 ≡ member_of third.now (view object.now) }
+    ensures fourth { seen result.3 ≡ member_of fourth.now (view object.now) }
+{
+    let mut members = [
+        member_named(first),
+        member_named(second),
+        member_named(third),
+        member_named(fourth),
+    ];
+    find(object, &mut members);
+    let [first, second, third, fourth] = members;
+    (first, second, third, fourth)
 }
 
 /// The member of this name, by a look-up.
@@ -135,7 +200,7 @@ impl<'v> Member<'v> {
             (media_type_in self.entry.name.now (value_of self.entry)) }
     {
         let media = self.optional_text(alloc)?;
-        Ok(unless_empty(media))
+        Ok(member_unless_empty(media))
     }
 
     /// The items of a list. An absent list is empty.
@@ -166,7 +231,7 @@ impl<'v> Member<'v> {
     }
 }
 
-fn unless_empty(text: Option<Text>) -> Option<Text>
+fn member_unless_empty(text: Option<Text>) -> Option<Text>
     ensures { result ≡ option_and_then unless_empty text }
 {
     match text {
@@ -197,4 +262,184 @@ fn each_text(
         texts.push(text)?;
     }
     Ok(Sequence::from(texts))
+}
+
+/// What is read from an object's members.
+pub(crate) trait ReadObject: Sized {
+    ghost reads: { Data → Result Self (List ℕ) };
+
+    fn read(alloc: Global, object: &Value) -> Result<Self, MemberFault>
+        ensures { GivesMember result (reads (view object.now)) };
+}
+
+fn object_in_member<T: ReadObject>(
+    alloc: Global,
+    value: &Value,
+    name: &'static str,
+) -> Result<T, MemberFault>
+    ensures { GivesMember result (object_in name.now T.reads (view value.now)) }
+{
+    if !value.is_object() {
+        return Err(MemberFault::Bad(name));
+    }
+    T::read(alloc, value)
+}
+
+impl Member<'_> {
+    pub(crate) fn nested<T: ReadObject>(self, alloc: Global) -> Result<T, MemberFault>
+        ensures { GivesMember result
+            (nested_in T.reads self.entry.name.now (value_of self.entry)) }
+    {
+        match self.value {
+            Some(value) => object_in_member(alloc, value, self.name),
+            None => Err(MemberFault::Bad(self.name)),
+        }
+    }
+
+    pub(crate) fn optional_nested<T: ReadObject>(
+        self,
+        alloc: Global,
+    ) -> Result<Option<T>, MemberFault>
+        ensures { GivesMember result
+            (optional_nested_in T.reads self.entry.name.now (value_of self.entry)) }
+    {
+        match self.value {
+            Some(value) => Ok(Some(object_in_member(alloc, value, self.name)?)),
+            None => Ok(None),
+        }
+    }
+
+    pub(crate) fn list_of<T: ReadObject + Drop>(
+        self,
+        alloc: Global,
+    ) -> Result<Sequence<T>, MemberFault>
+        ensures { GivesMember result
+            (list_in T.reads self.entry.name.now (value_of self.entry)) }
+    {
+        let Some(value) = self.value else {
+            return Ok(Sequence::from(Vec::new(alloc)));
+        };
+        match value.as_array() {
+            Some(values) => objects(alloc, values, self.name),
+            None => Err(MemberFault::Bad(self.name)),
+        }
+    }
+}
+
+fn objects<T: ReadObject + Drop>(
+    alloc: Global,
+    values: &[Value],
+    name: &'static str,
+) -> Result<Sequence<T>, MemberFault>
+    ensures { GivesMember result (each (object_in name.now T.reads) (items_view values.now)) }
+{
+    let mut objects = Vec::new(alloc);
+    for value in values {
+        let object = object_in_member(alloc, value, name)?;
+        objects.push(object)?;
+    }
+    Ok(Sequence::from(objects))
+}
+
+/// What is read from a node's members; the ids of the nodes are kept in the order of the nodes.
+pub(crate) trait ReadNode: Sized {
+    ghost reads: { Ids → Data → NodeRead Self };
+
+    fn read(alloc: Global, object: &Value, ids: &mut Sequence<NodeId>) -> Result<Self, MemberFault>
+        ensures { GivesNode result ids.new (reads ids.old (view object.now)) };
+}
+
+pub(crate) fn node_in_member<T: ReadNode>(
+    alloc: Global,
+    value: &Value,
+    name: &'static str,
+    ids: &mut Sequence<NodeId>,
+) -> Result<T, MemberFault>
+    ensures { GivesNode result ids.new (node_in name.now T.reads ids.old (view value.now)) }
+{
+    if !value.is_object() {
+        return Err(MemberFault::Bad(name));
+    }
+    T::read(alloc, value, ids)
+}
+
+pub(crate) fn member_nodes<T: ReadNode + Drop>(
+    alloc: Global,
+    values: &[Value],
+    name: &'static str,
+    ids: &mut Sequence<NodeId>,
+) -> Result<Sequence<T>, MemberFault>
+    ensures { GivesNode result ids.new
+        (each_node (node_in name.now T.reads) ids.old (items_view values.now)) }
+{
+    let mut nodes = Sequence::new(alloc);
+    for value in values {
+        let node = node_in_member(alloc, value, name, ids)?;
+        nodes.push(node)?;
+    }
+    Ok(nodes)
+}
+
+impl Member<'_> {
+    pub(crate) fn optional_node<T: ReadNode>(
+        self,
+        alloc: Global,
+        ids: &mut Sequence<NodeId>,
+    ) -> Result<Option<T>, MemberFault>
+        ensures { GivesNode result ids.new
+            (optional_node_in T.reads self.entry.name.now ids.old (value_of self.entry)) }
+    {
+        match self.value {
+            Some(value) => Ok(Some(node_in_member(alloc, value, self.name, ids)?)),
+            None => Ok(None),
+        }
+    }
+
+    pub(crate) fn nodes_of<T: ReadNode + Drop>(
+        self,
+        alloc: Global,
+        ids: &mut Sequence<NodeId>,
+    ) -> Result<Sequence<T>, MemberFault>
+        ensures { GivesNode result ids.new
+            (nodes_in T.reads self.entry.name.now ids.old (value_of self.entry)) }
+    {
+        member_nodes(alloc, self.items()?, self.name, ids)
+    }
+
+    pub(crate) fn node_id(self, alloc: Global) -> Result<NodeId, MemberFault>
+        ensures { GivesMember result
+            (required_in as_str self.entry.name.now (value_of self.entry)) }
+    {
+        match self.value.and_then(Value::as_str) {
+            Some(found) => Ok(NodeId::copy_of(alloc, found)?),
+            None => Err(MemberFault::Bad(self.name)),
+        }
+    }
+}
+
+/// The number of the node that has this id; the id is kept.
+pub(crate) fn member_node_number(id: NodeId, ids: &mut Sequence<NodeId>) -> Result<u64, MemberFault>
+    ensures { GivesNode result ids.new (node_number id ids.old) }
+{
+    let node = ids.len() as u64;
+    ids.push(id)?;
+    Ok(node)
+}
+
+fn has_one_of(object: &Value, first: &'static str, second: &'static str) -> bool
+    ensures { result ≡ has_one_member first.now second.now (view object.now) }
+{
+    let (first, second) = two_members(object, first, second);
+    first.is_present() != second.is_present()
+}
+
+pub(crate) fn all_have_one_of(objects: &[Value], first: &'static str, second: &'static str) -> bool
+    ensures { result ≡ all_items (has_one_member first.now second.now) (items_view objects.now) }
+{
+    for object in objects {
+        if !has_one_of(object, first, second) {
+            return false;
+        }
+    }
+    true
 }

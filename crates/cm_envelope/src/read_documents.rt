@@ -7,10 +7,11 @@ ghost use Rattle.cm_envelope.specs.Documents.{GivesNode, node_in, optional_node_
 
 use crate::envelope::GherkinDocument;
 use crate::fault::MemberFault;
-use crate::member::{Member, find, look_up, named, present};
+use crate::member::{
+    Member, ReadNode, ReadObject, four_members, look_up, member_node_number, member_nodes,
+    node_in_member, present, three_members, two_members,
+};
 use crate::node_id::NodeId;
-use crate::nodes::{ReadNode, node_in_member, nodes, numbered};
-use crate::object::ReadObject;
 use gk_document::{
     Argument, Background, Cell, DocString, Document, ExampleTable, Examples, Feature, Fence,
     KeywordType, Location, Row, Rule, Scenario, Sequence, Step, Tag, Text,
@@ -59,9 +60,7 @@ fn first_background(
 fn rank_of(child: &Value, in_feature: bool) -> Option<u8>
     ensures { result ≡ rank_of_child in_feature (view child.now) }
 {
-    let mut members = [named("background"), named("scenario"), named("rule")];
-    find(child, &mut members);
-    let [background, scenario, rule] = members;
+    let (background, scenario, rule) = three_members(child, "background", "scenario", "rule");
     let is_rule = in_feature && rule.is_present();
     match (background.is_present(), scenario.is_present(), is_rule) {
         (true, false, false) => Some(0),
@@ -71,7 +70,7 @@ fn rank_of(child: &Value, in_feature: bool) -> Option<u8>
     }
 }
 
-fn are_in_order(children: &[Value], in_feature: bool) -> bool
+fn children_are_in_order(children: &[Value], in_feature: bool) -> bool
     ensures { result ≡ children_are_in_order in_feature 0 (items_view children.now) }
 {
     let mut least = 0;
@@ -90,13 +89,13 @@ fn children_in<'v>(member: Member<'v>, in_feature: bool) -> Result<&'v [Value], 
         (ordered_children in_feature (seen member.entry)) }
 {
     let children = member.items()?;
-    if !are_in_order(children, in_feature) {
+    if !children_are_in_order(children, in_feature) {
         return Err(MemberFault::Bad(member.name));
     }
     Ok(children)
 }
 
-fn line(member: Member<'_>) -> Result<u32, MemberFault>
+fn location_line(member: Member<'_>) -> Result<u32, MemberFault>
     ensures { GivesMember result
         (required_in as_line member.entry.name.now (value_of member.entry)) }
 {
@@ -111,7 +110,7 @@ impl ReadObject for Location {
 
     fn read(_alloc: Global, object: &Value) -> Result<Location, MemberFault> {
         Ok(Location {
-            line: line(look_up(object, "line"))?,
+            line: location_line(look_up(object, "line"))?,
             column: 0,
         })
     }
@@ -132,9 +131,12 @@ impl ReadObject for DocString {
     ghost reads = { doc_string };
 
     fn read(alloc: Global, object: &Value) -> Result<DocString, MemberFault> {
-        let mut members = [named("location"), named("content"), named("mediaType")];
-        find(object, &mut members);
-        let [location, content, media_type] = members;
+        let (location, content, media_type) = three_members(
+            object,
+            "location",
+            "content",
+            "mediaType",
+        );
         let location = location.nested(alloc)?;
         let content = content.text(alloc)?;
         let media = media_type.media_type(alloc)?;
@@ -154,7 +156,7 @@ struct Mark {
     location: Location,
 }
 
-fn read_mark(alloc: Global, id: Member<'_>, location: Member<'_>) -> Result<Mark, MemberFault>
+fn read_tag_parts(alloc: Global, id: Member<'_>, location: Member<'_>) -> Result<Mark, MemberFault>
     ensures { GivesMember result (mark_in (seen id.entry) (seen location.entry)) }
 {
     Ok(Mark {
@@ -167,13 +169,11 @@ impl ReadNode for Tag {
     ghost reads = { tag };
 
     fn read(alloc: Global, object: &Value, ids: &mut Sequence<NodeId>) -> Result<Tag, MemberFault> {
-        let mut members = [named("id"), named("location"), named("name")];
-        find(object, &mut members);
-        let [id, location, name] = members;
-        let mark = read_mark(alloc, id, location)?;
+        let (id, location, name) = three_members(object, "id", "location", "name");
+        let mark = read_tag_parts(alloc, id, location)?;
         let name = name.text(alloc)?;
         Ok(Tag {
-            node: numbered(mark.id, ids)?,
+            node: member_node_number(mark.id, ids)?,
             location: mark.location,
             name,
         })
@@ -184,13 +184,11 @@ impl ReadNode for Row {
     ghost reads = { row };
 
     fn read(alloc: Global, object: &Value, ids: &mut Sequence<NodeId>) -> Result<Row, MemberFault> {
-        let mut members = [named("id"), named("location"), named("cells")];
-        find(object, &mut members);
-        let [id, location, cells] = members;
-        let mark = read_mark(alloc, id, location)?;
+        let (id, location, cells) = three_members(object, "id", "location", "cells");
+        let mark = read_tag_parts(alloc, id, location)?;
         let cells = cells.list_of(alloc)?;
         Ok(Row {
-            node: numbered(mark.id, ids)?,
+            node: member_node_number(mark.id, ids)?,
             location: mark.location,
             cells,
         })
@@ -233,10 +231,10 @@ fn read_heading(
     ensures { GivesNode result ids.new (heading_in (seen id.entry) (seen location.entry)
         (seen keyword.entry) (seen text.entry) ids.old) }
 {
-    let mark = read_mark(alloc, id, location)?;
+    let mark = read_tag_parts(alloc, id, location)?;
     let title = read_title(alloc, keyword, text)?;
     Ok(Heading {
-        node: numbered(mark.id, ids)?,
+        node: member_node_number(mark.id, ids)?,
         location: mark.location,
         title,
     })
@@ -263,11 +261,11 @@ fn read_tagged_heading(
     ensures { GivesNode result ids.new (tagged_heading_in (seen id.entry) (seen location.entry)
         (seen tags.entry) (seen keyword.entry) (seen name.entry) ids.old) }
 {
-    let mark = read_mark(alloc, id, location)?;
+    let mark = read_tag_parts(alloc, id, location)?;
     let tags = tags.nodes_of(alloc, ids)?;
     let title = read_title(alloc, keyword, name)?;
     Ok(TaggedHeading {
-        node: numbered(mark.id, ids)?,
+        node: member_node_number(mark.id, ids)?,
         location: mark.location,
         tags,
         title,
@@ -294,7 +292,7 @@ impl ReadNode for DataTable {
     }
 }
 
-fn argument_of(table: Option<DataTable>, text: Option<DocString>) -> Option<Argument>
+fn step_argument_of(table: Option<DataTable>, text: Option<DocString>) -> Option<Argument>
     ensures { result ≡ argument_of table text }
 {
     match table {
@@ -306,7 +304,7 @@ fn argument_of(table: Option<DataTable>, text: Option<DocString>) -> Option<Argu
     }
 }
 
-fn read_argument(
+fn read_step_argument(
     alloc: Global,
     data_table: Member<'_>,
     doc_string: Member<'_>,
@@ -320,7 +318,7 @@ fn read_argument(
         return Err(MemberFault::Bad(doc_string.name));
     }
     let content = doc_string.optional_nested(alloc)?;
-    Ok(argument_of(table, content))
+    Ok(step_argument_of(table, content))
 }
 
 impl ReadNode for Step {
@@ -331,18 +329,15 @@ impl ReadNode for Step {
         object: &Value,
         ids: &mut Sequence<NodeId>,
     ) -> Result<Step, MemberFault> {
-        let mut members = [
-            named("id"),
-            named("location"),
-            named("keyword"),
-            named("text"),
-            named("dataTable"),
-            named("docString"),
-        ];
-        find(object, &mut members);
-        let [id, location, keyword, text, data_table, doc_string] = members;
+        let (id, location, keyword) = three_members(object, "id", "location", "keyword");
+        let (text, data_table, doc_string) = three_members(
+            object,
+            "text",
+            "dataTable",
+            "docString",
+        );
         let heading = read_heading(alloc, id, location, keyword, text, ids)?;
-        let argument = read_argument(alloc, data_table, doc_string, ids)?;
+        let argument = read_step_argument(alloc, data_table, doc_string, ids)?;
         Ok(Step {
             node: heading.node,
             location: heading.location,
@@ -362,15 +357,8 @@ impl ReadNode for Background {
         object: &Value,
         ids: &mut Sequence<NodeId>,
     ) -> Result<Background, MemberFault> {
-        let mut members = [
-            named("id"),
-            named("location"),
-            named("keyword"),
-            named("name"),
-            named("steps"),
-        ];
-        find(object, &mut members);
-        let [id, location, keyword, name, steps] = members;
+        let (id, location, keyword) = three_members(object, "id", "location", "keyword");
+        let (name, steps) = two_members(object, "name", "steps");
         let heading = read_heading(alloc, id, location, keyword, name, ids)?;
         let steps = steps.nodes_of(alloc, ids)?;
         Ok(Background {
@@ -378,19 +366,19 @@ impl ReadNode for Background {
             location: heading.location,
             keyword: heading.title.keyword,
             name: heading.title.text,
-            description: no_text(alloc),
+            description: no_document_text(alloc),
             steps,
         })
     }
 }
 
-fn no_text(alloc: Global) -> Text
+fn no_document_text(alloc: Global) -> Text
     ensures { result ≡ [] }
 {
     Text::from(String::new(alloc))
 }
 
-fn is_empty(values: &[Value]) -> bool
+fn document_is_empty(values: &[Value]) -> bool
     ensures { result ≡ is_empty (items_view values.now) }
 {
     match values {
@@ -399,7 +387,7 @@ fn is_empty(values: &[Value]) -> bool
     }
 }
 
-fn are_objects(values: &[Value]) -> bool
+fn rows_are_objects(values: &[Value]) -> bool
     ensures { result ≡ all_items is_object (items_view values.now) }
 {
     for value in values {
@@ -425,10 +413,10 @@ fn body_rows<'v>(member: Member<'v>, has_header: bool) -> Result<&'v [Value], Me
         (body_rows_in has_header (seen member.entry)) }
 {
     let rows = member.items()?;
-    if !are_objects(rows) {
+    if !rows_are_objects(rows) {
         return Err(MemberFault::Bad(member.name));
     }
-    if !has_header && !is_empty(rows) {
+    if !has_header && !document_is_empty(rows) {
         return Err(MemberFault::Bad(member.name));
     }
     Ok(rows)
@@ -445,7 +433,7 @@ fn example_table(
 {
     let header = header.optional_node(alloc, ids)?;
     let rows = body_rows(body, header.is_some())?;
-    let body = nodes(alloc, rows, body.name, ids)?;
+    let body = member_nodes(alloc, rows, body.name, ids)?;
     Ok(table_of_rows(header, body))
 }
 
@@ -457,17 +445,10 @@ impl ReadNode for Examples {
         object: &Value,
         ids: &mut Sequence<NodeId>,
     ) -> Result<Examples, MemberFault> {
-        let mut members = [
-            named("id"),
-            named("location"),
-            named("tags"),
-            named("keyword"),
-            named("name"),
-            named("tableHeader"),
-            named("tableBody"),
-        ];
-        find(object, &mut members);
-        let [id, location, tags, keyword, name, header, body] = members;
+        let (id, location, tags, keyword) = four_members(
+            object, "id", "location", "tags", "keyword",
+        );
+        let (name, header, body) = three_members(object, "name", "tableHeader", "tableBody");
         let heading = read_tagged_heading(alloc, id, location, tags, keyword, name, ids)?;
         let table = example_table(alloc, header, body, ids)?;
         Ok(Examples {
@@ -476,7 +457,7 @@ impl ReadNode for Examples {
             tags: heading.tags,
             keyword: heading.title.keyword,
             name: heading.title.text,
-            description: no_text(alloc),
+            description: no_document_text(alloc),
             table,
         })
     }
@@ -490,17 +471,10 @@ impl ReadNode for Scenario {
         object: &Value,
         ids: &mut Sequence<NodeId>,
     ) -> Result<Scenario, MemberFault> {
-        let mut members = [
-            named("id"),
-            named("location"),
-            named("tags"),
-            named("keyword"),
-            named("name"),
-            named("steps"),
-            named("examples"),
-        ];
-        find(object, &mut members);
-        let [id, location, tags, keyword, name, steps, examples] = members;
+        let (id, location, tags, keyword) = four_members(
+            object, "id", "location", "tags", "keyword",
+        );
+        let (name, steps, examples) = three_members(object, "name", "steps", "examples");
         let heading = read_tagged_heading(alloc, id, location, tags, keyword, name, ids)?;
         let steps = steps.nodes_of(alloc, ids)?;
         let examples = examples.nodes_of(alloc, ids)?;
@@ -510,7 +484,7 @@ impl ReadNode for Scenario {
             tags: heading.tags,
             keyword: heading.title.keyword,
             name: heading.title.text,
-            description: no_text(alloc),
+            description: no_document_text(alloc),
             steps,
             examples,
         })
@@ -524,7 +498,7 @@ struct Body {
     scenarios: Sequence<Scenario>,
 }
 
-fn read_body(
+fn read_scenario_body(
     alloc: Global,
     members: &[Value],
     ids: &mut Sequence<NodeId>,
@@ -545,26 +519,18 @@ impl ReadNode for Rule {
         object: &Value,
         ids: &mut Sequence<NodeId>,
     ) -> Result<Rule, MemberFault> {
-        let mut members = [
-            named("id"),
-            named("location"),
-            named("tags"),
-            named("keyword"),
-            named("name"),
-            named("children"),
-        ];
-        find(object, &mut members);
-        let [id, location, tags, keyword, name, children] = members;
+        let (id, location, tags) = three_members(object, "id", "location", "tags");
+        let (keyword, name, children) = three_members(object, "keyword", "name", "children");
         let heading = read_tagged_heading(alloc, id, location, tags, keyword, name, ids)?;
         let children = children_in(children, false)?;
-        let body = read_body(alloc, children, ids)?;
+        let body = read_scenario_body(alloc, children, ids)?;
         Ok(Rule {
             node: heading.node,
             location: heading.location,
             tags: heading.tags,
             keyword: heading.title.keyword,
             name: heading.title.text,
-            description: no_text(alloc),
+            description: no_document_text(alloc),
             background: body.background,
             scenarios: body.scenarios,
         })
@@ -616,7 +582,7 @@ fn read_feature_body(
 {
     let values = children_in(member, true)?;
     Ok(FeatureBody {
-        body: read_body(alloc, values, ids)?,
+        body: read_scenario_body(alloc, values, ids)?,
         rules: children(alloc, values, "rule", ids)?,
     })
 }
@@ -629,16 +595,8 @@ impl ReadNode for Feature {
         object: &Value,
         ids: &mut Sequence<NodeId>,
     ) -> Result<Feature, MemberFault> {
-        let mut members = [
-            named("location"),
-            named("tags"),
-            named("language"),
-            named("keyword"),
-            named("name"),
-            named("children"),
-        ];
-        find(object, &mut members);
-        let [location, tags, language, keyword, name, children] = members;
+        let (location, tags, language) = three_members(object, "location", "tags", "language");
+        let (keyword, name, children) = three_members(object, "keyword", "name", "children");
         let heading = read_feature_heading(alloc, location, tags, language, keyword, name, ids)?;
         let children = read_feature_body(alloc, children, ids)?;
         Ok(Feature {
@@ -647,7 +605,7 @@ impl ReadNode for Feature {
             language: heading.language,
             keyword: heading.title.keyword,
             name: heading.title.text,
-            description: no_text(alloc),
+            description: no_document_text(alloc),
             background: children.body.background,
             scenarios: children.body.scenarios,
             rules: children.rules,
@@ -660,9 +618,7 @@ impl ReadObject for GherkinDocument {
 
     #[inline(never)]
     fn read(alloc: Global, object: &Value) -> Result<GherkinDocument, MemberFault> {
-        let mut members = [named("uri"), named("feature")];
-        find(object, &mut members);
-        let [uri, feature] = members;
+        let (uri, feature) = two_members(object, "uri", "feature");
         let uri = uri.text(alloc)?;
         let mut ids = Sequence::new(alloc);
         let feature = feature.optional_node(alloc, &mut ids)?;

@@ -1,20 +1,30 @@
-//! How each envelope is read, member by member.
-ghost use Rattle.std.specs.Prelude.{◌≡◌, codes};
+//! How a line is read as an envelope, member by member.
+ghost use Rattle.std.specs.Prelude.{◌≡◌, codes, option_map, option_and_then};
 ghost use Rattle.serde_json.specs.Find.{as_str};
-ghost use Rattle.serde_json.specs.View.{view, items_view};
-ghost use Rattle.cm_envelope.specs.Member.{GivesMember, required_in, has_one_of as has_one_member, each_item_in, all_items};
+ghost use Rattle.serde_json.specs.View.{view, members_view};
+ghost use Rattle.cm_envelope.specs.Member.{GivesMember, required_in, has_one_of as has_one_member, each_item_in, unless_null};
 ghost use Rattle.cm_envelope.specs.Members.{value_of};
-ghost use Rattle.cm_envelope.specs.Envelopes.{source, source_reference, parse_error, step_definition, hook, test_run_started, test_run_finished, attachment, status_of, as_status, test_step, test_case, test_case_started, test_step_started, test_step_result, test_step_finished, test_case_finished, test_run_hook_started, test_run_hook_finished};
+ghost use Rattle.cm_envelope.specs.Envelopes.{source, source_reference, parse_error, step_definition, hook, test_run_started};
+ghost use Rattle.cm_envelope.specs.Envelopes.{test_run_finished, attachment, status_of, as_status, test_step, test_case, test_case_started};
+ghost use Rattle.cm_envelope.specs.Envelopes.{test_step_started, test_step_result, test_step_finished, test_case_finished};
+ghost use Rattle.cm_envelope.specs.Envelopes.{test_run_hook_started, test_run_hook_finished};
+ghost use Rattle.serde_json.specs.Data.{object as json_object};
+ghost use Rattle.cm_envelope.specs.Reading.{members as members_of_kind, kind_named, judged_kinds_of, the_one, kind_and_data, envelope_in};
+ghost use Rattle.cm_envelope.specs.Reading.{envelope_of as envelope_of_value, json_of_line as json_of, envelope_of_line, GivesEnvelope};
+ghost use Rattle.cm_envelope.specs.Reading.{GivesLineValue};
 
 use crate::envelope::{
-    Attachment, Hook, ParseError, Source, SourceReference, Status, StepDefinition, TestCase,
-    TestCaseFinished, TestCaseStarted, TestRunFinished, TestRunHookFinished, TestRunHookStarted,
-    TestRunStarted, TestStep, TestStepFinished, TestStepResult, TestStepStarted,
+    Attachment, Envelope, Hook, ParseError, Source, SourceReference, Status, StepDefinition,
+    TestCase, TestCaseFinished, TestCaseStarted, TestRunFinished, TestRunHookFinished,
+    TestRunHookStarted, TestRunStarted, TestStep, TestStepFinished, TestStepResult,
+    TestStepStarted,
 };
-use crate::fault::MemberFault;
-use crate::member::{Member, find, look_up, named};
-use crate::object::ReadObject;
-use serde_json::Value;
+use crate::fault::{EnvelopeFault, LineFault, MemberFault};
+use crate::kind::Kind;
+use crate::member::{
+    Member, ReadObject, all_have_one_of, four_members, look_up, three_members, two_members,
+};
+use serde_json::{Map, Value};
 use std::alloc::Global;
 
 fn status_of(word: &str) -> Option<Status>
@@ -42,15 +52,6 @@ fn status(member: Member<'_>) -> Result<Status, MemberFault>
     }
 }
 
-fn has_one_of(object: &Value, first: &'static str, second: &'static str) -> bool
-    ensures { result ≡ has_one_member first.now second.now (view object.now) }
-{
-    let mut members = [named(first), named(second)];
-    find(object, &mut members);
-    let [first, second] = members;
-    first.is_present() != second.is_present()
-}
-
 fn steps_have_one_origin(steps: Member<'_>) -> bool
     ensures { result ≡ each_item_in (has_one_member (codes "hookId") (codes "pickleStepId"))
         (value_of steps.entry) }
@@ -61,25 +62,12 @@ fn steps_have_one_origin(steps: Member<'_>) -> bool
     }
 }
 
-fn all_have_one_of(objects: &[Value], first: &'static str, second: &'static str) -> bool
-    ensures { result ≡ all_items (has_one_member first.now second.now) (items_view objects.now) }
-{
-    for object in objects {
-        if !has_one_of(object, first, second) {
-            return false;
-        }
-    }
-    true
-}
-
 impl ReadObject for Source {
     ghost reads = { source };
 
     #[inline(never)]
     fn read(alloc: Global, object: &Value) -> Result<Source, MemberFault> {
-        let mut members = [named("uri"), named("data"), named("mediaType")];
-        find(object, &mut members);
-        let [uri, content, media_type] = members;
+        let (uri, content, media_type) = three_members(object, "uri", "data", "mediaType");
         Ok(Source {
             uri: uri.text(alloc)?,
             content: content.text(alloc)?,
@@ -147,13 +135,12 @@ impl ReadObject for TestRunFinished {
 
     #[inline(never)]
     fn read(alloc: Global, object: &Value) -> Result<TestRunFinished, MemberFault> {
-        let mut members = [
-            named("testRunStartedId"),
-            named("success"),
-            named("exception"),
-        ];
-        find(object, &mut members);
-        let [test_run_started_id, success, exception] = members;
+        let (test_run_started_id, success, exception) = three_members(
+            object,
+            "testRunStartedId",
+            "success",
+            "exception",
+        );
         Ok(TestRunFinished {
             test_run_started_id: test_run_started_id.optional_text(alloc)?,
             success: success.flag()?,
@@ -167,9 +154,11 @@ impl ReadObject for Attachment {
 
     #[inline(never)]
     fn read(alloc: Global, object: &Value) -> Result<Attachment, MemberFault> {
-        let mut members = [named("testCaseStartedId"), named("testStepId")];
-        find(object, &mut members);
-        let [test_case_started_id, test_step_id] = members;
+        let (test_case_started_id, test_step_id) = two_members(
+            object,
+            "testCaseStartedId",
+            "testStepId",
+        );
         Ok(Attachment {
             test_case_started_id: test_case_started_id.optional_text(alloc)?,
             test_step_id: test_step_id.optional_text(alloc)?,
@@ -181,14 +170,13 @@ impl ReadObject for TestStep {
     ghost reads = { test_step };
 
     fn read(alloc: Global, object: &Value) -> Result<TestStep, MemberFault> {
-        let mut members = [
-            named("id"),
-            named("hookId"),
-            named("pickleStepId"),
-            named("stepDefinitionIds"),
-        ];
-        find(object, &mut members);
-        let [id, hook_id, pickle_step_id, step_definition_ids] = members;
+        let (id, hook_id, pickle_step_id, step_definition_ids) = four_members(
+            object,
+            "id",
+            "hookId",
+            "pickleStepId",
+            "stepDefinitionIds",
+        );
         Ok(TestStep {
             id: id.text(alloc)?,
             hook_id: hook_id.optional_text(alloc)?,
@@ -203,14 +191,13 @@ impl ReadObject for TestCase {
 
     #[inline(never)]
     fn read(alloc: Global, object: &Value) -> Result<TestCase, MemberFault> {
-        let mut members = [
-            named("id"),
-            named("pickleId"),
-            named("testRunStartedId"),
-            named("testSteps"),
-        ];
-        find(object, &mut members);
-        let [id, pickle_id, test_run_started_id, test_steps] = members;
+        let (id, pickle_id, test_run_started_id, test_steps) = four_members(
+            object,
+            "id",
+            "pickleId",
+            "testRunStartedId",
+            "testSteps",
+        );
         let id = id.text(alloc)?;
         let pickle_id = pickle_id.text(alloc)?;
         let test_run_started_id = test_run_started_id.optional_text(alloc)?;
@@ -231,9 +218,7 @@ impl ReadObject for TestCaseStarted {
 
     #[inline(never)]
     fn read(alloc: Global, object: &Value) -> Result<TestCaseStarted, MemberFault> {
-        let mut members = [named("id"), named("testCaseId"), named("attempt")];
-        find(object, &mut members);
-        let [id, test_case_id, attempt] = members;
+        let (id, test_case_id, attempt) = three_members(object, "id", "testCaseId", "attempt");
         Ok(TestCaseStarted {
             id: id.text(alloc)?,
             test_case_id: test_case_id.text(alloc)?,
@@ -247,9 +232,11 @@ impl ReadObject for TestStepStarted {
 
     #[inline(never)]
     fn read(alloc: Global, object: &Value) -> Result<TestStepStarted, MemberFault> {
-        let mut members = [named("testCaseStartedId"), named("testStepId")];
-        find(object, &mut members);
-        let [test_case_started_id, test_step_id] = members;
+        let (test_case_started_id, test_step_id) = two_members(
+            object,
+            "testCaseStartedId",
+            "testStepId",
+        );
         Ok(TestStepStarted {
             test_case_started_id: test_case_started_id.text(alloc)?,
             test_step_id: test_step_id.text(alloc)?,
@@ -272,13 +259,12 @@ impl ReadObject for TestStepFinished {
 
     #[inline(never)]
     fn read(alloc: Global, object: &Value) -> Result<TestStepFinished, MemberFault> {
-        let mut members = [
-            named("testCaseStartedId"),
-            named("testStepId"),
-            named("testStepResult"),
-        ];
-        find(object, &mut members);
-        let [test_case_started_id, test_step_id, test_step_result] = members;
+        let (test_case_started_id, test_step_id, test_step_result) = three_members(
+            object,
+            "testCaseStartedId",
+            "testStepId",
+            "testStepResult",
+        );
         Ok(TestStepFinished {
             test_case_started_id: test_case_started_id.text(alloc)?,
             test_step_id: test_step_id.text(alloc)?,
@@ -292,9 +278,11 @@ impl ReadObject for TestCaseFinished {
 
     #[inline(never)]
     fn read(alloc: Global, object: &Value) -> Result<TestCaseFinished, MemberFault> {
-        let mut members = [named("testCaseStartedId"), named("willBeRetried")];
-        find(object, &mut members);
-        let [test_case_started_id, will_be_retried] = members;
+        let (test_case_started_id, will_be_retried) = two_members(
+            object,
+            "testCaseStartedId",
+            "willBeRetried",
+        );
         Ok(TestCaseFinished {
             test_case_started_id: test_case_started_id.text(alloc)?,
             will_be_retried: will_be_retried.flag_or(false)?,
@@ -307,9 +295,12 @@ impl ReadObject for TestRunHookStarted {
 
     #[inline(never)]
     fn read(alloc: Global, object: &Value) -> Result<TestRunHookStarted, MemberFault> {
-        let mut members = [named("id"), named("testRunStartedId"), named("hookId")];
-        find(object, &mut members);
-        let [id, test_run_started_id, hook_id] = members;
+        let (id, test_run_started_id, hook_id) = three_members(
+            object,
+            "id",
+            "testRunStartedId",
+            "hookId",
+        );
         Ok(TestRunHookStarted {
             id: id.text(alloc)?,
             test_run_started_id: test_run_started_id.optional_text(alloc)?,
@@ -323,12 +314,125 @@ impl ReadObject for TestRunHookFinished {
 
     #[inline(never)]
     fn read(alloc: Global, object: &Value) -> Result<TestRunHookFinished, MemberFault> {
-        let mut members = [named("testRunHookStartedId"), named("result")];
-        find(object, &mut members);
-        let [test_run_hook_started_id, result] = members;
+        let (test_run_hook_started_id, result) = two_members(
+            object,
+            "testRunHookStartedId",
+            "result",
+        );
         Ok(TestRunHookFinished {
             test_run_hook_started_id: test_run_hook_started_id.text(alloc)?,
             result: result.nested(alloc)?,
         })
     }
+}
+
+fn line_members(alloc: Global, kind: Kind, object: &Value) -> Result<Envelope, MemberFault>
+    ensures { GivesMember result (members_of_kind kind (view object.now)) }
+{
+    match kind {
+        Kind::Source => Ok(Envelope::Source(ReadObject::read(alloc, object)?)),
+        Kind::GherkinDocument => Ok(Envelope::GherkinDocument(ReadObject::read(alloc, object)?)),
+        Kind::ParseError => Ok(Envelope::ParseError(ReadObject::read(alloc, object)?)),
+        Kind::Pickle => Ok(Envelope::Pickle(ReadObject::read(alloc, object)?)),
+        Kind::StepDefinition => Ok(Envelope::StepDefinition(ReadObject::read(alloc, object)?)),
+        Kind::Hook => Ok(Envelope::Hook(ReadObject::read(alloc, object)?)),
+        Kind::TestCase => Ok(Envelope::TestCase(ReadObject::read(alloc, object)?)),
+        Kind::TestRunStarted => Ok(Envelope::TestRunStarted(ReadObject::read(alloc, object)?)),
+        Kind::TestCaseStarted => Ok(Envelope::TestCaseStarted(ReadObject::read(alloc, object)?)),
+        Kind::TestStepStarted => Ok(Envelope::TestStepStarted(ReadObject::read(alloc, object)?)),
+        Kind::TestStepFinished => Ok(Envelope::TestStepFinished(ReadObject::read(alloc, object)?)),
+        Kind::TestCaseFinished => Ok(Envelope::TestCaseFinished(ReadObject::read(alloc, object)?)),
+        Kind::TestRunFinished => Ok(Envelope::TestRunFinished(ReadObject::read(alloc, object)?)),
+        Kind::Attachment => Ok(Envelope::Attachment(ReadObject::read(alloc, object)?)),
+        Kind::TestRunHookStarted => Ok(Envelope::TestRunHookStarted(ReadObject::read(
+            alloc, object,
+        )?)),
+        Kind::TestRunHookFinished => Ok(Envelope::TestRunHookFinished(ReadObject::read(
+            alloc, object,
+        )?)),
+    }
+}
+
+/// The judged kind that a member is of. A null member is of none.
+fn judged_kind(name: &str, value: &Value) -> Option<Kind>
+    ensures { result ≡ option_and_then (λ v. kind_named name.now)
+        (unless_null (view value.now)) }
+{
+    if value.is_null() {
+        return None;
+    }
+    Kind::named(name)
+}
+
+/// The one judged kind that the object has, with its value.
+fn judged_of(members: &Map<String, Value>) -> Result<Option<(Kind, &Value)>, EnvelopeFault>
+    ensures { GivesLineValue (option_map kind_and_data) result
+        (the_one (judged_kinds_of (json_object (members_view members.now.entries)))) }
+{
+    let mut found = None;
+    for (name, value) in members.iter() {
+        if let Some(kind) = judged_kind(name.as_str(), value) {
+            if found.is_some() {
+                return Err(EnvelopeFault::Line(LineFault::Shape));
+            }
+            found = Some((kind, value));
+        }
+    }
+    Ok(found)
+}
+
+fn judged_envelope(alloc: Global, kind: Kind, value: &Value) -> Result<Envelope, EnvelopeFault>
+    ensures { GivesEnvelope result (envelope_in kind (view value.now)) }
+{
+    if !value.is_object() {
+        return Err(EnvelopeFault::Line(LineFault::Shape));
+    }
+    match line_members(alloc, kind, value) {
+        Ok(envelope) => Ok(envelope),
+        Err(MemberFault::Bad(field)) => Err(EnvelopeFault::Line(LineFault::Field(
+            kind.name(),
+            field,
+        ))),
+        Err(MemberFault::Memory) => Err(EnvelopeFault::Memory),
+    }
+}
+
+fn envelope_of(alloc: Global, value: &Value) -> Result<Envelope, EnvelopeFault>
+    ensures { GivesEnvelope result (envelope_of_value (view value.now)) }
+{
+    let Some(members) = value.as_object() else {
+        return Err(EnvelopeFault::Line(LineFault::Shape));
+    };
+    match judged_of(members)? {
+        Some((kind, value)) => judged_envelope(alloc, kind, value),
+        None => Ok(Envelope::Other),
+    }
+}
+
+#[tactic(auto, using(crate::proofs::Json::json_read, crate::proofs::Json::json_refused))]
+fn json_of_line(alloc: Global, line: &[u8]) -> Result<Value, EnvelopeFault>
+    ensures { GivesLineValue view result (json_of line.now) }
+{
+    match Value::from_slice(alloc, line) {
+        Ok(value) => Ok(value),
+        Err(fault) => {
+            if fault.is_memory() {
+                return Err(EnvelopeFault::Memory);
+            }
+            Err(EnvelopeFault::Line(LineFault::NotJson))
+        }
+    }
+}
+
+/// The envelope of a line, by the members of its judged kind. Null is absence, and unknown members and kinds are ignored.
+/// It takes time and memory in proportion to the line.
+///
+/// # Errors
+/// The line is no JSON value, or no object with at most one judged kind, or has a bad member: one that is required and
+/// absent, or of another type. The first in the order of the kind's members is reported. Or there is no memory.
+pub fn read_envelope(alloc: Global, line: &[u8]) -> Result<Envelope, EnvelopeFault>
+    ensures { GivesEnvelope result (envelope_of_line line.now) }
+{
+    let value = json_of_line(alloc, line)?;
+    envelope_of(alloc, &value)
 }

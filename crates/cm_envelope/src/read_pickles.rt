@@ -5,8 +5,7 @@ ghost use Rattle.cm_envelope.specs.Members.{value_of, seen};
 ghost use Rattle.cm_envelope.specs.Pickles.{step_kind_of, as_step_kind, texts_in, lists_in, pickle, pickle_tag, pickle_step, pickle_argument, argument_of, pickle_table, pickle_row, pickle_cell, pickle_doc_string, argument_in};
 
 use crate::fault::MemberFault;
-use crate::member::{Member, find, look_up, named};
-use crate::object::ReadObject;
+use crate::member::{Member, ReadObject, four_members, look_up, three_members, two_members};
 use crate::pickle::{
     Pickle, PickleArgument, PickleCell, PickleDocString, PickleRow, PickleStep, PickleTable,
     PickleTag, StepKind,
@@ -15,7 +14,7 @@ use gk_document::{Sequence, Text};
 use serde_json::Value;
 use std::alloc::Global;
 
-fn step_kind_of(word: &str) -> Option<StepKind>
+fn pickle_step_kind_of(word: &str) -> Option<StepKind>
     ensures { result ≡ step_kind_of word.now }
 {
     match word {
@@ -27,14 +26,14 @@ fn step_kind_of(word: &str) -> Option<StepKind>
     }
 }
 
-fn optional_step_kind(member: Member<'_>) -> Result<Option<StepKind>, MemberFault>
+fn optional_pickle_step_kind(member: Member<'_>) -> Result<Option<StepKind>, MemberFault>
     ensures { GivesMember result
         (optional_in as_step_kind member.entry.name.now (value_of member.entry)) }
 {
     let Some(value) = member.value else {
         return Ok(None);
     };
-    match value.as_str().and_then(step_kind_of) {
+    match value.as_str().and_then(pickle_step_kind_of) {
         Some(kind) => Ok(Some(kind)),
         None => Err(MemberFault::Bad(member.name)),
     }
@@ -44,9 +43,7 @@ impl ReadObject for PickleTag {
     ghost reads = { pickle_tag };
 
     fn read(alloc: Global, object: &Value) -> Result<PickleTag, MemberFault> {
-        let mut members = [named("name"), named("astNodeId")];
-        find(object, &mut members);
-        let [name, ast_node_id] = members;
+        let (name, ast_node_id) = two_members(object, "name", "astNodeId");
         Ok(PickleTag {
             name: name.text(alloc)?,
             ast_node_id: ast_node_id.text(alloc)?,
@@ -88,9 +85,7 @@ impl ReadObject for PickleDocString {
     ghost reads = { pickle_doc_string };
 
     fn read(alloc: Global, object: &Value) -> Result<PickleDocString, MemberFault> {
-        let mut members = [named("content"), named("mediaType")];
-        find(object, &mut members);
-        let [content, media_type] = members;
+        let (content, media_type) = two_members(object, "content", "mediaType");
         Ok(PickleDocString {
             content: content.text(alloc)?,
             media_type: media_type.media_type(alloc)?,
@@ -98,7 +93,10 @@ impl ReadObject for PickleDocString {
     }
 }
 
-fn argument_of(table: Option<PickleTable>, text: Option<PickleDocString>) -> Option<PickleArgument>
+fn pickle_argument_of(
+    table: Option<PickleTable>,
+    text: Option<PickleDocString>,
+) -> Option<PickleArgument>
     ensures { result ≡ argument_of table text }
 {
     match table {
@@ -114,19 +112,20 @@ impl ReadObject for Option<PickleArgument> {
     ghost reads = { pickle_argument };
 
     fn read(alloc: Global, object: &Value) -> Result<Option<PickleArgument>, MemberFault> {
-        let mut members = [named("dataTable"), named("docString")];
-        find(object, &mut members);
-        let [data_table, doc_string] = members;
+        let (data_table, doc_string) = two_members(object, "dataTable", "docString");
         let table = data_table.optional_nested(alloc)?;
         if data_table.is_present() && doc_string.is_present() {
             return Err(MemberFault::Bad("docString"));
         }
         let text = doc_string.optional_nested(alloc)?;
-        Ok(argument_of(table, text))
+        Ok(pickle_argument_of(table, text))
     }
 }
 
-fn read_argument(alloc: Global, member: Member<'_>) -> Result<Option<PickleArgument>, MemberFault>
+fn read_pickle_argument(
+    alloc: Global,
+    member: Member<'_>,
+) -> Result<Option<PickleArgument>, MemberFault>
     ensures { GivesMember result
         (argument_in member.entry.name.now (value_of member.entry)) }
 {
@@ -140,21 +139,14 @@ impl ReadObject for PickleStep {
     ghost reads = { pickle_step };
 
     fn read(alloc: Global, object: &Value) -> Result<PickleStep, MemberFault> {
-        let mut members = [
-            named("id"),
-            named("text"),
-            named("type"),
-            named("astNodeIds"),
-            named("argument"),
-        ];
-        find(object, &mut members);
-        let [id, text, kind, ast_node_ids, argument] = members;
+        let (id, text, kind) = three_members(object, "id", "text", "type");
+        let (ast_node_ids, argument) = two_members(object, "astNodeIds", "argument");
         Ok(PickleStep {
             id: id.text(alloc)?,
             text: text.text(alloc)?,
-            kind: optional_step_kind(kind)?,
+            kind: optional_pickle_step_kind(kind)?,
             ast_node_ids: ast_node_ids.texts(alloc)?,
-            argument: read_argument(alloc, argument)?,
+            argument: read_pickle_argument(alloc, argument)?,
         })
     }
 }
@@ -215,17 +207,8 @@ impl ReadObject for Pickle {
 
     #[inline(never)]
     fn read(alloc: Global, object: &Value) -> Result<Pickle, MemberFault> {
-        let mut members = [
-            named("id"),
-            named("uri"),
-            named("name"),
-            named("language"),
-            named("astNodeIds"),
-            named("tags"),
-            named("steps"),
-        ];
-        find(object, &mut members);
-        let [id, uri, name, language, ast_node_ids, tags, steps] = members;
+        let (id, uri, name, language) = four_members(object, "id", "uri", "name", "language");
+        let (ast_node_ids, tags, steps) = three_members(object, "astNodeIds", "tags", "steps");
         let texts = read_pickle_texts(alloc, id, uri, name, language)?;
         let lists = read_pickle_lists(alloc, ast_node_ids, tags, steps)?;
         Ok(Pickle {

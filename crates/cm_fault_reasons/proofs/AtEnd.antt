@@ -2,7 +2,7 @@
 use Rattle.std.proofs.Common.{◌≡◌, ◌∙◌, refl, sym, ap, arith, ℕ, suc, ◌+◌, ◌<◌, Bool, true, false, not, ◌&&◌, List, [], ◌∷◌, ◌++◌, Option, Some, None, Result, Ok, Err, length}
 use Rattle.std.specs.Prelude.{if◌then◌else◌}
 use Rattle.std.specs.List.{list_all}
-use Rattle.cm_attempt.specs.declared.settings.Settings.{Settings}
+use Rattle.cm_attempt.specs.declared.status.Settings.{Settings}
 use Rattle.cm_envelope.specs.Reading.{LineFault}
 use Rattle.cm_envelope.specs.declared.envelope.Envelope.{Envelope}
 use Rattle.cm_envelope.specs.declared.envelope.Envelope.TheVariants as envelope
@@ -13,8 +13,8 @@ use Rattle.cm_stream.specs.Readings.{Reading}
 use Rattle.cm_stream.specs.Redeclared.{line_judged_as}
 use Rattle.cm_stream.specs.Stream.{At, FirstFault, Found, IsFirstFault, NoFault, Troubled, answer_for, answer_in, at_end, at_line, envelope_unless_blank, feed_of, first_fault_line_by, first_fault_of_by}
 use Rattle.cm_stream.specs.Texts.{Utf8}
-use Rattle.cm_stream.specs.declared.verdict.StreamFault.TheVariants as fault
-use Rattle.cm_stream.specs.declared.verdict.Verdict.TheVariants as verdict
+use Rattle.cm_stream.specs.declared.laws.StreamFault.TheVariants as fault
+use Rattle.cm_stream.specs.declared.laws.Verdict.TheVariants as verdict
 
 -- ---- no line has that finding
 

@@ -2,7 +2,7 @@
 use Rattle.std.proofs.Common.{◌≡◌, ◌∙◌, ◌<◌, refl, sym, ap, subst, ℕ, Bool, List, [], ◌∷◌, ◌++◌, Option, Some, None, true, false, length}
 use Rattle.std.specs.Prelude.{IfSome, IsSomeAnd, ⊤, ◌&&◌, if◌then◌else◌}
 use Rattle.cm_attempt.specs.Results.{case_results}
-use Rattle.cm_attempt.specs.declared.settings.Settings.{Settings}
+use Rattle.cm_attempt.specs.declared.status.Settings.{Settings}
 use Rattle.cm_audit.specs.Watched.{DecidesVerdict, IsDecidedAt, judged_in}
 use Rattle.cm_envelope.specs.Reading.{fault_named}
 use Rattle.cm_envelope.specs.declared.envelope.Envelope.{Envelope}
@@ -18,13 +18,13 @@ use Rattle.cm_stream.specs.Redeclared.{is_redeclared, judged_as, passed_over}
 use Rattle.cm_stream.specs.References.{has_run_finished}
 use Rattle.cm_stream.specs.Stream.{FirstFault, IsFirstFault, answer_for, answer_in, feed_of}
 use Rattle.cm_stream.specs.Texts.{Utf8}
-use Rattle.cm_stream.specs.declared.verdict.Reason.{Reason}
-use Rattle.cm_stream.specs.declared.verdict.StreamFault.{StreamFault}
-use Rattle.cm_stream.specs.declared.verdict.StreamFault.TheVariants as bad
-use Rattle.cm_stream.specs.declared.verdict.Verdict.{Verdict}
-use Rattle.cm_stream.specs.declared.verdict.Verdict.TheVariants as verdict
+use Rattle.cm_stream.specs.declared.laws.Reason.{Reason}
+use Rattle.cm_stream.specs.declared.laws.StreamFault.{StreamFault}
+use Rattle.cm_stream.specs.declared.laws.StreamFault.TheVariants as bad
+use Rattle.cm_stream.specs.declared.laws.Verdict.{Verdict}
+use Rattle.cm_stream.specs.declared.laws.Verdict.TheVariants as verdict
 use Rattle.cm_reasons.specs.Trail.{trail_of}
-use Rattle.cm_reasons.specs.declared.trail.Trail.{Trail}
+use Rattle.cm_reasons.specs.declared.reasons.Trail.{Trail}
 use Rattle.cm_causes.proofs.KeptResults.{kept_results, results_at_end}
 use Rattle.cm_stream.proofs.ByGrammar.{same_reads}
 use Rattle.cm_fault_reasons.specs.AtLine.{IsToldOfLine, IsToldUnder, IsToldWith, TellsFault, TellsOf, TellsReason, TellsWith}

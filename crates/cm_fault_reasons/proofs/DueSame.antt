@@ -6,8 +6,8 @@ use Rattle.cm_attempt.specs.Calls as call
 use Rattle.cm_attempt.specs.Calls.{Call, Move, all_moves}
 use Rattle.cm_attempt.specs.Due.{DueStep, due_at, due_of, due_step}
 use Rattle.cm_attempt.specs.Table.{AttemptRow, Table, Utf8}
-use Rattle.cm_attempt.specs.declared.rows.Cursor.{Cursor}
-use Rattle.cm_attempt.specs.declared.settings.Settings.{Settings}
+use Rattle.cm_attempt.specs.declared.track.Cursor.{Cursor}
+use Rattle.cm_attempt.specs.declared.status.Settings.{Settings}
 use Rattle.cm_attempt.proofs.Accepted.{its_steps, tracked}
 use Rattle.cm_attempt.proofs.Growing.{at_end}
 use Rattle.cm_attempt.proofs.NextCall.{steps_are}

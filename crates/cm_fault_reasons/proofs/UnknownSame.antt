@@ -7,7 +7,7 @@ use Rattle.std.specs.Str.{bytes_eq}
 use Rattle.cm_attempt.specs.Table.{AttemptRow, Table, find_attempt, find_case, has_step, has_text, steps_of}
 use Rattle.cm_attempt.proofs.Accepted.{tracked}
 use Rattle.cm_attempt.proofs.Tracked.{CaseIs, known, undeclared}
-use Rattle.cm_attempt.specs.declared.settings.Settings.{Settings}
+use Rattle.cm_attempt.specs.declared.status.Settings.{Settings}
 use Rattle.cm_envelope.specs.declared.envelope.Envelope.{Envelope}
 use Rattle.cm_envelope.specs.declared.envelope.Envelope.TheVariants as envelope
 use Rattle.cm_envelope.specs.declared.envelope.TestCaseStarted.{TestCaseStarted}

@@ -1,6 +1,6 @@
 -- What is told of the line of a stream that decides, under the answer.
 use Rattle.std.specs.Prelude.{◌≡◌, ◌+◌, ⊤, ℕ, true, false, List, [], ◌∷◌, ◌++◌, Option, None, Some, Result, Ok, IsSomeAnd, length}
-use Rattle.cm_attempt.specs.declared.settings.Settings.{Settings}
+use Rattle.cm_attempt.specs.declared.status.Settings.{Settings}
 use Rattle.cm_audit.specs.Watched.{judged_in}
 use Rattle.cm_envelope.specs.declared.envelope.Envelope.{Envelope}
 use Rattle.cm_state.specs.Summary.{Summary}
@@ -10,13 +10,13 @@ use Rattle.cm_stream.specs.Readings.{Reading, ReadsByTheGrammar}
 use Rattle.cm_stream.specs.Redeclared.{judged_as}
 use Rattle.cm_stream.specs.Stream.{envelope_unless_blank, feed_of}
 use Rattle.cm_stream.specs.Texts.{Utf8}
-use Rattle.cm_stream.specs.declared.verdict.Reason.{Reason}
-use Rattle.cm_stream.specs.declared.verdict.StreamFault.{StreamFault}
-use Rattle.cm_stream.specs.declared.verdict.StreamFault.TheVariants as fault
-use Rattle.cm_stream.specs.declared.verdict.Verdict.{Verdict}
-use Rattle.cm_stream.specs.declared.verdict.Verdict.TheVariants as verdict
+use Rattle.cm_stream.specs.declared.laws.Reason.{Reason}
+use Rattle.cm_stream.specs.declared.laws.StreamFault.{StreamFault}
+use Rattle.cm_stream.specs.declared.laws.StreamFault.TheVariants as fault
+use Rattle.cm_stream.specs.declared.laws.Verdict.{Verdict}
+use Rattle.cm_stream.specs.declared.laws.Verdict.TheVariants as verdict
 use Rattle.cm_reasons.specs.Trail.{trail_of}
-use Rattle.cm_reasons.specs.declared.trail.Trail.{Trail}
+use Rattle.cm_reasons.specs.declared.reasons.Trail.{Trail}
 use Rattle.cm_source_reasons.specs.Deciding.{IsDeciding}
 use Rattle.cm_fault_reasons.specs.RunLines.{IsToldAtEnd}
 use Rattle.cm_fault_reasons.specs.ToldAt.{IsTold, reason_lines}

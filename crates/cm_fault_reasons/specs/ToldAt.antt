@@ -1,15 +1,15 @@
 -- What is told of the line that decides, beside the answer.
 use Rattle.std.specs.Prelude.{◌≡◌, ℕ, List, [], ◌∷◌, ◌++◌, Option, Some, None, option_map}
-use Rattle.cm_attempt.specs.declared.settings.Settings.{Settings}
+use Rattle.cm_attempt.specs.declared.status.Settings.{Settings}
 use Rattle.cm_envelope.specs.declared.envelope.Envelope.{Envelope}
 use Rattle.cm_envelope.specs.declared.envelope.Envelope.TheVariants as envelope
 use Rattle.cm_stream.specs.Findings as bad
 use Rattle.cm_stream.specs.Findings.{Finding, IsBad, IsUnsupported}
 use Rattle.cm_stream.specs.Readings.{Reading}
 use Rattle.cm_stream.specs.Texts.{Utf8}
-use Rattle.cm_stream.specs.declared.verdict.Reason.{Reason}
-use Rattle.cm_stream.specs.declared.verdict.Reason.TheVariants as reason
-use Rattle.cm_stream.specs.declared.verdict.StreamFault.TheVariants as fault
+use Rattle.cm_stream.specs.declared.laws.Reason.{Reason}
+use Rattle.cm_stream.specs.declared.laws.Reason.TheVariants as reason
+use Rattle.cm_stream.specs.declared.laws.StreamFault.TheVariants as fault
 use Rattle.cm_source_reasons.specs.SourceReasons.{IsSourceReason}
 use Rattle.cm_fault_reasons.specs.AttemptLines.{declared_lines, due_number, number_lines, order_lines, started_lines, status_lines}
 use Rattle.cm_fault_reasons.specs.Duplicate.{first_duplicate}

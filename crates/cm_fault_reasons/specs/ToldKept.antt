@@ -2,7 +2,7 @@
 use Rattle.std.specs.Prelude.{◌≡◌, ⊤, ◌+◌, ◌-◌, ℕ, Bool, true, false, List, Option, None, length, option_map}
 use Rattle.cm_attempt.specs.Due.{due_step}
 use Rattle.cm_attempt.specs.Results.{case_results}
-use Rattle.cm_attempt.specs.declared.settings.Settings.{Settings}
+use Rattle.cm_attempt.specs.declared.status.Settings.{Settings}
 use Rattle.cm_envelope.specs.declared.envelope.Envelope.{Envelope}
 use Rattle.cm_envelope.specs.declared.envelope.Envelope.TheVariants as envelope
 use Rattle.cm_state.specs.Summary.{Summary}
@@ -11,8 +11,8 @@ use Rattle.cm_stream.specs.Findings.{Finding, IsBad, IsUnsupported}
 use Rattle.cm_stream.specs.References.{starts_of}
 use Rattle.cm_stream.specs.Results.{results_of}
 use Rattle.cm_stream.specs.Texts.{Utf8}
-use Rattle.cm_stream.specs.declared.verdict.StreamFault.{StreamFault}
-use Rattle.cm_stream.specs.declared.verdict.StreamFault.TheVariants as fault
+use Rattle.cm_stream.specs.declared.laws.StreamFault.{StreamFault}
+use Rattle.cm_stream.specs.declared.laws.StreamFault.TheVariants as fault
 use Rattle.cm_fault_reasons.specs.AttemptLines.{declared_lines, number_lines, order_lines, started_lines}
 use Rattle.cm_fault_reasons.specs.DuplicateKept.{duplicate_by}
 use Rattle.cm_fault_reasons.specs.RunLines.{ended_hook_lines, hook_open_lines, open_case_lines}

@@ -4,7 +4,6 @@
 
 mod at_line;
 mod duplicate;
-mod run;
 mod scenario;
 mod steps;
 mod unknown;

@@ -1,14 +1,14 @@
 -- Good streams exist, and released ones.
 use Rattle.std.specs.Prelude.{ℕ, List}
-use Rattle.cm_attempt.specs.declared.policy.Policy.TheVariants.{Strict}
+use Rattle.cm_attempt.specs.declared.status.Policy.TheVariants.{Strict}
 use Rattle.cm_attempt.specs.Settings.{settings_of}
-use Rattle.cm_attempt.specs.declared.settings.Settings.{Settings}
+use Rattle.cm_attempt.specs.declared.status.Settings.{Settings}
 use Rattle.cm_stream.specs.Good.{Good}
 use Rattle.cm_stream.specs.Release.{Conditions, IsReleasedStream, each_runs, release_counts_of}
-use Rattle.cm_stream.specs.declared.conditions.ReleaseCounts.{ReleaseCounts}
+use Rattle.cm_stream.specs.declared.laws.ReleaseCounts.{ReleaseCounts}
 use Rattle.cm_envelope.specs.declared.envelope.Envelope.{Envelope}
 use Rattle.cm_stream.specs.Stream.{IsGoodStream}
-use Rattle.cm_stream.specs.declared.verdict.Counts.{Counts}
+use Rattle.cm_stream.specs.declared.laws.Counts.{Counts}
 use Rattle.cm_good_streams.specs.Streams.{retried, interleaved, refused_beside_accepted}
 use Rattle.cm_good_streams.specs.Lines.{bytes_of, retried_lines, interleaved_lines, refused_lines}
 

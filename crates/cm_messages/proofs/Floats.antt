@@ -18,11 +18,11 @@ use Rattle.gk_document.specs.declared.tree.Scenario.{Scenario}
 use Rattle.gk_document.specs.declared.tree.Rule.{Rule}
 use Rattle.gk_document.specs.declared.tree.Feature.{Feature}
 use Rattle.gk_document.specs.declared.tree.Document.{Document}
-use Rattle.gk_pickle.specs.declared.pickle.PickleDocString.{PickleDocString}
-use Rattle.gk_pickle.specs.declared.pickle.PickleArgument.{PickleArgument}
-use Rattle.gk_pickle.specs.declared.pickle.PickleArgument.TheVariants as value
-use Rattle.gk_pickle.specs.declared.pickle.PickleStep.{PickleStep}
-use Rattle.gk_pickle.specs.declared.pickle.Pickle.{Pickle}
+use Rattle.gk_pickle.specs.declared.pickles.PickleDocString.{PickleDocString}
+use Rattle.gk_pickle.specs.declared.pickles.PickleArgument.{PickleArgument}
+use Rattle.gk_pickle.specs.declared.pickles.PickleArgument.TheVariants as value
+use Rattle.gk_pickle.specs.declared.pickles.PickleStep.{PickleStep}
+use Rattle.gk_pickle.specs.declared.pickles.Pickle.{Pickle}
 use Rattle.gk_document.specs.ExampleRows.{table_rows_of}
 use Rattle.cm_messages.specs.Layout.{list_data, id_data, media_data}
 use Rattle.cm_messages.specs.SourceLayout.{source_data}

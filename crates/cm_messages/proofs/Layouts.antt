@@ -10,7 +10,7 @@ use Rattle.gk_document.specs.declared.tree.Argument.TheVariants as argument
 use Rattle.gk_document.specs.declared.tree.Background.{Background}
 use Rattle.gk_document.specs.declared.tree.Scenario.{Scenario}
 use Rattle.gk_document.specs.declared.tree.Rule.{Rule}
-use Rattle.gk_pickle.specs.declared.pickle.PickleStep.{PickleStep}
+use Rattle.gk_pickle.specs.declared.pickles.PickleStep.{PickleStep}
 use Rattle.cm_messages.specs.Layout.{object_with, object_with_two}
 use Rattle.cm_messages.specs.DocumentLayout.{scenario_child, rule_child, children_data, argument_table, argument_doc_string}
 use Rattle.cm_messages.specs.PickleLayout.{pickle_steps_data}

@@ -16,14 +16,11 @@ mod document_message;
 mod message_text;
 mod pickle_message;
 mod send;
-mod source_message;
-mod value_text;
 
 pub use document_message::{keyword_type_name, place_of_table};
 pub use message_text::{document_text, pickle_text, source_text};
 pub use pickle_message::step_type_name;
 pub use send::{
-    MessageLayout, SendJson, one_if, send_list, send_list_member, send_member, send_number,
-    send_only, send_only_list, send_optional, send_str, send_text,
+    MessageLayout, SendJson, json_text, one_if, send_list, send_list_member, send_member,
+    send_number, send_only, send_only_list, send_optional, send_str, send_text,
 };
-pub use value_text::json_text;

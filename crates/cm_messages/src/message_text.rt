@@ -7,10 +7,10 @@ ghost use Rattle.cm_messages.specs.PickleLayout.{pickle_data};
 
 use crate::document_message::DocumentMessage;
 use crate::pickle_message::PickleMessage;
-use crate::source_message::SourceMessage;
-use crate::value_text::json_text;
+use crate::send::{MessageLayout, SendJson, json_text, send_str};
 use gk_document::Document;
 use gk_pickle::Pickle;
+use serde::Serializer;
 use std::alloc::{AllocError, Global};
 
 /// The envelope of a source as compact JSON, with the text as given. Its members are those of Cucumber Messages'
@@ -62,4 +62,27 @@ pub fn pickle_text(
     };
     let bytes = json_text(alloc, &message)?;
     Ok(bytes)
+}
+
+/// A source, written as its envelope: its members are those of Cucumber Messages' `Source.json`, in the byte order of their
+/// names.
+#[derive(Clone, Copy)]
+pub(crate) struct SourceMessage<'a> {
+    pub(crate) uri: &'a str,
+    pub(crate) text: &'a str,
+}
+
+impl SendJson<MessageLayout> for SourceMessage<'_> {
+    ghost json = { λ m. source_data m.uri.now m.text.now };
+
+    fn send<S: Serializer>(&self, out: &mut S) -> Result<(), S::Error> {
+        out.begin_map(Some(1))?;
+        out.key("source")?;
+        out.begin_map(Some(3))?;
+        send_str("data", self.text, out)?;
+        send_str("mediaType", "text/x.cucumber.gherkin+plain", out)?;
+        send_str("uri", self.uri, out)?;
+        out.end_map()?;
+        out.end_map()
+    }
 }

@@ -6,7 +6,8 @@ ghost use Rattle.serde_json.specs.View.{items_of};
 ghost use Rattle.serde_json.specs.Events.{SendsValue};
 ghost use Rattle.cm_messages.specs.Sending.{SendsMember};
 ghost use Rattle.cm_messages.specs.Layout.{object_of, list_data, id_data};
-ghost use Rattle.cm_messages.specs.PickleLayout.{type_word, pickle_tag_data, pickle_cell_data, pickle_row_data, pickle_doc_string_data, argument_data, pickle_step_data, pickle_steps_data, pickle_data};
+ghost use Rattle.cm_messages.specs.PickleLayout.{type_word, pickle_tag_data, pickle_row_data, pickle_doc_string_data, argument_data};
+ghost use Rattle.cm_messages.specs.PickleLayout.{pickle_step_data, pickle_steps_data, pickle_data};
 
 use crate::send::{
     MessageLayout, SendJson, media_of, one_if, send_list_member, send_media, send_member,
@@ -24,26 +25,6 @@ impl SendJson<MessageLayout> for PickleTag {
         send_member("astNodeId", &self.node, out)?;
         send_text("name", &self.name, out)?;
         out.end_map()
-    }
-}
-
-/// A cell of a table.
-impl SendJson<MessageLayout> for Text {
-    ghost json = { pickle_cell_data };
-
-    fn send<S: Serializer>(&self, out: &mut S) -> Result<(), S::Error> {
-        out.begin_map(Some(1))?;
-        send_text("value", self, out)?;
-        out.end_map()
-    }
-}
-
-/// A row of a table.
-impl SendJson<MessageLayout> for Sequence<Text> {
-    ghost json = { pickle_row_data };
-
-    fn send<S: Serializer>(&self, out: &mut S) -> Result<(), S::Error> {
-        send_only_list("cells", self, out)
     }
 }
 
@@ -105,7 +86,7 @@ fn send_step_type<S: Serializer>(kind: StepType, out: &mut S) -> Result<(), S::E
 }
 
 /// A step with its id.
-fn send_step<S: Serializer>(step: &PickleStep, id: u64, out: &mut S) -> Result<(), S::Error>
+fn send_pickle_step<S: Serializer>(step: &PickleStep, id: u64, out: &mut S) -> Result<(), S::Error>
     ensures { OnOk result
         (SendsValue (pickle_step_data id step.now) (S.written out.old) (S.written out.new)) }
 {
@@ -120,7 +101,7 @@ fn send_step<S: Serializer>(step: &PickleStep, id: u64, out: &mut S) -> Result<(
 }
 
 /// Steps with the ids from the first one on, one after the other.
-fn send_steps<S: Serializer>(
+fn send_pickle_steps<S: Serializer>(
     steps: &[PickleStep],
     first_id: u64,
     out: &mut S,
@@ -131,14 +112,14 @@ fn send_steps<S: Serializer>(
 {
     let mut id = first_id;
     'steps: for step in steps {
-        send_step(step, id, out)?;
+        send_pickle_step(step, id, out)?;
         id += 1;
     }
     Ok(())
 }
 
 /// Steps with the ids from the first one on, as an array.
-fn send_steps_list<S: Serializer>(
+fn send_pickle_steps_list<S: Serializer>(
     steps: &[PickleStep],
     first_id: u64,
     out: &mut S,
@@ -149,12 +130,12 @@ fn send_steps_list<S: Serializer>(
 {
     let count = steps.len();
     out.begin_seq(Some(count))?;
-    send_steps(steps, first_id, out)?;
+    send_pickle_steps(steps, first_id, out)?;
     out.end_seq()
 }
 
 /// The member `steps` of a pickle.
-fn send_steps_member<S: Serializer>(
+fn send_pickle_steps_member<S: Serializer>(
     steps: &Sequence<PickleStep>,
     first_id: u64,
     out: &mut S,
@@ -165,7 +146,7 @@ fn send_steps_member<S: Serializer>(
         (S.written out.old) (S.written out.new)) }
 {
     out.key("steps")?;
-    send_steps_list(steps.as_slice(), first_id, out)
+    send_pickle_steps_list(steps.as_slice(), first_id, out)
 }
 
 /// The member `id` of a pickle: the id after those of its steps.
@@ -204,7 +185,7 @@ impl SendJson<MessageLayout> for PickleMessage<'_> {
         send_pickle_id(&self.pickle.steps, self.first_id, out)?;
         send_str("language", "en", out)?;
         send_text("name", &self.pickle.name, out)?;
-        send_steps_member(&self.pickle.steps, self.first_id, out)?;
+        send_pickle_steps_member(&self.pickle.steps, self.first_id, out)?;
         send_list_member("tags", &self.pickle.tags, out)?;
         send_str("uri", self.uri, out)?;
         out.end_map()?;

@@ -1,14 +1,19 @@
 //! Values sent to a serializer as JSON, with no value in between.
-ghost use Rattle.std.specs.Prelude.{◌≡◌, ◌≤◌, [], ◌∷◌, map, codes, OnOk, option_map};
+ghost use Rattle.std.specs.Prelude.{◌≡◌, ◌≤◌, [], ◌∷◌, map, codes, OnOk, option_map, IfOk, false, ◌<◌};
 ghost use Rattle.serde.specs.Event.{WritesEach};
-ghost use Rattle.serde_json.specs.Data.{Data, number, string, unsigned};
+ghost use Rattle.serde_json.specs.Data.{Data, number, string, unsigned, array};
 ghost use Rattle.serde_json.specs.Events.{SendsValue};
 ghost use Rattle.cm_messages.specs.Layout.{object_of, id_data, list_data, media_data};
 ghost use Rattle.cm_messages.specs.Sending.{SendsMember, SendsOptional, present};
+ghost use Rattle.serde_json.specs.Written.{compact_text, has_float};
+ghost use Rattle.cm_messages.specs.PickleLayout.{pickle_cell_data, pickle_row_data};
 
 use gk_document::{Sequence, Text};
 use itoa::Buffer;
-use serde::Serializer;
+use serde::{Described, Serialize, Serializer};
+use serde_json::to_vec;
+use std::alloc::{AllocError, Global};
+use std::marker::PhantomData;
 
 /// A value that is sent to a serializer as JSON in a layout: which members it has, and what they hold.
 pub trait SendJson<Layout> {
@@ -241,4 +246,63 @@ pub(crate) fn send_each_only<Layout, T: SendJson<Layout>, S: Serializer>(
         send_only(name, item, out)?;
     }
     Ok(())
+}
+
+/// A value in a layout, as `serde` takes it.
+#[derive(Drop)]
+struct Sent<'a, Layout, T> {
+    value: &'a T,
+    layout: PhantomData<Layout>,
+}
+
+impl<Layout, T: SendJson<Layout>> Described for Sent<'_, Layout, T> {
+    ghost writes = { λ s. SendsValue (T.json s.value.now) };
+}
+
+impl<Layout, T: SendJson<Layout>> Serialize for Sent<'_, Layout, T> {
+    fn serialize<S: Serializer>(&self, out: &mut S) -> Result<(), S::Error> {
+        self.value.send(out)
+    }
+}
+
+/// The value as compact JSON. Each error of the serializer is given as want of memory: no part of a value is one
+/// that it refuses otherwise.
+///
+/// # Errors
+/// Where there is no memory for it, as `serde_json` says.
+pub fn json_text<Layout, T: SendJson<Layout>>(
+    alloc: Global,
+    value: &T,
+) -> Result<Vec<u8>, AllocError>
+    ensures { IfOk result (λ bytes. has_float (T.json value.now) ≡ false
+        → bytes.items ≡ compact_text (T.json value.now)) }
+{
+    let sent = Sent {
+        value,
+        layout: PhantomData,
+    };
+    match to_vec(alloc, &sent) {
+        Ok(bytes) => Ok(bytes),
+        Err(_) => Err(AllocError),
+    }
+}
+
+/// A cell of a table.
+impl SendJson<MessageLayout> for Text {
+    ghost json = { pickle_cell_data };
+
+    fn send<S: Serializer>(&self, out: &mut S) -> Result<(), S::Error> {
+        out.begin_map(Some(1))?;
+        send_text("value", self, out)?;
+        out.end_map()
+    }
+}
+
+/// A row of a table.
+impl SendJson<MessageLayout> for Sequence<Text> {
+    ghost json = { pickle_row_data };
+
+    fn send<S: Serializer>(&self, out: &mut S) -> Result<(), S::Error> {
+        send_only_list("cells", self, out)
+    }
 }

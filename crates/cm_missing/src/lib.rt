@@ -28,7 +28,6 @@
 
 mod laws;
 mod missing;
-mod pickle_lines;
 
 pub use laws::{counts_are_determined, each_pickle_has_a_line, missing_lines_are_determined};
 pub use missing::Missing;

@@ -1,22 +1,24 @@
 //! What is missing of feature files.
-ghost use Rattle.std.specs.Prelude.{◌≡◌, ◌≢◌, ◌↔◌, ◌+◌, ◌++◌, ◌∷◌, [], List, ℕ, true, IfOk, OnErr, OnOk, length, option_map, string_bytes, drop};
+ghost use Rattle.std.specs.Prelude.{◌≡◌, ◌≢◌, ◌↔◌, ◌+◌, ◌++◌, ◌∷◌, [], List, ℕ, true, IfOk, OnErr, OnOk, length, option_map, string_bytes};
+ghost use Rattle.std.specs.Prelude.{drop};
 ghost use Rattle.cm_reasons.specs.Lines.{limited, more_text};
 ghost use Rattle.cm_stream.specs.Release.{Conditions as SomeConditions, conditions_of};
 ghost use Rattle.gk_pickle.specs.Scenarios.{pickles_of_one};
 ghost use Rattle.gk_tree.specs.Views.{too_long};
-ghost use Rattle.cm_missing.specs.Missing.{AllScenariosRan, AreMissingLines, AskedFile, IsFileReading, IsMissingOf, IsScenarioCount, IsUnrunCount, asked_from, asked_pickles, flag_at};
-ghost use Rattle.cm_missing.specs.PickleLines.{lines_of_one};
+ghost use Rattle.cm_missing.specs.Missing.{AllScenariosRan, AreMissingLines, AskedFile, IsFileReading, IsMissingOf, IsScenarioCount};
+ghost use Rattle.cm_missing.specs.Missing.{IsUnrunCount, asked_from, asked_pickles, flag_at};
+ghost use Rattle.cm_missing.specs.PickleLines.{lines_of_one, outline_lines, row_lines};
 ghost use Rattle.cm_missing.specs.Findings.{finding_line};
 ghost use Rattle.cm_missing.specs.Told.{KeepsMore, line_told, pickles_told, reading_of};
 ghost use Rattle.std.specs.List.{list_any};
 ghost use Rattle.std.specs.Str.{bytes_eq};
 ghost use Rattle.cm_stream.specs.ReleasedRuns.{may_be_left_out};
+ghost use Rattle.gk_pickle.specs.Counts.{body_rows};
 
-use crate::pickle_lines::lines_of_pickles;
 use cm_cases::add_shown;
 use cm_reasons::{MOST_LINES, add_more, kind_label};
 use cm_stream::Conditions;
-use gk_document::Document;
+use gk_document::{Document, Examples, Scenario};
 use gk_grammar::FaultKind;
 use gk_pickle::{Pickle, PickleTag, ScenarioInFeature, compile_scenario, scenarios};
 use gk_tree::{ParseFault, parse};
@@ -345,4 +347,43 @@ fn may_be_left_out(conditions: &Conditions<'_>, pickle: &Pickle) -> bool
     ensures { result ≡ may_be_left_out (conditions_of conditions.now) pickle.now }
 {
     conditions.allows_unrun || has_one(pickle.tags.as_slice(), conditions.allowed_tags.as_slice())
+}
+
+/// Adds the lines of a block's rows below its header.
+fn add_rows(block: &Examples, lines: &mut Vec<u32>) -> Result<(), AllocError>
+    ensures { OnOk result
+        (lines.new.items ≡ lines.old.items ++ row_lines (body_rows block.now)) }
+{
+    if let Some(table) = &block.table {
+        for row in table.body.as_slice() {
+            lines.push(row.location.line)?;
+        }
+    }
+    Ok(())
+}
+
+/// Adds the lines of a scenario's pickles.
+fn add_outline(scenario: &Scenario, lines: &mut Vec<u32>) -> Result<(), AllocError>
+    ensures { OnOk result (lines.new.items
+        ≡ lines.old.items ++ outline_lines scenario.now scenario.now.examples) }
+{
+    let examples = scenario.examples.as_slice();
+    if examples.is_empty() {
+        lines.push(scenario.location.line)?;
+        return Ok(());
+    }
+    for block in examples {
+        add_rows(block, lines)?;
+    }
+    Ok(())
+}
+
+/// The lines of the pickles of one scenario, in their order: of an outline's pickle that of its row.
+#[tactic(auto, unfolding(crate::specs::PickleLines::lines_of_one))]
+fn lines_of_pickles(alloc: Global, scenario: &ScenarioInFeature<'_>) -> Result<Vec<u32>, AllocError>
+    ensures { IfOk result (λ lines. lines.items ≡ lines_of_one scenario.now) }
+{
+    let mut lines = Vec::new(alloc);
+    add_outline(scenario.scenario, &mut lines)?;
+    Ok(lines)
 }

@@ -3,8 +3,8 @@ use Rattle.std.specs.Prelude.{◌≡◌, ◌&&◌, ℕ, Bool, true, false, Conta
 use Rattle.std.specs.List.{list_any}
 use Rattle.std.specs.Option.{option_map_or}
 use Rattle.std.specs.Str.{bytes_eq}
-use Rattle.cm_attempt.specs.declared.policy.Policy.{Policy}
-use Rattle.cm_attempt.specs.declared.settings.Settings.{Settings}
+use Rattle.cm_attempt.specs.declared.status.Policy.{Policy}
+use Rattle.cm_attempt.specs.declared.status.Settings.{Settings}
 use Rattle.cm_envelope.specs.declared.envelope.Envelope.{Envelope}
 use Rattle.cm_envelope.specs.declared.envelope.Source.{Source}
 use Rattle.cm_envelope.specs.declared.pickle.Pickle.{Pickle}
@@ -12,8 +12,8 @@ use Rattle.cm_stream.specs.References.{pickles_of, sources}
 use Rattle.cm_stream.specs.Release.{Conditions, IsReleasedStream, is_named}
 use Rattle.cm_stream.specs.ReleasedRuns.{IsCompiled, Ran}
 use Rattle.cm_stream.specs.Texts.{Utf8}
-use Rattle.cm_stream.specs.declared.conditions.ReleaseCounts.{ReleaseCounts}
-use Rattle.cm_stream.specs.declared.verdict.Counts.{Counts}
+use Rattle.cm_stream.specs.declared.laws.ReleaseCounts.{ReleaseCounts}
+use Rattle.cm_stream.specs.declared.laws.Counts.{Counts}
 
 -- a test case names the pickle at this place, from 0, of those of the uri
 abbrev pub is_run_of : List Envelope → (uri : Utf8) → (place : ℕ) → Bool

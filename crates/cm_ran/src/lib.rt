@@ -27,10 +27,8 @@
 //! a flag of each that ran, over any number of streams, and nothing else of them (`specs/Marks`).
 #![tactic(auto)]
 
-mod flags;
 mod laws;
 mod marks;
-mod rows;
 
 pub use laws::run_scenarios_ran;
 pub use marks::Marks;

@@ -1,5 +1,6 @@
 //! Which scenarios of some texts ran.
-ghost use Rattle.std.specs.Prelude.{◌≡◌, ◌||◌, ◌&&◌, [], ℕ, List, false, OnErr, OnOk, length, map, slice_index_or};
+ghost use Rattle.std.specs.Prelude.{◌≡◌, ◌||◌, ◌&&◌, [], ℕ, List, false, OnErr, OnOk, length, map, slice_index_or, IfOk, max, ◌++◌, ◌∷◌};
+ghost use Rattle.std.specs.Prelude.{if◌then◌else◌};
 ghost use Rattle.std.specs.Str.{bytes_eq};
 ghost use Rattle.cm_cases.specs.Listed.{both_texts};
 ghost use Rattle.cm_envelope.specs.declared.envelope.Envelope.{Envelope as SomeEnvelope};
@@ -7,10 +8,9 @@ ghost use Rattle.cm_reasons.specs.Trail.{trail_of};
 ghost use Rattle.cm_ran.specs.Marks.{AlsoRan, CompilesTo, HasSameFlags, HasWholeRows, Marked, marked_texts, ran, with_text};
 ghost use Rattle.cm_attempt.specs.Table.{has_text};
 ghost use Rattle.cm_ran.specs.Compiled.{HasCompiled};
-ghost use Rattle.cm_ran.specs.Rows.{flag_at, is_set_at, row_at};
+ghost use Rattle.cm_ran.specs.Rows.{flag_at, is_set_at, row_at, flags_in};
 
-use crate::flags::{either, is_set};
-use crate::rows::{Rows, rows_of};
+use cm_cases::{ByText, Whole, firsts_of};
 use cm_reasons::Trail;
 use indexmap::IndexMap;
 use std::alloc::{AllocError, Global};
@@ -152,4 +152,68 @@ impl<'a> Marks<'a> {
         let rows = rows_of(alloc, seed, pickles.as_slice(), named.as_slice())?;
         self.mark_sources(alloc, sources.as_slice(), &rows)
     }
+}
+
+/// Whether the flag of the place is set; past the row none is.
+fn is_set(row: &[bool], place: usize) -> bool
+    ensures { result ≡ slice_index_or row.now place false }
+{
+    match row.get(place) {
+        Some(flag) => *flag,
+        None => false,
+    }
+}
+
+/// The flags that are set in one of the rows, or in both, as many as the longer one has.
+fn either(alloc: Global, first: &[bool], second: &[bool]) -> Result<Vec<bool>, AllocError>
+    ensures flags { IfOk result (λ row. (place : ℕ) → slice_index_or row.items place false
+        ≡ (slice_index_or first.now place false || slice_index_or second.now place false)) }
+    ensures long { IfOk result (λ row. length row.items
+        ≡ max (length first.now) (length second.now)) }
+{
+    let mut row = Vec::new(alloc);
+    for place in 0..first.len().max(second.len()) {
+        let flag = is_set(first, place) || is_set(second, place);
+        row.push(flag)?;
+    }
+    Ok(row)
+}
+
+/// Of each text a row of flags.
+pub(crate) type Rows<'a> = ByText<'a, Vec<bool>>;
+
+/// Adds a flag after the others of the text.
+fn add_flag<'a>(
+    alloc: Global,
+    rows: &mut Rows<'a>,
+    text: &'a str,
+    flag: bool,
+) -> Result<(), AllocError>
+    ensures { OnOk result ((other : List ℕ) → row_at rows.new other
+        ≡ row_at rows.old other ++ (if bytes_eq other text.now then flag ∷ [] else [])) }
+{
+    let mut row = rows.swap_remove(text).unwrap_or(Vec::new(alloc));
+    row.push(flag)?;
+    rows.insert(text, row)?;
+    Ok(())
+}
+
+/// Of each uri, for each of its pickles in order whether its id is among those that are named. The pickles are given by their
+/// ids and uris.
+fn rows_of<'a>(
+    alloc: Global,
+    seed: RandomState,
+    pickles: &[(&'a str, &'a str)],
+    named: &[&'a str],
+) -> Result<Rows<'a>, AllocError>
+    ensures { IfOk result (λ rows. (uri : List ℕ) → row_at rows uri
+        ≡ flags_in (map (λ id. id.now) named.now) (map both_texts pickles.now) uri) }
+{
+    let among = firsts_of::<Whole, &str>(alloc, seed, named)?;
+    let mut rows = IndexMap::with_hasher(alloc, seed);
+    for pickle in pickles {
+        let flag = among.contains_key(pickle.0);
+        add_flag(alloc, &mut rows, pickle.1, flag)?;
+    }
+    Ok(rows)
 }

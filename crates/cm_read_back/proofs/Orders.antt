@@ -18,12 +18,12 @@ use Rattle.gk_document.specs.declared.tree.Rule.{Rule}
 use Rattle.gk_document.specs.declared.tree.Feature.{Feature}
 use Rattle.gk_document.specs.declared.tree.Comment.{Comment}
 use Rattle.gk_document.specs.declared.tree.Document.{Document}
-use Rattle.gk_pickle.specs.declared.pickle.PickleTag.{PickleTag}
-use Rattle.gk_pickle.specs.declared.pickle.PickleDocString.{PickleDocString}
-use Rattle.gk_pickle.specs.declared.pickle.PickleArgument.{PickleArgument}
-use Rattle.gk_pickle.specs.declared.pickle.PickleArgument.TheVariants.{Table, Text}
-use Rattle.gk_pickle.specs.declared.pickle.PickleStep.{PickleStep}
-use Rattle.gk_pickle.specs.declared.pickle.Pickle.{Pickle}
+use Rattle.gk_pickle.specs.declared.pickles.PickleTag.{PickleTag}
+use Rattle.gk_pickle.specs.declared.pickles.PickleDocString.{PickleDocString}
+use Rattle.gk_pickle.specs.declared.pickles.PickleArgument.{PickleArgument}
+use Rattle.gk_pickle.specs.declared.pickles.PickleArgument.TheVariants.{Table, Text}
+use Rattle.gk_pickle.specs.declared.pickles.PickleStep.{PickleStep}
+use Rattle.gk_pickle.specs.declared.pickles.Pickle.{Pickle}
 use Rattle.cm_messages.specs.Layout.{id_data}
 use Rattle.cm_messages.specs.SourceLayout.{source_data}
 use Rattle.cm_messages.specs.DocumentLayout.{cell_data, row_data, tag_data, comment_data, doc_string_data, step_data, background_child, examples_data, scenario_child, children_data, rule_child, feature_data, document_data}

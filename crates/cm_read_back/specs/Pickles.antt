@@ -1,13 +1,13 @@
 -- What a source and a pickle are read as: each id is a number in decimal, and an empty media type is none.
 use Rattle.std.specs.Prelude.{ℕ, ◌+◌, List, [], ◌∷◌, length, map, option_map, option_and_then, Some, codes, decimal}
-use Rattle.gk_pickle.specs.declared.pickle.StepType.{StepType}
-use Rattle.gk_pickle.specs.declared.pickle.StepType.TheVariants as written_kind
-use Rattle.gk_pickle.specs.declared.pickle.PickleTag as written_tag
-use Rattle.gk_pickle.specs.declared.pickle.PickleDocString as written_doc_string
-use Rattle.gk_pickle.specs.declared.pickle.PickleArgument as written_argument
-use Rattle.gk_pickle.specs.declared.pickle.PickleArgument.TheVariants as written
-use Rattle.gk_pickle.specs.declared.pickle.PickleStep as written_step
-use Rattle.gk_pickle.specs.declared.pickle.Pickle as written_pickle
+use Rattle.gk_pickle.specs.declared.pickles.StepType.{StepType}
+use Rattle.gk_pickle.specs.declared.pickles.StepType.TheVariants as written_kind
+use Rattle.gk_pickle.specs.declared.pickles.PickleTag as written_tag
+use Rattle.gk_pickle.specs.declared.pickles.PickleDocString as written_doc_string
+use Rattle.gk_pickle.specs.declared.pickles.PickleArgument as written_argument
+use Rattle.gk_pickle.specs.declared.pickles.PickleArgument.TheVariants as written
+use Rattle.gk_pickle.specs.declared.pickles.PickleStep as written_step
+use Rattle.gk_pickle.specs.declared.pickles.Pickle as written_pickle
 use Rattle.gk_document.specs.MediaType.{unless_empty as media_type}
 use Rattle.cm_envelope.specs.declared.envelope.Source.{Source}
 use Rattle.cm_envelope.specs.declared.pickle.StepKind.{StepKind}

@@ -6,7 +6,7 @@ use Rattle.std.specs.Str.{bytes_eq}
 use Rattle.std.proofs.lemmas.List.{map-append, take_more}
 use Rattle.std.proofs.lemmas.List.Elements.{filter-append, filter_agree}
 use Rattle.cm_attempt.specs.Table.{is_good_status}
-use Rattle.cm_attempt.specs.declared.policy.Policy.{Policy}
+use Rattle.cm_attempt.specs.declared.status.Policy.{Policy}
 use Rattle.cm_attempt.specs.declared.status.Status.{Status}
 use Rattle.cm_cases.specs.Firsts.{or_else}
 use Rattle.cm_envelope.specs.declared.envelope.Envelope.{Envelope}
@@ -17,9 +17,9 @@ use Rattle.cm_stream.specs.Texts.{Utf8}
 use Rattle.cm_reasons.specs.Run.{run_hook_end, run_hook_entry, run_listing_of}
 use Rattle.cm_reasons.specs.RunKept.{bad_end_in, bad_entry_lines, entry_line, is_finished_in, open_entries}
 use Rattle.cm_reasons.specs.RunReasons.{bad_end, bad_hook_line, hook_causes, open_hook_lines, run_hook_line, run_hook_lines}
-use Rattle.cm_reasons.specs.declared.run_hooks.RunHookEnd.{RunHookEnd}
-use Rattle.cm_reasons.specs.declared.run_hooks.RunHookEntry.{RunHookEntry}
-use Rattle.cm_reasons.specs.declared.run_hooks.RunListing.{RunListing}
+use Rattle.cm_reasons.specs.declared.reasons.RunHookEnd.{RunHookEnd}
+use Rattle.cm_reasons.specs.declared.reasons.RunHookEntry.{RunHookEntry}
+use Rattle.cm_reasons.specs.declared.reasons.RunListing.{RunListing}
 
 -- ---- what is kept of a list
 

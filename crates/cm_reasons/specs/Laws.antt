@@ -1,7 +1,7 @@
 -- What holds of the lines of steps, of sources that are refused and of run hooks.
 use Rattle.std.specs.Prelude.{◌≡◌, ◌↔◌, ℕ, List, [], count_by, false}
 use Rattle.std.specs.List.{AllByRecursion}
-use Rattle.cm_attempt.specs.declared.policy.Policy.{Policy}
+use Rattle.cm_attempt.specs.declared.status.Policy.{Policy}
 use Rattle.cm_envelope.specs.declared.envelope.Envelope.{Envelope}
 use Rattle.cm_envelope.specs.declared.envelope.Source.{Source}
 use Rattle.cm_stream.specs.Readings.{IsReading, Refused}

@@ -3,7 +3,7 @@ use Rattle.std.specs.Prelude.{ℕ, ◌&&◌, Bool, false, List, ◌++◌, codes,
 use Rattle.std.specs.List.{filter, flat_map, list_any}
 use Rattle.std.specs.Option.{option_map_or}
 use Rattle.std.specs.Str.{bytes_eq}
-use Rattle.cm_attempt.specs.declared.policy.Policy.{Policy}
+use Rattle.cm_attempt.specs.declared.status.Policy.{Policy}
 use Rattle.cm_cases.specs.Places.{case_scenario, pickle_scenario}
 use Rattle.cm_envelope.specs.declared.envelope.Envelope.{Envelope}
 use Rattle.cm_envelope.specs.declared.envelope.Envelope.TheVariants as envelope
@@ -13,7 +13,7 @@ use Rattle.cm_stream.specs.References.{case_of, cases, pickles}
 use Rattle.cm_stream.specs.Release.{Conditions, has_skip, is_missed, is_retried_pickle, is_stepless, is_unmatched, passes_unmatched}
 use Rattle.cm_stream.specs.Texts.{Utf8}
 use Rattle.cm_steps.specs.Steps.{named_case_step}
-use Rattle.cm_reasons.specs.declared.steps.CaseStep.{CaseStep}
+use Rattle.cm_reasons.specs.declared.reasons.CaseStep.{CaseStep}
 
 -- ---- pickles and test cases
 

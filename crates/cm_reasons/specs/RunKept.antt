@@ -3,7 +3,7 @@ use Rattle.std.specs.Prelude.{◌≡◌, ◌≢◌, ◌⊎◌, ℕ, not, Bool, L
 use Rattle.std.specs.List.{filter, filter_map, list_any}
 use Rattle.std.specs.Str.{bytes_eq}
 use Rattle.cm_attempt.specs.Table.{is_good_status}
-use Rattle.cm_attempt.specs.declared.policy.Policy.{Policy}
+use Rattle.cm_attempt.specs.declared.status.Policy.{Policy}
 use Rattle.cm_attempt.specs.declared.status.Status.{Status}
 use Rattle.cm_stream.specs.Readings.{IsReading, Refused}
 use Rattle.cm_stream.specs.Texts.{Utf8}
@@ -11,12 +11,12 @@ use Rattle.gk_grammar.specs.Documents.{HasFault, IsTooLong}
 use Rattle.gk_grammar.specs.declared.fault.FaultKind.TheVariants.{UnsupportedLanguage}
 use Rattle.gk_tree.specs.declared.fault.ParseFault.{ParseFault}
 use Rattle.cm_reasons.specs.RunReasons.{bad_hook_line, refused_line}
-use Rattle.cm_reasons.specs.declared.refused.RefusedSource.{RefusedSource}
-use Rattle.cm_reasons.specs.declared.run_hooks.BadHook.{BadHook}
-use Rattle.cm_reasons.specs.declared.run_hooks.RunHookEnd.{RunHookEnd}
-use Rattle.cm_reasons.specs.declared.run_hooks.RunHookEntry.{RunHookEntry}
-use Rattle.cm_reasons.specs.declared.run_hooks.RunListing.{RunListing}
-use Rattle.cm_reasons.specs.declared.run_hooks.SourceEntry.{SourceEntry}
+use Rattle.cm_reasons.specs.declared.reasons.RefusedSource.{RefusedSource}
+use Rattle.cm_reasons.specs.declared.reasons.BadHook.{BadHook}
+use Rattle.cm_reasons.specs.declared.reasons.RunHookEnd.{RunHookEnd}
+use Rattle.cm_reasons.specs.declared.reasons.RunHookEntry.{RunHookEntry}
+use Rattle.cm_reasons.specs.declared.reasons.RunListing.{RunListing}
+use Rattle.cm_reasons.specs.declared.reasons.SourceEntry.{SourceEntry}
 use Rattle.cm_steps.specs.Steps.{hook_text}
 
 -- ---- sources

@@ -3,7 +3,7 @@ use Rattle.std.specs.Prelude.{◌≡◌, ◌⊎◌, ℕ, not, Bool, List, [], �
 use Rattle.std.specs.List.{filter, filter_map, list_any}
 use Rattle.std.specs.Str.{bytes_eq}
 use Rattle.cm_attempt.specs.Table.{is_good_status}
-use Rattle.cm_attempt.specs.declared.policy.Policy.{Policy}
+use Rattle.cm_attempt.specs.declared.status.Policy.{Policy}
 use Rattle.cm_attempt.specs.declared.status.Status.{Status}
 use Rattle.cm_cases.specs.Shown.{shown_text}
 use Rattle.cm_envelope.specs.declared.envelope.Envelope.{Envelope}

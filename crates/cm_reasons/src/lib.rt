@@ -28,21 +28,13 @@
 #![tactic(auto)]
 
 mod laws;
-mod lines;
-mod refused;
-mod run_hooks;
-mod scenarios;
-mod steps;
-mod trail;
-mod words;
+mod reasons;
 
 pub use laws::{
     hook_causes_are_of_bad_hooks, refused_lines_are_determined, undefined_steps_are_told,
 };
-pub use lines::{AddLine, MOST_LINES, add_limited, add_more};
-pub use refused::{add_refused, add_refused_of};
-pub use run_hooks::{RunListing, add_hook_causes, add_open_hooks, add_run_hook};
-pub use scenarios::{retried_text, skipped_text, stepless_text, unrun_text};
-pub use steps::{CaseStep, undefined_text};
-pub use trail::Trail;
-pub use words::{kind_label, status_word};
+pub use reasons::{
+    AddLine, CaseStep, MOST_LINES, RunListing, Trail, add_hook_causes, add_limited, add_more,
+    add_open_hooks, add_refused, add_refused_of, add_run_hook, kind_label, retried_text,
+    skipped_text, status_word, stepless_text, undefined_text, unrun_text,
+};

@@ -4,7 +4,7 @@ use Rattle.kept_texts.specs.Kept.{bytes_of}
 use Rattle.kept_texts.specs.declared.kept_text.KeptText.{KeptText}
 use Rattle.cm_refs.specs.Declarations.{PickleRow, RunHookRow, Utf8}
 use Rattle.cm_refs.specs.StepIds.{ids_in}
-use Rattle.cm_refs.specs.declared.step_ids.StepIds.{StepIds}
+use Rattle.cm_refs.specs.declared.declared.StepIds.{StepIds}
 
 abbrev pub pickle_row : Utf8 → StepIds → PickleRow
 pickle_row id steps = record { id = id; steps = ids_in steps }

@@ -2,8 +2,8 @@
 use Rattle.std.specs.Prelude.{List, map}
 use Rattle.kept_texts.specs.Kept.{bytes_of}
 use Rattle.cm_refs.specs.Declarations.{Utf8}
-use Rattle.cm_refs.specs.declared.step_ids.StepIds.{StepIds}
-use Rattle.cm_refs.specs.declared.step_ids.StepIds.TheVariants as ids
+use Rattle.cm_refs.specs.declared.declared.StepIds.{StepIds}
+use Rattle.cm_refs.specs.declared.declared.StepIds.TheVariants as ids
 
 abbrev pub ids_in : StepIds → List Utf8
 ids_in (ids.Few texts) = texts

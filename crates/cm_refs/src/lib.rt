@@ -20,12 +20,6 @@
 
 mod declared;
 mod fault;
-mod names;
-mod pickles;
-mod run_hooks;
-mod step_ids;
 
-pub use declared::Declared;
+pub use declared::{Declared, Names, StepIds, distinct_texts};
 pub use fault::RefFault;
-pub use names::{Names, distinct_texts};
-pub use step_ids::StepIds;

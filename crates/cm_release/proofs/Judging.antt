@@ -1,8 +1,8 @@
 -- What is said of a good run, from what was found.
 use Rattle.std.proofs.Common.{◌≡◌, ◌∙◌, ap, subst, ℕ, Bool, List, Option, Some, None}
 use Rattle.std.specs.Prelude.{codes}
-use Rattle.cm_attempt.specs.declared.settings.Settings.{Settings}
-use Rattle.cm_attempt.specs.declared.policy.Policy.{Policy}
+use Rattle.cm_attempt.specs.declared.status.Settings.{Settings}
+use Rattle.cm_attempt.specs.declared.status.Policy.{Policy}
 use Rattle.cm_envelope.specs.declared.envelope.Envelope.{Envelope}
 use Rattle.cm_reasons.specs.Lines.{limited}
 use Rattle.cm_reasons.specs.Reasons.{StepIds, case_lines, pickle_lines, undefined_lines}
@@ -10,10 +10,10 @@ use Rattle.cm_reasons.specs.Trail.{trail_of}
 use Rattle.cm_stream.specs.Good.{Good, Sound}
 use Rattle.cm_stream.specs.Release.{Conditions, hold_of}
 use Rattle.cm_stream.specs.Texts.{Utf8}
-use Rattle.cm_stream.specs.declared.conditions.ReleaseCounts.{ReleaseCounts}
-use Rattle.cm_stream.specs.declared.verdict.Counts.{Counts}
-use Rattle.cm_stream.specs.declared.verdict.Hold.{Hold}
-use Rattle.cm_stream.specs.declared.verdict.Hold.TheVariants as hold
+use Rattle.cm_stream.specs.declared.laws.ReleaseCounts.{ReleaseCounts}
+use Rattle.cm_stream.specs.declared.laws.Counts.{Counts}
+use Rattle.cm_stream.specs.declared.laws.Hold.{Hold}
+use Rattle.cm_stream.specs.declared.laws.Hold.TheVariants as hold
 use Rattle.cm_release.specs.Counts.{counts_in}
 use Rattle.cm_release.specs.Found.{IsFoundIn}
 use Rattle.cm_release.specs.Judged.{AreLinesIn, IsJudged}
@@ -21,8 +21,8 @@ use Rattle.cm_release.specs.Kept.{kept_of}
 use Rattle.cm_release.specs.Reasons.{AreReasons}
 use Rattle.cm_release.specs.Tallied.{IsTallyOf}
 use Rattle.cm_release.specs.declared.judgement.Found.{Found}
-use Rattle.cm_release.specs.declared.kept.Kept.{Kept}
-use Rattle.cm_release.specs.declared.tally.Tally.{Tally}
+use Rattle.cm_release.specs.declared.judgement.Kept.{Kept}
+use Rattle.cm_release.specs.declared.judgement.Tally.{Tally}
 use Rattle.cm_release.proofs.WholeLemmas.{counts_same, missed_same, retried_same, skipped_same, stepless_same, undefined_same}
 
 module _ (policy : Policy) (asked : Conditions) (es : List Envelope) (good : Sound es) (found : Found) (is : IsFoundIn asked policy (kept_of es) found) where

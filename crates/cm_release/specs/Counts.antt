@@ -7,18 +7,18 @@ use Rattle.std.specs.Str.{bytes_eq}
 use Rattle.indexmap.specs.IndexMap.{IndexMap}
 use Rattle.cm_attempt.specs.Calls.{last_of}
 use Rattle.cm_attempt.specs.Table.{passes_pending}
-use Rattle.cm_attempt.specs.declared.policy.Policy.{Policy}
+use Rattle.cm_attempt.specs.declared.status.Policy.{Policy}
 use Rattle.cm_cases.specs.Firsts.{value_at}
 use Rattle.cm_reasons.specs.Reasons.{StepIds}
-use Rattle.cm_reasons.specs.declared.steps.CaseStep.{CaseStep}
+use Rattle.cm_reasons.specs.declared.reasons.CaseStep.{CaseStep}
 use Rattle.cm_stream.specs.Release.{Conditions}
 use Rattle.cm_stream.specs.Texts.{Utf8}
-use Rattle.cm_stream.specs.declared.conditions.ReleaseCounts.{ReleaseCounts}
-use Rattle.cm_release.specs.declared.kept.CaseEntry.{CaseEntry}
-use Rattle.cm_release.specs.declared.kept.FinishEntry.{FinishEntry}
-use Rattle.cm_release.specs.declared.kept.Kept.{Kept}
-use Rattle.cm_release.specs.declared.kept.PickleEntry.{PickleEntry}
-use Rattle.cm_release.specs.declared.kept.StartEntry.{StartEntry}
+use Rattle.cm_stream.specs.declared.laws.ReleaseCounts.{ReleaseCounts}
+use Rattle.cm_release.specs.declared.judgement.CaseEntry.{CaseEntry}
+use Rattle.cm_release.specs.declared.judgement.FinishEntry.{FinishEntry}
+use Rattle.cm_release.specs.declared.judgement.Kept.{Kept}
+use Rattle.cm_release.specs.declared.judgement.PickleEntry.{PickleEntry}
+use Rattle.cm_release.specs.declared.judgement.StartEntry.{StartEntry}
 
 -- ---- missed
 

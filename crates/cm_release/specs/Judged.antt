@@ -2,20 +2,20 @@
 use Rattle.std.specs.Prelude.{◌≡◌, ℕ, Bool, List, [], codes, Option, Some, map}
 use Rattle.cm_attempt.specs.Results.{case_results}
 use Rattle.cm_attempt.specs.Table.{Table}
-use Rattle.cm_attempt.specs.declared.policy.Policy.{Policy}
-use Rattle.cm_attempt.specs.declared.settings.Settings.{Settings}
+use Rattle.cm_attempt.specs.declared.status.Policy.{Policy}
+use Rattle.cm_attempt.specs.declared.status.Settings.{Settings}
 use Rattle.cm_envelope.specs.declared.envelope.Envelope.{Envelope}
 use Rattle.cm_reasons.specs.Lines.{limited}
 use Rattle.cm_causes.specs.Causes.{IsCauses}
 use Rattle.cm_reasons.specs.Reasons.{case_lines, pickle_lines, step_ids, undefined_lines}
 use Rattle.cm_reasons.specs.Trail.{has_exception, trail_of}
-use Rattle.cm_reasons.specs.declared.trail.Trail.{Trail}
+use Rattle.cm_reasons.specs.declared.reasons.Trail.{Trail}
 use Rattle.cm_stream.specs.Release.{Conditions, hold_of, release_counts_of}
 use Rattle.cm_stream.specs.Results.{results_of}
-use Rattle.cm_stream.specs.declared.conditions.ReleaseCounts.{ReleaseCounts}
-use Rattle.cm_stream.specs.declared.verdict.Counts.{Counts}
-use Rattle.cm_stream.specs.declared.verdict.Hold.{Hold}
-use Rattle.cm_stream.specs.declared.verdict.Hold.TheVariants as hold
+use Rattle.cm_stream.specs.declared.laws.ReleaseCounts.{ReleaseCounts}
+use Rattle.cm_stream.specs.declared.laws.Counts.{Counts}
+use Rattle.cm_stream.specs.declared.laws.Hold.{Hold}
+use Rattle.cm_stream.specs.declared.laws.Hold.TheVariants as hold
 use Rattle.cm_release.specs.Counts.{texts_of}
 use Rattle.cm_release.specs.Reasons.{AreReasons}
 use Rattle.cm_release.specs.declared.judgement.Found.{Found}

@@ -18,11 +18,11 @@ use Rattle.cm_envelope.specs.declared.pickle.Pickle.{Pickle}
 use Rattle.cm_stream.specs.References.{cases, pickles, starts}
 use Rattle.cm_stream.specs.Release.{is_unmatched}
 use Rattle.cm_stream.specs.Texts.{Utf8}
-use Rattle.cm_release.specs.declared.kept.CaseEntry.{CaseEntry}
-use Rattle.cm_release.specs.declared.kept.FinishEntry.{FinishEntry}
-use Rattle.cm_release.specs.declared.kept.Kept.{Kept}
-use Rattle.cm_release.specs.declared.kept.PickleEntry.{PickleEntry}
-use Rattle.cm_release.specs.declared.kept.StartEntry.{StartEntry}
+use Rattle.cm_release.specs.declared.judgement.CaseEntry.{CaseEntry}
+use Rattle.cm_release.specs.declared.judgement.FinishEntry.{FinishEntry}
+use Rattle.cm_release.specs.declared.judgement.Kept.{Kept}
+use Rattle.cm_release.specs.declared.judgement.PickleEntry.{PickleEntry}
+use Rattle.cm_release.specs.declared.judgement.StartEntry.{StartEntry}
 
 -- ---- the entries
 

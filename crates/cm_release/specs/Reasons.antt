@@ -1,14 +1,14 @@
 -- The lines below that of a hold.
 use Rattle.std.specs.Prelude.{◌≡◌, ℕ, List, [], Option, Some, None, codes}
-use Rattle.cm_attempt.specs.declared.policy.Policy.{Policy}
+use Rattle.cm_attempt.specs.declared.status.Policy.{Policy}
 use Rattle.cm_causes.specs.Causes.{IsCauses}
 use Rattle.cm_envelope.specs.declared.envelope.Envelope.{Envelope}
 use Rattle.cm_reasons.specs.Lines.{limited}
 use Rattle.cm_reasons.specs.Reasons.{case_lines, missed_pickles, pickle_lines, retried_pickles, skipped_cases, stepless_cases, undefined_lines, undefined_steps}
 use Rattle.cm_reasons.specs.Trail.{has_exception}
 use Rattle.cm_stream.specs.Release.{Conditions}
-use Rattle.cm_stream.specs.declared.verdict.Hold.{Hold}
-use Rattle.cm_stream.specs.declared.verdict.Hold.TheVariants as hold
+use Rattle.cm_stream.specs.declared.laws.Hold.{Hold}
+use Rattle.cm_stream.specs.declared.laws.Hold.TheVariants as hold
 
 -- why it holds the run of these envelopes
 abbrev pub AreReasonsOf : Policy → Conditions → List Envelope → Hold → List ℕ → Type 0

@@ -1,5 +1,6 @@
-//! What is said of a good run for its release.
-ghost use Rattle.std.specs.Prelude.{◌≡◌, List, None, IfOk, string_bytes, ◌&&◌, ℕ, Some, Bool, false, not, OnOk, filter, is_some, map, option_map, if◌then◌else◌, ◌||◌, ◌++◌, count_by};
+//! What is kept of a run for its release, and what is said of a good one.
+ghost use Rattle.std.specs.Prelude.{◌≡◌, List, None, IfOk, string_bytes, ◌&&◌, ℕ, Some, false, not, filter, is_some, map, option_map, ◌||◌};
+ghost use Rattle.std.specs.Prelude.{count_by, ◌++◌, ◌∷◌, [], OnOk, if◌then◌else◌};
 ghost use Rattle.cm_envelope.specs.declared.envelope.Envelope.{Envelope as SomeEnvelope};
 ghost use Rattle.cm_attempt.specs.Results.{case_results};
 ghost use Rattle.cm_reasons.specs.Trail.{trail_of, has_exception};
@@ -12,20 +13,24 @@ ghost use Rattle.cm_release.specs.Tallied.{IsTallyOf};
 ghost use Rattle.std.specs.List.{list_any, flat_map};
 ghost use Rattle.std.specs.Option.{option_map_or, option_and_then};
 ghost use Rattle.std.specs.Str.{bytes_eq};
-ghost use Rattle.cm_attempt.specs.declared.policy.Policy.{Policy as SomePolicy};
+ghost use Rattle.cm_attempt.specs.declared.status.Policy.{Policy as SomePolicy};
 ghost use Rattle.cm_cases.specs.Firsts.{value_at, HasFirsts};
-ghost use Rattle.cm_release.specs.Counts.{attempts_in, counts_in, last_start, some_or_more, missed_in, retried_in, skipped_in, stepless_in, texts_of, has_step, is_end_by, is_undefined_by, is_undefined_in, passes_in, steps_passing, undefined_steps_in};
+ghost use Rattle.cm_release.specs.Counts.{attempts_in, counts_in, last_start, some_or_more, missed_in, retried_in, skipped_in, stepless_in};
+ghost use Rattle.cm_release.specs.Counts.{texts_of, is_undefined_by, is_undefined_in, passes_in, undefined_steps_in, has_step, is_end_by};
+ghost use Rattle.cm_release.specs.Counts.{steps_passing};
 ghost use Rattle.cm_release.specs.Found.{IsFoundIn};
-ghost use Rattle.cm_release.specs.declared.kept.Kept.{Kept as SomeKept};
+ghost use Rattle.cm_release.specs.declared.judgement.Kept.{Kept as SomeKept};
 ghost use Rattle.cm_reasons.specs.Reasons.{step_ids};
-ghost use Rattle.cm_release.specs.Kept.{unmatched_ids};
+ghost use Rattle.cm_release.specs.Kept.{unmatched_ids, case_entry, kept_nothing, pickle_entry, start_entry, HasUnmatched, Keeps};
+ghost use Rattle.cm_release.specs.Kept.{finish_among, pass_among, skip_of};
+ghost use Rattle.cm_attempt.specs.Table.{has_text};
 
-use crate::kept::{CaseEntry, FinishEntry, Kept, PickleEntry, StartEntry, StartId, TextSet};
-use crate::tally::Tally;
 use cm_attempt::{Policy, Settings, Track};
-use cm_cases::{ByText, CaseId, CasePickle, PickleId, Whole, add_first, firsts_of};
+use cm_cases::{ByText, CaseId, CasePickle, Key, PickleId, Whole, add_first, firsts_of, tag_names};
 use cm_causes::add_causes;
-use cm_envelope::TestStep;
+use cm_envelope::{
+    Envelope, Pickle, Status, TestCase, TestCaseStarted, TestStep, TestStepFinished,
+};
 use cm_reasons::{
     CaseStep, Trail, retried_text, skipped_text, stepless_text, undefined_text, unrun_text,
 };
@@ -34,6 +39,7 @@ use gk_document::{Sequence, Text};
 use indexmap::{IndexMap, IndexSet};
 use std::alloc::{AllocError, Global};
 use std::hash::RandomState;
+use std::marker::Model;
 
 /// What is counted of a good run for its release, why it isn't to be released, and the lines below that; of a stream that isn't
 /// good the lines alone.
@@ -241,17 +247,6 @@ fn missed_of<'a>(
 }
 
 // ---- retried
-
-/// Notes a text: of each that was noted, whether it was so more than once.
-fn note_again<'a>(seen: &mut ByText<'a, bool>, text: &'a str) -> Result<(), AllocError>
-    ensures { OnOk result ((other : List ℕ) → value_at seen.new other
-        ≡ (if bytes_eq other text.now then Some (is_some (value_at seen.old other))
-        else value_at seen.old other)) }
-{
-    let again = seen.contains_key(text);
-    seen.insert(text, again)?;
-    Ok(())
-}
 
 /// Of each pickle with an attempt, whether it has more than one.
 fn attempts_of<'a>(
@@ -530,6 +525,416 @@ fn is_undefined(
     passes(policy, finish) && is_of_attempt(starts, cases, finish)
 }
 
+// ---- which steps
+
+/// Steps of cases, each once.
+pub(crate) type CaseSteps<'a> = IndexSet<CaseStep<'a>, RandomState>;
+
+// ---- both
+
+/// The steps of pickles that passed and that no step definition matches: how many times one did, and which of each case.
+#[derive(Drop)]
+struct Undefined<'a> {
+    count: u64,
+    steps: Vec<CaseStep<'a>>,
+}
+
+impl<'a> Undefined<'a> {
+    /// Those of what was kept.
+    pub(crate) fn of(
+        alloc: Global,
+        seed: RandomState,
+        policy: Policy,
+        kept: &'a Kept,
+    ) -> Result<Undefined<'a>, AllocError>
+        ensures count { IfOk result (λ undefined.
+            undefined.count ≡ count_by (is_undefined_in policy kept.now) kept.now.finishes) }
+        ensures steps { IfOk result (λ undefined.
+            map step_ids undefined.steps.items ≡ undefined_steps_in policy kept.now) }
+    {
+        if kept.finishes.is_empty() {
+            return Ok(Undefined {
+                count: 0,
+                steps: Vec::new(alloc),
+            });
+        }
+        let starts = firsts_of::<StartId, StartEntry>(alloc, seed, kept.starts.as_slice())?;
+        let cases = unmatched_by_case(alloc, seed, kept.cases.as_slice())?;
+        let finishes = kept.finishes.as_slice();
+        let passed = passed_steps(alloc, seed, &starts, &cases, policy, finishes)?;
+        Ok(Undefined {
+            count: count_passed(&starts, &cases, policy, finishes),
+            steps: steps_of_cases(alloc, &passed, kept.cases.as_slice())?,
+        })
+    }
+}
+
+/// Whether the step is of a pickle's step, and no step definition matches it.
+fn is_unmatched(step: &TestStep) -> bool
+    ensures { result ≡ is_unmatched step.now }
+{
+    step.pickle_step_id.is_some() && step.step_definition_ids.len() == 0
+}
+
+/// The ids of the steps that are of a pickle and that no step definition matches.
+fn unmatched_of(alloc: Global, steps: &[TestStep]) -> Result<Sequence<Text>, AllocError>
+    ensures { IfOk result (λ ids. ids ≡ unmatched_ids steps.now) }
+{
+    let mut ids = Sequence::new(alloc);
+    for step in steps {
+        if is_unmatched(step) {
+            ids.push(Text::copy_of(alloc, step.id.as_str())?)?;
+        }
+    }
+    Ok(ids)
+}
+
+/// What a release is judged by, and what its reasons name, kept envelope by envelope.
+#[derive(Drop)]
+pub struct Tally {
+    pub(crate) keeping: Keeping,
+    pub(crate) trail: Trail,
+}
+
+impl Tally {
+    /// That of no envelope. It takes no memory.
+    pub fn new(alloc: Global, seed: RandomState) -> Tally
+        ensures { IsTallyOf result [] }
+    {
+        Tally {
+            keeping: Keeping::new(alloc, seed),
+            trail: Trail::new(alloc),
+        }
+    }
+
+    /// Keeps what a release is judged by, and what its reasons name, of one envelope more.
+    ///
+    /// # Errors
+    /// Only where there is no memory for it.
+    pub fn note(&mut self, alloc: Global, envelope: &Envelope) -> Result<(), AllocError>
+        ensures { OnOk result ((es : List SomeEnvelope) → IsTallyOf self.old es
+            → IsTallyOf self.new (es ++ envelope.now ∷ [])) }
+    {
+        self.trail.note(alloc, envelope)?;
+        self.keeping.note(alloc, envelope)
+    }
+
+    /// What the reasons name.
+    pub fn trail(&self) -> &Trail
+        ensures { result.now ≡ self.now.trail }
+    {
+        &self.trail
+    }
+}
+
+/// A pickle, with the names of its tags.
+#[derive(Debug, Drop)]
+pub(crate) struct PickleEntry {
+    pub(crate) id: Text,
+    pub(crate) tags: Sequence<Text>,
+    pub(crate) is_stepless: bool,
+}
+
+/// A test case, by the pickle that it names, with the ids of those of its steps that are of a pickle and that no step
+/// definition matches.
+#[derive(Debug, Drop)]
+pub(crate) struct CaseEntry {
+    pub(crate) id: Text,
+    pub(crate) pickle_id: Text,
+    pub(crate) unmatched: Sequence<Text>,
+}
+
+/// The start of an attempt at a case.
+#[derive(Debug, Drop)]
+pub(crate) struct StartEntry {
+    pub(crate) id: Text,
+    pub(crate) case_id: Text,
+}
+
+/// The end of a step of an attempt that passed, or that is pending.
+#[derive(Debug, Drop)]
+pub(crate) struct FinishEntry {
+    pub(crate) attempt_id: Text,
+    pub(crate) step_id: Text,
+    pub(crate) is_pending: bool,
+}
+
+/// What is kept of a stream's envelopes for its release. `skips` are the attempts of the steps that were skipped.
+#[derive(Debug, Drop)]
+pub(crate) struct Kept {
+    pub(crate) pickles: Sequence<PickleEntry>,
+    pub(crate) cases: Sequence<CaseEntry>,
+    pub(crate) starts: Sequence<StartEntry>,
+    pub(crate) skips: Sequence<Text>,
+    pub(crate) finishes: Sequence<FinishEntry>,
+}
+
+impl Kept {
+    /// What is kept of no envelope. It takes no memory.
+    pub(crate) fn new(alloc: Global) -> Kept
+        ensures { result ≡ kept_nothing }
+    {
+        Kept {
+            pickles: Sequence::new(alloc),
+            cases: Sequence::new(alloc),
+            starts: Sequence::new(alloc),
+            skips: Sequence::new(alloc),
+            finishes: Sequence::new(alloc),
+        }
+    }
+}
+
+/// What is kept of a pickle.
+fn pickle_entry(alloc: Global, pickle: &Pickle) -> Result<PickleEntry, AllocError>
+    ensures { IfOk result (λ entry. entry ≡ pickle_entry pickle.now) }
+{
+    Ok(PickleEntry {
+        id: Text::copy_of(alloc, pickle.id.as_str())?,
+        tags: tag_names(alloc, pickle.tags.as_slice())?,
+        is_stepless: pickle.steps.len() == 0,
+    })
+}
+
+/// What is kept of a case.
+fn case_entry(alloc: Global, case: &TestCase) -> Result<CaseEntry, AllocError>
+    ensures { IfOk result (λ entry. entry ≡ case_entry case.now) }
+{
+    Ok(CaseEntry {
+        id: Text::copy_of(alloc, case.id.as_str())?,
+        pickle_id: Text::copy_of(alloc, case.pickle_id.as_str())?,
+        unmatched: unmatched_of(alloc, case.test_steps.as_slice())?,
+    })
+}
+
+/// What is kept of the start of an attempt.
+fn start_entry(alloc: Global, start: &TestCaseStarted) -> Result<StartEntry, AllocError>
+    ensures { IfOk result (λ entry. entry ≡ start_entry start.now) }
+{
+    Ok(StartEntry {
+        id: Text::copy_of(alloc, start.id.as_str())?,
+        case_id: Text::copy_of(alloc, start.test_case_id.as_str())?,
+    })
+}
+
+/// What is kept of the envelopes so far, and the ids of the unmatched steps among them.
+#[derive(Drop)]
+pub(crate) struct Keeping {
+    pub(crate) kept: Kept,
+    pub(crate) unmatched: IndexSet<String, RandomState>,
+}
+
+/// Adds an id, where it isn't there yet.
+fn add_id(
+    ids: &mut IndexSet<String, RandomState>,
+    alloc: Global,
+    id: &Text,
+) -> Result<(), AllocError>
+    ensures { OnOk result ((text : List ℕ) → has_text text (map string_bytes ids.new.keys)
+        ≡ has_text text (map string_bytes ids.old.keys ++ id.now ∷ [])) }
+{
+    let owned = String::from_str(alloc, id.as_str())?;
+    ids.insert(owned)?;
+    Ok(())
+}
+
+/// Adds ids, each where it isn't there yet.
+fn add_ids(
+    ids: &mut IndexSet<String, RandomState>,
+    alloc: Global,
+    added: &[Text],
+) -> Result<(), AllocError>
+    ensures { OnOk result ((text : List ℕ) → has_text text (map string_bytes ids.new.keys)
+        ≡ has_text text (map string_bytes ids.old.keys ++ added.now)) }
+{
+    for id in added {
+        add_id(ids, alloc, id)?;
+    }
+    Ok(())
+}
+
+impl Keeping {
+    /// That of no envelope. It takes no memory.
+    pub(crate) fn new(alloc: Global, seed: RandomState) -> Keeping
+        ensures { Keeps result.kept result.unmatched [] }
+    {
+        Keeping {
+            kept: Kept::new(alloc),
+            unmatched: IndexSet::with_hasher(alloc, seed),
+        }
+    }
+
+    /// Keeps a case and the ids of its unmatched steps.
+    fn note_case(&mut self, alloc: Global, case: &TestCase) -> Result<(), AllocError>
+        ensures kept { OnOk result (self.new.kept
+            ≡ record self.old.kept { cases = self.old.kept.cases ++ case_entry case.now ∷ [] }) }
+        ensures unmatched { OnOk result (HasUnmatched self.old.unmatched self.old.kept.cases
+            → HasUnmatched self.new.unmatched self.new.kept.cases) }
+    {
+        let entry = case_entry(alloc, case)?;
+        add_ids(&mut self.unmatched, alloc, entry.unmatched.as_slice())?;
+        self.kept.cases.push(entry)
+    }
+}
+
+/// Whether the id is among these. In an empty set nothing is looked up.
+fn contains(ids: &IndexSet<String, RandomState>, id: &str) -> bool
+    ensures { result ≡ has_text id.now (map string_bytes ids.now.keys) }
+{
+    !ids.is_empty() && ids.contains(id)
+}
+
+/// Keeps the end of a step that passed or is pending, where it has the id of an unmatched step.
+fn note_pass(
+    alloc: Global,
+    kept: &mut Kept,
+    unmatched: &IndexSet<String, RandomState>,
+    finish: &TestStepFinished,
+    is_pending: bool,
+) -> Result<(), AllocError>
+    ensures { OnOk result (kept.new ≡ record kept.old {
+      finishes = kept.old.finishes
+          ++ pass_among (map string_bytes unmatched.now.keys) finish.now is_pending;
+    }) }
+{
+    if !contains(unmatched, finish.test_step_id.as_str()) {
+        return Ok(());
+    }
+    kept.finishes.push(FinishEntry {
+        attempt_id: Text::copy_of(alloc, finish.test_case_started_id.as_str())?,
+        step_id: Text::copy_of(alloc, finish.test_step_id.as_str())?,
+        is_pending,
+    })
+}
+
+/// Keeps what the end of a step comes to.
+fn note_finish(
+    alloc: Global,
+    kept: &mut Kept,
+    unmatched: &IndexSet<String, RandomState>,
+    finish: &TestStepFinished,
+) -> Result<(), AllocError>
+    ensures { OnOk result (kept.new ≡ record kept.old {
+      skips = kept.old.skips ++ skip_of finish.now finish.now.test_step_result.status;
+      finishes = kept.old.finishes
+          ++ finish_among (map string_bytes unmatched.now.keys) finish.now
+          finish.now.test_step_result.status;
+    }) }
+{
+    match finish.test_step_result.status {
+        Status::Skipped => {
+            let attempt = Text::copy_of(alloc, finish.test_case_started_id.as_str())?;
+            kept.skips.push(attempt)
+        }
+        Status::Passed => note_pass(alloc, kept, unmatched, finish, false),
+        Status::Pending => note_pass(alloc, kept, unmatched, finish, true),
+        _ => Ok(()),
+    }
+}
+
+impl Keeping {
+    /// Keeps what is counted of one envelope more.
+    pub(crate) fn note(&mut self, alloc: Global, envelope: &Envelope) -> Result<(), AllocError>
+        ensures { OnOk result ((es : List SomeEnvelope)
+            → Keeps self.old.kept self.old.unmatched es
+            → Keeps self.new.kept self.new.unmatched (es ++ envelope.now ∷ [])) }
+    {
+        match envelope {
+            Envelope::Pickle(pickle) => self.kept.pickles.push(pickle_entry(alloc, pickle)?),
+            Envelope::TestCase(case) => self.note_case(alloc, case),
+            Envelope::TestCaseStarted(start) => self.kept.starts.push(start_entry(alloc, start)?),
+            Envelope::TestStepFinished(finish) => {
+                note_finish(alloc, &mut self.kept, &self.unmatched, finish)
+            }
+            _ => Ok(()),
+        }
+    }
+}
+
+impl Key<PickleEntry> for PickleId {
+    ghost text = { λ p. p.id };
+
+    fn of(item: &PickleEntry) -> &str {
+        item.id.as_str()
+    }
+}
+
+impl Key<CaseEntry> for CaseId {
+    ghost text = { λ c. c.id };
+
+    fn of(item: &CaseEntry) -> &str {
+        item.id.as_str()
+    }
+}
+
+impl Key<CaseEntry> for CasePickle {
+    ghost text = { λ c. c.pickle_id };
+
+    fn of(item: &CaseEntry) -> &str {
+        item.pickle_id.as_str()
+    }
+}
+
+/// The id of an attempt.
+pub(crate) struct StartId;
+
+impl Key<StartEntry> for StartId {
+    ghost text = { λ s. s.id };
+
+    fn of(item: &StartEntry) -> &str {
+        item.id.as_str()
+    }
+}
+
+/// Texts, of which each is found by itself.
+#[derive(Drop)]
+pub(crate) struct TextSet<'a> {
+    texts: &'a [Text],
+    by_text: ByText<'a, &'a Text>,
+}
+
+impl<'a> Model for TextSet<'a> {
+    ghost use Rattle.std.specs.Prelude.{List, ℕ};
+    ghost use Rattle.cm_cases.specs.Firsts.{HasFirsts};
+
+    ghost Value = { List (List ℕ) };
+
+    ghost view = { λ s. s.texts.now };
+
+    ghost invariant = { λ s. HasFirsts (λ x. x.now) (λ x. x) (λ x. x) s.texts.now s.by_text };
+}
+
+impl<'a> TextSet<'a> {
+    /// A set of these.
+    pub(crate) fn of(
+        alloc: Global,
+        seed: RandomState,
+        texts: &'a [Text],
+    ) -> Result<TextSet<'a>, AllocError>
+        ensures { IfOk result (λ set. set ≡ texts.now) }
+    {
+        let by_text = firsts_of::<Whole, Text>(alloc, seed, texts)?;
+        Ok(TextSet { texts, by_text })
+    }
+
+    /// Whether it is one of them.
+    pub(crate) fn contains(&self, text: &str) -> bool
+        ensures { result ≡ list_any (bytes_eq text.now) self.now }
+    {
+        self.by_text.contains_key(text)
+    }
+}
+
+/// Notes a text: of each that was noted, whether it was so more than once.
+fn note_again<'a>(seen: &mut ByText<'a, bool>, text: &'a str) -> Result<(), AllocError>
+    ensures { OnOk result ((other : List ℕ) → value_at seen.new other
+        ≡ (if bytes_eq other text.now then Some (is_some (value_at seen.old other))
+        else value_at seen.old other)) }
+{
+    let again = seen.contains_key(text);
+    seen.insert(text, again)?;
+    Ok(())
+}
+
 /// How many of the steps passed, and are unmatched ones of the cases of their attempts.
 fn count_passed(
     starts: &ByText<'_, &StartEntry>,
@@ -544,11 +949,6 @@ fn count_passed(
         .filter(|finish| is_undefined(starts, cases, policy, finish))
         .count() as u64
 }
-
-// ---- which steps
-
-/// Steps of cases, each once.
-type CaseSteps<'a> = IndexSet<CaseStep<'a>, RandomState>;
 
 /// Adds a step of a case, where it isn't there yet.
 fn add_step<'a>(steps: &mut CaseSteps<'a>, case: &'a str, step: &'a str) -> Result<(), AllocError>
@@ -639,63 +1039,4 @@ fn steps_of_cases<'a>(
         add_of_case(&mut found, steps, case)?;
     }
     Ok(found)
-}
-
-// ---- both
-
-/// The steps of pickles that passed and that no step definition matches: how many times one did, and which of each case.
-#[derive(Drop)]
-struct Undefined<'a> {
-    count: u64,
-    steps: Vec<CaseStep<'a>>,
-}
-
-impl<'a> Undefined<'a> {
-    /// Those of what was kept.
-    pub(crate) fn of(
-        alloc: Global,
-        seed: RandomState,
-        policy: Policy,
-        kept: &'a Kept,
-    ) -> Result<Undefined<'a>, AllocError>
-        ensures count { IfOk result (λ undefined.
-            undefined.count ≡ count_by (is_undefined_in policy kept.now) kept.now.finishes) }
-        ensures steps { IfOk result (λ undefined.
-            map step_ids undefined.steps.items ≡ undefined_steps_in policy kept.now) }
-    {
-        if kept.finishes.is_empty() {
-            return Ok(Undefined {
-                count: 0,
-                steps: Vec::new(alloc),
-            });
-        }
-        let starts = firsts_of::<StartId, StartEntry>(alloc, seed, kept.starts.as_slice())?;
-        let cases = unmatched_by_case(alloc, seed, kept.cases.as_slice())?;
-        let finishes = kept.finishes.as_slice();
-        let passed = passed_steps(alloc, seed, &starts, &cases, policy, finishes)?;
-        Ok(Undefined {
-            count: count_passed(&starts, &cases, policy, finishes),
-            steps: steps_of_cases(alloc, &passed, kept.cases.as_slice())?,
-        })
-    }
-}
-
-/// Whether the step is of a pickle's step, and no step definition matches it.
-fn is_unmatched(step: &TestStep) -> bool
-    ensures { result ≡ is_unmatched step.now }
-{
-    step.pickle_step_id.is_some() && step.step_definition_ids.len() == 0
-}
-
-/// The ids of the steps that are of a pickle and that no step definition matches.
-pub(crate) fn unmatched_of(alloc: Global, steps: &[TestStep]) -> Result<Sequence<Text>, AllocError>
-    ensures { IfOk result (λ ids. ids ≡ unmatched_ids steps.now) }
-{
-    let mut ids = Sequence::new(alloc);
-    for step in steps {
-        if is_unmatched(step) {
-            ids.push(Text::copy_of(alloc, step.id.as_str())?)?;
-        }
-    }
-    Ok(ids)
 }

@@ -36,8 +36,5 @@
 #![tactic(auto)]
 
 mod judgement;
-mod kept;
-mod tally;
 
-pub use judgement::Judgement;
-pub use tally::Tally;
+pub use judgement::{Judgement, Tally};

@@ -18,7 +18,7 @@ use Rattle.gk_grammar.proofs.LawLemmas.{numbered_in_order_holds}
 use Rattle.gk_pickle.specs.Inherited.{Inherited}
 use Rattle.gk_pickle.specs.Pickles.{examples_pickles, feature_pickles, in_feature, in_rule, outline_pickles, pickles as compiled, pickles_in, rule_pickles, scenario_pickles, table_pickles}
 use Rattle.cm_attempt.specs.Calls.{last_of}
-use Rattle.cm_attempt.specs.declared.settings.Settings.{Settings}
+use Rattle.cm_attempt.specs.declared.status.Settings.{Settings}
 use Rattle.cm_envelope.specs.declared.envelope.Envelope.{Envelope}
 use Rattle.cm_envelope.specs.declared.envelope.Envelope.TheVariants as envelope
 use Rattle.cm_envelope.specs.declared.envelope.GherkinDocument.{GherkinDocument}
@@ -41,7 +41,7 @@ use Rattle.cm_stream.proofs.OneRow.{OnlyOne, one_case, only_here}
 use Rattle.cm_stream.proofs.Passing.{AllPass, plain_passes}
 use Rattle.cm_stream.proofs.Parts.{texts_are}
 use Rattle.cm_cases.specs.Places.{example_rows, last_node, pickle_of, place, places_at, places_of, rows_of, scenario_places, scenario_text, scenarios_of}
-use Rattle.cm_cases.specs.declared.listing.Place.{Place}
+use Rattle.cm_cases.specs.declared.places.Place.{Place}
 use Rattle.cm_shown_laws.specs.Scenarios.{HasPlace, HasScenario, ScenariosAreFound}
 use Rattle.cm_shown_laws.proofs.Numbered.{IsCounted}
 use Rattle.cm_shown_laws.proofs.Spots.{Spot, from_range, row_spot, same_spots, scenario_spots, spots_in, spots_of}

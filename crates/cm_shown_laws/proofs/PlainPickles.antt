@@ -6,7 +6,7 @@ use Rattle.std.proofs.lemmas.Str.{IsUtf8-nil}
 use Rattle.json.proofs.Printed.Utf8.{IsUtf8-are_ascii}
 use Rattle.serde_json.specs.Data.{string}
 use Rattle.serde_json.specs.View.{items_of}
-use Rattle.gk_pickle.specs.declared.pickle.PickleArgument.TheVariants as due_argument
+use Rattle.gk_pickle.specs.declared.pickles.PickleArgument.TheVariants as due_argument
 use Rattle.cm_envelope.specs.declared.pickle.Pickle.{Pickle}
 use Rattle.cm_envelope.specs.declared.pickle.PickleArgument.{PickleArgument}
 use Rattle.cm_envelope.specs.declared.pickle.PickleArgument.TheVariants as argument

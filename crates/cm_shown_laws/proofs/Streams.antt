@@ -12,7 +12,7 @@ use Rattle.cm_envelope.specs.Reading.{LineFault, envelope_in_one, envelope_of, e
 use Rattle.cm_envelope.specs.Pickles.{pickle}
 use Rattle.cm_envelope.specs.Envelopes.{source, parse_error, step_definition, hook, test_case, test_run_started, test_case_started, test_step_started, test_step_finished, test_case_finished, test_run_finished, attachment, test_run_hook_started, test_run_hook_finished}
 use Rattle.cm_envelope.specs.Documents.{gherkin_document}
-use Rattle.cm_attempt.specs.declared.settings.Settings.{Settings}
+use Rattle.cm_attempt.specs.declared.status.Settings.{Settings}
 use Rattle.cm_stream.specs.Redeclared.{judged_after, judged_as, passed_over}
 use Rattle.cm_stream.specs.Stream.{IsReadAs, as_read, envelopes, read_line}
 use Rattle.cm_shown_laws.proofs.Spots.{cons_parts}

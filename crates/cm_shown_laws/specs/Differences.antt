@@ -14,7 +14,7 @@ use Rattle.cm_envelope.specs.declared.envelope.Envelope.{Envelope}
 use Rattle.cm_envelope.specs.declared.envelope.Envelope.TheVariants as envelope
 use Rattle.cm_envelope.specs.declared.pickle.Pickle.{Pickle}
 use Rattle.cm_envelope.specs.declared.pickle.PickleStep.{PickleStep}
-use Rattle.cm_attempt.specs.declared.settings.Settings.{Settings}
+use Rattle.cm_attempt.specs.declared.status.Settings.{Settings}
 use Rattle.cm_stream.specs.Findings as bad
 use Rattle.cm_stream.specs.Findings.{IsBad}
 use Rattle.cm_stream.specs.Readings.{Accepted, IsReading}

@@ -2,15 +2,15 @@
 use Rattle.std.specs.Prelude.{◌≡◌, ℕ, Bool, List, Some, find}
 use Rattle.std.specs.List.{AllByRecursion}
 use Rattle.std.specs.Str.{bytes_eq}
-use Rattle.cm_attempt.specs.declared.settings.Settings.{Settings}
+use Rattle.cm_attempt.specs.declared.status.Settings.{Settings}
 use Rattle.cm_envelope.specs.declared.envelope.Envelope.{Envelope}
 use Rattle.cm_envelope.specs.declared.envelope.TestCase.{TestCase}
 use Rattle.cm_envelope.specs.declared.pickle.Pickle.{Pickle}
 use Rattle.cm_stream.specs.References.{cases, pickles}
 use Rattle.cm_stream.specs.Stream.{IsGoodRun}
-use Rattle.cm_stream.specs.declared.verdict.Counts.{Counts}
+use Rattle.cm_stream.specs.declared.laws.Counts.{Counts}
 use Rattle.cm_cases.specs.Places.{case_scenario, last_node, line_of, pickle_of, places_at, scenario_text}
-use Rattle.cm_cases.specs.declared.listing.Place.{Place}
+use Rattle.cm_cases.specs.declared.places.Place.{Place}
 
 -- The pickle has its place: its last node is the id of a scenario or of a row of examples of the document of its uri, and the
 -- line that is shown is that node's.

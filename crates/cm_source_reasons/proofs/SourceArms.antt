@@ -4,8 +4,8 @@ use Rattle.cm_envelope.specs.declared.envelope.Envelope.{Envelope}
 use Rattle.cm_envelope.specs.declared.envelope.Envelope.TheVariants as envelope
 use Rattle.cm_envelope.specs.declared.envelope.GherkinDocument.{GherkinDocument}
 use Rattle.cm_envelope.specs.declared.pickle.Pickle.{Pickle}
-use Rattle.cm_stream.specs.declared.verdict.StreamFault.{StreamFault}
-use Rattle.cm_stream.specs.declared.verdict.StreamFault.TheVariants as bad
+use Rattle.cm_stream.specs.declared.laws.StreamFault.{StreamFault}
+use Rattle.cm_stream.specs.declared.laws.StreamFault.TheVariants as bad
 use Rattle.cm_state.specs.Summary.{Summary}
 use Rattle.cm_source_reasons.specs.SourceKept.{TellsAtTree, TellsKept, lack_lines_by, lines_at_pickle}
 

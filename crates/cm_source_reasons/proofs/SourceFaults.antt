@@ -16,7 +16,7 @@ use Rattle.cm_envelope.specs.declared.pickle.Pickle.{Pickle}
 use Rattle.cm_refs.specs.Declarations.{open_count as open_hook_count, pickle_fault}
 use Rattle.cm_refs.proofs.EntryLemmas.{list_any-map}
 use Rattle.cm_attempt.specs.Table.{has_repeat, has_text, open_count}
-use Rattle.cm_attempt.specs.declared.settings.Settings.{Settings}
+use Rattle.cm_attempt.specs.declared.status.Settings.{Settings}
 use Rattle.cm_attempt.proofs.Growing.{find_passes}
 use Rattle.cm_stream.specs.ByOnePass.{IsFaultless, checks, fault, is_incomplete, next_pickle, reading_of}
 use Rattle.cm_stream.specs.Checks.{Check, ◌if◌, document_ids, due_pickles, fault_by, first_failed, first_ids, lacks, same_flag}
@@ -29,8 +29,8 @@ use Rattle.cm_stream.specs.References.{as_document, documents_of, has_run_finish
 use Rattle.cm_stream.specs.Skeleton.{same_skeleton}
 use Rattle.cm_stream.specs.Sources.{DuePickle}
 use Rattle.cm_stream.specs.Texts.{Utf8}
-use Rattle.cm_stream.specs.declared.verdict.StreamFault.{StreamFault}
-use Rattle.cm_stream.specs.declared.verdict.StreamFault.TheVariants as reported
+use Rattle.cm_stream.specs.declared.laws.StreamFault.{StreamFault}
+use Rattle.cm_stream.specs.declared.laws.StreamFault.TheVariants as reported
 use Rattle.cm_stream.proofs.ByGrammar.{same_reads}
 use Rattle.cm_stream.proofs.Found.{bytes_are}
 use Rattle.cm_stream.proofs.Lists.{find_map, found_any, found_more, or_false}
@@ -42,7 +42,7 @@ use Rattle.cm_state.proofs.SourceTests.{first_left, no_document, not_zero, same_
 use Rattle.cm_cases.specs.Places.{last_node, places_of, scenario_at}
 use Rattle.cm_cases.specs.Shown.{shown_text}
 use Rattle.cm_reasons.specs.Lines.{limited}
-use Rattle.cm_reasons.specs.declared.trail.Trail.{Trail}
+use Rattle.cm_reasons.specs.declared.reasons.Trail.{Trail}
 use Rattle.cm_differs.specs.Differences.{IsTreeDifference, pickle_difference}
 use Rattle.cm_differs.specs.DuePickles.{due_pickle}
 use Rattle.cm_differs.specs.declared.difference.Difference.{Difference}

@@ -1,6 +1,6 @@
 -- What is told of a pickle that is due, by its name and the nodes that it is made of.
 use Rattle.std.specs.Prelude.{List, ℕ, [], ◌++◌, codes, unwrap_or}
-use Rattle.gk_pickle.specs.declared.pickle.PickleTitle.{PickleTitle}
+use Rattle.gk_pickle.specs.declared.pickles.PickleTitle.{PickleTitle}
 use Rattle.cm_attempt.specs.Calls.{last_of}
 use Rattle.cm_envelope.specs.declared.envelope.Envelope.{Envelope}
 use Rattle.cm_stream.specs.Sources.{ids_at}

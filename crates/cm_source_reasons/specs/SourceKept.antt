@@ -7,8 +7,8 @@ use Rattle.cm_envelope.specs.declared.envelope.Envelope.TheVariants as envelope
 use Rattle.cm_envelope.specs.declared.envelope.GherkinDocument.{GherkinDocument}
 use Rattle.cm_envelope.specs.declared.pickle.Pickle.{Pickle}
 use Rattle.cm_stream.specs.Skeleton.{same_skeleton}
-use Rattle.cm_stream.specs.declared.verdict.StreamFault.{StreamFault}
-use Rattle.cm_stream.specs.declared.verdict.StreamFault.TheVariants as bad
+use Rattle.cm_stream.specs.declared.laws.StreamFault.{StreamFault}
+use Rattle.cm_stream.specs.declared.laws.StreamFault.TheVariants as bad
 use Rattle.cm_state.specs.StateChecks.{find_source, lacks_by}
 use Rattle.cm_state.specs.Summary.{SourceRow, Summary}
 use Rattle.cm_differs.specs.Differences.{IsTreeDifference}

@@ -14,8 +14,8 @@ use Rattle.cm_stream.specs.Readings.{Reading, Accepted}
 use Rattle.cm_stream.specs.References.{documents_of, pickles_of, reading_of_by, sources}
 use Rattle.cm_stream.specs.Sources.{DuePickle}
 use Rattle.cm_stream.specs.Texts.{Utf8}
-use Rattle.cm_stream.specs.declared.verdict.StreamFault.{StreamFault}
-use Rattle.cm_stream.specs.declared.verdict.StreamFault.TheVariants as bad
+use Rattle.cm_stream.specs.declared.laws.StreamFault.{StreamFault}
+use Rattle.cm_stream.specs.declared.laws.StreamFault.TheVariants as bad
 use Rattle.cm_cases.specs.Places.{scenario_text}
 use Rattle.cm_cases.specs.Shown.{shown_json, shown_text}
 use Rattle.cm_reasons.specs.Lines.{limited}

@@ -28,7 +28,6 @@
 //! envelopes, in `specs/SourceReasons`.
 #![tactic(auto)]
 
-mod due_lines;
 mod source_reasons;
 
 pub use source_reasons::add_source_reasons;

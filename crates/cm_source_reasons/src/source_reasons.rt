@@ -1,28 +1,33 @@
 //! What is told at a fault against a source.
-ghost use Rattle.std.specs.Prelude.{◌≡◌, ◌++◌, List, ℕ, OnOk, string_bytes, [], IfOk, Some, None, drop, find, if◌then◌else◌, length, map, option_map, take, slice_get};
-ghost use Rattle.cm_attempt.specs.declared.settings.Settings.{Settings};
+ghost use Rattle.std.specs.Prelude.{◌≡◌, ◌++◌, List, ℕ, OnOk, string_bytes, [], IfOk, Some, None, drop, find, if◌then◌else◌, length, map};
+ghost use Rattle.std.specs.Prelude.{option_map, take, slice_get, ◌∷◌, unwrap_or};
+ghost use Rattle.cm_attempt.specs.declared.status.Settings.{Settings};
 ghost use Rattle.cm_envelope.specs.declared.envelope.Envelope.{Envelope as SomeEnvelope};
 ghost use Rattle.cm_reasons.specs.Trail.{trail_of};
 ghost use Rattle.cm_stream.specs.Findings.{IsBad, stream_fault_named};
 ghost use Rattle.cm_audit.specs.State.{summary_of};
 ghost use Rattle.cm_source_reasons.specs.Deciding.{IsDeciding};
-ghost use Rattle.cm_source_reasons.specs.SourceKept.{TellsAtTree, TellsKept, lack_lines_by, lines_at_pickle, pickle_reason_text_by, lack_lines, difference_lines, DiffersInTree, OfFound, TellsTree};
-ghost use Rattle.cm_source_reasons.specs.SourceReasons.{IsSourceReason, missing_document, missing_pickles, difference_text, side_text, sides_text, uri_line, pickle_reason_text};
+ghost use Rattle.cm_source_reasons.specs.SourceKept.{TellsAtTree, TellsKept, lack_lines_by, lines_at_pickle, pickle_reason_text_by};
+ghost use Rattle.cm_source_reasons.specs.SourceKept.{lack_lines, difference_lines, DiffersInTree, OfFound, TellsTree};
+ghost use Rattle.cm_source_reasons.specs.SourceReasons.{IsSourceReason, missing_document, missing_pickles, difference_text, side_text};
+ghost use Rattle.cm_source_reasons.specs.SourceReasons.{sides_text, uri_line, pickle_reason_text, due_line};
 ghost use Rattle.gk_pickle.specs.Rest.{title_of};
 ghost use Rattle.cm_cases.specs.Listed.{listing_of};
 ghost use Rattle.cm_reasons.specs.Lines.{ended, most_lines};
 ghost use Rattle.cm_state.specs.StateChecks.{lacks_by, find_source};
 ghost use Rattle.cm_audit.specs.Kept.{kept_row};
-ghost use Rattle.cm_source_reasons.specs.DueLines.{missing_line};
+ghost use Rattle.cm_source_reasons.specs.DueLines.{missing_line, scenario_of};
+ghost use Rattle.cm_attempt.specs.Calls.{last_of};
+ghost use Rattle.cm_stream.specs.Sources.{ids_at};
 
-use crate::due_lines::DueLines;
 use cm_audit::{DuePickles, KeptSource, Sources, State};
 use cm_cases::{Places, add_shown, add_shown_json};
 use cm_differs::{Difference, pickle_difference, tree_difference};
-use cm_envelope::{Envelope, GherkinDocument, Pickle};
+use cm_envelope::{Envelope, GherkinDocument, NodeId, Pickle, id_of};
 use cm_reasons::{MOST_LINES, Trail, add_more};
 use cm_stream::StreamFault;
 use gk_document::Text;
+use gk_pickle::{Pickle as DuePickle, PickleTitle};
 use kept_texts::KeptText;
 use std::alloc::{AllocError, Global};
 use std::hash::RandomState;
@@ -310,7 +315,7 @@ fn add_sides(text: &mut String, difference: &Difference) -> Result<(), AllocErro
 }
 
 /// Adds the line of a feature file.
-pub(crate) fn add_uri(text: &mut String, uri: &str) -> Result<(), AllocError>
+fn add_uri(text: &mut String, uri: &str) -> Result<(), AllocError>
     ensures { OnOk result
         (string_bytes text.new ≡ string_bytes text.old ++ uri_line uri.now) }
 {
@@ -428,5 +433,82 @@ fn add_of_pickle(
     match state.find_source(pickle.uri.as_str()) {
         Some(source) => add_next(alloc, seed, text, places, source, pickle),
         None => Ok(()),
+    }
+}
+
+/// The id of the last of some nodes.
+fn last_node<'a>(ids: &'a [NodeId], nodes: &[u64]) -> &'a str
+    ensures { result.now ≡ unwrap_or (last_of (ids_at ids.now nodes.now)) [] }
+{
+    match nodes.last() {
+        Some(node) => id_of(ids, *node),
+        None => "",
+    }
+}
+
+/// What such lines are made of: the source's uri, the ids that the stream's document gives its nodes, by their numbers, and
+/// where those stand.
+#[derive(Drop)]
+pub(crate) struct DueLines<'a, 'p> {
+    pub uri: &'a str,
+    pub ids: &'a [NodeId],
+    pub places: &'a Places<'p>,
+}
+
+impl DueLines<'_, '_> {
+    /// Adds where the scenario of a pickle of these nodes stands, and its name.
+    fn add_scenario(&self, text: &mut String, name: &str, nodes: &[u64]) -> Result<(), AllocError>
+        ensures { OnOk result ((es : List SomeEnvelope) → self.now.places.now ≡ listing_of es
+            → string_bytes text.new ≡ string_bytes text.old
+            ++ scenario_of es self.now.uri.now self.now.ids.now name.now nodes.now) }
+    {
+        let node = last_node(self.ids, nodes);
+        self.places.add_place(text, self.uri, name, node)
+    }
+
+    /// Adds the line of a pickle that didn't come.
+    ///
+    /// # Errors
+    /// Only where there is no memory for it.
+    pub(crate) fn add_missing(&self, text: &mut String, due: &PickleTitle) -> Result<(), AllocError>
+        ensures { OnOk result ((es : List SomeEnvelope) → self.now.places.now ≡ listing_of es
+            → string_bytes text.new ≡ string_bytes text.old
+            ++ ended (missing_line es self.now.uri.now self.now.ids.now due.now ∷ [])) }
+    {
+        text.push_str("missing")?;
+        self.add_scenario(text, due.name.as_str(), due.nodes.as_slice())?;
+        text.push_str("\n")?;
+        Ok(())
+    }
+
+    /// Adds the line of the next pickle.
+    fn add_next(&self, text: &mut String, due: &DuePickle) -> Result<(), AllocError>
+        ensures { OnOk result ((es : List SomeEnvelope) → self.now.places.now ≡ listing_of es
+            → string_bytes text.new ≡ string_bytes text.old
+            ++ due_line es self.now.uri.now self.now.ids.now (Some due.now)) }
+    {
+        text.push_str("due")?;
+        self.add_scenario(text, due.name.as_str(), due.nodes.as_slice())?;
+        text.push_str("\n")?;
+        Ok(())
+    }
+
+    /// Adds the line of the next pickle, or of the feature file where none is due.
+    ///
+    /// # Errors
+    /// Only where there is no memory for it.
+    pub(crate) fn add_due(
+        &self,
+        text: &mut String,
+        due: Option<&DuePickle>,
+    ) -> Result<(), AllocError>
+        ensures { OnOk result ((es : List SomeEnvelope) → self.now.places.now ≡ listing_of es
+            → string_bytes text.new ≡ string_bytes text.old
+            ++ due_line es self.now.uri.now self.now.ids.now (option_map (λ d. d.now) due.entry)) }
+    {
+        match due {
+            Some(due) => self.add_next(text, due),
+            None => add_uri(text, self.uri),
+        }
     }
 }

@@ -2,7 +2,7 @@
 use Rattle.std.proofs.Common.{◌≡◌, ℕ, refl, sym, ap, ◌∙◌, List, [], ◌∷◌, ◌++◌, Some, true, false, Bool, not, ◌&&◌, ◌||◌, ◌==◌}
 use Rattle.std.specs.Prelude.{is_some, nat_lt, if◌then◌else◌}
 use Rattle.std.specs.Option.{option_or}
-use Rattle.cm_attempt.specs.declared.policy.Policy.{Policy}
+use Rattle.cm_attempt.specs.declared.status.Policy.{Policy}
 use Rattle.cm_stream.specs.References.{Name, SourceOf, DocumentOf, Definition, HookNamed, RunHook, times_declared, is_judged, has_run_started, has_run_finished}
 use Rattle.cm_stream.specs.Checks.{Check, ◌if◌, first_failed, refers_to_unknown, has_steps_of_pickle, same_flag}
 use Rattle.cm_stream.specs.ByOnePass.{checks_of, success_check}

@@ -4,7 +4,7 @@ use Rattle.std.proofs.lemmas.List.{length-map}
 use Rattle.cm_attempt.specs.Table.{AttemptRow, CaseRow, Table}
 use Rattle.cm_attempt.specs.Calls as call
 use Rattle.cm_attempt.specs.Calls.{DeclaredCase, StartedAttempt}
-use Rattle.cm_attempt.specs.declared.settings.Settings.{Settings}
+use Rattle.cm_attempt.specs.declared.status.Settings.{Settings}
 use Rattle.cm_attempt.proofs.Tracked.{Tracked}
 use Rattle.cm_attempt.proofs.Accepted.{tracked}
 use Rattle.cm_envelope.specs.declared.envelope.Envelope.{Envelope}

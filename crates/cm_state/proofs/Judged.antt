@@ -7,14 +7,14 @@ use Rattle.cm_envelope.specs.Reading.{LineFault, envelope_of_line}
 use Rattle.cm_envelope.specs.declared.envelope.Envelope.{Envelope}
 use Rattle.cm_envelope.specs.declared.envelope.Envelope.TheVariants as envelope
 use Rattle.cm_envelope.specs.declared.feed.Trouble.{Trouble}
-use Rattle.cm_attempt.specs.declared.settings.Settings.{Settings}
+use Rattle.cm_attempt.specs.declared.status.Settings.{Settings}
 use Rattle.cm_stream.specs.Checks.{declares_again, fault_at_end}
 use Rattle.cm_stream.specs.Redeclared.{judged_as, line_judged_as, passed_over}
 use Rattle.cm_stream.specs.Findings.{Finding}
 use Rattle.cm_stream.specs.References.{Definition, HookNamed, has_run_finished, run_succeeded}
 use Rattle.cm_stream.specs.Stream.{answer_for}
 use Rattle.cm_stream.specs.Stream as stream
-use Rattle.cm_stream.specs.declared.verdict.Counts.{Counts}
+use Rattle.cm_stream.specs.declared.laws.Counts.{Counts}
 use Rattle.cm_stream.specs.ByOnePass.{fault, first_fault_line, first_fault_of, IsFaultless}
 use Rattle.cm_state.specs.Summary.{Summary, declarations_in, empty_summary}
 use Rattle.cm_state.specs.StateChecks.{finding_at_end, judged_by, line_judged_by}

@@ -3,7 +3,7 @@ use Rattle.std.specs.Prelude.{◌≡◌, ℕ, ◌+◌, List, [], ◌∷◌, ◌+
 use Rattle.cm_envelope.specs.Reading.{LineFault}
 use Rattle.cm_envelope.specs.declared.envelope.Envelope.{Envelope}
 use Rattle.cm_envelope.specs.declared.feed.Trouble.{Trouble}
-use Rattle.cm_attempt.specs.declared.settings.Settings.{Settings}
+use Rattle.cm_attempt.specs.declared.status.Settings.{Settings}
 use Rattle.cm_stream.specs.Findings.{Finding, IsBad, NoEnvelope}
 use Rattle.cm_stream.specs.Stream.{Answer, GoodWith, Found, Failed, envelope_unless_blank, answer_for, first_fault_of_by}
 use Rattle.cm_stream.specs.Checks.{fault_by}

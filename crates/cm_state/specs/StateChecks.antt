@@ -6,8 +6,8 @@ use Rattle.std.specs.Str.{bytes_eq}
 use Rattle.cm_refs.specs.Declarations.{find_pickle, find_run_hook, pickle_fault, open_count as open_hook_count}
 use Rattle.cm_attempt.specs.Table.{has_text, has_repeat, has_step, find_attempt, is_good_case, is_good_status, open_count}
 use Rattle.cm_attempt.specs.declared.status.Status.TheVariants.{Passed}
-use Rattle.cm_attempt.specs.declared.policy.Policy.{Policy}
-use Rattle.cm_attempt.specs.declared.settings.Settings.{Settings}
+use Rattle.cm_attempt.specs.declared.status.Policy.{Policy}
+use Rattle.cm_attempt.specs.declared.status.Settings.{Settings}
 use Rattle.gk_document.specs.declared.tree.Document.{Document}
 use Rattle.cm_stream.specs.Texts.{Utf8, same_texts}
 use Rattle.cm_stream.specs.Readings.{Reading}
@@ -29,7 +29,7 @@ use Rattle.cm_envelope.specs.declared.envelope.GherkinDocument.{GherkinDocument}
 use Rattle.cm_envelope.specs.declared.pickle.Pickle.{Pickle}
 use Rattle.cm_stream.specs.Findings as bad
 use Rattle.cm_stream.specs.Findings.{Finding, IsBad}
-use Rattle.cm_stream.specs.declared.verdict.Reason.TheVariants as reason
+use Rattle.cm_stream.specs.declared.laws.Reason.TheVariants as reason
 use Rattle.cm_state.specs.Summary.{SourceRow, Summary}
 
 -- ---- what is judged

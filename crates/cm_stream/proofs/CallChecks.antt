@@ -21,7 +21,7 @@ use Rattle.cm_stream.specs.Good.{has_same_names, is_unknown}
 use Rattle.cm_stream.specs.Checks.{◌if◌, ◌unsupported_if◌, has_steps_of_pickle, first_failed, refers_to_unknown, declares_again, is_next_move, steps_of_attempt, checks_of_by}
 use Rattle.cm_attempt.specs.CallFaults.{same_move}
 use Rattle.cm_stream.specs.CallFaults.{call_fault_finding, own_checks, OwnAreChecks}
-use Rattle.cm_stream.specs.declared.verdict.Reason.TheVariants as reason
+use Rattle.cm_stream.specs.declared.laws.Reason.TheVariants as reason
 use Rattle.cm_stream.proofs.Lists.{or_no}
 use Rattle.cm_stream.proofs.Found.{bytes_same, eq_back}
 use Rattle.cm_stream.proofs.Declared.{declares_attempt, declares_case, known, is_of, step_ids}

@@ -13,8 +13,8 @@ use Rattle.cm_stream.specs.Sources.{is_due}
 use Rattle.cm_stream.specs.References.{as_source, as_document, as_pickle, as_case, as_start, as_run_hook_end, sources, cases, starts, hook_statuses, starts_of, documents_of, pickles_of, is_run_started, is_judged, has_run_started, move_of, moves, is_ended, retry_in, ends_of, status_in, statuses, ends_well, is_good_case, steps_of}
 use Rattle.cm_attempt.specs.Calls.{StepStarted, StepFinished, Ended, all_moves, is_end, last_of}
 use Rattle.cm_stream.specs.Good.{Good, Sound, MeetsSource}
-use Rattle.cm_attempt.specs.declared.policy.Policy.{Policy}
-use Rattle.cm_attempt.specs.declared.settings.Settings.{Settings}
+use Rattle.cm_attempt.specs.declared.status.Policy.{Policy}
+use Rattle.cm_attempt.specs.declared.status.Settings.{Settings}
 use Rattle.cm_stream.specs.Checks.{lacks, same_flag}
 use Rattle.cm_stream.specs.ByOnePass.{all_well, is_incomplete}
 use Rattle.cm_envelope.specs.declared.envelope.Envelope.{Envelope}

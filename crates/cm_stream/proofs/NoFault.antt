@@ -3,7 +3,7 @@ use Rattle.std.proofs.Common.{◌≡◌, ℕ, refl, ap, List, ◌∷◌, ◌++�
 use Rattle.std.specs.List.{AllByRecursion, flat_map}
 use Rattle.cm_stream.specs.References.{Run, PickleNamed, times_declared, if_any, test_step_names}
 use Rattle.cm_stream.specs.Good.{Good, Sound, NumbersGood}
-use Rattle.cm_attempt.specs.declared.settings.Settings.{Settings}
+use Rattle.cm_attempt.specs.declared.status.Settings.{Settings}
 use Rattle.cm_stream.specs.Checks.{Check}
 use Rattle.cm_stream.specs.ByOnePass.{checks_of, success_check, plain_checks, checks}
 use Rattle.cm_stream.specs.Laws.{GoodHaveNoFaultBy}

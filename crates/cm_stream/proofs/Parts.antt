@@ -10,8 +10,8 @@ use Rattle.cm_stream.specs.References.{is_retried, starts_of, find_pickle, pickl
 use Rattle.cm_stream.specs.Good.{CasesGood, CaseGood, RetriesGood, RetryGood, NumbersGood, NumberGood, SuccessGood, SuccessOf, has_unknown_result}
 use Rattle.cm_stream.specs.Checks.{same_flag}
 use Rattle.cm_stream.specs.ByOnePass.{IsFaultless, all_well, plain_checks, success_check}
-use Rattle.cm_attempt.specs.declared.policy.Policy.{Policy}
-use Rattle.cm_attempt.specs.declared.settings.Settings.{Settings}
+use Rattle.cm_attempt.specs.declared.status.Policy.{Policy}
+use Rattle.cm_attempt.specs.declared.status.Settings.{Settings}
 use Rattle.cm_envelope.specs.declared.envelope.Envelope.{Envelope}
 use Rattle.cm_envelope.specs.declared.envelope.Envelope.TheVariants as envelope
 use Rattle.cm_envelope.specs.declared.pickle.Pickle.{Pickle}

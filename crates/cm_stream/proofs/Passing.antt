@@ -2,8 +2,8 @@
 use Rattle.std.proofs.Common.{◌≡◌, ℕ, refl, sym, ap, ◌∙◌, List, [], ◌∷◌, ◌++◌, Some, None, true, false, Bool, ◌&&◌, append_assoc, append-nil, subst}
 use Rattle.std.specs.List.{AllByRecursion}
 use Rattle.cm_stream.specs.Checks.{Check, first_failed, refers_to_unknown}
-use Rattle.cm_attempt.specs.declared.policy.Policy.{Policy}
-use Rattle.cm_attempt.specs.declared.settings.Settings.{Settings}
+use Rattle.cm_attempt.specs.declared.status.Policy.{Policy}
+use Rattle.cm_attempt.specs.declared.status.Settings.{Settings}
 use Rattle.cm_stream.specs.References.{is_judged, has_run_finished}
 use Rattle.cm_stream.specs.ByOnePass.{checks_of, success_check, plain_checks, checks, IsFaultless, HasNoFault}
 use Rattle.cm_envelope.specs.declared.envelope.Envelope.{Envelope}

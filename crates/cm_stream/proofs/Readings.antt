@@ -8,7 +8,7 @@ use Rattle.cm_stream.specs.OnePass.{reads}
 use Rattle.cm_stream.specs.References.{sources, cases, hook_statuses, is_accepted, is_good_case}
 use Rattle.cm_stream.specs.ByOnePass.{all_well}
 use Rattle.cm_attempt.specs.Table.{is_good_status}
-use Rattle.cm_attempt.specs.declared.policy.Policy.{Policy}
+use Rattle.cm_attempt.specs.declared.status.Policy.{Policy}
 use Rattle.cm_stream.specs.Good.{SourceGood, MeetsSource, IsAccepted, AllWell}
 use Rattle.cm_envelope.specs.declared.envelope.Envelope.{Envelope}
 use Rattle.cm_envelope.specs.declared.envelope.Envelope.TheVariants as envelope

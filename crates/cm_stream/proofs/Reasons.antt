@@ -9,7 +9,7 @@ use Rattle.cm_envelope.specs.Reading.{LineFault}
 use Rattle.cm_envelope.specs.declared.envelope.Envelope.{Envelope}
 use Rattle.cm_envelope.specs.declared.envelope.Envelope.TheVariants as envelope
 use Rattle.cm_envelope.specs.declared.feed.Trouble.{Trouble}
-use Rattle.cm_attempt.specs.declared.settings.Settings.{Settings}
+use Rattle.cm_attempt.specs.declared.status.Settings.{Settings}
 use Rattle.cm_stream.specs.Texts.{Utf8}
 use Rattle.cm_stream.specs.Readings.{Reading, Accepted, Refused, OtherLanguage, TooLong, IsReading, IsInOtherLanguage}
 use Rattle.cm_stream.specs.OnePass.{reads}
@@ -21,8 +21,8 @@ use Rattle.cm_stream.specs.Checks.{Check, ◌if◌, ◌unsupported_if◌, first_
 use Rattle.cm_stream.specs.ByOnePass.{checks, fault, first_fault, first_fault_line, first_fault_of}
 use Rattle.cm_stream.specs.Stream.{At, feed_of, envelope_unless_blank, at_end, at_line}
 use Rattle.cm_stream.specs.Unsupported.{HasReason, ShowsReason, ReasonsAreShown}
-use Rattle.cm_stream.specs.declared.verdict.Reason.{Reason}
-use Rattle.cm_stream.specs.declared.verdict.Reason.TheVariants as reason
+use Rattle.cm_stream.specs.declared.laws.Reason.{Reason}
+use Rattle.cm_stream.specs.declared.laws.Reason.TheVariants as reason
 use Rattle.cm_stream.proofs.OnePass.{is_read}
 use Rattle.cm_stream.proofs.ByGrammar.{reported}
 

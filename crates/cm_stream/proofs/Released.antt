@@ -8,8 +8,8 @@ use Rattle.std.proofs.lemmas.Bool.{true≢false}
 use Rattle.std.proofs.lemmas.Bool.Decides.{nat_tests}
 use Rattle.cm_attempt.specs.Table.{is_good_status}
 use Rattle.cm_attempt.specs.Worst.{worst_of}
-use Rattle.cm_attempt.specs.declared.policy.Policy.{Policy}
-use Rattle.cm_attempt.specs.declared.settings.Settings.{Settings}
+use Rattle.cm_attempt.specs.declared.status.Policy.{Policy}
+use Rattle.cm_attempt.specs.declared.status.Settings.{Settings}
 use Rattle.cm_stream.specs.Readings.{Accepted}
 use Rattle.cm_stream.specs.References.{as_source, as_pickle, as_case, as_start, as_run_hook, as_run_end, sources, pickles, cases, starts, run_hook_ends, run_ends, starts_of, documents_of, find_pickle, find_case, pickle_step_ids, steps_of, moves, is_final, statuses, ends_well, is_good_case, is_run_finished, says_success, run_succeeded}
 use Rattle.cm_stream.specs.Statuses.{kept_status}
@@ -21,10 +21,10 @@ use Rattle.cm_stream.specs.Stream.{IsGoodRun, GoodWith, NoFault, answer_for}
 use Rattle.cm_stream.specs.Release.{Conditions, NoneIs, hold_if, hold_of, release_counts_of, is_named, is_missed, may_stay_unrun, is_retried_pickle, has_skip, is_stepless, passes_unmatched}
 use Rattle.cm_stream.specs.Release.{IsReleasedStream, ReleasedIsNotHeld, ReleasedExactly, FirstFaultReleases, Releases}
 use Rattle.cm_stream.specs.ReleasedRuns.{IsCompiled, CaseRan, Ran, RanOrMayNot, HookRan, RunEnded, EachSourceIsCompiled, EachCaseRan, EachHookRan, ReleasedRan, EachRan, NamedRan}
-use Rattle.cm_stream.specs.declared.verdict.Hold.{Hold}
-use Rattle.cm_stream.specs.declared.conditions.ReleaseCounts.{ReleaseCounts}
-use Rattle.cm_stream.specs.declared.verdict.Hold.TheVariants as hold
-use Rattle.cm_stream.specs.declared.verdict.Hold.TheVariants.{NotSuccessful, Empty, Unrun, Retried, Stepless}
+use Rattle.cm_stream.specs.declared.laws.Hold.{Hold}
+use Rattle.cm_stream.specs.declared.laws.ReleaseCounts.{ReleaseCounts}
+use Rattle.cm_stream.specs.declared.laws.Hold.TheVariants as hold
+use Rattle.cm_stream.specs.declared.laws.Hold.TheVariants.{NotSuccessful, Empty, Unrun, Retried, Stepless}
 use Rattle.cm_envelope.specs.declared.envelope.Envelope.{Envelope}
 use Rattle.cm_envelope.specs.declared.envelope.Envelope.TheVariants as envelope
 use Rattle.cm_envelope.specs.declared.envelope.Source.{Source}
@@ -34,7 +34,7 @@ use Rattle.cm_envelope.specs.declared.envelope.TestRunFinished.{TestRunFinished}
 use Rattle.cm_envelope.specs.declared.envelope.TestRunHookStarted.{TestRunHookStarted}
 use Rattle.cm_envelope.specs.declared.envelope.TestRunHookFinished.{TestRunHookFinished}
 use Rattle.cm_envelope.specs.declared.pickle.Pickle.{Pickle}
-use Rattle.cm_stream.specs.declared.verdict.Counts.{Counts}
+use Rattle.cm_stream.specs.declared.laws.Counts.{Counts}
 use Rattle.cm_stream.proofs.Lists.{and_true, all_here, none_any, each_false, count_none, none_counted, one_kept, found_cut, found_alone, any_found}
 use Rattle.cm_stream.proofs.Found.{bytes_are, bytes_same, found_at, each_found}
 use Rattle.cm_stream.proofs.Declared.{source_is, case_is, start_is, run_hook_is}

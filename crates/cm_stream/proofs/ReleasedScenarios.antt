@@ -8,13 +8,13 @@ use Rattle.std.specs.Str.{bytes_eq}
 use Rattle.std.proofs.lemmas.Bool.Decides.{nat_tests}
 use Rattle.cm_attempt.specs.Calls.{last_of}
 use Rattle.cm_attempt.specs.Table.{is_good_status}
-use Rattle.cm_attempt.specs.declared.policy.Policy.{Policy}
-use Rattle.cm_attempt.specs.declared.policy.Policy.TheVariants.{Strict, PendingPasses}
+use Rattle.cm_attempt.specs.declared.status.Policy.{Policy}
+use Rattle.cm_attempt.specs.declared.status.Policy.TheVariants.{Strict, PendingPasses}
 use Rattle.cm_attempt.specs.declared.status.Status.{Status}
 use Rattle.cm_attempt.specs.declared.status.Status.TheVariants.{Unknown, Passed, Skipped, Pending, Undefined, Ambiguous, Failed}
 use Rattle.cm_attempt.proofs.WorstLemmas.{good_worst, is_known}
 use Rattle.cm_attempt.proofs.Growing.{all_weaker}
-use Rattle.cm_attempt.specs.declared.settings.Settings.{Settings}
+use Rattle.cm_attempt.specs.declared.status.Settings.{Settings}
 use Rattle.gk_pickle.specs.Pickles.{pickles as compiled}
 use Rattle.cm_envelope.specs.declared.envelope.Envelope.{Envelope}
 use Rattle.cm_envelope.specs.declared.envelope.Envelope.TheVariants as envelope
@@ -31,8 +31,8 @@ use Rattle.cm_stream.specs.References.{Name, PickleNamed, HookNamed, PickleStep,
 use Rattle.cm_stream.specs.Release.{Conditions, IsReleasedStream, NoneIs, attempts_of, has_skip, is_attempt_of, is_retried_pickle, is_skipped, is_stepless, may_stay_unrun, passes_unmatched, strict_conditions, test_step_of}
 use Rattle.cm_stream.specs.ReleasedRuns.{CaseMeets, CaseRan, EachScenarioRan, IsCompiled, RanOrMayNot, ReleasedCasesMeet, ReleasedScenariosRan, ReleasedStepsMatched, PicklePassed, ScenarioPassed, ScenarioRan, StepMatched, StrictlyRan, StrictlyReleased, may_be_left_out, Ran, EachScenarioPassed}
 use Rattle.cm_stream.specs.Sources.{DuePickle, DueTag, english, ids_at, is_due, is_due_step, is_due_tag}
-use Rattle.cm_stream.specs.declared.conditions.ReleaseCounts.{ReleaseCounts}
-use Rattle.cm_stream.specs.declared.verdict.Counts.{Counts}
+use Rattle.cm_stream.specs.declared.laws.ReleaseCounts.{ReleaseCounts}
+use Rattle.cm_stream.specs.declared.laws.Counts.{Counts}
 use Rattle.cm_stream.specs.Texts.{Utf8, same_list, same_texts}
 use Rattle.cm_stream.proofs.Declared.{case_is, same_any}
 use Rattle.cm_stream.proofs.Found.{bytes_are, bytes_same, each_found}

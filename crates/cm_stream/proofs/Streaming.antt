@@ -8,9 +8,9 @@ use Rattle.cm_stream.specs.Findings.{Finding}
 use Rattle.cm_stream.specs.Readings.{Reading, Accepted}
 use Rattle.cm_stream.specs.OnePass.{reads}
 use Rattle.cm_stream.specs.Sources.{plain, english}
-use Rattle.cm_attempt.specs.declared.policy.Policy.{Policy}
-use Rattle.cm_attempt.specs.declared.settings.Settings.{Settings}
-use Rattle.cm_attempt.specs.declared.policy.Policy.TheVariants.{Strict}
+use Rattle.cm_attempt.specs.declared.status.Policy.{Policy}
+use Rattle.cm_attempt.specs.declared.status.Settings.{Settings}
+use Rattle.cm_attempt.specs.declared.status.Policy.TheVariants.{Strict}
 use Rattle.cm_stream.specs.Checks.{fault_at_end}
 use Rattle.cm_stream.specs.ByOnePass.{fault}
 use Rattle.cm_stream.specs.Redeclared.{judged_as}
@@ -18,7 +18,7 @@ use Rattle.cm_stream.specs.Stream.{FirstFault, At, NoFault, at_line, at_end, cou
 use Rattle.cm_envelope.specs.declared.envelope.Envelope.{Envelope}
 use Rattle.cm_envelope.specs.declared.envelope.Envelope.TheVariants as envelope
 use Rattle.cm_envelope.specs.declared.envelope.Status.{Status}
-use Rattle.cm_stream.specs.declared.verdict.Counts.{Counts}
+use Rattle.cm_stream.specs.declared.laws.Counts.{Counts}
 
 -- ---- texts
 

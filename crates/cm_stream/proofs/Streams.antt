@@ -1,10 +1,10 @@
 -- What is reported of a stream, and good streams.
 use Rattle.std.proofs.Common.{◌≡◌, ℕ, ◌+◌, ◌<◌, ◌≤◌, refl, sym, ap, ◌∙◌, List, [], ◌∷◌, ◌++◌, Option, Some, None, Result, Ok, Err, true, false, Bool, append_assoc, append-nil, map, length, arith, subst}
-use Rattle.cm_attempt.specs.declared.settings.Settings.{Settings}
+use Rattle.cm_attempt.specs.declared.status.Settings.{Settings}
 use Rattle.cm_stream.specs.Checks.{fault_at_end}
-use Rattle.cm_stream.specs.declared.verdict.Audited.{Audited}
-use Rattle.cm_stream.specs.declared.verdict.Verdict.{Verdict}
-use Rattle.cm_stream.specs.declared.verdict.Verdict.TheVariants as verdict
+use Rattle.cm_stream.specs.declared.laws.Audited.{Audited}
+use Rattle.cm_stream.specs.declared.laws.Verdict.{Verdict}
+use Rattle.cm_stream.specs.declared.laws.Verdict.TheVariants as verdict
 use Rattle.cm_stream.specs.Findings.{Finding}
 use Rattle.cm_stream.specs.StreamLaws.{IsRightAnswer}
 use Rattle.cm_stream.specs.Good.{Good}
@@ -16,7 +16,7 @@ use Rattle.cm_envelope.specs.declared.envelope.Envelope.{Envelope}
 use Rattle.cm_envelope.specs.Lines.{is_blank}
 use Rattle.cm_envelope.specs.Reading.{LineFault, envelope_of_line}
 use Rattle.cm_envelope.specs.declared.feed.Trouble.{Trouble}
-use Rattle.cm_stream.specs.declared.verdict.Counts.{Counts}
+use Rattle.cm_stream.specs.declared.laws.Counts.{Counts}
 use Rattle.cm_stream.proofs.NoFault.{good_have_no_fault}
 use Rattle.cm_stream.proofs.FaultlessGood.{faultless_are_good}
 

@@ -5,7 +5,7 @@ use Rattle.std.specs.Option.{option_and_then}
 use Rattle.std.proofs.lemmas.List.Sums.{fold_push}
 use Rattle.cm_attempt.specs.Table.{table_from}
 use Rattle.cm_attempt.specs.Calls.{table_after}
-use Rattle.cm_attempt.specs.declared.settings.Settings.{Settings}
+use Rattle.cm_attempt.specs.declared.status.Settings.{Settings}
 use Rattle.cm_stream.specs.Calls.{calls_of}
 use Rattle.cm_stream.specs.Checks.{first_failed}
 use Rattle.cm_stream.specs.CallFaults.{call_fault_finding, call_fault_of_envelope, own_checks}

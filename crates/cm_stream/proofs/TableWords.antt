@@ -9,7 +9,7 @@ use Rattle.cm_attempt.specs.Table.{CaseRow, Table, has_text, has_repeat, has_ste
 use Rattle.cm_attempt.specs.Calls as call
 use Rattle.cm_attempt.specs.Calls.{Call, StartedAttempt, last_of, result_of}
 use Rattle.cm_attempt.specs.Worst.{worst_of}
-use Rattle.cm_attempt.specs.declared.policy.Policy.{Policy}
+use Rattle.cm_attempt.specs.declared.status.Policy.{Policy}
 use Rattle.cm_attempt.specs.declared.status.Status.{Status}
 use Rattle.cm_attempt.proofs.Tracked.{Tracked, AttemptIs, unstarted, begun}
 use Rattle.cm_attempt.proofs.NextCall.{steps_are}

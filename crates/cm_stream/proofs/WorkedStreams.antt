@@ -16,13 +16,13 @@ use Rattle.cm_stream.specs.OnePass.{reads}
 use Rattle.cm_stream.specs.Findings.{IsBad, IsUnsupported}
 use Rattle.cm_stream.specs.Findings as fault
 use Rattle.cm_envelope.specs.declared.envelope.Status.TheVariants as status
-use Rattle.cm_stream.specs.declared.verdict.Hold.TheVariants as hold
-use Rattle.cm_stream.specs.declared.verdict.Hold.TheVariants.{NotSuccessful, Empty, Unrun, Retried, Stepless}
-use Rattle.cm_stream.specs.declared.verdict.Counts.{Counts}
-use Rattle.cm_stream.specs.declared.verdict.Reason.TheVariants as reason
+use Rattle.cm_stream.specs.declared.laws.Hold.TheVariants as hold
+use Rattle.cm_stream.specs.declared.laws.Hold.TheVariants.{NotSuccessful, Empty, Unrun, Retried, Stepless}
+use Rattle.cm_stream.specs.declared.laws.Counts.{Counts}
+use Rattle.cm_stream.specs.declared.laws.Reason.TheVariants as reason
 use Rattle.cm_stream.specs.Release.{each_runs, hold_of, strict_conditions}
-use Rattle.cm_stream.specs.declared.conditions.ReleaseCounts.{ReleaseCounts}
-use Rattle.cm_attempt.specs.declared.policy.Policy.TheVariants.{Strict, PendingPasses}
+use Rattle.cm_stream.specs.declared.laws.ReleaseCounts.{ReleaseCounts}
+use Rattle.cm_attempt.specs.declared.status.Policy.TheVariants.{Strict, PendingPasses}
 use Rattle.cm_envelope.specs.declared.envelope.Envelope.TheVariants as envelope
 use Rattle.cm_stream.proofs.Streaming.{by, one_step, french, source, document, pickle, parse_error, hook, hook_started, hook_finished, one_step_as, one_pickle, outline_front, first_row, second_row, third_row, no_steps_front, empty_case, run_started, run_finished, case, started, step_started, step_finished, finished, Fault, shown, shown_by, shown_redeclared, good}
 

@@ -11,7 +11,7 @@ use Rattle.cm_attempt.specs.Table.{Table}
 use Rattle.cm_attempt.specs.Calls.{call_fault}
 use Rattle.cm_stream.specs.Calls.{call_of}
 use Rattle.cm_stream.specs.Record.{table_of_envelopes}
-use Rattle.cm_attempt.specs.declared.settings.Settings.{Settings}
+use Rattle.cm_attempt.specs.declared.status.Settings.{Settings}
 use Rattle.cm_stream.specs.FaultlessLines.{IsFaultlessBy}
 use Rattle.cm_envelope.specs.declared.envelope.Envelope.{Envelope}
 use Rattle.cm_envelope.specs.declared.envelope.Envelope.TheVariants as envelope

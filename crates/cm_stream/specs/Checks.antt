@@ -7,8 +7,8 @@ use Rattle.std.specs.Str.{bytes_eq}
 use Rattle.cm_stream.specs.Texts.{Utf8, same_texts}
 use Rattle.cm_attempt.specs.Table.{has_repeat}
 use Rattle.cm_attempt.specs.CallFaults.{same_move}
-use Rattle.cm_attempt.specs.declared.policy.Policy.{Policy}
-use Rattle.cm_attempt.specs.declared.settings.Settings.{Settings}
+use Rattle.cm_attempt.specs.declared.status.Policy.{Policy}
+use Rattle.cm_attempt.specs.declared.status.Settings.{Settings}
 use Rattle.gk_document.specs.declared.tree.Document.{Document}
 use Rattle.gk_pickle.specs.Pickles.{pickles as compiled}
 use Rattle.cm_stream.specs.Readings.{Reading, Accepted, OtherLanguage, TooLong}
@@ -25,8 +25,8 @@ use Rattle.cm_envelope.specs.declared.pickle.Pickle.{Pickle}
 use Rattle.cm_envelope.specs.declared.envelope.TestCase.{TestCase}
 use Rattle.cm_stream.specs.Findings as bad
 use Rattle.cm_stream.specs.Findings.{Fault, Finding, IsBad, IsUnsupported}
-use Rattle.cm_stream.specs.declared.verdict.Reason.{Reason}
-use Rattle.cm_stream.specs.declared.verdict.Reason.TheVariants as reason
+use Rattle.cm_stream.specs.declared.laws.Reason.{Reason}
+use Rattle.cm_stream.specs.declared.laws.Reason.TheVariants as reason
 
 abbrev pub same_flag : Bool → Bool → Bool
 same_flag true b = b

@@ -1,8 +1,8 @@
 -- What a check of a line reports.
 use Rattle.cm_envelope.specs.Reading.{LineFault, fault_named}
-use Rattle.cm_stream.specs.declared.verdict.StreamFault.{StreamFault}
-use Rattle.cm_stream.specs.declared.verdict.StreamFault.TheVariants as declared
-use Rattle.cm_stream.specs.declared.verdict.Reason.{Reason}
+use Rattle.cm_stream.specs.declared.laws.StreamFault.{StreamFault}
+use Rattle.cm_stream.specs.declared.laws.StreamFault.TheVariants as declared
+use Rattle.cm_stream.specs.declared.laws.Reason.{Reason}
 
 -- Why a stream is bad.
 pub data Fault : Type 0 where

@@ -1,6 +1,6 @@
 -- What the definitions of good streams and of faults have to do with each other.
 use Rattle.std.specs.Prelude.{◌≡◌, List, None}
-use Rattle.cm_attempt.specs.declared.settings.Settings.{Settings}
+use Rattle.cm_attempt.specs.declared.status.Settings.{Settings}
 use Rattle.cm_stream.specs.Texts.{Utf8}
 use Rattle.cm_stream.specs.Readings.{Reading, ByTheGrammar}
 use Rattle.cm_stream.specs.Good.{Good}

@@ -1,13 +1,13 @@
 -- What a good stream says of its own envelopes, where hooks and step definitions may be declared again.
 use Rattle.std.specs.Prelude.{◌≡◌, ◌<◌, ℕ, Bool, true, false, List, []}
 use Rattle.std.specs.List.{AllByRecursion}
-use Rattle.cm_attempt.specs.declared.settings.Settings.{Settings}
+use Rattle.cm_attempt.specs.declared.status.Settings.{Settings}
 use Rattle.cm_envelope.specs.declared.envelope.Envelope.{Envelope}
 use Rattle.cm_stream.specs.Good.{Everywhere}
 use Rattle.cm_stream.specs.Redeclared.{judged_after}
 use Rattle.cm_stream.specs.References.{Name, Definition, HookNamed, refers, times_declared}
 use Rattle.cm_stream.specs.Stream.{IsGoodRun, envelopes}
-use Rattle.cm_stream.specs.declared.verdict.Counts.{Counts}
+use Rattle.cm_stream.specs.declared.laws.Counts.{Counts}
 
 -- hooks and step definitions may be declared again where the settings allow it
 abbrev pub may_be_redeclared : Settings → Name → Bool

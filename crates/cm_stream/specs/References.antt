@@ -24,7 +24,7 @@ use Rattle.cm_attempt.specs.Calls as call
 use Rattle.cm_attempt.specs.Calls.{Move, is_end, last_of}
 use Rattle.cm_stream.specs.Calls.{call_of}
 use Rattle.cm_attempt.specs.Table.{is_good_status}
-use Rattle.cm_attempt.specs.declared.policy.Policy.{Policy}
+use Rattle.cm_attempt.specs.declared.status.Policy.{Policy}
 
 -- ---- the envelopes of one kind, in order
 

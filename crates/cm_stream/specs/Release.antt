@@ -4,10 +4,10 @@ use Rattle.std.specs.List.{list_any, filter, AllByRecursion}
 use Rattle.std.specs.Option.{option_and_then, option_map_or}
 use Rattle.std.specs.Str.{bytes_eq}
 use Rattle.cm_attempt.specs.Table.{passes_pending}
-use Rattle.cm_attempt.specs.declared.policy.Policy.{Policy}
+use Rattle.cm_attempt.specs.declared.status.Policy.{Policy}
 use Rattle.cm_attempt.specs.declared.status.Status.{Status}
 use Rattle.cm_attempt.specs.declared.status.Status.TheVariants.{Passed, Skipped, Pending}
-use Rattle.cm_attempt.specs.declared.settings.Settings.{Settings}
+use Rattle.cm_attempt.specs.declared.status.Settings.{Settings}
 use Rattle.cm_stream.specs.Texts.{Utf8}
 use Rattle.cm_stream.specs.Statuses.{kept_status}
 use Rattle.cm_stream.specs.References.{pickles, cases, starts, starts_of, case_of, find_case, find_pickle, statuses, run_succeeded}
@@ -20,12 +20,12 @@ use Rattle.cm_envelope.specs.declared.envelope.TestCase.{TestCase}
 use Rattle.cm_envelope.specs.declared.envelope.TestCaseStarted.{TestCaseStarted}
 use Rattle.cm_envelope.specs.declared.envelope.TestStep.{TestStep}
 use Rattle.cm_envelope.specs.declared.pickle.Pickle.{Pickle}
-use Rattle.cm_stream.specs.declared.conditions.Conditions as held
-use Rattle.cm_stream.specs.declared.conditions.ReleaseCounts.{ReleaseCounts}
-use Rattle.cm_stream.specs.declared.verdict.Counts.{Counts}
-use Rattle.cm_stream.specs.declared.verdict.Hold.{Hold}
-use Rattle.cm_stream.specs.declared.verdict.Hold.TheVariants as hold
-use Rattle.cm_stream.specs.declared.verdict.Hold.TheVariants.{NotSuccessful, Empty, Unrun, Retried, Stepless}
+use Rattle.cm_stream.specs.declared.laws.Conditions as held
+use Rattle.cm_stream.specs.declared.laws.ReleaseCounts.{ReleaseCounts}
+use Rattle.cm_stream.specs.declared.laws.Counts.{Counts}
+use Rattle.cm_stream.specs.declared.laws.Hold.{Hold}
+use Rattle.cm_stream.specs.declared.laws.Hold.TheVariants as hold
+use Rattle.cm_stream.specs.declared.laws.Hold.TheVariants.{NotSuccessful, Empty, Unrun, Retried, Stepless}
 
 -- ---- what is asked of a run
 

@@ -5,10 +5,10 @@ use Rattle.std.specs.Str.{bytes_eq}
 use Rattle.cm_attempt.specs.Calls.{all_moves, last_of}
 use Rattle.cm_attempt.specs.Table.{is_good_status}
 use Rattle.cm_attempt.specs.Worst.{worst_of}
-use Rattle.cm_attempt.specs.declared.policy.Policy.{Policy}
-use Rattle.cm_attempt.specs.declared.policy.Policy.TheVariants.{Strict}
+use Rattle.cm_attempt.specs.declared.status.Policy.{Policy}
+use Rattle.cm_attempt.specs.declared.status.Policy.TheVariants.{Strict}
 use Rattle.cm_attempt.specs.declared.status.Status.TheVariants.{Passed}
-use Rattle.cm_attempt.specs.declared.settings.Settings.{Settings}
+use Rattle.cm_attempt.specs.declared.status.Settings.{Settings}
 use Rattle.gk_document.specs.declared.tree.Document.{Document}
 use Rattle.gk_document.specs.Skeleton.{skeleton}
 use Rattle.gk_pickle.specs.Pickles.{pickles as compiled}
@@ -30,8 +30,8 @@ use Rattle.cm_stream.specs.Release.{Conditions, IsReleasedStream, attempts_of, i
 use Rattle.cm_stream.specs.Sources.{DuePickle, is_due}
 use Rattle.cm_stream.specs.Statuses.{kept_status}
 use Rattle.cm_stream.specs.Texts.{Utf8, same_list}
-use Rattle.cm_stream.specs.declared.conditions.ReleaseCounts.{ReleaseCounts}
-use Rattle.cm_stream.specs.declared.verdict.Counts.{Counts}
+use Rattle.cm_stream.specs.declared.laws.ReleaseCounts.{ReleaseCounts}
+use Rattle.cm_stream.specs.declared.laws.Counts.{Counts}
 
 -- ---- what ran
 

@@ -2,13 +2,13 @@
 use Rattle.std.specs.Prelude.{ℕ, ◌&&◌, Bool, true, false, List, [], ◌∷◌, Option, Some, None, map, slice_get, codes, unwrap_or}
 use Rattle.std.specs.Str.{bytes_eq}
 pub use Rattle.gk_grammar.specs.Grammar.{english}
-use Rattle.gk_pickle.specs.declared.pickle.StepType.{StepType}
-use Rattle.gk_pickle.specs.declared.pickle.StepType.TheVariants as due_kind
-use Rattle.gk_pickle.specs.declared.pickle.PickleArgument as due_pickle_argument
-use Rattle.gk_pickle.specs.declared.pickle.PickleArgument.TheVariants as due_argument
-use Rattle.gk_pickle.specs.declared.pickle.Pickle as due_pickle
-use Rattle.gk_pickle.specs.declared.pickle.PickleStep as due_step
-use Rattle.gk_pickle.specs.declared.pickle.PickleTag as due_tag
+use Rattle.gk_pickle.specs.declared.pickles.StepType.{StepType}
+use Rattle.gk_pickle.specs.declared.pickles.StepType.TheVariants as due_kind
+use Rattle.gk_pickle.specs.declared.pickles.PickleArgument as due_pickle_argument
+use Rattle.gk_pickle.specs.declared.pickles.PickleArgument.TheVariants as due_argument
+use Rattle.gk_pickle.specs.declared.pickles.Pickle as due_pickle
+use Rattle.gk_pickle.specs.declared.pickles.PickleStep as due_step
+use Rattle.gk_pickle.specs.declared.pickles.PickleTag as due_tag
 use Rattle.cm_stream.specs.Texts.{Utf8, same_list, same_texts, same_option}
 use Rattle.cm_envelope.specs.declared.pickle.StepKind.{StepKind}
 use Rattle.cm_envelope.specs.declared.pickle.StepKind.TheVariants as line

@@ -6,7 +6,7 @@ use Rattle.std.specs.Str.{bytes_eq}
 use Rattle.cm_envelope.specs.Lines.{Fed, feed, is_blank, max_line_bytes, max_stream_bytes}
 use Rattle.cm_envelope.specs.declared.feed.Trouble.{Trouble}
 use Rattle.cm_envelope.specs.Reading.{LineFault, envelope_of_line}
-use Rattle.cm_attempt.specs.declared.settings.Settings.{Settings}
+use Rattle.cm_attempt.specs.declared.status.Settings.{Settings}
 use Rattle.cm_stream.specs.References.{sources, pickles, cases, starts, run_succeeded}
 use Rattle.cm_stream.specs.Good.{Good}
 use Rattle.cm_stream.specs.Checks.{fault_by, fault_at_end}
@@ -15,10 +15,10 @@ use Rattle.cm_stream.specs.Texts.{Utf8}
 use Rattle.cm_stream.specs.Readings.{Reading, ReadsByTheGrammar}
 use Rattle.cm_envelope.specs.declared.envelope.Envelope.{Envelope}
 use Rattle.cm_stream.specs.Findings.{Finding, IsBad, IsUnsupported, stream_fault_named, NoEnvelope}
-use Rattle.cm_stream.specs.declared.verdict.Audited.{Audited}
-use Rattle.cm_stream.specs.declared.verdict.Counts.{Counts}
-use Rattle.cm_stream.specs.declared.verdict.Verdict.{Verdict}
-use Rattle.cm_stream.specs.declared.verdict.Verdict.TheVariants as verdict
+use Rattle.cm_stream.specs.declared.laws.Audited.{Audited}
+use Rattle.cm_stream.specs.declared.laws.Counts.{Counts}
+use Rattle.cm_stream.specs.declared.laws.Verdict.{Verdict}
+use Rattle.cm_stream.specs.declared.laws.Verdict.TheVariants as verdict
 
 -- a stream's lines within the limits
 abbrev pub feed_of : List ℕ → Fed

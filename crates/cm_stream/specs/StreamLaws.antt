@@ -1,11 +1,11 @@
 -- What is reported of a stream is right: laws over bytes.
 use Rattle.std.specs.Prelude.{◌≡◌, ℕ, Bool, List, Result}
-use Rattle.cm_attempt.specs.declared.settings.Settings.{Settings}
+use Rattle.cm_attempt.specs.declared.status.Settings.{Settings}
 use Rattle.cm_stream.specs.Stream.{FirstFault, At, Troubled, NoFault, IsFirstFault, IsGoodStream, IsGoodRun, counts_of, GoodWith, answer_of_audit, answer_for, verdict_in, GoodRunsOnly, NoneIsGood, HaveFirstLines}
 use Rattle.cm_envelope.specs.declared.envelope.Envelope.{Envelope}
 use Rattle.cm_envelope.specs.declared.feed.Trouble.{Trouble}
-use Rattle.cm_stream.specs.declared.verdict.Counts.{Counts}
-use Rattle.cm_stream.specs.declared.verdict.Audited.{Audited}
+use Rattle.cm_stream.specs.declared.laws.Counts.{Counts}
+use Rattle.cm_stream.specs.declared.laws.Audited.{Audited}
 use Rattle.cm_stream.specs.Findings.{Finding}
 
 -- a stream has one first fault

@@ -2,14 +2,14 @@
 use Rattle.std.specs.Prelude.{◌≡◌, ℕ, ◌+◌, false, true, List, ◌∷◌, ◌++◌, Some, Ok, length}
 use Rattle.std.specs.Str.{bytes_eq}
 use Rattle.gk_grammar.specs.Documents.{IsTooLong}
-use Rattle.cm_attempt.specs.declared.settings.Settings.{Settings}
+use Rattle.cm_attempt.specs.declared.status.Settings.{Settings}
 use Rattle.cm_stream.specs.Readings.{IsInOtherLanguage}
 use Rattle.cm_stream.specs.Sources.{plain}
 use Rattle.cm_stream.specs.Good.{has_unknown_result}
 use Rattle.cm_stream.specs.Findings.{IsUnsupported}
 use Rattle.cm_stream.specs.Stream.{At, IsFirstFault, feed_of, envelope_unless_blank}
-use Rattle.cm_stream.specs.declared.verdict.Reason.{Reason}
-use Rattle.cm_stream.specs.declared.verdict.Reason.TheVariants as reason
+use Rattle.cm_stream.specs.declared.laws.Reason.{Reason}
+use Rattle.cm_stream.specs.declared.laws.Reason.TheVariants as reason
 use Rattle.cm_envelope.specs.declared.envelope.Envelope.{Envelope}
 use Rattle.cm_envelope.specs.declared.envelope.Envelope.TheVariants as envelope
 

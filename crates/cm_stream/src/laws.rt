@@ -1,16 +1,21 @@
-//! Laws of the definitions.
+//! What an audit answers and why a run is held, and laws of the definitions.
 ghost use Rattle.cm_stream.specs.Laws.{FaultlessAreGood, GoodHaveNoFault};
 ghost use Rattle.cm_stream.specs.Readings.{OneReading, SomeReading};
 ghost use Rattle.cm_stream.specs.CallFaults.{OwnAreChecks, CallFaultsAreTold};
 ghost use Rattle.cm_stream.specs.RedeclaredLaws.{NothingIsPassedOver, ReferencesDeclared};
 ghost use Rattle.cm_stream.specs.Release.{FirstFaultReleases, ReleasedExactly, ReleasedIsNotHeld};
-ghost use Rattle.cm_stream.specs.ReleasedRuns.{EachRan, NamedRan, ReleasedCasesMeet, ReleasedRan, ReleasedScenariosRan, ReleasedStepsMatched};
-ghost use Rattle.cm_stream.specs.ReleasedRuns.{StrictlyRan, StrictlyReleased};
+ghost use Rattle.cm_stream.specs.ReleasedRuns.{EachRan, NamedRan, ReleasedCasesMeet, ReleasedRan, ReleasedScenariosRan};
+ghost use Rattle.cm_stream.specs.ReleasedRuns.{ReleasedStepsMatched, StrictlyRan, StrictlyReleased};
 ghost use Rattle.cm_stream.specs.Results.{FaultsAreChecks, FaultsAreExact, FaultsAreFirst, FrontsAreWellOrdered, NoFaultIsExact};
 ghost use Rattle.cm_stream.specs.Results.{RefusedForFaults, TablesChange, TablesHaveResults, TroublesAreLast, WellOrderedAreAccepted};
 ghost use Rattle.cm_stream.specs.FaultlessLines.{NoneIsRefused, TableSteps, TablesAgree};
 ghost use Rattle.cm_stream.specs.StreamLaws.{AnswersAreRight, FoundIsNotGood, GoodIsNoFault, NoFaultIsGood, NoneBeginsSo, OneFirstFault};
 ghost use Rattle.cm_stream.specs.Unsupported.{ReasonsAreShown};
+ghost use Rattle.std.specs.Prelude.{◌≡◌};
+ghost use Rattle.cm_stream.specs.Statuses.{kept_status};
+
+use cm_attempt::Status;
+use cm_envelope::{LineFault, Status as LineStatus};
 
 /// Each text is accepted with one document, refused, in another language, or too long, and never two of these.
 pub fn each_text_has_one_reading()
@@ -178,3 +183,133 @@ pub fn results_faults_are_first()
 pub fn results_troubles_are_last()
     ensures { TroublesAreLast }
 {}
+
+/// Why a stream is bad.
+#[derive(Clone, Copy, Debug, Drop, PartialEq, Eq)]
+pub enum StreamFault {
+    /// A line has no envelope.
+    NoEnvelope(LineFault),
+    DuplicateId,
+    DuplicateUri,
+    UnknownReference,
+    DocumentOfRefusedSource,
+    TreeDiffers,
+    PickleDiffers,
+    ParseErrorOfGoodSource,
+    CaseStepsDiffer,
+    AttemptNumber,
+    AttemptOverlap,
+    StepOrder,
+    FinishedEarly,
+    SecondRunStarted,
+    OutsideRun,
+    AfterRunFinished,
+    AttemptOpen,
+    SourceIncomplete,
+    SuccessDiffers,
+    NoRunFinished,
+    RunHookOpen,
+    RunHookTwice,
+}
+
+/// Why a stream is not judged.
+#[derive(Clone, Copy, Debug, Drop, PartialEq, Eq)]
+pub enum Reason {
+    Language,
+    MediaType,
+    UnknownStatus,
+    SourceTooLong,
+}
+
+/// How much a good stream has. `unrun` are the pickles that no test case names.
+#[derive(Clone, Copy, Debug, Drop, PartialEq, Eq)]
+pub struct Counts {
+    pub sources: u64,
+    pub pickles: u64,
+    pub cases: u64,
+    pub attempts: u64,
+    pub unrun: u64,
+}
+
+/// What an audit answers. Lines count from 1; a fault at the end has the line after the last one.
+#[derive(Clone, Copy, Debug, Drop, PartialEq, Eq)]
+pub enum Verdict {
+    Good(Counts),
+    Bad { line: u64, fault: StreamFault },
+    Unsupported { line: u64, reason: Reason },
+}
+
+/// What an audit answers, and whether the run says success: only a good stream's word counts, of any other it is false.
+#[derive(Clone, Copy, Debug, Drop, PartialEq, Eq)]
+pub struct Audited {
+    pub verdict: Verdict,
+    pub success: bool,
+}
+
+/// Why a run that was truthfully reported isn't to be released, the first that holds.
+#[derive(Clone, Copy, Debug, Drop, PartialEq, Eq)]
+pub enum Hold {
+    /// The run doesn't say success.
+    NotSuccessful,
+    /// The run has no test case.
+    Empty,
+    /// No test case names one of the pickles, which may not be without one.
+    Unrun,
+    /// A pickle has more than one attempt.
+    Retried,
+    /// A step of a test case's last attempt was skipped.
+    Skipped,
+    /// The pickle of a test case has no steps.
+    Stepless,
+    /// A step passed that no step definition matches.
+    Undefined,
+}
+
+/// What a release asks of a run beyond a good stream that says success.
+#[derive(Debug, Drop)]
+pub struct Conditions<'a> {
+    /// The run is a part of what is asked: whether it has a test case, and which pickles have none, isn't asked of it alone.
+    pub is_part: bool,
+    /// Any pickle may be without a test case.
+    pub allows_unrun: bool,
+    /// A pickle with one of these tags may be without a test case. A tag is its whole name, with the `@`.
+    pub allowed_tags: Vec<&'a str>,
+    /// No pickle may have more than one attempt.
+    pub no_retries: bool,
+    /// No step of a test case's last attempt may be skipped.
+    pub no_skips: bool,
+    /// No test case may be of a pickle without steps.
+    pub no_stepless: bool,
+    /// No step of a pickle may pass whose test step names no step definition.
+    pub no_undefined: bool,
+}
+
+/// What is counted of a good stream for its release.
+#[derive(Clone, Copy, Debug, Drop, PartialEq, Eq)]
+pub struct ReleaseCounts {
+    /// Pickles that no test case names, and that may not be without one.
+    pub missed: u64,
+    /// Pickles with more than one attempt.
+    pub retried: u64,
+    /// Test cases whose last attempt has a skipped step.
+    pub skipped: u64,
+    /// Test cases of a pickle without steps.
+    pub stepless: u64,
+    /// Steps of pickles that passed, whose test step names no step definition.
+    pub undefined: u64,
+}
+
+/// The status that a record of attempts keeps of a line's status.
+pub fn kept_status(status: LineStatus) -> Status
+    ensures { result ≡ kept_status status }
+{
+    match status {
+        LineStatus::Unknown => Status::Unknown,
+        LineStatus::Passed => Status::Passed,
+        LineStatus::Skipped => Status::Skipped,
+        LineStatus::Pending => Status::Pending,
+        LineStatus::Undefined => Status::Undefined,
+        LineStatus::Ambiguous => Status::Ambiguous,
+        LineStatus::Failed => Status::Failed,
+    }
+}

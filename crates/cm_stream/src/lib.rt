@@ -23,21 +23,16 @@
 //! says of success, exactly for good streams, and where it is `Bad` at a line no good stream has the lines up to that one.
 #![tactic(auto)]
 
-mod conditions;
 mod laws;
-mod statuses;
-mod verdict;
 
-pub use conditions::{Conditions, ReleaseCounts};
 pub use laws::{
+    Audited, Conditions, Counts, Hold, Reason, ReleaseCounts, StreamFault, Verdict,
     answers_are_right, call_faults_are_told, each_stream_has_one_first_fault,
     each_text_has_one_reading, faults_are_exact, found_is_not_good, fronts_are_well_ordered,
-    good_is_no_fault, good_streams_have_no_fault, lines_are_refused_for_faults, no_fault_is_good,
-    none_begins_so, nothing_is_passed_over, reasons_are_shown, references_are_declared,
-    released_cases_meet_conditions, released_exactly, released_is_not_held, released_scenarios_ran,
-    results_faults_are_first, results_troubles_are_last, results_without_fault_are_exact,
-    streams_without_fault_are_good, table_steps, tables_agree, tables_change, tables_have_results,
-    well_ordered_are_accepted,
+    good_is_no_fault, good_streams_have_no_fault, kept_status, lines_are_refused_for_faults,
+    no_fault_is_good, none_begins_so, nothing_is_passed_over, reasons_are_shown,
+    references_are_declared, released_cases_meet_conditions, released_exactly,
+    released_is_not_held, released_scenarios_ran, results_faults_are_first,
+    results_troubles_are_last, results_without_fault_are_exact, streams_without_fault_are_good,
+    table_steps, tables_agree, tables_change, tables_have_results, well_ordered_are_accepted,
 };
-pub use statuses::kept_status;
-pub use verdict::{Audited, Counts, Hold, Reason, StreamFault, Verdict};

@@ -8,13 +8,13 @@ use Rattle.std.specs.Option.{option_or}
 use Rattle.std.specs.Ordering.{nat_cmp}
 use Rattle.std.specs.Result.{IfErr, IsErrAnd}
 use Rattle.files.specs.Looks.{Looked}
-use Rattle.files.specs.declared.look.Look.{Look}
+use Rattle.files.specs.declared.files.Look.{Look}
 use Rattle.feature_paths.specs.Shown.{Faulty, faulty, faults_shown, files_of, files_shown, first_fault, folders_shown}
 use Rattle.feature_paths.specs.FeaturePaths.{FindsFault, IsWalk, IsWhole, TellsFault, TellsTrouble, Walk, WalksAll, WalksFault, WalksFiles, without_files}
 use Rattle.feature_paths.specs.Walking.{Sees}
-use Rattle.feature_paths.specs.declared.trouble.Fault.TheVariants.{NoFeatures}
-use Rattle.feature_paths.specs.declared.trouble.PathTrouble.{PathTrouble}
-use Rattle.feature_paths.specs.declared.trouble.PathTrouble.TheVariants as trouble
+use Rattle.feature_paths.specs.declared.paths.Fault.TheVariants.{NoFeatures}
+use Rattle.feature_paths.specs.declared.paths.PathTrouble.{PathTrouble}
+use Rattle.feature_paths.specs.declared.paths.PathTrouble.TheVariants as trouble
 
 -- ---- one path
 

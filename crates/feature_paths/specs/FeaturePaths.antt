@@ -8,9 +8,9 @@ use Rattle.std.specs.Ordering.{nat_cmp}
 use Rattle.std.specs.Str.{bytes_eq}
 use Rattle.files.specs.Looks.{Looked}
 use Rattle.feature_paths.specs.Shown.{Faulty, faults_of, faulty, files_of, first_fault, folders_of}
-use Rattle.feature_paths.specs.declared.trouble.Fault.TheVariants.{NoFeatures}
-use Rattle.feature_paths.specs.declared.trouble.PathTrouble.{PathTrouble}
-use Rattle.feature_paths.specs.declared.trouble.PathTrouble.TheVariants as trouble
+use Rattle.feature_paths.specs.declared.paths.Fault.TheVariants.{NoFeatures}
+use Rattle.feature_paths.specs.declared.paths.PathTrouble.{PathTrouble}
+use Rattle.feature_paths.specs.declared.paths.PathTrouble.TheVariants as trouble
 
 -- ---- one path
 

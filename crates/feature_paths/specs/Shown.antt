@@ -5,14 +5,14 @@ use Rattle.std.specs.List.{ends_with, flat_map}
 use Rattle.std.specs.Ordering.{is_lt, nat_cmp}
 use Rattle.std.specs.Prelude.{nat_eq}
 use Rattle.files.specs.Looks.{Looked}
-use Rattle.files.specs.declared.look.Entry.{Entry}
-use Rattle.files.specs.declared.look.EntryKind.{EntryKind}
-use Rattle.files.specs.declared.look.EntryKind.TheVariants as kind
-use Rattle.files.specs.declared.look.Look.{Look}
-use Rattle.files.specs.declared.look.Look.TheVariants as look
-use Rattle.feature_paths.specs.declared.trouble.Fault.{Fault}
-use Rattle.feature_paths.specs.declared.trouble.Fault.TheVariants.{LinkedFolder, NotUtf8, ReadFailed}
-use Rattle.feature_paths.specs.declared.trouble.FaultyPath.{FaultyPath}
+use Rattle.files.specs.declared.files.Entry.{Entry}
+use Rattle.files.specs.declared.files.EntryKind.{EntryKind}
+use Rattle.files.specs.declared.files.EntryKind.TheVariants as kind
+use Rattle.files.specs.declared.files.Look.{Look}
+use Rattle.files.specs.declared.files.Look.TheVariants as look
+use Rattle.feature_paths.specs.declared.paths.Fault.{Fault}
+use Rattle.feature_paths.specs.declared.paths.Fault.TheVariants.{LinkedFolder, NotUtf8, ReadFailed}
+use Rattle.feature_paths.specs.declared.paths.FaultyPath.{FaultyPath}
 
 -- ---- paths
 

@@ -17,13 +17,8 @@
 //! come to in `specs/Laws`.
 #![tactic(auto)]
 
-mod feature_paths_of;
-mod found;
 mod laws;
-mod path_text;
-mod trouble;
-mod walk;
+mod paths;
 
-pub use feature_paths_of::feature_paths;
 pub use laws::{each_text_is_there_once, no_fault_is_passed_over, the_first_fault_is_first};
-pub use trouble::{Fault, FaultyPath, PathTrouble};
+pub use paths::{Fault, FaultyPath, PathTrouble, feature_paths};

@@ -3,8 +3,8 @@ use Rattle.std.specs.Prelude.{List, None, map, option_map, string_bytes}
 use Rattle.cm_envelope.specs.Reads.{input_with}
 use Rattle.files.specs.Openings.{Opening}
 use Rattle.files.specs.Looks.{Looked}
-use Rattle.files.specs.declared.opened.Opened.{Opened}
-use Rattle.files.specs.declared.opened.LookedAt.{LookedAt}
+use Rattle.files.specs.declared.files.Opened.{Opened}
+use Rattle.files.specs.declared.files.LookedAt.{LookedAt}
 
 abbrev pub opening_of : Opened → Opening
 opening_of o = record { name = string_bytes o.name; input = option_map (input_with None) o.reads }

@@ -1,7 +1,7 @@
 -- What stood under the paths that a program looked at. The history is for clauses alone: no call looks at it.
 use Rattle.std.specs.Prelude.{◌≡◌, ℕ, List, [], ◌∷◌, ◌++◌, Result, Ok, Err}
 use Rattle.std.specs.declared.alloc.AllocError.{AllocError}
-use Rattle.files.specs.declared.look.Look.{Look}
+use Rattle.files.specs.declared.files.Look.{Look}
 
 -- A path, and what stood under it.
 pub record Looked : Type 0 where

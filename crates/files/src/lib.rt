@@ -18,11 +18,8 @@
 #![tactic(auto)]
 
 mod files;
-mod look;
-mod opened;
-mod opener;
 
-pub use files::{FileTrouble, Files, OpenFile};
-pub use look::{Entry, EntryKind, Look};
-pub use opened::{FileSource, OpenedFiles};
-pub use opener::{NoOpener, Opener, SystemOpener};
+pub use files::{
+    Entry, EntryKind, FileSource, FileTrouble, Files, Look, NoOpener, OpenFile, OpenedFiles,
+    Opener, SystemOpener,
+};

@@ -11,11 +11,11 @@ use Rattle.gk_document.specs.declared.tree.Scenario.{Scenario}
 use Rattle.gk_document.specs.declared.tree.Rule.{Rule}
 use Rattle.gk_document.specs.declared.tree.Feature.{Feature}
 use Rattle.gk_document.specs.declared.tree.Document.{Document}
-use Rattle.gk_pickle.specs.declared.pickle.StepType.{StepType}
-use Rattle.gk_pickle.specs.declared.pickle.StepType.TheVariants.{Unknown}
-use Rattle.gk_pickle.specs.declared.pickle.PickleArgument.{PickleArgument}
-use Rattle.gk_pickle.specs.declared.pickle.PickleStep.{PickleStep}
-use Rattle.gk_pickle.specs.declared.pickle.Pickle.{Pickle}
+use Rattle.gk_pickle.specs.declared.pickles.StepType.{StepType}
+use Rattle.gk_pickle.specs.declared.pickles.StepType.TheVariants.{Unknown}
+use Rattle.gk_pickle.specs.declared.pickles.PickleArgument.{PickleArgument}
+use Rattle.gk_pickle.specs.declared.pickles.PickleStep.{PickleStep}
+use Rattle.gk_pickle.specs.declared.pickles.Pickle.{Pickle}
 use Rattle.gk_pickle.specs.Inherited.{Filling, no_filling}
 use Rattle.gk_pickle.specs.Steps.{own_type, keyword_types, filled_by, filled_argument}
 use Rattle.gk_pickle.specs.Pickles.{background_steps, pickle_tag, row_filling, pickles}

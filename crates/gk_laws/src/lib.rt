@@ -16,19 +16,13 @@
 //! ```
 #![tactic(auto)]
 
-mod documents;
-mod lines;
-mod pickles;
-mod texts;
+mod laws;
 
-pub use documents::{
-    comments_stand_outside_doc_strings, document_or_fault_of_lines, faults_stay, fronts_are_shown,
+pub use laws::{
+    bars_cut_rows, comments_stand_outside_doc_strings, document_or_fault_of_lines,
+    each_text_has_one_answer, escaped_fences_cut_lines, faults_stay, fronts_are_shown,
+    keyword_lines_have_parts, language_lines_have_parts, marks_cut_tag_lines,
     no_document_with_fault_of_lines, one_document_of_lines, one_fault_of_lines,
-    parts_come_in_order, parts_stand_at_their_places, texts_are_lines,
+    parts_come_in_order, parts_stand_at_their_places, pickles_are_made, pickles_name_rows,
+    texts_are_lines, tokens_read_lines, units_write_rows,
 };
-pub use lines::{
-    bars_cut_rows, escaped_fences_cut_lines, keyword_lines_have_parts, language_lines_have_parts,
-    marks_cut_tag_lines, tokens_read_lines, units_write_rows,
-};
-pub use pickles::{pickles_are_made, pickles_name_rows};
-pub use texts::each_text_has_one_answer;

@@ -13,8 +13,9 @@ ghost use Rattle.std.specs.Option.{option_map};
 ghost use Rattle.gk_line.specs.Places.{IsAtColumn};
 ghost use Rattle.gk_line.specs.Tokens.{fence_of};
 
-use crate::kinds::column;
-use crate::texts::{ascii_spaces, cut, first_byte, leading_space, skip, strip, trim, trim_start};
+use crate::texts::{
+    ascii_spaces, column, cut, first_byte, leading_space, skip, strip, trim, trim_start,
+};
 use crate::tokens::{FenceLine, Line};
 use gk_document::Fence;
 use std::alloc::{AllocError, Global};
@@ -80,7 +81,7 @@ fn push_unescaped(value: &mut String, text: &str, fence: Fence) -> Result<(), Al
     let mut rest = text;
     while let Some((front, next)) = cut(rest, b'\\') {
         value.push_str(front)?;
-        if let Some(after) = strip(next, after_backslash(fence)) {
+        if let Some(after) = strip(next, fence_after_backslash(fence)) {
             value.push_str(fence.characters())?;
             rest = after;
         } else {
@@ -93,7 +94,7 @@ fn push_unescaped(value: &mut String, text: &str, fence: Fence) -> Result<(), Al
 }
 
 /// What follows the first backslash of a fence with a backslash before each character.
-fn after_backslash(fence: Fence) -> &'static str
+fn fence_after_backslash(fence: Fence) -> &'static str
     ensures value { backslash ∷ result.now ≡ escaped_mark (fence_mark fence) }
     ensures ascii { IsTrue (list_all is_ascii result.now) }
 {

@@ -8,8 +8,7 @@ ghost use Rattle.gk_line.specs.Places.{IsAtColumn};
 ghost use Rattle.gk_line.specs.Tokens.{title_of, block_title_of, blocks, step_of, language_of, title_keywords, step_words, is_language_word, is_word_character};
 ghost use Rattle.gk_line.specs.Views.{line_chars, title_text, step_text};
 
-use crate::kinds::column;
-use crate::texts::{cut, first_byte, strip, trim, trim_start};
+use crate::texts::{column, cut, first_byte, strip, trim, trim_start};
 use crate::tokens::{Block, Line, StepLine, Title};
 use gk_document::KeywordType;
 
@@ -166,18 +165,18 @@ pub fn language<'a>(line: Line<'a>) -> Option<&'a str>
     let mark = strip(trim_start(line.text), "#")?;
     let name = strip(trim_start(mark), "language")?;
     let word = trim(strip(trim_start(name), ":")?);
-    if is_word(word) { Some(word) } else { None }
+    if is_language(word) { Some(word) } else { None }
 }
 
 /// Whether the text is one or more ASCII letters, `-` or `_`.
-fn is_word(text: &str) -> bool
+fn is_language(text: &str) -> bool
     ensures { result ≡ is_language_word (chars text.now) }
 {
-    !text.is_empty() && has_word_characters_alone(text)
+    !text.is_empty() && has_language_characters_alone(text)
 }
 
 /// Whether each character of the text is an ASCII letter, `-` or `_`.
-fn has_word_characters_alone(text: &str) -> bool
+fn has_language_characters_alone(text: &str) -> bool
     ensures { result ≡ list_all is_word_character (chars text.now) }
 {
     text.chars()

@@ -19,10 +19,8 @@
 //! ```
 #![tactic(auto)]
 
-mod cut_lines;
 mod doc_strings;
 mod keyword_lines;
-mod kinds;
 mod laws;
 mod limit;
 mod line_ends;
@@ -31,14 +29,13 @@ mod tag_lines;
 mod texts;
 mod tokens;
 
-pub use cut_lines::lines;
 pub use doc_strings::{doc_line, fence, push_doc_line};
 pub use gk_document::{Cell, Fence, KeywordType, Sequence, Text};
 pub use keyword_lines::{block_title, language, step, title};
-pub use kinds::{indent, is_blank, is_comment, is_row, is_tags};
 pub use laws::{columns_rise, kinds_exclude, lines_are_cut};
 pub use limit::FEATURE_LIMIT;
 pub use line_ends::Lines;
-pub use rows::cells;
-pub use tag_lines::tags;
-pub use tokens::{Block, FenceLine, Line, StepLine, TagFault, TagText, Title};
+pub use rows::{cells, is_row};
+pub use tag_lines::{TagFault, TagText, is_comment, is_tags, tags};
+pub use texts::{indent, is_blank, lines};
+pub use tokens::{Block, FenceLine, Line, StepLine, Title};

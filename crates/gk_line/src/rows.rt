@@ -1,4 +1,4 @@
-//! The cells of a table row.
+//! Table rows and their cells.
 ghost use Rattle.std.specs.Prelude.{◌≡◌, ◌==◌, ◌≤◌, ◌<◌, ◌+◌, ◌∷◌, ◌++◌, ◌^◌, map, length, IfOk, IfSome, OnOk, MatchOption, [], if◌then◌else◌, codes, IsTrue};
 ghost use Rattle.std.specs.List.{AllByRecursion};
 ghost use Rattle.std.specs.Str.{chars, IsUtf8, NonePass};
@@ -9,8 +9,9 @@ ghost use Rattle.gk_line.specs.Cells.{units, escape_meaning, cells_of, cell_at, 
 ghost use Rattle.gk_line.specs.Tokens.{begins_by};
 ghost use Rattle.gk_line.specs.Views.{line_chars, cell_text};
 
-use crate::kinds::column;
-use crate::texts::{after_first, leading_space, strip, trim, trim_start, width};
+use crate::texts::{
+    after_first, begins, column, indent, leading_space, strip, trim, trim_start, width,
+};
 use crate::tokens::Line;
 use gk_document::{Cell, Text};
 use memchr::memchr2;
@@ -56,26 +57,26 @@ fn cell(alloc: Global, part: &str, plain: bool, column: u32) -> Result<Cell, All
     ensures utf8 { IfOk result (λ cell. IsUtf8 cell.value) }
 {
     Ok(Cell {
-        value: Text::from(unescape(alloc, trim(part), plain)?),
+        value: Text::from(unescape_cell(alloc, trim(part), plain)?),
         column: column + leading_space(part),
     })
 }
 
 /// The text that a cell's units mean: its own characters, where it has no backslash.
-fn unescape(alloc: Global, text: &str, plain: bool) -> Result<String, AllocError>
+fn unescape_cell(alloc: Global, text: &str, plain: bool) -> Result<String, AllocError>
     requires { IsTrue plain → NonePass (λ c. c == backslash) (chars text.now) }
     ensures { IfOk result (λ value. chars (string_bytes value)
         ≡ meanings (units (chars text.now))) }
 {
     if !plain {
-        return unescape_units(alloc, text);
+        return unescape_cell_units(alloc, text);
     }
     let value = String::from_str(alloc, text)?;
     Ok(value)
 }
 
 /// The text that a cell's units mean, one character after another.
-fn unescape_units(alloc: Global, text: &str) -> Result<String, AllocError>
+fn unescape_cell_units(alloc: Global, text: &str) -> Result<String, AllocError>
     ensures { IfOk result (λ value. chars (string_bytes value)
         ≡ meanings (units (chars text.now))) }
 {
@@ -105,7 +106,7 @@ fn push_unit(value: &mut String, escaped: bool, c: char) -> Result<(), AllocErro
     if !escaped {
         return value.push(c);
     }
-    if let Some(meant) = unescaped(c) {
+    if let Some(meant) = unescaped_cell(c) {
         return value.push(meant);
     }
     value.push('\\')?;
@@ -113,7 +114,7 @@ fn push_unit(value: &mut String, escaped: bool, c: char) -> Result<(), AllocErro
 }
 
 /// What a backslash and this character mean, where they are a pair.
-fn unescaped(c: char) -> Option<char>
+fn unescaped_cell(c: char) -> Option<char>
     ensures { result ≡ escape_meaning c }
 {
     match c {
@@ -148,4 +149,13 @@ fn cut_at_bar(text: &str) -> Option<(&str, &str, bool)>
         rest = after_first(next)?;
     }
     None
+}
+
+/// Whether the line is a row of a table: after its indent it begins with `|`.
+///
+/// Source: Gherkin reference, "Data Tables"; `gherkin.berp`, `TableRow`.
+pub fn is_row(line: Line<'_>) -> bool
+    ensures value { result ≡ begins_by (codes "|") (line_chars line.entry) }
+{
+    begins(line, b'|')
 }

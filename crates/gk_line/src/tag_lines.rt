@@ -1,5 +1,6 @@
-//! The tags of a tag line.
-ghost use Rattle.std.specs.Prelude.{◌≡◌, ◌≤◌, ◌∷◌, ◌++◌, [], ◌&&◌, ℕ, List, length, map, filter, find, false, codes, is_some, None, IfOk, OnOk, IfErr, IsTrue};
+//! Tag lines and comments, and the tags of a tag line.
+ghost use Rattle.std.specs.Prelude.{◌≡◌, ◌≤◌, ◌∷◌, ◌++◌, [], ◌&&◌, ℕ, List, length, map, filter, find, false, codes, is_some, None, IfOk};
+ghost use Rattle.std.specs.Prelude.{OnOk, IfErr, IsTrue, ◌<◌};
 ghost use Rattle.std.specs.Char.{is_whitespace};
 ghost use Rattle.std.specs.List.{list_any, AllByRecursion};
 ghost use Rattle.std.specs.Str.{chars, IsUtf8};
@@ -11,11 +12,12 @@ ghost use Rattle.gk_line.specs.Tokens.{begins_by};
 ghost use Rattle.gk_line.specs.Views.{line_chars, tag_word, IsTagFault};
 
 use crate::texts::{
-    after_first, begins_with_space, count, cut, is_visible_ascii, leading_space, strip, trim,
-    trim_start,
+    after_first, begins, begins_with_space, column, count, cut, indent, is_visible_ascii,
+    leading_space, strip, trim, trim_start,
 };
-use crate::tokens::{Line, TagFault, TagText};
+use crate::tokens::Line;
 use std::alloc::{AllocError, Global};
+use thiserror::Error;
 
 /// The tags of a tag line, in order.
 ///
@@ -123,4 +125,52 @@ fn begins_comment(text: &str, next: &str) -> bool
         → result ≡ (is_whitespace c && is_some (after (codes "#") (chars next.now))) }
 {
     begins_with_space(text) && strip(next, "#").is_some()
+}
+
+/// Whether the line is a tag line: after its indent it begins with `@`.
+///
+/// Source: Gherkin reference, "Tags"; `gherkin.berp`, `TagLine`.
+pub fn is_tags(line: Line<'_>) -> bool
+    ensures value { result ≡ begins_by (codes "@") (line_chars line.entry) }
+{
+    begins(line, b'@')
+}
+
+/// Whether the line is a comment: after its indent it begins with `#`. Its text is the whole line, from column 1.
+///
+/// Source: Gherkin reference, "Comments".
+pub fn is_comment(line: Line<'_>) -> bool
+    ensures value { result ≡ begins_by (codes "#") (line_chars line.entry) }
+{
+    begins(line, b'#')
+}
+
+/// Why a tag line has no tags.
+#[derive(Clone, Copy, PartialEq, Eq, Debug, Error)]
+pub enum TagFault {
+    /// There is white space in the tag whose `@` is at this column.
+    #[error("white space in the tag at column {0}")]
+    TagSpace(u32),
+    /// There is no memory for the tags.
+    #[error("out of memory")]
+    Memory,
+}
+
+/// A tag of a tag line.
+#[derive(Clone, Copy, Debug, PartialEq, Eq)]
+pub struct TagText<'a> {
+    /// The tag without its `@`.
+    pub word: &'a str,
+    /// The column of the `@`.
+    pub column: u32,
+}
+
+impl From<AllocError> for TagFault {
+    ghost use Rattle.gk_line.specs.declared.tag_lines.TagFault.TheVariants.{Memory};
+
+    ghost from_gives = { λ _ fault. fault ≡ Memory };
+
+    fn from(_: AllocError) -> TagFault {
+        TagFault::Memory
+    }
 }

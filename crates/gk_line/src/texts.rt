@@ -1,11 +1,20 @@
 //! The text functions that the readings of a line use, by characters.
-ghost use Rattle.std.specs.Prelude.{◌≡◌, ◌≤◌, ◌+◌, ◌-◌, false, [], ◌<◌, ◌==◌, ◌∷◌, ◌++◌, IsTrue, IfSome, MatchOption, length, drop, slice_index, is_some, ◌^◌, ◌&&◌, ℕ, List, None};
+ghost use Rattle.std.specs.Prelude.{◌≡◌, ◌≤◌, ◌+◌, ◌-◌, false, [], ◌<◌, ◌==◌, ◌∷◌, ◌++◌, IsTrue, IfSome, MatchOption, length, drop};
+ghost use Rattle.std.specs.Prelude.{slice_index, is_some, ◌^◌, ◌&&◌, ℕ, List, None};
 ghost use Rattle.std.specs.Char.{is_ascii, is_whitespace};
 ghost use Rattle.std.specs.List.{list_all, prefix_len};
 ghost use Rattle.std.specs.Option.{option_map};
 ghost use Rattle.std.specs.Str.{chars, drop_trailing_whitespace, NonePass, IsUtf8, IsAscii};
 ghost use Rattle.gk_line.specs.Texts.{text_after_indent, trimmed_text, after, is_ascii_space, TakesFirst, IsCutAt, is_visible_ascii};
+ghost use Rattle.std.specs.Str.Lines.{lines};
+ghost use Rattle.gk_line.specs.declared.limit.TheConstants.{FEATURE_LIMIT};
+ghost use Rattle.gk_line.specs.Lines.{lines_of};
+ghost use Rattle.gk_line.specs.LinesLeft.{lines_left};
+ghost use Rattle.gk_line.specs.Tokens.{indent_of, begins_by, is_blank_line};
+ghost use Rattle.gk_line.specs.Views.{line_chars};
 
+use crate::line_ends::Lines;
+use crate::tokens::Line;
 use memchr::memchr;
 
 /// The text without the white space at its start.
@@ -126,7 +135,7 @@ pub(crate) fn strip<'a>(text: &'a str, front: &str) -> Option<&'a str>
 }
 
 /// Whether the text begins with this ASCII character.
-pub(crate) fn begins_with(text: &str, first: u8) -> bool
+fn begins_with(text: &str, first: u8) -> bool
     requires { first < 128 }
     ensures { result ≡ is_some (after (first ∷ []) (chars text.now)) }
 {
@@ -248,4 +257,56 @@ pub(crate) fn width(text: &str, is_ascii: bool) -> u32
     } else {
         count(text)
     }
+}
+
+/// The lines of a text, numbered from 1.
+///
+/// A line ends at a line feed, or at a carriage return and a line feed; a carriage return elsewhere is text. An end of
+/// line at the end of the text begins no further line. One byte order mark at the front is passed over and has no
+/// column. The text has at most [`FEATURE_LIMIT`](crate::FEATURE_LIMIT) bytes. Takes no memory, and time linear in the text.
+///
+/// Source: Gherkin reference, "Line-oriented"; the treatment of line ends is this profile's.
+pub fn lines(text: &str) -> Lines<'_>
+    requires { length text.now ≤ FEATURE_LIMIT }
+    ensures { lines_left result ≡ lines_of (chars text.now) }
+{
+    Lines::new(text)
+}
+
+/// How many white space characters the line begins with.
+///
+/// White space is what Unicode's White_Space property says, as for `char::is_whitespace`.
+#[tactic(auto, unfolding(crate::specs::Tokens::indent_of))]
+pub fn indent(line: Line<'_>) -> u32
+    requires { length line.text.now ≤ FEATURE_LIMIT }
+    ensures value { result ≡ indent_of (line_chars line.entry) }
+    ensures bound { result ≤ FEATURE_LIMIT }
+{
+    leading_space(line.text)
+}
+
+/// The column of the first character after the indent.
+pub(crate) fn column(line: Line<'_>) -> u32
+    requires { length line.text.now ≤ FEATURE_LIMIT }
+    ensures value { result ≡ indent_of (line_chars line.entry) + 1 }
+    ensures bound { result ≤ FEATURE_LIMIT + 1 }
+{
+    indent(line) + 1
+}
+
+/// Whether this ASCII character comes first after the indent.
+#[tactic(auto, unfolding(crate::specs::Tokens::begins_by))]
+pub(crate) fn begins(line: Line<'_>, first: u8) -> bool
+    requires { first < 128 }
+    ensures { result ≡ begins_by (first ∷ []) (line_chars line.entry) }
+{
+    begins_with(trim_start(line.text), first)
+}
+
+/// Whether the line is white space alone.
+#[tactic(auto, unfolding(crate::specs::Tokens::is_blank_line))]
+pub fn is_blank(line: Line<'_>) -> bool
+    ensures value { result ≡ is_blank_line (line_chars line.entry) }
+{
+    trim_start(line.text).is_empty()
 }

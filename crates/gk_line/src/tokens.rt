@@ -1,9 +1,6 @@
 //! The types of lines and of what they read as. Columns count Unicode scalar values from 1.
-ghost use Rattle.std.specs.Prelude.{◌≡◌};
 
 use gk_document::{Fence, KeywordType};
-use std::alloc::AllocError;
-use thiserror::Error;
 
 /// A line of a feature file, without its line end.
 #[derive(Clone, Copy, Debug, PartialEq, Eq)]
@@ -62,34 +59,4 @@ pub struct FenceLine<'a> {
     pub media: &'a str,
     /// Where the fence begins.
     pub column: u32,
-}
-
-/// A tag of a tag line.
-#[derive(Clone, Copy, Debug, PartialEq, Eq)]
-pub struct TagText<'a> {
-    /// The tag without its `@`.
-    pub word: &'a str,
-    /// The column of the `@`.
-    pub column: u32,
-}
-
-/// Why a tag line has no tags.
-#[derive(Clone, Copy, PartialEq, Eq, Debug, Error)]
-pub enum TagFault {
-    /// There is white space in the tag whose `@` is at this column.
-    #[error("white space in the tag at column {0}")]
-    TagSpace(u32),
-    /// There is no memory for the tags.
-    #[error("out of memory")]
-    Memory,
-}
-
-impl From<AllocError> for TagFault {
-    ghost use Rattle.gk_line.specs.declared.tokens.TagFault.TheVariants.{Memory};
-
-    ghost from_gives = { λ _ fault. fault ≡ Memory };
-
-    fn from(_: AllocError) -> TagFault {
-        TagFault::Memory
-    }
 }

@@ -7,7 +7,7 @@ use Rattle.std.proofs.lemmas.Simd.{map-map}
 use Rattle.gk_document.specs.declared.tree.Document.{Document}
 use Rattle.gk_document.specs.Skeleton.{skeleton}
 use Rattle.gk_parts.specs.declared.listing.Part.{Part as DeclaredPart}
-use Rattle.gk_parts.specs.declared.differing.FirstDifference.{FirstDifference}
+use Rattle.gk_parts.specs.declared.listing.FirstDifference.{FirstDifference}
 use Rattle.gk_parts.specs.Parts.{part_view, part_alone, part_view_alone, parts, parts_alone}
 use Rattle.gk_parts.specs.FirstDifference.{IsFirstDifference}
 use Rattle.gk_parts.proofs.Differences.{unequal}

@@ -13,11 +13,6 @@
 //! ```
 #![tactic(auto)]
 
-mod comparing;
-mod differing;
-mod laws;
 mod listing;
 
-pub use differing::{FirstDifference, first_difference};
-pub use laws::{difference_law, parts_law};
-pub use listing::{Part, parts};
+pub use listing::{FirstDifference, Part, difference_law, first_difference, parts, parts_law};

@@ -8,7 +8,7 @@ use Rattle.gk_document.specs.declared.tree.Row.{Row}
 use Rattle.gk_document.specs.declared.tree.ExampleTable.{ExampleTable}
 use Rattle.gk_document.specs.declared.tree.Examples.{Examples}
 use Rattle.gk_document.specs.declared.tree.Scenario.{Scenario}
-use Rattle.gk_pickle.specs.declared.pickle.Pickle.{Pickle}
+use Rattle.gk_pickle.specs.declared.pickles.Pickle.{Pickle}
 use Rattle.gk_pickle.specs.Inherited.{Inherited}
 use Rattle.gk_pickle.specs.Pickles.{pickle_of, row_filling, table_pickles, examples_pickles, outline_pickles}
 use Rattle.gk_document.specs.ExampleRows.{table_rows_of}

@@ -5,7 +5,7 @@ use Rattle.std.proofs.lemmas.Option.{slice_get-get_or, get_or_from_slice_get}
 use Rattle.std.proofs.Math.Seq.{get_or-append_seam}
 use Rattle.std.proofs.lemmas.Str.{IsCharBoundary-after_ascii}
 use Rattle.std.specs.Str.{IsUtf8, IsCharBoundary}
-use Rattle.gk_pickle.specs.declared.fill_single_pass.Open.{Open}
+use Rattle.gk_pickle.specs.declared.filling.Open.{Open}
 use Rattle.gk_pickle.specs.SinglePass.{raised_opens, AreOpenIn}
 
 -- the last one, set

@@ -11,7 +11,7 @@ use Rattle.gk_document.specs.declared.tree.Examples.{Examples}
 use Rattle.gk_document.specs.declared.tree.Scenario.{Scenario}
 use Rattle.gk_document.specs.declared.tree.Rule.{Rule}
 use Rattle.gk_document.specs.declared.tree.Feature.{Feature}
-use Rattle.gk_pickle.specs.declared.pickle.PickleStep.{PickleStep}
+use Rattle.gk_pickle.specs.declared.pickles.PickleStep.{PickleStep}
 use Rattle.gk_pickle.specs.Inherited.{Inherited, Filling, no_filling}
 use Rattle.gk_pickle.specs.Steps.{steps_after, keyword_types, pickle_steps}
 use Rattle.gk_pickle.specs.Pickles.{pickle_of, row_filling, table_pickles, examples_pickles, outline_pickles, scenario_pickles, background_steps, in_feature, in_rule, rule_pickles, pickles_in, pickles}

@@ -6,8 +6,8 @@ use Rattle.std.proofs.lemmas.List.{reverse-append}
 use Rattle.std.proofs.lemmas.Option.{IfSome_then}
 use Rattle.std.specs.Str.{IsUtf8}
 use Rattle.gk_document.specs.declared.tree.Cell.{Cell}
-use Rattle.gk_pickle.specs.declared.fill_single_pass.Open.{Open}
-use Rattle.gk_pickle.specs.declared.fill_single_pass.Part.{Part}
+use Rattle.gk_pickle.specs.declared.filling.Open.{Open}
+use Rattle.gk_pickle.specs.declared.filling.Part.{Part}
 use Rattle.gk_pickle.specs.SinglePass.{is_bracket, HasNoBracket, columns_named, Reading, with_bytes, with_open, closed_placeholder, closed_in, with_cell_read, step, read_to, read, read_parts, AreWithin, replacement, closed_by, weight, byte_weight, work}
 use Rattle.gk_pickle.proofs.Reading.{Found, Reads, at_column, From, find_from, read_plain, deeper}
 

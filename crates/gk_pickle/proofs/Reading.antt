@@ -6,7 +6,7 @@ use Rattle.std.proofs.lemmas.Bool.{cases_Bool, cond-true, cond-false, eqb-true, 
 use Rattle.std.proofs.lemmas.List.{drop_at, take_at, drop-append-le}
 use Rattle.std.proofs.lemmas.Slice.Eq.{bytes_eq-Decides}
 use Rattle.gk_document.specs.declared.tree.Cell.{Cell}
-use Rattle.gk_pickle.specs.declared.fill_single_pass.Open.{Open}
+use Rattle.gk_pickle.specs.declared.filling.Open.{Open}
 use Rattle.gk_pickle.specs.Fill.{placeholder, replaced_text, filled_text}
 use Rattle.gk_pickle.specs.SinglePass.{is_bracket, HasNoBracket, HaveNoBracket, columns_named, replacement, Reading, nothing_read, with_bytes, with_open, raised_opens, closed_by, closed_in, with_cell_read, step, read_by, read_to, read}
 use Rattle.std.proofs.lemmas.Option.{slice_get_cases}

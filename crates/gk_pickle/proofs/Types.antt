@@ -3,8 +3,8 @@ use Rattle.std.proofs.Common.{◌≡◌, List, [], ◌∷◌, ◌++◌, Some, No
 use Rattle.std.specs.List.{filter_map, cons_option}
 use Rattle.std.proofs.lemmas.List.Elements.{filter_map-append}
 use Rattle.gk_document.specs.declared.tree.KeywordType.{KeywordType}
-use Rattle.gk_pickle.specs.declared.pickle.StepType.{StepType}
-use Rattle.gk_pickle.specs.declared.pickle.StepType.TheVariants as kind
+use Rattle.gk_pickle.specs.declared.pickles.StepType.{StepType}
+use Rattle.gk_pickle.specs.declared.pickles.StepType.TheVariants as kind
 use Rattle.gk_pickle.specs.Steps.{own_type, last_or, type_of}
 
 last_or-append : {X : Type 0} (other : X) (xs : List X) (x : X) → last_or other (xs ++ x ∷ []) ≡ x

@@ -7,7 +7,7 @@ use Rattle.gk_document.specs.declared.tree.Scenario.{Scenario}
 use Rattle.gk_document.specs.declared.tree.Rule.{Rule}
 use Rattle.gk_document.specs.declared.tree.Feature.{Feature}
 use Rattle.gk_document.specs.declared.tree.Document.{Document}
-use Rattle.gk_pickle.specs.declared.pickle.Pickle.{Pickle}
+use Rattle.gk_pickle.specs.declared.pickles.Pickle.{Pickle}
 use Rattle.gk_pickle.specs.Pickles.{background_steps, pickles}
 
 -- the steps of a background and of the scenarios that follow it

@@ -6,9 +6,9 @@ use Rattle.gk_document.specs.declared.tree.Scenario.{Scenario}
 use Rattle.gk_document.specs.declared.tree.Rule.{Rule}
 use Rattle.gk_document.specs.declared.tree.Feature.{Feature}
 use Rattle.gk_document.specs.declared.tree.Document.{Document}
-use Rattle.gk_pickle.specs.declared.pickle.Pickle.{Pickle}
-use Rattle.gk_pickle.specs.declared.pickle.PickleTitle.{PickleTitle}
-use Rattle.gk_pickle.specs.declared.rest.PicklePlace.{PicklePlace}
+use Rattle.gk_pickle.specs.declared.pickles.Pickle.{Pickle}
+use Rattle.gk_pickle.specs.declared.pickles.PickleTitle.{PickleTitle}
+use Rattle.gk_pickle.specs.declared.pickles.PicklePlace.{PicklePlace}
 use Rattle.gk_pickle.specs.Inherited.{Inherited, no_filling}
 use Rattle.gk_pickle.specs.Pickles.{pickle_of, examples_pickles, scenario_pickles}
 use Rattle.gk_pickle.specs.InFeature.{ScenarioInFeature}

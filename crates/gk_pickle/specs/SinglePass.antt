@@ -5,8 +5,8 @@ use Rattle.std.specs.Prelude.{◌≡◌, ℕ, zero, suc, ◌+◌, ◌<◌, ◌�
 use Rattle.std.specs.List.{AllByRecursion}
 use Rattle.std.specs.Str.{IsUtf8, bytes_eq}
 use Rattle.gk_document.specs.declared.tree.Cell.{Cell}
-use Rattle.gk_pickle.specs.declared.fill_single_pass.Open.{Open}
-use Rattle.gk_pickle.specs.declared.fill_single_pass.Part.{Part}
+use Rattle.gk_pickle.specs.declared.filling.Open.{Open}
+use Rattle.gk_pickle.specs.declared.filling.Part.{Part}
 
 abbrev pub is_bracket : ℕ → Bool
 is_bracket b = b == 60 || b == 62

@@ -8,11 +8,11 @@ use Rattle.gk_document.specs.declared.tree.Argument.{Argument}
 use Rattle.gk_document.specs.declared.tree.Argument.TheVariants as argument
 use Rattle.gk_document.specs.declared.tree.Row.{Row}
 use Rattle.gk_document.specs.declared.tree.Step.{Step}
-use Rattle.gk_pickle.specs.declared.pickle.StepType.{StepType}
-use Rattle.gk_pickle.specs.declared.pickle.StepType.TheVariants as kind
-use Rattle.gk_pickle.specs.declared.pickle.PickleArgument.{PickleArgument}
-use Rattle.gk_pickle.specs.declared.pickle.PickleArgument.TheVariants as value
-use Rattle.gk_pickle.specs.declared.pickle.PickleStep.{PickleStep}
+use Rattle.gk_pickle.specs.declared.pickles.StepType.{StepType}
+use Rattle.gk_pickle.specs.declared.pickles.StepType.TheVariants as kind
+use Rattle.gk_pickle.specs.declared.pickles.PickleArgument.{PickleArgument}
+use Rattle.gk_pickle.specs.declared.pickles.PickleArgument.TheVariants as value
+use Rattle.gk_pickle.specs.declared.pickles.PickleStep.{PickleStep}
 use Rattle.gk_pickle.specs.Inherited.{Filling, no_filling}
 use Rattle.gk_pickle.specs.Fill.{filled_text}
 

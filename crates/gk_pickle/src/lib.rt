@@ -17,23 +17,14 @@
 //! ```
 #![tactic(auto)]
 
-mod columns;
-mod compiling;
-mod fill_single_pass;
 mod filling;
-mod inherited;
 mod laws;
-mod pickle;
-mod rest;
-mod scenario_in_feature;
-mod spot;
-mod steps;
+mod pickles;
 
-pub use compiling::{compile, compile_scenario};
 pub use filling::fill;
 pub use laws::{alike_law, characters_law, counting_law, order_law, replacing_law, scenarios_law};
-pub use pickle::{
-    Pickle, PickleArgument, PickleDocString, PickleStep, PickleTag, PickleTitle, StepType,
+pub use pickles::{
+    Pickle, PickleArgument, PickleDocString, PicklePlace, PickleStep, PickleTag, PickleTitle,
+    ScenarioInFeature, StepType, compile, compile_scenario, next_pickle, next_title, pass_pickle,
+    scenarios,
 };
-pub use rest::{PicklePlace, next_pickle, next_title, pass_pickle};
-pub use scenario_in_feature::{ScenarioInFeature, scenarios};

@@ -15,8 +15,8 @@ use Rattle.gk_grammar.specs.Place.{IsFirstBad, HasOtherCount, IsFault, IsFaultWi
 use Rattle.gk_grammar.proofs.Places.{AreNumberedFrom}
 use Rattle.gk_grammar.proofs.Faults.{RowDiffers, IsKindAt, one_kind, stop_has_kind}
 use Rattle.gk_grammar.proofs.Placed.{Stops, fronts_read, one_place, same_front, stops_at, stop_is_place, stop_has_fault}
-use Rattle.gk_plain.specs.declared.kinds.Kind.{Kind}
-use Rattle.gk_plain.specs.declared.kinds.Kind.TheVariants as kind
+use Rattle.gk_plain.specs.declared.plain.Kind.{Kind}
+use Rattle.gk_plain.specs.declared.plain.Kind.TheVariants as kind
 use Rattle.gk_plain.specs.Plain.{kind_of}
 use Rattle.gk_plain.specs.PlainFaults.{is_row_or_gap_kind, is_other_row, differs, fault_kind, first_column, fault_column}
 use Rattle.gk_plain.proofs.PlainKinds.{and_apart, and_together, not_true, all_from, all_to, language_test}

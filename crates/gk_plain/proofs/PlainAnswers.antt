@@ -5,12 +5,12 @@ use Rattle.std.proofs.lemmas.Bool.{eqb-true, ltb-true, ltb-false}
 use Rattle.std.proofs.lemmas.List.{take-append-drop, take-map, drop-map, length-map, length-take-le}
 use Rattle.std.proofs.Math.Seq.{take-append_seam, drop-append_seam}
 use Rattle.gk_grammar.specs.Token.{Line}
-use Rattle.gk_plain.specs.declared.kinds.Kind.{Kind}
-use Rattle.gk_plain.specs.declared.kinds.Kind.TheVariants as kind
-use Rattle.gk_plain.specs.declared.parts.Part.{Part}
-use Rattle.gk_plain.specs.declared.parts.Part.TheVariants as part
-use Rattle.gk_plain.specs.declared.parts.Production.{Production}
-use Rattle.gk_plain.specs.declared.parts.Production.TheVariants as rule
+use Rattle.gk_plain.specs.declared.plain.Kind.{Kind}
+use Rattle.gk_plain.specs.declared.plain.Kind.TheVariants as kind
+use Rattle.gk_plain.specs.declared.plain.Part.{Part}
+use Rattle.gk_plain.specs.declared.plain.Part.TheVariants as part
+use Rattle.gk_plain.specs.declared.plain.Production.{Production}
+use Rattle.gk_plain.specs.declared.plain.Production.TheVariants as rule
 use Rattle.gk_plain.specs.PlainLines.{row_count}
 use Rattle.gk_plain.specs.Plain.{kind_of, Is, rule_of, Cut, BeginsWithRow, Means}
 use Rattle.gk_plain.proofs.PlainCuts.{is_means, means_is}

@@ -9,10 +9,10 @@ use Rattle.gk_grammar.specs.Tree as tree
 use Rattle.gk_grammar.specs.Tree.{Location, Tag, Argument, Background, ExampleTable, Examples, Scenario, Rule, Feature}
 use Rattle.gk_document.specs.declared.tree.Argument.TheVariants.{Table, Text as Quoted}
 use Rattle.gk_grammar.specs.Grammar.{Piece, Then, Each, AtMostOne, OneLine, IsPlainGap, IsEnglish, IsTagLine, TagLines, Titled, IsRow, IsTable, IsArgument, IsStep, IsStepLine, IsExampleTable, IsExamples, IsScenario, IsBackground, IsRule, IsFeature, IsOpening, english}
-use Rattle.gk_plain.specs.declared.kinds.Kind.TheVariants as kind
-use Rattle.gk_plain.specs.declared.parts.Part.{Part}
-use Rattle.gk_plain.specs.declared.parts.Part.TheVariants as part
-use Rattle.gk_plain.specs.declared.parts.Production.TheVariants as rule
+use Rattle.gk_plain.specs.declared.plain.Kind.TheVariants as kind
+use Rattle.gk_plain.specs.declared.plain.Part.{Part}
+use Rattle.gk_plain.specs.declared.plain.Part.TheVariants as part
+use Rattle.gk_plain.specs.declared.plain.Production.TheVariants as rule
 use Rattle.gk_plain.specs.Plain.{Has, IsHeading, IsRowOf, Bare, Is, IsUntaggedExamples, IsBelowScenario, IsUntaggedScenario, IsBelowRule, IsUntaggedRule, AreScenariosAndRules, IsBelowFeature, IsUntaggedFeature, IsSpokenGap, IsWithFeature, rule_of, Cut, BeginsWithRow, Means}
 
 -- ---- many

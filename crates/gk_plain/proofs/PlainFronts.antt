@@ -8,8 +8,8 @@ use Rattle.gk_document.specs.declared.tree.Fence.TheVariants as fence
 use Rattle.gk_grammar.specs.Token.{Line}
 use Rattle.gk_grammar.specs.Place.{IsText, IsFront, Completion, ByNothing, ByFeature, ByScenario, ByQuotes, ByBackticks, completion_lines, IsFirstBad}
 use Rattle.gk_grammar.proofs.Completing.{by_feature, by_scenario, by_quotes, by_backticks}
-use Rattle.gk_plain.specs.declared.kinds.Kind.{Kind}
-use Rattle.gk_plain.specs.declared.kinds.Kind.TheVariants as kind
+use Rattle.gk_plain.specs.declared.plain.Kind.{Kind}
+use Rattle.gk_plain.specs.declared.plain.Kind.TheVariants as kind
 use Rattle.gk_plain.specs.Plain.{kind_of}
 
 -- the kind of the line that completes

@@ -18,11 +18,11 @@ use Rattle.gk_grammar.specs.Machine.{same_text, tags_from}
 use Rattle.gk_grammar.specs.Grammar as grammar
 use Rattle.gk_grammar.specs.Grammar.{OneLine, IsGap, IsPlainGap, IsEnglish, IsTagLine, IsTitle, IsRow, IsDocString, IsStepLine, Closes, at, tag_at, place_and_name, english, comments_of, description_of, content_line}
 use Rattle.gk_grammar.proofs.Sound.{same_text_is}
-use Rattle.gk_plain.specs.declared.kinds.Kind.{Kind}
-use Rattle.gk_plain.specs.declared.kinds.Kind.TheVariants as kind
-use Rattle.gk_plain.specs.declared.parts.Part.{Part}
-use Rattle.gk_plain.specs.declared.parts.Part.TheVariants as part
-use Rattle.gk_plain.specs.declared.parts.Production.TheVariants as rule
+use Rattle.gk_plain.specs.declared.plain.Kind.{Kind}
+use Rattle.gk_plain.specs.declared.plain.Kind.TheVariants as kind
+use Rattle.gk_plain.specs.declared.plain.Part.{Part}
+use Rattle.gk_plain.specs.declared.plain.Part.TheVariants as part
+use Rattle.gk_plain.specs.declared.plain.Production.TheVariants as rule
 use Rattle.gk_plain.specs.PlainLines as spec
 use Rattle.gk_plain.specs.PlainLines.{is_line, is_heading, closes, is_doc_string, are_lines, begins, same_block}
 use Rattle.gk_plain.specs.Plain.{kind_of, Has, IsHeading, Is, rule_of}

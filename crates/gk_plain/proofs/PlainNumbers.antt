@@ -12,7 +12,7 @@ use Rattle.gk_document.specs.declared.tree.Argument.TheVariants.{Table, Text as 
 use Rattle.gk_grammar.specs.Grammar.{Piece, Each, AtMostOne, OneLine, place_and_name, IsTagLine, TagLines, IsRow, IsTable, IsArgument, IsStepLine, IsStep, IsBackground, IsExampleTable, IsExamples, IsScenario, IsRule, IsFeature, IsFeatureText, english, Node, tag_nodes, row_nodes, argument_nodes, step_nodes, background_nodes, table_rows, examples_nodes, scenario_nodes, rule_nodes, feature_nodes, stands_before, AreNumbered}
 use Rattle.gk_grammar.specs.Place.{IsText}
 use Rattle.gk_grammar.proofs.Trees.{both}
-use Rattle.gk_plain.specs.declared.parts.Part.TheVariants as part
+use Rattle.gk_plain.specs.declared.plain.Part.TheVariants as part
 use Rattle.gk_plain.specs.Plain.{Is}
 
 -- ---- other numbers

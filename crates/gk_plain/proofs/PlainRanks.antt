@@ -1,9 +1,9 @@
 -- The measure of the plain program: a part's rule names parts of lower rank.
 use Rattle.std.proofs.Common.{◌<◌, ℕ, lit<}
-use Rattle.gk_plain.specs.declared.parts.Part.{Part}
-use Rattle.gk_plain.specs.declared.parts.Part.TheVariants as part
-use Rattle.gk_plain.specs.declared.parts.Production.{Production}
-use Rattle.gk_plain.specs.declared.parts.Production.TheVariants as rule
+use Rattle.gk_plain.specs.declared.plain.Part.{Part}
+use Rattle.gk_plain.specs.declared.plain.Part.TheVariants as part
+use Rattle.gk_plain.specs.declared.plain.Production.{Production}
+use Rattle.gk_plain.specs.declared.plain.Production.TheVariants as rule
 use Rattle.gk_plain.specs.Plain.{rule_of}
 
 abbrev pub rank : Part → ℕ

@@ -7,12 +7,12 @@ use Rattle.gk_grammar.specs.Tree as tree
 use Rattle.gk_grammar.specs.Tree.{Location, Argument, Background, ExampleTable, Examples, Scenario, Rule, Feature}
 use Rattle.gk_grammar.specs.Machine.{same_text}
 use Rattle.gk_grammar.specs.Grammar.{Piece, ◌⨾◌, Each, AtMostOne, OneLine, IsPlainGap, IsEnglish, IsTagLine, TagLines, Titled, IsRow, IsTable, IsDocString, IsArgument, IsStepLine, IsStep, IsExampleTable, IsExamples, IsScenario, IsBackground, IsRule, IsFeature, IsOpening, english}
-use Rattle.gk_plain.specs.declared.kinds.Kind.{Kind}
-use Rattle.gk_plain.specs.declared.kinds.Kind.TheVariants as kind
-use Rattle.gk_plain.specs.declared.parts.Part.{Part}
-use Rattle.gk_plain.specs.declared.parts.Part.TheVariants as part
-use Rattle.gk_plain.specs.declared.parts.Production.{Production}
-use Rattle.gk_plain.specs.declared.parts.Production.TheVariants as rule
+use Rattle.gk_plain.specs.declared.plain.Kind.{Kind}
+use Rattle.gk_plain.specs.declared.plain.Kind.TheVariants as kind
+use Rattle.gk_plain.specs.declared.plain.Part.{Part}
+use Rattle.gk_plain.specs.declared.plain.Part.TheVariants as part
+use Rattle.gk_plain.specs.declared.plain.Production.{Production}
+use Rattle.gk_plain.specs.declared.plain.Production.TheVariants as rule
 
 -- ---- lines
 

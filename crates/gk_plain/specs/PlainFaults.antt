@@ -4,8 +4,8 @@ use Rattle.std.specs.List.{list_all}
 use Rattle.gk_grammar.specs.Token.{Line, line}
 use Rattle.gk_grammar.specs.declared.fault.FaultKind.{FaultKind}
 use Rattle.gk_grammar.specs.declared.fault.FaultKind.TheVariants as fault
-use Rattle.gk_plain.specs.declared.kinds.Kind.{Kind}
-use Rattle.gk_plain.specs.declared.kinds.Kind.TheVariants as kind
+use Rattle.gk_plain.specs.declared.plain.Kind.{Kind}
+use Rattle.gk_plain.specs.declared.plain.Kind.TheVariants as kind
 use Rattle.gk_plain.specs.PlainLines.{is_gap_kind}
 
 -- a row or what may be between rows

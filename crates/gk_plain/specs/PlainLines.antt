@@ -5,10 +5,10 @@ use Rattle.gk_line.specs.declared.tokens.Block.{Block}
 use Rattle.gk_line.specs.declared.tokens.Block.TheVariants as block
 use Rattle.gk_document.specs.declared.tree.Fence.{Fence}
 use Rattle.gk_document.specs.declared.tree.Fence.TheVariants as fence
-use Rattle.gk_plain.specs.declared.kinds.Kind.{Kind}
-use Rattle.gk_plain.specs.declared.kinds.Kind.TheVariants as kind
-use Rattle.gk_plain.specs.declared.parts.Part.{Part}
-use Rattle.gk_plain.specs.declared.parts.Part.TheVariants as part
+use Rattle.gk_plain.specs.declared.plain.Kind.{Kind}
+use Rattle.gk_plain.specs.declared.plain.Kind.TheVariants as kind
+use Rattle.gk_plain.specs.declared.plain.Part.{Part}
+use Rattle.gk_plain.specs.declared.plain.Part.TheVariants as part
 
 -- a comment or a blank line
 abbrev pub is_gap_kind : Kind → Bool

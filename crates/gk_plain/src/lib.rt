@@ -14,10 +14,6 @@
 //! ```
 #![tactic(auto)]
 
-mod faults;
-mod kinds;
-mod parts;
 mod plain;
 
-pub use faults::{PlainFault, fault};
-pub use plain::has_document;
+pub use plain::{PlainFault, fault, has_document};

@@ -7,19 +7,19 @@ use Rattle.gk_grammar.specs.Token as read
 use Rattle.gk_grammar.specs.Token.{Utf8, line, line_of, tag_text, title_token, step_token, fence_token}
 use Rattle.gk_grammar.specs.Machine as machine
 use Rattle.gk_grammar.specs.Machine.{State, PlacedFault}
-use Rattle.gk_line.specs.declared.tokens.TagText.{TagText}
+use Rattle.gk_line.specs.declared.tag_lines.TagText.{TagText}
 use Rattle.gk_tree.specs.declared.fault.ParseFault.{ParseFault}
 use Rattle.gk_tree.specs.declared.token.IndentedLine.{IndentedLine}
 use Rattle.gk_tree.specs.declared.token.Token.{Token}
 use Rattle.gk_tree.specs.declared.token.Token.TheVariants as token
-use Rattle.gk_tree.specs.declared.flat_block.Body.{Body}
-use Rattle.gk_tree.specs.declared.flat_block.Body.TheVariants as body
-use Rattle.gk_tree.specs.declared.flat_block.FlatBlock.{FlatBlock}
-use Rattle.gk_tree.specs.declared.state.Progress.{Progress}
-use Rattle.gk_tree.specs.declared.state.OpenDocString.{OpenDocString}
-use Rattle.gk_tree.specs.declared.state.Phase.{Phase}
-use Rattle.gk_tree.specs.declared.state.Phase.TheVariants as phase
-use Rattle.gk_tree.specs.declared.state.Parser.{Parser}
+use Rattle.gk_tree.specs.declared.parser.Body.{Body}
+use Rattle.gk_tree.specs.declared.parser.Body.TheVariants as body
+use Rattle.gk_tree.specs.declared.parser.FlatBlock.{FlatBlock}
+use Rattle.gk_tree.specs.declared.parser.Progress.{Progress}
+use Rattle.gk_tree.specs.declared.parser.OpenDocString.{OpenDocString}
+use Rattle.gk_tree.specs.declared.parser.Phase.{Phase}
+use Rattle.gk_tree.specs.declared.parser.Phase.TheVariants as phase
+use Rattle.gk_tree.specs.declared.parser.Parser.{Parser}
 
 -- the text of these bytes, as a token has it
 abbrev pub text_of : List ℕ → Utf8

@@ -1,17 +1,36 @@
-//! The tree of a list of blocks.
-ghost use Rattle.std.specs.Prelude.{◌≡◌, ◌∷◌, map, reverse, IfOk, OnOk};
+//! The tree of a list of blocks, and the texts, tables and descriptions that their lines make.
+ghost use Rattle.std.specs.Prelude.{◌≡◌, ◌∷◌, map, reverse, IfOk, OnOk, ◌≤◌, ◌<◌, ◌+◌, ◌^◌, None, Ok, [], if◌then◌else◌, ◌++◌, filter, not};
+ghost use Rattle.std.specs.Prelude.{Some, length};
 ghost use Rattle.gk_line.specs.declared.tokens.Block.TheVariants as block;
 ghost use Rattle.gk_grammar.specs.Assembly as assembly;
-ghost use Rattle.gk_grammar.specs.Assembly.{no_parts, with_block, feature_at, rule_at, scenario_at, examples_at, steps_of, rows_of, example_table_of};
-ghost use Rattle.gk_tree.specs.Views.{flat_block_of, body_of};
+ghost use Rattle.gk_grammar.specs.Assembly.{no_parts, with_block, feature_at, rule_at, scenario_at, examples_at, steps_of, rows_of};
+ghost use Rattle.gk_grammar.specs.Assembly.{example_table_of};
+ghost use Rattle.gk_tree.specs.Views.{flat_block_of, body_of, state_in, Gives, text_of, state_so_far, kept_line, word_of};
+ghost use Rattle.gk_tree.specs.Views.{open_doc_string_of};
 ghost use Rattle.gk_tree.specs.Assembling.{parts_view};
+ghost use Rattle.gk_line.specs.Views.{line_chars};
+ghost use Rattle.gk_grammar.specs.Token.{bytes};
+ghost use Rattle.gk_grammar.specs.Machine as machine;
+ghost use Rattle.gk_grammar.specs.Token as read;
+ghost use Rattle.gk_grammar.specs.Grammar.{description_of, from_text, content_line};
+ghost use Rattle.std.specs.String.{string_bytes};
+ghost use Rattle.std.specs.List.{join_with_byte};
+ghost use Rattle.gk_line.specs.Characters.{line_feed};
+ghost use Rattle.gk_document.specs.MediaType.{unless_empty};
+ghost use Rattle.gk_grammar.specs.declared.fault.FaultKind.TheVariants as kind;
+ghost use Rattle.gk_grammar.specs.Grammar as grammar;
 
-use crate::flat_block::{Body, FlatBlock};
-use crate::rows::header_and_body;
-use gk_document::{
-    Background, ExampleTable, Examples, Feature, Rule, Scenario, Sequence, Step, Text,
+use crate::fault::ParseFault;
+use crate::line_tokens::tag_name;
+use crate::parser::{
+    BlockWithSteps, Body, FlatBlock, OpenDocString, Phase, Progress, after_description,
 };
-use gk_line::Block;
+use crate::token::{IndentedLine, location};
+use gk_document::{
+    Background, Cell, DocString, ExampleTable, Examples, Feature, Fence, Location, Row, Rule,
+    Scenario, Sequence, Step, Tag, Text, media_type,
+};
+use gk_line::{Block, StepLine, TagText, cells, fence, is_blank, is_comment, lines, push_doc_line};
 use std::alloc::{AllocError, Global};
 use std::mem::replace;
 
@@ -149,7 +168,7 @@ fn add_background(alloc: Global, parts: &mut Parts, flat_block: FlatBlock)
         keyword: flat_block.keyword,
         name: flat_block.name,
         description: flat_block.description,
-        steps: steps(alloc, flat_block.body),
+        steps: build_steps(alloc, flat_block.body),
     });
 }
 
@@ -174,7 +193,7 @@ fn scenario(alloc: Global, flat_block: FlatBlock, examples: Vec<Examples>) -> Sc
         keyword: flat_block.keyword,
         name: flat_block.name,
         description: flat_block.description,
-        steps: steps(alloc, flat_block.body),
+        steps: build_steps(alloc, flat_block.body),
         examples: in_order(examples),
     }
 }
@@ -190,12 +209,12 @@ fn examples_block(flat_block: FlatBlock) -> Examples
         keyword: flat_block.keyword,
         name: flat_block.name,
         description: flat_block.description,
-        table: table(flat_block.body),
+        table: build_table(flat_block.body),
     }
 }
 
 /// The steps of a background or a scenario.
-fn steps(alloc: Global, body: Body) -> Sequence<Step>
+fn build_steps(alloc: Global, body: Body) -> Sequence<Step>
     ensures { result ≡ steps_of (body_of body) }
 {
     match body {
@@ -205,11 +224,341 @@ fn steps(alloc: Global, body: Body) -> Sequence<Step>
 }
 
 /// The rows of an examples block as its table, the first one its header.
-fn table(body: Body) -> Option<ExampleTable>
+fn build_table(body: Body) -> Option<ExampleTable>
     ensures { result ≡ example_table_of (rows_of (body_of body)) }
 {
     let Body::Rows(rows) = body else {
         return None;
     };
     header_and_body(rows)
+}
+
+/// The text of a description of these lines.
+pub(crate) fn description(alloc: Global, lines: &[IndentedLine<'_>]) -> Result<Text, AllocError>
+    ensures { IfOk result (λ t. t ≡ description_of (map kept_line lines.now)) }
+{
+    let kept = without_comments(alloc, lines)?;
+    joined(alloc, without_last_blanks(without_first_blanks(&kept)))
+}
+
+/// The lines that are no comments.
+fn without_comments<'a>(
+    alloc: Global,
+    lines: &[IndentedLine<'a>],
+) -> Result<Vec<IndentedLine<'a>>, AllocError>
+    ensures { IfOk result (λ v. map kept_line v.items
+        ≡ filter (λ l. not (read.is_comment l)) (map kept_line lines.now)) }
+{
+    let mut kept = Vec::new(alloc);
+    for line in lines {
+        if !is_comment(line.line) {
+            kept.push(*line)?;
+        }
+    }
+    Ok(kept)
+}
+
+/// The lines from the first one on that is not blank.
+fn without_first_blanks<'a, 'l>(lines: &'l [IndentedLine<'a>]) -> &'l [IndentedLine<'a>]
+    ensures { map kept_line result.now ≡ from_text (map kept_line lines.now) }
+{
+    for (i, line) in lines.iter().enumerate() {
+        if !is_blank(line.line) {
+            return &lines[i..];
+        }
+    }
+    &lines[lines.len()..]
+}
+
+/// The lines up to the last one that is not blank.
+fn without_last_blanks<'a, 'l>(lines: &'l [IndentedLine<'a>]) -> &'l [IndentedLine<'a>]
+    ensures { map kept_line result.now ≡ reverse (from_text (reverse (map kept_line lines.now))) }
+{
+    let mut end = lines.len();
+    while end > 0 {
+        if !is_blank(lines[end - 1].line) {
+            return &lines[..end];
+        }
+        end -= 1;
+    }
+    &lines[..0]
+}
+
+/// The first row of a table.
+pub(crate) fn single_row(alloc: Global, row: Row) -> Result<Sequence<Row>, AllocError>
+    ensures { IfOk result (λ rows. rows ≡ row ∷ []) }
+{
+    let mut rows = Sequence::new(alloc);
+    rows.push(row)?;
+    Ok(rows)
+}
+
+/// The table whose header is the first of these rows, if there is a row.
+pub(crate) fn header_and_body(rows: Sequence<Row>) -> Option<ExampleTable>
+    ensures { result ≡ example_table_of rows }
+{
+    let mut rows = rows.into_vec();
+    if rows.is_empty() {
+        return None;
+    }
+    let header = rows.remove(0);
+    Some(ExampleTable {
+        header,
+        body: Sequence::from(rows),
+    })
+}
+
+/// The first row of an examples table.
+pub(crate) fn first_row<'a>(
+    alloc: Global,
+    progress: &mut Progress,
+    flat_block: Box<FlatBlock>,
+    at: IndentedLine<'a>,
+    cells: Sequence<Cell>,
+) -> Result<Phase<'a>, ParseFault>
+    requires room { progress.old.nodes < 2 ^ 63 }
+    ensures { Gives (state_in progress.new) result
+        (machine.after_description (state_so_far progress.old) (flat_block_of flat_block.value)
+        (read.line at.entry.line.number (line_chars at.entry.line) at.entry.indent
+        (read.Row cells))) }
+{
+    let rows = single_row(alloc, row_at(progress.nodes, at, cells))?;
+    progress.nodes += 1;
+    Ok(Phase::InExamplesTable(flat_block, rows))
+}
+
+/// A text of its own with these characters.
+pub(crate) fn copied(alloc: Global, text: &str) -> Result<Text, AllocError>
+    ensures { IfOk result (λ t. t ≡ text_of text.now) }
+{
+    Text::copy_of(alloc, text)
+}
+
+/// A copy of the media type, where there is one.
+pub(crate) fn copied_media(alloc: Global, media: &str) -> Result<Option<Text>, AllocError>
+    ensures { IfOk result (λ m. m ≡ unless_empty (text_of media.now)) }
+{
+    Ok(media_type(copied(alloc, media)?))
+}
+
+/// The lines with a line feed between them.
+fn joined(alloc: Global, lines: &[IndentedLine<'_>]) -> Result<Text, AllocError>
+    ensures { IfOk result (λ t. t ≡ join_with_byte line_feed
+        (map bytes (map kept_line lines.now))) }
+{
+    let mut text = String::new(alloc);
+    for (i, line) in lines.iter().enumerate() {
+        push_line(&mut text, i == 0, line.line.text)?;
+    }
+    Ok(Text::from(text))
+}
+
+/// Adds a line, after a line feed if it isn't the first.
+#[tactic(auto, using(crate::proofs::TextLemmas::text_same))]
+fn push_line(text: &mut String, is_first: bool, line: &str) -> Result<(), AllocError>
+    ensures { OnOk result (string_bytes text.new
+        ≡ (if is_first then string_bytes text.old ++ text_of line.now
+        else (string_bytes text.old ++ line_feed ∷ []) ++ text_of line.now)) }
+{
+    if is_first {
+        text.push_str(line)?;
+        return Ok(());
+    }
+    text.push('\n')?;
+    text.push_str(line)?;
+    Ok(())
+}
+
+/// Adds what a line says inside a doc string, after a line feed if it isn't the first.
+fn push_content_line(
+    text: &mut String,
+    is_first: bool,
+    line: IndentedLine<'_>,
+    fence: Fence,
+    indent: u32,
+) -> Result<(), AllocError>
+    ensures { OnOk result (string_bytes text.new
+        ≡ (if is_first then string_bytes text.old
+        ++ content_line fence indent (kept_line line.entry)
+        else (string_bytes text.old ++ line_feed ∷ [])
+        ++ content_line fence indent (kept_line line.entry))) }
+{
+    if is_first {
+        return push_doc_line(text, line.line, fence, indent);
+    }
+    text.push('\n')?;
+    push_doc_line(text, line.line, fence, indent)
+}
+
+/// The content of a doc string of these lines.
+pub(crate) fn content(
+    alloc: Global,
+    lines: &[IndentedLine<'_>],
+    fence: Fence,
+    indent: u32,
+) -> Result<Text, AllocError>
+    ensures { IfOk result (λ t. t ≡ join_with_byte line_feed
+        (map (content_line fence indent) (map kept_line lines.now))) }
+{
+    let mut text = String::new(alloc);
+    for (i, line) in lines.iter().enumerate() {
+        push_content_line(&mut text, i == 0, *line, fence, indent)?;
+    }
+    Ok(Text::from(text))
+}
+
+/// How many nodes the title line of a block is.
+pub(crate) fn title_node_count(block: Block) -> u64
+    ensures value { result ≡ machine.title_node_count block }
+    ensures bound { result ≤ 1 }
+{
+    match block {
+        Block::Feature => 0,
+        Block::Rule | Block::Background | Block::Scenario | Block::Examples => 1,
+    }
+}
+
+/// The tags with those of a line after them, numbered from `node` on.
+pub(crate) fn with_tags(
+    alloc: Global,
+    tags: Sequence<Tag>,
+    node: u64,
+    number: u32,
+    words: &[TagText<'_>],
+) -> Result<Sequence<Tag>, AllocError>
+    requires { node + length words.now < 2 ^ 64 }
+    ensures { IfOk result (λ all. all ≡ tags ++ machine.tags_from number node
+        (map word_of words.now)) }
+{
+    let mut all = tags;
+    let mut next = node;
+    for word in words {
+        all.push(Tag {
+            node: next,
+            location: Location {
+                line: number,
+                column: word.column,
+            },
+            name: tag_name(alloc, word.word)?,
+        })?;
+        next += 1;
+    }
+    Ok(all)
+}
+
+/// What a block has below its description at first.
+pub(crate) fn empty_body(alloc: Global, block: Block) -> Body
+    ensures { body_of result ≡ machine.empty_body block }
+{
+    match block {
+        Block::Feature | Block::Rule => Body::Bare,
+        Block::Background | Block::Scenario => Body::Steps(Sequence::new(alloc)),
+        Block::Examples => Body::Rows(Sequence::new(alloc)),
+    }
+}
+
+/// The block with the description that these lines are.
+pub(crate) fn with_description(
+    alloc: Global,
+    mut flat_block: Box<FlatBlock>,
+    lines: Vec<IndentedLine<'_>>,
+) -> Result<Box<FlatBlock>, AllocError>
+    ensures { IfOk result (λ c. flat_block_of c.value
+        ≡ machine.with_description (flat_block_of flat_block.value)
+        (map kept_line lines.entry.items)) }
+{
+    flat_block.description = description(alloc, &lines)?;
+    Ok(flat_block)
+}
+
+/// The block with its steps below it, in no more memory than they take.
+pub(crate) fn with_steps(stepped: Box<BlockWithSteps>) -> Result<FlatBlock, AllocError>
+    ensures { IfOk result (λ c. flat_block_of c
+        ≡ machine.with_steps (flat_block_of stepped.value.flat_block)
+        (stepped.value.before ++ stepped.value.last ∷ [])) }
+{
+    let BlockWithSteps {
+        mut flat_block,
+        before,
+        last,
+    } = Box::into_inner(stepped);
+    flat_block.body = Body::Steps(all_steps(before, last)?);
+    Ok(flat_block)
+}
+
+/// The steps of a block, in no more memory than they take.
+fn all_steps(before: Sequence<Step>, last: Step) -> Result<Sequence<Step>, AllocError>
+    ensures { IfOk result (λ steps. steps ≡ before ++ last ∷ []) }
+{
+    let mut steps = before.into_vec();
+    steps.push(last)?;
+    steps.shrink_to_fit();
+    Ok(Sequence::from(steps))
+}
+
+/// The block with these rows below it.
+pub(crate) fn with_rows(mut flat_block: FlatBlock, rows: Sequence<Row>) -> FlatBlock
+    ensures { flat_block_of result ≡ machine.with_rows (flat_block_of flat_block) rows }
+{
+    flat_block.body = Body::Rows(rows);
+    flat_block
+}
+
+/// The doc string of these lines.
+pub(crate) fn doc_string(
+    alloc: Global,
+    opening: OpenDocString<'_>,
+    lines: &[IndentedLine<'_>],
+) -> Result<DocString, AllocError>
+    ensures { IfOk result (λ d. d ≡ machine.doc_string (open_doc_string_of opening.entry)
+        (map kept_line lines.now)) }
+{
+    Ok(DocString {
+        location: opening.location,
+        media: copied_media(alloc, opening.media)?,
+        content: content(alloc, lines, opening.fence, opening.indent)?,
+        fence: opening.fence,
+    })
+}
+
+/// The row that the line is.
+pub(crate) fn row_at(node: u64, at: IndentedLine<'_>, cells: Sequence<Cell>) -> Row
+    ensures { result ≡ record {
+      node = node;
+      location = grammar.at at.entry.line.number
+          (at.entry.indent + 1);
+      cells = cells;
+    } }
+{
+    Row {
+        node,
+        location: location(at),
+        cells,
+    }
+}
+
+/// The step that the line is.
+pub(crate) fn step_at(
+    alloc: Global,
+    node: u64,
+    at: IndentedLine<'_>,
+    line: StepLine<'_>,
+) -> Result<Step, AllocError>
+    ensures { IfOk result (λ s. s ≡ record {
+      node = node;
+      location = grammar.at at.entry.line.number (at.entry.indent + 1);
+      keyword = text_of line.entry.keyword.now;
+      kind = line.entry.kind;
+      text = text_of line.entry.text.now;
+      argument = None;
+    }) }
+{
+    Ok(Step {
+        node,
+        location: location(at),
+        keyword: copied(alloc, line.keyword)?,
+        kind: line.kind,
+        text: copied(alloc, line.text)?,
+        argument: None,
+    })
 }

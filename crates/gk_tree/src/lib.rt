@@ -15,19 +15,9 @@
 #![tactic(auto)]
 
 mod assemble;
-mod before_blocks;
-mod blocks;
-mod comments;
-mod descriptions;
 mod fault;
-mod flat_block;
-mod headings;
 mod line_tokens;
-mod parse_text;
-mod rows;
-mod state;
-mod steps;
-mod texts;
+mod parser;
 mod token;
 
 pub use fault::ParseFault;
@@ -36,4 +26,4 @@ pub use gk_document::{
     Row, Rule, Scenario, Step, Tag, same_skeleton,
 };
 pub use gk_grammar::FaultKind;
-pub use parse_text::parse;
+pub use parser::parse;

@@ -1,27 +1,40 @@
-//! What a line is read as: its token, and its indent.
-ghost use Rattle.std.specs.Prelude.{◌≡◌, ◌≤◌, length, codes, IfOk, IsTrue, ◌++◌};
+//! What a line is read as.
+ghost use Rattle.std.specs.Prelude.{◌≡◌, ◌≤◌, ◌+◌, length, codes, IfOk, IsTrue, ◌++◌, ◌<◌, ◌^◌, None, Ok, Err, [], if◌then◌else◌, map, ℕ};
+ghost use Rattle.std.specs.Prelude.{List, Some};
+ghost use Rattle.gk_line.specs.declared.limit.TheConstants.{FEATURE_LIMIT};
 ghost use Rattle.std.specs.Str.{chars};
 ghost use Rattle.std.specs.Option.{option_map};
-ghost use Rattle.gk_line.specs.declared.limit.TheConstants.{FEATURE_LIMIT};
 ghost use Rattle.gk_line.specs.Texts.{text_after_indent, first_some};
 ghost use Rattle.gk_line.specs.Tokens.{indent_of, title_of, step_of, fence_of, begins_by, language_of, blocks};
 ghost use Rattle.gk_line.specs.Tags.{spaced_piece, tags_of};
-ghost use Rattle.gk_line.specs.Views.{line_chars};
+ghost use Rattle.gk_line.specs.Views.{line_chars, step_text};
 ghost use Rattle.gk_grammar.specs.Token as read;
-ghost use Rattle.gk_grammar.specs.Token.{token_of, comment_token as comment_or_language, title_token as titled, step_token as stepped, fence_token as fenced, tag_list, word_token as by_word, token_or_other};
+ghost use Rattle.gk_grammar.specs.Token.{token_of, comment_token as comment_or_language, title_token as titled, step_token as stepped};
+ghost use Rattle.gk_grammar.specs.Token.{fence_token as fenced, tag_list, word_token as by_word, token_or_other, cell};
 ghost use Rattle.gk_tree.specs.Read.{first_character};
-ghost use Rattle.gk_tree.specs.Views.{token_view, text_of};
+ghost use Rattle.gk_tree.specs.Views.{token_view, text_of, state_in, Gives, flat_block_of, state_so_far, kept_line};
 ghost use Rattle.gk_grammar.specs.Grammar.{english};
 ghost use Rattle.gk_grammar.specs.Machine as machine;
+ghost use Rattle.gk_grammar.specs.declared.fault.FaultKind.TheVariants as kinds;
+ghost use Rattle.gk_grammar.specs.Grammar as grammar;
+ghost use Rattle.gk_line.specs.Cells.{cells_of};
 
-use crate::rows::row_cells;
-use crate::token::{Head, TagLine, Token};
-use gk_document::Text;
-use gk_line::{Line, TagFault, block_title, fence, language, step, tags};
+use crate::assemble::{row_at, step_at};
+use crate::fault::{ParseFault, unexpected};
+use crate::parser::{
+    BlockWithSteps, Phase, Progress, add_step_row, after_step, follows, open_block,
+};
+use crate::token::{Head, IndentedLine, TagLine, Token};
+use gk_document::{Cell, Comment, Fence, Row, Sequence, Step, Text};
+use gk_line::{
+    Block, FEATURE_LIMIT, Line, StepLine, TagFault, Title, block_title, cells, fence, is_comment,
+    language, step, tags,
+};
 use std::alloc::{AllocError, Global};
+use std::mem::replace;
 
 /// The indent of a line with this text, and the first character after it.
-pub(crate) fn head(text: &str) -> Head
+pub(crate) fn line_head(text: &str) -> Head
     requires { length text.now ≤ FEATURE_LIMIT }
     ensures indent { result.indent ≡ indent_of (chars text.now) }
     ensures bound { result.indent ≤ FEATURE_LIMIT }
@@ -45,7 +58,7 @@ pub(crate) fn head(text: &str) -> Head
 
 /// What the line is read as, where this is the first character after its indent.
 #[inline(never)]
-pub(crate) fn token(
+pub(crate) fn line_token(
     alloc: Global,
     line: Line<'_>,
     first: Option<char>,
@@ -147,4 +160,121 @@ pub(crate) fn is_english(word: &str) -> bool
     ensures { result ≡ machine.same_text (text_of word.now) english }
 {
     word == "en"
+}
+
+/// A title line after a block or before all, without tags.
+pub(crate) fn title_line<'a>(
+    alloc: Global,
+    progress: &mut Progress,
+    before: Option<Block>,
+    next: Block,
+    at: IndentedLine<'a>,
+    title: Title<'a>,
+) -> Result<Phase<'a>, ParseFault>
+    requires room { progress.old.nodes < 2 ^ 63 }
+    ensures { Gives (state_in progress.new) result (if machine.follows before next
+        then Ok (machine.open_block (state_so_far progress.old) next [] at.entry.line.number
+        at.entry.indent (text_of title.entry.keyword.now) (text_of title.entry.name.now))
+        else Err (record {
+          kind = kinds.Unexpected;
+          line = at.entry.line.number;
+          column = at.entry.indent + 1;
+        })) }
+{
+    if follows(before, next) {
+        open_block(alloc, progress, next, Sequence::new(alloc), at, title)
+    } else {
+        Err(unexpected(at))
+    }
+}
+
+/// A step line after steps.
+pub(crate) fn step_line<'a>(
+    alloc: Global,
+    progress: &mut Progress,
+    mut stepped: Box<BlockWithSteps>,
+    at: IndentedLine<'a>,
+    line: StepLine<'a>,
+) -> Result<Phase<'a>, ParseFault>
+    requires room { progress.old.nodes < 2 ^ 63 }
+    ensures { Gives (state_in progress.new) result
+        (machine.after_step (state_so_far progress.old)
+        (flat_block_of stepped.value.flat_block) stepped.value.before stepped.value.last
+        (read.line at.entry.line.number (line_chars at.entry.line) at.entry.indent
+        (read.step_token (step_text line.entry)))) }
+{
+    let step = step_at(alloc, progress.nodes, at, line)?;
+    let last = replace(&mut stepped.last, step);
+    stepped.before.push(last)?;
+    progress.nodes += 1;
+    Ok(Phase::AfterStep(stepped))
+}
+
+/// A row line after steps.
+pub(crate) fn row_line<'a>(
+    alloc: Global,
+    progress: &mut Progress,
+    mut stepped: Box<BlockWithSteps>,
+    at: IndentedLine<'a>,
+    cells: Sequence<Cell>,
+) -> Result<Phase<'a>, ParseFault>
+    requires room { progress.old.nodes < 2 ^ 63 }
+    ensures { Gives (state_in progress.new) result
+        (machine.after_step (state_so_far progress.old)
+        (flat_block_of stepped.value.flat_block) stepped.value.before stepped.value.last
+        (read.line at.entry.line.number (line_chars at.entry.line) at.entry.indent
+        (read.Row cells))) }
+{
+    let row = row_at(progress.nodes, at, cells);
+    add_step_row(alloc, &mut stepped.last, row)?;
+    progress.nodes += 1;
+    Ok(Phase::AfterStep(stepped))
+}
+
+/// How many cells the first row has.
+pub(crate) fn cell_count(rows: &[Row]) -> usize
+    ensures { result ≡ machine.count_of rows.now }
+{
+    match rows {
+        [] => 0,
+        [first, ..] => first.cells.len(),
+    }
+}
+
+/// The cells of a row.
+pub(crate) fn row_cells(alloc: Global, line: Line<'_>) -> Result<Sequence<Cell>, AllocError>
+    requires row { IsTrue (begins_by (codes "|") (line_chars line)) }
+    requires short { length line.text.now ≤ FEATURE_LIMIT }
+    ensures { IfOk result (λ found. found ≡ map cell (cells_of (line_chars line.entry))) }
+{
+    let cells = cells(alloc, line)?;
+    Ok(Sequence::from(cells))
+}
+
+/// Whether the line is a comment, also a language line.
+pub(crate) fn is_comment_token(token: &Token<'_>) -> bool
+    ensures { (n : ℕ) (text : List ℕ) (i : ℕ) → result
+        ≡ read.is_comment (read.line n text i (token_view token.now)) }
+{
+    match token {
+        Token::Comment | Token::Language(_) => true,
+        Token::Blank
+        | Token::Tags(_)
+        | Token::SpacedTag(_)
+        | Token::Title(_, _)
+        | Token::Step(_)
+        | Token::Row(_)
+        | Token::Fenced(_)
+        | Token::Other => false,
+    }
+}
+
+/// Whether the line closes a doc string that this fence opened.
+pub(crate) fn closes(opened: Fence, at: IndentedLine<'_>) -> bool
+    ensures { result ≡ grammar.is_fence opened (kept_line at.entry) }
+{
+    match fence(at.line) {
+        Some(line) => line.fence == opened,
+        None => false,
+    }
 }

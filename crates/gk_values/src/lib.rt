@@ -14,7 +14,5 @@
 #![tactic(auto)]
 
 mod json;
-mod tree_json;
 
-pub use json::pickle_value;
-pub use tree_json::{document_value, source_value};
+pub use json::{document_value, pickle_value, source_value};

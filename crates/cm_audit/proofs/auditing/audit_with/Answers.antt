@@ -1,5 +1,5 @@
 use Rattle.std.proofs.Common.{subst}
-use Rattle.cm_attempt.specs.declared.settings.Settings.{Settings}
+use Rattle.cm_attempt.specs.declared.status.Settings.{Settings}
 use Rattle.cm_audit.specs.Audit.{Audits}
 use Rattle.cm_audit.proofs.auditing.audit_with.Goals as goal
 

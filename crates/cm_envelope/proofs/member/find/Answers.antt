@@ -14,7 +14,7 @@ pub loop-name-preserved-then-not-is_null : goal.loop-name-preserved-then-not-is_
 loop-name-preserved-then-not-is_null c =
     let e : Entry = (c.in-Some-2.name.now, c.in-Some-2.value.now) in
     walk_goes_on _ _ _ c.loop-name.invariant e _ _ c.in-Some-2.ensures.steps (sym c.is_null.ensures ∙ c.if-not-is_null.true)
-    (c.note.ensures ∙ ap (λ name. map (noted name (view e.1)) (map seen c.loop-name.members)) c.as_str.ensures.value)
+    (c.note_member.ensures ∙ ap (λ name. map (noted name (view e.1)) (map seen c.loop-name.members)) c.as_str.ensures.value)
 
 pub returns-in-None : goal.returns-in-None
 returns-in-None c = all_found _ _ _ (walk_ends _ _ _ c.loop-name.invariant c.in-None.ensures.steps.0)

@@ -1,5 +1,5 @@
 use Rattle.std.proofs.Common.{◌∙◌, ap, List}
-use Rattle.cm_reasons.specs.declared.steps.CaseStep.{CaseStep}
+use Rattle.cm_reasons.specs.declared.reasons.CaseStep.{CaseStep}
 use Rattle.cm_release.specs.Counts.{has_step}
 use Rattle.cm_release.proofs.CountLemmas.{step_added}
 use Rattle.cm_release.proofs.judgement.add_step.Goals as goal

@@ -2,7 +2,7 @@ use Rattle.std.proofs.Common.{◌∙◌, ap, List, Some, None, take_all}
 use Rattle.cm_cases.specs.Firsts.{value_at}
 use Rattle.cm_cases.proofs.FirstLemmas.{got_same}
 use Rattle.cm_release.specs.Counts.{attempts_in, case_in, some_or_more}
-use Rattle.cm_release.specs.declared.kept.StartEntry.{StartEntry}
+use Rattle.cm_release.specs.declared.judgement.StartEntry.{StartEntry}
 use Rattle.cm_release.proofs.CountLemmas.{attempt_noted, attempt_passed}
 use Rattle.cm_release.proofs.judgement.attempts_of.Goals as goal
 use Rattle.cm_release.proofs.judgement.attempts_of.Goals.{in-Some+in_ok-note_again, in_default}

@@ -1,6 +1,6 @@
 use Rattle.std.proofs.Common.{◌∙◌, ap, List}
 use Rattle.cm_release.specs.Counts.{last_start, texts_of}
-use Rattle.cm_release.specs.declared.kept.StartEntry.{StartEntry}
+use Rattle.cm_release.specs.declared.judgement.StartEntry.{StartEntry}
 use Rattle.cm_release.proofs.CountLemmas.{if_ok, skipped_found}
 use Rattle.cm_release.proofs.judgement.skipped_of.Goals as goal
 

@@ -14,11 +14,11 @@ loop-front-init c = (c.utf8.text, refl, c.requires.room)
 pub loop-front-preserved-in-Some-strip : goal.loop-front-preserved-in-Some-strip
 loop-front-preserved-in-Some-strip c =
     let room = room_at_cut (string_len c.loop-front.value) (string_capacity c.loop-front.value) c.loop-front.rest.now c.in-Some.front.now c.in-Some.next.now c.in-Some.ensures.bytes c.loop-front.invariant.2 in
-    let marks = length-after_backslash c.args.fence c.after_backslash.result.now c.after_backslash.ensures.value in
+    let marks = length-after_backslash c.args.fence c.fence_after_backslash.result.now c.fence_after_backslash.ensures.value in
     let plain = ap length c.characters.ensures ∙ length-fence_characters c.args.fence in
     let mid = string_bytes c.push_str.new.self in
     let added = fence_added c.args.fence mid (string_bytes c.push_str-in-Some-strip.new.self) (IsUtf8-string_bytes c.push_str.new.self) (c.in_ok-push_str-2.ensures.bytes ∙ ap (λ q. mid ++ q) c.characters.ensures) in
-    let step = escaped_step c.args.fence c.after_backslash.result.now (chars c.in-Some.next.now) (chars c.in-Some-strip.after.now) c.after_backslash.ensures.value c.in-Some-strip.ensures.value in (
+    let step = escaped_step c.args.fence c.fence_after_backslash.result.now (chars c.in-Some.next.now) (chars c.in-Some-strip.after.now) c.fence_after_backslash.ensures.value c.in-Some-strip.ensures.value in (
       c.in-Some-strip.ensures.utf8,
       turn (fence_mark c.args.fence) (string_bytes c.loop-front.value) mid (string_bytes c.push_str-in-Some-strip.new.self) (fence_characters c.args.fence) c.loop-front.rest.now c.in-Some.front.now (chars c.in-Some.next.now) (chars c.in-Some-strip.after.now) _
           (IsUtf8-string_bytes c.loop-front.value) c.in_ok-push_str.ensures.bytes added c.in-Some.ensures.place step c.loop-front.invariant.1,
@@ -30,7 +30,7 @@ loop-front-preserved c =
     let room = room_at_cut (string_len c.loop-front.value) (string_capacity c.loop-front.value) c.loop-front.rest.now c.in-Some.front.now c.in-Some.next.now c.in-Some.ensures.bytes c.loop-front.invariant.2 in
     let mid = string_bytes c.push_str.new.self in
     let added = grown_chars mid (string_bytes c.push.new.self) backslash refl (IsUtf8-string_bytes c.push_str.new.self) c.in_ok-push.ensures.bytes in
-    let step = alone_step (fence_mark c.args.fence) c.after_backslash.result.now (chars c.in-Some.next.now) c.after_backslash.ensures.value c.in_default-strip.ensures.value in (
+    let step = alone_step (fence_mark c.args.fence) c.fence_after_backslash.result.now (chars c.in-Some.next.now) c.fence_after_backslash.ensures.value c.in_default-strip.ensures.value in (
       c.in-Some.ensures.rest_utf8,
       turn (fence_mark c.args.fence) (string_bytes c.loop-front.value) mid (string_bytes c.push.new.self) (backslash ∷ []) c.loop-front.rest.now c.in-Some.front.now (chars c.in-Some.next.now) (chars c.in-Some.next.now) _
           (IsUtf8-string_bytes c.loop-front.value) c.in_ok-push_str.ensures.bytes added c.in-Some.ensures.place step c.loop-front.invariant.1,
@@ -50,7 +50,7 @@ returns-in_err-push_str-clause-fits c =
 pub returns-in_err-push_str-2-clause-fits : goal.returns-in_err-push_str-2-clause-fits
 returns-in_err-push_str-2-clause-fits c =
     let room = room_at_cut (string_len c.loop-front.value) (string_capacity c.loop-front.value) c.loop-front.rest.now c.in-Some.front.now c.in-Some.next.now c.in-Some.ensures.bytes c.loop-front.invariant.2 in
-    let marks = length-after_backslash c.args.fence c.after_backslash.result.now c.after_backslash.ensures.value in
+    let marks = length-after_backslash c.args.fence c.fence_after_backslash.result.now c.fence_after_backslash.ensures.value in
     let plain = ap length c.characters.ensures ∙ length-fence_characters c.args.fence in
     absurd (omega (arith, room, marks, plain, c.in-Some-strip.ensures.bound, c.in_ok-push_str.ensures.len, c.in_ok-push_str.ensures.capacity, c.in_err-push_str-2.ensures.full))
 

@@ -10,13 +10,13 @@ use Rattle.gk_line.proofs.rows.cell.Goals as goal
 
 pub returns-clause-value : goal.returns-clause-value
 returns-clause-value c =
-    let value = ap chars c.from.ensures ∙ c.in_ok-unescape.ensures ∙ ap (λ q. meanings (units q)) c.trim.ensures ∙ ap meanings (units-trimmed (chars c.args.part.now)) in
+    let value = ap chars c.from.ensures ∙ c.in_ok-unescape_cell.ensures ∙ ap (λ q. meanings (units q)) c.trim.ensures ∙ ap meanings (units-trimmed (chars c.args.part.now)) in
     let space = c.leading_space.ensures.value ∙ leading-units (chars c.args.part.now) in
     λ i. record { value = value i; column = c.args.column + space i }
 
 pub returns-clause-utf8 : goal.returns-clause-utf8
-returns-clause-utf8 c = subst IsUtf8 (sym c.from.ensures) (IsUtf8-string_bytes c.in_ok-unescape.field-0)
+returns-clause-utf8 c = subst IsUtf8 (sym c.from.ensures) (IsUtf8-string_bytes c.in_ok-unescape_cell.field-0)
 
-pub unescape-requires : goal.unescape-requires
-unescape-requires c = λ is.
+pub unescape_cell-requires : goal.unescape_cell-requires
+unescape_cell-requires c = λ is.
     subst (NonePass (λ q. q == backslash)) (sym c.trim.ensures) (trimmed-plain (chars c.args.part.now) (c.requires.plain is))

@@ -1,29 +1,21 @@
-use Rattle.std.proofs.Common.{◌≡◌, ◌∙◌, ap, codes, get_or, rules}
+use Rattle.std.proofs.Common.{◌≡◌, codes, rules}
 use Rattle.serde_json.specs.View.{view}
 use Rattle.cm_envelope.specs.Member.{member_of}
-use Rattle.cm_envelope.specs.Members.{seen, looked_for}
+use Rattle.cm_envelope.specs.Members.{seen}
 use Rattle.cm_envelope.proofs.read_envelopes.TestStepReadObject.read.Goals as goal
-
-pub returns-in_err-optional_text-2 : goal.returns-in_err-optional_text-2
-returns-in_err-optional_text-2 c =
-    let m0 : seen (get_or c.find.new.members 0 c.index-members-0.result) ≡ member_of (codes "id") (view c.args.object.now) = c.find.ensures.0 _ ∙ ap (looked_for (view c.args.object.now)) c.named.ensures in
-    let m1 : seen (get_or c.find.new.members 1 c.index-members-1.result) ≡ member_of (codes "hookId") (view c.args.object.now) = c.find.ensures.1.0 _ ∙ ap (looked_for (view c.args.object.now)) c.named-2.ensures in
-    let m2 : seen (get_or c.find.new.members 2 c.index-members-2.result) ≡ member_of (codes "pickleStepId") (view c.args.object.now) = c.find.ensures.1.1.0 _ ∙ ap (looked_for (view c.args.object.now)) c.named-3.ensures in
-    let m3 : seen (get_or c.find.new.members 3 c.index-members-3.result) ≡ member_of (codes "stepDefinitionIds") (view c.args.object.now) = c.find.ensures.1.1.1.0 _ ∙ ap (looked_for (view c.args.object.now)) c.named-4.ensures in
-    search rules
 
 pub returns-in_err-texts : goal.returns-in_err-texts
 returns-in_err-texts c =
-    let m0 : seen (get_or c.find.new.members 0 c.index-members-0.result) ≡ member_of (codes "id") (view c.args.object.now) = c.find.ensures.0 _ ∙ ap (looked_for (view c.args.object.now)) c.named.ensures in
-    let m1 : seen (get_or c.find.new.members 1 c.index-members-1.result) ≡ member_of (codes "hookId") (view c.args.object.now) = c.find.ensures.1.0 _ ∙ ap (looked_for (view c.args.object.now)) c.named-2.ensures in
-    let m2 : seen (get_or c.find.new.members 2 c.index-members-2.result) ≡ member_of (codes "pickleStepId") (view c.args.object.now) = c.find.ensures.1.1.0 _ ∙ ap (looked_for (view c.args.object.now)) c.named-3.ensures in
-    let m3 : seen (get_or c.find.new.members 3 c.index-members-3.result) ≡ member_of (codes "stepDefinitionIds") (view c.args.object.now) = c.find.ensures.1.1.1.0 _ ∙ ap (looked_for (view c.args.object.now)) c.named-4.ensures in
+    let id : seen c.four_members.result.0 ≡ member_of (codes "id") (view c.args.object.now) = c.four_members.ensures.first in
+    let hook : seen c.four_members.result.1 ≡ member_of (codes "hookId") (view c.args.object.now) = c.four_members.ensures.second in
+    let step : seen c.four_members.result.2 ≡ member_of (codes "pickleStepId") (view c.args.object.now) = c.four_members.ensures.third in
+    let definitions : seen c.four_members.result.3 ≡ member_of (codes "stepDefinitionIds") (view c.args.object.now) = c.four_members.ensures.fourth in
     search rules
 
 pub returns : goal.returns
 returns c =
-    let m0 : seen (get_or c.find.new.members 0 c.index-members-0.result) ≡ member_of (codes "id") (view c.args.object.now) = c.find.ensures.0 _ ∙ ap (looked_for (view c.args.object.now)) c.named.ensures in
-    let m1 : seen (get_or c.find.new.members 1 c.index-members-1.result) ≡ member_of (codes "hookId") (view c.args.object.now) = c.find.ensures.1.0 _ ∙ ap (looked_for (view c.args.object.now)) c.named-2.ensures in
-    let m2 : seen (get_or c.find.new.members 2 c.index-members-2.result) ≡ member_of (codes "pickleStepId") (view c.args.object.now) = c.find.ensures.1.1.0 _ ∙ ap (looked_for (view c.args.object.now)) c.named-3.ensures in
-    let m3 : seen (get_or c.find.new.members 3 c.index-members-3.result) ≡ member_of (codes "stepDefinitionIds") (view c.args.object.now) = c.find.ensures.1.1.1.0 _ ∙ ap (looked_for (view c.args.object.now)) c.named-4.ensures in
+    let id : seen c.four_members.result.0 ≡ member_of (codes "id") (view c.args.object.now) = c.four_members.ensures.first in
+    let hook : seen c.four_members.result.1 ≡ member_of (codes "hookId") (view c.args.object.now) = c.four_members.ensures.second in
+    let step : seen c.four_members.result.2 ≡ member_of (codes "pickleStepId") (view c.args.object.now) = c.four_members.ensures.third in
+    let definitions : seen c.four_members.result.3 ≡ member_of (codes "stepDefinitionIds") (view c.args.object.now) = c.four_members.ensures.fourth in
     search rules

@@ -35,10 +35,10 @@ returns g c = on_ok_weaker c.end_map-2.result (λ ended. (
               c.in_ok-send_text.ensures.1,
               c.in_ok-send_text.ensures.2,
               (
-                c.in_ok-send_steps_member.ensures.0,
-                g.S.Serializer.written c.send_steps_member.new.out,
-                c.in_ok-send_steps_member.ensures.1,
-                c.in_ok-send_steps_member.ensures.2,
+                c.in_ok-send_pickle_steps_member.ensures.0,
+                g.S.Serializer.written c.send_pickle_steps_member.new.out,
+                c.in_ok-send_pickle_steps_member.ensures.1,
+                c.in_ok-send_pickle_steps_member.ensures.2,
                 (
                   c.in_ok-send_list_member-2.ensures.0,
                   g.S.Serializer.written c.send_list_member-2.new.out,

@@ -3,7 +3,7 @@ use Rattle.std.specs.Prelude.{option_map}
 use Rattle.cm_refs.specs.Declarations.{PickleRow, Utf8}
 use Rattle.cm_refs.specs.Rows.{pickle_row}
 use Rattle.cm_refs.specs.StepIds.{ids_in}
-use Rattle.cm_refs.specs.declared.step_ids.StepIds.{StepIds}
+use Rattle.cm_refs.specs.declared.declared.StepIds.{StepIds}
 use Rattle.cm_refs.proofs.declared.Declared.pickle.Goals as goal
 
 steps_found : (id : Utf8) (o : Option (Bor StepIds)) (row : Option PickleRow) → option_map (λ (s : Bor StepIds). pickle_row id s.now) o ≡ row

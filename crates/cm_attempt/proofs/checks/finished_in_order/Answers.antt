@@ -1,5 +1,0 @@
-use Rattle.std.proofs.Common.{rules}
-use Rattle.cm_attempt.proofs.checks.finished_in_order.Goals as goal
-
-pub returns-then-is_next : goal.returns-then-is_next
-returns-then-is_next c = search rules

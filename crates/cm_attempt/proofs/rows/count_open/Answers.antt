@@ -1,5 +1,0 @@
-use Rattle.std.proofs.Common.{rules}
-use Rattle.cm_attempt.proofs.rows.count_open.Goals as goal
-
-pub returns : goal.returns
-returns c = search rules

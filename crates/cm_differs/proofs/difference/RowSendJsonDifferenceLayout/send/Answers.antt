@@ -1,0 +1,5 @@
+use Rattle.std.proofs.lemmas.Result.{on_ok_weaker}
+use Rattle.cm_differs.proofs.difference.RowSendJsonDifferenceLayout.send.Goals as goal
+
+pub returns : goal.returns
+returns g c = on_ok_weaker c.end_map.result (λ ended. (g.S.Serializer.written c.begin_map.new.self, c.in_ok-begin_map.ensures, (c.in_ok-send_list_member.ensures.0, g.S.Serializer.written c.send_list_member.new.out, c.in_ok-send_list_member.ensures.1, c.in_ok-send_list_member.ensures.2, (c.in_ok-send_location.ensures.0, g.S.Serializer.written c.send_location.new.out, c.in_ok-send_location.ensures.1, c.in_ok-send_location.ensures.2, ended)))) c.end_map.ensures

@@ -1,5 +1,0 @@
-use Rattle.std.proofs.lemmas.Result.{on_ok_weaker}
-use Rattle.cm_differs.proofs.pickle_json.PickleSendJsonDifferenceLayout.send.Goals as goal
-
-pub returns : goal.returns
-returns g c = on_ok_weaker c.end_map.result (λ ended. (g.S.Serializer.written c.begin_map.new.self, c.in_ok-begin_map.ensures, (c.in_ok-send_list_member.ensures.0, g.S.Serializer.written c.send_list_member.new.out, c.in_ok-send_list_member.ensures.1, c.in_ok-send_list_member.ensures.2, (c.in_ok-send_text.ensures.0, g.S.Serializer.written c.send_text.new.out, c.in_ok-send_text.ensures.1, c.in_ok-send_text.ensures.2, (c.in_ok-send_text-2.ensures.0, g.S.Serializer.written c.send_text-2.new.out, c.in_ok-send_text-2.ensures.1, c.in_ok-send_text-2.ensures.2, (c.in_ok-send_list_member-2.ensures.0, g.S.Serializer.written c.send_list_member-2.new.out, c.in_ok-send_list_member-2.ensures.1, c.in_ok-send_list_member-2.ensures.2, (c.in_ok-send_list_member-3.ensures.0, g.S.Serializer.written c.send_list_member-3.new.out, c.in_ok-send_list_member-3.ensures.1, c.in_ok-send_list_member-3.ensures.2, (c.in_ok-send_text-3.ensures.0, g.S.Serializer.written c.send_text-3.new.out, c.in_ok-send_text-3.ensures.1, c.in_ok-send_text-3.ensures.2, ended)))))))) c.end_map.ensures

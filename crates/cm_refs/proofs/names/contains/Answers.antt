@@ -1,5 +1,0 @@
-use Rattle.cm_refs.proofs.EntryLemmas.{list_any-map}
-use Rattle.cm_refs.proofs.names.contains.Goals as goal
-
-pub returns : goal.returns
-returns c = rw list_any-map c.contains.ensures

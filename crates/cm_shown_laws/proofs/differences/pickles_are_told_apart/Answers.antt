@@ -1,5 +1,0 @@
-use Rattle.cm_shown_laws.proofs.ToldLines.{pickles_told_apart}
-use Rattle.cm_shown_laws.proofs.differences.pickles_are_told_apart.Goals as goal
-
-pub returns : goal.returns
-returns c = pickles_told_apart

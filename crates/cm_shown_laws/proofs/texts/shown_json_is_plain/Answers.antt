@@ -1,5 +1,0 @@
-use Rattle.cm_shown_laws.proofs.Points.{json_plain}
-use Rattle.cm_shown_laws.proofs.texts.shown_json_is_plain.Goals as goal
-
-pub returns : goal.returns
-returns c = json_plain

@@ -1,5 +1,0 @@
-use Rattle.cm_shown_laws.proofs.Points.{texts_plain}
-use Rattle.cm_shown_laws.proofs.texts.shown_texts_are_plain.Goals as goal
-
-pub returns : goal.returns
-returns c = texts_plain

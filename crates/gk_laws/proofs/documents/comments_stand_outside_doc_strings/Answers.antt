@@ -1,5 +1,0 @@
-use Rattle.gk_laws.proofs.OutsideLines.{comments_outside_holds}
-use Rattle.gk_laws.proofs.documents.comments_stand_outside_doc_strings.Goals as goal
-
-pub returns : goal.returns
-returns c = comments_outside_holds

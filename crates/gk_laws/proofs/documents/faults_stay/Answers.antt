@@ -1,5 +1,0 @@
-use Rattle.gk_laws.proofs.Fronts.{faults_stay_holds}
-use Rattle.gk_laws.proofs.documents.faults_stay.Goals as goal
-
-pub returns : goal.returns
-returns c = faults_stay_holds

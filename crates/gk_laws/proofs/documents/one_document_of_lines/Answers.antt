@@ -1,5 +1,0 @@
-use Rattle.gk_laws.proofs.LineDocuments.{one_document_holds}
-use Rattle.gk_laws.proofs.documents.one_document_of_lines.Goals as goal
-
-pub returns : goal.returns
-returns c = one_document_holds

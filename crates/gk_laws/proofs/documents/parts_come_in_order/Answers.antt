@@ -1,5 +1,0 @@
-use Rattle.gk_laws.proofs.MarkPlaces.{parts_in_order_holds}
-use Rattle.gk_laws.proofs.documents.parts_come_in_order.Goals as goal
-
-pub returns : goal.returns
-returns c = parts_in_order_holds

@@ -1,5 +1,0 @@
-use Rattle.gk_laws.proofs.LanguageParts as parts
-use Rattle.gk_laws.proofs.lines.language_lines_have_parts.Goals as goal
-
-pub returns : goal.returns
-returns c = parts.language_lines_have_parts

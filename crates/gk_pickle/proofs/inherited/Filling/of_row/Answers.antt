@@ -1,5 +1,0 @@
-use Rattle.std.proofs.Common.{rules}
-use Rattle.gk_pickle.proofs.inherited.Filling.of_row.Goals as goal
-
-pub returns : goal.returns
-returns c = search rules

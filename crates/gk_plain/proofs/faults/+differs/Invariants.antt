@@ -1,5 +1,0 @@
-use Rattle.std.proofs.Common.{length}
-use Rattle.gk_plain.proofs.faults.+differs.Given as goal
-
-abbrev pub decreases-differs : goal.decreases-differs
-decreases-differs l = length l.lines.now

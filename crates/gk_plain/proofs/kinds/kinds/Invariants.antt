@@ -1,9 +1,0 @@
-use Rattle.std.proofs.Common.{◌≡◌, ◌++◌, map}
-use Rattle.gk_line.specs.LinesLeft.{lines_left}
-use Rattle.gk_grammar.specs.Token.{line_of}
-use Rattle.gk_grammar.specs.Documents.{lines_read}
-use Rattle.gk_plain.specs.Plain.{kind_of}
-use Rattle.gk_plain.proofs.kinds.kinds.Given as goal
-
-abbrev pub invariant-loop-line : goal.invariant-loop-line
-invariant-loop-line l = l.all.items ++ map kind_of (map line_of (lines_left l.line-iterator)) ≡ map kind_of (lines_read l.text)

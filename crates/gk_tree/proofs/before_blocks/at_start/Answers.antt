@@ -1,5 +1,0 @@
-use Rattle.std.proofs.Common.{rules}
-use Rattle.gk_tree.proofs.before_blocks.at_start.Goals as goal
-
-pub returns-then-not-is_english : goal.returns-then-not-is_english
-returns-then-not-is_english c = search rules
