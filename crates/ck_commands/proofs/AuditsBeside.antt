@@ -13,8 +13,8 @@ use Rattle.cm_stream.specs.declared.laws.Audited.{Audited}
 use Rattle.ck_command_line.specs.CommandLine.{Command}
 use Rattle.ck_commands.specs.Output.{IsReport, Report, ReportsAnswer, report_made, trouble_report}
 use Rattle.ck_commands.specs.Run.{Reports, ShowsNone, Tells}
-use Rattle.ck_commands.specs.declared.commands.ExitStatus.TheVariants as exit
-use Rattle.ck_commands.specs.declared.commands.Report as made
+use Rattle.ck_commands.specs.declared.report.ExitStatus.TheVariants as exit
+use Rattle.ck_commands.specs.declared.report.Report as made
 use Rattle.ck_commands.proofs.Printing.{none_failed, some_failed}
 use Rattle.ck_commands.specs.Run.{Reported}
 

@@ -14,7 +14,7 @@ use Rattle.cm_stream.specs.declared.laws.Verdict.TheVariants as verdict
 use Rattle.ck_command_line.specs.CommandLine.{ask_audit}
 use Rattle.ck_commands.specs.Output.{Report}
 use Rattle.ck_commands.specs.Verdicts.{verdict_report}
-use Rattle.ck_commands.specs.declared.commands.ExitStatus.TheVariants as exit
+use Rattle.ck_commands.specs.declared.report.ExitStatus.TheVariants as exit
 use Rattle.ck_commands.proofs.Printing.{IsOne, audit_reported, failed_answer, first_reported, none_failed, read_failed_reported, some_failed}
 use Rattle.ck_commands.specs.Run.{Reported}
 

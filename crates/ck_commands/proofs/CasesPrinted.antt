@@ -26,8 +26,8 @@ use Rattle.ck_commands.specs.Cases.{ListsOrTells, ReportsCases, ReportsVerdict, 
 use Rattle.ck_commands.specs.Output.{IsReport, report_made, trouble_report}
 use Rattle.ck_commands.specs.Run.{Reports}
 use Rattle.ck_commands.specs.Verdicts.{verdict_report}
-use Rattle.ck_commands.specs.declared.commands.ExitStatus.TheVariants as exit
-use Rattle.ck_commands.specs.declared.commands.Report as made
+use Rattle.ck_commands.specs.declared.report.ExitStatus.TheVariants as exit
+use Rattle.ck_commands.specs.declared.report.Report as made
 use Rattle.ck_commands.proofs.AuditsBeside.{Shows, alone, audit_beside_is_reported, report_is}
 use Rattle.ck_commands.specs.Run.{Reported}
 

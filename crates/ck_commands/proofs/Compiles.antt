@@ -13,7 +13,7 @@ use Rattle.ck_commands.specs.Features.{IsFaultOf, IsFeatureOf, IsRefusedFeature,
 use Rattle.ck_commands.specs.Output.{DeliversOne, Report, trouble_report}
 use Rattle.ck_commands.specs.Run.{Reports, ReportsCompiled}
 use Rattle.ck_commands.specs.TextInput.{HasTextFault, IsTextOf, is_failed_text_read as text_failed}
-use Rattle.ck_commands.specs.declared.commands.ExitStatus.TheVariants as exit
+use Rattle.ck_commands.specs.declared.report.ExitStatus.TheVariants as exit
 use Rattle.ck_commands.specs.declared.text_input.TextFault.{TextFault}
 use Rattle.ck_commands.specs.declared.text_input.TextFault.TheVariants as text
 use Rattle.ck_commands.specs.declared.text_input.FeatureFault.{FeatureFault}

@@ -5,7 +5,7 @@ use Rattle.cm_envelope.specs.Device.{Output, Writes, count_up, greatest_count}
 use Rattle.cm_envelope.specs.Writing.{WritesFront}
 use Rattle.cm_envelope.proofs.Writes.{writes_kept, writes_then}
 use Rattle.ck_commands.specs.Output.{Breaks, Delivers, NoneFailed, Prints, Report, code_of, write_failed_text}
-use Rattle.ck_commands.specs.declared.commands.ExitStatus.TheVariants.{Trouble}
+use Rattle.ck_commands.specs.declared.report.ExitStatus.TheVariants.{Trouble}
 
 -- a count that rose is another, unless it is the greatest
 rose : (old new : ℕ) → old < greatest_count → count_up old ≤ new → new ≡ old → ⊥

@@ -19,7 +19,7 @@ use Rattle.ck_command_line.specs.CommandLine.{ask_gate}
 use Rattle.ck_commands.specs.Laws.{GateReleasesExactly, ReleasedEndsWell}
 use Rattle.ck_commands.specs.Output.{Breaks, Delivers, DeliversOne, Prints, Report, code_of, trouble_report}
 use Rattle.ck_commands.specs.Run.{Reports, TellsFailedRead}
-use Rattle.ck_commands.specs.declared.commands.ExitStatus.TheVariants.{Done, Refused, Trouble, Unsupported}
+use Rattle.ck_commands.specs.declared.report.ExitStatus.TheVariants.{Done, Refused, Trouble, Unsupported}
 
 not_held : (h : Option Hold) → held_status h ≡ Done → h ≡ None
 not_held None e = refl

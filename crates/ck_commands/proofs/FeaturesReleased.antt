@@ -33,7 +33,7 @@ use Rattle.ck_commands.specs.Output.{Report, trouble_report}
 use Rattle.ck_commands.specs.Runs.{OfHeard, Reading, heard, unnoted, unopened}
 use Rattle.ck_commands.specs.Standard.{GaveFeatures}
 use Rattle.ck_commands.specs.declared.command_gate.RunCounts.{RunCounts}
-use Rattle.ck_commands.specs.declared.commands.ExitStatus.TheVariants as exit
+use Rattle.ck_commands.specs.declared.report.ExitStatus.TheVariants as exit
 use Rattle.ck_commands.proofs.Ran.{is_done, not_both, was_printed}
 use Rattle.ck_commands.proofs.RunsReleased.{each_released_as, none_failed_in, reads_standard}
 

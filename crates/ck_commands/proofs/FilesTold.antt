@@ -27,10 +27,10 @@ use Rattle.ck_commands.specs.FilesKept.{AddsLast, HasTexts, IsUnmarked, GivesFea
 use Rattle.ck_commands.specs.Judged.{JudgesStream, JudgesRuns, MarksStreams, added_counts, no_counts}
 use Rattle.ck_commands.specs.Output.{Report, report_made, trouble_report}
 use Rattle.ck_commands.specs.Runs.{Reading, heard}
-use Rattle.ck_commands.specs.declared.command_gate.FeatureFile as made
+use Rattle.ck_commands.specs.declared.command_features.FeatureFile as made
 use Rattle.ck_commands.specs.declared.command_gate.RunCounts.{RunCounts}
-use Rattle.ck_commands.specs.declared.commands.ExitStatus.TheVariants as exit
-use Rattle.ck_commands.specs.declared.commands.Report as output
+use Rattle.ck_commands.specs.declared.report.ExitStatus.TheVariants as exit
+use Rattle.ck_commands.specs.declared.report.Report as output
 use Rattle.ck_commands.proofs.JudgedLemmas.{marks_push, nothing_ran}
 use Rattle.ck_commands.proofs.AskedLemmas.{flags_told}
 

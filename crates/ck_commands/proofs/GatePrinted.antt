@@ -27,8 +27,8 @@ use Rattle.cm_fault_reasons.specs.AtLine.{IsToldUnder}
 use Rattle.ck_commands.specs.Gate.{IsGateReport, ReleasesOrTells, ReportsHeld, ReportsRelease, finding_told, held_report, hold_in}
 use Rattle.ck_commands.specs.Output.{IsReport, report_made, trouble_report}
 use Rattle.ck_commands.specs.Run.{Reports}
-use Rattle.ck_commands.specs.declared.commands.ExitStatus.TheVariants as exit
-use Rattle.ck_commands.specs.declared.commands.Report as made
+use Rattle.ck_commands.specs.declared.report.ExitStatus.TheVariants as exit
+use Rattle.ck_commands.specs.declared.report.Report as made
 use Rattle.ck_commands.proofs.AuditsBeside.{Shows, alone, audit_beside_is_reported, report_is}
 use Rattle.ck_commands.specs.Run.{Reported}
 

@@ -37,9 +37,9 @@ use Rattle.ck_commands.specs.Output.{Report, report_made, trouble_report}
 use Rattle.ck_commands.specs.Runs.{OfHeard, Reading, ReadsRun, heard, named_text, named_texts, status_after, status_of_all, unnoted, unopened, unread}
 use Rattle.ck_commands.specs.declared.command_gate.JudgedRun as made_run
 use Rattle.ck_commands.specs.declared.command_gate.RunCounts.{RunCounts}
-use Rattle.ck_commands.specs.declared.commands.ExitStatus.{ExitStatus}
-use Rattle.ck_commands.specs.declared.commands.ExitStatus.TheVariants as exit
-use Rattle.ck_commands.specs.declared.commands.Report as made
+use Rattle.ck_commands.specs.declared.report.ExitStatus.{ExitStatus}
+use Rattle.ck_commands.specs.declared.report.ExitStatus.TheVariants as exit
+use Rattle.ck_commands.specs.declared.report.Report as made
 use Rattle.ck_commands.proofs.GatePrinted.{done_at_end}
 use Rattle.ck_commands.proofs.RunsReleased.{from_fresh, from_fresh_whole}
 use Rattle.ck_commands.proofs.RunsLemmas.{both_done, each_push, reads_push, status_push, texts_push}

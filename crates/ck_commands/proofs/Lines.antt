@@ -25,8 +25,8 @@ use Rattle.cm_stream.specs.declared.laws.Audited.{Audited}
 use Rattle.cm_stream.proofs.Tables.{refused_for_faults, tables_change, tables_have_results}
 use Rattle.ck_commands.specs.Reading.{HasOutcome, LeavesTable, after_envelope, after_line, fault_answer, is_failed_attempts_read, report_of_read, unless_found}
 use Rattle.ck_commands.specs.Results.{ResultsShowNoFault}
-use Rattle.ck_commands.specs.declared.commands.Attempts.{Attempts}
-use Rattle.ck_commands.specs.declared.commands.ExitStatus.TheVariants.{Done}
+use Rattle.ck_commands.specs.declared.command_results.Attempts.{Attempts}
+use Rattle.ck_commands.specs.declared.report.ExitStatus.TheVariants.{Done}
 use Rattle.ck_commands.proofs.ResultsPrinted.{not_good_at}
 
 -- what a line makes of the record

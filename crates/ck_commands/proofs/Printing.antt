@@ -21,8 +21,8 @@ use Rattle.ck_commands.specs.Reading.{HasOutcome, fault_answer, is_failed_attemp
 use Rattle.ck_commands.specs.Results.{result_text, results_report}
 use Rattle.ck_commands.specs.Run.{ReportsAudit, ReportsFirst}
 use Rattle.ck_commands.specs.Verdicts.{verdict_report}
-use Rattle.ck_commands.specs.declared.commands.ExitStatus.TheVariants as exit
-use Rattle.ck_commands.specs.declared.commands.Report as made
+use Rattle.ck_commands.specs.declared.report.ExitStatus.TheVariants as exit
+use Rattle.ck_commands.specs.declared.report.Report as made
 
 -- this report, or that of no memory
 abbrev pub IsOne : Report → Report → Type 0

@@ -25,8 +25,8 @@ use Rattle.ck_commands.specs.Run.{IsBadFor, IsDone, PrintsCompiled, PrintsDocume
 use Rattle.ck_commands.specs.Verdicts.{PrintsBad, PrintsGood, counts_text, verdict_report}
 use Rattle.ck_commands.specs.declared.text_input.FeatureFault.{FeatureFault}
 use Rattle.ck_commands.specs.declared.text_input.FeatureFault.TheVariants as fault
-use Rattle.ck_commands.specs.declared.commands.ExitStatus.{ExitStatus}
-use Rattle.ck_commands.specs.declared.commands.ExitStatus.TheVariants as exit
+use Rattle.ck_commands.specs.declared.report.ExitStatus.{ExitStatus}
+use Rattle.ck_commands.specs.declared.report.ExitStatus.TheVariants as exit
 
 pub not_both : (m n k : ℕ) → k ≡ m → k ≡ n → (m ≡ n → ⊥) → ⊥
 not_both m n k is other differ = differ (sym is ∙ other)

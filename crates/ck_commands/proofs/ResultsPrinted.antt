@@ -14,7 +14,7 @@ use Rattle.ck_command_line.specs.CommandLine.{ask_results}
 use Rattle.ck_commands.specs.Output.{Report}
 use Rattle.ck_commands.specs.Reading.{HasOutcome, is_failed_attempts_read, report_of_read}
 use Rattle.ck_commands.specs.Results.{ResultsShowNoFault, results_report}
-use Rattle.ck_commands.specs.declared.commands.ExitStatus.TheVariants as exit
+use Rattle.ck_commands.specs.declared.report.ExitStatus.TheVariants as exit
 use Rattle.ck_commands.proofs.Printing.{IsOne, failed_outcome, failed_read, none_failed, outcome_reported, some_failed}
 use Rattle.ck_commands.specs.Run.{Reported}
 

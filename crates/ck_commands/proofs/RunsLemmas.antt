@@ -9,8 +9,8 @@ use Rattle.cm_stream.specs.Release.{Conditions}
 use Rattle.files.specs.Openings.{Opening}
 use Rattle.ck_commands.specs.Output.{Report}
 use Rattle.ck_commands.specs.Runs.{Reading, ReadsRun, ReadsRuns, ReportEach, ReportsRun, lines_after, named_text, named_texts, status_after, status_of_all}
-use Rattle.ck_commands.specs.declared.commands.ExitStatus.{ExitStatus}
-use Rattle.ck_commands.specs.declared.commands.ExitStatus.TheVariants as exit
+use Rattle.ck_commands.specs.declared.report.ExitStatus.{ExitStatus}
+use Rattle.ck_commands.specs.declared.report.ExitStatus.TheVariants as exit
 
 -- ---- lines
 

@@ -18,7 +18,7 @@ use Rattle.ck_commands.specs.Output.{NoneFailed, Prints, Report, code_of, troubl
 use Rattle.ck_commands.specs.Run.{Reported, Reports, ShowsNone, Tells}
 use Rattle.ck_commands.specs.Runs.{GatesRuns, IsRunsReport, OfHeard, Reading, ReadsBy, ReadsRun, ReadsRuns, ReportEach, ReportsRun, heard, status_of_all, unnoted, unopened, unread}
 use Rattle.ck_commands.specs.Standard.{GaveReleasedEach}
-use Rattle.ck_commands.specs.declared.commands.ExitStatus.TheVariants as exit
+use Rattle.ck_commands.specs.declared.report.ExitStatus.TheVariants as exit
 use Rattle.ck_commands.proofs.Ran.{done_of, is_done, not_both, was_printed}
 use Rattle.ck_commands.proofs.RunsLemmas.{both_done}
 

@@ -25,8 +25,8 @@ use Rattle.ck_command_line.specs.declared.command_line.CaseForm.TheVariants.{Pla
 use Rattle.ck_commands.specs.Output.{IsReport, Report, ReportsAnswer, trouble_report}
 use Rattle.ck_commands.specs.Statuses.{reported_word}
 use Rattle.ck_commands.specs.Verdicts.{finding_report, verdict_report}
-use Rattle.ck_commands.specs.declared.commands.ExitStatus.TheVariants.{Done}
-use Rattle.ck_commands.specs.declared.commands.Report as made
+use Rattle.ck_commands.specs.declared.report.ExitStatus.TheVariants.{Done}
+use Rattle.ck_commands.specs.declared.report.Report as made
 
 -- `STATUS URI:LINE NAME` of a case, by its result
 abbrev pub case_text : List Envelope → Utf8 × Option Status → List ℕ

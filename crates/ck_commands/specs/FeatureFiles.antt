@@ -16,7 +16,7 @@ use Rattle.ck_commands.specs.Features.{IsNoText}
 use Rattle.ck_commands.specs.Output.{Report}
 use Rattle.ck_commands.specs.Runs.{unread}
 use Rattle.ck_commands.specs.TextInput.{IsTextOf}
-use Rattle.ck_commands.specs.declared.commands.ExitStatus.TheVariants.{Trouble}
+use Rattle.ck_commands.specs.declared.report.ExitStatus.TheVariants.{Trouble}
 
 -- ---- files
 

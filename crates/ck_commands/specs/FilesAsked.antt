@@ -20,7 +20,7 @@ use Rattle.ck_commands.specs.Output.{Delivers, Report, trouble_report}
 use Rattle.ck_commands.specs.Run.{Reported}
 use Rattle.ck_commands.specs.Runs.{IsRunsReport, Reading, heard}
 use Rattle.ck_commands.specs.declared.command_gate.RunCounts.{RunCounts}
-use Rattle.ck_commands.specs.declared.commands.ExitStatus.TheVariants.{Done, Held}
+use Rattle.ck_commands.specs.declared.report.ExitStatus.TheVariants.{Done, Held}
 
 -- ---- the runs
 

@@ -15,8 +15,8 @@ use Rattle.ck_commands.specs.Judged.{MarksStreams}
 use Rattle.ck_commands.specs.Output.{Report}
 use Rattle.ck_commands.specs.Runs.{Reading}
 use Rattle.ck_commands.specs.declared.command_gate.RunCounts.{RunCounts}
-use Rattle.ck_commands.specs.declared.commands.ExitStatus.{ExitStatus}
-use Rattle.ck_commands.specs.declared.commands.ExitStatus.TheVariants.{Done}
+use Rattle.ck_commands.specs.declared.report.ExitStatus.{ExitStatus}
+use Rattle.ck_commands.specs.declared.report.ExitStatus.TheVariants.{Done}
 use Rattle.cm_stream.specs.Texts.{Utf8}
 use Rattle.feature_paths.specs.FeaturePaths.{FindsFault, FindsFiles}
 use Rattle.feature_paths.specs.Shown.{faulty}
@@ -25,9 +25,9 @@ use Rattle.feature_paths.specs.declared.paths.PathTrouble.TheVariants as trouble
 use Rattle.files.specs.Looks.{Looked}
 use Rattle.files.specs.Openings.{Opening}
 use Rattle.ck_commands.specs.FeatureFiles.{FailsAtFile, FailsToRead, FeatureFile, ReadsFiles, WasRead}
-use Rattle.ck_commands.specs.declared.command_gate.FeatureFile as made
-use Rattle.ck_commands.specs.declared.command_gate.FileFault.{FileFault}
-use Rattle.ck_commands.specs.declared.command_gate.FileFault.TheVariants as fault
+use Rattle.ck_commands.specs.declared.command_features.FeatureFile as made
+use Rattle.ck_commands.specs.declared.command_features.FileFault.{FileFault}
+use Rattle.ck_commands.specs.declared.command_features.FileFault.TheVariants as fault
 use Rattle.feature_paths.specs.declared.paths.Fault.TheVariants.{NotUtf8, ReadFailed}
 use Rattle.ck_commands.specs.declared.text_input.TextFault.{TextFault}
 use Rattle.ck_commands.specs.declared.text_input.TextFault.TheVariants as text

@@ -24,9 +24,9 @@ use Rattle.cm_audit_release.specs.declared.audited_release.AuditedRelease.{Audit
 use Rattle.cm_fault_reasons.specs.AtLine.{IsToldUnder}
 use Rattle.ck_commands.specs.Output.{IsReport, Report, ReportsAnswer, trouble_report}
 use Rattle.ck_commands.specs.Verdicts.{counts_text, finding_status, finding_text}
-use Rattle.ck_commands.specs.declared.commands.ExitStatus.{ExitStatus}
-use Rattle.ck_commands.specs.declared.commands.ExitStatus.TheVariants.{Done, Held}
-use Rattle.ck_commands.specs.declared.commands.Report as made
+use Rattle.ck_commands.specs.declared.report.ExitStatus.{ExitStatus}
+use Rattle.ck_commands.specs.declared.report.ExitStatus.TheVariants.{Done, Held}
+use Rattle.ck_commands.specs.declared.report.Report as made
 
 abbrev pub hold_name : Hold → List ℕ
 hold_name hold.NotSuccessful = codes "stop NotSuccessful"

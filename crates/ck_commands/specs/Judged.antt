@@ -26,7 +26,7 @@ use Rattle.ck_commands.specs.Run.{Reported}
 use Rattle.ck_commands.specs.Runs.{IsRunsReport, OfHeard, Reading, ReportsRun}
 use Rattle.ck_commands.specs.declared.command_gate.JudgedRun as made
 use Rattle.ck_commands.specs.declared.command_gate.RunCounts.{RunCounts}
-use Rattle.ck_commands.specs.declared.commands.ExitStatus.TheVariants.{Done}
+use Rattle.ck_commands.specs.declared.report.ExitStatus.TheVariants.{Done}
 
 -- ---- the streams of released runs
 

@@ -23,7 +23,7 @@ use Rattle.ck_commands.specs.FeatureFiles.{FeatureFile}
 use Rattle.ck_commands.specs.Judged.{is_run_in}
 use Rattle.ck_commands.specs.Output.{Report, code_of}
 use Rattle.ck_commands.specs.Run.{Reports, Runs, Tells}
-use Rattle.ck_commands.specs.declared.commands.ExitStatus.TheVariants.{Done, Trouble}
+use Rattle.ck_commands.specs.declared.report.ExitStatus.TheVariants.{Done, Trouble}
 
 -- The bytes that a source shows to come are those heard of it, and then those that it shows afterwards, which may come.
 abbrev pub ShownAreHeard : Type 0

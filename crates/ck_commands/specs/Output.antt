@@ -6,9 +6,9 @@ use Rattle.cm_envelope.specs.Device.{IsFlushed, Output, Writes, greatest_count}
 use Rattle.cm_envelope.specs.Lines.{line_feed}
 use Rattle.cm_envelope.specs.declared.feed.Trouble.{Trouble}
 use Rattle.cm_envelope.specs.declared.feed.Trouble.TheVariants.{ReadFailed, LineTooLong, StreamTooLong, Memory}
-use Rattle.ck_commands.specs.declared.commands.ExitStatus.{ExitStatus}
-use Rattle.ck_commands.specs.declared.commands.ExitStatus.TheVariants as exit
-use Rattle.ck_commands.specs.declared.commands.Report as made
+use Rattle.ck_commands.specs.declared.report.ExitStatus.{ExitStatus}
+use Rattle.ck_commands.specs.declared.report.ExitStatus.TheVariants as exit
+use Rattle.ck_commands.specs.declared.report.Report as made
 
 -- the number that the program exits with
 abbrev pub code_of : ExitStatus → ℕ

@@ -19,7 +19,7 @@ use Rattle.cm_stream.specs.declared.laws.Audited.{Audited}
 use Rattle.ck_commands.specs.Output.{Report}
 use Rattle.ck_commands.specs.Results.{result_text}
 use Rattle.ck_commands.specs.Verdicts.{verdict_report}
-use Rattle.ck_commands.specs.declared.commands.ExitStatus.TheVariants.{Done}
+use Rattle.ck_commands.specs.declared.report.ExitStatus.TheVariants.{Done}
 
 -- ---- a line
 

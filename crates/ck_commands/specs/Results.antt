@@ -11,7 +11,7 @@ use Rattle.cm_stream.specs.Stream.{FirstFault, At, Troubled, NoFault}
 use Rattle.ck_commands.specs.Output.{Report, trouble_report}
 use Rattle.ck_commands.specs.Statuses.{reported_word}
 use Rattle.ck_commands.specs.Verdicts.{finding_report}
-use Rattle.ck_commands.specs.declared.commands.ExitStatus.TheVariants.{Done}
+use Rattle.ck_commands.specs.declared.report.ExitStatus.TheVariants.{Done}
 
 -- a case's id, and the status of its final attempt
 abbrev pub result_text : List ℕ × Option Status → List ℕ

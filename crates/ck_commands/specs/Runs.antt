@@ -11,8 +11,8 @@ use Rattle.files.specs.Openings.{Opening}
 use Rattle.ck_command_line.specs.CommandLine.{RunsGate, ask_gate, is_input}
 use Rattle.ck_commands.specs.Output.{Delivers, Report, trouble_report}
 use Rattle.ck_commands.specs.Run.{Reported}
-use Rattle.ck_commands.specs.declared.commands.ExitStatus.{ExitStatus}
-use Rattle.ck_commands.specs.declared.commands.ExitStatus.TheVariants.{Done}
+use Rattle.ck_commands.specs.declared.report.ExitStatus.{ExitStatus}
+use Rattle.ck_commands.specs.declared.report.ExitStatus.TheVariants.{Done}
 
 -- ---- what is read
 

@@ -13,8 +13,8 @@ use Rattle.cm_stream.specs.declared.laws.Counts.{Counts}
 use Rattle.cm_stream.specs.declared.laws.Reason.{Reason}
 use Rattle.cm_stream.specs.declared.laws.Reason.TheVariants as reason
 use Rattle.ck_commands.specs.Output.{Report, trouble_report}
-use Rattle.ck_commands.specs.declared.commands.ExitStatus.{ExitStatus}
-use Rattle.ck_commands.specs.declared.commands.ExitStatus.TheVariants as exit
+use Rattle.ck_commands.specs.declared.report.ExitStatus.{ExitStatus}
+use Rattle.ck_commands.specs.declared.report.ExitStatus.TheVariants as exit
 
 -- the number and the name of what is wrong with a line, and for a bad member its kind of envelope and its name
 abbrev pub line_label : LineFault → List ℕ

@@ -18,13 +18,19 @@
 #![tactic(auto)]
 
 mod command_cases;
+mod command_feature;
+mod command_features;
 mod command_gate;
+mod command_results;
 mod commands;
 mod laws;
+mod report;
 mod text_input;
+mod verdict_report;
 
-pub use commands::{Ended, ExitStatus, run, run_over, run_with};
+pub use commands::{Ended, run, run_over, run_with};
 pub use laws::{
     gate_releases_exactly, runs_come_in_any_order, shown_bytes_are_heard, strict_features_passed,
 };
+pub use report::ExitStatus;
 pub use text_input::{TextFault, read_text};

@@ -21,7 +21,7 @@ use Rattle.cm_ran.specs.declared.marks.Marks.{Marks}
 use Rattle.cm_audit_release.specs.PartAudit.{IsMarkedBy, IsPartAuditOf, MarksJudged, is_released, is_unheld}
 use Rattle.cm_audit_release.specs.ReleaseAudit.{CountsWatched, IsReleaseAuditOf, audited_in, release_in}
 use Rattle.cm_release.specs.Tallied.{IsTallyOf}
-use Rattle.cm_release.specs.declared.judgement.Tally.{Tally}
+use Rattle.cm_release.specs.declared.tally.Tally.{Tally}
 use Rattle.cm_audit_release.specs.Watched.{Follows}
 use Rattle.cm_audit_release.specs.declared.audited_release.AuditedRelease.{AuditedRelease}
 use Rattle.cm_audit_release.specs.declared.audited_release.JudgedAudit.{JudgedAudit}

@@ -23,7 +23,7 @@ use Rattle.cm_audit.specs.declared.auditing.WatchedAudit.{WatchedAudit}
 use Rattle.cm_audit.specs.declared.state.State.{State}
 use Rattle.cm_fault_reasons.proofs.AtLine.{told_with}
 use Rattle.cm_fault_reasons.specs.AtLine.{TellsWith}
-use Rattle.cm_release.specs.declared.judgement.Tally.{Tally}
+use Rattle.cm_release.specs.declared.tally.Tally.{Tally}
 use Rattle.cm_stream.specs.declared.laws.Counts.{Counts}
 use Rattle.cm_release.specs.declared.judgement.Judgement.{Judgement}
 use Rattle.cm_audit_release.specs.ReleaseAudit.{CountsGood, CountsWatched, IsReleaseAuditOf, JudgesVerdict, audited_in, release_in, with_tally}

@@ -25,7 +25,7 @@ use Rattle.cm_fault_reasons.specs.AtLine.{IsToldWith, TellsWith}
 use Rattle.cm_release.specs.Judged.{IsJudged}
 use Rattle.cm_release.specs.Tallied.{IsTallyOf}
 use Rattle.cm_release.specs.declared.judgement.Judgement.{Judgement}
-use Rattle.cm_release.specs.declared.judgement.Tally.{Tally}
+use Rattle.cm_release.specs.declared.tally.Tally.{Tally}
 use Rattle.cm_audit_release.specs.declared.audited_release.AuditedRelease.{AuditedRelease}
 use Rattle.cm_audit_release.specs.declared.audited_release.JudgedAudit.{JudgedAudit}
 use Rattle.cm_audit_release.specs.declared.audited_release.ReleaseWatch.{ReleaseWatch}

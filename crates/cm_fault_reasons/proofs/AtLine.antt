@@ -24,7 +24,7 @@ use Rattle.cm_stream.specs.declared.laws.StreamFault.TheVariants as bad
 use Rattle.cm_stream.specs.declared.laws.Verdict.{Verdict}
 use Rattle.cm_stream.specs.declared.laws.Verdict.TheVariants as verdict
 use Rattle.cm_reasons.specs.Trail.{trail_of}
-use Rattle.cm_reasons.specs.declared.reasons.Trail.{Trail}
+use Rattle.cm_reasons.specs.declared.trail.Trail.{Trail}
 use Rattle.cm_causes.proofs.KeptResults.{kept_results, results_at_end}
 use Rattle.cm_stream.proofs.ByGrammar.{same_reads}
 use Rattle.cm_fault_reasons.specs.AtLine.{IsToldOfLine, IsToldUnder, IsToldWith, TellsFault, TellsOf, TellsReason, TellsWith}

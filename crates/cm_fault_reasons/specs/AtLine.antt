@@ -16,7 +16,7 @@ use Rattle.cm_stream.specs.declared.laws.StreamFault.TheVariants as fault
 use Rattle.cm_stream.specs.declared.laws.Verdict.{Verdict}
 use Rattle.cm_stream.specs.declared.laws.Verdict.TheVariants as verdict
 use Rattle.cm_reasons.specs.Trail.{trail_of}
-use Rattle.cm_reasons.specs.declared.reasons.Trail.{Trail}
+use Rattle.cm_reasons.specs.declared.trail.Trail.{Trail}
 use Rattle.cm_source_reasons.specs.Deciding.{IsDeciding}
 use Rattle.cm_fault_reasons.specs.RunLines.{IsToldAtEnd}
 use Rattle.cm_fault_reasons.specs.ToldAt.{IsTold, reason_lines}

@@ -17,8 +17,8 @@ use Rattle.gk_tree.specs.declared.fault.ParseFault.{ParseFault}
 use Rattle.cm_reasons.specs.Run.{source_entry}
 use Rattle.cm_reasons.specs.RunKept.{AreEntryLines, IsRefusalOf, fault_line, refused_source_line}
 use Rattle.cm_reasons.specs.RunReasons.{AreRefusedLines}
-use Rattle.cm_reasons.specs.declared.reasons.RefusedSource.{RefusedSource}
-use Rattle.cm_reasons.specs.declared.reasons.SourceEntry.{SourceEntry}
+use Rattle.cm_reasons.specs.declared.refused.RefusedSource.{RefusedSource}
+use Rattle.cm_reasons.specs.declared.trail.SourceEntry.{SourceEntry}
 
 -- ---- what the parser answers of a text
 

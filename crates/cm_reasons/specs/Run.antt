@@ -7,10 +7,10 @@ use Rattle.cm_envelope.specs.declared.envelope.TestRunHookStarted.{TestRunHookSt
 use Rattle.cm_stream.specs.References.{run_hook_ends, run_hooks, sources}
 use Rattle.cm_stream.specs.Statuses.{kept_status}
 use Rattle.cm_stream.specs.Texts.{Utf8}
-use Rattle.cm_reasons.specs.declared.reasons.RunHookEnd.{RunHookEnd}
-use Rattle.cm_reasons.specs.declared.reasons.RunHookEntry.{RunHookEntry}
-use Rattle.cm_reasons.specs.declared.reasons.RunListing.{RunListing}
-use Rattle.cm_reasons.specs.declared.reasons.SourceEntry.{SourceEntry}
+use Rattle.cm_reasons.specs.declared.trail.RunHookEnd.{RunHookEnd}
+use Rattle.cm_reasons.specs.declared.trail.RunHookEntry.{RunHookEntry}
+use Rattle.cm_reasons.specs.declared.trail.RunListing.{RunListing}
+use Rattle.cm_reasons.specs.declared.trail.SourceEntry.{SourceEntry}
 
 abbrev pub source_entry : Source → SourceEntry
 source_entry s = record { uri = s.uri; content = s.content }

@@ -6,7 +6,7 @@ use Rattle.cm_envelope.specs.declared.envelope.Envelope.{Envelope}
 use Rattle.cm_envelope.specs.declared.envelope.Envelope.TheVariants as envelope
 use Rattle.cm_steps.specs.Kept.{step_listing_of}
 use Rattle.cm_reasons.specs.Run.{run_listing_of}
-use Rattle.cm_reasons.specs.declared.reasons.Trail.{Trail}
+use Rattle.cm_reasons.specs.declared.trail.Trail.{Trail}
 
 -- an end of the run has an exception
 abbrev pub ends_with_exception : Envelope → Bool

@@ -29,12 +29,17 @@
 
 mod laws;
 mod reasons;
+mod refused;
+mod run_hooks;
+mod trail;
 
 pub use laws::{
     hook_causes_are_of_bad_hooks, refused_lines_are_determined, undefined_steps_are_told,
 };
 pub use reasons::{
-    AddLine, CaseStep, MOST_LINES, RunListing, Trail, add_hook_causes, add_limited, add_more,
-    add_open_hooks, add_refused, add_refused_of, add_run_hook, kind_label, retried_text,
-    skipped_text, status_word, stepless_text, undefined_text, unrun_text,
+    AddLine, CaseStep, MOST_LINES, add_limited, add_more, kind_label, retried_text, skipped_text,
+    status_word, stepless_text, undefined_text, unrun_text,
 };
+pub use refused::{add_refused, add_refused_of};
+pub use run_hooks::{add_hook_causes, add_open_hooks, add_run_hook};
+pub use trail::{RunListing, Trail};

@@ -26,11 +26,11 @@ use Rattle.cm_stream.proofs.Found.{eq_back}
 use Rattle.cm_stream.proofs.Lists.{and_true, keeps_none, or_no}
 use Rattle.cm_stream.proofs.Steps.{never}
 use Rattle.cm_release.specs.Counts.{attempts_in, case_in, case_of_attempt, has_skip_in, has_step, is_attempt_in, is_end_by, is_end_in, is_missed_in, is_retried_in, is_stepless_in, is_undefined_by, is_undefined_in, last_start, may_stay, missed_in, passes_in, passes_undefined_in, retried_in, skipped_in, some_or_more, stepless_in, steps_passing, texts_of, undefined_steps_in}
-use Rattle.cm_release.specs.declared.judgement.CaseEntry.{CaseEntry}
-use Rattle.cm_release.specs.declared.judgement.FinishEntry.{FinishEntry}
-use Rattle.cm_release.specs.declared.judgement.Kept.{Kept}
-use Rattle.cm_release.specs.declared.judgement.PickleEntry.{PickleEntry}
-use Rattle.cm_release.specs.declared.judgement.StartEntry.{StartEntry}
+use Rattle.cm_release.specs.declared.tally.CaseEntry.{CaseEntry}
+use Rattle.cm_release.specs.declared.tally.FinishEntry.{FinishEntry}
+use Rattle.cm_release.specs.declared.tally.Kept.{Kept}
+use Rattle.cm_release.specs.declared.tally.PickleEntry.{PickleEntry}
+use Rattle.cm_release.specs.declared.tally.StartEntry.{StartEntry}
 
 -- ---- tests of lists
 

@@ -22,10 +22,10 @@ use Rattle.cm_stream.specs.References.{as_case, as_pickle, as_start}
 use Rattle.cm_stream.specs.Texts.{Utf8}
 use Rattle.cm_stream.proofs.Lists.{found_more, found_push, or_no}
 use Rattle.cm_release.specs.Kept.{all_unmatched, case_entry, finish_after, finish_among, finishes_from, kept_of, pickle_entry, skip_of, skips_in, start_entry}
-use Rattle.cm_release.specs.declared.judgement.CaseEntry.{CaseEntry}
-use Rattle.cm_release.specs.declared.judgement.Kept.{Kept}
-use Rattle.cm_release.specs.declared.judgement.PickleEntry.{PickleEntry}
-use Rattle.cm_release.specs.declared.judgement.StartEntry.{StartEntry}
+use Rattle.cm_release.specs.declared.tally.CaseEntry.{CaseEntry}
+use Rattle.cm_release.specs.declared.tally.Kept.{Kept}
+use Rattle.cm_release.specs.declared.tally.PickleEntry.{PickleEntry}
+use Rattle.cm_release.specs.declared.tally.StartEntry.{StartEntry}
 
 -- ---- the lists
 

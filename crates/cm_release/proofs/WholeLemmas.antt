@@ -34,10 +34,10 @@ use Rattle.cm_stream.proofs.Lists.{any_front, find_map, map_twice, or_false, or_
 use Rattle.cm_stream.proofs.Refuted.{declared_append, names_after}
 use Rattle.cm_release.specs.Counts.{attempts_in, case_in, case_of_attempt, counts_in, has_skip_in, is_attempt_in, is_end_in, is_missed_in, is_retried_in, is_stepless_in, is_undefined_in, last_start, may_stay, missed_in, passes_undefined_in, retried_in, skipped_in, stepless_in, steps_passing, undefined_steps_in}
 use Rattle.cm_release.specs.Kept.{all_unmatched, case_entry, finish_after, finish_among, finish_entry, finishes_from, kept_of, pickle_entry, skip_of, skips_in, start_entry, unmatched_ids}
-use Rattle.cm_release.specs.declared.judgement.CaseEntry.{CaseEntry}
-use Rattle.cm_release.specs.declared.judgement.FinishEntry.{FinishEntry}
-use Rattle.cm_release.specs.declared.judgement.PickleEntry.{PickleEntry}
-use Rattle.cm_release.specs.declared.judgement.StartEntry.{StartEntry}
+use Rattle.cm_release.specs.declared.tally.CaseEntry.{CaseEntry}
+use Rattle.cm_release.specs.declared.tally.FinishEntry.{FinishEntry}
+use Rattle.cm_release.specs.declared.tally.PickleEntry.{PickleEntry}
+use Rattle.cm_release.specs.declared.tally.StartEntry.{StartEntry}
 use Rattle.cm_release.proofs.CountLemmas.{any_map, or_of_map, same_count, same_picked}
 use Rattle.cm_reasons.specs.Reasons.{is_end_of, is_undefined_step, missed_pickles, retried_pickles, skipped_cases, stepless_cases, undefined_steps, undefined_steps_of}
 

@@ -14,11 +14,11 @@ use Rattle.cm_reasons.specs.declared.reasons.CaseStep.{CaseStep}
 use Rattle.cm_stream.specs.Release.{Conditions}
 use Rattle.cm_stream.specs.Texts.{Utf8}
 use Rattle.cm_stream.specs.declared.laws.ReleaseCounts.{ReleaseCounts}
-use Rattle.cm_release.specs.declared.judgement.CaseEntry.{CaseEntry}
-use Rattle.cm_release.specs.declared.judgement.FinishEntry.{FinishEntry}
-use Rattle.cm_release.specs.declared.judgement.Kept.{Kept}
-use Rattle.cm_release.specs.declared.judgement.PickleEntry.{PickleEntry}
-use Rattle.cm_release.specs.declared.judgement.StartEntry.{StartEntry}
+use Rattle.cm_release.specs.declared.tally.CaseEntry.{CaseEntry}
+use Rattle.cm_release.specs.declared.tally.FinishEntry.{FinishEntry}
+use Rattle.cm_release.specs.declared.tally.Kept.{Kept}
+use Rattle.cm_release.specs.declared.tally.PickleEntry.{PickleEntry}
+use Rattle.cm_release.specs.declared.tally.StartEntry.{StartEntry}
 
 -- ---- missed
 

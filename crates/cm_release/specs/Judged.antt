@@ -9,7 +9,7 @@ use Rattle.cm_reasons.specs.Lines.{limited}
 use Rattle.cm_causes.specs.Causes.{IsCauses}
 use Rattle.cm_reasons.specs.Reasons.{case_lines, pickle_lines, step_ids, undefined_lines}
 use Rattle.cm_reasons.specs.Trail.{has_exception, trail_of}
-use Rattle.cm_reasons.specs.declared.reasons.Trail.{Trail}
+use Rattle.cm_reasons.specs.declared.trail.Trail.{Trail}
 use Rattle.cm_stream.specs.Release.{Conditions, hold_of, release_counts_of}
 use Rattle.cm_stream.specs.Results.{results_of}
 use Rattle.cm_stream.specs.declared.laws.ReleaseCounts.{ReleaseCounts}
@@ -18,7 +18,7 @@ use Rattle.cm_stream.specs.declared.laws.Hold.{Hold}
 use Rattle.cm_stream.specs.declared.laws.Hold.TheVariants as hold
 use Rattle.cm_release.specs.Counts.{texts_of}
 use Rattle.cm_release.specs.Reasons.{AreReasons}
-use Rattle.cm_release.specs.declared.judgement.Found.{Found}
+use Rattle.cm_release.specs.declared.found.Found.{Found}
 
 -- of a stream that isn't good
 abbrev pub nothing_counted : ReleaseCounts

@@ -3,7 +3,7 @@ use Rattle.std.specs.Prelude.{◌≡◌, List}
 use Rattle.cm_envelope.specs.declared.envelope.Envelope.{Envelope}
 use Rattle.cm_reasons.specs.Trail.{trail_of}
 use Rattle.cm_release.specs.Kept.{Keeps}
-use Rattle.cm_release.specs.declared.judgement.Tally.{Tally}
+use Rattle.cm_release.specs.declared.tally.Tally.{Tally}
 
 -- it has what is counted of these envelopes, and what their reasons name
 abbrev pub IsTallyOf : Tally → List Envelope → Type 0

@@ -35,6 +35,9 @@
 //! stream is what `cm_stream` says of its envelopes for a release.
 #![tactic(auto)]
 
+mod found;
 mod judgement;
+mod tally;
 
-pub use judgement::{Judgement, Tally};
+pub use judgement::Judgement;
+pub use tally::Tally;

@@ -42,7 +42,7 @@ use Rattle.cm_state.proofs.SourceTests.{first_left, no_document, not_zero, same_
 use Rattle.cm_cases.specs.Places.{last_node, places_of, scenario_at}
 use Rattle.cm_cases.specs.Shown.{shown_text}
 use Rattle.cm_reasons.specs.Lines.{limited}
-use Rattle.cm_reasons.specs.declared.reasons.Trail.{Trail}
+use Rattle.cm_reasons.specs.declared.trail.Trail.{Trail}
 use Rattle.cm_differs.specs.Differences.{IsTreeDifference, pickle_difference}
 use Rattle.cm_differs.specs.DuePickles.{due_pickle}
 use Rattle.cm_differs.specs.declared.difference.Difference.{Difference}

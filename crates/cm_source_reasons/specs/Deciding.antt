@@ -9,7 +9,7 @@ use Rattle.cm_stream.specs.Readings.{Reading, ReadsByTheGrammar}
 use Rattle.cm_stream.specs.Texts.{Utf8}
 use Rattle.cm_state.specs.Summary.{Summary, summary_of_lines_by}
 use Rattle.cm_reasons.specs.Trail.{trail_of}
-use Rattle.cm_reasons.specs.declared.reasons.Trail.{Trail}
+use Rattle.cm_reasons.specs.declared.trail.Trail.{Trail}
 
 -- What an audit keeps of lines without a fault, the trail of these and of the line after them, and what that line has.
 pub record IsDeciding (settings : Settings) (s : Summary) (trail : Trail)

@@ -20,11 +20,12 @@
 mod filling;
 mod laws;
 mod pickles;
+mod place;
 
 pub use filling::fill;
 pub use laws::{alike_law, characters_law, counting_law, order_law, replacing_law, scenarios_law};
 pub use pickles::{
-    Pickle, PickleArgument, PickleDocString, PicklePlace, PickleStep, PickleTag, PickleTitle,
-    ScenarioInFeature, StepType, compile, compile_scenario, next_pickle, next_title, pass_pickle,
-    scenarios,
+    Pickle, PickleArgument, PickleDocString, PickleStep, PickleTag, PickleTitle, ScenarioInFeature,
+    StepType, compile, compile_scenario, scenarios,
 };
+pub use place::{PicklePlace, next_pickle, next_title, pass_pickle};

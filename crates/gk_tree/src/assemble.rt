@@ -22,9 +22,7 @@ ghost use Rattle.gk_grammar.specs.Grammar as grammar;
 
 use crate::fault::ParseFault;
 use crate::line_tokens::tag_name;
-use crate::parser::{
-    BlockWithSteps, Body, FlatBlock, OpenDocString, Phase, Progress, after_description,
-};
+use crate::parser::{BlockWithSteps, Body, FlatBlock, OpenDocString, Phase, Progress};
 use crate::token::{IndentedLine, location};
 use gk_document::{
     Background, Cell, DocString, ExampleTable, Examples, Feature, Fence, Location, Row, Rule,

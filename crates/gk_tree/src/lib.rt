@@ -15,6 +15,7 @@
 #![tactic(auto)]
 
 mod assemble;
+mod description;
 mod fault;
 mod line_tokens;
 mod parser;

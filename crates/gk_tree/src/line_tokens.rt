@@ -21,9 +21,7 @@ ghost use Rattle.gk_line.specs.Cells.{cells_of};
 
 use crate::assemble::{row_at, step_at};
 use crate::fault::{ParseFault, unexpected};
-use crate::parser::{
-    BlockWithSteps, Phase, Progress, add_step_row, after_step, follows, open_block,
-};
+use crate::parser::{BlockWithSteps, Phase, Progress, add_step_row, follows, open_block};
 use crate::token::{Head, IndentedLine, TagLine, Token};
 use gk_document::{Cell, Comment, Fence, Row, Sequence, Step, Text};
 use gk_line::{

@@ -1,6 +1,6 @@
 //! The parser: one pass over the lines of a text, phase by phase.
-ghost use Rattle.std.specs.Prelude.{◌≡◌, ◌≢◌, ◌≤◌, ◌<◌, ◌+◌, ◌^◌, ◌↔◌, None, Ok, Err, length, IfOk, IfErr, IfSome, [], ◌∷◌, ◌++◌, map, ℕ};
-ghost use Rattle.std.specs.Prelude.{List, not, OnOk, Some};
+ghost use Rattle.std.specs.Prelude.{◌≡◌, ◌≢◌, ◌≤◌, ◌<◌, ◌+◌, ◌^◌, ◌↔◌, None, Ok, Err, length, IfOk, IfErr, IfSome, [], ◌∷◌, ◌++◌, map};
+ghost use Rattle.std.specs.Prelude.{not};
 ghost use Rattle.std.specs.Str.{chars};
 ghost use Rattle.gk_line.specs.declared.limit.TheConstants.{FEATURE_LIMIT};
 ghost use Rattle.gk_line.specs.Lines.{lines_of};
@@ -10,24 +10,22 @@ ghost use Rattle.gk_grammar.specs.Documents.{lines_read, IsDocumentOf, HasFault,
 ghost use Rattle.gk_grammar.specs.Token.{line_of, bytes};
 ghost use Rattle.gk_grammar.specs.Machine as machine;
 ghost use Rattle.gk_tree.specs.Views.{line_at, state_of, state_in, Gives, out_of_memory, too_long, text_of, flat_block_of, state_so_far};
-ghost use Rattle.gk_tree.specs.Views.{phase_of, head_of, word_of, token_view, kept_line, open_doc_string_of};
+ghost use Rattle.gk_tree.specs.Views.{phase_of, head_of, word_of, kept_line, open_doc_string_of};
 ghost use Rattle.gk_tree.specs.Read.{IsRead};
 ghost use Rattle.gk_tree.specs.Ends.{document_at, Answers, last_blocks};
 ghost use Rattle.gk_tree.specs.declared.parser.Progress.{Progress as SomeProgress};
 ghost use Rattle.gk_grammar.specs.Token as read;
 ghost use Rattle.gk_tree.specs.EndViews.{last_as_list};
-ghost use Rattle.gk_grammar.specs.Grammar as grammar;
-ghost use Rattle.gk_grammar.specs.Grammar.{comments_of, comment_of};
 ghost use Rattle.gk_tree.specs.Rows.{rows_with, row_after};
 
 use crate::assemble::{
-    build_feature, copied, description, doc_string, empty_body, first_row, row_at, single_row,
-    step_at, title_node_count, with_description, with_rows, with_steps, with_tags,
+    build_feature, copied, doc_string, empty_body, row_at, single_row, step_at, title_node_count,
+    with_description, with_rows, with_steps, with_tags,
 };
+use crate::description::{in_description, keep_comment_and_stay};
 use crate::fault::{ParseFault, early_end, fault, spaced_tag, unexpected};
 use crate::line_tokens::{
-    cell_count, closes, is_comment_token, is_english, line_head, line_token, row_line, step_line,
-    title_line,
+    cell_count, closes, is_english, line_head, line_token, row_line, step_line, title_line,
 };
 use crate::token::{Head, IndentedLine, TagLine, Token, location};
 use gk_document::{Argument, Comment, Document, Fence, Location, Row, Sequence, Step, Tag, Text};
@@ -262,7 +260,7 @@ pub(crate) fn follows(before: Option<Block>, block: Block) -> bool
 }
 
 /// A line after a whole block, which isn't part of it.
-fn close_block<'a>(
+pub(crate) fn close_block<'a>(
     alloc: Global,
     progress: &mut Progress,
     flat_block: FlatBlock,
@@ -552,136 +550,6 @@ fn last_block(
     }
 }
 
-/// A line in or after a description.
-fn in_description<'a>(
-    alloc: Global,
-    progress: &mut Progress,
-    flat_block: Box<FlatBlock>,
-    mut lines: Vec<IndentedLine<'a>>,
-    at: IndentedLine<'a>,
-    token: Token<'a>,
-) -> Result<Phase<'a>, ParseFault>
-    requires room { progress.old.nodes < 2 ^ 63 }
-    requires read { IsRead at token }
-    ensures { Gives (state_in progress.new) result (machine.at_phase (state_so_far progress.old)
-        (machine.InDescription (flat_block_of flat_block.value) (map kept_line lines.entry.items))
-        (line_at at.entry token.entry)) }
-{
-    if stops(flat_block.block, &token) {
-        let flat_block = with_description(alloc, flat_block, lines)?;
-        return after_description(alloc, progress, flat_block, at, token);
-    }
-    keep_line(alloc, progress, &mut lines, at, &token)?;
-    Ok(Phase::InDescription(flat_block, lines))
-}
-
-/// Keeps a line of a description, also as a comment if it is one.
-fn keep_line<'a>(
-    alloc: Global,
-    progress: &mut Progress,
-    lines: &mut Vec<IndentedLine<'a>>,
-    at: IndentedLine<'a>,
-    token: &Token<'a>,
-) -> Result<(), AllocError>
-    ensures comments { OnOk result (progress.new ≡ record progress.old {
-      comments = progress.old.comments ++ comments_of (line_at at.entry token.now ∷ []);
-    }) }
-    ensures lines { OnOk result (lines.new.items ≡ lines.old.items ++ at.entry ∷ []) }
-{
-    keep_if_comment(alloc, progress, at, token)?;
-    Ok(lines.push(at)?)
-}
-
-/// Whether the line ends a description of the block.
-fn stops(block: Block, token: &Token<'_>) -> bool
-    ensures { (n : ℕ) (text : List ℕ) (i : ℕ) → result
-        ≡ grammar.stops block (read.line n text i (token_view token.now)) }
-{
-    match token {
-        Token::Tags(_) | Token::SpacedTag(_) => true,
-        Token::Title(title, _) => follows(Some(block), *title),
-        Token::Step(_) => block == Block::Background || block == Block::Scenario,
-        Token::Row(_) => block == Block::Examples,
-        _ => false,
-    }
-}
-
-/// The first line after a description.
-pub(crate) fn after_description<'a>(
-    alloc: Global,
-    progress: &mut Progress,
-    flat_block: Box<FlatBlock>,
-    at: IndentedLine<'a>,
-    token: Token<'a>,
-) -> Result<Phase<'a>, ParseFault>
-    requires room { progress.old.nodes < 2 ^ 63 }
-    ensures { Gives (state_in progress.new) result
-        (machine.after_description (state_so_far progress.old) (flat_block_of flat_block.value)
-        (line_at at.entry token.entry)) }
-{
-    match token {
-        Token::Step(line) => first_step(alloc, progress, flat_block, at, line),
-        Token::Row(cells) => first_row(alloc, progress, flat_block, at, cells),
-        token => close_block(alloc, progress, Box::into_inner(flat_block), at, token),
-    }
-}
-
-/// Keeps the line if it is a comment.
-fn keep_if_comment(
-    alloc: Global,
-    progress: &mut Progress,
-    at: IndentedLine<'_>,
-    token: &Token<'_>,
-) -> Result<(), AllocError>
-    ensures { OnOk result (progress.new ≡ record progress.old {
-      comments = progress.old.comments
-          ++ comments_of (line_at at.entry token.now ∷ []);
-    }) }
-{
-    if !is_comment_token(token) {
-        return Ok(());
-    }
-    keep_comment(alloc, progress, at)
-}
-
-/// Keeps the line, which is a comment.
-fn keep_comment(
-    alloc: Global,
-    progress: &mut Progress,
-    at: IndentedLine<'_>,
-) -> Result<(), AllocError>
-    ensures { OnOk result (progress.new ≡ record progress.old {
-      comments
-          = progress.old.comments ++ comment_of
-          (read.line at.entry.line.number (line_chars at.entry.line) at.entry.indent read.Comment)
-          ∷ [];
-    }) }
-{
-    let comment = Comment {
-        location: Location {
-            line: at.line.number,
-            column: 1,
-        },
-        text: copied(alloc, at.line.text)?,
-    };
-    progress.comments.push(comment)
-}
-
-/// Keeps the line, which is a comment, and stays in the phase.
-fn keep_comment_and_stay<'a>(
-    alloc: Global,
-    progress: &mut Progress,
-    phase: Phase<'a>,
-    at: IndentedLine<'a>,
-) -> Result<Phase<'a>, ParseFault>
-    ensures { Gives (state_in progress.new) result
-        (Ok (machine.pass_over (state_so_far progress.old) (phase_of phase.entry)
-        (read.line at.entry.line.number (line_chars at.entry.line) at.entry.indent read.Comment))) }
-{
-    keep_comment(alloc, progress, at)?;
-    Ok(phase)
-}
-
 /// A fence after a step.
 fn step_fence<'a>(
     alloc: Global,
@@ -734,7 +602,7 @@ pub(crate) fn after_step<'a>(
 }
 
 /// The first step of a block.
-fn first_step<'a>(
+pub(crate) fn first_step<'a>(
     alloc: Global,
     progress: &mut Progress,
     flat_block: Box<FlatBlock>,

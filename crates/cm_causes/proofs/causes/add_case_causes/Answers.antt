@@ -2,7 +2,7 @@ use Rattle.std.proofs.Common.{◌∙◌, ap, ◌++◌, List, ℕ, map, string_by
 use Rattle.cm_attempt.specs.declared.track.CaseResult.{CaseResult}
 use Rattle.cm_cases.proofs.ListingLemmas.{on_ok}
 use Rattle.cm_reasons.specs.Lines.{limited}
-use Rattle.cm_reasons.specs.declared.reasons.Trail.{Trail}
+use Rattle.cm_reasons.specs.declared.trail.Trail.{Trail}
 use Rattle.cm_causes.specs.Told.{told_result}
 use Rattle.cm_causes.proofs.CaseLemmas.{found_lines}
 use Rattle.cm_causes.proofs.causes.add_case_causes.Goals as goal

@@ -2,7 +2,7 @@ use Rattle.std.proofs.Common.{◌∙◌, ap, sym, ◌++◌, Bor, List, ℕ, code
 use Rattle.cm_cases.specs.Places.{case_scenario}
 use Rattle.cm_cases.proofs.ListingLemmas.{on_ok}
 use Rattle.cm_reasons.specs.Lines.{limited}
-use Rattle.cm_reasons.specs.declared.reasons.Trail.{Trail}
+use Rattle.cm_reasons.specs.declared.trail.Trail.{Trail}
 use Rattle.cm_stream.proofs.Lists.{map_twice}
 use Rattle.cm_stream.specs.Texts.{Utf8}
 use Rattle.cm_fault_reasons.proofs.at_line.add_open_cases.Goals as goal

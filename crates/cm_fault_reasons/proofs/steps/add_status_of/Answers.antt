@@ -1,6 +1,6 @@
 use Rattle.std.proofs.Common.{◌∙◌, ap, sym, ◌++◌, List, ℕ, codes, option_map, string_bytes}
 use Rattle.cm_cases.specs.Places.{case_scenario}
-use Rattle.cm_reasons.specs.declared.reasons.Trail.{Trail}
+use Rattle.cm_reasons.specs.declared.trail.Trail.{Trail}
 use Rattle.cm_steps.specs.Attempts.{start_of, started_facts}
 use Rattle.cm_steps.specs.Steps.{named_case_step}
 use Rattle.cm_stream.specs.Texts.{Utf8}

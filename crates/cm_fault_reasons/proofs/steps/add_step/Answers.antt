@@ -1,6 +1,6 @@
 use Rattle.std.proofs.Common.{◌∙◌, ap, ◌++◌, List, ℕ, codes, string_bytes}
 use Rattle.cm_attempt.specs.Due.{due_view}
-use Rattle.cm_reasons.specs.declared.reasons.Trail.{Trail}
+use Rattle.cm_reasons.specs.declared.trail.Trail.{Trail}
 use Rattle.cm_steps.specs.Steps.{case_step_text}
 use Rattle.cm_fault_reasons.specs.AttemptLines.{move_word}
 use Rattle.cm_fault_reasons.proofs.TextLemmas.{four_more}

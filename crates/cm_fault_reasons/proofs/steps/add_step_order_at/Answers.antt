@@ -2,7 +2,7 @@ use Rattle.std.proofs.Common.{◌∙◌, ap, sym, ◌++◌, List, ℕ, codes, op
 use Rattle.cm_attempt.specs.Due.{due_view}
 use Rattle.cm_cases.specs.Places.{case_scenario}
 use Rattle.cm_cases.proofs.ListingLemmas.{on_ok}
-use Rattle.cm_reasons.specs.declared.reasons.Trail.{Trail}
+use Rattle.cm_reasons.specs.declared.trail.Trail.{Trail}
 use Rattle.cm_steps.specs.Attempts.{start_of, started_facts}
 use Rattle.cm_stream.specs.Texts.{Utf8}
 use Rattle.cm_fault_reasons.specs.AttemptLines.{attempt_line, case_line, step_lines}

@@ -4,7 +4,7 @@ use Rattle.cm_cases.specs.Places.{case_scenario}
 use Rattle.cm_stream.proofs.Lists.{map_twice}
 use Rattle.cm_stream.specs.Texts.{Utf8}
 use Rattle.cm_reasons.specs.Lines.{limited}
-use Rattle.cm_reasons.specs.declared.reasons.Trail.{Trail}
+use Rattle.cm_reasons.specs.declared.trail.Trail.{Trail}
 use Rattle.cm_reasons.proofs.reasons.case_lines.Goals as goal
 
 pub returns : goal.returns

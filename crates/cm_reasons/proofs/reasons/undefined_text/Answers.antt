@@ -3,7 +3,7 @@ use Rattle.std.proofs.lemmas.Result.{IfOk-weaker}
 use Rattle.cm_stream.proofs.Lists.{map_twice}
 use Rattle.cm_reasons.specs.Lines.{limited}
 use Rattle.cm_reasons.specs.Reasons.{step_ids, undefined_line}
-use Rattle.cm_reasons.specs.declared.reasons.Trail.{Trail}
+use Rattle.cm_reasons.specs.declared.trail.Trail.{Trail}
 use Rattle.cm_reasons.proofs.reasons.undefined_text.Goals as goal
 
 pub returns : goal.returns

@@ -1,5 +1,0 @@
-use Rattle.std.proofs.Common.{◌∙◌, sym, refl, append_assoc}
-use Rattle.ck_commands.proofs.commands.unsupported_text.Goals as goal
-
-pub returns : goal.returns
-returns c = c.in_ok-text.ensures.ok ∙ sym (simp (append_assoc, c.reason_name-label.ensures) refl)

@@ -1,0 +1,5 @@
+use Rattle.std.proofs.Common.{◌∙◌, sym, append_assoc}
+use Rattle.ck_commands.proofs.verdict_report.good_counts_text.Goals as goal
+
+pub returns : goal.returns
+returns c = c.in_ok-text.ensures.ok ∙ sym (simp append_assoc)

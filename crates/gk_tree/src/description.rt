@@ -1,0 +1,150 @@
+//! The lines of a description, and the comments that are kept beside it.
+ghost use Rattle.std.specs.Prelude.{◌≡◌, ◌<◌, ◌+◌, ◌^◌, Ok, [], ◌∷◌, ◌++◌, map, ℕ};
+ghost use Rattle.std.specs.Prelude.{List, OnOk};
+ghost use Rattle.gk_line.specs.Views.{line_chars};
+ghost use Rattle.gk_grammar.specs.Machine as machine;
+ghost use Rattle.gk_tree.specs.Views.{line_at, state_in, Gives, flat_block_of, state_so_far};
+ghost use Rattle.gk_tree.specs.Views.{phase_of, token_view, kept_line};
+ghost use Rattle.gk_tree.specs.Read.{IsRead};
+ghost use Rattle.gk_grammar.specs.Token as read;
+ghost use Rattle.gk_grammar.specs.Grammar as grammar;
+ghost use Rattle.gk_grammar.specs.Grammar.{comments_of, comment_of};
+
+use crate::assemble::{copied, first_row, with_description};
+use crate::fault::ParseFault;
+use crate::line_tokens::is_comment_token;
+use crate::parser::{FlatBlock, Phase, Progress, close_block, first_step, follows};
+use crate::token::{IndentedLine, Token};
+use gk_document::{Comment, Location};
+use gk_line::Block;
+use std::alloc::{AllocError, Global};
+
+/// A line in or after a description.
+pub(crate) fn in_description<'a>(
+    alloc: Global,
+    progress: &mut Progress,
+    flat_block: Box<FlatBlock>,
+    mut lines: Vec<IndentedLine<'a>>,
+    at: IndentedLine<'a>,
+    token: Token<'a>,
+) -> Result<Phase<'a>, ParseFault>
+    requires room { progress.old.nodes < 2 ^ 63 }
+    requires read { IsRead at token }
+    ensures { Gives (state_in progress.new) result (machine.at_phase (state_so_far progress.old)
+        (machine.InDescription (flat_block_of flat_block.value) (map kept_line lines.entry.items))
+        (line_at at.entry token.entry)) }
+{
+    if stops(flat_block.block, &token) {
+        let flat_block = with_description(alloc, flat_block, lines)?;
+        return after_description(alloc, progress, flat_block, at, token);
+    }
+    keep_line(alloc, progress, &mut lines, at, &token)?;
+    Ok(Phase::InDescription(flat_block, lines))
+}
+
+/// Keeps a line of a description, also as a comment if it is one.
+fn keep_line<'a>(
+    alloc: Global,
+    progress: &mut Progress,
+    lines: &mut Vec<IndentedLine<'a>>,
+    at: IndentedLine<'a>,
+    token: &Token<'a>,
+) -> Result<(), AllocError>
+    ensures comments { OnOk result (progress.new ≡ record progress.old {
+      comments = progress.old.comments ++ comments_of (line_at at.entry token.now ∷ []);
+    }) }
+    ensures lines { OnOk result (lines.new.items ≡ lines.old.items ++ at.entry ∷ []) }
+{
+    keep_if_comment(alloc, progress, at, token)?;
+    Ok(lines.push(at)?)
+}
+
+/// Whether the line ends a description of the block.
+fn stops(block: Block, token: &Token<'_>) -> bool
+    ensures { (n : ℕ) (text : List ℕ) (i : ℕ) → result
+        ≡ grammar.stops block (read.line n text i (token_view token.now)) }
+{
+    match token {
+        Token::Tags(_) | Token::SpacedTag(_) => true,
+        Token::Title(title, _) => follows(Some(block), *title),
+        Token::Step(_) => block == Block::Background || block == Block::Scenario,
+        Token::Row(_) => block == Block::Examples,
+        _ => false,
+    }
+}
+
+/// The first line after a description.
+pub(crate) fn after_description<'a>(
+    alloc: Global,
+    progress: &mut Progress,
+    flat_block: Box<FlatBlock>,
+    at: IndentedLine<'a>,
+    token: Token<'a>,
+) -> Result<Phase<'a>, ParseFault>
+    requires room { progress.old.nodes < 2 ^ 63 }
+    ensures { Gives (state_in progress.new) result
+        (machine.after_description (state_so_far progress.old) (flat_block_of flat_block.value)
+        (line_at at.entry token.entry)) }
+{
+    match token {
+        Token::Step(line) => first_step(alloc, progress, flat_block, at, line),
+        Token::Row(cells) => first_row(alloc, progress, flat_block, at, cells),
+        token => close_block(alloc, progress, Box::into_inner(flat_block), at, token),
+    }
+}
+
+/// Keeps the line if it is a comment.
+fn keep_if_comment(
+    alloc: Global,
+    progress: &mut Progress,
+    at: IndentedLine<'_>,
+    token: &Token<'_>,
+) -> Result<(), AllocError>
+    ensures { OnOk result (progress.new ≡ record progress.old {
+      comments = progress.old.comments
+          ++ comments_of (line_at at.entry token.now ∷ []);
+    }) }
+{
+    if !is_comment_token(token) {
+        return Ok(());
+    }
+    keep_comment(alloc, progress, at)
+}
+
+/// Keeps the line, which is a comment.
+fn keep_comment(
+    alloc: Global,
+    progress: &mut Progress,
+    at: IndentedLine<'_>,
+) -> Result<(), AllocError>
+    ensures { OnOk result (progress.new ≡ record progress.old {
+      comments
+          = progress.old.comments ++ comment_of
+          (read.line at.entry.line.number (line_chars at.entry.line) at.entry.indent read.Comment)
+          ∷ [];
+    }) }
+{
+    let comment = Comment {
+        location: Location {
+            line: at.line.number,
+            column: 1,
+        },
+        text: copied(alloc, at.line.text)?,
+    };
+    progress.comments.push(comment)
+}
+
+/// Keeps the line, which is a comment, and stays in the phase.
+pub(crate) fn keep_comment_and_stay<'a>(
+    alloc: Global,
+    progress: &mut Progress,
+    phase: Phase<'a>,
+    at: IndentedLine<'a>,
+) -> Result<Phase<'a>, ParseFault>
+    ensures { Gives (state_in progress.new) result
+        (Ok (machine.pass_over (state_so_far progress.old) (phase_of phase.entry)
+        (read.line at.entry.line.number (line_chars at.entry.line) at.entry.indent read.Comment))) }
+{
+    keep_comment(alloc, progress, at)?;
+    Ok(phase)
+}
