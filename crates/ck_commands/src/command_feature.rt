@@ -17,7 +17,7 @@ use std::alloc::{AllocError, Global};
 use std::hash::RandomState;
 
 /// The counts of a document's nodes and comments.
-fn document_text(alloc: Global, document: &Document) -> Result<String, AllocError>
+fn parsed_document_text(alloc: Global, document: &Document) -> Result<String, AllocError>
     ensures { IfOk result (λ text. string_bytes text ≡ document_text document.now) }
 {
     let nodes = document.nodes;
@@ -34,10 +34,10 @@ fn parse_report(alloc: Global, read: &Result<Document, FeatureFault>) -> Result<
 {
     match read {
         Ok(document) => Ok(Report {
-            text: document_text(alloc, document)?,
+            text: parsed_document_text(alloc, document)?,
             status: ExitStatus::Done,
         }),
-        Err(fault) => fault_report(alloc, *fault),
+        Err(fault) => feature_fault_report(alloc, *fault),
     }
 }
 
@@ -69,8 +69,12 @@ fn compile_text<W: ByteSink>(
 {
     match write_compiled(alloc, seed, uri, text, sink) {
         Ok(()) => flush_text(sink, ExitStatus::Done),
-        Err(CompileFault::Parse(fault)) => print_fault(alloc, FeatureFault::Refused(fault), sink),
-        Err(CompileFault::Memory) => print_fault(alloc, FeatureFault::Memory, sink),
+        Err(CompileFault::Parse(fault)) => print_feature_fault(
+            alloc,
+            FeatureFault::Refused(fault),
+            sink,
+        ),
+        Err(CompileFault::Memory) => print_feature_fault(alloc, FeatureFault::Memory, sink),
         Err(CompileFault::WriteFailed) => write_trouble(sink),
     }
 }
@@ -88,12 +92,12 @@ pub(crate) fn print_compiled<R: ByteSource, W: ByteSink>(
 {
     match read_text(alloc, source) {
         Ok(text) => compile_text(alloc, seed, uri, text.as_str(), sink),
-        Err(fault) => print_fault(alloc, FeatureFault::from(fault), sink),
+        Err(fault) => print_feature_fault(alloc, FeatureFault::from(fault), sink),
     }
 }
 
 /// The line of a refused feature file: where its fault is, and which.
-fn refused_text(alloc: Global, fault: ParseFault) -> Result<String, AllocError>
+fn refused_feature_text(alloc: Global, fault: ParseFault) -> Result<String, AllocError>
     ensures { IfOk result (λ text. string_bytes text ≡ refused_text fault) }
 {
     let ParseFault { kind, line, column } = fault;
@@ -103,14 +107,14 @@ fn refused_text(alloc: Global, fault: ParseFault) -> Result<String, AllocError>
 }
 
 /// The report of a feature file that gave no document.
-fn fault_report(alloc: Global, fault: FeatureFault) -> Result<Report, AllocError>
+fn feature_fault_report(alloc: Global, fault: FeatureFault) -> Result<Report, AllocError>
     ensures text { IfOk result (λ report. string_bytes report.text ≡ (fault_report fault).text) }
     ensures status { IfOk result (λ report. report.status ≡ (fault_report fault).status) }
 {
     let text = match fault {
         FeatureFault::Refused(refused) => {
             return Ok(Report {
-                text: refused_text(alloc, refused)?,
+                text: refused_feature_text(alloc, refused)?,
                 status: ExitStatus::Refused,
             });
         }
@@ -125,9 +129,9 @@ fn fault_report(alloc: Global, fault: FeatureFault) -> Result<Report, AllocError
 }
 
 /// Prints why a feature file gives no document, and gives the exit code.
-fn print_fault<W: ByteSink>(alloc: Global, fault: FeatureFault, sink: &mut W) -> u8
+fn print_feature_fault<W: ByteSink>(alloc: Global, fault: FeatureFault, sink: &mut W) -> u8
     ensures { DeliversOne (λ report. report ≡ fault_report fault) result (W.output sink.old)
         (W.output sink.new) }
 {
-    write_report(sink, fault_report(alloc, fault))
+    write_report(sink, feature_fault_report(alloc, fault))
 }

@@ -27,7 +27,7 @@ use std::alloc::{AllocError, Global};
 use std::hash::RandomState;
 
 /// Judges the runs that are named, or where none is, the one that the source gives.
-fn judge_feature_runs<F: Files, R: ByteSource>(
+fn judge_runs_for_features<F: Files, R: ByteSource>(
     alloc: Global,
     seed: RandomState,
     settings: Settings,
@@ -56,7 +56,7 @@ fn judge_feature_runs<F: Files, R: ByteSource>(
 }
 
 /// Whether all flags are set.
-fn scenarios_ran(flags: &[bool]) -> bool
+fn feature_scenarios_ran(flags: &[bool]) -> bool
     ensures { result ≡ list_all (λ flag. flag) flags.now }
 {
     flags.iter().all(|flag| *flag)
@@ -66,7 +66,7 @@ fn scenarios_ran(flags: &[bool]) -> bool
 fn feature_ran(flags: &[bool]) -> bool
     ensures { result ≡ all_ran flags.now }
 {
-    !flags.is_empty() && scenarios_ran(flags)
+    !flags.is_empty() && feature_scenarios_ran(flags)
 }
 
 /// Adds a file to what is missing. Where each of its scenarios ran, its text isn't parsed again.
@@ -190,7 +190,7 @@ fn asked_features_report<F: Files, R: ByteSource>(
 {
     let mut marks = Marks::new(alloc, seed);
     let asked = asked_feature_files(alloc, found, &mut marks)?;
-    let parts = judge_feature_runs(
+    let parts = judge_runs_for_features(
         alloc, seed, settings, conditions, runs, files, source, &mut marks,
     )?;
     match parts.report.status {
@@ -228,7 +228,7 @@ fn features_report<F: Files, R: ByteSource>(
                 alloc, seed, settings, conditions, found, runs, files, source,
             )
         }
-        Err(PathTrouble::Faulty(wrong)) => faulty_report(alloc, &wrong),
+        Err(PathTrouble::Faulty(wrong)) => faulty_features_report(alloc, &wrong),
         Err(PathTrouble::Memory) => Err(AllocError),
     }
 }
@@ -332,7 +332,7 @@ fn read_feature_file<F: Files>(
 }
 
 /// The trouble of a file that can't be read.
-fn path_trouble_of(path: String, fault: FileFault) -> PathTrouble
+fn feature_path_trouble(path: String, fault: FileFault) -> PathTrouble
     ensures { result ≡ path_trouble path fault }
 {
     let fault = match fault {
@@ -360,7 +360,7 @@ fn read_feature_files<F: Files>(
         let path = String::from_str(alloc, path.as_str())?;
         match read_feature_file(alloc, files, path.as_str()) {
             Ok(text) => found.push(FeatureFile { path, text })?,
-            Err(fault) => return Err(path_trouble_of(path, fault)),
+            Err(fault) => return Err(feature_path_trouble(path, fault)),
         }
     }
     Ok(found)
@@ -425,7 +425,7 @@ fn feature_flags_of<'m>(marks: &'m Marks<'_>, file: &FeatureFile) -> &'m [bool]
 }
 
 /// The name of what is wrong with a path.
-fn fault_name(fault: Fault) -> &'static str
+fn feature_path_fault(fault: Fault) -> &'static str
     ensures { result.now ≡ fault_name fault }
 {
     match fault {
@@ -437,11 +437,11 @@ fn fault_name(fault: Fault) -> &'static str
 }
 
 /// The report of a path with which something is wrong.
-fn faulty_report(alloc: Global, wrong: &FaultyPath) -> Result<Report, AllocError>
+fn faulty_features_report(alloc: Global, wrong: &FaultyPath) -> Result<Report, AllocError>
     ensures { IfOk result (λ report. report_made (Ok report) ≡ faulty_report (faulty wrong.now)) }
 {
     let mut text = String::from_str(alloc, "trouble ")?;
-    text.push_str(fault_name(wrong.fault))?;
+    text.push_str(feature_path_fault(wrong.fault))?;
     text.push_str(" ")?;
     add_shown(&mut text, wrong.path.as_str())?;
     text.push_str("\n")?;

@@ -24,7 +24,7 @@ use std::alloc::{AllocError, Global};
 use std::hash::RandomState;
 
 /// The name of a hold, after the word `stop`.
-fn hold_name(hold: Hold) -> &'static str
+fn gate_hold_name(hold: Hold) -> &'static str
     ensures { result.now ≡ hold_name hold }
 {
     match hold {
@@ -64,7 +64,7 @@ fn add_gate_line(
 {
     match release.hold {
         Some(hold) => {
-            text.push_str(hold_name(hold))?;
+            text.push_str(gate_hold_name(hold))?;
             text.push_str("\n")?;
             text.push_str(release.reasons.as_str())
         }
@@ -74,7 +74,7 @@ fn add_gate_line(
 }
 
 /// The status of a good run.
-fn held_status(hold: Option<Hold>) -> ExitStatus
+fn held_gate_status(hold: Option<Hold>) -> ExitStatus
     ensures { result ≡ held_status hold }
 {
     match hold {
@@ -97,7 +97,7 @@ fn good_gate_report(
     add_gate_line(alloc, &mut text, is_part, counts, release)?;
     Ok(Report {
         text,
-        status: held_status(release.hold),
+        status: held_gate_status(release.hold),
     })
 }
 
@@ -166,7 +166,7 @@ pub(crate) fn print_gate<R: ByteSource, W: ByteSink>(
 }
 
 /// The first of the two that isn't that of what was done.
-fn first_gate_status(first: ExitStatus, next: ExitStatus) -> ExitStatus
+fn gate_status_of_runs(first: ExitStatus, next: ExitStatus) -> ExitStatus
     ensures { result ≡ status_after first next }
 {
     match first {
@@ -176,7 +176,7 @@ fn first_gate_status(first: ExitStatus, next: ExitStatus) -> ExitStatus
 }
 
 /// Adds the lines of a run's report, or that there was no memory for it, each after the run's name.
-fn add_run(
+fn add_run_report(
     alloc: Global,
     text: &mut String,
     name: &str,
@@ -202,7 +202,7 @@ fn judged_run_status(run: &Result<JudgedRun, AllocError>) -> ExitStatus
 }
 
 /// What is counted of a run.
-fn counts_made(run: &Result<JudgedRun, AllocError>) -> RunCounts
+fn judged_run_counts(run: &Result<JudgedRun, AllocError>) -> RunCounts
     ensures { result ≡ counts_made run.now }
 {
     match run {
@@ -235,9 +235,9 @@ pub(crate) fn judge_runs<F: Files, R: ByteSource>(
     let mut counts = RunCounts::none();
     for run in runs {
         let judged = judge_run(alloc, seed, settings, conditions, files, source, run, marks);
-        add_run(alloc, &mut text, run, &judged)?;
-        status = first_gate_status(status, judged_run_status(&judged));
-        counts = counts.with(counts_made(&judged));
+        add_run_report(alloc, &mut text, run, &judged)?;
+        status = gate_status_of_runs(status, judged_run_status(&judged));
+        counts = counts.with(judged_run_counts(&judged));
         drop(judged);
     }
     let report = Report { text, status };
@@ -297,7 +297,7 @@ pub(crate) fn judge_opened_run<R: ByteSource>(
     let counts = run_counts_of(&answer);
     let report = gate_report_of(alloc, conditions.is_part, &answer);
     drop(answer);
-    with_counts(report, counts)
+    with_run_counts(report, counts)
 }
 
 /// The report of a file that can't be opened.
@@ -425,7 +425,7 @@ fn run_counts_of(answer: &Result<AuditedRelease, Trouble>) -> RunCounts
 }
 
 /// The report with the counts.
-fn with_counts(
+fn with_run_counts(
     report: Result<Report, AllocError>,
     counts: RunCounts,
 ) -> Result<JudgedRun, AllocError>

@@ -66,7 +66,7 @@ pub(crate) fn print_results<R: ByteSource, W: ByteSink>(
     ensures { Runs (ask_results first_attempt) result (R.input source.old) (R.input source.new)
         (W.output sink.old) (W.output sink.new) }
 {
-    let read = read_attempts(alloc, seed, first_attempt, source);
+    let read = read_results_attempts(alloc, seed, first_attempt, source);
     let report = results_report(alloc, &read);
     drop(read);
     write_report(sink, report)
@@ -102,7 +102,7 @@ impl TakeLines for Attempts {
 /// # Errors
 /// What an audit answers at the first line without an envelope or with a call that is refused, or why no further line could be
 /// read. No read is repeated.
-fn read_attempts<S: ByteSource>(
+fn read_results_attempts<S: ByteSource>(
     alloc: Global,
     seed: RandomState,
     first_attempt: u64,

@@ -23,7 +23,7 @@ returns-in-Err-Parse g c =
     let parsed = c.in-Err-Parse.field-0-is in
     let same : c.write_compiled.new.sink ≡ c.args.sink.now = c.in-Err-Parse.ensures.untouched (λ e. let other = sym parsed ∙ e in cc) in
     let refused = c.in-Err-Parse.ensures.refused fault (ap Err parsed) in
-    fault_delivered c.args.uri.now c.args.text.now (Refused fault) _ _ _ (refused_of c.args.text.now fault c.utf8.text refused) (rw same at c.print_fault.ensures)
+    fault_delivered c.args.uri.now c.args.text.now (Refused fault) _ _ _ (refused_of c.args.text.now fault c.utf8.text refused) (rw same at c.print_feature_fault.ensures)
 
 pub returns-in-Err-WriteFailed : goal.returns-in-Err-WriteFailed
 unfolding lines_report

@@ -16,5 +16,5 @@ returns-in-Ok g c =
 pub returns-in-Err : goal.returns-in-Err
 returns-in-Err g c =
     let uri = c.args.uri.now in
-    let d = subst (λ f. DeliversOne (λ r. r ≡ fault_report f) c.print_fault.result (g.W.ByteSink.output c.args.sink.now) (g.W.ByteSink.output c.print_fault.new.sink)) c.from.ensures c.print_fault.ensures in
+    let d = subst (λ f. DeliversOne (λ r. r ≡ fault_report f) c.print_feature_fault.result (g.W.ByteSink.output c.args.sink.now) (g.W.ByteSink.output c.print_feature_fault.new.sink)) c.from.ensures c.print_feature_fault.ensures in
     runs_of (ask_compile uri) d.0 _ _ _ _ _ d.2 (fault_is_reported uri c.in-Err.fault d.0 _ _ c.in-Err.ensures.fault c.in-Err.ensures.failures d.1)

@@ -12,7 +12,7 @@ pub returns-in-Done-clause-report : goal.returns-in-Done-clause-report
 returns-in-Done-clause-report g c =
     let asked = conditions_of c.args.conditions.now in
     let found : List FeatureFile = map file_of c.args.found.now in
-    let marks = c.judge_feature_runs.new.marks in
+    let marks = c.judge_runs_for_features.new.marks in
     let parts = c.in_ok-parts.parts in
     let missing = c.in_ok-missing-in-Done.missing in
     let files : List AskedFile = map (asked_by marks) (asked_once found) in

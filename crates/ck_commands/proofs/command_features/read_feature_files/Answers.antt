@@ -12,7 +12,7 @@ returns-in-Err-clause-trouble g c =
     let new = g.F.Files.openings c.read_feature_file.new.files in
     let same = c.in_ok-path.ensures.ok ∙ c.as_str.ensures.value in
     let fails = subst (λ (p : List ℕ). FailsFor p mid new c.in-Err.fault) c.as_str-in-loop-path.ensures.value c.in-Err.ensures.fault in
-    subst (λ (t : PathTrouble). TellsFile (map string_bytes paths) old new t) (sym c.path_trouble_of.ensures)
+    subst (λ (t : PathTrouble). TellsFile (map string_bytes paths) old new t) (sym c.feature_path_trouble.ensures)
     (fails_on paths c.loop-path.path-index c.path-item.result c.loop-path-test.true c.path-item.is old mid new (map file_of c.loop-path.found.items) c.in_ok-path.path c.in-Err.fault same c.loop-path.invariant.read fails)
 
 pub loop-path-preserved : goal.loop-path-preserved

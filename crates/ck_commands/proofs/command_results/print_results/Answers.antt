@@ -7,6 +7,6 @@ use Rattle.ck_commands.proofs.command_results.print_results.Goals as goal
 
 pub returns : goal.returns
 returns g c =
-    let read = c.read_attempts-read.ensures in
+    let read = c.read_results_attempts-read.ensures in
     runs_of (ask_results c.args.first_attempt) (report_made c.results_report-report.result) _ _ _ _ _ c.write_report.ensures
-    (results_are_reported c.args.first_attempt c.read_attempts-read.result _ _ _ read.outcome read.whole read.failures read.no_fault (made_is c.results_report-report.result _ c.results_report-report.ensures.text c.results_report-report.ensures.status))
+    (results_are_reported c.args.first_attempt c.read_results_attempts-read.result _ _ _ read.outcome read.whole read.failures read.no_fault (made_is c.results_report-report.result _ c.results_report-report.ensures.text c.results_report-report.ensures.status))

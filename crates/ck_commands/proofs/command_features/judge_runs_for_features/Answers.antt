@@ -4,7 +4,7 @@ use Rattle.cm_stream.specs.Release.{conditions_of}
 use Rattle.ck_commands.specs.Judged.{added_counts}
 use Rattle.ck_commands.specs.declared.command_gate.RunCounts.{RunCounts}
 use Rattle.ck_commands.proofs.FilesTold.{names_count, parts_named, parts_unnamed}
-use Rattle.ck_commands.proofs.command_features.judge_feature_runs.Goals as goal
+use Rattle.ck_commands.proofs.command_features.judge_runs_for_features.Goals as goal
 
 pub returns-then-not-is_empty-clause-judged : goal.returns-then-not-is_empty-clause-judged
 returns-then-not-is_empty-clause-judged g c =

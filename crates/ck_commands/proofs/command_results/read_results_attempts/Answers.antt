@@ -1,5 +1,5 @@
 use Rattle.ck_commands.proofs.Lines.{answers, ends, not_done, same_failure, shows_no_fault}
-use Rattle.ck_commands.proofs.command_results.read_attempts.Goals as goal
+use Rattle.ck_commands.proofs.command_results.read_results_attempts.Goals as goal
 
 pub returns-in-Ok-clause-outcome : goal.returns-in-Ok-clause-outcome
 returns-in-Ok-clause-outcome g c =
