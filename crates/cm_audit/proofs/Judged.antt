@@ -28,8 +28,8 @@ use Rattle.cm_state.specs.ByOnePass.{new_source, plain_finding}
 use Rattle.cm_audit.specs.Kept.{ReadsAs, accepted_row, kept_row}
 use Rattle.cm_audit.specs.State.{Checks, Judges, Refuses, summary_of}
 use Rattle.cm_audit.specs.Stops.{StopsFor, refused_reference}
-use Rattle.cm_audit.specs.declared.state.AcceptedSource.{AcceptedSource}
-use Rattle.cm_audit.specs.declared.state.KeptSource.{KeptSource}
+use Rattle.cm_audit.specs.declared.kept_sources.AcceptedSource.{AcceptedSource}
+use Rattle.cm_audit.specs.declared.kept_sources.KeptSource.{KeptSource}
 use Rattle.cm_audit.specs.declared.state.State.{State}
 use Rattle.cm_audit.specs.declared.stop.Stop.{Stop}
 use Rattle.cm_audit.specs.declared.stop.Stop.TheVariants as stop

@@ -10,8 +10,8 @@ use Rattle.cm_envelope.specs.declared.pickle.Pickle.{Pickle}
 use Rattle.cm_state.specs.StateChecks.{is_next_of}
 use Rattle.cm_refs.proofs.EntryLemmas.{Key, found_entry, is_key}
 use Rattle.cm_audit.specs.Kept.{kept_row, kept_rows}
-use Rattle.cm_audit.specs.declared.state.KeptSource.{KeptSource}
-use Rattle.cm_audit.specs.declared.state.KeptSource.TheVariants as kept
+use Rattle.cm_audit.specs.declared.kept_sources.KeptSource.{KeptSource}
+use Rattle.cm_audit.specs.declared.kept_sources.KeptSource.TheVariants as kept
 
 pub row_uri : (uri : Utf8) (k : KeptSource) → (kept_row uri k).uri ≡ uri
 row_uri uri kept.Refused = refl

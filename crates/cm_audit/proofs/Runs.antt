@@ -8,8 +8,8 @@ use Rattle.cm_refs.proofs.EntryLemmas.{Key}
 use Rattle.cm_attempt.proofs.EntryLemmas.{list_all-rows}
 use Rattle.cm_state.specs.StateChecks.{lacks_by}
 use Rattle.cm_audit.specs.Kept.{kept_row, kept_rows}
-use Rattle.cm_audit.specs.declared.state.KeptSource.{KeptSource}
-use Rattle.cm_audit.specs.declared.state.KeptSource.TheVariants as kept
+use Rattle.cm_audit.specs.declared.kept_sources.KeptSource.{KeptSource}
+use Rattle.cm_audit.specs.declared.kept_sources.KeptSource.TheVariants as kept
 
 pub lacks_anywhere : (uri : Utf8) (k : KeptSource) → lacks_by (kept_row uri k) ≡ lacks_by (kept_row [] k)
 lacks_anywhere uri kept.Refused = refl

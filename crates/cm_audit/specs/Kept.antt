@@ -8,9 +8,9 @@ use Rattle.cm_stream.specs.Readings.{Reading, Accepted, Refused, OtherLanguage, 
 use Rattle.cm_stream.specs.declared.laws.Reason.TheVariants as reason
 use Rattle.cm_state.specs.Summary.{SourceRow, new_row}
 use Rattle.cm_audit.specs.Due.{left_of}
-use Rattle.cm_audit.specs.declared.state.AcceptedSource.{AcceptedSource}
-use Rattle.cm_audit.specs.declared.state.KeptSource.{KeptSource}
-use Rattle.cm_audit.specs.declared.state.KeptSource.TheVariants as kept
+use Rattle.cm_audit.specs.declared.kept_sources.AcceptedSource.{AcceptedSource}
+use Rattle.cm_audit.specs.declared.kept_sources.KeptSource.{KeptSource}
+use Rattle.cm_audit.specs.declared.kept_sources.KeptSource.TheVariants as kept
 use Rattle.cm_audit.specs.declared.stop.Stop.{Stop}
 use Rattle.cm_audit.specs.declared.stop.Stop.TheVariants as stop
 

@@ -18,9 +18,11 @@ ghost use Rattle.cm_audit.specs.Kept.{IsAcceptedAt, kept_rows};
 ghost use Rattle.cm_audit.specs.Stops.{StopsFor};
 ghost use Rattle.std.specs.String.{string_bytes};
 
+use crate::kept_sources::{
+    KeptSource, are_accepted, count_pickle, find_source, lack_some, read_source, set_ids,
+};
 use crate::state::{
-    KeptSource, State, add_case, add_name, are_accepted, count_pickle, find_source, finish_attempt,
-    finish_step, lack_some, read_source, set_ids, start_attempt, start_step, track,
+    State, add_case, add_name, finish_attempt, finish_step, start_attempt, start_step, track,
 };
 use crate::stop::Stop;
 use cm_attempt::{Policy, Settings, Status, worst_with};

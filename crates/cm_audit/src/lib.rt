@@ -28,6 +28,7 @@
 mod auditing;
 mod due;
 mod judge;
+mod kept_sources;
 mod state;
 mod stop;
 
@@ -37,5 +38,6 @@ pub use auditing::{
 pub use cm_attempt::{Policy, Settings};
 pub use cm_stream::{Audited, Counts, Reason, StreamFault, Verdict};
 pub use due::DuePickles;
-pub use state::{AcceptedSource, KeptSource, Sources, State, track};
+pub use kept_sources::{AcceptedSource, KeptSource, Sources};
+pub use state::{State, track};
 pub use stop::Stop;

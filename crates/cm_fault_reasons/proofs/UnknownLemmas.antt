@@ -16,7 +16,7 @@ use Rattle.cm_stream.proofs.CallWords.{some_mapped}
 use Rattle.cm_stream.proofs.Lists.{found_any}
 use Rattle.cm_audit.specs.Kept.{kept_row}
 use Rattle.cm_audit.specs.State.{summary_of}
-use Rattle.cm_audit.specs.declared.state.KeptSource.{KeptSource}
+use Rattle.cm_audit.specs.declared.kept_sources.KeptSource.{KeptSource}
 use Rattle.cm_audit.specs.declared.state.State.{State}
 use Rattle.cm_fault_reasons.specs.Unknown.{Told, told_id, told_name, told_uri}
 use Rattle.cm_fault_reasons.specs.UnknownKept.{knows, unknown_among}

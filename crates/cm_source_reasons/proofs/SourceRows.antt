@@ -17,7 +17,7 @@ use Rattle.cm_state.specs.Summary.{SourceRow}
 use Rattle.cm_differs.specs.Differences.{IsTreeDifference}
 use Rattle.cm_differs.specs.declared.difference.Difference.{Difference}
 use Rattle.cm_audit.specs.Kept.{kept_row, kept_rows}
-use Rattle.cm_audit.specs.declared.state.KeptSource.{KeptSource}
+use Rattle.cm_audit.specs.declared.kept_sources.KeptSource.{KeptSource}
 use Rattle.cm_audit.proofs.KeptRows.{moved_row}
 use Rattle.cm_audit.proofs.Runs.{lacks_anywhere}
 use Rattle.cm_source_reasons.specs.SourceKept.{DiffersInTree, OfFound}

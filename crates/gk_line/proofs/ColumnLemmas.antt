@@ -14,7 +14,7 @@ use Rattle.gk_line.specs.Tags.{uncommented_line, pieces_from, tag_pieces, tags_o
 use Rattle.gk_line.specs.Places.{IsAtColumn, RiseWithin}
 use Rattle.gk_line.specs.Columns.{TagColumnsRise, CellColumnsRise}
 use Rattle.gk_line.specs.Views.{tag_word}
-use Rattle.gk_line.specs.declared.tag_lines.TagText.{TagText}
+use Rattle.gk_line.specs.declared.tags_and_comments.TagText.{TagText}
 use Rattle.gk_line.proofs.TagLemmas.{test_cases}
 use Rattle.gk_line.proofs.PlaceLemmas.{trimmed-split}
 use Rattle.gk_line.proofs.UnitLemmas.{widths-units}

@@ -12,9 +12,9 @@ use Rattle.gk_line.specs.Tokens.{indent_of, begins_by}
 use Rattle.gk_line.specs.Cells.{without_first}
 use Rattle.gk_line.specs.Tags.{uncommented_line, TagWord, piece_at, pieces_from, tag_pieces, is_tag, has_space}
 use Rattle.gk_line.specs.Views.{tag_word, IsTagFault}
-use Rattle.gk_line.specs.declared.tag_lines.TagText.{TagText}
-use Rattle.gk_line.specs.declared.tag_lines.TagFault.{TagFault}
-use Rattle.gk_line.specs.declared.tag_lines.TagFault.TheVariants.{TagSpace, Memory}
+use Rattle.gk_line.specs.declared.tags_and_comments.TagText.{TagText}
+use Rattle.gk_line.specs.declared.tags_and_comments.TagFault.{TagFault}
+use Rattle.gk_line.specs.declared.tags_and_comments.TagFault.TheVariants.{TagSpace, Memory}
 use Rattle.gk_line.proofs.TextLemmas.{is_empty_chars, after-some}
 use Rattle.gk_line.proofs.LineLemmas.{split_at, split_none}
 use Rattle.gk_line.specs.Characters.{at_sign, number_sign}

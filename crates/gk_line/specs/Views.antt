@@ -1,13 +1,13 @@
 -- The lines and tokens that the code returns, with their texts as lists of characters.
 use Rattle.std.specs.Prelude.{ℕ, ◌≡◌, ⊤, List, Option, Some}
 use Rattle.std.specs.Option.{option_map}
-use Rattle.gk_line.specs.declared.tag_lines.TagFault.{TagFault}
-use Rattle.gk_line.specs.declared.tag_lines.TagFault.TheVariants.{TagSpace, Memory}
+use Rattle.gk_line.specs.declared.tags_and_comments.TagFault.{TagFault}
+use Rattle.gk_line.specs.declared.tags_and_comments.TagFault.TheVariants.{TagSpace, Memory}
 use Rattle.std.specs.Str.{chars}
 use Rattle.gk_line.specs.Cells.{CellText}
 use Rattle.gk_line.specs.Tags.{TagWord}
 use Rattle.gk_document.specs.declared.tree.Cell.{Cell}
-use Rattle.gk_line.specs.declared.tag_lines.TagText.{TagText}
+use Rattle.gk_line.specs.declared.tags_and_comments.TagText.{TagText}
 use Rattle.gk_line.specs.Tokens.{TitleText, StepText, FenceText}
 use Rattle.gk_line.specs.declared.tokens.Line.{Line}
 use Rattle.gk_line.specs.declared.tokens.Title.{Title}

@@ -25,7 +25,7 @@ mod laws;
 mod limit;
 mod line_ends;
 mod rows;
-mod tag_lines;
+mod tags_and_comments;
 mod texts;
 mod tokens;
 
@@ -36,6 +36,6 @@ pub use laws::{columns_rise, kinds_exclude, lines_are_cut};
 pub use limit::FEATURE_LIMIT;
 pub use line_ends::Lines;
 pub use rows::{cells, is_row};
-pub use tag_lines::{TagFault, TagText, is_comment, is_tags, tags};
+pub use tags_and_comments::{TagFault, TagText, is_comment, is_tags, tags};
 pub use texts::{indent, is_blank, lines};
 pub use tokens::{Block, FenceLine, Line, StepLine, Title};

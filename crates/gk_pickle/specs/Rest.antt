@@ -8,7 +8,7 @@ use Rattle.gk_document.specs.declared.tree.Feature.{Feature}
 use Rattle.gk_document.specs.declared.tree.Document.{Document}
 use Rattle.gk_pickle.specs.declared.pickles.Pickle.{Pickle}
 use Rattle.gk_pickle.specs.declared.pickles.PickleTitle.{PickleTitle}
-use Rattle.gk_pickle.specs.declared.place.PicklePlace.{PicklePlace}
+use Rattle.gk_pickle.specs.declared.next_pickles.PicklePlace.{PicklePlace}
 use Rattle.gk_pickle.specs.Inherited.{Inherited, no_filling}
 use Rattle.gk_pickle.specs.Pickles.{pickle_of, examples_pickles, scenario_pickles}
 use Rattle.gk_pickle.specs.InFeature.{ScenarioInFeature}

@@ -19,13 +19,13 @@
 
 mod filling;
 mod laws;
+mod next_pickles;
 mod pickles;
-mod place;
 
 pub use filling::fill;
 pub use laws::{alike_law, characters_law, counting_law, order_law, replacing_law, scenarios_law};
+pub use next_pickles::{PicklePlace, next_pickle, next_title, pass_pickle};
 pub use pickles::{
     Pickle, PickleArgument, PickleDocString, PickleStep, PickleTag, PickleTitle, ScenarioInFeature,
     StepType, compile, compile_scenario, scenarios,
 };
-pub use place::{PicklePlace, next_pickle, next_title, pass_pickle};

@@ -9,7 +9,7 @@ use Rattle.std.proofs.lemmas.Bool.{false≢true}
 use Rattle.std.proofs.lemmas.Bool.Decides.{nat_tests}
 use Rattle.gk_tree.specs.declared.token.IndentedLine.{IndentedLine}
 use Rattle.gk_grammar.specs.Token.{Line}
-use Rattle.gk_line.specs.declared.tag_lines.TagText.{TagText}
+use Rattle.gk_line.specs.declared.tags_and_comments.TagText.{TagText}
 use Rattle.gk_document.specs.declared.tree.Tag.{Tag}
 use Rattle.gk_grammar.specs.Grammar.{at}
 use Rattle.gk_grammar.specs.Token as read

@@ -6,7 +6,7 @@ use Rattle.std.specs.Str.{chars, chars_after, continuation_len, lead_bits, IsUtf
 use Rattle.std.proofs.lemmas.List.{length-map}
 use Rattle.std.proofs.lemmas.Str.{encodes-chars}
 use Rattle.gk_document.specs.declared.tree.Cell.{Cell}
-use Rattle.gk_line.specs.declared.tag_lines.TagText.{TagText}
+use Rattle.gk_line.specs.declared.tags_and_comments.TagText.{TagText}
 use Rattle.gk_line.specs.Cells.{CellText}
 use Rattle.gk_line.specs.Tags.{TagWord, tags_of}
 use Rattle.gk_line.specs.Views.{cell_text, tag_word}

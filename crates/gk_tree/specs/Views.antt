@@ -7,7 +7,7 @@ use Rattle.gk_grammar.specs.Token as read
 use Rattle.gk_grammar.specs.Token.{Utf8, line, line_of, tag_text, title_token, step_token, fence_token}
 use Rattle.gk_grammar.specs.Machine as machine
 use Rattle.gk_grammar.specs.Machine.{State, PlacedFault}
-use Rattle.gk_line.specs.declared.tag_lines.TagText.{TagText}
+use Rattle.gk_line.specs.declared.tags_and_comments.TagText.{TagText}
 use Rattle.gk_tree.specs.declared.fault.ParseFault.{ParseFault}
 use Rattle.gk_tree.specs.declared.token.IndentedLine.{IndentedLine}
 use Rattle.gk_tree.specs.declared.token.Token.{Token}

@@ -1,5 +1,5 @@
-//! The tree of a list of blocks, and the texts, tables and descriptions that their lines make.
-ghost use Rattle.std.specs.Prelude.{◌≡◌, ◌∷◌, map, reverse, IfOk, OnOk, ◌≤◌, ◌<◌, ◌+◌, ◌^◌, None, Ok, [], if◌then◌else◌, ◌++◌, filter, not};
+//! The tree of a list of blocks, and the texts and tables that their lines make.
+ghost use Rattle.std.specs.Prelude.{◌≡◌, ◌∷◌, map, reverse, IfOk, OnOk, ◌≤◌, ◌<◌, ◌+◌, ◌^◌, None, Ok, [], if◌then◌else◌, ◌++◌};
 ghost use Rattle.std.specs.Prelude.{Some, length};
 ghost use Rattle.gk_line.specs.declared.tokens.Block.TheVariants as block;
 ghost use Rattle.gk_grammar.specs.Assembly as assembly;
@@ -9,10 +9,9 @@ ghost use Rattle.gk_tree.specs.Views.{flat_block_of, body_of, state_in, Gives, t
 ghost use Rattle.gk_tree.specs.Views.{open_doc_string_of};
 ghost use Rattle.gk_tree.specs.Assembling.{parts_view};
 ghost use Rattle.gk_line.specs.Views.{line_chars};
-ghost use Rattle.gk_grammar.specs.Token.{bytes};
 ghost use Rattle.gk_grammar.specs.Machine as machine;
 ghost use Rattle.gk_grammar.specs.Token as read;
-ghost use Rattle.gk_grammar.specs.Grammar.{description_of, from_text, content_line};
+ghost use Rattle.gk_grammar.specs.Grammar.{content_line};
 ghost use Rattle.std.specs.String.{string_bytes};
 ghost use Rattle.std.specs.List.{join_with_byte};
 ghost use Rattle.gk_line.specs.Characters.{line_feed};
@@ -28,7 +27,7 @@ use gk_document::{
     Background, Cell, DocString, ExampleTable, Examples, Feature, Fence, Location, Row, Rule,
     Scenario, Sequence, Step, Tag, Text, media_type,
 };
-use gk_line::{Block, StepLine, TagText, cells, fence, is_blank, is_comment, lines, push_doc_line};
+use gk_line::{Block, StepLine, TagText, push_doc_line};
 use std::alloc::{AllocError, Global};
 use std::mem::replace;
 
@@ -231,57 +230,6 @@ fn build_table(body: Body) -> Option<ExampleTable>
     header_and_body(rows)
 }
 
-/// The text of a description of these lines.
-pub(crate) fn description(alloc: Global, lines: &[IndentedLine<'_>]) -> Result<Text, AllocError>
-    ensures { IfOk result (λ t. t ≡ description_of (map kept_line lines.now)) }
-{
-    let kept = without_comments(alloc, lines)?;
-    joined(alloc, without_last_blanks(without_first_blanks(&kept)))
-}
-
-/// The lines that are no comments.
-fn without_comments<'a>(
-    alloc: Global,
-    lines: &[IndentedLine<'a>],
-) -> Result<Vec<IndentedLine<'a>>, AllocError>
-    ensures { IfOk result (λ v. map kept_line v.items
-        ≡ filter (λ l. not (read.is_comment l)) (map kept_line lines.now)) }
-{
-    let mut kept = Vec::new(alloc);
-    for line in lines {
-        if !is_comment(line.line) {
-            kept.push(*line)?;
-        }
-    }
-    Ok(kept)
-}
-
-/// The lines from the first one on that is not blank.
-fn without_first_blanks<'a, 'l>(lines: &'l [IndentedLine<'a>]) -> &'l [IndentedLine<'a>]
-    ensures { map kept_line result.now ≡ from_text (map kept_line lines.now) }
-{
-    for (i, line) in lines.iter().enumerate() {
-        if !is_blank(line.line) {
-            return &lines[i..];
-        }
-    }
-    &lines[lines.len()..]
-}
-
-/// The lines up to the last one that is not blank.
-fn without_last_blanks<'a, 'l>(lines: &'l [IndentedLine<'a>]) -> &'l [IndentedLine<'a>]
-    ensures { map kept_line result.now ≡ reverse (from_text (reverse (map kept_line lines.now))) }
-{
-    let mut end = lines.len();
-    while end > 0 {
-        if !is_blank(lines[end - 1].line) {
-            return &lines[..end];
-        }
-        end -= 1;
-    }
-    &lines[..0]
-}
-
 /// The first row of a table.
 pub(crate) fn single_row(alloc: Global, row: Row) -> Result<Sequence<Row>, AllocError>
     ensures { IfOk result (λ rows. rows ≡ row ∷ []) }
@@ -337,34 +285,6 @@ pub(crate) fn copied_media(alloc: Global, media: &str) -> Result<Option<Text>, A
     ensures { IfOk result (λ m. m ≡ unless_empty (text_of media.now)) }
 {
     Ok(media_type(copied(alloc, media)?))
-}
-
-/// The lines with a line feed between them.
-fn joined(alloc: Global, lines: &[IndentedLine<'_>]) -> Result<Text, AllocError>
-    ensures { IfOk result (λ t. t ≡ join_with_byte line_feed
-        (map bytes (map kept_line lines.now))) }
-{
-    let mut text = String::new(alloc);
-    for (i, line) in lines.iter().enumerate() {
-        push_line(&mut text, i == 0, line.line.text)?;
-    }
-    Ok(Text::from(text))
-}
-
-/// Adds a line, after a line feed if it isn't the first.
-#[tactic(auto, using(crate::proofs::TextLemmas::text_same))]
-fn push_line(text: &mut String, is_first: bool, line: &str) -> Result<(), AllocError>
-    ensures { OnOk result (string_bytes text.new
-        ≡ (if is_first then string_bytes text.old ++ text_of line.now
-        else (string_bytes text.old ++ line_feed ∷ []) ++ text_of line.now)) }
-{
-    if is_first {
-        text.push_str(line)?;
-        return Ok(());
-    }
-    text.push('\n')?;
-    text.push_str(line)?;
-    Ok(())
 }
 
 /// Adds what a line says inside a doc string, after a line feed if it isn't the first.
@@ -453,20 +373,6 @@ pub(crate) fn empty_body(alloc: Global, block: Block) -> Body
         Block::Background | Block::Scenario => Body::Steps(Sequence::new(alloc)),
         Block::Examples => Body::Rows(Sequence::new(alloc)),
     }
-}
-
-/// The block with the description that these lines are.
-pub(crate) fn with_description(
-    alloc: Global,
-    mut flat_block: Box<FlatBlock>,
-    lines: Vec<IndentedLine<'_>>,
-) -> Result<Box<FlatBlock>, AllocError>
-    ensures { IfOk result (λ c. flat_block_of c.value
-        ≡ machine.with_description (flat_block_of flat_block.value)
-        (map kept_line lines.entry.items)) }
-{
-    flat_block.description = description(alloc, &lines)?;
-    Ok(flat_block)
 }
 
 /// The block with its steps below it, in no more memory than they take.

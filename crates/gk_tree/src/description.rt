@@ -1,22 +1,26 @@
-//! The lines of a description, and the comments that are kept beside it.
+//! The lines of a description, the comments that are kept beside it, and the text that they make.
 ghost use Rattle.std.specs.Prelude.{◌≡◌, ◌<◌, ◌+◌, ◌^◌, Ok, [], ◌∷◌, ◌++◌, map, ℕ};
-ghost use Rattle.std.specs.Prelude.{List, OnOk};
+ghost use Rattle.std.specs.Prelude.{List, OnOk, IfOk, filter, not, reverse, if◌then◌else◌};
 ghost use Rattle.gk_line.specs.Views.{line_chars};
 ghost use Rattle.gk_grammar.specs.Machine as machine;
 ghost use Rattle.gk_tree.specs.Views.{line_at, state_in, Gives, flat_block_of, state_so_far};
-ghost use Rattle.gk_tree.specs.Views.{phase_of, token_view, kept_line};
+ghost use Rattle.gk_tree.specs.Views.{phase_of, token_view, kept_line, text_of};
 ghost use Rattle.gk_tree.specs.Read.{IsRead};
 ghost use Rattle.gk_grammar.specs.Token as read;
 ghost use Rattle.gk_grammar.specs.Grammar as grammar;
-ghost use Rattle.gk_grammar.specs.Grammar.{comments_of, comment_of};
+ghost use Rattle.gk_grammar.specs.Grammar.{comments_of, comment_of, description_of, from_text};
+ghost use Rattle.gk_grammar.specs.Token.{bytes};
+ghost use Rattle.std.specs.String.{string_bytes};
+ghost use Rattle.std.specs.List.{join_with_byte};
+ghost use Rattle.gk_line.specs.Characters.{line_feed};
 
-use crate::assemble::{copied, first_row, with_description};
+use crate::assemble::{copied, first_row};
 use crate::fault::ParseFault;
 use crate::line_tokens::is_comment_token;
 use crate::parser::{FlatBlock, Phase, Progress, close_block, first_step, follows};
 use crate::token::{IndentedLine, Token};
-use gk_document::{Comment, Location};
-use gk_line::Block;
+use gk_document::{Comment, Location, Text};
+use gk_line::{Block, is_blank, is_comment};
 use std::alloc::{AllocError, Global};
 
 /// A line in or after a description.
@@ -147,4 +151,97 @@ pub(crate) fn keep_comment_and_stay<'a>(
 {
     keep_comment(alloc, progress, at)?;
     Ok(phase)
+}
+
+/// The text of a description of these lines.
+fn description(alloc: Global, lines: &[IndentedLine<'_>]) -> Result<Text, AllocError>
+    ensures { IfOk result (λ t. t ≡ description_of (map kept_line lines.now)) }
+{
+    let kept = without_comments(alloc, lines)?;
+    joined(alloc, without_last_blanks(without_first_blanks(&kept)))
+}
+
+/// The lines that are no comments.
+fn without_comments<'a>(
+    alloc: Global,
+    lines: &[IndentedLine<'a>],
+) -> Result<Vec<IndentedLine<'a>>, AllocError>
+    ensures { IfOk result (λ v. map kept_line v.items
+        ≡ filter (λ l. not (read.is_comment l)) (map kept_line lines.now)) }
+{
+    let mut kept = Vec::new(alloc);
+    for line in lines {
+        if !is_comment(line.line) {
+            kept.push(*line)?;
+        }
+    }
+    Ok(kept)
+}
+
+/// The lines from the first one on that is not blank.
+fn without_first_blanks<'a, 'l>(lines: &'l [IndentedLine<'a>]) -> &'l [IndentedLine<'a>]
+    ensures { map kept_line result.now ≡ from_text (map kept_line lines.now) }
+{
+    for (i, line) in lines.iter().enumerate() {
+        if !is_blank(line.line) {
+            return &lines[i..];
+        }
+    }
+    &lines[lines.len()..]
+}
+
+/// The lines up to the last one that is not blank.
+fn without_last_blanks<'a, 'l>(lines: &'l [IndentedLine<'a>]) -> &'l [IndentedLine<'a>]
+    ensures { map kept_line result.now ≡ reverse (from_text (reverse (map kept_line lines.now))) }
+{
+    let mut end = lines.len();
+    while end > 0 {
+        if !is_blank(lines[end - 1].line) {
+            return &lines[..end];
+        }
+        end -= 1;
+    }
+    &lines[..0]
+}
+
+/// The lines with a line feed between them.
+fn joined(alloc: Global, lines: &[IndentedLine<'_>]) -> Result<Text, AllocError>
+    ensures { IfOk result (λ t. t ≡ join_with_byte line_feed
+        (map bytes (map kept_line lines.now))) }
+{
+    let mut text = String::new(alloc);
+    for (i, line) in lines.iter().enumerate() {
+        push_line(&mut text, i == 0, line.line.text)?;
+    }
+    Ok(Text::from(text))
+}
+
+/// Adds a line, after a line feed if it isn't the first.
+#[tactic(auto, using(crate::proofs::TextLemmas::text_same))]
+fn push_line(text: &mut String, is_first: bool, line: &str) -> Result<(), AllocError>
+    ensures { OnOk result (string_bytes text.new
+        ≡ (if is_first then string_bytes text.old ++ text_of line.now
+        else (string_bytes text.old ++ line_feed ∷ []) ++ text_of line.now)) }
+{
+    if is_first {
+        text.push_str(line)?;
+        return Ok(());
+    }
+    text.push('\n')?;
+    text.push_str(line)?;
+    Ok(())
+}
+
+/// The block with the description that these lines are.
+pub(crate) fn with_description(
+    alloc: Global,
+    mut flat_block: Box<FlatBlock>,
+    lines: Vec<IndentedLine<'_>>,
+) -> Result<Box<FlatBlock>, AllocError>
+    ensures { IfOk result (λ c. flat_block_of c.value
+        ≡ machine.with_description (flat_block_of flat_block.value)
+        (map kept_line lines.entry.items)) }
+{
+    flat_block.description = description(alloc, &lines)?;
+    Ok(flat_block)
 }

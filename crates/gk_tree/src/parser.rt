@@ -20,9 +20,9 @@ ghost use Rattle.gk_tree.specs.Rows.{rows_with, row_after};
 
 use crate::assemble::{
     build_feature, copied, doc_string, empty_body, row_at, single_row, step_at, title_node_count,
-    with_description, with_rows, with_steps, with_tags,
+    with_rows, with_steps, with_tags,
 };
-use crate::description::{in_description, keep_comment_and_stay};
+use crate::description::{in_description, keep_comment_and_stay, with_description};
 use crate::fault::{ParseFault, early_end, fault, spaced_tag, unexpected};
 use crate::line_tokens::{
     cell_count, closes, is_english, line_head, line_token, row_line, step_line, title_line,

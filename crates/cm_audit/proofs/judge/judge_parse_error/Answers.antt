@@ -4,8 +4,8 @@ use Rattle.std.specs.Str.{bytes_eq}
 use Rattle.cm_state.specs.StateChecks.{is_accepted_by}
 use Rattle.cm_audit.specs.Kept.{accepted_row, kept_row, kept_rows}
 use Rattle.cm_audit.specs.State.{summary_of}
-use Rattle.cm_audit.specs.declared.state.KeptSource.{KeptSource}
-use Rattle.cm_audit.specs.declared.state.KeptSource.TheVariants.{Refused}
+use Rattle.cm_audit.specs.declared.kept_sources.KeptSource.{KeptSource}
+use Rattle.cm_audit.specs.declared.kept_sources.KeptSource.TheVariants.{Refused}
 use Rattle.cm_audit.proofs.Judged.{error_fits, error_of_good, error_unknown}
 use Rattle.cm_audit.proofs.KeptRows.{found_by, listed_is}
 use Rattle.cm_audit.proofs.judge.judge_parse_error.Goals as goal

@@ -6,7 +6,7 @@ use Rattle.cm_stream.specs.Texts.{Utf8}
 use Rattle.gk_document.specs.declared.tree.Document.{Document}
 use Rattle.cm_state.specs.Summary.{SourceRow}
 use Rattle.cm_audit.specs.Kept.{kept_row}
-use Rattle.cm_audit.specs.declared.state.KeptSource.{KeptSource}
+use Rattle.cm_audit.specs.declared.kept_sources.KeptSource.{KeptSource}
 use Rattle.cm_audit.proofs.KeptRows.{moved_row}
 use Rattle.cm_source_reasons.specs.SourceKept.{lack_by_document, lack_lines}
 use Rattle.cm_source_reasons.specs.SourceReasons.{missing_document, missing_pickles, uri_line}

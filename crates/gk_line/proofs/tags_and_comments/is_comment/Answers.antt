@@ -1,0 +1,5 @@
+use Rattle.std.proofs.Common.{rules}
+use Rattle.gk_line.proofs.tags_and_comments.is_comment.Goals as goal
+
+pub returns : goal.returns
+returns c = search rules
