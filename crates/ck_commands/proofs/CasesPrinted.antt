@@ -5,7 +5,7 @@ use Rattle.std.specs.declared.alloc.AllocError.{AllocError}
 use Rattle.cm_attempt.specs.Table.{Table}
 use Rattle.cm_attempt.specs.declared.status.Settings.{Settings}
 use Rattle.cm_cases.specs.Listed.{listing_of}
-use Rattle.cm_cases.specs.declared.places.Listing.{Listing}
+use Rattle.cm_cases.specs.declared.listing.Listing.{Listing}
 use Rattle.cm_envelope.specs.Device.{CountsFailure, Input, OfReads}
 use Rattle.cm_envelope.specs.declared.envelope.Envelope.{Envelope}
 use Rattle.cm_envelope.specs.declared.feed.Trouble.{Trouble}

@@ -32,7 +32,7 @@ use Rattle.ck_commands.specs.Judged.{AreStreams, IsReleasedAs, ReleasedAs, count
 use Rattle.ck_commands.specs.Output.{Report, trouble_report}
 use Rattle.ck_commands.specs.Runs.{OfHeard, Reading, heard, unnoted, unopened}
 use Rattle.ck_commands.specs.Standard.{GaveFeatures}
-use Rattle.ck_commands.specs.declared.command_gate.RunCounts.{RunCounts}
+use Rattle.ck_commands.specs.declared.command_gate.GateCounts.{GateCounts}
 use Rattle.ck_commands.specs.declared.report.ExitStatus.TheVariants as exit
 use Rattle.ck_commands.proofs.Ran.{is_done, not_both, was_printed}
 use Rattle.ck_commands.proofs.RunsReleased.{each_released_as, none_failed_in, reads_standard}
@@ -47,7 +47,7 @@ held_or_done true held done is e = let no : exit.Held ≡ exit.Done = sym is ∙
 held_or_done false held done is e = refl
 
 -- nothing is missing
-none_missing : (lines : List (List ℕ)) (files scenarios unrun : ℕ) (counts : RunCounts) → (last_report lines files scenarios unrun counts).status ≡ exit.Done → lines ≡ []
+none_missing : (lines : List (List ℕ)) (files scenarios unrun : ℕ) (counts : GateCounts) → (last_report lines files scenarios unrun counts).status ≡ exit.Done → lines ≡ []
 none_missing [] files scenarios unrun counts done = refl
 none_missing (line ∷ lines) files scenarios unrun counts done = let no : exit.Held ≡ exit.Done = done in cc
 

@@ -13,9 +13,9 @@ use Rattle.ck_commands.specs.FeatureFiles.{FailsAtFile, FailsToRead, FeatureFile
 use Rattle.ck_commands.specs.Features.{IsNoText}
 use Rattle.ck_commands.specs.FilesKept.{AsFileText, FailsFor, ReadsText, TellsFile, file_of, path_trouble}
 use Rattle.ck_commands.specs.TextInput.{HasTextFault, IsTextOf, is_failed_text_read}
-use Rattle.ck_commands.specs.declared.command_features.FeatureFile as made
-use Rattle.ck_commands.specs.declared.command_features.FileFault.{FileFault}
-use Rattle.ck_commands.specs.declared.command_features.FileFault.TheVariants as fault
+use Rattle.ck_commands.specs.declared.command_gate_features.FeatureFile as made
+use Rattle.ck_commands.specs.declared.command_gate_features.FileFault.{FileFault}
+use Rattle.ck_commands.specs.declared.command_gate_features.FileFault.TheVariants as fault
 use Rattle.ck_commands.specs.declared.text_input.TextFault.{TextFault}
 use Rattle.ck_commands.specs.declared.text_input.TextFault.TheVariants as text
 use Rattle.ck_commands.proofs.RunsReleased.{from_fresh_reads, from_fresh_whole}

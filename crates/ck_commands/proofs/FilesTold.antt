@@ -27,8 +27,8 @@ use Rattle.ck_commands.specs.FilesKept.{AddsLast, HasTexts, IsUnmarked, GivesFea
 use Rattle.ck_commands.specs.Judged.{JudgesStream, JudgesRuns, MarksStreams, added_counts, no_counts}
 use Rattle.ck_commands.specs.Output.{Report, report_made, trouble_report}
 use Rattle.ck_commands.specs.Runs.{Reading, heard}
-use Rattle.ck_commands.specs.declared.command_features.FeatureFile as made
-use Rattle.ck_commands.specs.declared.command_gate.RunCounts.{RunCounts}
+use Rattle.ck_commands.specs.declared.command_gate_features.FeatureFile as made
+use Rattle.ck_commands.specs.declared.command_gate.GateCounts.{GateCounts}
 use Rattle.ck_commands.specs.declared.report.ExitStatus.TheVariants as exit
 use Rattle.ck_commands.specs.declared.report.Report as output
 use Rattle.ck_commands.proofs.JudgedLemmas.{marks_push, nothing_ran}
@@ -44,7 +44,7 @@ some_cases (suc n) some = grind (arith, nat_tests)
 pub some_not_none : (b : Bool) → b ≡ false → b ≡ true → ⊥
 some_not_none b some none = let no : false ≡ true = sym some ∙ none in cc
 
-module _ (asked : Conditions) (fs : List AskedFile) (m : Missing) (is : IsMissingOf asked fs m) (files : ℕ) (counts : RunCounts) (old new : List ℕ) where
+module _ (asked : Conditions) (fs : List AskedFile) (m : Missing) (is : IsMissingOf asked fs m) (files : ℕ) (counts : GateCounts) (old new : List ℕ) where
   abbrev scenario_count : ℕ
   scenario_count = scenarios_in is.reads
 
@@ -96,7 +96,7 @@ module _ (asked : Conditions) (fs : List AskedFile) (m : Missing) (is : IsMissin
   }
 
 -- what is told below the report of released runs
-pub asks_files : (s : Settings) (asked : Conditions) (files : List FeatureFile) (readings : List Reading) (old new : Marks) (parts r : Report) (counts : RunCounts) → IsUnmarked old → HasTexts old (asked_once files) → MarksStreams s asked readings old new counts
+pub asks_files : (s : Settings) (asked : Conditions) (files : List FeatureFile) (readings : List Reading) (old new : Marks) (parts r : Report) (counts : GateCounts) → IsUnmarked old → HasTexts old (asked_once files) → MarksStreams s asked readings old new counts
     → AddsLast asked (map (asked_by new) (asked_once files)) (length files) counts parts.text r.text r.status → AsksFiles s asked files readings parts r
 asks_files s asked files readings old new parts r counts unmarked has marks last = record {
   streams = marks.streams;
@@ -110,13 +110,13 @@ asks_files s asked files readings old new parts r counts unmarked has marks last
   unrun = last.unrun;
   are_unrun = last.are_unrun;
   told = λ i. record {
-    text = (last.text ∙ ap (λ (k : RunCounts). parts.text ++ (last_report last.lines (length files) last.scenarios last.unrun k).text) marks.counted) i;
-    status = (last.is ∙ ap (λ (k : RunCounts). (last_report last.lines (length files) last.scenarios last.unrun k).status) marks.counted) i;
+    text = (last.text ∙ ap (λ (k : GateCounts). parts.text ++ (last_report last.lines (length files) last.scenarios last.unrun k).text) marks.counted) i;
+    status = (last.is ∙ ap (λ (k : GateCounts). (last_report last.lines (length files) last.scenarios last.unrun k).status) marks.counted) i;
   };
 }
 
 -- the one run that standard input gives
-pub one_part : (s : Settings) (asked : Conditions) (before : List Opening) (i j : Input) (old new : Marks) (r : Report) (counts total : RunCounts) → total ≡ added_counts no_counts counts → JudgesStream s asked i j old new r counts
+pub one_part : (s : Settings) (asked : Conditions) (before : List Opening) (i j : Input) (old new : Marks) (r : Report) (counts total : GateCounts) → total ≡ added_counts no_counts counts → JudgesStream s asked i j old new r counts
     → JudgesParts s asked [] before before i j old new r total
 one_part s asked before i j old new r counts total is h = record {
   readings = heard i j ∷ [];
@@ -129,7 +129,7 @@ one_part s asked before i j old new r counts total is h = record {
 }
 
 -- the runs that are named
-pub named_parts : (s : Settings) (asked : Conditions) (run : Utf8) (runs : List Utf8) (before after : List Opening) (i j : Input) (old new : Marks) (r : Report) (total : RunCounts)
+pub named_parts : (s : Settings) (asked : Conditions) (run : Utf8) (runs : List Utf8) (before after : List Opening) (i j : Input) (old new : Marks) (r : Report) (total : GateCounts)
     → JudgesRuns (record { settings = s; asked = asked; runs = run ∷ runs }) before after i j old new r total → JudgesParts s asked (run ∷ runs) before after i j old new r total
 named_parts s asked run runs before after i j old new r total h = record {
   readings = h.report.readings;
@@ -139,18 +139,18 @@ named_parts s asked run runs before after i j old new r total h = record {
 }
 
 -- whether runs are named is told by their count
-pub parts_named : (s : Settings) (asked : Conditions) (names : List Utf8) → (length names == 0) ≡ false → (before after : List Opening) (i j : Input) (old new : Marks) (r : Report) (total : RunCounts)
+pub parts_named : (s : Settings) (asked : Conditions) (names : List Utf8) → (length names == 0) ≡ false → (before after : List Opening) (i j : Input) (old new : Marks) (r : Report) (total : GateCounts)
     → JudgesRuns (record { settings = s; asked = asked; runs = names }) before after i j old new r total → JudgesParts s asked names before after i j old new r total
 parts_named s asked names some = go names some
   where
     IsNamed : List Utf8 → Type 0
-    IsNamed ns = (before after : List Opening) (i j : Input) (old new : Marks) (r : Report) (total : RunCounts) → JudgesRuns (record { settings = s; asked = asked; runs = ns }) before after i j old new r total → JudgesParts s asked ns before after i j old new r total
+    IsNamed ns = (before after : List Opening) (i j : Input) (old new : Marks) (r : Report) (total : GateCounts) → JudgesRuns (record { settings = s; asked = asked; runs = ns }) before after i j old new r total → JudgesParts s asked ns before after i j old new r total
 
     go : (ns : List Utf8) → (length ns == 0) ≡ false → IsNamed ns
     go [] none = absurd (true≢false none)
     go (n ∷ ns) more = named_parts s asked n ns
 
-pub parts_unnamed : (s : Settings) (asked : Conditions) (names : List Utf8) → (length names == 0) ≡ true → (before : List Opening) (i j : Input) (old new : Marks) (r : Report) (counts total : RunCounts) → total ≡ added_counts no_counts counts → JudgesStream s asked i j old new r counts
+pub parts_unnamed : (s : Settings) (asked : Conditions) (names : List Utf8) → (length names == 0) ≡ true → (before : List Opening) (i j : Input) (old new : Marks) (r : Report) (counts total : GateCounts) → total ≡ added_counts no_counts counts → JudgesStream s asked i j old new r counts
     → JudgesParts s asked names before before i j old new r total
 parts_unnamed s asked [] none before i j old new r counts total is h = one_part s asked before i j old new r counts total is h
 parts_unnamed s asked (name ∷ names) none before i j old new r counts total is h = let some : (suc (length names) == 0) ≡ false = grind (arith, nat_tests) in let no : false ≡ true = sym some ∙ none in cc
@@ -167,12 +167,12 @@ asked_map m [] = refl
 asked_map m (f ∷ fs) = ap (λ (l : List AskedFile). asked_by m (file_of f.now) ∷ l) (asked_map m fs)
 
 -- the runs aren't released
-pub reports_held : (s : Settings) (asked : Conditions) (found : List FeatureFile) (runs : List Utf8) (before after : List Opening) (i j : Input) (old new : Marks) (r : Report) (counts : RunCounts) → JudgesParts s asked runs before after i j old new r counts
+pub reports_held : (s : Settings) (asked : Conditions) (found : List FeatureFile) (runs : List Utf8) (before after : List Opening) (i j : Input) (old new : Marks) (r : Report) (counts : GateCounts) → JudgesParts s asked runs before after i j old new r counts
     → (r.status ≡ exit.Done → ⊥) → ReportsAsked s asked found runs before after i j r
 reports_held s asked found runs before after i j old new r counts h held = (h.readings, r, h.report, inl (held, refl))
 
 -- they are, and this stands below
-pub reports_asked : (s : Settings) (asked : Conditions) (found : List FeatureFile) (runs : List Utf8) (before after : List Opening) (i j : Input) (old new : Marks) (parts r : Report) (counts : RunCounts) → JudgesParts s asked runs before after i j old new parts counts
+pub reports_asked : (s : Settings) (asked : Conditions) (found : List FeatureFile) (runs : List Utf8) (before after : List Opening) (i j : Input) (old new : Marks) (parts r : Report) (counts : GateCounts) → JudgesParts s asked runs before after i j old new parts counts
     → parts.status ≡ exit.Done → IsUnmarked old → HasTexts old (asked_once found) → AddsLast asked (map (asked_by new) (asked_once found)) (length found) counts parts.text r.text r.status → ReportsAsked s asked found runs before after i j r
 reports_asked s asked found runs before after i j old new parts r counts h done unmarked has last =
     (h.readings, parts, h.report, inr (done, asks_files s asked found h.readings old new parts r counts unmarked has (h.done done) last))

@@ -36,7 +36,7 @@ use Rattle.ck_commands.specs.Judged.{AreStreams, IsReleasedAs, JudgesStream, Jud
 use Rattle.ck_commands.specs.Output.{Report, report_made, trouble_report}
 use Rattle.ck_commands.specs.Runs.{OfHeard, Reading, ReadsRun, heard, named_text, named_texts, status_after, status_of_all, unnoted, unopened, unread}
 use Rattle.ck_commands.specs.declared.command_gate.JudgedRun as made_run
-use Rattle.ck_commands.specs.declared.command_gate.RunCounts.{RunCounts}
+use Rattle.ck_commands.specs.declared.command_gate.GateCounts.{GateCounts}
 use Rattle.ck_commands.specs.declared.report.ExitStatus.{ExitStatus}
 use Rattle.ck_commands.specs.declared.report.ExitStatus.TheVariants as exit
 use Rattle.ck_commands.specs.declared.report.Report as made
@@ -50,13 +50,13 @@ no_trouble : (t : Trouble) (r : Report) → r ≡ trouble_report t → r.status 
 no_trouble t r is done = let no : exit.Trouble ≡ exit.Done = sym (ap (λ (x : Report). x.status) is) ∙ done in cc
 
 -- the counts are those that were given, where there is a report
-pub counts_given : (m : Result made_run.JudgedRun AllocError) (counts : RunCounts) → IfOk m (λ run. run.counts ≡ counts) → (run_report m).status ≡ exit.Done → counts_made m ≡ counts
+pub counts_given : (m : Result made_run.JudgedRun AllocError) (counts : GateCounts) → IfOk m (λ run. run.counts ≡ counts) → (run_report m).status ≡ exit.Done → counts_made m ≡ counts
 counts_given (Ok run) counts is done = is
 counts_given (Err e) counts is done = absurd (no_trouble Memory (trouble_report Memory) refl done)
 
 module _ (s : Settings) (asked : Conditions) (old new : Marks) where
   -- the bytes are a released stream, whose envelopes are marked and counted
-  abbrev IsMarkedStream : RunCounts → List ℕ → Type 0
+  abbrev IsMarkedStream : GateCounts → List ℕ → Type 0
   IsMarkedStream counts xs = (es : List Envelope) × IsReleasedAs s asked es xs × Marked es old new × (counts ≡ run_counts asked s.policy es)
 
   of_good : (xs : List ℕ) (success : Bool) (found : ReleaseCounts) (held : Option Hold) (reasons : List ℕ) (counts : Counts) → held ≡ None → CountsGood s asked success found held reasons xs (verdict.Good counts)
@@ -97,7 +97,7 @@ module _ (s : Settings) (asked : Conditions) (old new : Marks) where
   judged_done (Err t) (Err e) i j is done h end = absurd (no_trouble Memory (trouble_report Memory) refl done)
 
   -- where standard input or a file was judged
-  pub heard_run : (i j : Input) (r : Report) (counts : RunCounts) → JudgesStream s asked i j old new r counts → JudgesRun s asked (heard i j) old new r counts
+  pub heard_run : (i j : Input) (r : Report) (counts : GateCounts) → JudgesStream s asked i j old new r counts → JudgesRun s asked (heard i j) old new r counts
   heard_run i j r counts h = record {
     reports = h.reported;
     texts = h.texts;
@@ -105,7 +105,7 @@ module _ (s : Settings) (asked : Conditions) (old new : Marks) where
   }
 
 -- a file of which nothing was read before was judged
-pub fresh_run : (s : Settings) (asked : Conditions) (old new : Marks) (i j : Input) (r : Report) (counts : RunCounts) → IsFresh i → JudgesStream s asked i j old new r counts → JudgesRun s asked (heard unread j) old new r counts
+pub fresh_run : (s : Settings) (asked : Conditions) (old new : Marks) (i j : Input) (r : Report) (counts : GateCounts) → IsFresh i → JudgesStream s asked i j old new r counts → JudgesRun s asked (heard unread j) old new r counts
 fresh_run s asked old new i j r counts fresh h = record {
   reports = from_fresh (ask_gate s asked) r i j fresh h.reported;
   texts = h.texts;
@@ -148,7 +148,7 @@ heard_compiled s asked es (heard i j) gives =
     let is = gives.3 in
     subst EachSourceIsCompiled is.3 (released_ran s asked gives.0 is.0 is.1 is.2).0.each_source
 
-pub marks_push : (s : Settings) (asked : Conditions) (readings : List Reading) (reading : Reading) (old mid new : Marks) (total counts : RunCounts) → marked_texts mid ≡ marked_texts old → MarksStreams s asked readings old mid total
+pub marks_push : (s : Settings) (asked : Conditions) (readings : List Reading) (reading : Reading) (old mid new : Marks) (total counts : GateCounts) → marked_texts mid ≡ marked_texts old → MarksStreams s asked readings old mid total
     → MarksStream s asked mid new counts (λ es. OfHeard (ReleasedAs s asked es) reading) → MarksStreams s asked (readings ++ reading ∷ []) old new (added_counts total counts)
 marks_push s asked readings reading old mid new total counts texts all one = record {
   streams = all.streams ++ one.es ∷ [];
@@ -156,7 +156,7 @@ marks_push s asked readings reading old mid new total counts texts all one = rec
   marked = ran_more old mid new all.streams one.es texts all.marked one.marked;
   rows = λ whole. one.marked.rows (heard_compiled s asked one.es reading one.gives) (all.rows whole);
   counted = (λ i. added_counts (all.counted i) (one.counted i))
-      ∙ sym (fold-append (λ (k : RunCounts) (es : List Envelope). added_counts k (run_counts asked s.policy es)) no_counts all.streams (one.es ∷ []));
+      ∙ sym (fold-append (λ (k : GateCounts) (es : List Envelope). added_counts k (run_counts asked s.policy es)) no_counts all.streams (one.es ∷ []));
 }
 
 -- no run yet
@@ -176,7 +176,7 @@ none_judged s asked old i m = record {
 }
 
 -- one run more
-pub runs_push : (s : Settings) (asked : Conditions) (names : List (List ℕ)) (name : List ℕ) (old mid new noted : List Opening) (i k j : Input) (before between after : Marks) (reading : Reading) (text later : List ℕ) (status : ExitStatus) (total : RunCounts) (r : Report) (counts : RunCounts)
+pub runs_push : (s : Settings) (asked : Conditions) (names : List (List ℕ)) (name : List ℕ) (old mid new noted : List Opening) (i k j : Input) (before between after : Marks) (reading : Reading) (text later : List ℕ) (status : ExitStatus) (total : GateCounts) (r : Report) (counts : GateCounts)
     → JudgesRuns (record { settings = s; asked = asked; runs = names }) old mid i k before between (record { text = text; status = status }) total → new ≡ mid ++ noted → ReadsRun name noted k j reading → JudgesRun s asked reading between after r counts
     → later ≡ text ++ named_text name r.text
     → JudgesRuns (record { settings = s; asked = asked; runs = names ++ name ∷ [] }) old new i j before after (record { text = later; status = status_after status r.status }) (added_counts total counts)

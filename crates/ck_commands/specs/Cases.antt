@@ -9,7 +9,7 @@ use Rattle.cm_attempt.specs.declared.status.Status.{Status}
 use Rattle.cm_cases.specs.Listed.{listing_of}
 use Rattle.cm_cases.specs.JsonLines.{case_json, unrun_json}
 use Rattle.cm_cases.specs.Places.{case_place, unrun_lines}
-use Rattle.cm_cases.specs.declared.places.Listing.{Listing}
+use Rattle.cm_cases.specs.declared.listing.Listing.{Listing}
 use Rattle.cm_envelope.specs.declared.envelope.Envelope.{Envelope}
 use Rattle.cm_envelope.specs.declared.feed.Trouble.{Trouble}
 use Rattle.cm_stream.specs.Good.{Good}

@@ -19,7 +19,7 @@ use Rattle.ck_commands.specs.Judged.{AreStreams, counts_of_all, is_run_in}
 use Rattle.ck_commands.specs.Output.{Delivers, Report, trouble_report}
 use Rattle.ck_commands.specs.Run.{Reported}
 use Rattle.ck_commands.specs.Runs.{IsRunsReport, Reading, heard}
-use Rattle.ck_commands.specs.declared.command_gate.RunCounts.{RunCounts}
+use Rattle.ck_commands.specs.declared.command_gate.GateCounts.{GateCounts}
 use Rattle.ck_commands.specs.declared.report.ExitStatus.TheVariants.{Done, Held}
 
 -- ---- the runs
@@ -54,14 +54,14 @@ AreAsked streams (f ∷ fs) [] = ⊥
 AreAsked streams (f ∷ fs) (a ∷ others) = IsAsked streams f a × AreAsked streams fs others
 
 -- `release files=F scenarios=S retried=R skipped=K unrun=U`
-abbrev pub files_text : (files scenarios unrun : ℕ) → RunCounts → List ℕ
+abbrev pub files_text : (files scenarios unrun : ℕ) → GateCounts → List ℕ
 files_text files scenarios unrun counts =
     codes "release files=" ++ decimal files ++ codes " scenarios=" ++ decimal scenarios
     ++ codes " retried=" ++ decimal counts.retried ++ codes " skipped=" ++ decimal counts.skipped
     ++ codes " unrun=" ++ decimal unrun ++ line_feed ∷ []
 
 -- what is missing; else that nothing ran, or that all is well
-abbrev pub last_report : (lines : List (List ℕ)) → (files scenarios unrun : ℕ) → RunCounts → Report
+abbrev pub last_report : (lines : List (List ℕ)) → (files scenarios unrun : ℕ) → GateCounts → Report
 last_report (line ∷ lines) files scenarios unrun counts = record {
   text = codes "stop Missing" ++ line_feed ∷ limited (line ∷ lines);
   status = Held;

@@ -14,7 +14,7 @@ use Rattle.ck_commands.specs.FilesAsked.{IsPartsReport, ToldOfFiles, last_report
 use Rattle.ck_commands.specs.Judged.{MarksStreams}
 use Rattle.ck_commands.specs.Output.{Report}
 use Rattle.ck_commands.specs.Runs.{Reading}
-use Rattle.ck_commands.specs.declared.command_gate.RunCounts.{RunCounts}
+use Rattle.ck_commands.specs.declared.command_gate.GateCounts.{GateCounts}
 use Rattle.ck_commands.specs.declared.report.ExitStatus.{ExitStatus}
 use Rattle.ck_commands.specs.declared.report.ExitStatus.TheVariants.{Done}
 use Rattle.cm_stream.specs.Texts.{Utf8}
@@ -25,9 +25,9 @@ use Rattle.feature_paths.specs.declared.paths.PathTrouble.TheVariants as trouble
 use Rattle.files.specs.Looks.{Looked}
 use Rattle.files.specs.Openings.{Opening}
 use Rattle.ck_commands.specs.FeatureFiles.{FailsAtFile, FailsToRead, FeatureFile, ReadsFiles, WasRead}
-use Rattle.ck_commands.specs.declared.command_features.FeatureFile as made
-use Rattle.ck_commands.specs.declared.command_features.FileFault.{FileFault}
-use Rattle.ck_commands.specs.declared.command_features.FileFault.TheVariants as fault
+use Rattle.ck_commands.specs.declared.command_gate_features.FeatureFile as made
+use Rattle.ck_commands.specs.declared.command_gate_features.FileFault.{FileFault}
+use Rattle.ck_commands.specs.declared.command_gate_features.FileFault.TheVariants as fault
 use Rattle.feature_paths.specs.declared.paths.Fault.TheVariants.{NotUtf8, ReadFailed}
 use Rattle.ck_commands.specs.declared.text_input.TextFault.{TextFault}
 use Rattle.ck_commands.specs.declared.text_input.TextFault.TheVariants as text
@@ -119,14 +119,14 @@ asked_by m f = record { path = f.path; text = f.text; flags = row_of m f.text }
 -- The runs of a gate over feature files were judged, and what ran in them is marked.
 pub record JudgesParts (s : Settings) (asked : Conditions) (runs : List Utf8)
     (before after : List Opening) (i j : Input) (old new : Marks) (r : Report)
-    (counts : RunCounts) : Type 0 where
+    (counts : GateCounts) : Type 0 where
   pub readings : List Reading
   pub report : IsPartsReport s asked runs before after i j readings r
   pub texts : marked_texts new ≡ marked_texts old
   pub done : r.status ≡ Done → MarksStreams s asked readings old new counts
 
 -- The last report stands below the text, and its status is the one given.
-pub record AddsLast (asked : Conditions) (fs : List AskedFile) (files : ℕ) (counts : RunCounts)
+pub record AddsLast (asked : Conditions) (fs : List AskedFile) (files : ℕ) (counts : GateCounts)
     (old new : List ℕ) (status : ExitStatus) : Type 0 where
   pub lines : List (List ℕ)
   pub missing : AreMissingLines asked fs lines

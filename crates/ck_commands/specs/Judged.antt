@@ -25,7 +25,7 @@ use Rattle.ck_commands.specs.Output.{Report, report_made, trouble_report}
 use Rattle.ck_commands.specs.Run.{Reported}
 use Rattle.ck_commands.specs.Runs.{IsRunsReport, OfHeard, Reading, ReportsRun}
 use Rattle.ck_commands.specs.declared.command_gate.JudgedRun as made
-use Rattle.ck_commands.specs.declared.command_gate.RunCounts.{RunCounts}
+use Rattle.ck_commands.specs.declared.command_gate.GateCounts.{GateCounts}
 use Rattle.ck_commands.specs.declared.report.ExitStatus.TheVariants.{Done}
 
 -- ---- the streams of released runs
@@ -54,11 +54,11 @@ is_run_in streams text place = list_any (λ es. is_run_at es text place) streams
 
 -- ---- what is counted of them
 
-abbrev pub no_counts : RunCounts
+abbrev pub no_counts : GateCounts
 no_counts = record { cases = 0; retried = 0; skipped = 0 }
 
 -- test cases, pickles with more than one attempt, and last attempts with a skipped step
-abbrev pub run_counts : Conditions → Policy → List Envelope → RunCounts
+abbrev pub run_counts : Conditions → Policy → List Envelope → GateCounts
 run_counts asked policy es = record {
   cases = length (cases es);
   retried = (release_counts_of asked policy es).retried;
@@ -66,14 +66,14 @@ run_counts asked policy es = record {
 }
 
 -- a count doesn't rise beyond the greatest
-abbrev pub added_counts : RunCounts → RunCounts → RunCounts
+abbrev pub added_counts : GateCounts → GateCounts → GateCounts
 added_counts a b = record {
   cases = min (a.cases + b.cases) greatest_count;
   retried = min (a.retried + b.retried) greatest_count;
   skipped = min (a.skipped + b.skipped) greatest_count;
 }
 
-abbrev pub counts_of_all : Conditions → Policy → List (List Envelope) → RunCounts
+abbrev pub counts_of_all : Conditions → Policy → List (List Envelope) → GateCounts
 counts_of_all asked policy streams =
     fold (λ counts es. added_counts counts (run_counts asked policy es)) no_counts streams
 
@@ -83,24 +83,24 @@ abbrev pub run_report : Result made.JudgedRun AllocError → Report
 run_report (Ok run) = report_made (Ok run.report)
 run_report (Err refused) = trouble_report Memory
 
-abbrev pub counts_made : Result made.JudgedRun AllocError → RunCounts
+abbrev pub counts_made : Result made.JudgedRun AllocError → GateCounts
 counts_made (Ok run) = run.counts
 counts_made (Err refused) = no_counts
 
-abbrev pub counted_by : ReleaseCounts → Verdict → RunCounts
+abbrev pub counted_by : ReleaseCounts → Verdict → GateCounts
 counted_by found (verdict.Good counts) =
     record { cases = counts.cases; retried = found.retried; skipped = found.skipped }
 counted_by found (verdict.Bad n b) = no_counts
 counted_by found (verdict.Unsupported n u) = no_counts
 
-abbrev pub counted_in : Result AuditedRelease Trouble → RunCounts
+abbrev pub counted_in : Result AuditedRelease Trouble → GateCounts
 counted_in (Ok a) = counted_by a.found a.audited.verdict
 counted_in (Err t) = no_counts
 
 -- ---- what is marked
 
 -- A run was released as this stream, what ran in it is marked, and this is counted of it.
-pub record MarksStream (s : Settings) (asked : Conditions) (old new : Marks) (counts : RunCounts)
+pub record MarksStream (s : Settings) (asked : Conditions) (old new : Marks) (counts : GateCounts)
     (Gives : List Envelope → Type 0) : Type 0 where
   pub es : List Envelope
   pub gives : Gives es
@@ -109,7 +109,7 @@ pub record MarksStream (s : Settings) (asked : Conditions) (old new : Marks) (co
 
 -- From one state of a source to a later one a run was judged: its report is that of `gate`, and with status 0 it was marked.
 pub record JudgesStream (s : Settings) (asked : Conditions) (i j : Input) (old new : Marks) (r : Report)
-    (counts : RunCounts) : Type 0 where
+    (counts : GateCounts) : Type 0 where
   pub reported : Reported (ask_gate s asked) r i j
   pub texts : marked_texts new ≡ marked_texts old
   pub done : r.status ≡ Done
@@ -117,7 +117,7 @@ pub record JudgesStream (s : Settings) (asked : Conditions) (i j : Input) (old n
 
 -- the same by what was read of a run
 pub record JudgesRun (s : Settings) (asked : Conditions) (reading : Reading) (old new : Marks)
-    (r : Report) (counts : RunCounts) : Type 0 where
+    (r : Report) (counts : GateCounts) : Type 0 where
   pub reports : ReportsRun s asked reading r
   pub texts : marked_texts new ≡ marked_texts old
   pub done : r.status ≡ Done
@@ -125,7 +125,7 @@ pub record JudgesRun (s : Settings) (asked : Conditions) (reading : Reading) (ol
 
 -- Each run was released as one of these streams, what ran in them is marked by whole rows, and this is counted of them.
 pub record MarksStreams (s : Settings) (asked : Conditions) (readings : List Reading)
-    (old new : Marks) (counts : RunCounts) : Type 0 where
+    (old new : Marks) (counts : GateCounts) : Type 0 where
   pub streams : List (List Envelope)
   pub are : AreStreams s asked readings streams
   pub marked : AlsoRan old new (is_run_in streams)
@@ -134,7 +134,7 @@ pub record MarksStreams (s : Settings) (asked : Conditions) (readings : List Rea
 
 -- All runs were judged: the report of all, and with status 0 that holds.
 pub record JudgesRuns (g : RunsGate) (before after : List Opening) (i j : Input) (old new : Marks)
-    (r : Report) (counts : RunCounts) : Type 0 where
+    (r : Report) (counts : GateCounts) : Type 0 where
   pub report : IsRunsReport g before after i j r
   pub texts : marked_texts new ≡ marked_texts old
   pub done : r.status ≡ Done → MarksStreams g.settings g.asked report.readings old new counts

@@ -11,8 +11,8 @@ ghost use Rattle.ck_command_line.specs.CommandLine.{ask_cases};
 ghost use Rattle.ck_commands.specs.Cases.{IsCasesText, ReportsCases, case_object, case_text};
 ghost use Rattle.ck_commands.specs.Run.{Runs};
 
-use crate::report::{ExitStatus, Report, write_report};
-use crate::verdict_report::{reported_status, verdict_report};
+use crate::report::{ExitStatus, Report, reported_status, write_report};
+use crate::verdict_report::verdict_report;
 use ck_command_line::CaseForm;
 use cm_attempt::{CaseResult, Settings, Track};
 use cm_audit_cases::{AuditedCases, audit_cases};

@@ -12,8 +12,8 @@ ghost use Rattle.ck_commands.specs.Judged.{no_counts};
 ghost use Rattle.ck_commands.specs.Runs.{GatesRuns, named_text, status_after, NotesReading, Reading, ReadsRun};
 ghost use Rattle.files.specs.Openings.{Opening};
 
-use crate::report::{ExitStatus, Report, trouble_text, write_report};
-use crate::verdict_report::{add_named, good_text, verdict_report};
+use crate::report::{ExitStatus, Report, add_named, trouble_text, write_report};
+use crate::verdict_report::{good_text, verdict_report};
 use cm_attempt::Settings;
 use cm_audit_release::{AuditedRelease, audit_part, audit_release};
 use cm_envelope::{ByteSink, ByteSource, Trouble};
@@ -74,7 +74,7 @@ fn add_gate_line(
 }
 
 /// The status of a good run.
-fn held_gate_status(hold: Option<Hold>) -> ExitStatus
+fn gate_status(hold: Option<Hold>) -> ExitStatus
     ensures { result ≡ held_status hold }
 {
     match hold {
@@ -97,7 +97,7 @@ fn good_gate_report(
     add_gate_line(alloc, &mut text, is_part, counts, release)?;
     Ok(Report {
         text,
-        status: held_gate_status(release.hold),
+        status: gate_status(release.hold),
     })
 }
 
@@ -176,7 +176,7 @@ fn gate_status_of_runs(first: ExitStatus, next: ExitStatus) -> ExitStatus
 }
 
 /// Adds the lines of a run's report, or that there was no memory for it, each after the run's name.
-fn add_run_report(
+fn add_gate_run(
     alloc: Global,
     text: &mut String,
     name: &str,
@@ -192,7 +192,7 @@ fn add_run_report(
 }
 
 /// The status of a run's report, or that of trouble where there was no memory for it.
-fn judged_run_status(run: &Result<JudgedRun, AllocError>) -> ExitStatus
+fn gate_status_of_run(run: &Result<JudgedRun, AllocError>) -> ExitStatus
     ensures { result ≡ (run_report run.now).status }
 {
     match run {
@@ -202,12 +202,12 @@ fn judged_run_status(run: &Result<JudgedRun, AllocError>) -> ExitStatus
 }
 
 /// What is counted of a run.
-fn judged_run_counts(run: &Result<JudgedRun, AllocError>) -> RunCounts
+fn gate_counts_of_run(run: &Result<JudgedRun, AllocError>) -> GateCounts
     ensures { result ≡ counts_made run.now }
 {
     match run {
         Ok(run) => run.counts,
-        Err(_) => RunCounts::none(),
+        Err(_) => GateCounts::none(),
     }
 }
 
@@ -232,12 +232,12 @@ pub(crate) fn judge_runs<F: Files, R: ByteSource>(
 {
     let mut text = String::new(alloc);
     let mut status = ExitStatus::Done;
-    let mut counts = RunCounts::none();
+    let mut counts = GateCounts::none();
     for run in runs {
         let judged = judge_run(alloc, seed, settings, conditions, files, source, run, marks);
-        add_run_report(alloc, &mut text, run, &judged)?;
-        status = gate_status_of_runs(status, judged_run_status(&judged));
-        counts = counts.with(judged_run_counts(&judged));
+        add_gate_run(alloc, &mut text, run, &judged)?;
+        status = gate_status_of_runs(status, gate_status_of_run(&judged));
+        counts = counts.with(gate_counts_of_run(&judged));
         drop(judged);
     }
     let report = Report { text, status };
@@ -245,7 +245,7 @@ pub(crate) fn judge_runs<F: Files, R: ByteSource>(
 }
 
 /// Prints the report of all runs, and gives the exit code: that of the first run that isn't to be released, if any.
-pub(crate) fn print_runs<F: Files, R: ByteSource, W: ByteSink>(
+pub(crate) fn print_gate_runs<F: Files, R: ByteSource, W: ByteSink>(
     alloc: Global,
     seed: RandomState,
     settings: Settings,
@@ -278,7 +278,7 @@ pub(crate) fn print_runs<F: Files, R: ByteSource, W: ByteSink>(
 #[derive(Drop)]
 pub(crate) struct JudgedRun {
     pub(crate) report: Report,
-    pub(crate) counts: RunCounts,
+    pub(crate) counts: GateCounts,
 }
 
 /// Judges the run whose stream the source gives. Where it is released, what ran of the marked texts is marked.
@@ -294,10 +294,10 @@ pub(crate) fn judge_opened_run<R: ByteSource>(
         (R.input source.new) marks.old marks.new (run_report result) (counts_made result) }
 {
     let answer = audit_part(alloc, seed, source, settings, conditions, marks);
-    let counts = run_counts_of(&answer);
+    let counts = gate_counts_of(&answer);
     let report = gate_report_of(alloc, conditions.is_part, &answer);
     drop(answer);
-    with_run_counts(report, counts)
+    with_gate_counts(report, counts)
 }
 
 /// The report of a file that can't be opened.
@@ -310,7 +310,7 @@ fn unopened_run(alloc: Global) -> Result<JudgedRun, AllocError>
     };
     Ok(JudgedRun {
         report,
-        counts: RunCounts::none(),
+        counts: GateCounts::none(),
     })
 }
 
@@ -374,7 +374,7 @@ fn judge_run<F: Files, R: ByteSource>(
 
 /// What is counted of released runs.
 #[derive(Clone, Copy, PartialEq, Eq, Debug, Drop)]
-pub(crate) struct RunCounts {
+pub(crate) struct GateCounts {
     /// Test cases.
     pub(crate) cases: u64,
     /// Pickles with more than one attempt.
@@ -383,12 +383,12 @@ pub(crate) struct RunCounts {
     pub(crate) skipped: u64,
 }
 
-impl RunCounts {
+impl GateCounts {
     /// Those of no run.
-    pub(crate) fn none() -> RunCounts
+    pub(crate) fn none() -> GateCounts
         ensures { result ≡ no_counts }
     {
-        RunCounts {
+        GateCounts {
             cases: 0,
             retried: 0,
             skipped: 0,
@@ -396,10 +396,10 @@ impl RunCounts {
     }
 
     /// Those of these runs and of one more.
-    pub(crate) fn with(self, more: RunCounts) -> RunCounts
+    pub(crate) fn with(self, more: GateCounts) -> GateCounts
         ensures { result ≡ added_counts self more }
     {
-        RunCounts {
+        GateCounts {
             cases: self.cases.saturating_add(more.cases),
             retried: self.retried.saturating_add(more.retried),
             skipped: self.skipped.saturating_add(more.skipped),
@@ -408,26 +408,26 @@ impl RunCounts {
 }
 
 /// What is counted of a run that was audited; of one that isn't good nothing.
-fn run_counts_of(answer: &Result<AuditedRelease, Trouble>) -> RunCounts
+fn gate_counts_of(answer: &Result<AuditedRelease, Trouble>) -> GateCounts
     ensures { result ≡ counted_in answer.now }
 {
     let Ok(release) = answer else {
-        return RunCounts::none();
+        return GateCounts::none();
     };
     match release.audited.verdict {
-        Verdict::Good(counts) => RunCounts {
+        Verdict::Good(counts) => GateCounts {
             cases: counts.cases,
             retried: release.found.retried,
             skipped: release.found.skipped,
         },
-        Verdict::Bad { .. } | Verdict::Unsupported { .. } => RunCounts::none(),
+        Verdict::Bad { .. } | Verdict::Unsupported { .. } => GateCounts::none(),
     }
 }
 
 /// The report with the counts.
-fn with_run_counts(
+fn with_gate_counts(
     report: Result<Report, AllocError>,
-    counts: RunCounts,
+    counts: GateCounts,
 ) -> Result<JudgedRun, AllocError>
     ensures report { run_report result ≡ report_made report }
     ensures counts { IfOk result (λ run. run.counts ≡ counts) }

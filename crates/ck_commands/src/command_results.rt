@@ -11,8 +11,8 @@ ghost use Rattle.cm_envelope.specs.declared.feed.Trouble.TheVariants.{ReadFailed
 ghost use Rattle.cm_stream.specs.Results.{first_results_fault};
 ghost use Rattle.ck_commands.specs.declared.report.ExitStatus.TheVariants.{Done};
 
-use crate::report::{ExitStatus, Report, write_report};
-use crate::verdict_report::{reported_status, verdict_report};
+use crate::report::{ExitStatus, Report, reported_status, write_report};
+use crate::verdict_report::verdict_report;
 use cm_attempt::Track;
 use cm_audit::{Stop, TakeLines, take_lines, track};
 use cm_envelope::{ByteSink, ByteSource, Trouble, is_blank_line, read_envelope};

@@ -1,4 +1,4 @@
-//! The choice of a command by the words, and the commands over one stream or one feature file.
+//! The program with its words: which command they choose, and `audit`.
 ghost use Rattle.std.specs.Prelude.{◌≡◌, ◌≢◌, ◌∷◌, IfOk, List, codes, map, Ok};
 ghost use Rattle.cm_envelope.specs.Device.{OfInput, OfReads};
 ghost use Rattle.ck_command_line.specs.CommandLine.{Asked, Asks, AsksFeatures, AsksNothing, AsksRuns, Command, FeaturesGate, RunsGate};
@@ -14,8 +14,8 @@ ghost use Rattle.ck_commands.specs.declared.report.ExitStatus.TheVariants.{Done}
 
 use crate::command_cases::print_cases;
 use crate::command_feature::{print_compiled, print_feature};
-use crate::command_features::print_features;
-use crate::command_gate::{print_gate, print_runs};
+use crate::command_gate::{print_gate, print_gate_runs};
+use crate::command_gate_features::print_features;
 use crate::command_results::print_results;
 use crate::report::{ExitStatus, write_no_memory, write_report, write_text};
 use crate::verdict_report::verdict_report;
@@ -29,7 +29,7 @@ use std::hash::RandomState;
 use std::io::{Read, Write};
 
 /// The words with the program's name before them.
-fn with_name<'a>(alloc: Global, words: &[&'a str]) -> Result<Vec<&'a str>, AllocError>
+fn with_program_name<'a>(alloc: Global, words: &[&'a str]) -> Result<Vec<&'a str>, AllocError>
     ensures { IfOk result (λ all. map (λ w. w.now) all.items
         ≡ codes "cukecheck" ∷ map (λ w. w.now) words.now) }
 {
@@ -61,7 +61,7 @@ fn run_choice<F: Files, R: ByteSource, W: ByteSink>(
         }
         Choice::GateRuns(settings, conditions, runs) => {
             let runs = runs.as_slice();
-            print_runs(
+            print_gate_runs(
                 alloc,
                 seed,
                 settings,
@@ -132,7 +132,7 @@ pub fn run_with<F: Files, R: ByteSource, W: ByteSink>(
     ensures unread { result ≡ code_of ExitStatus.Done
         → (R.input source.new).failed_calls ≡ (R.input source.old).failed_calls }
 {
-    let Ok(all) = with_name(alloc, words) else {
+    let Ok(all) = with_program_name(alloc, words) else {
         return write_no_memory(sink);
     };
     match choose(alloc, all.as_slice()) {

@@ -19,8 +19,8 @@
 
 mod command_cases;
 mod command_feature;
-mod command_features;
 mod command_gate;
+mod command_gate_features;
 mod command_results;
 mod commands;
 mod laws;

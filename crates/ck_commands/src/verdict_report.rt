@@ -1,10 +1,5 @@
-//! The lines of a verdict on a stream, and how a name stands before lines.
-ghost use Rattle.std.specs.Prelude.{◌≡◌, IfOk, string_bytes, true, ◌++◌, [], OnOk};
-ghost use Rattle.std.specs.Prelude.{if◌then◌else◌};
-ghost use Rattle.ck_commands.specs.Statuses.{reported_word};
-ghost use Rattle.std.specs.Char.{encode_utf8};
-ghost use Rattle.std.specs.Str.{chars};
-ghost use Rattle.ck_commands.specs.Runs.{lines_after, name_front, named_text};
+//! The lines of a verdict on a stream.
+ghost use Rattle.std.specs.Prelude.{◌≡◌, IfOk, string_bytes};
 ghost use Rattle.cm_envelope.specs.Reading.{fault_named, field};
 ghost use Rattle.cm_stream.specs.Findings.{IsBad, IsUnsupported, stream_fault_named};
 ghost use Rattle.cm_stream.specs.Stream.{answer_of_audit};
@@ -12,70 +7,9 @@ ghost use Rattle.ck_commands.specs.Verdicts.{counts_text, fault_label, finding_t
 ghost use Rattle.ck_commands.specs.Verdicts.{unrun_count_text, verdict_report};
 
 use crate::report::{ExitStatus, Report, trouble_text};
-use cm_attempt::Status;
-use cm_cases::add_shown;
 use cm_envelope::{LineFault, Trouble};
-use cm_reasons::status_word;
 use cm_stream::{Audited, Counts, Reason, StreamFault, Verdict};
 use std::alloc::{AllocError, Global};
-
-/// The word of a status, as the Cucumber Messages have it, and `NONE` where there is none.
-pub(crate) fn reported_status(status: Option<Status>) -> &'static str
-    ensures { result.now ≡ reported_word status }
-{
-    match status {
-        Some(status) => status_word(status),
-        None => "NONE",
-    }
-}
-
-/// What stands before each line: the name, as it is shown within a line, and `: `.
-fn front_of(alloc: Global, name: &str) -> Result<String, AllocError>
-    ensures { IfOk result (λ front. string_bytes front ≡ name_front name.now) }
-{
-    let mut front = String::new(alloc);
-    add_shown(&mut front, name)?;
-    front.push_str(": ")?;
-    Ok(front)
-}
-
-/// Adds a character, after the front where it begins a line.
-fn add_named_char(text: &mut String, front: &str, begins: bool, c: char) -> Result<(), AllocError>
-    ensures { OnOk result (string_bytes text.new ≡ string_bytes text.old
-        ++ ((if begins then front.now else []) ++ encode_utf8 c)) }
-{
-    if begins {
-        text.push_str(front)?;
-    }
-    text.push(c)
-}
-
-/// Adds the lines, each after the front.
-fn add_named_lines(text: &mut String, front: &str, lines: &str) -> Result<(), AllocError>
-    ensures { OnOk result (string_bytes text.new ≡ string_bytes text.old
-        ++ lines_after front.now true (chars lines.now)) }
-{
-    let mut begins = true;
-    for c in lines.chars() {
-        add_named_char(text, front, begins, c)?;
-        begins = c == '\n';
-    }
-    Ok(())
-}
-
-/// Adds the lines, each after the name, as it is shown within a line, and `: `.
-pub(crate) fn add_named(
-    alloc: Global,
-    text: &mut String,
-    name: &str,
-    lines: &str,
-) -> Result<(), AllocError>
-    ensures { OnOk result (string_bytes text.new ≡ string_bytes text.old
-        ++ named_text name.now lines.now) }
-{
-    let front = front_of(alloc, name)?;
-    add_named_lines(text, front.as_str(), lines)
-}
 
 /// The label of a bad member, of this kind of envelope.
 fn fault_field_text(alloc: Global, kind: &str, member: &str) -> Result<String, AllocError>
@@ -86,7 +20,7 @@ fn fault_field_text(alloc: Global, kind: &str, member: &str) -> Result<String, A
 }
 
 /// The number and the name of what is wrong with a line, and for a bad member its kind of envelope and its name.
-fn fault_line_text(alloc: Global, fault: LineFault) -> Result<String, AllocError>
+fn verdict_fault_line(alloc: Global, fault: LineFault) -> Result<String, AllocError>
     ensures { IfOk result (λ text. string_bytes text ≡ line_label (fault_named fault)) }
 {
     match fault {
@@ -97,11 +31,11 @@ fn fault_line_text(alloc: Global, fault: LineFault) -> Result<String, AllocError
 }
 
 /// The number and the name of a fault.
-fn fault_text(alloc: Global, fault: StreamFault) -> Result<String, AllocError>
+fn verdict_fault_text(alloc: Global, fault: StreamFault) -> Result<String, AllocError>
     ensures { IfOk result (λ text. string_bytes text ≡ fault_label (stream_fault_named fault)) }
 {
     let label = match fault {
-        StreamFault::NoEnvelope(fault) => return fault_line_text(alloc, fault),
+        StreamFault::NoEnvelope(fault) => return verdict_fault_line(alloc, fault),
         StreamFault::DuplicateId => "4 DuplicateId",
         StreamFault::DuplicateUri => "5 DuplicateUri",
         StreamFault::UnknownReference => "6 UnknownReference",
@@ -128,7 +62,7 @@ fn fault_text(alloc: Global, fault: StreamFault) -> Result<String, AllocError>
 }
 
 /// The number and the name of why a stream isn't judged.
-fn reason_name(reason: Reason) -> &'static str
+fn verdict_reason_name(reason: Reason) -> &'static str
     ensures { result.now ≡ reason_label reason }
 {
     match reason {
@@ -182,7 +116,7 @@ fn bad_text(alloc: Global, line: u64, fault: StreamFault) -> Result<String, Allo
     ensures { IfOk result (λ text. string_bytes text
         ≡ finding_text line (IsBad (stream_fault_named fault))) }
 {
-    let label = fault_text(alloc, fault)?;
+    let label = verdict_fault_text(alloc, fault)?;
     let text = format!(in alloc; "bad line {line}: {label}\n")?;
     Ok(text)
 }
@@ -192,7 +126,7 @@ fn unsupported_text(alloc: Global, line: u64, reason: Reason) -> Result<String, 
     ensures { IfOk result
         (λ text. string_bytes text ≡ finding_text line (IsUnsupported reason)) }
 {
-    let label = reason_name(reason);
+    let label = verdict_reason_name(reason);
     let text = format!(in alloc; "unsupported line {line}: {label}\n")?;
     Ok(text)
 }

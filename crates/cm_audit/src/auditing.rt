@@ -1,5 +1,5 @@
 //! The audit of a stream: the loop over its lines, and who watches it.
-ghost use Rattle.std.specs.Prelude.{◌≡◌, ◌+◌, ◌++◌, ◌∷◌, [], List, Some, Ok, Err, IfSome, ◌≤◌, OnOk, IfOk, true, ⊤};
+ghost use Rattle.std.specs.Prelude.{◌≡◌, ◌+◌, ◌++◌, ◌∷◌, [], List, Ok, Err, IfSome, ◌≤◌, OnOk, IfOk, true, ⊤};
 ghost use Rattle.cm_envelope.specs.Device.{CountsFailure, OfInput, OfReads};
 ghost use Rattle.cm_envelope.specs.declared.envelope.Envelope.{Envelope as SomeEnvelope};
 ghost use Rattle.cm_envelope.specs.declared.feed.Trouble.TheVariants.{ReadFailed};
@@ -15,12 +15,21 @@ ghost use Rattle.cm_audit.specs.State.{Takes, summary_of};
 ghost use Rattle.cm_state.specs.Summary.{empty_summary};
 ghost use Rattle.cm_envelope.specs.Lines.{max_stream_bytes};
 ghost use Rattle.cm_audit.specs.Taking.{Taking, TakesStream, is_failed_taking};
+ghost use Rattle.std.specs.Prelude.{OnErr};
+ghost use Rattle.cm_stream.specs.CallFaults.{call_fault_of_envelope};
+ghost use Rattle.cm_stream.specs.Record.{table_after_envelope};
+ghost use Rattle.cm_audit.specs.Record.{AnswersRefusal};
 
-use crate::judge::{judge, judged_as};
+use crate::judge::{
+    add_case, finish_attempt, finish_step, judge, judged_as, start_attempt, start_step,
+};
 use crate::state::State;
 use crate::stop::Stop;
-use cm_attempt::{Policy, Settings};
-use cm_envelope::{ByteSource, Envelope, Feed, Trouble, is_blank_line, read_envelope};
+use cm_attempt::{Policy, Settings, Track, TrackFault};
+use cm_envelope::{
+    ByteSource, Envelope, Feed, TestCase, TestCaseFinished, TestCaseStarted, TestStepFinished,
+    TestStepStarted, Trouble, is_blank_line, read_envelope,
+};
 use cm_stream::{Audited, StreamFault, Verdict};
 use std::alloc::{AllocError, Global};
 use std::hash::RandomState;
@@ -422,5 +431,31 @@ pub(crate) fn audited_at(stop: Stop, line: u64) -> Result<Audited, Trouble>
         Stop::Bad(fault) => Ok(unsuccessful(Verdict::Bad { line, fault })),
         Stop::Unsupported(reason) => Ok(unsuccessful(Verdict::Unsupported { line, reason })),
         Stop::Memory => Err(Trouble::Memory),
+    }
+}
+
+/// Takes an envelope into the record of attempts: a test case, or the start or the end of an attempt or of one of its steps.
+/// An envelope of any other kind changes nothing.
+///
+/// # Errors
+/// Why the record refuses it, or `Memory`. The record is then as it was.
+pub fn track(alloc: Global, attempts: &mut Track, envelope: Envelope) -> Result<(), TrackFault>
+    ensures answer { AnswersRefusal envelope (call_fault_of_envelope attempts.old envelope) result }
+    ensures ok { OnOk result (attempts.new ≡ table_after_envelope attempts.old envelope) }
+    ensures err { OnErr result (attempts.new ≡ attempts.old) }
+{
+    match envelope {
+        Envelope::TestCase(case) => {
+            let TestCase { id, test_steps, .. } = case;
+            add_case(alloc, attempts, id, test_steps)
+        }
+        Envelope::TestCaseStarted(started) => start_attempt(attempts, &started),
+        Envelope::TestStepStarted(started) => start_step(attempts, &started),
+        Envelope::TestStepFinished(finished) => finish_step(attempts, &finished),
+        Envelope::TestCaseFinished(finished) => finish_attempt(attempts, &finished),
+        other => {
+            drop(other);
+            Ok(())
+        }
     }
 }

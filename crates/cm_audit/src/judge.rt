@@ -17,15 +17,22 @@ ghost use Rattle.cm_state.specs.ByOnePass.{plain_finding};
 ghost use Rattle.cm_audit.specs.Kept.{IsAcceptedAt, kept_rows};
 ghost use Rattle.cm_audit.specs.Stops.{StopsFor};
 ghost use Rattle.std.specs.String.{string_bytes};
+ghost use Rattle.std.specs.Prelude.{IsOk, OnErr};
+ghost use Rattle.cm_state.specs.Summary.{with_name};
+ghost use Rattle.cm_attempt.specs.Table.{add_case_fault, with_case};
+ghost use Rattle.indexmap.specs.IndexSet.{spare};
+ghost use Rattle.kept_texts.specs.Kept.{bytes_of};
+ghost use Rattle.cm_refs.specs.Due.{RefusesUnless};
+ghost use Rattle.cm_stream.specs.CallFaults.{call_fault_of_envelope};
+ghost use Rattle.cm_stream.specs.Record.{table_after_envelope};
+ghost use Rattle.cm_audit.specs.Record.{AnswersRefusal};
 
 use crate::kept_sources::{
     KeptSource, are_accepted, count_pickle, find_source, lack_some, read_source, set_ids,
 };
-use crate::state::{
-    State, add_case, add_name, finish_attempt, finish_step, start_attempt, start_step, track,
-};
+use crate::state::{Names, State};
 use crate::stop::Stop;
-use cm_attempt::{Policy, Settings, Status, worst_with};
+use cm_attempt::{Policy, Settings, Status, Track, TrackFault, worst_with};
 use cm_envelope::{
     Attachment, Envelope, GherkinDocument, Hook, NodeId, ParseError, Pickle, PickleStep, Source,
     StepDefinition, TestCase, TestCaseFinished, TestCaseStarted, TestRunFinished,
@@ -37,7 +44,7 @@ use cm_stream::{Reason, StreamFault, kept_status};
 use gk_document::{Sequence, Text};
 use indexmap::IndexSet;
 use kept_texts::KeptText;
-use std::alloc::{AllocError, Global};
+use std::alloc::{AllocError, AllocFailed, Global};
 use std::hash::RandomState;
 
 /// Judges an envelope of which no check comes after the end of the run, and takes it where it has no fault.
@@ -611,4 +618,105 @@ fn have_repeat(alloc: Global, seed: RandomState, texts: &[NodeId]) -> Result<boo
         }
     }
     Ok(false)
+}
+
+/// Adds the pickle that a case names, unless another case named it.
+pub(crate) fn add_name(named: &mut Names, pickle: String) -> Result<(), AllocFailed<KeptText>>
+    ensures named { OnOk result (map bytes_of named.new.keys
+        ≡ with_name (map bytes_of named.old.keys) (string_bytes pickle)) }
+    ensures room { 0 < spare named.old → IsOk result }
+{
+    named.insert(KeptText::from(pickle))?;
+    Ok(())
+}
+
+/// A test case is declared with its steps, in order.
+///
+/// # Errors
+/// Those of `Track::add_case`.
+pub(crate) fn add_case(
+    alloc: Global,
+    attempts: &mut Track,
+    id: Text,
+    steps: Sequence<TestStep>,
+) -> Result<(), TrackFault>
+    ensures answer { RefusesUnless
+        (add_case_fault attempts.old id (map (λ step. step.id) steps)) result TrackFault.Memory }
+    ensures ok { OnOk result (attempts.new
+        ≡ with_case id (map (λ step. step.id) steps) attempts.old) }
+    ensures err { OnErr result (attempts.new ≡ attempts.old) }
+{
+    let steps = step_ids(alloc, steps)?;
+    attempts.add_case(id.into_string(), steps)
+}
+
+/// An attempt starts.
+///
+/// # Errors
+/// Those of `Track::start`.
+pub(crate) fn start_attempt(
+    attempts: &mut Track,
+    started: &TestCaseStarted,
+) -> Result<(), TrackFault>
+    ensures answer { AnswersRefusal (Envelope.TestCaseStarted started.now)
+        (call_fault_of_envelope attempts.old (Envelope.TestCaseStarted started.now)) result }
+    ensures ok { OnOk result (attempts.new
+        ≡ table_after_envelope attempts.old (Envelope.TestCaseStarted started.now)) }
+    ensures err { OnErr result (attempts.new ≡ attempts.old) }
+{
+    let case = started.test_case_id.as_str();
+    attempts.start(started.id.as_str(), case, started.attempt)
+}
+
+/// A step of an attempt starts.
+///
+/// # Errors
+/// Those of `Track::step_started`.
+pub(crate) fn start_step(attempts: &mut Track, started: &TestStepStarted) -> Result<(), TrackFault>
+    ensures answer { AnswersRefusal (Envelope.TestStepStarted started.now)
+        (call_fault_of_envelope attempts.old (Envelope.TestStepStarted started.now)) result }
+    ensures ok { OnOk result (attempts.new
+        ≡ table_after_envelope attempts.old (Envelope.TestStepStarted started.now)) }
+    ensures err { OnErr result (attempts.new ≡ attempts.old) }
+{
+    let attempt = started.test_case_started_id.as_str();
+    attempts.step_started(attempt, started.test_step_id.as_str())
+}
+
+/// A step of an attempt finishes, and its status is kept.
+///
+/// # Errors
+/// Those of `Track::step_finished`.
+pub(crate) fn finish_step(
+    attempts: &mut Track,
+    finished: &TestStepFinished,
+) -> Result<(), TrackFault>
+    ensures answer { AnswersRefusal (Envelope.TestStepFinished finished.now)
+        (call_fault_of_envelope attempts.old (Envelope.TestStepFinished finished.now)) result }
+    ensures ok { OnOk result (attempts.new
+        ≡ table_after_envelope attempts.old (Envelope.TestStepFinished finished.now)) }
+    ensures err { OnErr result (attempts.new ≡ attempts.old) }
+{
+    let attempt = finished.test_case_started_id.as_str();
+    let step = finished.test_step_id.as_str();
+    let status = kept_status(finished.test_step_result.status);
+    attempts.step_finished(attempt, step, status)
+}
+
+/// An attempt finishes.
+///
+/// # Errors
+/// Those of `Track::finish`.
+pub(crate) fn finish_attempt(
+    attempts: &mut Track,
+    finished: &TestCaseFinished,
+) -> Result<(), TrackFault>
+    ensures answer { AnswersRefusal (Envelope.TestCaseFinished finished.now)
+        (call_fault_of_envelope attempts.old (Envelope.TestCaseFinished finished.now)) result }
+    ensures ok { OnOk result (attempts.new
+        ≡ table_after_envelope attempts.old (Envelope.TestCaseFinished finished.now)) }
+    ensures err { OnErr result (attempts.new ≡ attempts.old) }
+{
+    let attempt = finished.test_case_started_id.as_str();
+    attempts.finish(attempt, finished.will_be_retried)
 }

@@ -33,11 +33,11 @@ mod state;
 mod stop;
 
 pub use auditing::{
-    TakeLines, Watch, WatchedAudit, audit, audit_run, audit_watched, audit_with, take_lines,
+    TakeLines, Watch, WatchedAudit, audit, audit_run, audit_watched, audit_with, take_lines, track,
 };
 pub use cm_attempt::{Policy, Settings};
 pub use cm_stream::{Audited, Counts, Reason, StreamFault, Verdict};
 pub use due::DuePickles;
 pub use kept_sources::{AcceptedSource, KeptSource, Sources};
-pub use state::{State, track};
+pub use state::State;
 pub use stop::Stop;

@@ -1,31 +1,18 @@
 //! What an audit keeps of the lines so far.
-ghost use Rattle.std.specs.Prelude.{◌≡◌, option_map, OnOk, map, ◌<◌, IsOk, OnErr};
+ghost use Rattle.std.specs.Prelude.{◌≡◌, option_map};
 ghost use Rattle.cm_state.specs.StateChecks.{find_source};
-ghost use Rattle.cm_state.specs.Summary.{counts_in, empty_summary, with_name};
+ghost use Rattle.cm_state.specs.Summary.{counts_in, empty_summary};
 ghost use Rattle.cm_audit.specs.Kept.{kept_row, kept_rows};
-ghost use Rattle.cm_audit.specs.State.{summary_of, with_uris, Takes};
-ghost use Rattle.cm_attempt.specs.Table.{add_case_fault, with_case};
-ghost use Rattle.std.specs.String.{string_bytes};
-ghost use Rattle.indexmap.specs.IndexSet.{spare};
-ghost use Rattle.kept_texts.specs.Kept.{bytes_of};
-ghost use Rattle.cm_refs.specs.Due.{RefusesUnless};
-ghost use Rattle.cm_stream.specs.CallFaults.{call_fault_of_envelope};
-ghost use Rattle.cm_stream.specs.Record.{table_after_envelope};
-ghost use Rattle.cm_audit.specs.Record.{AnswersRefusal};
+ghost use Rattle.cm_audit.specs.State.{summary_of, with_uris};
 
-use crate::judge::step_ids;
 use crate::kept_sources::{KeptSource, Sources, find_source};
-use cm_attempt::{Status, Track, TrackFault};
-use cm_envelope::{
-    Envelope, TestCase, TestCaseFinished, TestCaseStarted, TestRunStarted, TestStep,
-    TestStepFinished, TestStepStarted,
-};
+use cm_attempt::{Status, Track};
+use cm_envelope::TestRunStarted;
 use cm_refs::Declared;
-use cm_stream::{Counts, kept_status};
-use gk_document::{Sequence, Text};
+use cm_stream::Counts;
 use indexmap::{IndexMap, IndexSet};
 use kept_texts::KeptText;
-use std::alloc::{AllocFailed, Global};
+use std::alloc::Global;
 use std::hash::RandomState;
 
 /// The ids of pickles that test cases name, each once.
@@ -134,132 +121,5 @@ impl State {
         drop(named);
         drop(run);
         track
-    }
-}
-
-/// Adds the pickle that a case names, unless another case named it.
-pub(crate) fn add_name(named: &mut Names, pickle: String) -> Result<(), AllocFailed<KeptText>>
-    ensures named { OnOk result (map bytes_of named.new.keys
-        ≡ with_name (map bytes_of named.old.keys) (string_bytes pickle)) }
-    ensures room { 0 < spare named.old → IsOk result }
-{
-    named.insert(KeptText::from(pickle))?;
-    Ok(())
-}
-
-/// A test case is declared with its steps, in order.
-///
-/// # Errors
-/// Those of `Track::add_case`.
-pub(crate) fn add_case(
-    alloc: Global,
-    attempts: &mut Track,
-    id: Text,
-    steps: Sequence<TestStep>,
-) -> Result<(), TrackFault>
-    ensures answer { RefusesUnless
-        (add_case_fault attempts.old id (map (λ step. step.id) steps)) result TrackFault.Memory }
-    ensures ok { OnOk result (attempts.new
-        ≡ with_case id (map (λ step. step.id) steps) attempts.old) }
-    ensures err { OnErr result (attempts.new ≡ attempts.old) }
-{
-    let steps = step_ids(alloc, steps)?;
-    attempts.add_case(id.into_string(), steps)
-}
-
-/// An attempt starts.
-///
-/// # Errors
-/// Those of `Track::start`.
-pub(crate) fn start_attempt(
-    attempts: &mut Track,
-    started: &TestCaseStarted,
-) -> Result<(), TrackFault>
-    ensures answer { AnswersRefusal (Envelope.TestCaseStarted started.now)
-        (call_fault_of_envelope attempts.old (Envelope.TestCaseStarted started.now)) result }
-    ensures ok { OnOk result (attempts.new
-        ≡ table_after_envelope attempts.old (Envelope.TestCaseStarted started.now)) }
-    ensures err { OnErr result (attempts.new ≡ attempts.old) }
-{
-    let case = started.test_case_id.as_str();
-    attempts.start(started.id.as_str(), case, started.attempt)
-}
-
-/// A step of an attempt starts.
-///
-/// # Errors
-/// Those of `Track::step_started`.
-pub(crate) fn start_step(attempts: &mut Track, started: &TestStepStarted) -> Result<(), TrackFault>
-    ensures answer { AnswersRefusal (Envelope.TestStepStarted started.now)
-        (call_fault_of_envelope attempts.old (Envelope.TestStepStarted started.now)) result }
-    ensures ok { OnOk result (attempts.new
-        ≡ table_after_envelope attempts.old (Envelope.TestStepStarted started.now)) }
-    ensures err { OnErr result (attempts.new ≡ attempts.old) }
-{
-    let attempt = started.test_case_started_id.as_str();
-    attempts.step_started(attempt, started.test_step_id.as_str())
-}
-
-/// A step of an attempt finishes, and its status is kept.
-///
-/// # Errors
-/// Those of `Track::step_finished`.
-pub(crate) fn finish_step(
-    attempts: &mut Track,
-    finished: &TestStepFinished,
-) -> Result<(), TrackFault>
-    ensures answer { AnswersRefusal (Envelope.TestStepFinished finished.now)
-        (call_fault_of_envelope attempts.old (Envelope.TestStepFinished finished.now)) result }
-    ensures ok { OnOk result (attempts.new
-        ≡ table_after_envelope attempts.old (Envelope.TestStepFinished finished.now)) }
-    ensures err { OnErr result (attempts.new ≡ attempts.old) }
-{
-    let attempt = finished.test_case_started_id.as_str();
-    let step = finished.test_step_id.as_str();
-    let status = kept_status(finished.test_step_result.status);
-    attempts.step_finished(attempt, step, status)
-}
-
-/// An attempt finishes.
-///
-/// # Errors
-/// Those of `Track::finish`.
-pub(crate) fn finish_attempt(
-    attempts: &mut Track,
-    finished: &TestCaseFinished,
-) -> Result<(), TrackFault>
-    ensures answer { AnswersRefusal (Envelope.TestCaseFinished finished.now)
-        (call_fault_of_envelope attempts.old (Envelope.TestCaseFinished finished.now)) result }
-    ensures ok { OnOk result (attempts.new
-        ≡ table_after_envelope attempts.old (Envelope.TestCaseFinished finished.now)) }
-    ensures err { OnErr result (attempts.new ≡ attempts.old) }
-{
-    let attempt = finished.test_case_started_id.as_str();
-    attempts.finish(attempt, finished.will_be_retried)
-}
-
-/// Takes an envelope into the record of attempts: a test case, or the start or the end of an attempt or of one of its steps.
-/// An envelope of any other kind changes nothing.
-///
-/// # Errors
-/// Why the record refuses it, or `Memory`. The record is then as it was.
-pub fn track(alloc: Global, attempts: &mut Track, envelope: Envelope) -> Result<(), TrackFault>
-    ensures answer { AnswersRefusal envelope (call_fault_of_envelope attempts.old envelope) result }
-    ensures ok { OnOk result (attempts.new ≡ table_after_envelope attempts.old envelope) }
-    ensures err { OnErr result (attempts.new ≡ attempts.old) }
-{
-    match envelope {
-        Envelope::TestCase(case) => {
-            let TestCase { id, test_steps, .. } = case;
-            add_case(alloc, attempts, id, test_steps)
-        }
-        Envelope::TestCaseStarted(started) => start_attempt(attempts, &started),
-        Envelope::TestStepStarted(started) => start_step(attempts, &started),
-        Envelope::TestStepFinished(finished) => finish_step(attempts, &finished),
-        Envelope::TestCaseFinished(finished) => finish_attempt(attempts, &finished),
-        other => {
-            drop(other);
-            Ok(())
-        }
     }
 }

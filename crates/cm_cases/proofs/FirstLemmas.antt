@@ -10,11 +10,11 @@ use Rattle.std.proofs.lemmas.Slice.Eq.{bytes_eq-Decides}
 use Rattle.indexmap.specs.IndexMap.{IndexMap}
 use Rattle.cm_stream.specs.Texts.{Utf8}
 use Rattle.cm_cases.specs.Firsts.{HasFirsts, entry_of, or_else, value_at}
-use Rattle.cm_cases.specs.declared.places.CaseEntry.{CaseEntry}
-use Rattle.cm_cases.specs.declared.places.DocumentEntry.{DocumentEntry}
-use Rattle.cm_cases.specs.declared.places.Listing.{Listing}
-use Rattle.cm_cases.specs.declared.places.PickleEntry.{PickleEntry}
-use Rattle.cm_cases.specs.declared.places.Place.{Place}
+use Rattle.cm_cases.specs.declared.listing.CaseEntry.{CaseEntry}
+use Rattle.cm_cases.specs.declared.listing.DocumentEntry.{DocumentEntry}
+use Rattle.cm_cases.specs.declared.listing.Listing.{Listing}
+use Rattle.cm_cases.specs.declared.listing.PickleEntry.{PickleEntry}
+use Rattle.cm_cases.specs.declared.listing.Place.{Place}
 
 or_none : {V : Type 0} (o : Option V) → or_else o None ≡ o
 or_none None = refl

@@ -24,8 +24,8 @@ use Rattle.cm_cases.specs.Firsts.{count_at, entry_of, entry_values, times_in, un
 use Rattle.cm_cases.specs.JsonLines.{CaseValues, case_data, case_json, json_line, unrun_json, values_of}
 use Rattle.cm_cases.specs.Listed.{listing_of, pickle_entry}
 use Rattle.cm_cases.specs.Places.{pickle_of}
-use Rattle.cm_cases.specs.declared.places.Listing.{Listing}
-use Rattle.cm_cases.specs.declared.places.PickleEntry.{PickleEntry}
+use Rattle.cm_cases.specs.declared.listing.Listing.{Listing}
+use Rattle.cm_cases.specs.declared.listing.PickleEntry.{PickleEntry}
 use Rattle.cm_cases.proofs.PlaceLemmas.{entry_listed, filter_step, same_line, same_named}
 
 -- ---- what is written

@@ -12,10 +12,10 @@ use Rattle.cm_envelope.specs.declared.pickle.Pickle.{Pickle}
 use Rattle.cm_stream.specs.References.{as_case, as_document, as_pickle, as_start, cases, pickles}
 use Rattle.cm_stream.proofs.Lists.{found_more, found_push, map_twice}
 use Rattle.cm_cases.specs.Listed.{case_entry, document_entry, id_and_uri, listing_of, pickle_entry}
-use Rattle.cm_cases.specs.declared.places.CaseEntry.{CaseEntry}
-use Rattle.cm_cases.specs.declared.places.DocumentEntry.{DocumentEntry}
-use Rattle.cm_cases.specs.declared.places.Listing.{Listing}
-use Rattle.cm_cases.specs.declared.places.PickleEntry.{PickleEntry}
+use Rattle.cm_cases.specs.declared.listing.CaseEntry.{CaseEntry}
+use Rattle.cm_cases.specs.declared.listing.DocumentEntry.{DocumentEntry}
+use Rattle.cm_cases.specs.declared.listing.Listing.{Listing}
+use Rattle.cm_cases.specs.declared.listing.PickleEntry.{PickleEntry}
 use Rattle.cm_stream.specs.Texts.{Utf8}
 
 pub on_ok : {A E P Q : Type 0} (r : Result A E) → OnOk r P → (P → Q) → OnOk r Q

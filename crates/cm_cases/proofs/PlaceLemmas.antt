@@ -16,11 +16,11 @@ use Rattle.cm_cases.specs.Firsts as listed
 use Rattle.cm_cases.specs.Firsts.{entry_of, entry_scenario, entry_text, line_at_in, line_in, scenario_in, unrun_entries_text}
 use Rattle.cm_cases.specs.Listed.{case_entry, document_entry, listing_of, pickle_entry}
 use Rattle.cm_cases.specs.Places.{case_place, case_scenario, line_at, line_of, pickle_of, pickle_scenario, place_text, places_at, places_of, scenario_at, scenario_text, unrun_lines}
-use Rattle.cm_cases.specs.declared.places.CaseEntry.{CaseEntry}
-use Rattle.cm_cases.specs.declared.places.DocumentEntry.{DocumentEntry}
-use Rattle.cm_cases.specs.declared.places.Listing.{Listing}
-use Rattle.cm_cases.specs.declared.places.PickleEntry.{PickleEntry}
-use Rattle.cm_cases.specs.declared.places.Place.{Place}
+use Rattle.cm_cases.specs.declared.listing.CaseEntry.{CaseEntry}
+use Rattle.cm_cases.specs.declared.listing.DocumentEntry.{DocumentEntry}
+use Rattle.cm_cases.specs.declared.listing.Listing.{Listing}
+use Rattle.cm_cases.specs.declared.listing.PickleEntry.{PickleEntry}
+use Rattle.cm_cases.specs.declared.listing.Place.{Place}
 
 find_map : {X Y : Type 0} (p : Y → Bool) (f : X → Y) (xs : List X) → find p (map f xs) ≡ option_map f (find (λ x. p (f x)) xs)
 find_map p f [] = refl

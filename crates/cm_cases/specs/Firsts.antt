@@ -12,8 +12,8 @@ use Rattle.cm_stream.specs.Texts.{Utf8}
 use Rattle.cm_cases.specs.JsonLines.{CaseValues, json_line}
 use Rattle.cm_cases.specs.Shown.{shown_text}
 use Rattle.cm_cases.specs.declared.json_lines.CaseJson.{CaseJson}
-use Rattle.cm_cases.specs.declared.places.Listing.{Listing}
-use Rattle.cm_cases.specs.declared.places.PickleEntry.{PickleEntry}
+use Rattle.cm_cases.specs.declared.listing.Listing.{Listing}
+use Rattle.cm_cases.specs.declared.listing.PickleEntry.{PickleEntry}
 
 -- ---- a map by texts
 

@@ -9,10 +9,10 @@ use Rattle.cm_envelope.specs.declared.pickle.Pickle.{Pickle}
 use Rattle.cm_stream.specs.References.{as_document, cases, pickles, starts}
 use Rattle.cm_stream.specs.Texts.{Utf8}
 use Rattle.cm_cases.specs.Places.{last_node, places_of}
-use Rattle.cm_cases.specs.declared.places.CaseEntry.{CaseEntry}
-use Rattle.cm_cases.specs.declared.places.DocumentEntry.{DocumentEntry}
-use Rattle.cm_cases.specs.declared.places.Listing.{Listing}
-use Rattle.cm_cases.specs.declared.places.PickleEntry.{PickleEntry}
+use Rattle.cm_cases.specs.declared.listing.CaseEntry.{CaseEntry}
+use Rattle.cm_cases.specs.declared.listing.DocumentEntry.{DocumentEntry}
+use Rattle.cm_cases.specs.declared.listing.Listing.{Listing}
+use Rattle.cm_cases.specs.declared.listing.PickleEntry.{PickleEntry}
 
 abbrev pub case_entry : TestCase → CaseEntry
 case_entry c = record { id = c.id; pickle_id = c.pickle_id }

@@ -17,7 +17,7 @@ use Rattle.cm_stream.specs.References.{as_document, find_case, find_pickle, if_a
 use Rattle.cm_stream.specs.Release.{is_named}
 use Rattle.cm_stream.specs.Texts.{Utf8}
 use Rattle.cm_cases.specs.Shown.{shown_text}
-use Rattle.cm_cases.specs.declared.places.Place.{Place}
+use Rattle.cm_cases.specs.declared.listing.Place.{Place}
 
 -- the scenarios of a document, with those of its rules
 abbrev pub scenarios_of : Document → List Scenario

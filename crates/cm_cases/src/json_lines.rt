@@ -1,5 +1,5 @@
 //! The lines of cases and pickles as JSON.
-ghost use Rattle.std.specs.Prelude.{◌≡◌, ◌+◌, ◌<◌, ◌++◌, ℕ, List, IfOk, OnOk, codes, option_map, string_bytes};
+ghost use Rattle.std.specs.Prelude.{◌≡◌, ◌++◌, ℕ, List, IfOk, OnOk, codes, string_bytes};
 ghost use Rattle.serde_json.specs.Data.{number, string, unsigned};
 ghost use Rattle.serde_json.specs.Written.{compact_text};
 ghost use Rattle.cm_envelope.specs.declared.envelope.Envelope.{Envelope};
@@ -8,7 +8,8 @@ ghost use Rattle.cm_cases.specs.Firsts.{count_at, entry_values, times_in, values
 ghost use Rattle.cm_cases.specs.JsonLines.{case_data, case_json, json_line, unrun_json};
 ghost use Rattle.cm_cases.specs.Listed.{listing_of};
 
-use crate::places::{ByText, Listing, PickleEntry, Places, both, count_of, counts_of};
+use crate::listing::{Listing, PickleEntry};
+use crate::places::{ByText, Places, both, count_of, counts_of};
 use crate::shown::add_shown_json;
 use cm_messages::{SendJson, json_text, send_list_member, send_number, send_str, send_text};
 use gk_document::Text;
@@ -99,7 +100,7 @@ pub struct JsonLines<'a> {
 impl<'a> Model for JsonLines<'a> {
     ghost use Rattle.std.specs.Prelude.{◌≡◌, ℕ, List};
     ghost use Rattle.cm_cases.specs.Firsts.{count_at, times_in};
-    ghost use Rattle.cm_cases.specs.declared.places.Listing.{Listing as SomeListing};
+    ghost use Rattle.cm_cases.specs.declared.listing.Listing.{Listing as SomeListing};
 
     ghost Value = { SomeListing };
 

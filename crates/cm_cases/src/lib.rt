@@ -29,12 +29,11 @@
 #![tactic(auto)]
 
 mod json_lines;
+mod listing;
 mod places;
 mod shown;
 
 pub use json_lines::JsonLines;
-pub use places::{
-    ByText, CaseId, CasePickle, Key, Listing, PickleId, Places, Whole, add_first, firsts_of,
-    tag_names,
-};
+pub use listing::{Listing, tag_names};
+pub use places::{ByText, CaseId, CasePickle, Key, PickleId, Places, Whole, add_first, firsts_of};
 pub use shown::{add_shown, add_shown_json};

@@ -32,7 +32,7 @@ impl SendJson<MessageLayout> for Location {
 }
 
 /// A cell of a row on this line.
-fn send_cell<S: Serializer>(cell: &Cell, line: u32, out: &mut S) -> Result<(), S::Error>
+fn send_document_cell<S: Serializer>(cell: &Cell, line: u32, out: &mut S) -> Result<(), S::Error>
     ensures { OnOk result (SendsValue (cell_data line cell.now)
         (S.written out.old) (S.written out.new)) }
 {
@@ -45,29 +45,37 @@ fn send_cell<S: Serializer>(cell: &Cell, line: u32, out: &mut S) -> Result<(), S
 }
 
 /// The cells of a row on this line, one after the other.
-fn send_cells<S: Serializer>(cells: &[Cell], line: u32, out: &mut S) -> Result<(), S::Error>
+fn send_document_cells<S: Serializer>(
+    cells: &[Cell],
+    line: u32,
+    out: &mut S,
+) -> Result<(), S::Error>
     ensures { OnOk result (WritesEach SendsValue (map (cell_data line) cells.now)
         (S.written out.old) (S.written out.new)) }
 {
     'cells: for cell in cells {
-        send_cell(cell, line, out)?;
+        send_document_cell(cell, line, out)?;
     }
     Ok(())
 }
 
 /// The cells of a row on this line, as an array.
-fn send_cells_list<S: Serializer>(cells: &[Cell], line: u32, out: &mut S) -> Result<(), S::Error>
+fn send_document_cells_list<S: Serializer>(
+    cells: &[Cell],
+    line: u32,
+    out: &mut S,
+) -> Result<(), S::Error>
     ensures { OnOk result (SendsValue (list_data (cell_data line) cells.now)
         (S.written out.old) (S.written out.new)) }
 {
     let count = cells.len();
     out.begin_seq(Some(count))?;
-    send_cells(cells, line, out)?;
+    send_document_cells(cells, line, out)?;
     out.end_seq()
 }
 
 /// The member `cells` of a row on this line.
-fn send_cells_member<S: Serializer>(
+fn send_document_cells_member<S: Serializer>(
     cells: &Sequence<Cell>,
     line: u32,
     out: &mut S,
@@ -76,7 +84,7 @@ fn send_cells_member<S: Serializer>(
         (S.written out.old) (S.written out.new)) }
 {
     out.key("cells")?;
-    send_cells_list(cells.as_slice(), line, out)
+    send_document_cells_list(cells.as_slice(), line, out)
 }
 
 impl SendJson<MessageLayout> for Row {
@@ -84,7 +92,7 @@ impl SendJson<MessageLayout> for Row {
 
     fn send<S: Serializer>(&self, out: &mut S) -> Result<(), S::Error> {
         out.begin_map(Some(3))?;
-        send_cells_member(&self.cells, self.location.line, out)?;
+        send_document_cells_member(&self.cells, self.location.line, out)?;
         send_member("id", &self.node, out)?;
         send_member("location", &self.location, out)?;
         out.end_map()

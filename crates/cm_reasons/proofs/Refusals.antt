@@ -18,7 +18,7 @@ use Rattle.cm_reasons.specs.Run.{source_entry}
 use Rattle.cm_reasons.specs.RunKept.{AreEntryLines, IsRefusalOf, fault_line, refused_source_line}
 use Rattle.cm_reasons.specs.RunReasons.{AreRefusedLines}
 use Rattle.cm_reasons.specs.declared.refused.RefusedSource.{RefusedSource}
-use Rattle.cm_reasons.specs.declared.trail.SourceEntry.{SourceEntry}
+use Rattle.cm_reasons.specs.declared.run_listing.SourceEntry.{SourceEntry}
 
 -- ---- what the parser answers of a text
 

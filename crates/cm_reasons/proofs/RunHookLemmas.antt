@@ -17,9 +17,9 @@ use Rattle.cm_stream.specs.Texts.{Utf8}
 use Rattle.cm_reasons.specs.Run.{run_hook_end, run_hook_entry, run_listing_of}
 use Rattle.cm_reasons.specs.RunKept.{bad_end_in, bad_entry_lines, entry_line, is_finished_in, open_entries}
 use Rattle.cm_reasons.specs.RunReasons.{bad_end, bad_hook_line, hook_causes, open_hook_lines, run_hook_line, run_hook_lines}
-use Rattle.cm_reasons.specs.declared.trail.RunHookEnd.{RunHookEnd}
-use Rattle.cm_reasons.specs.declared.trail.RunHookEntry.{RunHookEntry}
-use Rattle.cm_reasons.specs.declared.trail.RunListing.{RunListing}
+use Rattle.cm_reasons.specs.declared.run_listing.RunHookEnd.{RunHookEnd}
+use Rattle.cm_reasons.specs.declared.run_listing.RunHookEntry.{RunHookEntry}
+use Rattle.cm_reasons.specs.declared.run_listing.RunListing.{RunListing}
 
 -- ---- what is kept of a list
 

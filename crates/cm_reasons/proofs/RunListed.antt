@@ -11,10 +11,10 @@ use Rattle.cm_stream.specs.References.{as_run_hook, as_run_hook_end, as_source, 
 use Rattle.cm_stream.specs.Texts.{Utf8}
 use Rattle.cm_stream.proofs.Lists.{found_more, found_push, map_twice}
 use Rattle.cm_reasons.specs.Run.{run_hook_end, run_hook_entry, run_listing_of, source_entry, uri_and_text}
-use Rattle.cm_reasons.specs.declared.trail.RunHookEnd.{RunHookEnd}
-use Rattle.cm_reasons.specs.declared.trail.RunHookEntry.{RunHookEntry}
-use Rattle.cm_reasons.specs.declared.trail.RunListing.{RunListing}
-use Rattle.cm_reasons.specs.declared.trail.SourceEntry.{SourceEntry}
+use Rattle.cm_reasons.specs.declared.run_listing.RunHookEnd.{RunHookEnd}
+use Rattle.cm_reasons.specs.declared.run_listing.RunHookEntry.{RunHookEntry}
+use Rattle.cm_reasons.specs.declared.run_listing.RunListing.{RunListing}
+use Rattle.cm_reasons.specs.declared.run_listing.SourceEntry.{SourceEntry}
 
 one_noted : {X Y : Type 0} (h : Envelope → Option X) (f : X → Y) (es : List Envelope) (e : Envelope) (x : X) → h e ≡ Some x → map f (filter_map h es) ++ f x ∷ [] ≡ map f (filter_map h (es ++ e ∷ []))
 one_noted h f es e x is = sym (ap (map f) (found_push h es e x is) ∙ map-append f (filter_map h es) (x ∷ []))

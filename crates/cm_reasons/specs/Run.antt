@@ -7,10 +7,10 @@ use Rattle.cm_envelope.specs.declared.envelope.TestRunHookStarted.{TestRunHookSt
 use Rattle.cm_stream.specs.References.{run_hook_ends, run_hooks, sources}
 use Rattle.cm_stream.specs.Statuses.{kept_status}
 use Rattle.cm_stream.specs.Texts.{Utf8}
-use Rattle.cm_reasons.specs.declared.trail.RunHookEnd.{RunHookEnd}
-use Rattle.cm_reasons.specs.declared.trail.RunHookEntry.{RunHookEntry}
-use Rattle.cm_reasons.specs.declared.trail.RunListing.{RunListing}
-use Rattle.cm_reasons.specs.declared.trail.SourceEntry.{SourceEntry}
+use Rattle.cm_reasons.specs.declared.run_listing.RunHookEnd.{RunHookEnd}
+use Rattle.cm_reasons.specs.declared.run_listing.RunHookEntry.{RunHookEntry}
+use Rattle.cm_reasons.specs.declared.run_listing.RunListing.{RunListing}
+use Rattle.cm_reasons.specs.declared.run_listing.SourceEntry.{SourceEntry}
 
 abbrev pub source_entry : Source → SourceEntry
 source_entry s = record { uri = s.uri; content = s.content }

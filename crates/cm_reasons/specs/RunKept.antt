@@ -13,10 +13,10 @@ use Rattle.gk_tree.specs.declared.fault.ParseFault.{ParseFault}
 use Rattle.cm_reasons.specs.RunReasons.{bad_hook_line, refused_line}
 use Rattle.cm_reasons.specs.declared.refused.RefusedSource.{RefusedSource}
 use Rattle.cm_reasons.specs.declared.run_hooks.BadHook.{BadHook}
-use Rattle.cm_reasons.specs.declared.trail.RunHookEnd.{RunHookEnd}
-use Rattle.cm_reasons.specs.declared.trail.RunHookEntry.{RunHookEntry}
-use Rattle.cm_reasons.specs.declared.trail.RunListing.{RunListing}
-use Rattle.cm_reasons.specs.declared.trail.SourceEntry.{SourceEntry}
+use Rattle.cm_reasons.specs.declared.run_listing.RunHookEnd.{RunHookEnd}
+use Rattle.cm_reasons.specs.declared.run_listing.RunHookEntry.{RunHookEntry}
+use Rattle.cm_reasons.specs.declared.run_listing.RunListing.{RunListing}
+use Rattle.cm_reasons.specs.declared.run_listing.SourceEntry.{SourceEntry}
 use Rattle.cm_steps.specs.Steps.{hook_text}
 
 -- ---- sources

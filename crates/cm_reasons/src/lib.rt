@@ -31,6 +31,7 @@ mod laws;
 mod reasons;
 mod refused;
 mod run_hooks;
+mod run_listing;
 mod trail;
 
 pub use laws::{
@@ -42,4 +43,5 @@ pub use reasons::{
 };
 pub use refused::{add_refused, add_refused_of};
 pub use run_hooks::{add_hook_causes, add_open_hooks, add_run_hook};
-pub use trail::{RunListing, Trail};
+pub use run_listing::RunListing;
+pub use trail::Trail;

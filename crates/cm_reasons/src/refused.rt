@@ -10,7 +10,8 @@ ghost use Rattle.cm_reasons.specs.RunKept.{fault_line, refused_source_line};
 ghost use Rattle.cm_reasons.specs.RunReasons.{AreRefusedLines, first_source};
 
 use crate::reasons::{AddLine, add_limited, kind_label};
-use crate::trail::{SourceEntry, Trail};
+use crate::run_listing::SourceEntry;
+use crate::trail::Trail;
 use cm_cases::add_shown;
 use gk_grammar::FaultKind;
 use gk_tree::{ParseFault, parse};

@@ -10,7 +10,8 @@ ghost use Rattle.cm_reasons.specs.RunReasons.{hook_causes, open_hook_lines, run_
 ghost use Rattle.cm_reasons.specs.Words.{status_word};
 
 use crate::reasons::{AddLine, add_limited, status_word};
-use crate::trail::{RunHookEnd, RunHookEntry, RunListing, Trail};
+use crate::run_listing::{RunHookEnd, RunHookEntry, RunListing};
+use crate::trail::Trail;
 use cm_attempt::{Policy, Status};
 use cm_cases::{ByText, Key, add_first, add_shown, firsts_of};
 use indexmap::IndexMap;

@@ -20,7 +20,7 @@ use Rattle.cm_release.specs.Judged.{AreLinesIn, IsJudged}
 use Rattle.cm_release.specs.Kept.{kept_of}
 use Rattle.cm_release.specs.Reasons.{AreReasons}
 use Rattle.cm_release.specs.Tallied.{IsTallyOf}
-use Rattle.cm_release.specs.declared.found.Found.{Found}
+use Rattle.cm_release.specs.declared.counts.Found.{Found}
 use Rattle.cm_release.specs.declared.tally.Kept.{Kept}
 use Rattle.cm_release.specs.declared.tally.Tally.{Tally}
 use Rattle.cm_release.proofs.WholeLemmas.{counts_same, missed_same, retried_same, skipped_same, stepless_same, undefined_same}

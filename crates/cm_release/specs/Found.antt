@@ -4,7 +4,7 @@ use Rattle.cm_attempt.specs.declared.status.Policy.{Policy}
 use Rattle.cm_stream.specs.Release.{Conditions}
 use Rattle.cm_reasons.specs.Reasons.{step_ids}
 use Rattle.cm_release.specs.Counts.{is_undefined_in, missed_in, retried_in, skipped_in, stepless_in, texts_of, undefined_steps_in}
-use Rattle.cm_release.specs.declared.found.Found.{Found}
+use Rattle.cm_release.specs.declared.counts.Found.{Found}
 use Rattle.cm_release.specs.declared.tally.Kept.{Kept}
 
 -- it is what was kept that has it

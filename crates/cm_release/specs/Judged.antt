@@ -18,7 +18,7 @@ use Rattle.cm_stream.specs.declared.laws.Hold.{Hold}
 use Rattle.cm_stream.specs.declared.laws.Hold.TheVariants as hold
 use Rattle.cm_release.specs.Counts.{texts_of}
 use Rattle.cm_release.specs.Reasons.{AreReasons}
-use Rattle.cm_release.specs.declared.found.Found.{Found}
+use Rattle.cm_release.specs.declared.counts.Found.{Found}
 
 -- of a stream that isn't good
 abbrev pub nothing_counted : ReleaseCounts

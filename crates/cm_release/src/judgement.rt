@@ -10,7 +10,7 @@ ghost use Rattle.cm_causes.specs.Causes.{IsCauses};
 ghost use Rattle.cm_release.specs.Judged.{AreReasonsIn, IsJudged, nothing_counted};
 ghost use Rattle.cm_release.specs.Tallied.{IsTallyOf};
 
-use crate::found::Found;
+use crate::counts::Found;
 use crate::tally::Tally;
 use cm_attempt::{Policy, Settings, Track};
 use cm_causes::add_causes;

@@ -35,7 +35,7 @@
 //! stream is what `cm_stream` says of its envelopes for a release.
 #![tactic(auto)]
 
-mod found;
+mod counts;
 mod judgement;
 mod tally;
 

@@ -41,7 +41,7 @@ use Rattle.cm_stream.proofs.OneRow.{OnlyOne, one_case, only_here}
 use Rattle.cm_stream.proofs.Passing.{AllPass, plain_passes}
 use Rattle.cm_stream.proofs.Parts.{texts_are}
 use Rattle.cm_cases.specs.Places.{example_rows, last_node, pickle_of, place, places_at, places_of, rows_of, scenario_places, scenario_text, scenarios_of}
-use Rattle.cm_cases.specs.declared.places.Place.{Place}
+use Rattle.cm_cases.specs.declared.listing.Place.{Place}
 use Rattle.cm_shown_laws.specs.Scenarios.{HasPlace, HasScenario, ScenariosAreFound}
 use Rattle.cm_shown_laws.proofs.Numbered.{IsCounted}
 use Rattle.cm_shown_laws.proofs.Spots.{Spot, from_range, row_spot, same_spots, scenario_spots, spots_in, spots_of}

@@ -10,7 +10,7 @@ use Rattle.cm_stream.specs.References.{cases, pickles}
 use Rattle.cm_stream.specs.Stream.{IsGoodRun}
 use Rattle.cm_stream.specs.declared.laws.Counts.{Counts}
 use Rattle.cm_cases.specs.Places.{case_scenario, last_node, line_of, pickle_of, places_at, scenario_text}
-use Rattle.cm_cases.specs.declared.places.Place.{Place}
+use Rattle.cm_cases.specs.declared.listing.Place.{Place}
 
 -- The pickle has its place: its last node is the id of a scenario or of a row of examples of the document of its uri, and the
 -- line that is shown is that node's.

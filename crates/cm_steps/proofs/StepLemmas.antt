@@ -15,7 +15,7 @@ use Rattle.cm_stream.specs.References.{as_document, cases, pickles}
 use Rattle.cm_stream.specs.Texts.{Utf8}
 use Rattle.cm_stream.proofs.Lists.{find_map}
 use Rattle.cm_cases.specs.Shown.{shown_text}
-use Rattle.cm_cases.specs.declared.places.Place.{Place}
+use Rattle.cm_cases.specs.declared.listing.Place.{Place}
 use Rattle.cm_steps.specs.Entries.{step_entry_text, step_entry_text_of, find_line, find_step, line_in, line_of_row, step_of_row, told_entry, told_in}
 use Rattle.cm_steps.specs.Kept.{document_row, pickle_row, place_texts, plan_row, source_id, source_kind, step_listing_of}
 use Rattle.cm_steps.specs.Steps.{own_node, pickle_step_text, step_line, step_places, step_text_in, step_text_of, told_case_step, told_step, told_step_in, told_test_step}

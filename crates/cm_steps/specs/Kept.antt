@@ -11,7 +11,7 @@ use Rattle.cm_envelope.specs.declared.pickle.Pickle.{Pickle}
 use Rattle.cm_envelope.specs.declared.pickle.PickleStep.{PickleStep}
 use Rattle.cm_stream.specs.References.{as_document, cases, pickles, starts}
 use Rattle.cm_stream.specs.Texts.{Utf8}
-use Rattle.cm_cases.specs.declared.places.Place.{Place}
+use Rattle.cm_cases.specs.declared.listing.Place.{Place}
 use Rattle.cm_steps.specs.Attempts.{finish_status, finishes, is_quiet, step_finishes}
 use Rattle.cm_steps.specs.Steps.{own_node, step_places}
 use Rattle.cm_steps.specs.declared.listing.FinishEntry.{FinishEntry}

@@ -18,7 +18,7 @@ use Rattle.cm_stream.specs.References.{as_document, find_case, find_pickle}
 use Rattle.cm_stream.specs.Texts.{Utf8}
 use Rattle.cm_cases.specs.Places.{place}
 use Rattle.cm_cases.specs.Shown.{shown_text}
-use Rattle.cm_cases.specs.declared.places.Place.{Place}
+use Rattle.cm_cases.specs.declared.listing.Place.{Place}
 
 -- ---- where steps stand
 

@@ -1,6 +1,6 @@
 //! The tree of a list of blocks, and the texts and tables that their lines make.
-ghost use Rattle.std.specs.Prelude.{◌≡◌, ◌∷◌, map, reverse, IfOk, OnOk, ◌≤◌, ◌<◌, ◌+◌, ◌^◌, None, Ok, [], if◌then◌else◌, ◌++◌};
-ghost use Rattle.std.specs.Prelude.{Some, length};
+ghost use Rattle.std.specs.Prelude.{◌≡◌, ◌∷◌, map, reverse, IfOk, OnOk, ◌≤◌, ◌<◌, ◌+◌, ◌^◌, Ok, [], if◌then◌else◌, ◌++◌};
+ghost use Rattle.std.specs.Prelude.{length};
 ghost use Rattle.gk_line.specs.declared.tokens.Block.TheVariants as block;
 ghost use Rattle.gk_grammar.specs.Assembly as assembly;
 ghost use Rattle.gk_grammar.specs.Assembly.{no_parts, with_block, feature_at, rule_at, scenario_at, examples_at, steps_of, rows_of};
@@ -16,18 +16,25 @@ ghost use Rattle.std.specs.String.{string_bytes};
 ghost use Rattle.std.specs.List.{join_with_byte};
 ghost use Rattle.gk_line.specs.Characters.{line_feed};
 ghost use Rattle.gk_document.specs.MediaType.{unless_empty};
-ghost use Rattle.gk_grammar.specs.declared.fault.FaultKind.TheVariants as kind;
-ghost use Rattle.gk_grammar.specs.Grammar as grammar;
+ghost use Rattle.gk_tree.specs.Views.{line_at};
+ghost use Rattle.gk_tree.specs.Rows.{rows_with, row_after};
+ghost use Rattle.std.specs.Prelude.{codes, IsTrue};
+ghost use Rattle.gk_line.specs.declared.limit.TheConstants.{FEATURE_LIMIT};
+ghost use Rattle.gk_line.specs.Tokens.{begins_by};
+ghost use Rattle.gk_grammar.specs.Token.{step_token as stepped};
+ghost use Rattle.gk_grammar.specs.Token.{cell};
+ghost use Rattle.gk_line.specs.Cells.{cells_of};
 
-use crate::fault::ParseFault;
-use crate::line_tokens::tag_name;
-use crate::parser::{BlockWithSteps, Body, FlatBlock, OpenDocString, Phase, Progress};
-use crate::token::{IndentedLine, location};
+use crate::fault::{ParseFault, fault};
+use crate::line_tokens::{row_at, tag_name};
+use crate::parser::{BlockWithSteps, Body, FlatBlock, OpenDocString, Phase, Progress, close_block};
+use crate::token::{IndentedLine, TagLine, Token};
 use gk_document::{
-    Background, Cell, DocString, ExampleTable, Examples, Feature, Fence, Location, Row, Rule,
-    Scenario, Sequence, Step, Tag, Text, media_type,
+    Argument, Background, Cell, DocString, ExampleTable, Examples, Feature, Fence, Location, Row,
+    Rule, Scenario, Sequence, Step, Tag, Text, media_type,
 };
-use gk_line::{Block, StepLine, TagText, push_doc_line};
+use gk_grammar::FaultKind;
+use gk_line::{Block, Line, TagText, cells, fence, language, lines, push_doc_line, tags};
 use std::alloc::{AllocError, Global};
 use std::mem::replace;
 
@@ -425,44 +432,85 @@ pub(crate) fn doc_string(
     })
 }
 
-/// The row that the line is.
-pub(crate) fn row_at(node: u64, at: IndentedLine<'_>, cells: Sequence<Cell>) -> Row
-    ensures { result ≡ record {
-      node = node;
-      location = grammar.at at.entry.line.number
-          (at.entry.indent + 1);
-      cells = cells;
-    } }
+/// A line after a whole block with steps, which isn't part of it.
+pub(crate) fn close_stepped_block<'a>(
+    alloc: Global,
+    progress: &mut Progress,
+    stepped: Box<BlockWithSteps>,
+    at: IndentedLine<'a>,
+    token: Token<'a>,
+) -> Result<Phase<'a>, ParseFault>
+    requires room { progress.old.nodes < 2 ^ 63 }
+    ensures { Gives (state_in progress.new) result (machine.close_block (state_so_far progress.old)
+        (machine.with_steps (flat_block_of stepped.value.flat_block)
+        (stepped.value.before ++ stepped.value.last ∷ [])) (line_at at.entry token.entry)) }
 {
-    Row {
-        node,
-        location: location(at),
-        cells,
+    let flat_block = with_steps(stepped)?;
+    close_block(alloc, progress, flat_block, at, token)
+}
+
+/// A tag line after these tags.
+pub(crate) fn add_tags<'a>(
+    alloc: Global,
+    progress: &mut Progress,
+    before: Option<Block>,
+    tags: Sequence<Tag>,
+    at: IndentedLine<'a>,
+    line: TagLine<'a>,
+) -> Result<Phase<'a>, ParseFault>
+    requires room { progress.old.nodes < 2 ^ 63 }
+    ensures { Gives (state_in progress.new) result
+        (Ok (machine.add_tags (state_so_far progress.old) before tags at.entry.line.number
+        (map word_of line.entry.words.items))) }
+{
+    let tags = with_tags(alloc, tags, progress.nodes, at.line.number, &line.words)?;
+    progress.nodes += line.words.len() as u64;
+    Ok(Phase::AfterTags(before, tags))
+}
+
+/// Adds a row to a table.
+pub(crate) fn add_row(rows: &mut Sequence<Row>, row: Row) -> Result<(), ParseFault>
+    ensures { Gives (λ _. rows.new) result (rows_with rows.old row) }
+{
+    if row.cells.len() != cell_count(rows.as_slice()) {
+        return Err(fault(FaultKind::CellCount, row.location));
+    }
+    rows.push(row)?;
+    Ok(())
+}
+
+/// Adds a row to the table of a step, which may be its first row.
+pub(crate) fn add_step_row(alloc: Global, step: &mut Step, row: Row) -> Result<(), ParseFault>
+    ensures { Gives (λ _. step.new) result (row_after step.old step.old.argument row) }
+{
+    let rows = match step.argument.take() {
+        None => single_row(alloc, row)?,
+        Some(Argument::Table(mut rows)) => {
+            add_row(&mut rows, row)?;
+            rows
+        }
+        Some(Argument::Text(_)) => return Err(fault(FaultKind::Unexpected, row.location)),
+    };
+    step.argument = Some(Argument::Table(rows));
+    Ok(())
+}
+
+/// How many cells the first row has.
+pub(crate) fn cell_count(rows: &[Row]) -> usize
+    ensures { result ≡ machine.count_of rows.now }
+{
+    match rows {
+        [] => 0,
+        [first, ..] => first.cells.len(),
     }
 }
 
-/// The step that the line is.
-pub(crate) fn step_at(
-    alloc: Global,
-    node: u64,
-    at: IndentedLine<'_>,
-    line: StepLine<'_>,
-) -> Result<Step, AllocError>
-    ensures { IfOk result (λ s. s ≡ record {
-      node = node;
-      location = grammar.at at.entry.line.number (at.entry.indent + 1);
-      keyword = text_of line.entry.keyword.now;
-      kind = line.entry.kind;
-      text = text_of line.entry.text.now;
-      argument = None;
-    }) }
+/// The cells of a row.
+pub(crate) fn row_cells(alloc: Global, line: Line<'_>) -> Result<Sequence<Cell>, AllocError>
+    requires row { IsTrue (begins_by (codes "|") (line_chars line)) }
+    requires short { length line.text.now ≤ FEATURE_LIMIT }
+    ensures { IfOk result (λ found. found ≡ map cell (cells_of (line_chars line.entry))) }
 {
-    Ok(Step {
-        node,
-        location: location(at),
-        keyword: copied(alloc, line.keyword)?,
-        kind: line.kind,
-        text: copied(alloc, line.text)?,
-        argument: None,
-    })
+    let cells = cells(alloc, line)?;
+    Ok(Sequence::from(cells))
 }

@@ -1,25 +1,25 @@
-//! The lines of a description, the comments that are kept beside it, and the text that they make.
-ghost use Rattle.std.specs.Prelude.{◌≡◌, ◌<◌, ◌+◌, ◌^◌, Ok, [], ◌∷◌, ◌++◌, map, ℕ};
+//! The lines of a description, and the text that they make.
+ghost use Rattle.std.specs.Prelude.{◌≡◌, ◌<◌, ◌^◌, [], ◌∷◌, ◌++◌, map, ℕ};
 ghost use Rattle.std.specs.Prelude.{List, OnOk, IfOk, filter, not, reverse, if◌then◌else◌};
-ghost use Rattle.gk_line.specs.Views.{line_chars};
 ghost use Rattle.gk_grammar.specs.Machine as machine;
 ghost use Rattle.gk_tree.specs.Views.{line_at, state_in, Gives, flat_block_of, state_so_far};
-ghost use Rattle.gk_tree.specs.Views.{phase_of, token_view, kept_line, text_of};
+ghost use Rattle.gk_tree.specs.Views.{token_view, kept_line, text_of};
 ghost use Rattle.gk_tree.specs.Read.{IsRead};
 ghost use Rattle.gk_grammar.specs.Token as read;
 ghost use Rattle.gk_grammar.specs.Grammar as grammar;
-ghost use Rattle.gk_grammar.specs.Grammar.{comments_of, comment_of, description_of, from_text};
+ghost use Rattle.gk_grammar.specs.Grammar.{comments_of, description_of, from_text};
 ghost use Rattle.gk_grammar.specs.Token.{bytes};
 ghost use Rattle.std.specs.String.{string_bytes};
 ghost use Rattle.std.specs.List.{join_with_byte};
 ghost use Rattle.gk_line.specs.Characters.{line_feed};
 
-use crate::assemble::{copied, first_row};
+use crate::assemble::first_row;
 use crate::fault::ParseFault;
-use crate::line_tokens::is_comment_token;
-use crate::parser::{FlatBlock, Phase, Progress, close_block, first_step, follows};
+use crate::parser::{
+    FlatBlock, Phase, Progress, close_block, first_step, follows, keep_if_comment,
+};
 use crate::token::{IndentedLine, Token};
-use gk_document::{Comment, Location, Text};
+use gk_document::Text;
 use gk_line::{Block, is_blank, is_comment};
 use std::alloc::{AllocError, Global};
 
@@ -95,62 +95,6 @@ pub(crate) fn after_description<'a>(
         Token::Row(cells) => first_row(alloc, progress, flat_block, at, cells),
         token => close_block(alloc, progress, Box::into_inner(flat_block), at, token),
     }
-}
-
-/// Keeps the line if it is a comment.
-fn keep_if_comment(
-    alloc: Global,
-    progress: &mut Progress,
-    at: IndentedLine<'_>,
-    token: &Token<'_>,
-) -> Result<(), AllocError>
-    ensures { OnOk result (progress.new ≡ record progress.old {
-      comments = progress.old.comments
-          ++ comments_of (line_at at.entry token.now ∷ []);
-    }) }
-{
-    if !is_comment_token(token) {
-        return Ok(());
-    }
-    keep_comment(alloc, progress, at)
-}
-
-/// Keeps the line, which is a comment.
-fn keep_comment(
-    alloc: Global,
-    progress: &mut Progress,
-    at: IndentedLine<'_>,
-) -> Result<(), AllocError>
-    ensures { OnOk result (progress.new ≡ record progress.old {
-      comments
-          = progress.old.comments ++ comment_of
-          (read.line at.entry.line.number (line_chars at.entry.line) at.entry.indent read.Comment)
-          ∷ [];
-    }) }
-{
-    let comment = Comment {
-        location: Location {
-            line: at.line.number,
-            column: 1,
-        },
-        text: copied(alloc, at.line.text)?,
-    };
-    progress.comments.push(comment)
-}
-
-/// Keeps the line, which is a comment, and stays in the phase.
-pub(crate) fn keep_comment_and_stay<'a>(
-    alloc: Global,
-    progress: &mut Progress,
-    phase: Phase<'a>,
-    at: IndentedLine<'a>,
-) -> Result<Phase<'a>, ParseFault>
-    ensures { Gives (state_in progress.new) result
-        (Ok (machine.pass_over (state_so_far progress.old) (phase_of phase.entry)
-        (read.line at.entry.line.number (line_chars at.entry.line) at.entry.indent read.Comment))) }
-{
-    keep_comment(alloc, progress, at)?;
-    Ok(phase)
 }
 
 /// The text of a description of these lines.

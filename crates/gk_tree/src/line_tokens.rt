@@ -1,35 +1,29 @@
 //! What a line is read as.
-ghost use Rattle.std.specs.Prelude.{◌≡◌, ◌≤◌, ◌+◌, length, codes, IfOk, IsTrue, ◌++◌, ◌<◌, ◌^◌, None, Ok, Err, [], if◌then◌else◌, map, ℕ};
-ghost use Rattle.std.specs.Prelude.{List, Some};
+ghost use Rattle.std.specs.Prelude.{◌≡◌, ◌≤◌, length, codes, IfOk, IsTrue, ◌++◌, ℕ};
+ghost use Rattle.std.specs.Prelude.{List};
 ghost use Rattle.gk_line.specs.declared.limit.TheConstants.{FEATURE_LIMIT};
 ghost use Rattle.std.specs.Str.{chars};
 ghost use Rattle.std.specs.Option.{option_map};
 ghost use Rattle.gk_line.specs.Texts.{text_after_indent, first_some};
 ghost use Rattle.gk_line.specs.Tokens.{indent_of, title_of, step_of, fence_of, begins_by, language_of, blocks};
 ghost use Rattle.gk_line.specs.Tags.{spaced_piece, tags_of};
-ghost use Rattle.gk_line.specs.Views.{line_chars, step_text};
+ghost use Rattle.gk_line.specs.Views.{line_chars};
 ghost use Rattle.gk_grammar.specs.Token as read;
 ghost use Rattle.gk_grammar.specs.Token.{token_of, comment_token as comment_or_language, title_token as titled, step_token as stepped};
-ghost use Rattle.gk_grammar.specs.Token.{fence_token as fenced, tag_list, word_token as by_word, token_or_other, cell};
+ghost use Rattle.gk_grammar.specs.Token.{fence_token as fenced, tag_list, word_token as by_word, token_or_other};
 ghost use Rattle.gk_tree.specs.Read.{first_character};
-ghost use Rattle.gk_tree.specs.Views.{token_view, text_of, state_in, Gives, flat_block_of, state_so_far, kept_line};
+ghost use Rattle.gk_tree.specs.Views.{token_view, text_of, kept_line};
 ghost use Rattle.gk_grammar.specs.Grammar.{english};
 ghost use Rattle.gk_grammar.specs.Machine as machine;
-ghost use Rattle.gk_grammar.specs.declared.fault.FaultKind.TheVariants as kinds;
 ghost use Rattle.gk_grammar.specs.Grammar as grammar;
-ghost use Rattle.gk_line.specs.Cells.{cells_of};
+ghost use Rattle.std.specs.Prelude.{◌+◌, None};
+ghost use Rattle.gk_grammar.specs.declared.fault.FaultKind.TheVariants as kind;
 
-use crate::assemble::{row_at, step_at};
-use crate::fault::{ParseFault, unexpected};
-use crate::parser::{BlockWithSteps, Phase, Progress, add_step_row, follows, open_block};
-use crate::token::{Head, IndentedLine, TagLine, Token};
+use crate::assemble::{copied, row_cells};
+use crate::token::{Head, IndentedLine, TagLine, Token, location};
 use gk_document::{Cell, Comment, Fence, Row, Sequence, Step, Text};
-use gk_line::{
-    Block, FEATURE_LIMIT, Line, StepLine, TagFault, Title, block_title, cells, fence, is_comment,
-    language, step, tags,
-};
+use gk_line::{Line, StepLine, TagFault, Title, block_title, cells, fence, language, step, tags};
 use std::alloc::{AllocError, Global};
-use std::mem::replace;
 
 /// The indent of a line with this text, and the first character after it.
 pub(crate) fn line_head(text: &str) -> Head
@@ -160,95 +154,6 @@ pub(crate) fn is_english(word: &str) -> bool
     word == "en"
 }
 
-/// A title line after a block or before all, without tags.
-pub(crate) fn title_line<'a>(
-    alloc: Global,
-    progress: &mut Progress,
-    before: Option<Block>,
-    next: Block,
-    at: IndentedLine<'a>,
-    title: Title<'a>,
-) -> Result<Phase<'a>, ParseFault>
-    requires room { progress.old.nodes < 2 ^ 63 }
-    ensures { Gives (state_in progress.new) result (if machine.follows before next
-        then Ok (machine.open_block (state_so_far progress.old) next [] at.entry.line.number
-        at.entry.indent (text_of title.entry.keyword.now) (text_of title.entry.name.now))
-        else Err (record {
-          kind = kinds.Unexpected;
-          line = at.entry.line.number;
-          column = at.entry.indent + 1;
-        })) }
-{
-    if follows(before, next) {
-        open_block(alloc, progress, next, Sequence::new(alloc), at, title)
-    } else {
-        Err(unexpected(at))
-    }
-}
-
-/// A step line after steps.
-pub(crate) fn step_line<'a>(
-    alloc: Global,
-    progress: &mut Progress,
-    mut stepped: Box<BlockWithSteps>,
-    at: IndentedLine<'a>,
-    line: StepLine<'a>,
-) -> Result<Phase<'a>, ParseFault>
-    requires room { progress.old.nodes < 2 ^ 63 }
-    ensures { Gives (state_in progress.new) result
-        (machine.after_step (state_so_far progress.old)
-        (flat_block_of stepped.value.flat_block) stepped.value.before stepped.value.last
-        (read.line at.entry.line.number (line_chars at.entry.line) at.entry.indent
-        (read.step_token (step_text line.entry)))) }
-{
-    let step = step_at(alloc, progress.nodes, at, line)?;
-    let last = replace(&mut stepped.last, step);
-    stepped.before.push(last)?;
-    progress.nodes += 1;
-    Ok(Phase::AfterStep(stepped))
-}
-
-/// A row line after steps.
-pub(crate) fn row_line<'a>(
-    alloc: Global,
-    progress: &mut Progress,
-    mut stepped: Box<BlockWithSteps>,
-    at: IndentedLine<'a>,
-    cells: Sequence<Cell>,
-) -> Result<Phase<'a>, ParseFault>
-    requires room { progress.old.nodes < 2 ^ 63 }
-    ensures { Gives (state_in progress.new) result
-        (machine.after_step (state_so_far progress.old)
-        (flat_block_of stepped.value.flat_block) stepped.value.before stepped.value.last
-        (read.line at.entry.line.number (line_chars at.entry.line) at.entry.indent
-        (read.Row cells))) }
-{
-    let row = row_at(progress.nodes, at, cells);
-    add_step_row(alloc, &mut stepped.last, row)?;
-    progress.nodes += 1;
-    Ok(Phase::AfterStep(stepped))
-}
-
-/// How many cells the first row has.
-pub(crate) fn cell_count(rows: &[Row]) -> usize
-    ensures { result ≡ machine.count_of rows.now }
-{
-    match rows {
-        [] => 0,
-        [first, ..] => first.cells.len(),
-    }
-}
-
-/// The cells of a row.
-pub(crate) fn row_cells(alloc: Global, line: Line<'_>) -> Result<Sequence<Cell>, AllocError>
-    requires row { IsTrue (begins_by (codes "|") (line_chars line)) }
-    requires short { length line.text.now ≤ FEATURE_LIMIT }
-    ensures { IfOk result (λ found. found ≡ map cell (cells_of (line_chars line.entry))) }
-{
-    let cells = cells(alloc, line)?;
-    Ok(Sequence::from(cells))
-}
-
 /// Whether the line is a comment, also a language line.
 pub(crate) fn is_comment_token(token: &Token<'_>) -> bool
     ensures { (n : ℕ) (text : List ℕ) (i : ℕ) → result
@@ -275,4 +180,46 @@ pub(crate) fn closes(opened: Fence, at: IndentedLine<'_>) -> bool
         Some(line) => line.fence == opened,
         None => false,
     }
+}
+
+/// The row that the line is.
+pub(crate) fn row_at(node: u64, at: IndentedLine<'_>, cells: Sequence<Cell>) -> Row
+    ensures { result ≡ record {
+      node = node;
+      location = grammar.at at.entry.line.number
+          (at.entry.indent + 1);
+      cells = cells;
+    } }
+{
+    Row {
+        node,
+        location: location(at),
+        cells,
+    }
+}
+
+/// The step that the line is.
+pub(crate) fn step_at(
+    alloc: Global,
+    node: u64,
+    at: IndentedLine<'_>,
+    line: StepLine<'_>,
+) -> Result<Step, AllocError>
+    ensures { IfOk result (λ s. s ≡ record {
+      node = node;
+      location = grammar.at at.entry.line.number (at.entry.indent + 1);
+      keyword = text_of line.entry.keyword.now;
+      kind = line.entry.kind;
+      text = text_of line.entry.text.now;
+      argument = None;
+    }) }
+{
+    Ok(Step {
+        node,
+        location: location(at),
+        keyword: copied(alloc, line.keyword)?,
+        kind: line.kind,
+        text: copied(alloc, line.text)?,
+        argument: None,
+    })
 }

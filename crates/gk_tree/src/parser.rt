@@ -1,38 +1,43 @@
 //! The parser: one pass over the lines of a text, phase by phase.
 ghost use Rattle.std.specs.Prelude.{◌≡◌, ◌≢◌, ◌≤◌, ◌<◌, ◌+◌, ◌^◌, ◌↔◌, None, Ok, Err, length, IfOk, IfErr, IfSome, [], ◌∷◌, ◌++◌, map};
-ghost use Rattle.std.specs.Prelude.{not};
 ghost use Rattle.std.specs.Str.{chars};
 ghost use Rattle.gk_line.specs.declared.limit.TheConstants.{FEATURE_LIMIT};
 ghost use Rattle.gk_line.specs.Lines.{lines_of};
 ghost use Rattle.gk_line.specs.Views.{numbered_line, line_chars, title_text, step_text};
 ghost use Rattle.gk_grammar.specs.declared.fault.FaultKind.TheVariants as kind;
 ghost use Rattle.gk_grammar.specs.Documents.{lines_read, IsDocumentOf, HasFault, IsTooLong, max_bytes, max_lines};
-ghost use Rattle.gk_grammar.specs.Token.{line_of, bytes};
+ghost use Rattle.gk_grammar.specs.Token.{line_of};
 ghost use Rattle.gk_grammar.specs.Machine as machine;
 ghost use Rattle.gk_tree.specs.Views.{line_at, state_of, state_in, Gives, out_of_memory, too_long, text_of, flat_block_of, state_so_far};
-ghost use Rattle.gk_tree.specs.Views.{phase_of, head_of, word_of, kept_line, open_doc_string_of};
+ghost use Rattle.gk_tree.specs.Views.{phase_of, head_of, kept_line, open_doc_string_of};
 ghost use Rattle.gk_tree.specs.Read.{IsRead};
 ghost use Rattle.gk_tree.specs.Ends.{document_at, Answers, last_blocks};
 ghost use Rattle.gk_tree.specs.declared.parser.Progress.{Progress as SomeProgress};
 ghost use Rattle.gk_grammar.specs.Token as read;
 ghost use Rattle.gk_tree.specs.EndViews.{last_as_list};
-ghost use Rattle.gk_tree.specs.Rows.{rows_with, row_after};
+ghost use Rattle.std.specs.Prelude.{OnOk};
+ghost use Rattle.gk_grammar.specs.Grammar.{comments_of, comment_of};
+ghost use Rattle.std.specs.Prelude.{if◌then◌else◌};
+ghost use Rattle.gk_grammar.specs.Token.{step_token as stepped};
 
 use crate::assemble::{
-    build_feature, copied, doc_string, empty_body, row_at, single_row, step_at, title_node_count,
-    with_rows, with_steps, with_tags,
+    add_row, add_step_row, add_tags, build_feature, close_stepped_block, copied, doc_string,
+    empty_body, title_node_count, with_rows, with_steps,
 };
-use crate::description::{in_description, keep_comment_and_stay, with_description};
+use crate::description::{in_description, with_description};
 use crate::fault::{ParseFault, early_end, fault, spaced_tag, unexpected};
 use crate::line_tokens::{
-    cell_count, closes, is_english, line_head, line_token, row_line, step_line, title_line,
+    closes, is_comment_token, is_english, line_head, line_token, row_at, step_at,
 };
-use crate::token::{Head, IndentedLine, TagLine, Token, location};
-use gk_document::{Argument, Comment, Document, Fence, Location, Row, Sequence, Step, Tag, Text};
+use crate::token::{Head, IndentedLine, Token, location};
+use gk_document::{
+    Argument, Cell, Comment, Document, Fence, Location, Row, Sequence, Step, Tag, Text,
+};
 use gk_grammar::FaultKind;
-use gk_line::{Block, FEATURE_LIMIT, FenceLine, Line, StepLine, Title, cells, fence, lines};
+use gk_line::{Block, FEATURE_LIMIT, FenceLine, Line, StepLine, Title, cells, lines, step, tags};
 use memchr::memchr;
 use std::alloc::{AllocError, Global};
+use std::mem::replace;
 
 /// The most lines of a text.
 const MAX_LINES: u32 = 1_000_000;
@@ -348,23 +353,6 @@ fn new_block(
     })
 }
 
-/// A line after a whole block with steps, which isn't part of it.
-fn close_stepped_block<'a>(
-    alloc: Global,
-    progress: &mut Progress,
-    stepped: Box<BlockWithSteps>,
-    at: IndentedLine<'a>,
-    token: Token<'a>,
-) -> Result<Phase<'a>, ParseFault>
-    requires room { progress.old.nodes < 2 ^ 63 }
-    ensures { Gives (state_in progress.new) result (machine.close_block (state_so_far progress.old)
-        (machine.with_steps (flat_block_of stepped.value.flat_block)
-        (stepped.value.before ++ stepped.value.last ∷ [])) (line_at at.entry token.entry)) }
-{
-    let flat_block = with_steps(stepped)?;
-    close_block(alloc, progress, flat_block, at, token)
-}
-
 /// Before the first block, after the language line or not.
 fn head_phase<'a>(has_language: bool) -> Phase<'a>
     ensures { phase_of result ≡ head_of has_language }
@@ -487,25 +475,6 @@ fn title_after_tags<'a>(
     }
 }
 
-/// A tag line after these tags.
-fn add_tags<'a>(
-    alloc: Global,
-    progress: &mut Progress,
-    before: Option<Block>,
-    tags: Sequence<Tag>,
-    at: IndentedLine<'a>,
-    line: TagLine<'a>,
-) -> Result<Phase<'a>, ParseFault>
-    requires room { progress.old.nodes < 2 ^ 63 }
-    ensures { Gives (state_in progress.new) result
-        (Ok (machine.add_tags (state_so_far progress.old) before tags at.entry.line.number
-        (map word_of line.entry.words.items))) }
-{
-    let tags = with_tags(alloc, tags, progress.nodes, at.line.number, &line.words)?;
-    progress.nodes += line.words.len() as u64;
-    Ok(Phase::AfterTags(before, tags))
-}
-
 /// What is below the description of a block.
 #[derive(Drop)]
 pub(crate) enum Body {
@@ -625,17 +594,6 @@ pub(crate) fn first_step<'a>(
     Ok(Phase::AfterStep(Box::new(alloc, stepped)?))
 }
 
-/// Adds a row to a table.
-fn add_row(rows: &mut Sequence<Row>, row: Row) -> Result<(), ParseFault>
-    ensures { Gives (λ _. rows.new) result (rows_with rows.old row) }
-{
-    if row.cells.len() != cell_count(rows.as_slice()) {
-        return Err(fault(FaultKind::CellCount, row.location));
-    }
-    rows.push(row)?;
-    Ok(())
-}
-
 /// A line after rows of an examples table.
 fn in_examples_table<'a>(
     alloc: Global,
@@ -672,22 +630,6 @@ fn in_examples_table<'a>(
     }
 }
 
-/// Adds a row to the table of a step, which may be its first row.
-pub(crate) fn add_step_row(alloc: Global, step: &mut Step, row: Row) -> Result<(), ParseFault>
-    ensures { Gives (λ _. step.new) result (row_after step.old step.old.argument row) }
-{
-    let rows = match step.argument.take() {
-        None => single_row(alloc, row)?,
-        Some(Argument::Table(mut rows)) => {
-            add_row(&mut rows, row)?;
-            rows
-        }
-        Some(Argument::Text(_)) => return Err(fault(FaultKind::Unexpected, row.location)),
-    };
-    step.argument = Some(Argument::Table(rows));
-    Ok(())
-}
-
 /// A line in a doc string, or the one that closes it.
 fn in_doc_string<'a>(
     alloc: Global,
@@ -708,4 +650,129 @@ fn in_doc_string<'a>(
     }
     lines.push(at)?;
     Ok(Phase::InDocString(stepped, opening, lines))
+}
+
+/// Keeps the line if it is a comment.
+pub(crate) fn keep_if_comment(
+    alloc: Global,
+    progress: &mut Progress,
+    at: IndentedLine<'_>,
+    token: &Token<'_>,
+) -> Result<(), AllocError>
+    ensures { OnOk result (progress.new ≡ record progress.old {
+      comments = progress.old.comments
+          ++ comments_of (line_at at.entry token.now ∷ []);
+    }) }
+{
+    if !is_comment_token(token) {
+        return Ok(());
+    }
+    keep_comment(alloc, progress, at)
+}
+
+/// Keeps the line, which is a comment.
+fn keep_comment(
+    alloc: Global,
+    progress: &mut Progress,
+    at: IndentedLine<'_>,
+) -> Result<(), AllocError>
+    ensures { OnOk result (progress.new ≡ record progress.old {
+      comments
+          = progress.old.comments ++ comment_of
+          (read.line at.entry.line.number (line_chars at.entry.line) at.entry.indent read.Comment)
+          ∷ [];
+    }) }
+{
+    let comment = Comment {
+        location: Location {
+            line: at.line.number,
+            column: 1,
+        },
+        text: copied(alloc, at.line.text)?,
+    };
+    progress.comments.push(comment)
+}
+
+/// Keeps the line, which is a comment, and stays in the phase.
+pub(crate) fn keep_comment_and_stay<'a>(
+    alloc: Global,
+    progress: &mut Progress,
+    phase: Phase<'a>,
+    at: IndentedLine<'a>,
+) -> Result<Phase<'a>, ParseFault>
+    ensures { Gives (state_in progress.new) result
+        (Ok (machine.pass_over (state_so_far progress.old) (phase_of phase.entry)
+        (read.line at.entry.line.number (line_chars at.entry.line) at.entry.indent read.Comment))) }
+{
+    keep_comment(alloc, progress, at)?;
+    Ok(phase)
+}
+
+/// A title line after a block or before all, without tags.
+pub(crate) fn title_line<'a>(
+    alloc: Global,
+    progress: &mut Progress,
+    before: Option<Block>,
+    next: Block,
+    at: IndentedLine<'a>,
+    title: Title<'a>,
+) -> Result<Phase<'a>, ParseFault>
+    requires room { progress.old.nodes < 2 ^ 63 }
+    ensures { Gives (state_in progress.new) result (if machine.follows before next
+        then Ok (machine.open_block (state_so_far progress.old) next [] at.entry.line.number
+        at.entry.indent (text_of title.entry.keyword.now) (text_of title.entry.name.now))
+        else Err (record {
+          kind = kind.Unexpected;
+          line = at.entry.line.number;
+          column = at.entry.indent + 1;
+        })) }
+{
+    if follows(before, next) {
+        open_block(alloc, progress, next, Sequence::new(alloc), at, title)
+    } else {
+        Err(unexpected(at))
+    }
+}
+
+/// A step line after steps.
+pub(crate) fn step_line<'a>(
+    alloc: Global,
+    progress: &mut Progress,
+    mut stepped: Box<BlockWithSteps>,
+    at: IndentedLine<'a>,
+    line: StepLine<'a>,
+) -> Result<Phase<'a>, ParseFault>
+    requires room { progress.old.nodes < 2 ^ 63 }
+    ensures { Gives (state_in progress.new) result
+        (machine.after_step (state_so_far progress.old)
+        (flat_block_of stepped.value.flat_block) stepped.value.before stepped.value.last
+        (read.line at.entry.line.number (line_chars at.entry.line) at.entry.indent
+        (read.step_token (step_text line.entry)))) }
+{
+    let step = step_at(alloc, progress.nodes, at, line)?;
+    let last = replace(&mut stepped.last, step);
+    stepped.before.push(last)?;
+    progress.nodes += 1;
+    Ok(Phase::AfterStep(stepped))
+}
+
+/// A row line after steps.
+pub(crate) fn row_line<'a>(
+    alloc: Global,
+    progress: &mut Progress,
+    mut stepped: Box<BlockWithSteps>,
+    at: IndentedLine<'a>,
+    cells: Sequence<Cell>,
+) -> Result<Phase<'a>, ParseFault>
+    requires room { progress.old.nodes < 2 ^ 63 }
+    ensures { Gives (state_in progress.new) result
+        (machine.after_step (state_so_far progress.old)
+        (flat_block_of stepped.value.flat_block) stepped.value.before stepped.value.last
+        (read.line at.entry.line.number (line_chars at.entry.line) at.entry.indent
+        (read.Row cells))) }
+{
+    let row = row_at(progress.nodes, at, cells);
+    add_step_row(alloc, &mut stepped.last, row)?;
+    progress.nodes += 1;
+    Ok(Phase::AfterStep(stepped))
 }

@@ -20,7 +20,7 @@ returns g c =
     let new = c.audit_part-answer.new.marks in
     let answer = c.audit_part-answer.result in
     let report = c.gate_report_of-report.result in
-    let same = c.with_run_counts.ensures.report in
+    let same = c.with_gate_counts.ensures.report in
     let alone = reads_weaker {P = IsPartAuditOf c.args.settings asked old new answer} {Q = IsReleaseAuditOf c.args.settings asked answer} before after audit.same_bytes (λ xs ys p. p.release) in
     record {
       reported = subst (λ (r : Report). Reported (ask_gate c.args.settings asked) r before after) (sym same)
@@ -32,6 +32,6 @@ returns g c =
             es = w.3.0;
             gives = (w.0, w.1, w.2, w.3.1);
             marked = w.3.2;
-            counted = counts_given c.with_run_counts.result c.run_counts_of-counts.result c.with_run_counts.ensures.counts done ∙ c.run_counts_of-counts.ensures ∙ w.3.3;
+            counted = counts_given c.with_gate_counts.result c.gate_counts_of-counts.result c.with_gate_counts.ensures.counts done ∙ c.gate_counts_of-counts.ensures ∙ w.3.3;
           };
     }

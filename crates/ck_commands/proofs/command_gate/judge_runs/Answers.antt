@@ -27,9 +27,9 @@ loop-run-init g c = record {
 pub loop-run-preserved : goal.loop-run-preserved
 loop-run-preserved g c =
     let one = c.judge_run-judged.ensures.judged in
-    let total = c.with-counts.ensures ∙ ap (added_counts c.loop-run.counts) c.judged_run_counts.ensures in
+    let total = c.with-counts.ensures ∙ ap (added_counts c.loop-run.counts) c.gate_counts_of_run.ensures in
     record {
-      judged = rw (names_more c.args.runs.now c.loop-run.run-index (record { ref_ptr = (0, 0); now = [] }) c.loop-run-test.true, c.gate_status_of_runs-status.ensures ∙ ap (status_after c.loop-run.status) c.judged_run_status.ensures, total)
-          (runs_push c.args.settings (conditions_of c.args.conditions.now) (map (λ run. run.now) (take c.loop-run.run-index c.args.runs.now)) _ _ _ _ one.0 _ _ _ _ _ _ one.1 _ _ _ _ (run_report c.judge_run-judged.result) (counts_made c.judge_run-judged.result) c.loop-run.invariant.judged one.2 one.3 one.4 c.in_ok-add_run_report.ensures);
+      judged = rw (names_more c.args.runs.now c.loop-run.run-index (record { ref_ptr = (0, 0); now = [] }) c.loop-run-test.true, c.gate_status_of_runs-status.ensures ∙ ap (status_after c.loop-run.status) c.gate_status_of_run.ensures, total)
+          (runs_push c.args.settings (conditions_of c.args.conditions.now) (map (λ run. run.now) (take c.loop-run.run-index c.args.runs.now)) _ _ _ _ one.0 _ _ _ _ _ _ one.1 _ _ _ _ (run_report c.judge_run-judged.result) (counts_made c.judge_run-judged.result) c.loop-run.invariant.judged one.2 one.3 one.4 c.in_ok-add_gate_run.ensures);
       looks = c.judge_run-judged.ensures.looks ∙ c.loop-run.invariant.looks;
     }

@@ -2,7 +2,7 @@ use Rattle.std.proofs.Common.{◌∙◌, ap, sym, ◌++◌, ◌∷◌, [], List,
 use Rattle.std.specs.List.{flat_map}
 use Rattle.gk_document.specs.declared.tree.Examples.{Examples}
 use Rattle.cm_cases.specs.Places.{example_rows, place, scenario_places}
-use Rattle.cm_cases.specs.declared.places.Place.{Place}
+use Rattle.cm_cases.specs.declared.listing.Place.{Place}
 use Rattle.cm_cases.proofs.ListingLemmas.{head_added}
 use Rattle.cm_cases.proofs.places.add_scenarios.Goals as goal
 

@@ -5,7 +5,7 @@ use Rattle.cm_cases.proofs.ListingLemmas.{on_ok}
 use Rattle.cm_stream.specs.References.{sources}
 use Rattle.cm_stream.specs.Texts.{Utf8}
 use Rattle.cm_reasons.specs.RunKept.{fault_line}
-use Rattle.cm_reasons.specs.declared.trail.SourceEntry.{SourceEntry}
+use Rattle.cm_reasons.specs.declared.run_listing.SourceEntry.{SourceEntry}
 use Rattle.cm_reasons.specs.declared.trail.Trail.{Trail}
 use Rattle.cm_reasons.proofs.LineLemmas.{on_push, one_ended}
 use Rattle.cm_reasons.proofs.Refusals.{first_good, first_missing, first_refused}

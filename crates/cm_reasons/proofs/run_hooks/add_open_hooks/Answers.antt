@@ -3,7 +3,7 @@ use Rattle.cm_cases.proofs.ListingLemmas.{on_ok}
 use Rattle.cm_stream.proofs.Lists.{map_twice}
 use Rattle.cm_reasons.specs.Lines.{limited}
 use Rattle.cm_reasons.specs.RunKept.{entry_line}
-use Rattle.cm_reasons.specs.declared.trail.RunHookEntry.{RunHookEntry}
+use Rattle.cm_reasons.specs.declared.run_listing.RunHookEntry.{RunHookEntry}
 use Rattle.cm_reasons.specs.declared.trail.Trail.{Trail}
 use Rattle.cm_reasons.proofs.RunHookLemmas.{open_lines}
 use Rattle.cm_reasons.proofs.run_hooks.add_open_hooks.Goals as goal

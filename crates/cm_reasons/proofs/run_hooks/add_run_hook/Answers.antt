@@ -4,7 +4,7 @@ use Rattle.std.specs.Str.{bytes_eq}
 use Rattle.cm_cases.proofs.ListingLemmas.{on_ok}
 use Rattle.cm_reasons.specs.Lines.{ended}
 use Rattle.cm_reasons.specs.RunKept.{entry_line}
-use Rattle.cm_reasons.specs.declared.trail.RunHookEntry.{RunHookEntry}
+use Rattle.cm_reasons.specs.declared.run_listing.RunHookEntry.{RunHookEntry}
 use Rattle.cm_reasons.specs.declared.trail.Trail.{Trail}
 use Rattle.cm_reasons.proofs.LineLemmas.{on_push, one_ended}
 use Rattle.cm_reasons.proofs.RunHookLemmas.{first_line, no_first_line}

@@ -2,7 +2,7 @@ use Rattle.std.proofs.Common.{◌∙◌, ap, sym, List, take_all}
 use Rattle.std.specs.Prelude.{option_map}
 use Rattle.cm_reasons.specs.RunKept.{bad_end_in, bad_entry_lines, bad_line}
 use Rattle.cm_reasons.specs.RunReasons.{bad_hook_line}
-use Rattle.cm_reasons.specs.declared.trail.RunHookEntry.{RunHookEntry}
+use Rattle.cm_reasons.specs.declared.run_listing.RunHookEntry.{RunHookEntry}
 use Rattle.cm_reasons.proofs.RunHookLemmas.{found_none, found_one}
 use Rattle.cm_reasons.proofs.run_hooks.bad_hooks.Goals as goal
 use Rattle.cm_reasons.proofs.run_hooks.bad_hooks.Goals.{in-Some+in_ok-push, in_default}

@@ -3,7 +3,7 @@ use Rattle.std.specs.List.{filter, list_any}
 use Rattle.std.specs.Str.{bytes_eq}
 use Rattle.cm_cases.proofs.FirstLemmas.{has_any}
 use Rattle.cm_reasons.specs.RunKept.{is_finished_in}
-use Rattle.cm_reasons.specs.declared.trail.RunHookEntry.{RunHookEntry}
+use Rattle.cm_reasons.specs.declared.run_listing.RunHookEntry.{RunHookEntry}
 use Rattle.cm_reasons.proofs.RunHookLemmas.{kept_none, kept_one}
 use Rattle.cm_reasons.proofs.run_hooks.open_hooks.Goals as goal
 use Rattle.cm_reasons.proofs.run_hooks.open_hooks.Goals.{then-not-contains_key+in_ok-push, else-not-contains_key}

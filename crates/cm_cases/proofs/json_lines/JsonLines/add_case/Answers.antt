@@ -1,7 +1,7 @@
 use Rattle.std.proofs.Common.{◌≡◌, ◌∙◌, ap, refl, sym, append-nil, ◌++◌, List, ℕ, Some, None, string_bytes}
 use Rattle.cm_cases.specs.Firsts.{entry_of, entry_values, times_in}
 use Rattle.cm_cases.specs.JsonLines.{json_line}
-use Rattle.cm_cases.specs.declared.places.Listing.{Listing}
+use Rattle.cm_cases.specs.declared.listing.Listing.{Listing}
 use Rattle.cm_cases.proofs.JsonLemmas.{case_said}
 use Rattle.cm_cases.proofs.ListingLemmas.{on_ok}
 use Rattle.cm_cases.proofs.json_lines.JsonLines.add_case.Goals as goal

@@ -3,8 +3,8 @@ use Rattle.std.specs.Prelude.{codes, not}
 use Rattle.std.specs.List.{filter, flat_map}
 use Rattle.cm_cases.specs.Firsts.{entry_values, is_named}
 use Rattle.cm_cases.specs.JsonLines.{json_line}
-use Rattle.cm_cases.specs.declared.places.Listing.{Listing}
-use Rattle.cm_cases.specs.declared.places.PickleEntry.{PickleEntry}
+use Rattle.cm_cases.specs.declared.listing.Listing.{Listing}
+use Rattle.cm_cases.specs.declared.listing.PickleEntry.{PickleEntry}
 use Rattle.cm_cases.proofs.JsonLemmas.{unrun_said}
 use Rattle.cm_cases.proofs.json_lines.JsonLines.add_unrun.Goals as goal
 

@@ -1,6 +1,6 @@
 use Rattle.std.proofs.Common.{ap, Option, Some, None}
 use Rattle.std.specs.Option.{option_map_or}
-use Rattle.cm_cases.specs.declared.places.Place.{Place}
+use Rattle.cm_cases.specs.declared.listing.Place.{Place}
 use Rattle.cm_cases.proofs.FirstLemmas.{got_same}
 use Rattle.cm_cases.proofs.places.Lines.line.Goals as goal
 

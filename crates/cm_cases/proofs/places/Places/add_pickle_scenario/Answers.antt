@@ -2,7 +2,7 @@ use Rattle.std.proofs.Common.{◌∙◌, ap, sym, append-nil, ◌++◌, List, �
 use Rattle.std.specs.Prelude.{find}
 use Rattle.std.specs.Str.{bytes_eq}
 use Rattle.cm_cases.specs.Firsts.{entry_scenario}
-use Rattle.cm_cases.specs.declared.places.Listing.{Listing}
+use Rattle.cm_cases.specs.declared.listing.Listing.{Listing}
 use Rattle.cm_cases.proofs.FirstLemmas.{got_same}
 use Rattle.cm_cases.proofs.ListingLemmas.{on_ok}
 use Rattle.cm_cases.proofs.PlaceLemmas.{pickle_scenario_shown}

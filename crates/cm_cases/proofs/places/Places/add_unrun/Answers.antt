@@ -2,8 +2,8 @@ use Rattle.std.proofs.Common.{◌∙◌, ap, List, ℕ, ◌++◌, string_bytes, 
 use Rattle.std.specs.Prelude.{codes, not}
 use Rattle.std.specs.List.{filter, flat_map}
 use Rattle.cm_cases.specs.Firsts.{entry_text, is_named}
-use Rattle.cm_cases.specs.declared.places.Listing.{Listing}
-use Rattle.cm_cases.specs.declared.places.PickleEntry.{PickleEntry}
+use Rattle.cm_cases.specs.declared.listing.Listing.{Listing}
+use Rattle.cm_cases.specs.declared.listing.PickleEntry.{PickleEntry}
 use Rattle.cm_cases.proofs.PlaceLemmas.{unrun_shown}
 use Rattle.cm_cases.proofs.places.Places.add_unrun.Goals as goal
 
