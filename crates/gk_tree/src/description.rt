@@ -1,9 +1,9 @@
 //! The lines of a description, and the text that they make.
-ghost use Rattle.std.specs.Prelude.{◌≡◌, ◌<◌, ◌^◌, [], ◌∷◌, ◌++◌, map, ℕ};
-ghost use Rattle.std.specs.Prelude.{List, OnOk, IfOk, filter, not, reverse, if◌then◌else◌};
+ghost use Rattle.std.specs.Prelude.{◌≡◌, ◌<◌, ◌^◌, [], ◌∷◌, ◌++◌, map, ℕ, List, OnOk, IfOk, filter, not, reverse};
+ghost use Rattle.std.specs.Prelude.{if◌then◌else◌};
 ghost use Rattle.gk_grammar.specs.Machine as machine;
-ghost use Rattle.gk_tree.specs.Views.{line_at, state_in, Gives, flat_block_of, state_so_far};
-ghost use Rattle.gk_tree.specs.Views.{token_view, kept_line, text_of};
+ghost use Rattle.gk_tree.specs.Views.{line_at, state_in, Gives, flat_block_of, state_so_far, token_view, kept_line};
+ghost use Rattle.gk_tree.specs.Views.{text_of};
 ghost use Rattle.gk_tree.specs.Read.{IsRead};
 ghost use Rattle.gk_grammar.specs.Token as read;
 ghost use Rattle.gk_grammar.specs.Grammar as grammar;
@@ -13,12 +13,13 @@ ghost use Rattle.std.specs.String.{string_bytes};
 ghost use Rattle.std.specs.List.{join_with_byte};
 ghost use Rattle.gk_line.specs.Characters.{line_feed};
 
-use crate::assemble::first_row;
+use crate::blocks::{FlatBlock, close_block, follows};
+use crate::comments::keep_if_comment;
 use crate::fault::ParseFault;
-use crate::parser::{
-    FlatBlock, Phase, Progress, close_block, first_step, follows, keep_if_comment,
-};
-use crate::token::{IndentedLine, Token};
+use crate::line_tokens::{IndentedLine, Token};
+use crate::parser::{Phase, Progress};
+use crate::rows::first_row;
+use crate::steps::first_step;
 use gk_document::Text;
 use gk_line::{Block, is_blank, is_comment};
 use std::alloc::{AllocError, Global};

@@ -2,7 +2,7 @@
 ghost use Rattle.std.specs.Prelude.{◌≡◌, ◌+◌};
 ghost use Rattle.gk_grammar.specs.declared.fault.FaultKind.TheVariants as kinds;
 
-use crate::token::{IndentedLine, location};
+use crate::line_tokens::{IndentedLine, location};
 use gk_document::Location;
 use gk_grammar::FaultKind;
 use std::alloc::{AllocError, AllocFailed};
@@ -54,7 +54,7 @@ pub(crate) fn fault(kind: FaultKind, location: Location) -> ParseFault
 }
 
 /// The fault of a line that is not allowed where it is.
-pub(crate) fn unexpected(at: IndentedLine<'_>) -> ParseFault
+pub(crate) fn unexpected_line_fault(at: IndentedLine<'_>) -> ParseFault
     ensures { result ≡ record {
       kind = kinds.Unexpected;
       line = at.entry.line.number;
@@ -65,7 +65,7 @@ pub(crate) fn unexpected(at: IndentedLine<'_>) -> ParseFault
 }
 
 /// The fault of a tag line with white space in the tag at this column.
-pub(crate) fn spaced_tag(at: IndentedLine<'_>, column: u32) -> ParseFault
+pub(crate) fn spaced_tag_fault(at: IndentedLine<'_>, column: u32) -> ParseFault
     ensures { result ≡ record {
       kind = kinds.TagSpace;
       line = at.entry.line.number;
@@ -80,7 +80,7 @@ pub(crate) fn spaced_tag(at: IndentedLine<'_>, column: u32) -> ParseFault
 }
 
 /// The fault of a text that ends where it may not, at the line after the last one.
-pub(crate) fn early_end(end_line: u32) -> ParseFault
+pub(crate) fn early_end_fault(end_line: u32) -> ParseFault
     ensures { result ≡ record { kind = kinds.UnexpectedEnd; line = end_line; column = 1 } }
 {
     ParseFault {

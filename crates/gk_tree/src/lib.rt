@@ -15,11 +15,16 @@
 #![tactic(auto)]
 
 mod assemble;
+mod blocks;
+mod comments;
 mod description;
+mod doc_string;
 mod fault;
 mod line_tokens;
 mod parser;
-mod token;
+mod rows;
+mod steps;
+mod tags;
 
 pub use fault::ParseFault;
 pub use gk_document::{

@@ -1,6 +1,5 @@
 //! What a line is read as.
-ghost use Rattle.std.specs.Prelude.{◌≡◌, ◌≤◌, length, codes, IfOk, IsTrue, ◌++◌, ℕ};
-ghost use Rattle.std.specs.Prelude.{List};
+ghost use Rattle.std.specs.Prelude.{◌≡◌, ◌≤◌, length, codes, IfOk, IsTrue, ◌+◌, None, ◌<◌, Ok, vec_len};
 ghost use Rattle.gk_line.specs.declared.limit.TheConstants.{FEATURE_LIMIT};
 ghost use Rattle.std.specs.Str.{chars};
 ghost use Rattle.std.specs.Option.{option_map};
@@ -9,20 +8,19 @@ ghost use Rattle.gk_line.specs.Tokens.{indent_of, title_of, step_of, fence_of, b
 ghost use Rattle.gk_line.specs.Tags.{spaced_piece, tags_of};
 ghost use Rattle.gk_line.specs.Views.{line_chars};
 ghost use Rattle.gk_grammar.specs.Token as read;
-ghost use Rattle.gk_grammar.specs.Token.{token_of, comment_token as comment_or_language, title_token as titled, step_token as stepped};
-ghost use Rattle.gk_grammar.specs.Token.{fence_token as fenced, tag_list, word_token as by_word, token_or_other};
+ghost use Rattle.gk_grammar.specs.Token.{token_of, comment_token as comment_or_language, title_token as titled};
+ghost use Rattle.gk_grammar.specs.Token.{step_token as stepped, fence_token as fenced, tag_list, word_token as by_word};
+ghost use Rattle.gk_grammar.specs.Token.{token_or_other};
 ghost use Rattle.gk_tree.specs.Read.{first_character};
-ghost use Rattle.gk_tree.specs.Views.{token_view, text_of, kept_line};
-ghost use Rattle.gk_grammar.specs.Grammar.{english};
-ghost use Rattle.gk_grammar.specs.Machine as machine;
-ghost use Rattle.gk_grammar.specs.Grammar as grammar;
-ghost use Rattle.std.specs.Prelude.{◌+◌, None};
-ghost use Rattle.gk_grammar.specs.declared.fault.FaultKind.TheVariants as kind;
+ghost use Rattle.gk_tree.specs.Views.{token_view, text_of};
+ghost use Rattle.gk_line.specs.declared.tokens.Block.TheVariants as block;
 
-use crate::assemble::{copied, row_cells};
-use crate::token::{Head, IndentedLine, TagLine, Token, location};
-use gk_document::{Cell, Comment, Fence, Row, Sequence, Step, Text};
-use gk_line::{Line, StepLine, TagFault, Title, block_title, cells, fence, language, step, tags};
+use crate::rows::row_cells;
+use gk_document::{Cell, Location, Sequence, Text};
+use gk_line::{
+    Block, FenceLine, Line, StepLine, TagFault, TagText, Title, block_title, fence, language, step,
+    tags,
+};
 use std::alloc::{AllocError, Global};
 
 /// The indent of a line with this text, and the first character after it.
@@ -137,89 +135,59 @@ fn title_token(line: Line<'_>) -> Option<Token<'_>>
     Some(Token::Title(block, title))
 }
 
-/// The name of a tag.
-pub(crate) fn tag_name(alloc: Global, word: &str) -> Result<Text, AllocError>
-    ensures { IfOk result (λ t. t ≡ codes "@" ++ text_of word.now) }
-{
-    let mut name = String::with_capacity(alloc, word.len() + 1)?;
-    name.push('@')?;
-    name.push_str(word)?;
-    Ok(Text::from(name))
+/// A line with its indent.
+#[derive(Clone, Copy)]
+pub(crate) struct IndentedLine<'a> {
+    pub line: Line<'a>,
+    pub indent: u32,
+    ghost short: { length line.text.now ≤ FEATURE_LIMIT },
+    ghost bound: { indent ≤ FEATURE_LIMIT },
 }
 
-/// Whether the word of a language line is `en`.
-pub(crate) fn is_english(word: &str) -> bool
-    ensures { result ≡ machine.same_text (text_of word.now) english }
+/// The place of a line's first character after its indent.
+pub(crate) fn location(at: IndentedLine<'_>) -> Location
+    ensures { result ≡ record { line = at.entry.line.number; column = at.entry.indent + 1 } }
 {
-    word == "en"
-}
-
-/// Whether the line is a comment, also a language line.
-pub(crate) fn is_comment_token(token: &Token<'_>) -> bool
-    ensures { (n : ℕ) (text : List ℕ) (i : ℕ) → result
-        ≡ read.is_comment (read.line n text i (token_view token.now)) }
-{
-    match token {
-        Token::Comment | Token::Language(_) => true,
-        Token::Blank
-        | Token::Tags(_)
-        | Token::SpacedTag(_)
-        | Token::Title(_, _)
-        | Token::Step(_)
-        | Token::Row(_)
-        | Token::Fenced(_)
-        | Token::Other => false,
+    Location {
+        line: at.line.number,
+        column: at.indent + 1,
     }
 }
 
-/// Whether the line closes a doc string that this fence opened.
-pub(crate) fn closes(opened: Fence, at: IndentedLine<'_>) -> bool
-    ensures { result ≡ grammar.is_fence opened (kept_line at.entry) }
-{
-    match fence(at.line) {
-        Some(line) => line.fence == opened,
-        None => false,
-    }
+/// The indent of a line, and the first character after it.
+#[derive(Clone, Copy)]
+pub(crate) struct Head {
+    pub indent: u32,
+    pub first: Option<char>,
 }
 
-/// The row that the line is.
-pub(crate) fn row_at(node: u64, at: IndentedLine<'_>, cells: Sequence<Cell>) -> Row
-    ensures { result ≡ record {
-      node = node;
-      location = grammar.at at.entry.line.number
-          (at.entry.indent + 1);
-      cells = cells;
-    } }
-{
-    Row {
-        node,
-        location: location(at),
-        cells,
-    }
+/// The tags of a tag line.
+#[derive(Drop)]
+pub(crate) struct TagLine<'a> {
+    pub words: Vec<TagText<'a>>,
+    ghost few: { vec_len words ≤ FEATURE_LIMIT },
 }
 
-/// The step that the line is.
-pub(crate) fn step_at(
-    alloc: Global,
-    node: u64,
-    at: IndentedLine<'_>,
-    line: StepLine<'_>,
-) -> Result<Step, AllocError>
-    ensures { IfOk result (λ s. s ≡ record {
-      node = node;
-      location = grammar.at at.entry.line.number (at.entry.indent + 1);
-      keyword = text_of line.entry.keyword.now;
-      kind = line.entry.kind;
-      text = text_of line.entry.text.now;
-      argument = None;
-    }) }
+/// What a line is read as, after its indent.
+#[derive(Drop)]
+pub(crate) enum Token<'a> {
+    Blank,
+    Comment,
+    /// The word of a language line.
+    Language(&'a str),
+    Tags(TagLine<'a>),
+    /// A tag line with white space in the tag at this column.
+    SpacedTag(u32),
+    Title(Block, Title<'a>),
+    Step(StepLine<'a>),
+    Row(Sequence<Cell>),
+    Fenced(FenceLine<'a>),
+    Other,
+}
+
+/// A text of its own with these characters.
+pub(crate) fn copied(alloc: Global, text: &str) -> Result<Text, AllocError>
+    ensures { IfOk result (λ t. t ≡ text_of text.now) }
 {
-    Ok(Step {
-        node,
-        location: location(at),
-        keyword: copied(alloc, line.keyword)?,
-        kind: line.kind,
-        text: copied(alloc, line.text)?,
-        argument: None,
-    })
+    Text::copy_of(alloc, text)
 }

@@ -3,7 +3,7 @@ use Rattle.std.specs.Prelude.{map}
 use Rattle.gk_grammar.specs.Assembly as assembly
 use Rattle.gk_grammar.specs.Assembly.{no_parts, with_block}
 use Rattle.gk_grammar.specs.Machine as machine
-use Rattle.gk_tree.specs.declared.parser.FlatBlock.{FlatBlock}
+use Rattle.gk_tree.specs.declared.blocks.FlatBlock.{FlatBlock}
 use Rattle.gk_tree.specs.Views.{flat_block_of}
 use Rattle.gk_tree.specs.Assembling.{parts_view, parts_after}
 use Rattle.gk_tree.proofs.assemble.parts_of.Goals as goal

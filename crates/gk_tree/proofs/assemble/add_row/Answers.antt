@@ -1,5 +1,0 @@
-use Rattle.std.proofs.Common.{rules}
-use Rattle.gk_tree.proofs.assemble.add_row.Goals as goal
-
-pub returns : goal.returns
-returns c = search rules

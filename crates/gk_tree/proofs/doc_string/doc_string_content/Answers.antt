@@ -1,0 +1,21 @@
+use Rattle.std.proofs.Common.{List, ap, arith, length, map, ◌<◌, ◌∙◌}
+use Rattle.std.specs.List.{join_with_byte}
+use Rattle.std.proofs.lemmas.List.{take_all}
+use Rattle.std.specs.String.{string_bytes}
+use Rattle.gk_grammar.specs.Grammar.{content_line}
+use Rattle.gk_tree.specs.declared.line_tokens.IndentedLine.{IndentedLine}
+use Rattle.gk_tree.specs.Views.{kept_line}
+use Rattle.gk_tree.proofs.TextLemmas.{turn_lines}
+use Rattle.gk_tree.proofs.doc_string.doc_string_content.Goals as goal
+
+pub loop-i-preserved : goal.loop-i-preserved
+loop-i-preserved c =
+    let x = c.index-lines-i.result in
+    let within : c.loop-i.i < length c.args.lines.now = omega arith in
+    turn_lines (content_line c.args.fence c.args.indent) c.args.lines.now c.loop-i.i x (string_bytes c.loop-i.text) (string_bytes c.push_content_line.new.text) (content_line c.args.fence c.args.indent (kept_line x)) within c.loop-i.invariant
+    (ap (λ (z : IndentedLine). content_line c.args.fence c.args.indent (kept_line z)) c.index-lines-i.is) c.in_ok-push_content_line.ensures
+
+pub returns : goal.returns
+returns c =
+    c.from.ensures ∙ c.loop-i.invariant
+    ∙ ap (λ (lines : List IndentedLine). join_with_byte 10 (map (content_line c.args.fence c.args.indent) (map kept_line lines))) (take_all c.loop-i.i c.args.lines.now c.loop-i-test.false)

@@ -1,5 +1,0 @@
-use Rattle.std.proofs.Common.{rules}
-use Rattle.gk_tree.proofs.fault.early_end.Goals as goal
-
-pub returns : goal.returns
-returns c = search rules

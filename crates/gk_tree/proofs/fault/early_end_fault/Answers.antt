@@ -1,0 +1,5 @@
+use Rattle.std.proofs.Common.{rules}
+use Rattle.gk_tree.proofs.fault.early_end_fault.Goals as goal
+
+pub returns : goal.returns
+returns c = search rules

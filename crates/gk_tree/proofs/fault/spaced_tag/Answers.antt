@@ -1,5 +1,0 @@
-use Rattle.std.proofs.Common.{rules}
-use Rattle.gk_tree.proofs.fault.spaced_tag.Goals as goal
-
-pub returns : goal.returns
-returns c = search rules
