@@ -16,8 +16,8 @@ use Rattle.ck_commands.specs.TextInput.{HasTextFault, IsTextOf, is_failed_text_r
 use Rattle.ck_commands.specs.declared.report.ExitStatus.TheVariants as exit
 use Rattle.ck_commands.specs.declared.text_input.TextFault.{TextFault}
 use Rattle.ck_commands.specs.declared.text_input.TextFault.TheVariants as text
-use Rattle.ck_commands.specs.declared.text_input.FeatureFault.{FeatureFault}
-use Rattle.ck_commands.specs.declared.text_input.FeatureFault.TheVariants.{Memory, NotUtf8, ReadFailed, Refused}
+use Rattle.ck_commands.specs.declared.command_feature.FeatureFault.{FeatureFault}
+use Rattle.ck_commands.specs.declared.command_feature.FeatureFault.TheVariants.{Memory, NotUtf8, ReadFailed, Refused}
 use Rattle.ck_commands.proofs.Printing.{IsOne, none_failed, some_failed}
 use Rattle.ck_commands.specs.Run.{Reported}
 use Rattle.ck_commands.proofs.TextLemmas.{failed_fault, input_of_whole, other_fault}

@@ -23,8 +23,8 @@ use Rattle.ck_commands.specs.Output.{Breaks, Delivers, DeliversOne, Prints, Repo
 use Rattle.ck_commands.specs.Results.{results_report}
 use Rattle.ck_commands.specs.Run.{IsBadFor, IsDone, PrintsCompiled, PrintsDocument, PrintsFault, PrintsRefused, PrintsResults, Reported, Reports, ReportsCompiled, Runs, Tells}
 use Rattle.ck_commands.specs.Verdicts.{PrintsBad, PrintsGood, counts_text, verdict_report}
-use Rattle.ck_commands.specs.declared.text_input.FeatureFault.{FeatureFault}
-use Rattle.ck_commands.specs.declared.text_input.FeatureFault.TheVariants as fault
+use Rattle.ck_commands.specs.declared.command_feature.FeatureFault.{FeatureFault}
+use Rattle.ck_commands.specs.declared.command_feature.FeatureFault.TheVariants as fault
 use Rattle.ck_commands.specs.declared.report.ExitStatus.{ExitStatus}
 use Rattle.ck_commands.specs.declared.report.ExitStatus.TheVariants as exit
 

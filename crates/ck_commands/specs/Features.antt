@@ -13,8 +13,8 @@ use Rattle.ck_commands.specs.Output.{Report, trouble_text}
 use Rattle.ck_commands.specs.declared.report.ExitStatus.TheVariants as exit
 use Rattle.ck_commands.specs.declared.text_input.TextFault.{TextFault}
 use Rattle.ck_commands.specs.declared.text_input.TextFault.TheVariants as text
-use Rattle.ck_commands.specs.declared.text_input.FeatureFault.{FeatureFault}
-use Rattle.ck_commands.specs.declared.text_input.FeatureFault.TheVariants.{Refused, ReadFailed, NotUtf8, Memory}
+use Rattle.ck_commands.specs.declared.command_feature.FeatureFault.{FeatureFault}
+use Rattle.ck_commands.specs.declared.command_feature.FeatureFault.TheVariants.{Refused, ReadFailed, NotUtf8, Memory}
 
 -- ---- what the bytes are
 

@@ -25,7 +25,7 @@ use Rattle.ck_commands.specs.Gate.{IsGateReport, PrintsBadWhy, PrintsReleased, R
 use Rattle.ck_commands.specs.Output.{DeliversOne, NoneFailed, Prints, Report, code_of, trouble_report}
 use Rattle.ck_commands.specs.Results.{ResultsShowNoFault, result_text, results_report}
 use Rattle.ck_commands.specs.Verdicts.{PrintsBad, PrintsGood, finding_text, verdict_report}
-use Rattle.ck_commands.specs.declared.text_input.FeatureFault.{FeatureFault}
+use Rattle.ck_commands.specs.declared.command_feature.FeatureFault.{FeatureFault}
 use Rattle.ck_commands.specs.declared.report.ExitStatus.TheVariants as exit
 
 -- ---- the report

@@ -1,20 +1,84 @@
 //! The commands `parse` and `compile`, over one feature file.
-ghost use Rattle.std.specs.Prelude.{◌≡◌, IfOk, string_bytes};
-ghost use Rattle.cm_envelope.specs.Device.{Writes};
+ghost use Rattle.std.specs.Prelude.{◌≡◌, IfOk, string_bytes, ℕ, List, true, OnOk, false};
 ghost use Rattle.ck_command_line.specs.CommandLine.{ask_parse, ask_compile};
 ghost use Rattle.ck_commands.specs.Output.{DeliversOne};
 ghost use Rattle.ck_commands.specs.Run.{Runs, ReportsCompiled};
-ghost use Rattle.ck_commands.specs.Features.{document_text, parse_report, fault_report, refused_text};
+ghost use Rattle.ck_commands.specs.Features.{document_text, parse_report, fault_report, refused_text, IsFeatureOf};
+ghost use Rattle.ck_commands.specs.Features.{is_failed_feature_read};
+ghost use Rattle.cm_envelope.specs.Device.{CountsFailure, Hears, OfInput};
 
 use crate::report::{ExitStatus, Report, flush_text, trouble_text, write_report, write_trouble};
-use crate::text_input::{FeatureFault, read_document, read_text};
+use crate::text_input::{TextFault, read_text};
 use cm_compile::{CompileFault, write_compiled};
 use cm_envelope::{ByteSink, ByteSource, Trouble};
 use cm_reasons::kind_label;
 use gk_document::Document;
-use gk_tree::ParseFault;
+use gk_grammar::FaultKind;
+use gk_tree::{ParseFault, parse};
 use std::alloc::{AllocError, Global};
 use std::hash::RandomState;
+
+/// Why a source gives no document.
+#[derive(Clone, Copy, Debug)]
+pub(crate) enum FeatureFault {
+    /// The text is no feature file.
+    Refused(ParseFault),
+    /// A read failed.
+    ReadFailed,
+    /// The bytes are no UTF-8.
+    NotUtf8,
+    /// There was no memory.
+    Memory,
+}
+
+impl From<TextFault> for FeatureFault {
+    ghost use Rattle.ck_commands.specs.Features.{feature_fault_of_text};
+
+    ghost from_gives = { λ f e. e ≡ feature_fault_of_text f };
+
+    fn from(fault: TextFault) -> FeatureFault {
+        match fault {
+            TextFault::ReadFailed => FeatureFault::ReadFailed,
+            TextFault::TooLong => FeatureFault::Refused(ParseFault {
+                kind: FaultKind::TooLong,
+                line: 0,
+                column: 0,
+            }),
+            TextFault::NotUtf8 => FeatureFault::NotUtf8,
+            TextFault::Memory => FeatureFault::Memory,
+        }
+    }
+}
+
+impl From<ParseFault> for FeatureFault {
+    ghost use Rattle.ck_commands.specs.Features.{feature_fault_of_parse};
+
+    ghost from_gives = { λ f e. e ≡ feature_fault_of_parse f };
+
+    fn from(fault: ParseFault) -> FeatureFault {
+        match fault.kind {
+            FaultKind::Memory => FeatureFault::Memory,
+            _ => FeatureFault::Refused(fault),
+        }
+    }
+}
+
+/// Reads a source to its end and parses it.
+///
+/// # Errors
+/// Why there is no document.
+fn read_document<R: ByteSource>(alloc: Global, source: &mut R) -> Result<Document, FeatureFault>
+    ensures feature { is_failed_feature_read result ≡ false
+        → OfInput (R.input source.old) (R.input source.new) (λ bytes. IsFeatureOf bytes result) }
+    ensures whole { OnOk result ((R.input source.new).is_over ≡ true) }
+    ensures heard { (read : List ℕ) × Hears (R.input source.old) (R.input source.new) read }
+    ensures failures { CountsFailure (is_failed_feature_read result)
+        (R.input source.old).failed_calls (R.input source.new).failed_calls }
+{
+    let text = read_text(alloc, source)?;
+    let document = parse(alloc, text.as_str())?;
+    Ok(document)
+}
 
 /// The counts of a document's nodes and comments.
 fn parsed_document_text(alloc: Global, document: &Document) -> Result<String, AllocError>

@@ -143,7 +143,7 @@ pub(crate) fn reported_status(status: Option<Status>) -> &'static str
 }
 
 /// What stands before each line: the name, as it is shown within a line, and `: `.
-fn front_of(alloc: Global, name: &str) -> Result<String, AllocError>
+fn name_front(alloc: Global, name: &str) -> Result<String, AllocError>
     ensures { IfOk result (λ front. string_bytes front ≡ name_front name.now) }
 {
     let mut front = String::new(alloc);
@@ -186,6 +186,6 @@ pub(crate) fn add_named(
     ensures { OnOk result (string_bytes text.new ≡ string_bytes text.old
         ++ named_text name.now lines.now) }
 {
-    let front = front_of(alloc, name)?;
+    let front = name_front(alloc, name)?;
     add_named_lines(text, front.as_str(), lines)
 }

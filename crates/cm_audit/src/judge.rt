@@ -28,7 +28,7 @@ ghost use Rattle.cm_stream.specs.Record.{table_after_envelope};
 ghost use Rattle.cm_audit.specs.Record.{AnswersRefusal};
 
 use crate::kept_sources::{
-    KeptSource, are_accepted, count_pickle, find_source, lack_some, read_source, set_ids,
+    KeptSource, are_accepted, count_pickle, find_source, kept_source, lack_some, set_ids,
 };
 use crate::state::{Names, State};
 use crate::stop::Stop;
@@ -370,7 +370,7 @@ fn judge_source(state: &mut State, source: Source) -> Result<(), Stop>
     if media_type.as_str() != PLAIN {
         return Err(Stop::Unsupported(Reason::MediaType));
     }
-    let kept = read_source(state.alloc, content.as_str())?;
+    let kept = kept_source(state.alloc, content.as_str())?;
     let uri = KeptText::from(uri.into_string());
     drop(state.sources.insert(uri, kept)?);
     Ok(())

@@ -236,7 +236,7 @@ impl KeptSource {
 }
 
 /// Reads the text of a source.
-pub(crate) fn read_source(alloc: Global, text: &str) -> Result<KeptSource, Stop>
+pub(crate) fn kept_source(alloc: Global, text: &str) -> Result<KeptSource, Stop>
     ensures { ReadsAs (reads text.now) result }
 {
     match parse(alloc, text) {

@@ -1,5 +1,6 @@
 //! The lines of cases and pickles as JSON.
-ghost use Rattle.std.specs.Prelude.{◌≡◌, ◌++◌, ℕ, List, IfOk, OnOk, codes, string_bytes};
+ghost use Rattle.std.specs.Prelude.{◌≡◌, ◌++◌, ℕ, List, IfOk, OnOk, codes, string_bytes, None, Some, ◌+◌, ◌<◌, Ok};
+ghost use Rattle.std.specs.Prelude.{if◌then◌else◌, ◌^◌};
 ghost use Rattle.serde_json.specs.Data.{number, string, unsigned};
 ghost use Rattle.serde_json.specs.Written.{compact_text};
 ghost use Rattle.cm_envelope.specs.declared.envelope.Envelope.{Envelope};
@@ -7,12 +8,14 @@ ghost use Rattle.cm_messages.specs.Sending.{SendsMember};
 ghost use Rattle.cm_cases.specs.Firsts.{count_at, entry_values, times_in, values_in};
 ghost use Rattle.cm_cases.specs.JsonLines.{case_data, case_json, json_line, unrun_json};
 ghost use Rattle.cm_cases.specs.Listed.{listing_of};
+ghost use Rattle.std.specs.Str.{bytes_eq};
 
 use crate::listing::{Listing, PickleEntry};
-use crate::places::{ByText, Places, both, count_of, counts_of};
+use crate::places::{ByText, Places, both};
 use crate::shown::add_shown_json;
 use cm_messages::{SendJson, json_text, send_list_member, send_number, send_str, send_text};
 use gk_document::Text;
+use indexmap::IndexMap;
 use serde::Serializer;
 use std::alloc::{AllocError, Global};
 use std::hash::RandomState;
@@ -66,7 +69,7 @@ impl SendJson<LineLayout> for CaseJson<'_> {
 }
 
 /// What is said, as compact JSON. Its bytes are checked, since no clause says that they are UTF-8.
-fn text_of(alloc: Global, case: &CaseJson<'_>) -> Result<String, AllocError>
+fn case_json_text(alloc: Global, case: &CaseJson<'_>) -> Result<String, AllocError>
     ensures { IfOk result (λ text. string_bytes text
         ≡ compact_text (case_data (values_in case.now))) }
 {
@@ -78,11 +81,11 @@ fn text_of(alloc: Global, case: &CaseJson<'_>) -> Result<String, AllocError>
 }
 
 /// Adds the line.
-fn add_line(alloc: Global, text: &mut String, case: &CaseJson<'_>) -> Result<(), AllocError>
+fn add_json_line(alloc: Global, text: &mut String, case: &CaseJson<'_>) -> Result<(), AllocError>
     ensures { OnOk result (string_bytes text.new
         ≡ string_bytes text.old ++ json_line (values_in case.now)) }
 {
-    let json = text_of(alloc, case)?;
+    let json = case_json_text(alloc, case)?;
     add_shown_json(text, json.as_str())?;
     text.push_str("\n")
 }
@@ -150,7 +153,7 @@ impl<'a> JsonLines<'a> {
             status,
             pickle,
         };
-        add_line(alloc, text, &case)
+        add_json_line(alloc, text, &case)
     }
 
     /// Adds the line of a case with this status.
@@ -191,4 +194,41 @@ impl<'a> JsonLines<'a> {
         }
         Ok(())
     }
+}
+
+/// How often a text was counted.
+pub(crate) fn count_of(counts: &ByText<'_, u64>, text: &str) -> u64
+    ensures { result ≡ count_at counts.now text.now }
+{
+    match counts.get(text) {
+        Some(count) => *count,
+        None => 0,
+    }
+}
+
+/// Counts a text.
+fn count_one<'a>(counts: &mut ByText<'a, u64>, text: &'a str) -> Result<(), AllocError>
+    requires few { count_at counts.old text.now + 1 < 2 ^ 64 }
+    ensures { OnOk result ((other : List ℕ) → count_at counts.new other
+        ≡ count_at counts.old other + (if bytes_eq other text.now then 1 else 0)) }
+{
+    let count = count_of(counts, text) + 1;
+    counts.insert(text, count)?;
+    Ok(())
+}
+
+/// How often each text is among these.
+pub(crate) fn counts_of<'a>(
+    alloc: Global,
+    seed: RandomState,
+    texts: &'a [Text],
+) -> Result<ByText<'a, u64>, AllocError>
+    ensures { IfOk result
+        (λ counts. (text : List ℕ) → count_at counts text ≡ times_in texts.now text) }
+{
+    let mut counts = IndexMap::with_hasher(alloc, seed);
+    for text in texts {
+        count_one(&mut counts, text.as_str())?;
+    }
+    Ok(counts)
 }

@@ -1,15 +1,15 @@
 //! Where cases and pickles stand, and the lines that say it.
-ghost use Rattle.std.specs.Prelude.{◌≡◌, ◌++◌, ◌∷◌, List, [], IfOk, OnOk, find, option_map, string_bytes, map, None, Some, ◌+◌, ◌<◌, Ok, ℕ};
-ghost use Rattle.std.specs.Prelude.{if◌then◌else◌, ◌^◌};
+ghost use Rattle.std.specs.Prelude.{◌≡◌, ◌++◌, ◌∷◌, List, [], IfOk, OnOk, find, option_map, string_bytes, map, None, Some};
+ghost use Rattle.std.specs.Prelude.{◌+◌, ◌<◌, Ok, ℕ, if◌then◌else◌};
 ghost use Rattle.std.specs.Option.{option_map_or};
 ghost use Rattle.std.specs.Str.{bytes_eq};
 ghost use Rattle.cm_envelope.specs.declared.envelope.Envelope.{Envelope as SomeEnvelope};
-ghost use Rattle.cm_cases.specs.Firsts.{HasFirsts, entry_of, entry_scenario, entry_text, is_named, line_at_in, line_in, scenario_in};
-ghost use Rattle.cm_cases.specs.Firsts.{or_else, value_at, count_at, times_in};
+ghost use Rattle.cm_cases.specs.Firsts.{HasFirsts, entry_of, entry_scenario, entry_text, is_named, line_at_in, line_in};
+ghost use Rattle.cm_cases.specs.Firsts.{scenario_in, or_else, value_at};
 ghost use Rattle.cm_cases.specs.Listed.{listing_of};
 ghost use Rattle.cm_cases.specs.declared.listing.DocumentEntry.{DocumentEntry as SomeDocument};
-ghost use Rattle.cm_cases.specs.Places.{case_place, case_scenario, pickle_scenario, scenario_at, unrun_lines, example_rows, place};
-ghost use Rattle.cm_cases.specs.Places.{places_of, scenario_places};
+ghost use Rattle.cm_cases.specs.Places.{case_place, case_scenario, pickle_scenario, scenario_at, unrun_lines, example_rows};
+ghost use Rattle.cm_cases.specs.Places.{place, places_of, scenario_places};
 ghost use Rattle.std.specs.List.{flat_map};
 ghost use Rattle.cm_stream.specs.References.{cases, pickles};
 
@@ -62,7 +62,7 @@ impl<'a> Lines<'a> {
 }
 
 /// Adds the places of a document, if its uri has none yet.
-fn add_document<'a>(
+fn add_document_places<'a>(
     alloc: Global,
     seed: RandomState,
     map: &mut ByText<'a, Lines<'a>>,
@@ -77,7 +77,7 @@ fn add_document<'a>(
 }
 
 /// The documents by their uris.
-fn documents<'a>(
+fn places_by_uri<'a>(
     alloc: Global,
     seed: RandomState,
     entries: &'a [DocumentEntry],
@@ -86,7 +86,7 @@ fn documents<'a>(
 {
     let mut map = IndexMap::with_hasher(alloc, seed);
     for entry in entries {
-        add_document(alloc, seed, &mut map, entry)?;
+        add_document_places(alloc, seed, &mut map, entry)?;
     }
     Ok(map)
 }
@@ -131,7 +131,7 @@ impl<'a> Places<'a> {
         let cases = firsts_of::<CaseId, CaseEntry>(alloc, seed, listing.cases.as_slice());
         let named = firsts_of::<CasePickle, CaseEntry>(alloc, seed, listing.cases.as_slice());
         let pickles = firsts_of::<PickleId, PickleEntry>(alloc, seed, listing.pickles.as_slice());
-        let documents = documents(alloc, seed, listing.documents.as_slice());
+        let documents = places_by_uri(alloc, seed, listing.documents.as_slice());
         let ((cases, named), (pickles, documents)) = both(
             both(cases, named),
             both(pickles, documents),
@@ -295,7 +295,7 @@ fn place_of(alloc: Global, ids: &[NodeId], node: u64, at: Location) -> Result<Pl
     Ok(Place { id, line: at.line })
 }
 
-fn add_rows(
+fn add_row_places(
     alloc: Global,
     places: &mut Sequence<Place>,
     ids: &[NodeId],
@@ -310,7 +310,7 @@ fn add_rows(
     Ok(())
 }
 
-fn add_examples(
+fn add_example_places(
     alloc: Global,
     places: &mut Sequence<Place>,
     ids: &[NodeId],
@@ -322,13 +322,13 @@ fn add_examples(
 {
     for block in examples {
         if let Some(table) = &block.table {
-            add_rows(alloc, places, ids, table.body.as_slice())?;
+            add_row_places(alloc, places, ids, table.body.as_slice())?;
         }
     }
     Ok(())
 }
 
-fn add_scenarios(
+fn add_scenario_places(
     alloc: Global,
     places: &mut Sequence<Place>,
     ids: &[NodeId],
@@ -339,12 +339,12 @@ fn add_scenarios(
 {
     for scenario in scenarios {
         places.push(place_of(alloc, ids, scenario.node, scenario.location)?)?;
-        add_examples(alloc, places, ids, scenario.examples.as_slice())?;
+        add_example_places(alloc, places, ids, scenario.examples.as_slice())?;
     }
     Ok(())
 }
 
-fn add_rules(
+fn add_rule_places(
     alloc: Global,
     places: &mut Sequence<Place>,
     ids: &[NodeId],
@@ -354,7 +354,7 @@ fn add_rules(
         ++ flat_map (scenario_places ids.now) (flat_map (λ r. r.scenarios) rules.now)) }
 {
     for rule in rules {
-        add_scenarios(alloc, places, ids, rule.scenarios.as_slice())?;
+        add_scenario_places(alloc, places, ids, rule.scenarios.as_slice())?;
     }
     Ok(())
 }
@@ -370,8 +370,8 @@ pub(crate) fn places_of(
         return Ok(places);
     };
     let ids = document.ids.as_slice();
-    add_scenarios(alloc, &mut places, ids, feature.scenarios.as_slice())?;
-    add_rules(alloc, &mut places, ids, feature.rules.as_slice())?;
+    add_scenario_places(alloc, &mut places, ids, feature.scenarios.as_slice())?;
+    add_rule_places(alloc, &mut places, ids, feature.rules.as_slice())?;
     Ok(places)
 }
 
@@ -486,43 +486,6 @@ pub fn firsts_of<'a, K: Key<T>, T>(
         add_first(&mut map, K::of(item), item)?;
     }
     Ok(map)
-}
-
-/// How often a text was counted.
-pub(crate) fn count_of(counts: &ByText<'_, u64>, text: &str) -> u64
-    ensures { result ≡ count_at counts.now text.now }
-{
-    match counts.get(text) {
-        Some(count) => *count,
-        None => 0,
-    }
-}
-
-/// Counts a text.
-fn count_one<'a>(counts: &mut ByText<'a, u64>, text: &'a str) -> Result<(), AllocError>
-    requires few { count_at counts.old text.now + 1 < 2 ^ 64 }
-    ensures { OnOk result ((other : List ℕ) → count_at counts.new other
-        ≡ count_at counts.old other + (if bytes_eq other text.now then 1 else 0)) }
-{
-    let count = count_of(counts, text) + 1;
-    counts.insert(text, count)?;
-    Ok(())
-}
-
-/// How often each text is among these.
-pub(crate) fn counts_of<'a>(
-    alloc: Global,
-    seed: RandomState,
-    texts: &'a [Text],
-) -> Result<ByText<'a, u64>, AllocError>
-    ensures { IfOk result
-        (λ counts. (text : List ℕ) → count_at counts text ≡ times_in texts.now text) }
-{
-    let mut counts = IndexMap::with_hasher(alloc, seed);
-    for text in texts {
-        count_one(&mut counts, text.as_str())?;
-    }
-    Ok(counts)
 }
 
 /// Both values, where there was memory for each.

@@ -1,5 +1,5 @@
 //! What is told of the line of a stream that decides, under the answer.
-ghost use Rattle.std.specs.Prelude.{◌≡◌, [], IfOk, IsSomeAnd, List, OnOk, string_bytes, ◌++◌, option_map, codes};
+ghost use Rattle.std.specs.Prelude.{◌≡◌, [], IfOk, IsSomeAnd, List, OnOk, string_bytes, ◌++◌, option_map};
 ghost use Rattle.cm_audit.specs.State.{summary_of};
 ghost use Rattle.cm_envelope.specs.declared.envelope.Envelope.{Envelope as SomeEnvelope};
 ghost use Rattle.cm_stream.specs.Findings.{IsBad, stream_fault_named};
@@ -7,26 +7,24 @@ ghost use Rattle.cm_fault_reasons.specs.Added.{Adds};
 ghost use Rattle.cm_reasons.specs.Trail.{trail_of};
 ghost use Rattle.cm_source_reasons.specs.Deciding.{IsDeciding};
 ghost use Rattle.cm_fault_reasons.specs.AtLine.{TellsFault, TellsOf, TellsReason, TellsWith};
-ghost use Rattle.cm_fault_reasons.specs.RunLines.{IsToldAtEnd, IsRefusedAt, IsTruthAt, ended_hook_lines, open_case_lines};
+ghost use Rattle.cm_fault_reasons.specs.RunLines.{IsToldAtEnd, IsRefusedAt, IsTruthAt, ended_hook_lines};
 ghost use Rattle.cm_fault_reasons.specs.ToldAt.{IsTold, reason_lines, told_uri_of};
-ghost use Rattle.cm_fault_reasons.specs.ToldKept.{is_of_refused, is_of_source, is_of_success, lines_by, told_by, HasResults};
+ghost use Rattle.cm_fault_reasons.specs.ToldKept.{is_of_refused, is_of_source, is_of_success, lines_by, told_by};
+ghost use Rattle.cm_fault_reasons.specs.ToldKept.{HasResults};
 ghost use Rattle.cm_fault_reasons.specs.Unknown.{told_id, told_line, told_lines};
 ghost use Rattle.cm_fault_reasons.specs.UnknownKept.{told_view};
-ghost use Rattle.cm_cases.specs.Listed.{listing_of};
-ghost use Rattle.cm_cases.specs.Places.{case_scenario};
 
 use crate::duplicate::first_duplicate;
+use crate::open_cases::add_open_cases;
 use crate::scenario::{add_declared_scenario, add_misnumbered, add_started};
 use crate::steps::{add_order, add_step_status};
 use crate::unknown::{Told, first_unknown};
 use cm_attempt::{Policy, Settings};
 use cm_audit::State;
-use cm_cases::{Places, add_shown};
+use cm_cases::add_shown;
 use cm_causes::add_truth;
 use cm_envelope::Envelope;
-use cm_reasons::{
-    AddLine, Trail, add_limited, add_open_hooks, add_refused, add_refused_of, add_run_hook,
-};
+use cm_reasons::{Trail, add_open_hooks, add_refused, add_refused_of, add_run_hook};
 use cm_source_reasons::add_source_reasons;
 use cm_stream::{Reason, StreamFault, Verdict};
 use std::alloc::{AllocError, Global};
@@ -109,7 +107,7 @@ fn envelope_text(
 }
 
 /// What is told of the last envelope, which has the fault.
-fn last_text(
+fn deciding_line_text(
     alloc: Global,
     seed: RandomState,
     settings: Settings,
@@ -138,7 +136,7 @@ fn end_text(alloc: Global, seed: RandomState, trail: &Trail) -> Result<String, A
 }
 
 /// Nothing is told of an envelope after the end of the run.
-fn after_text(alloc: Global, last: &Option<Envelope>) -> Result<String, AllocError>
+fn line_after_end_text(alloc: Global, last: &Option<Envelope>) -> Result<String, AllocError>
     ensures { IfOk result (λ text. IsSomeAnd last.now (λ e. string_bytes text ≡ [])) }
 {
     match last {
@@ -162,9 +160,9 @@ fn fault_text(
 {
     match fault {
         StreamFault::NoEnvelope(_) => Ok(String::new(alloc)),
-        StreamFault::AfterRunFinished => after_text(alloc, last),
+        StreamFault::AfterRunFinished => line_after_end_text(alloc, last),
         StreamFault::NoRunFinished => end_text(alloc, seed, trail),
-        _ => last_text(alloc, seed, settings, state, trail, last, fault),
+        _ => deciding_line_text(alloc, seed, settings, state, trail, last, fault),
     }
 }
 
@@ -212,7 +210,7 @@ pub fn verdict_told(
 }
 
 /// The uri of the feature file that an envelope is of.
-fn uri_of(envelope: &Envelope) -> Option<Told<'_>>
+fn told_uri(envelope: &Envelope) -> Option<Told<'_>>
     ensures { option_map told_view result ≡ told_uri_of envelope.now }
 {
     let uri = match envelope {
@@ -251,7 +249,7 @@ fn told_at_fault<'a>(
         ≡ told_by (summary_of state.now) envelope.now (IsBad (stream_fault_named fault))) }
 {
     match fault {
-        StreamFault::DuplicateUri | StreamFault::ParseErrorOfGoodSource => Ok(uri_of(envelope)),
+        StreamFault::DuplicateUri | StreamFault::ParseErrorOfGoodSource => Ok(told_uri(envelope)),
         StreamFault::UnknownReference => Ok(first_unknown(state, envelope)),
         StreamFault::DuplicateId => Ok(told_id(first_duplicate(alloc, seed, state, envelope)?)),
         _ => Ok(None),
@@ -334,44 +332,8 @@ fn add_reason(
 {
     match reason {
         Reason::UnknownStatus => add_step_status(alloc, seed, text, trail, envelope),
-        _ => add_told(text, &uri_of(envelope)),
+        _ => add_told(text, &told_uri(envelope)),
     }
-}
-
-/// Lines of test cases with an open attempt.
-#[derive(Drop)]
-struct OpenCaseLines<'a, 'p> {
-    places: &'a Places<'p>,
-}
-
-impl<'a, 'b, 'p> AddLine<&'b str> for OpenCaseLines<'a, 'p> {
-    ghost of = { λ s es. s.places.now ≡ listing_of es };
-
-    ghost line = { λ s es id. codes "case" ++ case_scenario es id.now };
-
-    fn add(&self, text: &mut String, item: &&'b str) -> Result<(), AllocError> {
-        text.push_str("case")?;
-        self.places.add_case_scenario(text, item)
-    }
-}
-
-/// Adds a line for each test case with an attempt that isn't finished, a hundred at most.
-///
-/// # Errors
-/// Only where there is no memory for them.
-fn add_open_cases(
-    alloc: Global,
-    seed: RandomState,
-    text: &mut String,
-    trail: &Trail,
-) -> Result<(), AllocError>
-    ensures { OnOk result ((es : List SomeEnvelope) → trail.now ≡ trail_of es
-        → string_bytes text.new ≡ string_bytes text.old ++ open_case_lines es) }
-{
-    let cases = trail.steps().open_cases(alloc, seed)?;
-    let places = trail.places(alloc, seed)?;
-    let lines = OpenCaseLines { places: &places };
-    add_limited(text, &lines, cases.as_slice())
 }
 
 /// Adds the hook of the run hook whose end a line is.

@@ -4,6 +4,7 @@
 
 mod at_line;
 mod duplicate;
+mod open_cases;
 mod scenario;
 mod steps;
 mod unknown;

@@ -37,7 +37,10 @@
 
 mod counts;
 mod judgement;
+mod keys;
 mod tally;
+mod text_set;
+mod undefined_steps;
 
 pub use judgement::Judgement;
 pub use tally::Tally;

@@ -1,14 +1,13 @@
 //! What is kept of a run for its release, envelope by envelope.
-ghost use Rattle.std.specs.Prelude.{◌≡◌, List, IfOk, string_bytes, ℕ, map};
-ghost use Rattle.std.specs.Prelude.{◌++◌, ◌∷◌, [], OnOk};
+ghost use Rattle.std.specs.Prelude.{◌≡◌, List, IfOk, string_bytes, ℕ, map, ◌++◌, ◌∷◌, [], OnOk};
 ghost use Rattle.cm_envelope.specs.declared.envelope.Envelope.{Envelope as SomeEnvelope};
 ghost use Rattle.cm_stream.specs.Release.{is_unmatched};
 ghost use Rattle.cm_release.specs.Tallied.{IsTallyOf};
-ghost use Rattle.cm_release.specs.Kept.{unmatched_ids, case_entry, kept_nothing, pickle_entry, start_entry, HasUnmatched, Keeps};
-ghost use Rattle.cm_release.specs.Kept.{finish_among, pass_among, skip_of};
+ghost use Rattle.cm_release.specs.Kept.{unmatched_ids, case_entry, kept_nothing, pickle_entry, start_entry, HasUnmatched};
+ghost use Rattle.cm_release.specs.Kept.{Keeps, finish_among, pass_among, skip_of};
 ghost use Rattle.cm_attempt.specs.Table.{has_text};
 
-use cm_cases::{CaseId, CasePickle, Key, PickleId, tag_names};
+use cm_cases::tag_names;
 use cm_envelope::{
     Envelope, Pickle, Status, TestCase, TestCaseStarted, TestStep, TestStepFinished,
 };
@@ -26,7 +25,7 @@ fn is_unmatched(step: &TestStep) -> bool
 }
 
 /// The ids of the steps that are of a pickle and that no step definition matches.
-fn unmatched_of(alloc: Global, steps: &[TestStep]) -> Result<Sequence<Text>, AllocError>
+fn unmatched_entry(alloc: Global, steps: &[TestStep]) -> Result<Sequence<Text>, AllocError>
     ensures { IfOk result (λ ids. ids ≡ unmatched_ids steps.now) }
 {
     let mut ids = Sequence::new(alloc);
@@ -151,7 +150,7 @@ fn case_entry(alloc: Global, case: &TestCase) -> Result<CaseEntry, AllocError>
     Ok(CaseEntry {
         id: Text::copy_of(alloc, case.id.as_str())?,
         pickle_id: Text::copy_of(alloc, case.pickle_id.as_str())?,
-        unmatched: unmatched_of(alloc, case.test_steps.as_slice())?,
+        unmatched: unmatched_entry(alloc, case.test_steps.as_slice())?,
     })
 }
 
@@ -226,7 +225,7 @@ impl Keeping {
 }
 
 /// Whether the id is among these. In an empty set nothing is looked up.
-fn contains(ids: &IndexSet<String, RandomState>, id: &str) -> bool
+fn has_id(ids: &IndexSet<String, RandomState>, id: &str) -> bool
     ensures { result ≡ has_text id.now (map string_bytes ids.now.keys) }
 {
     !ids.is_empty() && ids.contains(id)
@@ -245,7 +244,7 @@ fn note_pass(
           ++ pass_among (map string_bytes unmatched.now.keys) finish.now is_pending;
     }) }
 {
-    if !contains(unmatched, finish.test_step_id.as_str()) {
+    if !has_id(unmatched, finish.test_step_id.as_str()) {
         return Ok(());
     }
     kept.finishes.push(FinishEntry {
@@ -296,40 +295,5 @@ impl Keeping {
             }
             _ => Ok(()),
         }
-    }
-}
-
-impl Key<PickleEntry> for PickleId {
-    ghost text = { λ p. p.id };
-
-    fn of(item: &PickleEntry) -> &str {
-        item.id.as_str()
-    }
-}
-
-impl Key<CaseEntry> for CaseId {
-    ghost text = { λ c. c.id };
-
-    fn of(item: &CaseEntry) -> &str {
-        item.id.as_str()
-    }
-}
-
-impl Key<CaseEntry> for CasePickle {
-    ghost text = { λ c. c.pickle_id };
-
-    fn of(item: &CaseEntry) -> &str {
-        item.pickle_id.as_str()
-    }
-}
-
-/// The id of an attempt.
-pub(crate) struct StartId;
-
-impl Key<StartEntry> for StartId {
-    ghost text = { λ s. s.id };
-
-    fn of(item: &StartEntry) -> &str {
-        item.id.as_str()
     }
 }

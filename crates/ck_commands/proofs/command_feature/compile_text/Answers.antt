@@ -1,7 +1,7 @@
 use Rattle.std.proofs.Common.{◌≡◌, ◌∙◌, List, ℕ, Err, ap, inl, refl, sym}
 use Rattle.ck_commands.specs.Features.{IsReadableText}
 use Rattle.ck_commands.specs.Output.{Report}
-use Rattle.ck_commands.specs.declared.text_input.FeatureFault.TheVariants.{Refused}
+use Rattle.ck_commands.specs.declared.command_feature.FeatureFault.TheVariants.{Refused}
 use Rattle.ck_commands.specs.declared.report.ExitStatus.TheVariants.{Done}
 use Rattle.ck_commands.proofs.Compiles.{fault_delivered, refused_of}
 use Rattle.ck_commands.proofs.Delivering.{not_written}

@@ -10,5 +10,5 @@ invariant_of-result c =
       rw (sym c.as_slice.ensures) (IfOk-at_ok _ (of_cases.0) c.firsts_of-cases.ensures),
       rw (sym c.as_slice-2.ensures) (IfOk-at_ok _ (of_cases.1) c.firsts_of-named.ensures),
       rw (sym c.as_slice-3.ensures) (IfOk-at_ok _ (others.0) c.firsts_of-pickles.ensures),
-      rw (sym c.as_slice-4.ensures) (IfOk-at_ok _ (others.1) c.documents-documents.ensures),
+      rw (sym c.as_slice-4.ensures) (IfOk-at_ok _ (others.1) c.places_by_uri-documents.ensures),
     )
