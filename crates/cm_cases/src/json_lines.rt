@@ -1,5 +1,5 @@
 //! The lines of cases and pickles as JSON.
-ghost use Rattle.std.specs.Prelude.{◌≡◌, ◌++◌, ℕ, List, IfOk, OnOk, codes, string_bytes, None, Some, ◌+◌, ◌<◌, Ok};
+ghost use Rattle.std.specs.Prelude.{◌≡◌, ◌++◌, ℕ, List, IfOk, OnOk, codes, string_bytes, ◌+◌, ◌<◌};
 ghost use Rattle.std.specs.Prelude.{if◌then◌else◌, ◌^◌};
 ghost use Rattle.serde_json.specs.Data.{number, string, unsigned};
 ghost use Rattle.serde_json.specs.Written.{compact_text};

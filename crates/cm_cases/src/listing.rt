@@ -1,14 +1,13 @@
 //! What is kept of a stream for the places of its scenarios: its documents, pickles and test cases.
-ghost use Rattle.std.specs.Prelude.{◌≡◌, ◌++◌, ◌∷◌, List, [], IfOk, OnOk, map};
-ghost use Rattle.std.specs.Prelude.{OnErr};
+ghost use Rattle.std.specs.Prelude.{◌≡◌, ◌++◌, ◌∷◌, List, [], IfOk, OnOk, map, OnErr, ◌+◌};
 ghost use Rattle.cm_envelope.specs.declared.envelope.Envelope.{Envelope as SomeEnvelope};
 ghost use Rattle.cm_cases.specs.Listed.{listing_of, both_texts, case_entry, document_entry, id_and_uri, pickle_entry};
-ghost use Rattle.cm_cases.specs.Places.{last_node};
+ghost use Rattle.cm_cases.specs.Places.{last_node, example_rows, place, places_of, scenario_places};
 ghost use Rattle.cm_stream.specs.References.{cases, pickles};
+ghost use Rattle.std.specs.List.{flat_map};
 
-use crate::places::places_of;
-use cm_envelope::{Envelope, GherkinDocument, Pickle, PickleTag, TestCase};
-use gk_document::{Sequence, Text};
+use cm_envelope::{Envelope, GherkinDocument, NodeId, Pickle, PickleTag, TestCase, id_of};
+use gk_document::{Examples, Location, Row, Rule, Scenario, Sequence, Text};
 use std::alloc::{AllocError, Global};
 
 /// A test case, by the pickle that it names.
@@ -51,6 +50,7 @@ pub struct Listing {
     pub(crate) starts: Sequence<Text>,
 }
 
+/// What is kept of a test case.
 fn case_entry(alloc: Global, case: &TestCase) -> Result<CaseEntry, AllocError>
     ensures { IfOk result (λ entry. entry ≡ case_entry case.now) }
 {
@@ -60,7 +60,7 @@ fn case_entry(alloc: Global, case: &TestCase) -> Result<CaseEntry, AllocError>
     })
 }
 
-// The last of the texts, and an empty one where there is none.
+/// The last of the texts, and an empty one where there is none.
 fn last_text(texts: &[Text]) -> &str
     ensures { (p : Pickle) → texts.now ≡ p.ast_node_ids → result.now ≡ last_node p }
 {
@@ -81,6 +81,7 @@ pub fn tag_names(alloc: Global, tags: &[PickleTag]) -> Result<Sequence<Text>, Al
     Ok(names)
 }
 
+/// What is kept of a pickle.
 fn pickle_entry(alloc: Global, pickle: &Pickle) -> Result<PickleEntry, AllocError>
     ensures { IfOk result (λ entry. entry ≡ pickle_entry pickle.now) }
 {
@@ -93,6 +94,97 @@ fn pickle_entry(alloc: Global, pickle: &Pickle) -> Result<PickleEntry, AllocErro
     })
 }
 
+/// The place of a node, by its id.
+fn place_of(alloc: Global, ids: &[NodeId], node: u64, at: Location) -> Result<Place, AllocError>
+    ensures { IfOk result (λ p. p ≡ place ids.now node at) }
+{
+    let id = Text::copy_of(alloc, id_of(ids, node))?;
+    Ok(Place { id, line: at.line })
+}
+
+/// Adds the places of rows of examples.
+fn add_row_places(
+    alloc: Global,
+    places: &mut Sequence<Place>,
+    ids: &[NodeId],
+    rows: &[Row],
+) -> Result<(), AllocError>
+    ensures { OnOk result (places.new
+        ≡ places.old ++ map (λ r. place ids.now r.node r.location) rows.now) }
+{
+    for row in rows {
+        places.push(place_of(alloc, ids, row.node, row.location)?)?;
+    }
+    Ok(())
+}
+
+/// Adds the places of the rows of examples blocks.
+fn add_example_places(
+    alloc: Global,
+    places: &mut Sequence<Place>,
+    ids: &[NodeId],
+    examples: &[Examples],
+) -> Result<(), AllocError>
+    ensures { OnOk result (places.new ≡ places.old
+        ++ map (λ r. place ids.now r.node r.location)
+        (flat_map (λ x. example_rows x.table) examples.now)) }
+{
+    for block in examples {
+        if let Some(table) = &block.table {
+            add_row_places(alloc, places, ids, table.body.as_slice())?;
+        }
+    }
+    Ok(())
+}
+
+/// Adds the places of scenarios, each before those of its rows.
+fn add_scenario_places(
+    alloc: Global,
+    places: &mut Sequence<Place>,
+    ids: &[NodeId],
+    scenarios: &[Scenario],
+) -> Result<(), AllocError>
+    ensures { OnOk result (places.new
+        ≡ places.old ++ flat_map (scenario_places ids.now) scenarios.now) }
+{
+    for scenario in scenarios {
+        places.push(place_of(alloc, ids, scenario.node, scenario.location)?)?;
+        add_example_places(alloc, places, ids, scenario.examples.as_slice())?;
+    }
+    Ok(())
+}
+
+/// Adds the places of the scenarios of rules.
+fn add_rule_places(
+    alloc: Global,
+    places: &mut Sequence<Place>,
+    ids: &[NodeId],
+    rules: &[Rule],
+) -> Result<(), AllocError>
+    ensures { OnOk result (places.new ≡ places.old
+        ++ flat_map (scenario_places ids.now) (flat_map (λ r. r.scenarios) rules.now)) }
+{
+    for rule in rules {
+        add_scenario_places(alloc, places, ids, rule.scenarios.as_slice())?;
+    }
+    Ok(())
+}
+
+/// The places of a document.
+fn places_of(alloc: Global, document: &GherkinDocument) -> Result<Sequence<Place>, AllocError>
+    ensures { IfOk result (λ places. places ≡ places_of document.now) }
+{
+    let mut places = Sequence::new(alloc);
+    let Some(feature) = &document.document.feature else {
+        return Ok(places);
+    };
+    let ids = document.ids.as_slice();
+    add_scenario_places(alloc, &mut places, ids, feature.scenarios.as_slice())?;
+    add_rule_places(alloc, &mut places, ids, feature.rules.as_slice())?;
+    Ok(places)
+}
+
+/// What is kept of a document.
 fn document_entry(alloc: Global, document: &GherkinDocument) -> Result<DocumentEntry, AllocError>
     ensures { IfOk result (λ entry. entry ≡ document_entry document.now) }
 {

@@ -1,6 +1,6 @@
 //! Where cases and pickles stand, and the lines that say it.
 ghost use Rattle.std.specs.Prelude.{◌≡◌, ◌++◌, ◌∷◌, List, [], IfOk, OnOk, find, option_map, string_bytes, map, None, Some};
-ghost use Rattle.std.specs.Prelude.{◌+◌, ◌<◌, Ok, ℕ, if◌then◌else◌};
+ghost use Rattle.std.specs.Prelude.{◌+◌, Ok, ℕ, if◌then◌else◌};
 ghost use Rattle.std.specs.Option.{option_map_or};
 ghost use Rattle.std.specs.Str.{bytes_eq};
 ghost use Rattle.cm_envelope.specs.declared.envelope.Envelope.{Envelope as SomeEnvelope};
@@ -8,15 +8,11 @@ ghost use Rattle.cm_cases.specs.Firsts.{HasFirsts, entry_of, entry_scenario, ent
 ghost use Rattle.cm_cases.specs.Firsts.{scenario_in, or_else, value_at};
 ghost use Rattle.cm_cases.specs.Listed.{listing_of};
 ghost use Rattle.cm_cases.specs.declared.listing.DocumentEntry.{DocumentEntry as SomeDocument};
-ghost use Rattle.cm_cases.specs.Places.{case_place, case_scenario, pickle_scenario, scenario_at, unrun_lines, example_rows};
-ghost use Rattle.cm_cases.specs.Places.{place, places_of, scenario_places};
-ghost use Rattle.std.specs.List.{flat_map};
-ghost use Rattle.cm_stream.specs.References.{cases, pickles};
+ghost use Rattle.cm_cases.specs.Places.{case_place, case_scenario, pickle_scenario, scenario_at, unrun_lines};
 
 use crate::listing::{CaseEntry, DocumentEntry, Listing, PickleEntry, Place};
 use crate::shown::add_shown;
-use cm_envelope::{GherkinDocument, NodeId, id_of};
-use gk_document::{Examples, Location, Row, Rule, Scenario, Sequence, Text};
+use gk_document::Text;
 use indexmap::IndexMap;
 use std::alloc::{AllocError, Global};
 use std::hash::RandomState;
@@ -286,93 +282,6 @@ impl<'a> Places<'a> {
         }
         Ok(())
     }
-}
-
-fn place_of(alloc: Global, ids: &[NodeId], node: u64, at: Location) -> Result<Place, AllocError>
-    ensures { IfOk result (λ p. p ≡ place ids.now node at) }
-{
-    let id = Text::copy_of(alloc, id_of(ids, node))?;
-    Ok(Place { id, line: at.line })
-}
-
-fn add_row_places(
-    alloc: Global,
-    places: &mut Sequence<Place>,
-    ids: &[NodeId],
-    rows: &[Row],
-) -> Result<(), AllocError>
-    ensures { OnOk result (places.new
-        ≡ places.old ++ map (λ r. place ids.now r.node r.location) rows.now) }
-{
-    for row in rows {
-        places.push(place_of(alloc, ids, row.node, row.location)?)?;
-    }
-    Ok(())
-}
-
-fn add_example_places(
-    alloc: Global,
-    places: &mut Sequence<Place>,
-    ids: &[NodeId],
-    examples: &[Examples],
-) -> Result<(), AllocError>
-    ensures { OnOk result (places.new ≡ places.old
-        ++ map (λ r. place ids.now r.node r.location)
-        (flat_map (λ x. example_rows x.table) examples.now)) }
-{
-    for block in examples {
-        if let Some(table) = &block.table {
-            add_row_places(alloc, places, ids, table.body.as_slice())?;
-        }
-    }
-    Ok(())
-}
-
-fn add_scenario_places(
-    alloc: Global,
-    places: &mut Sequence<Place>,
-    ids: &[NodeId],
-    scenarios: &[Scenario],
-) -> Result<(), AllocError>
-    ensures { OnOk result (places.new
-        ≡ places.old ++ flat_map (scenario_places ids.now) scenarios.now) }
-{
-    for scenario in scenarios {
-        places.push(place_of(alloc, ids, scenario.node, scenario.location)?)?;
-        add_example_places(alloc, places, ids, scenario.examples.as_slice())?;
-    }
-    Ok(())
-}
-
-fn add_rule_places(
-    alloc: Global,
-    places: &mut Sequence<Place>,
-    ids: &[NodeId],
-    rules: &[Rule],
-) -> Result<(), AllocError>
-    ensures { OnOk result (places.new ≡ places.old
-        ++ flat_map (scenario_places ids.now) (flat_map (λ r. r.scenarios) rules.now)) }
-{
-    for rule in rules {
-        add_scenario_places(alloc, places, ids, rule.scenarios.as_slice())?;
-    }
-    Ok(())
-}
-
-pub(crate) fn places_of(
-    alloc: Global,
-    document: &GherkinDocument,
-) -> Result<Sequence<Place>, AllocError>
-    ensures { IfOk result (λ places. places ≡ places_of document.now) }
-{
-    let mut places = Sequence::new(alloc);
-    let Some(feature) = &document.document.feature else {
-        return Ok(places);
-    };
-    let ids = document.ids.as_slice();
-    add_scenario_places(alloc, &mut places, ids, feature.scenarios.as_slice())?;
-    add_rule_places(alloc, &mut places, ids, feature.rules.as_slice())?;
-    Ok(places)
 }
 
 /// A value for each text.

@@ -1,7 +1,6 @@
 //! The lines of test cases with an attempt that isn't finished.
 ghost use Rattle.std.specs.Prelude.{◌≡◌, List, OnOk, string_bytes, ◌++◌, codes};
 ghost use Rattle.cm_envelope.specs.declared.envelope.Envelope.{Envelope as SomeEnvelope};
-ghost use Rattle.cm_fault_reasons.specs.Added.{Adds};
 ghost use Rattle.cm_reasons.specs.Trail.{trail_of};
 ghost use Rattle.cm_fault_reasons.specs.RunLines.{open_case_lines};
 ghost use Rattle.cm_cases.specs.Listed.{listing_of};

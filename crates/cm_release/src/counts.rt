@@ -1,5 +1,5 @@
 //! What is counted of a good run for its release: pickles that are missed, retried, skipped or without steps.
-ghost use Rattle.std.specs.Prelude.{◌≡◌, List, IfOk, ◌&&◌, ℕ, Some, false, not, filter, is_some, map, option_map, ◌||◌};
+ghost use Rattle.std.specs.Prelude.{◌≡◌, List, IfOk, ◌&&◌, ℕ, Some, false, not, filter, is_some, map, option_map};
 ghost use Rattle.std.specs.Prelude.{OnOk, if◌then◌else◌};
 ghost use Rattle.cm_stream.specs.Release.{conditions_of, Conditions as SomeConditions};
 ghost use Rattle.std.specs.List.{list_any};

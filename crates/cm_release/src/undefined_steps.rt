@@ -1,5 +1,5 @@
 //! The steps of pickles that passed though no step definition matches them.
-ghost use Rattle.std.specs.Prelude.{◌≡◌, List, IfOk, ◌&&◌, ℕ, Some, false, map, ◌||◌, count_by, ◌++◌, OnOk};
+ghost use Rattle.std.specs.Prelude.{◌≡◌, List, IfOk, ◌&&◌, ℕ, false, map, ◌||◌, count_by, ◌++◌, OnOk};
 ghost use Rattle.std.specs.List.{list_any, flat_map};
 ghost use Rattle.std.specs.Option.{option_map_or, option_and_then};
 ghost use Rattle.std.specs.Str.{bytes_eq};

@@ -1,5 +1,5 @@
 //! The tree of a list of blocks, and the texts and tables that their lines make.
-ghost use Rattle.std.specs.Prelude.{◌≡◌, ◌∷◌, map, reverse, IfOk, OnOk, ◌<◌, Ok};
+ghost use Rattle.std.specs.Prelude.{◌≡◌, ◌∷◌, map, reverse, IfOk, OnOk};
 ghost use Rattle.gk_line.specs.declared.tokens.Block.TheVariants as block;
 ghost use Rattle.gk_grammar.specs.Assembly as assembly;
 ghost use Rattle.gk_grammar.specs.Assembly.{no_parts, with_block, feature_at, rule_at, scenario_at, examples_at, steps_of};

@@ -1,5 +1,5 @@
 //! The comments that are kept.
-ghost use Rattle.std.specs.Prelude.{◌≡◌, ◌++◌, ℕ, List, ◌+◌, ◌<◌, Ok, [], ◌∷◌, OnOk};
+ghost use Rattle.std.specs.Prelude.{◌≡◌, ◌++◌, ℕ, List, ◌+◌, Ok, [], ◌∷◌, OnOk};
 ghost use Rattle.gk_line.specs.Views.{line_chars};
 ghost use Rattle.gk_grammar.specs.Token as read;
 ghost use Rattle.gk_tree.specs.Views.{token_view, line_at, state_in, Gives, state_so_far, phase_of};

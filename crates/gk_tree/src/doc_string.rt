@@ -1,5 +1,5 @@
 //! The doc string of a step: the fence that opens it, its lines, and the fence that closes it.
-ghost use Rattle.std.specs.Prelude.{◌≡◌, ◌∷◌, map, IfOk, OnOk, ◌<◌, ◌+◌, Ok, [], if◌then◌else◌, ◌++◌, None, Err};
+ghost use Rattle.std.specs.Prelude.{◌≡◌, ◌∷◌, map, IfOk, OnOk, ◌+◌, [], if◌then◌else◌, ◌++◌};
 ghost use Rattle.gk_tree.specs.Views.{flat_block_of, state_in, Gives, text_of, state_so_far, kept_line, open_doc_string_of};
 ghost use Rattle.gk_grammar.specs.Machine as machine;
 ghost use Rattle.gk_grammar.specs.Grammar.{content_line};

@@ -1,5 +1,5 @@
 //! What a line is read as.
-ghost use Rattle.std.specs.Prelude.{◌≡◌, ◌≤◌, length, codes, IfOk, IsTrue, ◌+◌, None, ◌<◌, Ok, vec_len};
+ghost use Rattle.std.specs.Prelude.{◌≡◌, ◌≤◌, length, codes, IfOk, IsTrue, ◌+◌, vec_len};
 ghost use Rattle.gk_line.specs.declared.limit.TheConstants.{FEATURE_LIMIT};
 ghost use Rattle.std.specs.Str.{chars};
 ghost use Rattle.std.specs.Option.{option_map};
@@ -13,7 +13,6 @@ ghost use Rattle.gk_grammar.specs.Token.{step_token as stepped, fence_token as f
 ghost use Rattle.gk_grammar.specs.Token.{token_or_other};
 ghost use Rattle.gk_tree.specs.Read.{first_character};
 ghost use Rattle.gk_tree.specs.Views.{token_view, text_of};
-ghost use Rattle.gk_line.specs.declared.tokens.Block.TheVariants as block;
 
 use crate::rows::row_cells;
 use gk_document::{Cell, Location, Sequence, Text};

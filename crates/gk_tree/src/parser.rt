@@ -1,18 +1,17 @@
 //! The parser: one pass over the lines of a text, phase by phase.
-ghost use Rattle.std.specs.Prelude.{◌≡◌, ◌≢◌, ◌≤◌, ◌<◌, ◌+◌, ◌^◌, ◌↔◌, None, Ok, Err, length, IfOk, IfErr, IfSome};
+ghost use Rattle.std.specs.Prelude.{◌≡◌, ◌≢◌, ◌≤◌, ◌<◌, ◌+◌, ◌^◌, ◌↔◌, None, Err, length, IfOk, IfErr, IfSome};
 ghost use Rattle.std.specs.Str.{chars};
 ghost use Rattle.gk_line.specs.declared.limit.TheConstants.{FEATURE_LIMIT};
 ghost use Rattle.gk_line.specs.Lines.{lines_of};
 ghost use Rattle.gk_line.specs.Views.{numbered_line};
 ghost use Rattle.gk_grammar.specs.declared.fault.FaultKind.TheVariants as kind;
 ghost use Rattle.gk_grammar.specs.Documents.{lines_read, IsDocumentOf, HasFault, IsTooLong, max_bytes, max_lines};
-ghost use Rattle.gk_grammar.specs.Token.{line_of, step_token as stepped};
+ghost use Rattle.gk_grammar.specs.Token.{line_of};
 ghost use Rattle.gk_grammar.specs.Machine as machine;
 ghost use Rattle.gk_tree.specs.Views.{line_at, state_of, state_in, Gives, out_of_memory, too_long, text_of, state_so_far};
 ghost use Rattle.gk_tree.specs.Views.{phase_of, head_of};
 ghost use Rattle.gk_tree.specs.Read.{IsRead};
 ghost use Rattle.gk_tree.specs.Ends.{document_at, Answers, last_blocks};
-ghost use Rattle.gk_grammar.specs.Token as read;
 ghost use Rattle.gk_tree.specs.EndViews.{last_as_list};
 ghost use Rattle.gk_grammar.specs.Grammar.{english};
 

@@ -1,6 +1,5 @@
 //! Rows: those of an examples table, and those of a step.
-ghost use Rattle.std.specs.Prelude.{◌≡◌, ◌∷◌, map, IfOk, ◌≤◌, ◌<◌, ◌+◌, ◌^◌, Ok, [], length, codes, IsTrue, None, Err};
-ghost use Rattle.gk_line.specs.declared.tokens.Block.TheVariants as block;
+ghost use Rattle.std.specs.Prelude.{◌≡◌, ◌∷◌, map, IfOk, ◌≤◌, ◌<◌, ◌+◌, ◌^◌, [], length, codes, IsTrue};
 ghost use Rattle.gk_tree.specs.Views.{flat_block_of, state_in, Gives, state_so_far, line_at};
 ghost use Rattle.gk_line.specs.Views.{line_chars};
 ghost use Rattle.gk_grammar.specs.Machine as machine;

@@ -1,6 +1,5 @@
 //! The steps of a block, and the lines after them.
-ghost use Rattle.std.specs.Prelude.{◌≡◌, ◌∷◌, IfOk, ◌<◌, ◌+◌, ◌^◌, Ok, [], ◌++◌, None};
-ghost use Rattle.gk_line.specs.declared.tokens.Block.TheVariants as block;
+ghost use Rattle.std.specs.Prelude.{◌≡◌, ◌∷◌, IfOk, ◌<◌, ◌+◌, ◌^◌, [], ◌++◌, None};
 ghost use Rattle.gk_tree.specs.Views.{flat_block_of, state_in, Gives, text_of, state_so_far, line_at};
 ghost use Rattle.gk_line.specs.Views.{line_chars, step_text};
 ghost use Rattle.gk_grammar.specs.Machine as machine;

@@ -1,5 +1,5 @@
 //! Tag lines, and what may come after them.
-ghost use Rattle.std.specs.Prelude.{◌≡◌, map, IfOk, ◌<◌, ◌+◌, ◌^◌, Ok, ◌++◌, length, codes, Err};
+ghost use Rattle.std.specs.Prelude.{◌≡◌, map, IfOk, ◌<◌, ◌+◌, ◌^◌, Ok, ◌++◌, length, codes};
 ghost use Rattle.gk_line.specs.declared.tokens.Block.TheVariants as block;
 ghost use Rattle.gk_tree.specs.Views.{state_in, Gives, text_of, state_so_far, word_of, line_at};
 ghost use Rattle.gk_line.specs.Views.{line_chars, title_text};

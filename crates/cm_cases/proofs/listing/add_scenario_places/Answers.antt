@@ -4,7 +4,7 @@ use Rattle.gk_document.specs.declared.tree.Examples.{Examples}
 use Rattle.cm_cases.specs.Places.{example_rows, place, scenario_places}
 use Rattle.cm_cases.specs.declared.listing.Place.{Place}
 use Rattle.cm_cases.proofs.ListingLemmas.{head_added}
-use Rattle.cm_cases.proofs.places.add_scenario_places.Goals as goal
+use Rattle.cm_cases.proofs.listing.add_scenario_places.Goals as goal
 
 pub loop-scenario-preserved : goal.loop-scenario-preserved
 loop-scenario-preserved c =

@@ -1,7 +1,7 @@
 use Rattle.std.proofs.Common.{◌≡◌, ◌++◌, map, take}
 use Rattle.std.specs.List.{flat_map}
 use Rattle.cm_cases.specs.Places.{example_rows, place}
-use Rattle.cm_cases.proofs.places.add_example_places.Given as goal
+use Rattle.cm_cases.proofs.listing.add_example_places.Given as goal
 
 abbrev pub invariant-loop-block : goal.invariant-loop-block
 invariant-loop-block l =
