@@ -1,5 +1,5 @@
 //! The command `gate`: whether a run is to be released.
-ghost use Rattle.std.specs.Prelude.{◌≡◌, ◌++◌, IfOk, Ok, string_bytes, OnOk, map, List};
+ghost use Rattle.std.specs.Prelude.{◌≡◌, ◌++◌, IfOk, Ok, string_bytes, OnOk, map, List, true, [], if◌then◌else◌};
 ghost use Rattle.cm_stream.specs.Release.{conditions_of};
 ghost use Rattle.cm_stream.specs.Stream.{answer_of_audit};
 ghost use Rattle.ck_command_line.specs.CommandLine.{ask_gate};
@@ -7,15 +7,19 @@ ghost use Rattle.ck_commands.specs.Output.{IsReport, report_made, trouble_report
 ghost use Rattle.ck_commands.specs.Gate.{ReportsRelease, held_report, hold_name, release_text, held_status, second_line};
 ghost use Rattle.ck_commands.specs.Run.{Reported, Runs};
 ghost use Rattle.ck_commands.specs.Verdicts.{verdict_report};
-ghost use Rattle.ck_commands.specs.Judged.{JudgesRuns, counts_made, run_report, JudgesRun, JudgesStream, added_counts, counted_in};
-ghost use Rattle.ck_commands.specs.Judged.{no_counts};
-ghost use Rattle.ck_commands.specs.Runs.{GatesRuns, named_text, status_after, NotesReading, Reading, ReadsRun};
+ghost use Rattle.ck_commands.specs.Judged.{JudgesRuns, counts_made, run_report, JudgesRun, JudgesStream, added_counts};
+ghost use Rattle.ck_commands.specs.Judged.{counted_in, no_counts};
+ghost use Rattle.ck_commands.specs.Runs.{GatesRuns, named_text, status_after, NotesReading, Reading, ReadsRun, lines_after};
+ghost use Rattle.ck_commands.specs.Runs.{name_front};
 ghost use Rattle.files.specs.Openings.{Opening};
+ghost use Rattle.std.specs.Char.{encode_utf8};
+ghost use Rattle.std.specs.Str.{chars};
 
-use crate::report::{ExitStatus, Report, add_named, trouble_text, write_report};
+use crate::report::{ExitStatus, Report, trouble_text, write_report};
 use crate::verdict_report::{good_text, verdict_report};
 use cm_attempt::Settings;
 use cm_audit_release::{AuditedRelease, audit_part, audit_release};
+use cm_cases::add_shown;
 use cm_envelope::{ByteSink, ByteSource, Trouble};
 use cm_ran::Marks;
 use cm_stream::{Conditions, Counts, Hold, ReleaseCounts, Verdict};
@@ -436,4 +440,47 @@ fn with_gate_counts(
         report: report?,
         counts,
     })
+}
+
+/// What stands before each line: the name, as it is shown within a line, and `: `.
+fn name_front(alloc: Global, name: &str) -> Result<String, AllocError>
+    ensures { IfOk result (λ front. string_bytes front ≡ name_front name.now) }
+{
+    let mut front = String::new(alloc);
+    add_shown(&mut front, name)?;
+    front.push_str(": ")?;
+    Ok(front)
+}
+
+/// Adds a character, after the front where it begins a line.
+fn add_named_char(text: &mut String, front: &str, begins: bool, c: char) -> Result<(), AllocError>
+    ensures { OnOk result (string_bytes text.new ≡ string_bytes text.old
+        ++ ((if begins then front.now else []) ++ encode_utf8 c)) }
+{
+    if begins {
+        text.push_str(front)?;
+    }
+    text.push(c)
+}
+
+/// Adds the lines, each after the front.
+fn add_named_lines(text: &mut String, front: &str, lines: &str) -> Result<(), AllocError>
+    ensures { OnOk result (string_bytes text.new ≡ string_bytes text.old
+        ++ lines_after front.now true (chars lines.now)) }
+{
+    let mut begins = true;
+    for c in lines.chars() {
+        add_named_char(text, front, begins, c)?;
+        begins = c == '\n';
+    }
+    Ok(())
+}
+
+/// Adds the lines, each after the name, as it is shown within a line, and `: `.
+fn add_named(alloc: Global, text: &mut String, name: &str, lines: &str) -> Result<(), AllocError>
+    ensures { OnOk result (string_bytes text.new ≡ string_bytes text.old
+        ++ named_text name.now lines.now) }
+{
+    let front = name_front(alloc, name)?;
+    add_named_lines(text, front.as_str(), lines)
 }

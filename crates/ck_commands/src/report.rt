@@ -1,18 +1,11 @@
-//! How a command ends: its exit status, the report that it writes last, and how a name stands before a report's lines.
+//! How a command ends: its exit status, and the report that it writes last.
 ghost use Rattle.std.specs.Prelude.{◌≡◌, IfOk, List, string_bytes, ◌≤◌, ◌++◌, ℕ};
 ghost use Rattle.cm_envelope.specs.Device.{Writes, greatest_count};
-ghost use Rattle.ck_commands.specs.Output.{code_of, Delivers, DeliversWritten, report_made, trouble_name};
-ghost use Rattle.ck_commands.specs.Output.{trouble_report, write_failed_text};
-ghost use Rattle.ck_commands.specs.declared.report.ExitStatus.TheVariants.{Done};
-ghost use Rattle.std.specs.Prelude.{true, [], OnOk};
-ghost use Rattle.std.specs.Prelude.{if◌then◌else◌};
+ghost use Rattle.ck_commands.specs.Output.{code_of, Delivers, DeliversWritten, report_made, trouble_name, trouble_report};
+ghost use Rattle.ck_commands.specs.Output.{write_failed_text};
 ghost use Rattle.ck_commands.specs.Statuses.{reported_word};
-ghost use Rattle.std.specs.Char.{encode_utf8};
-ghost use Rattle.std.specs.Str.{chars};
-ghost use Rattle.ck_commands.specs.Runs.{lines_after, name_front, named_text};
 
 use cm_attempt::Status;
-use cm_cases::add_shown;
 use cm_envelope::{ByteSink, DeviceFailed, Trouble, write_all};
 use cm_reasons::status_word;
 use std::alloc::{AllocError, Global};
@@ -140,52 +133,4 @@ pub(crate) fn reported_status(status: Option<Status>) -> &'static str
         Some(status) => status_word(status),
         None => "NONE",
     }
-}
-
-/// What stands before each line: the name, as it is shown within a line, and `: `.
-fn name_front(alloc: Global, name: &str) -> Result<String, AllocError>
-    ensures { IfOk result (λ front. string_bytes front ≡ name_front name.now) }
-{
-    let mut front = String::new(alloc);
-    add_shown(&mut front, name)?;
-    front.push_str(": ")?;
-    Ok(front)
-}
-
-/// Adds a character, after the front where it begins a line.
-fn add_named_char(text: &mut String, front: &str, begins: bool, c: char) -> Result<(), AllocError>
-    ensures { OnOk result (string_bytes text.new ≡ string_bytes text.old
-        ++ ((if begins then front.now else []) ++ encode_utf8 c)) }
-{
-    if begins {
-        text.push_str(front)?;
-    }
-    text.push(c)
-}
-
-/// Adds the lines, each after the front.
-fn add_named_lines(text: &mut String, front: &str, lines: &str) -> Result<(), AllocError>
-    ensures { OnOk result (string_bytes text.new ≡ string_bytes text.old
-        ++ lines_after front.now true (chars lines.now)) }
-{
-    let mut begins = true;
-    for c in lines.chars() {
-        add_named_char(text, front, begins, c)?;
-        begins = c == '\n';
-    }
-    Ok(())
-}
-
-/// Adds the lines, each after the name, as it is shown within a line, and `: `.
-pub(crate) fn add_named(
-    alloc: Global,
-    text: &mut String,
-    name: &str,
-    lines: &str,
-) -> Result<(), AllocError>
-    ensures { OnOk result (string_bytes text.new ≡ string_bytes text.old
-        ++ named_text name.now lines.now) }
-{
-    let front = name_front(alloc, name)?;
-    add_named_lines(text, front.as_str(), lines)
 }

@@ -1,27 +1,22 @@
 //! How an envelope of each kind is judged.
-ghost use Rattle.std.specs.Prelude.{◌≡◌, false, slice_get, OnOk, ◌&&◌, not, unwrap_or, IfErr, true, is_some, ℕ, List, IfOk, map, ◌<◌};
+ghost use Rattle.std.specs.Prelude.{◌≡◌, false, slice_get, OnOk, ◌&&◌, not, unwrap_or, IfErr, true, is_some, IfOk, map};
+ghost use Rattle.std.specs.Prelude.{OnErr};
 ghost use Rattle.cm_stream.specs.References.{is_judged, pickle_step_ids};
 ghost use Rattle.cm_stream.specs.Redeclared.{passed_over};
-ghost use Rattle.cm_state.specs.StateChecks.{is_redeclared_by, judged_by, knows_case, knows_place, is_well, knows_run_hook, lacks_by};
-ghost use Rattle.cm_state.specs.StateChecks.{is_next_by, is_among, knows_step, knows_run};
+ghost use Rattle.cm_state.specs.StateChecks.{is_redeclared_by, judged_by, knows_case, knows_place, is_well, knows_run_hook};
+ghost use Rattle.cm_state.specs.StateChecks.{lacks_by, is_next_by, is_among, knows_step, knows_run};
 ghost use Rattle.cm_audit.specs.State.{JudgesBy, Takes, summary_of, Judges, Checks};
 ghost use Rattle.std.specs.Option.{option_map_or};
 ghost use Rattle.std.specs.Str.{bytes_eq};
 ghost use Rattle.cm_refs.specs.Declarations.{find_pickle, steps_of};
 ghost use Rattle.cm_refs.specs.StepIds.{ids_in};
 ghost use Rattle.cm_stream.specs.Texts.{same_texts};
-ghost use Rattle.cm_attempt.specs.Table.{is_good_status, has_text, has_repeat};
+ghost use Rattle.cm_attempt.specs.Table.{is_good_status, has_text, has_repeat, add_case_fault, with_case};
 ghost use Rattle.std.specs.List.{list_any, list_all};
 ghost use Rattle.cm_stream.specs.Checks.{same_flag};
 ghost use Rattle.cm_state.specs.ByOnePass.{plain_finding};
 ghost use Rattle.cm_audit.specs.Kept.{IsAcceptedAt, kept_rows};
 ghost use Rattle.cm_audit.specs.Stops.{StopsFor};
-ghost use Rattle.std.specs.String.{string_bytes};
-ghost use Rattle.std.specs.Prelude.{IsOk, OnErr};
-ghost use Rattle.cm_state.specs.Summary.{with_name};
-ghost use Rattle.cm_attempt.specs.Table.{add_case_fault, with_case};
-ghost use Rattle.indexmap.specs.IndexSet.{spare};
-ghost use Rattle.kept_texts.specs.Kept.{bytes_of};
 ghost use Rattle.cm_refs.specs.Due.{RefusesUnless};
 ghost use Rattle.cm_stream.specs.CallFaults.{call_fault_of_envelope};
 ghost use Rattle.cm_stream.specs.Record.{table_after_envelope};
@@ -30,7 +25,7 @@ ghost use Rattle.cm_audit.specs.Record.{AnswersRefusal};
 use crate::kept_sources::{
     KeptSource, are_accepted, count_pickle, find_source, kept_source, lack_some, set_ids,
 };
-use crate::state::{Names, State};
+use crate::state::{State, add_name, step_ids};
 use crate::stop::Stop;
 use cm_attempt::{Policy, Settings, Status, Track, TrackFault, worst_with};
 use cm_envelope::{
@@ -44,7 +39,7 @@ use cm_stream::{Reason, StreamFault, kept_status};
 use gk_document::{Sequence, Text};
 use indexmap::IndexSet;
 use kept_texts::KeptText;
-use std::alloc::{AllocError, AllocFailed, Global};
+use std::alloc::{AllocError, Global};
 use std::hash::RandomState;
 
 /// Judges an envelope of which no check comes after the end of the run, and takes it where it has no fault.
@@ -568,44 +563,6 @@ fn knows_run(state: &State, id: &Option<Text>) -> bool
     }
 }
 
-/// What has an id of its own.
-pub(crate) trait HasId: Drop {
-    ghost id: { Self → List ℕ };
-
-    fn into_id(self) -> Text
-        ensures { result ≡ id self };
-}
-
-impl HasId for PickleStep {
-    ghost id = { λ step. step.id };
-
-    fn into_id(self) -> Text {
-        self.id
-    }
-}
-
-impl HasId for TestStep {
-    ghost id = { λ step. step.id };
-
-    fn into_id(self) -> Text {
-        self.id
-    }
-}
-
-/// The ids of the steps, without a copy.
-pub(crate) fn step_ids<Step: HasId>(
-    alloc: Global,
-    steps: Sequence<Step>,
-) -> Result<Vec<String>, AllocError>
-    ensures { IfOk result (λ ids. map string_bytes ids.items ≡ map Step.id steps) }
-{
-    let mut ids = Vec::with_capacity(alloc, steps.len())?;
-    for step in steps.into_vec() {
-        ids.push(step.into_id().into_string())?;
-    }
-    Ok(ids)
-}
-
 /// Whether two of the texts are equal.
 fn have_repeat(alloc: Global, seed: RandomState, texts: &[NodeId]) -> Result<bool, AllocError>
     ensures { IfOk result (λ found. found ≡ has_repeat texts.now) }
@@ -618,16 +575,6 @@ fn have_repeat(alloc: Global, seed: RandomState, texts: &[NodeId]) -> Result<boo
         }
     }
     Ok(false)
-}
-
-/// Adds the pickle that a case names, unless another case named it.
-pub(crate) fn add_name(named: &mut Names, pickle: String) -> Result<(), AllocFailed<KeptText>>
-    ensures named { OnOk result (map bytes_of named.new.keys
-        ≡ with_name (map bytes_of named.old.keys) (string_bytes pickle)) }
-    ensures room { 0 < spare named.old → IsOk result }
-{
-    named.insert(KeptText::from(pickle))?;
-    Ok(())
 }
 
 /// A test case is declared with its steps, in order.

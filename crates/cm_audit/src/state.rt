@@ -1,18 +1,22 @@
 //! What an audit keeps of the lines so far.
-ghost use Rattle.std.specs.Prelude.{◌≡◌, option_map};
+ghost use Rattle.std.specs.Prelude.{◌≡◌, option_map, OnOk, ℕ, List, IfOk, map, ◌<◌, IsOk};
 ghost use Rattle.cm_state.specs.StateChecks.{find_source};
-ghost use Rattle.cm_state.specs.Summary.{counts_in, empty_summary};
+ghost use Rattle.cm_state.specs.Summary.{counts_in, empty_summary, with_name};
 ghost use Rattle.cm_audit.specs.Kept.{kept_row, kept_rows};
 ghost use Rattle.cm_audit.specs.State.{summary_of, with_uris};
+ghost use Rattle.std.specs.String.{string_bytes};
+ghost use Rattle.indexmap.specs.IndexSet.{spare};
+ghost use Rattle.kept_texts.specs.Kept.{bytes_of};
 
 use crate::kept_sources::{KeptSource, Sources, find_source};
 use cm_attempt::{Status, Track};
-use cm_envelope::TestRunStarted;
+use cm_envelope::{PickleStep, TestRunStarted, TestStep};
 use cm_refs::Declared;
 use cm_stream::Counts;
+use gk_document::{Sequence, Text};
 use indexmap::{IndexMap, IndexSet};
 use kept_texts::KeptText;
-use std::alloc::Global;
+use std::alloc::{AllocError, AllocFailed, Global};
 use std::hash::RandomState;
 
 /// The ids of pickles that test cases name, each once.
@@ -122,4 +126,53 @@ impl State {
         drop(run);
         track
     }
+}
+
+/// What has an id of its own.
+pub(crate) trait HasId: Drop {
+    ghost id: { Self → List ℕ };
+
+    /// The id, without a copy.
+    fn into_id(self) -> Text
+        ensures { result ≡ id self };
+}
+
+impl HasId for PickleStep {
+    ghost id = { λ step. step.id };
+
+    fn into_id(self) -> Text {
+        self.id
+    }
+}
+
+impl HasId for TestStep {
+    ghost id = { λ step. step.id };
+
+    fn into_id(self) -> Text {
+        self.id
+    }
+}
+
+/// The ids of the steps, without a copy.
+pub(crate) fn step_ids<Step: HasId>(
+    alloc: Global,
+    steps: Sequence<Step>,
+) -> Result<Vec<String>, AllocError>
+    ensures { IfOk result (λ ids. map string_bytes ids.items ≡ map Step.id steps) }
+{
+    let mut ids = Vec::with_capacity(alloc, steps.len())?;
+    for step in steps.into_vec() {
+        ids.push(step.into_id().into_string())?;
+    }
+    Ok(ids)
+}
+
+/// Adds the pickle that a case names, unless another case named it.
+pub(crate) fn add_name(named: &mut Names, pickle: String) -> Result<(), AllocFailed<KeptText>>
+    ensures named { OnOk result (map bytes_of named.new.keys
+        ≡ with_name (map bytes_of named.old.keys) (string_bytes pickle)) }
+    ensures room { 0 < spare named.old → IsOk result }
+{
+    named.insert(KeptText::from(pickle))?;
+    Ok(())
 }

@@ -2,7 +2,7 @@ use Rattle.std.proofs.Common.{◌∙◌, ap, map}
 use Rattle.kept_texts.specs.Kept.{bytes_of}
 use Rattle.cm_state.specs.Summary.{with_name}
 use Rattle.cm_audit.proofs.Cases.{with_inserted}
-use Rattle.cm_audit.proofs.judge.add_name.Goals as goal
+use Rattle.cm_audit.proofs.state.add_name.Goals as goal
 
 pub returns-clause-named : goal.returns-clause-named
 returns-clause-named c =

@@ -6,7 +6,7 @@ use Rattle.std.proofs.lemmas.Iterator.Consumers.{YieldsList-end}
 use Rattle.std.proofs.lemmas.List.{map-id}
 use Rattle.ck_commands.specs.Runs.{lines_after}
 use Rattle.ck_commands.proofs.RunsLemmas.{begins_push, lines_push}
-use Rattle.ck_commands.proofs.report.add_named_lines.Goals as goal
+use Rattle.ck_commands.proofs.command_gate.add_named_lines.Goals as goal
 
 pub loop-c-preserved : goal.loop-c-preserved
 loop-c-preserved c =
