@@ -11,19 +11,11 @@ use std::test::Fail;
 
 const URI: &str = "a.feature";
 
-fn is_text(text: &Option<Text>, json: Option<&str>) -> bool {
-    match (text, json) {
-        (Some(text), Some(json)) => text.as_str() == json,
-        (None, None) => true,
-        _ => false,
-    }
-}
-
 // Whether the difference is at the URI, with these texts.
 fn is_difference(difference: &Difference, expected: Option<&str>, found: Option<&str>) -> bool {
     difference.uri.as_str() == URI
-        && is_text(&difference.expected, expected)
-        && is_text(&difference.found, found)
+        && difference.expected.as_ref().map(Text::as_str) == expected
+        && difference.found.as_ref().map(Text::as_str) == found
 }
 
 fn two_ids(alloc: Global) -> Result<Vec<NodeId>, AllocError> {

@@ -26,14 +26,6 @@ const DUE_PICKLE: &str =
 const FOUND_PICKLE: &str =
     r#"{"pickle":{"astNodeIds":["0"],"language":"en","name":"s","steps":[{"astNodeIds":["1"],"text":"b"}],"tags":[],"uri":"u"}}"#;
 
-fn is_text(text: &Option<Text>, json: Option<&str>) -> bool {
-    match (text, json) {
-        (Some(text), Some(json)) => text.as_str() == json,
-        (None, None) => true,
-        _ => false,
-    }
-}
-
 fn came_of(
     made: &Result<Difference, AllocError>,
     expected: Option<&str>,
@@ -42,8 +34,8 @@ fn came_of(
     match made {
         Ok(difference) => right_if(
             difference.uri.as_str() == "u"
-                && is_text(&difference.expected, expected)
-                && is_text(&difference.found, found),
+                && difference.expected.as_ref().map(Text::as_str) == expected
+                && difference.found.as_ref().map(Text::as_str) == found,
         ),
         Err(AllocError) => Came::Refused,
     }
