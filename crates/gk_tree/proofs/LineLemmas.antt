@@ -5,7 +5,7 @@ use Rattle.std.specs.Prelude.{map, codes, not, filter, reverse}
 use Rattle.std.proofs.lemmas.List.{take_more, map-append, reverse-append, take_all}
 use Rattle.gk_line.specs.Views.{line_chars}
 use Rattle.gk_grammar.specs.Grammar.{from_text}
-use Rattle.gk_tree.specs.declared.line_tokens.IndentedLine.{IndentedLine}
+use Rattle.gk_tree.specs.declared.token.IndentedLine.{IndentedLine}
 use Rattle.gk_tree.specs.Views.{kept_line}
 use Rattle.std.specs.Option.{option_map}
 use Rattle.std.specs.List.{list_all}

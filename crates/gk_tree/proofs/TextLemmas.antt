@@ -7,7 +7,7 @@ use Rattle.std.proofs.lemmas.Str.{encodes-chars, encodes-append}
 use Rattle.std.proofs.lemmas.List.{take_more, map-append, length-map, length-take-le}
 use Rattle.std.proofs.lemmas.Bool.{false≢true}
 use Rattle.std.proofs.lemmas.Bool.Decides.{nat_tests}
-use Rattle.gk_tree.specs.declared.line_tokens.IndentedLine.{IndentedLine}
+use Rattle.gk_tree.specs.declared.token.IndentedLine.{IndentedLine}
 use Rattle.gk_grammar.specs.Token.{Line}
 use Rattle.gk_line.specs.declared.tags_and_comments.TagText.{TagText}
 use Rattle.gk_document.specs.declared.tree.Tag.{Tag}

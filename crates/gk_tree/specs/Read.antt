@@ -3,8 +3,8 @@ use Rattle.std.specs.Prelude.{ℕ, ◌≡◌, List, [], ◌∷◌, Option, Some,
 use Rattle.gk_line.specs.Tokens.{indent_of}
 use Rattle.gk_line.specs.Views.{line_chars}
 use Rattle.gk_grammar.specs.Token.{token_of}
-use Rattle.gk_tree.specs.declared.line_tokens.IndentedLine.{IndentedLine}
-use Rattle.gk_tree.specs.declared.line_tokens.Token.{Token}
+use Rattle.gk_tree.specs.declared.token.IndentedLine.{IndentedLine}
+use Rattle.gk_tree.specs.declared.token.Token.{Token}
 use Rattle.gk_tree.specs.Views.{token_view}
 
 abbrev pub first_character : List ℕ → Option ℕ

@@ -9,9 +9,9 @@ use Rattle.gk_grammar.specs.Machine as machine
 use Rattle.gk_grammar.specs.Machine.{State, PlacedFault}
 use Rattle.gk_line.specs.declared.tags_and_comments.TagText.{TagText}
 use Rattle.gk_tree.specs.declared.fault.ParseFault.{ParseFault}
-use Rattle.gk_tree.specs.declared.line_tokens.IndentedLine.{IndentedLine}
-use Rattle.gk_tree.specs.declared.line_tokens.Token.{Token}
-use Rattle.gk_tree.specs.declared.line_tokens.Token.TheVariants as token
+use Rattle.gk_tree.specs.declared.token.IndentedLine.{IndentedLine}
+use Rattle.gk_tree.specs.declared.token.Token.{Token}
+use Rattle.gk_tree.specs.declared.token.Token.TheVariants as token
 use Rattle.gk_tree.specs.declared.blocks.Body.{Body}
 use Rattle.gk_tree.specs.declared.blocks.Body.TheVariants as body
 use Rattle.gk_tree.specs.declared.blocks.FlatBlock.{FlatBlock}

@@ -6,9 +6,10 @@ ghost use Rattle.gk_grammar.specs.Machine as machine;
 ghost use Rattle.gk_grammar.specs.declared.fault.FaultKind.TheVariants as kind;
 
 use crate::fault::{ParseFault, spaced_tag_fault, unexpected_line_fault};
-use crate::line_tokens::{IndentedLine, Token, copied, location};
+use crate::line_tokens::copied;
 use crate::parser::{Phase, Progress};
 use crate::tags::add_tags;
+use crate::token::{IndentedLine, Token, location};
 use gk_document::{Location, Row, Sequence, Step, Tag, Text};
 use gk_line::{Block, Title};
 use std::alloc::{AllocError, Global};

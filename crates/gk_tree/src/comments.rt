@@ -7,8 +7,9 @@ ghost use Rattle.gk_grammar.specs.Machine as machine;
 ghost use Rattle.gk_grammar.specs.Grammar.{comments_of, comment_of};
 
 use crate::fault::ParseFault;
-use crate::line_tokens::{IndentedLine, Token, copied};
+use crate::line_tokens::copied;
 use crate::parser::{Phase, Progress};
+use crate::token::{IndentedLine, Token};
 use gk_document::{Comment, Location};
 use std::alloc::{AllocError, Global};
 

@@ -12,9 +12,10 @@ ghost use Rattle.gk_grammar.specs.Grammar as grammar;
 ghost use Rattle.gk_tree.specs.declared.parser.Progress.{Progress as SomeProgress};
 
 use crate::fault::{ParseFault, unexpected_line_fault};
-use crate::line_tokens::{IndentedLine, copied, location};
+use crate::line_tokens::copied;
 use crate::parser::Phase;
 use crate::steps::BlockWithSteps;
+use crate::token::{IndentedLine, location};
 use gk_document::{Argument, DocString, Fence, Location, Text, media_type};
 use gk_line::{FenceLine, fence, push_doc_line};
 use std::alloc::{AllocError, Global};

@@ -2,7 +2,7 @@
 ghost use Rattle.std.specs.Prelude.{◌≡◌, ◌+◌};
 ghost use Rattle.gk_grammar.specs.declared.fault.FaultKind.TheVariants as kinds;
 
-use crate::line_tokens::{IndentedLine, location};
+use crate::token::{IndentedLine, location};
 use gk_document::Location;
 use gk_grammar::FaultKind;
 use std::alloc::{AllocError, AllocFailed};

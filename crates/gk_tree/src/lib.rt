@@ -25,6 +25,7 @@ mod parser;
 mod rows;
 mod steps;
 mod tags;
+mod token;
 
 pub use fault::ParseFault;
 pub use gk_document::{

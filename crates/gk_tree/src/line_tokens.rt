@@ -1,5 +1,5 @@
 //! What a line is read as.
-ghost use Rattle.std.specs.Prelude.{◌≡◌, ◌≤◌, length, codes, IfOk, IsTrue, ◌+◌, vec_len};
+ghost use Rattle.std.specs.Prelude.{◌≡◌, ◌≤◌, length, codes, IfOk, IsTrue};
 ghost use Rattle.gk_line.specs.declared.limit.TheConstants.{FEATURE_LIMIT};
 ghost use Rattle.std.specs.Str.{chars};
 ghost use Rattle.std.specs.Option.{option_map};
@@ -15,11 +15,9 @@ ghost use Rattle.gk_tree.specs.Read.{first_character};
 ghost use Rattle.gk_tree.specs.Views.{token_view, text_of};
 
 use crate::rows::row_cells;
-use gk_document::{Cell, Location, Sequence, Text};
-use gk_line::{
-    Block, FenceLine, Line, StepLine, TagFault, TagText, Title, block_title, fence, language, step,
-    tags,
-};
+use crate::token::{Head, TagLine, Token};
+use gk_document::Text;
+use gk_line::{Line, TagFault, block_title, fence, language, step, tags};
 use std::alloc::{AllocError, Global};
 
 /// The indent of a line with this text, and the first character after it.
@@ -132,56 +130,6 @@ fn title_token(line: Line<'_>) -> Option<Token<'_>>
 {
     let (block, title) = block_title(line)?;
     Some(Token::Title(block, title))
-}
-
-/// A line with its indent.
-#[derive(Clone, Copy)]
-pub(crate) struct IndentedLine<'a> {
-    pub line: Line<'a>,
-    pub indent: u32,
-    ghost short: { length line.text.now ≤ FEATURE_LIMIT },
-    ghost bound: { indent ≤ FEATURE_LIMIT },
-}
-
-/// The place of a line's first character after its indent.
-pub(crate) fn location(at: IndentedLine<'_>) -> Location
-    ensures { result ≡ record { line = at.entry.line.number; column = at.entry.indent + 1 } }
-{
-    Location {
-        line: at.line.number,
-        column: at.indent + 1,
-    }
-}
-
-/// The indent of a line, and the first character after it.
-#[derive(Clone, Copy)]
-pub(crate) struct Head {
-    pub indent: u32,
-    pub first: Option<char>,
-}
-
-/// The tags of a tag line.
-#[derive(Drop)]
-pub(crate) struct TagLine<'a> {
-    pub words: Vec<TagText<'a>>,
-    ghost few: { vec_len words ≤ FEATURE_LIMIT },
-}
-
-/// What a line is read as, after its indent.
-#[derive(Drop)]
-pub(crate) enum Token<'a> {
-    Blank,
-    Comment,
-    /// The word of a language line.
-    Language(&'a str),
-    Tags(TagLine<'a>),
-    /// A tag line with white space in the tag at this column.
-    SpacedTag(u32),
-    Title(Block, Title<'a>),
-    Step(StepLine<'a>),
-    Row(Sequence<Cell>),
-    Fenced(FenceLine<'a>),
-    Other,
 }
 
 /// A text of its own with these characters.

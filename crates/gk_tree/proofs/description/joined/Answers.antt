@@ -3,7 +3,7 @@ use Rattle.std.specs.List.{join_with_byte}
 use Rattle.std.proofs.lemmas.List.{take_all}
 use Rattle.std.specs.String.{string_bytes}
 use Rattle.gk_grammar.specs.Token.{bytes}
-use Rattle.gk_tree.specs.declared.line_tokens.IndentedLine.{IndentedLine}
+use Rattle.gk_tree.specs.declared.token.IndentedLine.{IndentedLine}
 use Rattle.gk_tree.specs.Views.{text_of, kept_line}
 use Rattle.gk_tree.proofs.TextLemmas.{turn_lines}
 use Rattle.gk_tree.proofs.description.joined.Goals as goal

@@ -3,7 +3,7 @@ use Rattle.std.specs.Prelude.{map}
 use Rattle.std.proofs.lemmas.List.{map-append}
 use Rattle.gk_line.specs.Tokens.{begins_by}
 use Rattle.gk_line.specs.Views.{line_chars}
-use Rattle.gk_tree.specs.declared.line_tokens.IndentedLine.{IndentedLine}
+use Rattle.gk_tree.specs.declared.token.IndentedLine.{IndentedLine}
 use Rattle.gk_tree.specs.Views.{kept_line}
 use Rattle.gk_tree.proofs.LineLemmas.{turn_kept, turn_left}
 use Rattle.gk_tree.proofs.description.without_comments.Goals as goal

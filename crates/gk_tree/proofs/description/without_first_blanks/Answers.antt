@@ -2,7 +2,7 @@ use Rattle.std.proofs.Common.{◌≡◌, sym, ap, ◌∙◌, subst, arith, false
 use Rattle.std.specs.Prelude.{map}
 use Rattle.gk_line.specs.Tokens.{is_blank_line}
 use Rattle.gk_line.specs.Views.{line_chars}
-use Rattle.gk_tree.specs.declared.line_tokens.IndentedLine.{IndentedLine}
+use Rattle.gk_tree.specs.declared.token.IndentedLine.{IndentedLine}
 use Rattle.gk_tree.specs.Views.{kept_line}
 use Rattle.gk_tree.proofs.LineLemmas.{all_left, turn_text, turn_blank}
 use Rattle.gk_tree.proofs.description.without_first_blanks.Goals as goal

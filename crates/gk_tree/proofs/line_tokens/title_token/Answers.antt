@@ -4,7 +4,7 @@ use Rattle.gk_line.specs.Tokens.{TitleText}
 use Rattle.gk_line.specs.Views.{line_chars}
 use Rattle.gk_line.specs.declared.tokens.Block.{Block}
 use Rattle.gk_grammar.specs.Token.{title_token}
-use Rattle.gk_tree.specs.declared.line_tokens.Token.{Token}
+use Rattle.gk_tree.specs.declared.token.Token.{Token}
 use Rattle.gk_tree.specs.Views.{token_view}
 use Rattle.gk_tree.proofs.HeadLemmas.{first_title}
 use Rattle.gk_tree.proofs.line_tokens.title_token.Goals as goal
