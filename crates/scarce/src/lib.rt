@@ -1,7 +1,10 @@
 //! Want of memory for tests: a process takes what memory it can get, so that what it asks for next is refused.
 #![tactic(auto)]
 
+ghost use Rattle.std.specs.Prelude.{◌≡◌, is_ok};
+
 use std::alloc::{AllocError, Global};
+use std::test::Fail;
 
 /// The greatest room that a shortage leaves, in bytes.
 pub const GREATEST_ROOM: usize = 524_288;
@@ -21,6 +24,20 @@ const CACHED: usize = 7;
 
 // How many sizes it keeps so: 24 bytes, and each 16 more.
 const CACHED_SIZES: usize = 64;
+
+/// Fails by the words where something doesn't hold. It asks for no memory, which is short in these tests.
+///
+/// # Errors
+/// It doesn't hold.
+pub fn check(holds: bool, words: &'static str) -> Result<(), Fail>
+    ensures { is_ok result ≡ holds }
+{
+    if holds {
+        Ok(())
+    } else {
+        Err(Fail::from(words))
+    }
+}
 
 /// All memory that the process can get, but for 32,000,000 bytes of its heap. Of these it takes in turn all beyond a room
 /// that a test states, and gives them back. A drop gives back all.

@@ -1,4 +1,4 @@
 mod attempts;
-mod checking;
 mod declarations;
+mod owned_texts;
 mod texts_kept;

@@ -1,7 +1,7 @@
 //! Declarations in want of memory.
-use crate::tests::checking::{check, texts};
+use crate::tests::owned_texts::texts;
 use cm_refs::{Declared, RefFault};
-use scarce::Shortage;
+use scarce::{Shortage, check};
 use seeds::fixed_seed;
 use std::alloc::Global;
 use std::test::Fail;

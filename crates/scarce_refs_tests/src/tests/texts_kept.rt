@@ -1,7 +1,6 @@
 //! Texts that stay, in want of memory.
-use crate::tests::checking::check;
 use kept_texts::KeptText;
-use scarce::Shortage;
+use scarce::{Shortage, check};
 use std::alloc::Global;
 use std::test::Fail;
 

@@ -1,7 +1,7 @@
 //! Lines, documents and pickles in want of memory.
 ghost use Rattle.std.specs.Prelude.{◌≤◌, length, IfSome};
 
-use crate::tests::meeting::{Came, SMALL, check, meet_alone, right_if};
+use crate::tests::meeting::{Came, SMALL, meet_alone, right_if};
 use gk_line::{
     Cell, Fence, Line, TagFault, TagText, cells, doc_line, is_row, is_tags, push_doc_line, tags,
 };
@@ -10,7 +10,7 @@ use gk_pickle::{
     next_pickle, scenarios,
 };
 use gk_tree::{Document, FaultKind, ParseFault, parse};
-use scarce::Shortage;
+use scarce::{Shortage, check};
 use seeds::fixed_seed;
 use std::alloc::{AllocError, Global};
 use std::hash::RandomState;

@@ -1,8 +1,7 @@
 //! The lines of a feed in want of memory.
-use crate::tests::meeting::check;
 use cm_envelope::{Feed, Trouble};
 use devices::Pieces;
-use scarce::{GREATEST_ROOM, Shortage};
+use scarce::{GREATEST_ROOM, Shortage, check};
 use std::alloc::Global;
 use std::test::Fail;
 

@@ -1,5 +1,5 @@
 //! Calls that are met with rooms.
-use scarce::{GREATEST_ROOM, Shortage};
+use scarce::{GREATEST_ROOM, Shortage, check};
 use std::alloc::Global;
 use std::test::Fail;
 
@@ -49,15 +49,6 @@ pub(crate) const RUNS: Rooms = Rooms {
     count: 8192,
     step: 64,
 };
-
-// Fails by the words where something doesn't hold.
-pub(crate) fn check(holds: bool, words: &'static str) -> Result<(), Fail> {
-    if holds {
-        Ok(())
-    } else {
-        Err(Fail::from(words))
-    }
-}
 
 // How often a call was refused, and how often it gave the answer that is wanted.
 #[derive(Clone, Copy)]

@@ -1,6 +1,5 @@
 //! The rooms that a shortage leaves.
-use crate::tests::meeting::check;
-use scarce::{GREATEST_ROOM, Shortage};
+use scarce::{GREATEST_ROOM, Shortage, check};
 use std::alloc::Global;
 use std::test::Fail;
 
