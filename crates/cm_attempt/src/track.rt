@@ -615,6 +615,7 @@ fn is_next(cursor: Cursor, steps: &StepIds, step: &str) -> bool
     }
 }
 
+/// Whether the step may start: the attempt is under way, no step of it runs, and the step is the next one.
 fn may_start(cursor: Option<Cursor>, steps: &StepIds, step: &str) -> bool
     ensures { result ≡ starts_in_order step.now cursor (ids_in steps.now) }
 {

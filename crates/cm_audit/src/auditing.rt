@@ -1,5 +1,5 @@
 //! The audit of a stream: the loop over its lines, and who watches it.
-ghost use Rattle.std.specs.Prelude.{◌≡◌, ◌+◌, ◌++◌, ◌∷◌, [], List, Ok, Err, IfSome, ◌≤◌, OnOk, IfOk, true, ⊤};
+ghost use Rattle.std.specs.Prelude.{◌≡◌, ◌+◌, ◌++◌, ◌∷◌, [], List, Ok, Err, IfSome, ◌≤◌, OnOk, IfOk, Bool, false, true, ⊤};
 ghost use Rattle.cm_envelope.specs.Device.{CountsFailure, OfInput, OfReads};
 ghost use Rattle.cm_envelope.specs.declared.envelope.Envelope.{Envelope as SomeEnvelope};
 ghost use Rattle.cm_envelope.specs.declared.feed.Trouble.TheVariants.{ReadFailed};
@@ -385,6 +385,9 @@ pub trait Watch {
     /// What it is after these envelopes.
     ghost follows: { Self → List SomeEnvelope → Type 0 };
 
+    /// Whether the line that decides is read once more for it.
+    ghost rereads: { Bool };
+
     /// One envelope more.
     ///
     /// # Errors
@@ -394,7 +397,8 @@ pub trait Watch {
             → follows self.new (es ++ envelope.now ∷ [])) };
 
     /// Whether it wants the envelope of the line that decides, which is then read once more.
-    fn wants_last(&self) -> bool;
+    fn wants_last(&self) -> bool
+        ensures { result ≡ rereads };
 }
 
 /// Nothing is kept of the envelopes.
@@ -403,6 +407,8 @@ pub(crate) struct Unwatched;
 
 impl Watch for Unwatched {
     ghost follows = { λ _ _. ⊤ };
+
+    ghost rereads = { false };
 
     fn note(&mut self, _alloc: Global, _envelope: &Envelope) -> Result<(), AllocError> {
         Ok(())
@@ -414,7 +420,7 @@ impl Watch for Unwatched {
 }
 
 /// The verdict on a stream that isn't good: of its run no success is known.
-pub(crate) fn unsuccessful(verdict: Verdict) -> Audited
+fn unsuccessful(verdict: Verdict) -> Audited
     ensures { result ≡ unsuccessful verdict }
 {
     Audited {
@@ -424,7 +430,7 @@ pub(crate) fn unsuccessful(verdict: Verdict) -> Audited
 }
 
 /// The answer where the reading ends at the line of this number, counted from 1.
-pub(crate) fn audited_at(stop: Stop, line: u64) -> Result<Audited, Trouble>
+fn audited_at(stop: Stop, line: u64) -> Result<Audited, Trouble>
     ensures { result ≡ audited_at line stop }
 {
     match stop {

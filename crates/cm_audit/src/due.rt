@@ -103,6 +103,7 @@ trait Fits<Due> {
     // the part is the one that is due
     ghost is_due: { List (List ℕ) → Self → Due → Bool };
 
+    /// Whether the part is the one that is due, its nodes named by these ids.
     fn fits(&self, ids: &[NodeId], due: &Due) -> bool
         ensures { result ≡ is_due ids.now self.now due.now };
 }

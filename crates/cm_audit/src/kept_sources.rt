@@ -136,7 +136,7 @@ impl AcceptedSource {
     }
 
     /// Whether its document or one of its pickles is lacking.
-    pub(crate) fn lacks_some(&self) -> bool
+    fn lacks_some(&self) -> bool
         ensures { result ≡ lacks_by (accepted_row [] self.now) }
     {
         self.awaited().is_some() || self.due().has_some()

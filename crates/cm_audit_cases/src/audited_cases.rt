@@ -1,5 +1,5 @@
 //! The audit of a stream, with what its cases say.
-ghost use Rattle.std.specs.Prelude.{◌≡◌};
+ghost use Rattle.std.specs.Prelude.{◌≡◌, false};
 ghost use Rattle.cm_envelope.specs.Device.{CountsFailure, OfReads};
 ghost use Rattle.cm_audit.specs.Audit.{GoodAtEnd};
 ghost use Rattle.cm_envelope.specs.Feeds.{is_failed_read};
@@ -78,6 +78,8 @@ pub(crate) struct CaseWatch {
 
 impl Watch for CaseWatch {
     ghost follows = { λ watch es. watch.listing ≡ listing_of es };
+
+    ghost rereads = { false };
 
     fn note(&mut self, alloc: Global, envelope: &Envelope) -> Result<(), AllocError> {
         self.listing.note(alloc, envelope)

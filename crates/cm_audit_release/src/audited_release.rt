@@ -1,5 +1,5 @@
 //! The audit of a stream, with what is said of its run for a release.
-ghost use Rattle.std.specs.Prelude.{◌≡◌, IfOk, Ok, string_bytes};
+ghost use Rattle.std.specs.Prelude.{◌≡◌, IfOk, Ok, string_bytes, true};
 ghost use Rattle.cm_envelope.specs.Device.{CountsFailure, OfReads};
 ghost use Rattle.cm_envelope.specs.Feeds.{is_failed_read};
 ghost use Rattle.cm_audit.specs.Audit.{GoodAtEnd};
@@ -284,6 +284,8 @@ pub(crate) struct ReleaseWatch {
 
 impl Watch for ReleaseWatch {
     ghost follows = { λ watch es. Follows watch es };
+
+    ghost rereads = { true };
 
     fn note(&mut self, alloc: Global, envelope: &Envelope) -> Result<(), AllocError> {
         self.tally.note(alloc, envelope)

@@ -197,7 +197,7 @@ impl<'a> JsonLines<'a> {
 }
 
 /// How often a text was counted.
-pub(crate) fn count_of(counts: &ByText<'_, u64>, text: &str) -> u64
+fn count_of(counts: &ByText<'_, u64>, text: &str) -> u64
     ensures { result ≡ count_at counts.now text.now }
 {
     match counts.get(text) {
@@ -218,7 +218,7 @@ fn count_one<'a>(counts: &mut ByText<'a, u64>, text: &'a str) -> Result<(), Allo
 }
 
 /// How often each text is among these.
-pub(crate) fn counts_of<'a>(
+fn counts_of<'a>(
     alloc: Global,
     seed: RandomState,
     texts: &'a [Text],

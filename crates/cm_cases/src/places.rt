@@ -38,6 +38,7 @@ impl<'a> Model for Lines<'a> {
 }
 
 impl<'a> Lines<'a> {
+    /// The places by the ids of their nodes.
     fn of(alloc: Global, seed: RandomState, places: &'a [Place]) -> Result<Lines<'a>, AllocError>
         ensures { IfOk result (λ lines. lines ≡ places.now) }
     {
@@ -174,6 +175,7 @@ impl<'a> Places<'a> {
         self.named.contains_key(pickle.id.as_str())
     }
 
+    /// Adds the uri, the line of the node and the name, each after a space.
     fn add_at(&self, text: &mut String, uri: &str, name: &str, node: &str) -> Result<(), AllocError>
         ensures { OnOk result (string_bytes text.new
             ≡ string_bytes text.old ++ scenario_in self.now uri.now name.now node.now) }
@@ -186,6 +188,7 @@ impl<'a> Places<'a> {
         add_shown(text, name)
     }
 
+    /// Adds where a pickle's scenario stands, and its name.
     fn add_scenario(&self, text: &mut String, pickle: &PickleEntry) -> Result<(), AllocError>
         ensures { OnOk result (string_bytes text.new
             ≡ string_bytes text.old ++ entry_scenario self.now pickle.now) }
@@ -198,6 +201,7 @@ impl<'a> Places<'a> {
         )
     }
 
+    /// Adds where a pickle's scenario stands, its name and a line feed.
     fn add_entry(&self, text: &mut String, pickle: &PickleEntry) -> Result<(), AllocError>
         ensures { OnOk result (string_bytes text.new
             ≡ string_bytes text.old ++ entry_text self.now pickle.now) }

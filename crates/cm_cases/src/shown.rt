@@ -43,6 +43,7 @@ fn is_numbered_in_json(c: char) -> bool
     is_hidden(c) || is_other_space(c) || is_widthless(c)
 }
 
+/// Adds a hexadecimal digit, in lower case.
 fn add_digit(text: &mut String, digit: u32) -> Result<(), AllocError>
     requires { digit < 16 }
     ensures { OnOk result
@@ -54,6 +55,7 @@ fn add_digit(text: &mut String, digit: u32) -> Result<(), AllocError>
     }
 }
 
+/// Adds the four lowest hexadecimal digits of a number.
 fn add_number(text: &mut String, number: u32) -> Result<(), AllocError>
     ensures { OnOk result (string_bytes text.new
         ≡ string_bytes text.old ++ four_digits number) }
@@ -72,6 +74,7 @@ fn add_numbered(text: &mut String, c: char) -> Result<(), AllocError>
     add_number(text, c as u32)
 }
 
+/// Adds a character of JSON text: by its number, where it would look like another or like none.
 fn add_json_char(text: &mut String, c: char) -> Result<(), AllocError>
     ensures { OnOk result (string_bytes text.new ≡ string_bytes text.old ++ json_char c) }
 {
@@ -82,6 +85,7 @@ fn add_json_char(text: &mut String, c: char) -> Result<(), AllocError>
     }
 }
 
+/// Adds a character as it is shown within a line.
 fn add_char(text: &mut String, c: char) -> Result<(), AllocError>
     ensures { OnOk result (string_bytes text.new ≡ string_bytes text.old ++ shown_char c) }
 {

@@ -125,6 +125,7 @@ pub(crate) fn look_up<'v>(object: &'v Value, name: &'static str) -> Member<'v>
     }
 }
 
+/// The value of the member of this name, unless there is none or it is null.
 pub(crate) fn present<'v>(object: &'v Value, name: &str) -> Option<&'v Value>
     ensures { option_map (λ v. view v.now) result ≡ present_member name.now (view object.now) }
 {
@@ -135,12 +136,14 @@ pub(crate) fn present<'v>(object: &'v Value, name: &str) -> Option<&'v Value>
 }
 
 impl<'v> Member<'v> {
+    /// Whether the member is there and isn't null.
     pub(crate) fn is_present(self) -> bool
         ensures { result ≡ is_some (value_of self.entry) }
     {
         self.value.is_some()
     }
 
+    /// The text that the member has to be.
     pub(crate) fn text(self, alloc: Global) -> Result<Text, MemberFault>
         ensures { GivesMember result
             (required_in as_str self.entry.name.now (value_of self.entry)) }
@@ -151,6 +154,7 @@ impl<'v> Member<'v> {
         }
     }
 
+    /// The text that the member has to be where it is present.
     pub(crate) fn optional_text(self, alloc: Global) -> Result<Option<Text>, MemberFault>
         ensures { GivesMember result
             (optional_in as_str self.entry.name.now (value_of self.entry)) }
@@ -164,6 +168,7 @@ impl<'v> Member<'v> {
         }
     }
 
+    /// The whole number from 0 that the member has to be, and `absent` where there is none.
     pub(crate) fn whole_number_or(self, absent: u64) -> Result<u64, MemberFault>
         ensures { GivesMember result
             (optional_or_in absent as_whole_number self.entry.name.now (value_of self.entry)) }
@@ -174,6 +179,7 @@ impl<'v> Member<'v> {
         }
     }
 
+    /// The boolean that the member has to be.
     pub(crate) fn flag(self) -> Result<bool, MemberFault>
         ensures { GivesMember result
             (required_in as_bool self.entry.name.now (value_of self.entry)) }
@@ -184,6 +190,7 @@ impl<'v> Member<'v> {
         }
     }
 
+    /// The boolean that the member has to be, and `absent` where there is none.
     pub(crate) fn flag_or(self, absent: bool) -> Result<bool, MemberFault>
         ensures { GivesMember result
             (optional_or_in absent as_bool self.entry.name.now (value_of self.entry)) }
@@ -217,6 +224,7 @@ impl<'v> Member<'v> {
         }
     }
 
+    /// The texts of a list. An absent list is empty.
     pub(crate) fn texts(self, alloc: Global) -> Result<Sequence<Text>, MemberFault>
         ensures { GivesMember result
             (values_in as_str self.entry.name.now (value_of self.entry)) }
@@ -231,6 +239,7 @@ impl<'v> Member<'v> {
     }
 }
 
+/// The text, unless it is empty.
 fn member_unless_empty(text: Option<Text>) -> Option<Text>
     ensures { result ≡ option_and_then unless_empty text }
 {
@@ -240,6 +249,7 @@ fn member_unless_empty(text: Option<Text>) -> Option<Text>
     }
 }
 
+/// The text that an item of the list of this name has to be.
 fn text_item(alloc: Global, value: &Value, name: &'static str) -> Result<Text, MemberFault>
     ensures { GivesMember result (good name.now (as_str (view value.now))) }
 {
@@ -249,6 +259,7 @@ fn text_item(alloc: Global, value: &Value, name: &'static str) -> Result<Text, M
     }
 }
 
+/// The texts that the items of the list of this name have to be.
 fn each_text(
     alloc: Global,
     values: &[Value],
@@ -268,10 +279,12 @@ fn each_text(
 pub(crate) trait ReadObject: Sized {
     ghost reads: { Data → Result Self (List ℕ) };
 
+    /// Reads the members that are judged, in the order in which a fault is told.
     fn read(alloc: Global, object: &Value) -> Result<Self, MemberFault>
         ensures { GivesMember result (reads (view object.now)) };
 }
 
+/// What is read from an object, which the value of the member of this name has to be.
 fn object_in_member<T: ReadObject>(
     alloc: Global,
     value: &Value,
@@ -286,6 +299,7 @@ fn object_in_member<T: ReadObject>(
 }
 
 impl Member<'_> {
+    /// What is read from the object that the member has to be.
     pub(crate) fn nested<T: ReadObject>(self, alloc: Global) -> Result<T, MemberFault>
         ensures { GivesMember result
             (nested_in T.reads self.entry.name.now (value_of self.entry)) }
@@ -296,6 +310,7 @@ impl Member<'_> {
         }
     }
 
+    /// What is read from the object that the member has to be where it is present.
     pub(crate) fn optional_nested<T: ReadObject>(
         self,
         alloc: Global,
@@ -309,6 +324,7 @@ impl Member<'_> {
         }
     }
 
+    /// What is read from each object of a list. An absent list is empty.
     pub(crate) fn list_of<T: ReadObject + Drop>(
         self,
         alloc: Global,
@@ -326,6 +342,7 @@ impl Member<'_> {
     }
 }
 
+/// What is read from the objects that the items of the list of this name have to be.
 fn objects<T: ReadObject + Drop>(
     alloc: Global,
     values: &[Value],
@@ -345,10 +362,12 @@ fn objects<T: ReadObject + Drop>(
 pub(crate) trait ReadNode: Sized {
     ghost reads: { Ids → Data → NodeRead Self };
 
+    /// Reads the members that are judged, and appends the ids of the nodes that are met.
     fn read(alloc: Global, object: &Value, ids: &mut Sequence<NodeId>) -> Result<Self, MemberFault>
         ensures { GivesNode result ids.new (reads ids.old (view object.now)) };
 }
 
+/// The node that is read from an object, which the value of the member of this name has to be.
 pub(crate) fn node_in_member<T: ReadNode>(
     alloc: Global,
     value: &Value,
@@ -363,6 +382,7 @@ pub(crate) fn node_in_member<T: ReadNode>(
     T::read(alloc, value, ids)
 }
 
+/// The nodes that are read from the objects that the items of the list of this name have to be.
 pub(crate) fn member_nodes<T: ReadNode + Drop>(
     alloc: Global,
     values: &[Value],
@@ -381,6 +401,7 @@ pub(crate) fn member_nodes<T: ReadNode + Drop>(
 }
 
 impl Member<'_> {
+    /// The node that is read from the object that the member has to be where it is present.
     pub(crate) fn optional_node<T: ReadNode>(
         self,
         alloc: Global,
@@ -395,6 +416,7 @@ impl Member<'_> {
         }
     }
 
+    /// The nodes that are read from the objects of a list. An absent list is empty.
     pub(crate) fn nodes_of<T: ReadNode + Drop>(
         self,
         alloc: Global,
@@ -406,6 +428,7 @@ impl Member<'_> {
         member_nodes(alloc, self.items()?, self.name, ids)
     }
 
+    /// The text that the member has to be, as a node's id.
     pub(crate) fn node_id(self, alloc: Global) -> Result<NodeId, MemberFault>
         ensures { GivesMember result
             (required_in as_str self.entry.name.now (value_of self.entry)) }
@@ -426,6 +449,7 @@ pub(crate) fn member_node_number(id: NodeId, ids: &mut Sequence<NodeId>) -> Resu
     Ok(node)
 }
 
+/// Whether an object has exactly one of two members.
 fn has_one_of(object: &Value, first: &'static str, second: &'static str) -> bool
     ensures { result ≡ has_one_member first.now second.now (view object.now) }
 {
@@ -433,6 +457,7 @@ fn has_one_of(object: &Value, first: &'static str, second: &'static str) -> bool
     first.is_present() != second.is_present()
 }
 
+/// Whether each object has exactly one of two members.
 pub(crate) fn all_have_one_of(objects: &[Value], first: &'static str, second: &'static str) -> bool
     ensures { result ≡ all_items (has_one_member first.now second.now) (items_view objects.now) }
 {

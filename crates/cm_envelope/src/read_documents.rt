@@ -70,6 +70,7 @@ fn rank_of(child: &Value, in_feature: bool) -> Option<u8>
     }
 }
 
+/// Whether each child has exactly one kind, and a background comes first, rules last.
 fn children_are_in_order(children: &[Value], in_feature: bool) -> bool
     ensures { result ≡ children_are_in_order in_feature 0 (items_view children.now) }
 {
@@ -95,6 +96,7 @@ fn children_in<'v>(member: Member<'v>, in_feature: bool) -> Result<&'v [Value], 
     Ok(children)
 }
 
+/// The line that the member has to be: a whole number from 1 below 2^32.
 fn location_line(member: Member<'_>) -> Result<u32, MemberFault>
     ensures { GivesMember result
         (required_in as_line member.entry.name.now (value_of member.entry)) }
@@ -156,6 +158,7 @@ struct Mark {
     location: Location,
 }
 
+/// The id and the location of a node.
 fn read_tag_parts(alloc: Global, id: Member<'_>, location: Member<'_>) -> Result<Mark, MemberFault>
     ensures { GivesMember result (mark_in (seen id.entry) (seen location.entry)) }
 {
@@ -203,6 +206,7 @@ struct Title {
     text: Text,
 }
 
+/// The keyword of a node, and its name or text.
 fn read_title(alloc: Global, keyword: Member<'_>, text: Member<'_>) -> Result<Title, MemberFault>
     ensures { GivesMember result (title_in (seen keyword.entry) (seen text.entry)) }
 {
@@ -220,6 +224,7 @@ struct Heading {
     title: Title,
 }
 
+/// What a step or a background begins with; the id is appended.
 fn read_heading(
     alloc: Global,
     id: Member<'_>,
@@ -249,6 +254,7 @@ struct TaggedHeading {
     title: Title,
 }
 
+/// What an examples block, a scenario or a rule begins with; the ids of its tags are appended, then its own.
 fn read_tagged_heading(
     alloc: Global,
     id: Member<'_>,
@@ -292,6 +298,7 @@ impl ReadNode for DataTable {
     }
 }
 
+/// The argument of a step that has this table, or else this doc string.
 fn step_argument_of(table: Option<DataTable>, text: Option<DocString>) -> Option<Argument>
     ensures { result ≡ argument_of table text }
 {
@@ -304,6 +311,7 @@ fn step_argument_of(table: Option<DataTable>, text: Option<DocString>) -> Option
     }
 }
 
+/// The argument of a step, which can't have both a table and a doc string.
 fn read_step_argument(
     alloc: Global,
     data_table: Member<'_>,
@@ -372,12 +380,14 @@ impl ReadNode for Background {
     }
 }
 
+/// The text of what isn't judged. It takes no memory.
 fn no_document_text(alloc: Global) -> Text
     ensures { result ≡ [] }
 {
     Text::from(String::new(alloc))
 }
 
+/// Whether there is no item.
 fn document_is_empty(values: &[Value]) -> bool
     ensures { result ≡ is_empty (items_view values.now) }
 {
@@ -387,6 +397,7 @@ fn document_is_empty(values: &[Value]) -> bool
     }
 }
 
+/// Whether each item is an object.
 fn rows_are_objects(values: &[Value]) -> bool
     ensures { result ≡ all_items is_object (items_view values.now) }
 {
@@ -398,6 +409,7 @@ fn rows_are_objects(values: &[Value]) -> bool
     true
 }
 
+/// The table of a header and a body; none where there is no header.
 fn table_of_rows(header: Option<Row>, body: Sequence<Row>) -> Option<ExampleTable>
     ensures { result ≡ table_of_rows header body }
 {
@@ -422,6 +434,7 @@ fn body_rows<'v>(member: Member<'v>, has_header: bool) -> Result<&'v [Value], Me
     Ok(rows)
 }
 
+/// The table of an examples block, if it has one.
 fn example_table(
     alloc: Global,
     header: Member<'_>,
@@ -498,6 +511,7 @@ struct Body {
     scenarios: Sequence<Scenario>,
 }
 
+/// The background and the scenarios among the children of a feature or a rule.
 fn read_scenario_body(
     alloc: Global,
     members: &[Value],
@@ -546,6 +560,7 @@ struct FeatureHeading {
     title: Title,
 }
 
+/// What a feature begins with; the ids of its tags are appended.
 fn read_feature_heading(
     alloc: Global,
     location: Member<'_>,
@@ -573,6 +588,7 @@ struct FeatureBody {
     rules: Sequence<Rule>,
 }
 
+/// The children of a feature, in the order background, scenarios, rules.
 fn read_feature_body(
     alloc: Global,
     member: Member<'_>,

@@ -27,6 +27,7 @@ use crate::member::{
 use serde_json::{Map, Value};
 use std::alloc::Global;
 
+/// The status that a word stands for.
 fn status_of(word: &str) -> Option<Status>
     ensures { result ≡ status_of word.now }
 {
@@ -42,6 +43,7 @@ fn status_of(word: &str) -> Option<Status>
     }
 }
 
+/// The status that the member has to be the word of.
 fn status(member: Member<'_>) -> Result<Status, MemberFault>
     ensures { GivesMember result
         (required_in as_status member.entry.name.now (value_of member.entry)) }
@@ -52,6 +54,7 @@ fn status(member: Member<'_>) -> Result<Status, MemberFault>
     }
 }
 
+/// Whether each step of a case is of a hook or of a step of its pickle, and not of both.
 fn steps_have_one_origin(steps: Member<'_>) -> bool
     ensures { result ≡ each_item_in (has_one_member (codes "hookId") (codes "pickleStepId"))
         (value_of steps.entry) }
@@ -326,6 +329,7 @@ impl ReadObject for TestRunHookFinished {
     }
 }
 
+/// The envelope of this kind, read from the members of its object.
 fn line_members(alloc: Global, kind: Kind, object: &Value) -> Result<Envelope, MemberFault>
     ensures { GivesMember result (members_of_kind kind (view object.now)) }
 {
@@ -381,6 +385,7 @@ fn judged_of(members: &Map<String, Value>) -> Result<Option<(Kind, &Value)>, Env
     Ok(found)
 }
 
+/// The envelope of this kind, whose value has to be an object.
 fn judged_envelope(alloc: Global, kind: Kind, value: &Value) -> Result<Envelope, EnvelopeFault>
     ensures { GivesEnvelope result (envelope_in kind (view value.now)) }
 {
@@ -397,6 +402,7 @@ fn judged_envelope(alloc: Global, kind: Kind, value: &Value) -> Result<Envelope,
     }
 }
 
+/// The envelope of a line's value, which has to be an object with at most one judged kind.
 fn envelope_of(alloc: Global, value: &Value) -> Result<Envelope, EnvelopeFault>
     ensures { GivesEnvelope result (envelope_of_value (view value.now)) }
 {
@@ -409,6 +415,7 @@ fn envelope_of(alloc: Global, value: &Value) -> Result<Envelope, EnvelopeFault>
     }
 }
 
+/// The JSON value that a line has to be.
 #[tactic(auto, using(crate::proofs::Json::json_read, crate::proofs::Json::json_refused))]
 fn json_of_line(alloc: Global, line: &[u8]) -> Result<Value, EnvelopeFault>
     ensures { GivesLineValue view result (json_of line.now) }

@@ -14,6 +14,7 @@ use gk_document::{Sequence, Text};
 use serde_json::Value;
 use std::alloc::Global;
 
+/// The type of a step that a word stands for.
 fn pickle_step_kind_of(word: &str) -> Option<StepKind>
     ensures { result ≡ step_kind_of word.now }
 {
@@ -26,6 +27,7 @@ fn pickle_step_kind_of(word: &str) -> Option<StepKind>
     }
 }
 
+/// The type of a step, which the member has to be the word of where it is present.
 fn optional_pickle_step_kind(member: Member<'_>) -> Result<Option<StepKind>, MemberFault>
     ensures { GivesMember result
         (optional_in as_step_kind member.entry.name.now (value_of member.entry)) }
@@ -93,6 +95,7 @@ impl ReadObject for PickleDocString {
     }
 }
 
+/// The argument of a step that has this table, or else this doc string.
 fn pickle_argument_of(
     table: Option<PickleTable>,
     text: Option<PickleDocString>,
@@ -122,6 +125,7 @@ impl ReadObject for Option<PickleArgument> {
     }
 }
 
+/// The argument of a step; none where the member is absent or has neither a table nor a doc string.
 fn read_pickle_argument(
     alloc: Global,
     member: Member<'_>,
@@ -160,6 +164,7 @@ struct PickleTexts {
     language: Text,
 }
 
+/// The texts of a pickle, each of which has to be there.
 fn read_pickle_texts(
     alloc: Global,
     id: Member<'_>,
@@ -186,6 +191,7 @@ struct PickleLists {
     steps: Sequence<PickleStep>,
 }
 
+/// The lists of a pickle. An absent list is empty.
 fn read_pickle_lists(
     alloc: Global,
     ast_node_ids: Member<'_>,

@@ -17,6 +17,7 @@ pub struct Window {
 impl Window {
     ghost use Rattle.cm_envelope.specs.Held.{items};
 
+    /// That of no bytes. It takes no memory.
     pub(crate) fn new(alloc: Global) -> Window
         ensures { items result ≡ [] }
     {
@@ -27,6 +28,7 @@ impl Window {
         }
     }
 
+    /// The bytes that were read and aren't consumed.
     pub(crate) fn as_slice(&self) -> &[u8]
         ensures { result.now ≡ items self.now }
     {
@@ -42,12 +44,14 @@ impl Window {
         &self.bytes[from..to]
     }
 
+    /// Where the bytes begin, among those that are held.
     pub(crate) fn start(&self) -> usize
         ensures { result ≡ self.now.start }
     {
         self.start
     }
 
+    /// Consumes so many bytes. They are held until room is made.
     pub(crate) fn consume(&mut self, count: usize)
         requires { count ≤ length (items self.old) }
         ensures bytes { self.new.bytes ≡ self.old.bytes }

@@ -40,6 +40,7 @@ pub struct RunListing {
     pub(crate) ends: Sequence<RunHookEnd>,
 }
 
+/// What is kept of a source.
 fn source_entry(alloc: Global, source: &Source) -> Result<SourceEntry, AllocError>
     ensures { IfOk result (λ entry. entry ≡ source_entry source.now) }
 {
@@ -49,6 +50,7 @@ fn source_entry(alloc: Global, source: &Source) -> Result<SourceEntry, AllocErro
     })
 }
 
+/// What is kept of the start of a run hook.
 fn run_hook_entry(alloc: Global, start: &TestRunHookStarted) -> Result<RunHookEntry, AllocError>
     ensures { IfOk result (λ entry. entry ≡ run_hook_entry start.now) }
 {
@@ -58,6 +60,7 @@ fn run_hook_entry(alloc: Global, start: &TestRunHookStarted) -> Result<RunHookEn
     })
 }
 
+/// What is kept of the end of a run hook.
 fn run_hook_end(alloc: Global, end: &TestRunHookFinished) -> Result<RunHookEnd, AllocError>
     ensures { IfOk result (λ entry. entry ≡ run_hook_end end.now) }
 {

@@ -254,6 +254,7 @@ impl Declared {
 
 pub type Names = IndexSet<KeptText, RandomState>;
 
+/// Whether the name is one of them.
 fn contains(names: &Names, name: &str) -> bool
     ensures { result ≡ has_text name.now (map bytes_of names.now.keys) }
 {

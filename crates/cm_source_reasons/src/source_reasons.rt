@@ -470,7 +470,7 @@ impl DueLines<'_, '_> {
     ///
     /// # Errors
     /// Only where there is no memory for it.
-    pub(crate) fn add_missing(&self, text: &mut String, due: &PickleTitle) -> Result<(), AllocError>
+    fn add_missing(&self, text: &mut String, due: &PickleTitle) -> Result<(), AllocError>
         ensures { OnOk result ((es : List SomeEnvelope) → self.now.places.now ≡ listing_of es
             → string_bytes text.new ≡ string_bytes text.old
             ++ ended (missing_line es self.now.uri.now self.now.ids.now due.now ∷ [])) }
@@ -497,7 +497,7 @@ impl DueLines<'_, '_> {
     ///
     /// # Errors
     /// Only where there is no memory for it.
-    pub(crate) fn add_due(
+    fn add_due(
         &self,
         text: &mut String,
         due: Option<&DuePickle>,

@@ -64,6 +64,7 @@ pub struct StepListing {
     finishes: Sequence<FinishEntry>,
 }
 
+/// What is kept of the start of an attempt.
 fn start_entry(alloc: Global, start: &TestCaseStarted) -> Result<StartEntry, AllocError>
     ensures { IfOk result (λ entry. entry ≡ start_entry start.now) }
 {
@@ -81,6 +82,7 @@ pub fn is_quiet(status: Status) -> bool
     matches!(status, Status::Passed | Status::Skipped)
 }
 
+/// What is kept of the end of a step.
 fn finish_entry(alloc: Global, finish: &TestStepFinished) -> Result<FinishEntry, AllocError>
     ensures { IfOk result (λ entry. entry ≡ finish_entry finish.now) }
 {
@@ -146,6 +148,7 @@ pub struct Started<'a> {
     pub number: u64,
 }
 
+/// The first start of an attempt that has this id.
 fn started_as<'a>(starts: &'a [StartEntry], attempt: &str) -> Option<&'a StartEntry>
     ensures { option_map (λ s. s.now) result ≡ find (λ s. bytes_eq attempt.now s.id) starts.now }
 {
@@ -462,6 +465,7 @@ impl StepListing {
     }
 }
 
+/// Adds of each step the id of its node and its line.
 fn add_steps(row: &mut Texts, ids: &[NodeId], steps: &[Step]) -> Result<(), AllocError>
     ensures { OnOk result (row.new ≡ row.old
         ++ flat_map (λ s. place_texts (place ids.now s.node s.location)) steps.now) }
@@ -473,6 +477,7 @@ fn add_steps(row: &mut Texts, ids: &[NodeId], steps: &[Step]) -> Result<(), Allo
     Ok(())
 }
 
+/// Adds the steps of a background, if there is one.
 fn add_background(
     row: &mut Texts,
     ids: &[NodeId],
@@ -488,6 +493,7 @@ fn add_background(
     }
 }
 
+/// Adds the steps of the scenarios.
 fn add_scenarios(row: &mut Texts, ids: &[NodeId], scenarios: &[Scenario]) -> Result<(), AllocError>
     ensures { OnOk result (row.new ≡ row.old
         ++ flat_map (λ s. place_texts (place ids.now s.node s.location))
@@ -499,6 +505,7 @@ fn add_scenarios(row: &mut Texts, ids: &[NodeId], scenarios: &[Scenario]) -> Res
     Ok(())
 }
 
+/// Adds the steps of the background and the scenarios of a feature or a rule.
 fn add_within(
     row: &mut Texts,
     ids: &[NodeId],
@@ -513,6 +520,7 @@ fn add_within(
     add_scenarios(row, ids, scenarios)
 }
 
+/// Adds the steps of the rules.
 fn add_rules(row: &mut Texts, ids: &[NodeId], rules: &[Rule]) -> Result<(), AllocError>
     ensures { OnOk result (row.new ≡ row.old
         ++ flat_map (λ s. place_texts (place ids.now s.node s.location))
@@ -524,6 +532,7 @@ fn add_rules(row: &mut Texts, ids: &[NodeId], rules: &[Rule]) -> Result<(), Allo
     Ok(())
 }
 
+/// Adds the steps of a feature, those of its rules last.
 fn add_feature(row: &mut Texts, ids: &[NodeId], feature: &Feature) -> Result<(), AllocError>
     ensures { OnOk result (row.new ≡ row.old
         ++ flat_map (λ s. place_texts (place ids.now s.node s.location))
@@ -533,6 +542,7 @@ fn add_feature(row: &mut Texts, ids: &[NodeId], feature: &Feature) -> Result<(),
     add_rules(row, ids, feature.rules.as_slice())
 }
 
+/// What is kept of a document.
 fn document_row(alloc: Global, document: &GherkinDocument) -> Result<Texts, AllocError>
     ensures { IfOk result (λ row. row ≡ document_row document.now) }
 {
@@ -545,7 +555,7 @@ fn document_row(alloc: Global, document: &GherkinDocument) -> Result<Texts, Allo
     Ok(row)
 }
 
-// The first of the texts, and an empty one where there is none.
+/// The first of the texts, and an empty one where there is none.
 fn first_text(texts: &[Text]) -> &str
     ensures { result.now ≡ unwrap_or (slice_get texts.now 0) [] }
 {
@@ -555,6 +565,7 @@ fn first_text(texts: &[Text]) -> &str
     }
 }
 
+/// Adds of each step its id, its text, and the id of the step node that it is made of.
 fn add_pickle_steps(row: &mut Texts, steps: &[PickleStep]) -> Result<(), AllocError>
     ensures { OnOk result (row.new ≡ row.old ++ flat_map step_texts steps.now) }
 {
@@ -566,6 +577,7 @@ fn add_pickle_steps(row: &mut Texts, steps: &[PickleStep]) -> Result<(), AllocEr
     Ok(())
 }
 
+/// What is kept of a pickle.
 fn pickle_row(alloc: Global, pickle: &Pickle) -> Result<Texts, AllocError>
     ensures { IfOk result (λ row. row ≡ pickle_row pickle.now) }
 {
@@ -593,6 +605,7 @@ fn add_source(row: &mut Texts, hook: &Option<Text>, step: &Option<Text>) -> Resu
     row.add("")
 }
 
+/// Adds of each test step its id, and what it is of.
 fn add_plan_steps(row: &mut Texts, steps: &[TestStep]) -> Result<(), AllocError>
     ensures { OnOk result (row.new ≡ row.old ++ flat_map plan_texts steps.now) }
 {
@@ -603,6 +616,7 @@ fn add_plan_steps(row: &mut Texts, steps: &[TestStep]) -> Result<(), AllocError>
     Ok(())
 }
 
+/// What is kept of a test case.
 fn plan_row(alloc: Global, case: &TestCase) -> Result<Texts, AllocError>
     ensures { IfOk result (λ row. row ≡ plan_row case.now) }
 {

@@ -17,6 +17,7 @@ const NO_SEED: &str = "cukecheck: the system gives no random bytes for the seed 
 
 const SAID: &str = "cukecheck: standard output says why, unless it couldn't be written";
 
+/// The words of the command line, without the name of the program.
 fn words_after_first(alloc: Global, given: &Vec<String>) -> Result<Vec<&str>, AllocError> {
     let mut words = Vec::new(alloc);
     for word in given.iter().skip(1) {
@@ -25,6 +26,7 @@ fn words_after_first(alloc: Global, given: &Vec<String>) -> Result<Vec<&str>, Al
     Ok(words)
 }
 
+/// The arguments of the program, or what keeps them from being read.
 fn arguments(rt: &HostRuntime) -> Result<Vec<String>, &'static str> {
     match env::args(rt) {
         Ok(given) => given.collect(rt.alloc()).map_err(|_| NO_MEMORY),
@@ -53,6 +55,7 @@ fn status_of(rt: &HostRuntime) -> Result<u8, &'static str> {
     Ok(ended.code)
 }
 
+/// Runs the command, and says on standard error where its status is that of trouble.
 fn main(rt: HostRuntime) -> ExitCode {
     let (status, trouble) = match status_of(&rt) {
         Ok(status) => (status, SAID),

@@ -160,6 +160,7 @@ impl Found {
         })
     }
 
+    /// A path more for which there is no answer, and why.
     fn take_fault(&mut self, path: String, fault: Fault) -> Result<(), AllocError>
         ensures files { self.new.files ≡ self.old.files }
         ensures faults { OnOk result (self.new.faults.items
@@ -219,7 +220,7 @@ impl Found {
     }
 
     /// What a look at a path showed.
-    pub(crate) fn take_look(
+    fn take_look(
         &mut self,
         alloc: Global,
         path: &str,

@@ -105,7 +105,7 @@ pub enum Look {
     Unreadable,
 }
 
-// A folder of a system.
+/// A folder of a system.
 fn list<R: rt::Files + Alloc + Clone + Drop>(
     alloc: Global,
     system: &R,
@@ -127,7 +127,7 @@ fn list<R: rt::Files + Alloc + Clone + Drop>(
     Ok(Look::Folder(entries))
 }
 
-// What a folder is whose listing fails at an entry.
+/// What a folder is whose listing fails at an entry.
 fn unlisted(error: io::Error) -> Result<Look, AllocError> {
     match error.kind() {
         io::ErrorKind::OutOfMemory => Err(AllocError),
@@ -136,18 +136,18 @@ fn unlisted(error: io::Error) -> Result<Look, AllocError> {
     }
 }
 
-// What an entry of a folder is. Of a link the system is asked what it leads to.
+/// What an entry of a folder is. Of a link the system is asked what it leads to.
 fn entry_kind<R: rt::Files + Alloc>(system: &R, entry: &DirEntry<R, R::A>) -> EntryKind {
     match entry.file_type() {
         Ok(found) if found.is_dir() => EntryKind::Folder,
-        Ok(found) if found.is_symlink() => kind_behind(system, entry.path()),
+        Ok(found) if found.is_symlink() => linked_kind(system, entry.path()),
         Ok(_) => EntryKind::File,
         Err(_) => EntryKind::Unknown,
     }
 }
 
-// What a link is.
-fn kind_behind<R: rt::Files>(system: &R, path: Path<'_>) -> EntryKind {
+/// What the target of a link is.
+fn linked_kind<R: rt::Files>(system: &R, path: Path<'_>) -> EntryKind {
     match fs::metadata(system, path) {
         Ok(found) if found.is_dir() => EntryKind::LinkedFolder,
         Ok(_) => EntryKind::File,

@@ -215,7 +215,7 @@ fn build_table(body: Body) -> Option<ExampleTable>
 }
 
 /// The table whose header is the first of these rows, if there is a row.
-pub(crate) fn header_and_body(rows: Sequence<Row>) -> Option<ExampleTable>
+fn header_and_body(rows: Sequence<Row>) -> Option<ExampleTable>
     ensures { result ≡ example_table_of rows }
 {
     let mut rows = rows.into_vec();

@@ -36,7 +36,7 @@ pub(crate) struct FlatBlock {
 }
 
 /// What a block has below its description at first.
-pub(crate) fn empty_body(alloc: Global, block: Block) -> Body
+fn empty_body(alloc: Global, block: Block) -> Body
     ensures { body_of result ≡ machine.empty_body block }
 {
     match block {
@@ -135,7 +135,7 @@ fn new_block(
 }
 
 /// How many nodes the title line of a block is.
-pub(crate) fn title_node_count(block: Block) -> u64
+fn title_node_count(block: Block) -> u64
     ensures value { result ≡ machine.title_node_count block }
     ensures bound { result ≤ 1 }
 {

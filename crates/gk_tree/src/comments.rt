@@ -14,7 +14,7 @@ use gk_document::{Comment, Location};
 use std::alloc::{AllocError, Global};
 
 /// Whether the line is a comment, also a language line.
-pub(crate) fn is_comment_token(token: &Token<'_>) -> bool
+fn is_comment_token(token: &Token<'_>) -> bool
     ensures { (n : ℕ) (text : List ℕ) (i : ℕ) → result
         ≡ read.is_comment (read.line n text i (token_view token.now)) }
 {

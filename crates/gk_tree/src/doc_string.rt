@@ -55,7 +55,7 @@ pub(crate) fn open_doc_string<'a>(
 }
 
 /// Whether the line closes a doc string that this fence opened.
-pub(crate) fn closes(opened: Fence, at: IndentedLine<'_>) -> bool
+fn closes(opened: Fence, at: IndentedLine<'_>) -> bool
     ensures { result ≡ grammar.is_fence opened (kept_line at.entry) }
 {
     match fence(at.line) {
@@ -104,14 +104,14 @@ pub(crate) fn doc_string(
 }
 
 /// A copy of the media type, where there is one.
-pub(crate) fn copied_media(alloc: Global, media: &str) -> Result<Option<Text>, AllocError>
+fn copied_media(alloc: Global, media: &str) -> Result<Option<Text>, AllocError>
     ensures { IfOk result (λ m. m ≡ unless_empty (text_of media.now)) }
 {
     Ok(media_type(copied(alloc, media)?))
 }
 
 /// The content of a doc string of these lines.
-pub(crate) fn doc_string_content(
+fn doc_string_content(
     alloc: Global,
     lines: &[IndentedLine<'_>],
     fence: Fence,

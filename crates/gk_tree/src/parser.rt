@@ -320,7 +320,7 @@ fn last_block(
 }
 
 /// Whether the word of a language line is `en`.
-pub(crate) fn is_english(word: &str) -> bool
+fn is_english(word: &str) -> bool
     ensures { result ≡ machine.same_text (text_of word.now) english }
 {
     word == "en"

@@ -33,7 +33,7 @@ pub(crate) fn row_cells(alloc: Global, line: Line<'_>) -> Result<Sequence<Cell>,
 }
 
 /// The row that the line is.
-pub(crate) fn row_at(node: u64, at: IndentedLine<'_>, cells: Sequence<Cell>) -> Row
+fn row_at(node: u64, at: IndentedLine<'_>, cells: Sequence<Cell>) -> Row
     ensures { result ≡ record {
       node = node;
       location = grammar.at at.entry.line.number
@@ -49,7 +49,7 @@ pub(crate) fn row_at(node: u64, at: IndentedLine<'_>, cells: Sequence<Cell>) -> 
 }
 
 /// The first row of a table.
-pub(crate) fn single_row(alloc: Global, row: Row) -> Result<Sequence<Row>, AllocError>
+fn single_row(alloc: Global, row: Row) -> Result<Sequence<Row>, AllocError>
     ensures { IfOk result (λ rows. rows ≡ row ∷ []) }
 {
     let mut rows = Sequence::new(alloc);
@@ -58,7 +58,7 @@ pub(crate) fn single_row(alloc: Global, row: Row) -> Result<Sequence<Row>, Alloc
 }
 
 /// How many cells the first row has.
-pub(crate) fn cell_count(rows: &[Row]) -> usize
+fn cell_count(rows: &[Row]) -> usize
     ensures { result ≡ machine.count_of rows.now }
 {
     match rows {
@@ -68,7 +68,7 @@ pub(crate) fn cell_count(rows: &[Row]) -> usize
 }
 
 /// Adds a row to a table.
-pub(crate) fn add_row(rows: &mut Sequence<Row>, row: Row) -> Result<(), ParseFault>
+fn add_row(rows: &mut Sequence<Row>, row: Row) -> Result<(), ParseFault>
     ensures { Gives (λ _. rows.new) result (rows_with rows.old row) }
 {
     if row.cells.len() != cell_count(rows.as_slice()) {
@@ -163,7 +163,7 @@ pub(crate) fn row_line<'a>(
 }
 
 /// Adds a row to the table of a step, which may be its first row.
-pub(crate) fn add_step_row(alloc: Global, step: &mut Step, row: Row) -> Result<(), ParseFault>
+fn add_step_row(alloc: Global, step: &mut Step, row: Row) -> Result<(), ParseFault>
     ensures { Gives (λ _. step.new) result (row_after step.old step.old.argument row) }
 {
     let rows = match step.argument.take() {

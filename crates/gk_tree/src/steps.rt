@@ -30,7 +30,7 @@ pub(crate) struct BlockWithSteps {
 }
 
 /// The step that the line is.
-pub(crate) fn step_at(
+fn step_at(
     alloc: Global,
     node: u64,
     at: IndentedLine<'_>,
@@ -106,7 +106,7 @@ pub(crate) fn after_step<'a>(
 }
 
 /// A step line after steps.
-pub(crate) fn step_line<'a>(
+fn step_line<'a>(
     alloc: Global,
     progress: &mut Progress,
     mut stepped: Box<BlockWithSteps>,
@@ -153,7 +153,7 @@ pub(crate) fn with_steps(stepped: Box<BlockWithSteps>) -> Result<FlatBlock, Allo
 }
 
 /// A line after a whole block with steps, which isn't part of it.
-pub(crate) fn close_stepped_block<'a>(
+fn close_stepped_block<'a>(
     alloc: Global,
     progress: &mut Progress,
     stepped: Box<BlockWithSteps>,

@@ -16,7 +16,7 @@ use gk_line::{Block, TagText, Title, tags};
 use std::alloc::{AllocError, Global};
 
 /// The name of a tag.
-pub(crate) fn tag_name(alloc: Global, word: &str) -> Result<Text, AllocError>
+fn tag_name(alloc: Global, word: &str) -> Result<Text, AllocError>
     ensures { IfOk result (λ t. t ≡ codes "@" ++ text_of word.now) }
 {
     let mut name = String::with_capacity(alloc, word.len() + 1)?;
@@ -26,7 +26,7 @@ pub(crate) fn tag_name(alloc: Global, word: &str) -> Result<Text, AllocError>
 }
 
 /// The tags with those of a line after them, numbered from `node` on.
-pub(crate) fn with_tags(
+fn with_tags(
     alloc: Global,
     tags: Sequence<Tag>,
     node: u64,

@@ -27,6 +27,10 @@ use std::alloc::{AllocError, Global};
 pub(crate) trait WriteJson {
     ghost json: { Self → Data };
 
+    /// The value as JSON.
+    ///
+    /// # Errors
+    /// Only where there is no memory.
     fn to_json(&self, alloc: Global) -> Result<Value, AllocError>
         ensures { IfOk result (λ v. view v ≡ json self.now) };
 }

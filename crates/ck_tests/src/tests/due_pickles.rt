@@ -14,9 +14,11 @@ use std::test::Fail;
 struct Nobody;
 
 impl Watch for Nobody {
-    ghost use Rattle.std.specs.Prelude.{⊤};
+    ghost use Rattle.std.specs.Prelude.{⊤, false};
 
     ghost follows = { λ _ _. ⊤ };
+
+    ghost rereads = { false };
 
     fn note(&mut self, _alloc: Global, _envelope: &Envelope) -> Result<(), AllocError> {
         Ok(())
