@@ -84,12 +84,12 @@ abbrev pub starts_of : Utf8 → List Call → List StartedAttempt
 starts_of case calls = filter (λ s. bytes_eq case s.case_id) (starts calls)
 
 -- the steps of a case, and those of the case of an attempt
-abbrev pub steps_of : Utf8 → List Call → List Utf8
-steps_of case calls = option_map_or (λ c. c.steps) (declared_case case calls) []
+abbrev pub steps_of_case : Utf8 → List Call → List Utf8
+steps_of_case case calls = option_map_or (λ c. c.steps) (declared_case case calls) []
 
 abbrev pub steps_of_attempt : Utf8 → List Call → List Utf8
 steps_of_attempt attempt calls =
-    option_map_or (λ s. steps_of s.case_id calls) (start_of attempt calls) []
+    option_map_or (λ s. steps_of_case s.case_id calls) (start_of attempt calls) []
 
 -- ---- what an attempt goes through
 

@@ -58,30 +58,30 @@ pickle_doc_string d = do
   Ok (record { content = content; media_type = media })
 
 -- the one that there is
-abbrev pub argument_of : Option PickleTable → Option PickleDocString → Option PickleArgument
-argument_of (Some table) text = Some (Table table)
-argument_of None (Some text) = Some (Text text)
-argument_of None None = None
+abbrev pub pickle_argument_of : Option PickleTable → Option PickleDocString → Option PickleArgument
+pickle_argument_of (Some table) text = Some (Table table)
+pickle_argument_of None (Some text) = Some (Text text)
+pickle_argument_of None None = None
 
 abbrev pub pickle_argument : Data → Result (Option PickleArgument) (List ℕ)
 pickle_argument d = do
   table ← optional_nested_member pickle_table (codes "dataTable") d
   checked ← rule (codes "docString") (not (has_both (codes "dataTable") (codes "docString") d))
   text ← optional_nested_member pickle_doc_string (codes "docString") d
-  Ok (argument_of table text)
+  Ok (pickle_argument_of table text)
 
 abbrev pub inner_option : {A : Type 0} → Option (Option A) → Option A
 inner_option None = None
 inner_option (Some o) = o
 
 -- An argument with neither counts as absent.
-abbrev pub argument_in : List ℕ → Option Data → Result (Option PickleArgument) (List ℕ)
-argument_in name d = do
+abbrev pub pickle_argument_in : List ℕ → Option Data → Result (Option PickleArgument) (List ℕ)
+pickle_argument_in name d = do
   found ← optional_nested_in pickle_argument name d
   Ok (inner_option found)
 
-abbrev pub argument : Data → Result (Option PickleArgument) (List ℕ)
-argument d = argument_in (codes "argument") (present_member (codes "argument") d)
+abbrev pub argument_member : Data → Result (Option PickleArgument) (List ℕ)
+argument_member d = pickle_argument_in (codes "argument") (present_member (codes "argument") d)
 
 abbrev pub pickle_step : Data → Result PickleStep (List ℕ)
 pickle_step d = do
@@ -89,7 +89,7 @@ pickle_step d = do
   text ← required_member as_str (codes "text") d
   kind ← optional_member as_step_kind (codes "type") d
   nodes ← list_of_values as_str (codes "astNodeIds") d
-  below ← argument d
+  below ← argument_member d
   Ok (record { id = id; text = text; kind = kind; ast_node_ids = nodes; argument = below })
 
 abbrev pub texts_in : Named → Named → Named → Named → Result PickleTexts (List ℕ)

@@ -2,7 +2,7 @@
 ghost use Rattle.std.specs.Prelude.{◌≡◌};
 ghost use Rattle.cm_envelope.specs.Member.{GivesMember, optional_in};
 ghost use Rattle.cm_envelope.specs.Members.{value_of, seen};
-ghost use Rattle.cm_envelope.specs.Pickles.{step_kind_of, as_step_kind, texts_in, lists_in, pickle, pickle_tag, pickle_step, pickle_argument, argument_of, pickle_table, pickle_row, pickle_cell, pickle_doc_string, argument_in};
+ghost use Rattle.cm_envelope.specs.Pickles.{step_kind_of, as_step_kind, texts_in, lists_in, pickle, pickle_tag, pickle_step, pickle_argument, pickle_argument_of, pickle_table, pickle_row, pickle_cell, pickle_doc_string, pickle_argument_in};
 
 use crate::fault::MemberFault;
 use crate::member::{Member, ReadObject, four_members, look_up, three_members, two_members};
@@ -100,7 +100,7 @@ fn pickle_argument_of(
     table: Option<PickleTable>,
     text: Option<PickleDocString>,
 ) -> Option<PickleArgument>
-    ensures { result ≡ argument_of table text }
+    ensures { result ≡ pickle_argument_of table text }
 {
     match table {
         Some(table) => Some(PickleArgument::Table(table)),
@@ -131,7 +131,7 @@ fn read_pickle_argument(
     member: Member<'_>,
 ) -> Result<Option<PickleArgument>, MemberFault>
     ensures { GivesMember result
-        (argument_in member.entry.name.now (value_of member.entry)) }
+        (pickle_argument_in member.entry.name.now (value_of member.entry)) }
 {
     match member.optional_nested(alloc)? {
         Some(argument) => Ok(argument),

@@ -17,7 +17,7 @@ use Rattle.cm_envelope.specs.declared.pickle.PickleTag.{PickleTag}
 use Rattle.cm_envelope.specs.declared.pickle.StepKind.{StepKind}
 use Rattle.cm_envelope.specs.declared.pickle.StepKind.TheVariants as kind
 use Rattle.cm_differs.specs.DuePickles.{without_id, without_ids}
-use Rattle.cm_differs.specs.PickleData.{argument_data, bare_pickle_data, cell_data, doc_string_data, kind_word, row_data, step_data, tag_data}
+use Rattle.cm_differs.specs.PickleData.{argument_data, bare_pickle_data, pickle_cell_data, pickle_doc_string_data, kind_word, pickle_row_data, pickle_step_data, pickle_tag_data}
 use Rattle.cm_read_back.specs.Values.{in_order, items_in_order}
 use Rattle.cm_read_back.proofs.Orders.{items_are}
 use Rattle.cm_read_back.proofs.Depths.{items_within}
@@ -85,17 +85,17 @@ unfolding texts_of
 texts_back [] = refl
 texts_back (t ∷ ts) = ap (λ (l : List (List ℕ)). t ∷ l) (texts_back ts)
 
-cells_back : (cs : List PickleCell) → cells_of (items_of (map cell_data cs)) ≡ cs
+cells_back : (cs : List PickleCell) → cells_of (items_of (map pickle_cell_data cs)) ≡ cs
 unfolding cells_of
 cells_back [] = refl
 cells_back (c ∷ cs) = ap (λ (l : List PickleCell). c ∷ l) (cells_back cs)
 
-rows_back : (rs : List PickleRow) → rows_of (items_of (map row_data rs)) ≡ rs
+rows_back : (rs : List PickleRow) → rows_of (items_of (map pickle_row_data rs)) ≡ rs
 unfolding rows_of
 rows_back [] = refl
 rows_back (r ∷ rs) = ap₂ (λ (cs : List PickleCell) (l : List PickleRow). record { cells = cs } ∷ l) (cells_back r.cells) (rows_back rs)
 
-doc_string_back : (d : PickleDocString) (m : Option (List ℕ)) → doc_string_of (doc_string_data (record d { media_type = m })) ≡ record d { media_type = m }
+doc_string_back : (d : PickleDocString) (m : Option (List ℕ)) → doc_string_of (pickle_doc_string_data (record d { media_type = m })) ≡ record d { media_type = m }
 unfolding doc_string_of
 doc_string_back d None = refl
 doc_string_back d (Some media) = refl
@@ -112,7 +112,7 @@ kind_back kind.Context = refl
 kind_back kind.Action = refl
 kind_back kind.Outcome = refl
 
-step_back : (s : PickleStep) (a : Option PickleArgument) (k : Option StepKind) → step_of (step_data (record s { argument = a; kind = k })) ≡ without_id (record s { argument = a; kind = k })
+step_back : (s : PickleStep) (a : Option PickleArgument) (k : Option StepKind) → step_of (pickle_step_data (record s { argument = a; kind = k })) ≡ without_id (record s { argument = a; kind = k })
 unfolding step_of step_with
 step_back s None None = ap (λ (ids : List (List ℕ)). record s { id = []; kind = None; argument = None; ast_node_ids = ids }) (texts_back s.ast_node_ids)
 step_back s None (Some k) = ap₂ (λ (ids : List (List ℕ)) (x : StepKind). record s { id = []; kind = Some x; argument = None; ast_node_ids = ids }) (texts_back s.ast_node_ids) (kind_back k)
@@ -131,12 +131,12 @@ step_back s (Some (argument.Text d)) (Some k) =
     let word = kind_back k in
     λ i. record s { id = []; kind = Some (word i); argument = Some (same i); ast_node_ids = ids i }
 
-steps_back : (ss : List PickleStep) → steps_of (items_of (map step_data ss)) ≡ map without_id ss
+steps_back : (ss : List PickleStep) → steps_of (items_of (map pickle_step_data ss)) ≡ map without_id ss
 unfolding steps_of
 steps_back [] = refl
 steps_back (s ∷ ss) = ap₂ (λ (x : PickleStep) (l : List PickleStep). x ∷ l) (step_back s s.argument s.kind) (steps_back ss)
 
-tags_back : (ts : List PickleTag) → tags_of (items_of (map tag_data ts)) ≡ ts
+tags_back : (ts : List PickleTag) → tags_of (items_of (map pickle_tag_data ts)) ≡ ts
 unfolding tags_of
 tags_back [] = refl
 tags_back (t ∷ ts) = ap (λ (l : List PickleTag). t ∷ l) (tags_back ts)
@@ -157,41 +157,41 @@ same_pickles p q e = sym (pickle_back p) ∙ ap pickle_of e ∙ pickle_back q
 texts_are : (ts : List (List ℕ)) → items_in_order (items_of (map string ts)) ≡ true
 texts_are ts = items_are string (λ t. refl) ts
 
-row_is : (r : PickleRow) → in_order (row_data r) ≡ true
-row_is r = rw (items_are cell_data (λ c. refl) r.cells) refl
+row_is : (r : PickleRow) → in_order (pickle_row_data r) ≡ true
+row_is r = rw (items_are pickle_cell_data (λ c. refl) r.cells) refl
 
-doc_string_is : (d : PickleDocString) (m : Option (List ℕ)) → in_order (doc_string_data (record d { media_type = m })) ≡ true
+doc_string_is : (d : PickleDocString) (m : Option (List ℕ)) → in_order (pickle_doc_string_data (record d { media_type = m })) ≡ true
 doc_string_is d None = refl
 doc_string_is d (Some media) = refl
 
 argument_is : (a : PickleArgument) → in_order (argument_data a) ≡ true
-argument_is (argument.Table t) = rw (items_are row_data row_is t.rows) refl
+argument_is (argument.Table t) = rw (items_are pickle_row_data row_is t.rows) refl
 argument_is (argument.Text d) = rw (doc_string_is d d.media_type) refl
 
-step_is : (s : PickleStep) (a : Option PickleArgument) (k : Option StepKind) → in_order (step_data (record s { argument = a; kind = k })) ≡ true
+step_is : (s : PickleStep) (a : Option PickleArgument) (k : Option StepKind) → in_order (pickle_step_data (record s { argument = a; kind = k })) ≡ true
 step_is s None None = rw (texts_are s.ast_node_ids) refl
 step_is s None (Some k) = rw (texts_are s.ast_node_ids) refl
 step_is s (Some a) None = rw (texts_are s.ast_node_ids, argument_is a) refl
 step_is s (Some a) (Some k) = rw (texts_are s.ast_node_ids, argument_is a) refl
 
 pub pickle_in_order : (p : Pickle) → in_order (bare_pickle_data p) ≡ true
-pickle_in_order p = rw (texts_are p.ast_node_ids, items_are step_data (λ s. step_is s s.argument s.kind) p.steps, items_are tag_data (λ t. refl) p.tags) refl
+pickle_in_order p = rw (texts_are p.ast_node_ids, items_are pickle_step_data (λ s. step_is s s.argument s.kind) p.steps, items_are pickle_tag_data (λ t. refl) p.tags) refl
 
 texts_within : (ts : List (List ℕ)) → items_depth (items_of (map string ts)) ≤ 0
 texts_within ts = items_within string 0 (λ t. omega arith) ts
 
-row_within : (r : PickleRow) → depth (row_data r) ≤ 3
-row_within r = omega (arith, items_within cell_data 1 (λ c. omega arith) r.cells)
+row_within : (r : PickleRow) → depth (pickle_row_data r) ≤ 3
+row_within r = omega (arith, items_within pickle_cell_data 1 (λ c. omega arith) r.cells)
 
-doc_string_within : (d : PickleDocString) (m : Option (List ℕ)) → depth (doc_string_data (record d { media_type = m })) ≤ 1
+doc_string_within : (d : PickleDocString) (m : Option (List ℕ)) → depth (pickle_doc_string_data (record d { media_type = m })) ≤ 1
 doc_string_within d None = omega arith
 doc_string_within d (Some media) = omega arith
 
 argument_within : (a : PickleArgument) → depth (argument_data a) ≤ 6
-argument_within (argument.Table t) = omega (arith, items_within row_data 3 row_within t.rows)
+argument_within (argument.Table t) = omega (arith, items_within pickle_row_data 3 row_within t.rows)
 argument_within (argument.Text d) = omega (arith, doc_string_within d d.media_type)
 
-step_within : (s : PickleStep) (a : Option PickleArgument) (k : Option StepKind) → depth (step_data (record s { argument = a; kind = k })) ≤ 7
+step_within : (s : PickleStep) (a : Option PickleArgument) (k : Option StepKind) → depth (pickle_step_data (record s { argument = a; kind = k })) ≤ 7
 step_within s None None = omega (arith, texts_within s.ast_node_ids)
 step_within s None (Some k) = omega (arith, texts_within s.ast_node_ids)
 step_within s (Some a) None = omega (arith, texts_within s.ast_node_ids, argument_within a)
@@ -199,4 +199,4 @@ step_within s (Some a) (Some k) = omega (arith, texts_within s.ast_node_ids, arg
 
 pub pickle_shallow : (p : Pickle) → depth (bare_pickle_data p) ≤ max_depth
 pickle_shallow p =
-    omega (arith, texts_within p.ast_node_ids, items_within step_data 7 (λ s. step_within s s.argument s.kind) p.steps, items_within tag_data 1 (λ t. omega arith) p.tags)
+    omega (arith, texts_within p.ast_node_ids, items_within pickle_step_data 7 (λ s. step_within s s.argument s.kind) p.steps, items_within pickle_tag_data 1 (λ t. omega arith) p.tags)

@@ -20,7 +20,7 @@ use Rattle.cm_envelope.specs.declared.pickle.StepKind.TheVariants as kind
 use Rattle.cm_stream.specs.Sources.{DueArgument, DuePickle, DueStep, DueTag, ids_at}
 use Rattle.cm_stream.specs.Texts.{Utf8}
 use Rattle.cm_differs.specs.DuePickles.{argument_of, due_cell, due_pickle, due_row, due_pickle_step, due_pickle_steps, due_tag}
-use Rattle.cm_differs.specs.PickleData.{argument_data, cell_data, doc_string_data, kind_word, row_data, step_data, tag_data}
+use Rattle.cm_differs.specs.PickleData.{argument_data, pickle_cell_data, pickle_doc_string_data, kind_word, pickle_row_data, pickle_step_data, pickle_tag_data}
 use Rattle.cm_read_back.specs.Values.{IsPlain, ItemsArePlain}
 use Rattle.cm_compiled_good.proofs.Compiling.{all_mapped}
 use Rattle.cm_compiled_good.proofs.Fine.{clean, ArgumentFine, MediaFine, MediaOf, PickleFine, StepFine, TagFine}
@@ -34,18 +34,18 @@ use Rattle.cm_shown_laws.proofs.ReadPickles.{ArgumentTexts, CellTexts, DocString
 texts_plain : (ts : List (List ℕ)) → AreTexts ts → ItemsArePlain (items_of (map string ts))
 texts_plain ts h = items_plain IsUtf8 string (λ t k. k) ts h
 
-cell_plain : (c : PickleCell) → CellTexts c → IsPlain (cell_data c)
+cell_plain : (c : PickleCell) → CellTexts c → IsPlain (pickle_cell_data c)
 cell_plain c h = (IsUtf8-are_ascii _ refl, h, tt)
 
-row_plain : (r : PickleRow) → RowTexts r → IsPlain (row_data r)
-row_plain r h = (IsUtf8-are_ascii _ refl, items_plain CellTexts cell_data cell_plain r.cells h, tt)
+row_plain : (r : PickleRow) → RowTexts r → IsPlain (pickle_row_data r)
+row_plain r h = (IsUtf8-are_ascii _ refl, items_plain CellTexts pickle_cell_data cell_plain r.cells h, tt)
 
-doc_string_plain : (d : PickleDocString) (m : Option (List ℕ)) → DocStringTexts (record d { media_type = m }) → IsPlain (doc_string_data (record d { media_type = m }))
+doc_string_plain : (d : PickleDocString) (m : Option (List ℕ)) → DocStringTexts (record d { media_type = m }) → IsPlain (pickle_doc_string_data (record d { media_type = m }))
 doc_string_plain d None h = (IsUtf8-are_ascii _ refl, h.0, tt)
 doc_string_plain d (Some m) h = (IsUtf8-are_ascii _ refl, h.0, (IsUtf8-are_ascii _ refl, h.1, tt))
 
 argument_plain : (a : PickleArgument) → ArgumentTexts (Some a) → IsPlain (argument_data a)
-argument_plain (argument.Table t) h = (IsUtf8-are_ascii _ refl, (IsUtf8-are_ascii _ refl, items_plain RowTexts row_data row_plain t.rows h, tt), tt)
+argument_plain (argument.Table t) h = (IsUtf8-are_ascii _ refl, (IsUtf8-are_ascii _ refl, items_plain RowTexts pickle_row_data row_plain t.rows h, tt), tt)
 argument_plain (argument.Text d) h = (IsUtf8-are_ascii _ refl, doc_string_plain d d.media_type h, tt)
 
 word_utf8 : (k : StepKind) → IsUtf8 (kind_word k)
@@ -54,17 +54,17 @@ word_utf8 kind.Context = IsUtf8-are_ascii _ refl
 word_utf8 kind.Action = IsUtf8-are_ascii _ refl
 word_utf8 kind.Outcome = IsUtf8-are_ascii _ refl
 
-step_at : (s : PickleStep) (a : Option PickleArgument) (k : Option StepKind) → StepTexts (record s { argument = a; kind = k }) → IsPlain (step_data (record s { argument = a; kind = k }))
+step_at : (s : PickleStep) (a : Option PickleArgument) (k : Option StepKind) → StepTexts (record s { argument = a; kind = k }) → IsPlain (pickle_step_data (record s { argument = a; kind = k }))
 step_at s None None h = (IsUtf8-are_ascii _ refl, texts_plain s.ast_node_ids h.1, (IsUtf8-are_ascii _ refl, h.0, tt))
 step_at s None (Some k) h = (IsUtf8-are_ascii _ refl, texts_plain s.ast_node_ids h.1, (IsUtf8-are_ascii _ refl, h.0, (IsUtf8-are_ascii _ refl, word_utf8 k, tt)))
 step_at s (Some a) None h = (IsUtf8-are_ascii _ refl, argument_plain a h.2, (IsUtf8-are_ascii _ refl, texts_plain s.ast_node_ids h.1, (IsUtf8-are_ascii _ refl, h.0, tt)))
 step_at s (Some a) (Some k) h =
     (IsUtf8-are_ascii _ refl, argument_plain a h.2, (IsUtf8-are_ascii _ refl, texts_plain s.ast_node_ids h.1, (IsUtf8-are_ascii _ refl, h.0, (IsUtf8-are_ascii _ refl, word_utf8 k, tt))))
 
-step_plain : (s : PickleStep) → StepTexts s → IsPlain (step_data s)
+step_plain : (s : PickleStep) → StepTexts s → IsPlain (pickle_step_data s)
 step_plain s h = step_at s s.argument s.kind h
 
-tag_plain : (t : PickleTag) → TagTexts t → IsPlain (tag_data t)
+tag_plain : (t : PickleTag) → TagTexts t → IsPlain (pickle_tag_data t)
 tag_plain t h = (IsUtf8-are_ascii _ refl, h.1, (IsUtf8-are_ascii _ refl, h.0, tt))
 
 pub pickle_plain : (p : Pickle) → PickleHasTexts p → IsPlainPickle p
@@ -81,8 +81,8 @@ pickle_plain p h = (
         h.name,
         (
           IsUtf8-are_ascii _ refl,
-          items_plain StepTexts step_data step_plain p.steps h.steps,
-          (IsUtf8-are_ascii _ refl, items_plain TagTexts tag_data tag_plain p.tags h.tags, (IsUtf8-are_ascii _ refl, h.uri, tt)),
+          items_plain StepTexts pickle_step_data step_plain p.steps h.steps,
+          (IsUtf8-are_ascii _ refl, items_plain TagTexts pickle_tag_data tag_plain p.tags h.tags, (IsUtf8-are_ascii _ refl, h.uri, tt)),
         ),
       ),
     ),

@@ -15,7 +15,7 @@ use Rattle.cm_envelope.specs.declared.pickle.PickleTable.{PickleTable}
 use Rattle.cm_envelope.specs.declared.pickle.PickleTag.{PickleTag}
 use Rattle.cm_envelope.specs.declared.pickle.StepKind.{StepKind}
 use Rattle.cm_envelope.specs.Member.{has_both, list_of, list_of_values, media_type_member, optional_member, optional_nested_member, required_member}
-use Rattle.cm_envelope.specs.Pickles.{argument, argument_of, as_step_kind, inner_option, pickle, pickle_argument, pickle_cell, pickle_doc_string, pickle_lists, pickle_row, pickle_step, pickle_table, pickle_tag, pickle_texts}
+use Rattle.cm_envelope.specs.Pickles.{argument_member, pickle_argument_of, as_step_kind, inner_option, pickle, pickle_argument, pickle_cell, pickle_doc_string, pickle_lists, pickle_row, pickle_step, pickle_table, pickle_tag, pickle_texts}
 use Rattle.cm_shown_laws.proofs.JsonTexts.{HasTexts}
 use Rattle.cm_compiled_good.proofs.Fine.{clean, MediaOf}
 use Rattle.cm_shown_laws.proofs.Readings.{AreTexts, Maybe, Reads, bound, listed, listed_values, media_read, optional, optional_nested, required_text, ruled, str_is}
@@ -74,7 +74,7 @@ doc_string_read d h =
     bound (required_member as_str (codes "content") d) _ IsUtf8 DocStringTexts (required_text (codes "content") d h)
     (λ content c. bound (media_type_member d) _ (MediaOf clean) DocStringTexts (media_read d h) (λ media m. (c, m)))
 
-one_of : (t : Option PickleTable) (d : Option PickleDocString) → Maybe TableTexts t → Maybe DocStringTexts d → ArgumentTexts (argument_of t d)
+one_of : (t : Option PickleTable) (d : Option PickleDocString) → Maybe TableTexts t → Maybe DocStringTexts d → ArgumentTexts (pickle_argument_of t d)
 one_of None None h k = tt
 one_of None (Some d) h k = k
 one_of (Some t) d h k = h
@@ -90,7 +90,7 @@ inner_is : (o : Option (Option PickleArgument)) → Maybe ArgumentTexts o → Ar
 inner_is None h = tt
 inner_is (Some a) h = h
 
-argument_read : Reads argument ArgumentTexts
+argument_read : Reads argument_member ArgumentTexts
 argument_read d h = bound (optional_nested_member pickle_argument (codes "argument") d) _ (Maybe ArgumentTexts) ArgumentTexts (optional_nested pickle_argument (codes "argument") ArgumentTexts inner_read d h) (λ found k. inner_is found k)
 
 any_kind : (d : Data) → HasTexts d → IfSome (as_step_kind d) (λ (k : StepKind). ⊤)
@@ -106,7 +106,7 @@ step_read d h =
     (λ id i. bound (required_member as_str (codes "text") d) _ IsUtf8 StepTexts (required_text (codes "text") d h)
     (λ text t. bound (optional_member as_step_kind (codes "type") d) _ (Maybe (λ (k : StepKind). ⊤)) StepTexts (optional as_step_kind (codes "type") (λ (k : StepKind). ⊤) any_kind d h)
     (λ kind k. bound (list_of_values as_str (codes "astNodeIds") d) _ AreTexts StepTexts (listed_values as_str (codes "astNodeIds") IsUtf8 str_is d h)
-    (λ nodes n. bound (argument d) _ ArgumentTexts StepTexts (argument_read d h) (λ below a. (t, n, a))))))
+    (λ nodes n. bound (argument_member d) _ ArgumentTexts StepTexts (argument_read d h) (λ below a. (t, n, a))))))
 
 texts_read : Reads pickle_texts (λ t. IsUtf8 t.uri × IsUtf8 t.name × IsUtf8 t.language)
 texts_read d h =

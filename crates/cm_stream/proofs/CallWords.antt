@@ -93,13 +93,13 @@ steps_in : (o : Option TestCase) → option_map_or (λ (c : DeclaredCase). c.ste
 steps_in None = refl
 steps_in (Some c) = refl
 
-pub steps_told : (case : Utf8) (es : List Envelope) → call.steps_of case (calls_of es) ≡ steps_of case es
+pub steps_told : (case : Utf8) (es : List Envelope) → call.steps_of_case case (calls_of es) ≡ steps_of case es
 steps_told case es = ap (λ o. option_map_or (λ (c : DeclaredCase). c.steps) o []) (declared_told case es) ∙ steps_in (find_case case es)
 
 pub attempt_steps_told : (a : Utf8) (es : List Envelope) → call.steps_of_attempt a (calls_of es) ≡ steps_of_attempt a es
-attempt_steps_told a es = ap (λ o. option_map_or (λ (s : StartedAttempt). call.steps_of s.case_id (calls_of es)) o []) (start_of_told a es) ∙ go (find (λ s. bytes_eq a s.id) (starts es))
+attempt_steps_told a es = ap (λ o. option_map_or (λ (s : StartedAttempt). call.steps_of_case s.case_id (calls_of es)) o []) (start_of_told a es) ∙ go (find (λ s. bytes_eq a s.id) (starts es))
   where
-    go : (o : Option TestCaseStarted) → option_map_or (λ (s : StartedAttempt). call.steps_of s.case_id (calls_of es)) (option_map start_told o) [] ≡ option_map_or (λ c. steps_of c es) (option_map (λ (s : TestCaseStarted). s.test_case_id) o) []
+    go : (o : Option TestCaseStarted) → option_map_or (λ (s : StartedAttempt). call.steps_of_case s.case_id (calls_of es)) (option_map start_told o) [] ≡ option_map_or (λ c. steps_of c es) (option_map (λ (s : TestCaseStarted). s.test_case_id) o) []
     go None = refl
     go (Some s) = steps_told s.test_case_id es
 
