@@ -1,6 +1,7 @@
 mod audits;
 mod calls;
 mod cases;
+mod choices;
 mod compiled;
 mod conditions;
 mod differences;
