@@ -10,7 +10,7 @@ use Rattle.cm_envelope.specs.Device.{Input}
 use Rattle.cm_envelope.specs.declared.feed.Trouble.TheVariants.{Memory}
 use Rattle.cm_missing.specs.Missing.{AreMissingLines, AskedFile, IsMissingOf, IsScenarioCount, IsUnrunCount, scenarios_in, unrun_in}
 use Rattle.cm_missing.specs.declared.missing.Missing.{Missing}
-use Rattle.cm_reasons.specs.Lines.{limited}
+use Rattle.cm_reasons.specs.Lines.{limited_text}
 use Rattle.cm_ran.specs.declared.marks.Marks.{Marks}
 use Rattle.cm_stream.specs.Release.{Conditions}
 use Rattle.cm_stream.specs.Texts.{Utf8}
@@ -51,7 +51,7 @@ module _ (asked : Conditions) (fs : List AskedFile) (m : Missing) (is : IsMissin
   abbrev unrun_count : ℕ
   unrun_count = unrun_in asked is.reads
 
-  pub told_missing : (lines : List (List ℕ)) → AreMissingLines asked fs lines → (AreMissingLines asked fs [] → ⊥) → new ≡ old ++ (codes "stop Missing" ++ 10 ∷ limited lines) → AddsLast asked fs files counts old new exit.Held
+  pub told_missing : (lines : List (List ℕ)) → AreMissingLines asked fs lines → (AreMissingLines asked fs [] → ⊥) → new ≡ old ++ (codes "stop Missing" ++ 10 ∷ limited_text lines) → AddsLast asked fs files counts old new exit.Held
   told_missing [] are some grown = absurd (some are)
   told_missing (line ∷ lines) are some grown = record {
     lines = line ∷ lines;

@@ -23,7 +23,7 @@ use Rattle.cm_stream.specs.ReleasedRuns.{EachSourceIsCompiled}
 use Rattle.cm_stream.proofs.Released.{released_is_not_held, released_ran}
 use Rattle.cm_stream.proofs.Streams.{read_is_told}
 use Rattle.cm_audit.specs.Audit.{GoodAtEnd}
-use Rattle.cm_ran.specs.Marks.{AlsoRan, Marked, marked_texts, ran}
+use Rattle.cm_ran.specs.Marks.{AlsoRan, Marked, marked_texts, has_run}
 use Rattle.cm_ran.specs.RunAt.{is_run_at}
 use Rattle.cm_ran.specs.declared.marks.Marks.{Marks}
 use Rattle.cm_audit_release.specs.PartAudit.{IsMarkedBy, IsPartAuditOf, is_unheld}
@@ -119,13 +119,13 @@ memory_run s asked old new texts = record { reports = refl; texts = texts; done 
 -- ---- marks
 
 pub nothing_ran : (m : Marks) → AlsoRan m m (is_run_in [])
-nothing_ran m text place there = sym (or-false (ran m text place))
+nothing_ran m text place there = sym (or-false (has_run m text place))
 
 -- one stream more
 ran_more : (old mid new : Marks) (streams : List (List Envelope)) (es : List Envelope) → marked_texts mid ≡ marked_texts old → AlsoRan old mid (is_run_in streams) → Marked es mid new → AlsoRan old new (is_run_in (streams ++ es ∷ []))
 ran_more old mid new streams es texts so_far m text place there =
     let also = so_far text place there in
-    let before : Bool = ran old text place in
+    let before : Bool = has_run old text place in
     let earlier : Bool = is_run_in streams text place in
     let here : Bool = is_run_at es text place in
     m.flags text place (ap (has_text text) texts ∙ there)

@@ -6,7 +6,7 @@ use Rattle.cm_envelope.specs.declared.envelope.Envelope.{Envelope}
 use Rattle.cm_envelope.specs.declared.feed.Trouble.TheVariants.{Memory}
 use Rattle.cm_attempt.specs.declared.status.Settings.{Settings}
 use Rattle.cm_missing.specs.Missing.{AreMissingLines, AskedFile, IsScenarioCount, IsUnrunCount, flag_at}
-use Rattle.cm_reasons.specs.Lines.{limited}
+use Rattle.cm_reasons.specs.Lines.{limited_text}
 use Rattle.cm_stream.specs.Release.{Conditions}
 use Rattle.cm_stream.specs.Texts.{Utf8}
 use Rattle.feature_paths.specs.FeaturePaths.{FindsFault, FindsFiles}
@@ -63,7 +63,7 @@ files_text files scenarios unrun counts =
 -- what is missing; else that nothing ran, or that all is well
 abbrev pub last_report : (lines : List (List ℕ)) → (files scenarios unrun : ℕ) → GateCounts → Report
 last_report (line ∷ lines) files scenarios unrun counts = record {
-  text = codes "stop Missing" ++ line_feed ∷ limited (line ∷ lines);
+  text = codes "stop Missing" ++ line_feed ∷ limited_text (line ∷ lines);
   status = Held;
 }
 last_report [] files scenarios unrun counts =

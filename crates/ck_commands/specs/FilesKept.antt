@@ -2,7 +2,7 @@
 use Rattle.std.specs.Prelude.{◌≡◌, ◌⊎◌, ⊤, ◌++◌, ◌∷◌, ℕ, Bool, true, false, List, [], Option, Some, None, Result, Ok, Err, option_map, String, string_bytes}
 use Rattle.std.specs.List.{list_all}
 use Rattle.std.specs.declared.alloc.Global.{Global}
-use Rattle.cm_ran.specs.Marks.{marked_texts, ran}
+use Rattle.cm_ran.specs.Marks.{marked_texts, has_run}
 use Rattle.cm_ran.specs.Rows.{row_at}
 use Rattle.cm_ran.specs.declared.marks.Marks.{Marks}
 use Rattle.cm_attempt.specs.Table.{has_text}
@@ -38,7 +38,8 @@ file_of f = record { path = string_bytes f.path; text = option_map string_bytes 
 -- ---- one file
 
 -- what was read of a file, as its text
-abbrev pub AsFileText : Result (String Global) TextFault → Result (Option (String Global)) FileFault → Type 0
+abbrev pub AsFileText : Result (String Global) TextFault
+    → Result (Option (String Global)) FileFault → Type 0
 AsFileText (Ok text) answer = answer ≡ Ok (Some text)
 AsFileText (Err text.TooLong) answer = answer ≡ Ok None
 AsFileText (Err text.ReadFailed) answer = answer ≡ Err fault.ReadFailed
@@ -99,7 +100,7 @@ HasTexts m (f ∷ fs) = HasTextOf m f.text × HasTexts m fs
 
 -- no scenario ran yet
 abbrev pub IsUnmarked : Marks → Type 0
-IsUnmarked m = (text : Utf8) (place : ℕ) → ran m text place ≡ false
+IsUnmarked m = (text : Utf8) (place : ℕ) → has_run m text place ≡ false
 
 -- the flags of a text
 abbrev pub row_of : Marks → Option Utf8 → List Bool

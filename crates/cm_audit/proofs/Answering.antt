@@ -15,7 +15,7 @@ use Rattle.cm_state.specs.ByOnePass.{answer_of_line, answer_of_lines}
 use Rattle.cm_state.specs.StateChecks.{line_judged_by}
 use Rattle.cm_state.specs.Summary.{Summary, empty_summary}
 use Rattle.cm_audit.specs.Audit.{AnswersAs, ReadsNoFurther, ReadsUpTo, TakesLine, audited_at, contents, judged_line}
-use Rattle.cm_audit.specs.Judging.{HoldNoFault, JudgesAs, JudgesLine, UnlessNoMemory, judged, judged_from_first}
+use Rattle.cm_audit.specs.Judging.{HoldNoFault, JudgesAs, JudgesLine, UnlessNoMemory, answer_of_bytes, answer_from_first}
 use Rattle.cm_audit.specs.Stops.{unread_line}
 use Rattle.cm_audit.specs.State.{summary_of}
 use Rattle.cm_audit.specs.Taking.{StopsAtLine, TakesEach, TakesUntil}
@@ -95,22 +95,22 @@ module _ {W : Type 0} (follows : W → List Envelope → Type 0) where
 
   module _ (first : Judging W) (nothing : summary_of first.state ≡ empty_summary first.settings.first_attempt) where
     judges_first : (now : Judging W) (lines more : List (List ℕ)) (t : Option Trouble) → TakesEach (JudgesLine follows) first lines now
-        → judged_from_first first.settings (lines ++ more) t ≡ answer_of_lines first.settings (summary_of now.state) (length lines + 1) more t
+        → answer_from_first first.settings (lines ++ more) t ≡ answer_of_lines first.settings (summary_of now.state) (length lines + 1) more t
     judges_first now lines more t h =
         ap (λ (s : Summary). answer_of_lines first.settings s 1 (lines ++ more) t) (sym nothing)
         ∙ judges_each first.settings first now 1 (length lines + 1) lines more t refl (omega arith) h
 
     -- what is answered of bytes that have these lines first
     pub judged_after : (now : Judging W) (bytes : List ℕ) (lines more : List (List ℕ)) (t : Option Trouble) → (feed_of bytes).lines ≡ lines ++ more → (feed_of bytes).trouble ≡ t → TakesEach (JudgesLine follows) first lines now
-        → judged first.settings bytes ≡ answer_of_lines first.settings (summary_of now.state) (length lines + 1) more t
+        → answer_of_bytes first.settings bytes ≡ answer_of_lines first.settings (summary_of now.state) (length lines + 1) more t
     judged_after now bytes lines more t cut trouble h =
-        ap (λ (ls : List (List ℕ)). judged_from_first first.settings ls (feed_of bytes).trouble) cut
-        ∙ ap (judged_from_first first.settings (lines ++ more)) trouble
+        ap (λ (ls : List (List ℕ)). answer_from_first first.settings ls (feed_of bytes).trouble) cut
+        ∙ ap (answer_from_first first.settings (lines ++ more)) trouble
         ∙ judges_first now lines more t h
 
     -- and no more lines
     pub judged_all : (now : Judging W) (bytes : List ℕ) (t : Option Trouble) → (feed_of bytes).trouble ≡ t → TakesEach (JudgesLine follows) first (feed_of bytes).lines now
-        → judged first.settings bytes ≡ answer_of_lines first.settings (summary_of now.state) (length (feed_of bytes).lines + 1) [] t
+        → answer_of_bytes first.settings bytes ≡ answer_of_lines first.settings (summary_of now.state) (length (feed_of bytes).lines + 1) [] t
     judged_all now bytes t trouble h = judged_after now bytes (feed_of bytes).lines [] t (sym (append-nil (feed_of bytes).lines)) trouble h
 
     -- ---- a line that stops it
@@ -119,7 +119,7 @@ module _ {W : Type 0} (follows : W → List Envelope → Type 0) where
         → TakesLine first.settings h.last.state new.state (judged_line first.settings h.last.state h.line) (Err h.why) → JudgesAs first.settings (audited_at (length h.before + 1) h.why) bytes rest
     stops_at new answer bytes rest h k =
         let n = length h.before + 1 in
-        let left : judged first.settings bytes ≡ answer_of_lines first.settings (summary_of h.last.state) n (h.line ∷ h.after) (feed_of bytes).trouble = judged_after h.last bytes h.before (h.line ∷ h.after) (feed_of bytes).trouble h.cut refl h.taken in
+        let left : answer_of_bytes first.settings bytes ≡ answer_of_lines first.settings (summary_of h.last.state) n (h.line ∷ h.after) (feed_of bytes).trouble = judged_after h.last bytes h.before (h.line ∷ h.after) (feed_of bytes).trouble h.cut refl h.taken in
         record {
           told = rw left (found first.settings h.last.state new.state n (judged_line first.settings h.last.state h.line) (λ (now : Summary). answer_of_lines first.settings now (n + 1) h.after (feed_of bytes).trouble) h.why k);
           read_failed = λ e. absurd (never_failed n h.why e);
@@ -128,7 +128,7 @@ module _ {W : Type 0} (follows : W → List Envelope → Type 0) where
 
     -- ---- a trouble
 
-    trouble_told : (now : Judging W) (t : Trouble) (bytes rest : List ℕ) → TakesUntil (JudgesLine follows) first now t bytes rest → AnswersAs (judged first.settings bytes) (Err t)
+    trouble_told : (now : Judging W) (t : Trouble) (bytes rest : List ℕ) → TakesUntil (JudgesLine follows) first now t bytes rest → AnswersAs (answer_of_bytes first.settings bytes) (Err t)
     trouble_told now ReadFailed bytes rest h = tt
     trouble_told now LineTooLong bytes rest h = sym (judged_all now bytes (Some LineTooLong) h.1 h.0)
     trouble_told now StreamTooLong bytes rest h = sym (judged_all now bytes (Some StreamTooLong) h.1 h.0)
@@ -139,7 +139,7 @@ module _ {W : Type 0} (follows : W → List Envelope → Type 0) where
       lines = h.lines;
       ahead = h.ahead;
       begins = h.begins;
-      faultless = ap (λ (ls : List (List ℕ)). judged_from_first first.settings ls (Some ReadFailed)) (sym (append-nil (contents h.lines))) ∙ judges_first now (contents h.lines) [] (Some ReadFailed) h.taken;
+      faultless = ap (λ (ls : List (List ℕ)). answer_from_first first.settings ls (Some ReadFailed)) (sym (append-nil (contents h.lines))) ∙ judges_first now (contents h.lines) [] (Some ReadFailed) h.taken;
       nothing = h.nothing;
     }
     trouble_held now LineTooLong bytes rest h e = cc

@@ -35,7 +35,7 @@ use Rattle.cm_state.proofs.Checked.{findings_are_faults}
 use Rattle.cm_state.proofs.Judged.{judged_is_told, none_yet, one_more_line, same_line}
 use Rattle.cm_state.proofs.Steps.{summaries_step}
 use Rattle.cm_audit.specs.Audit.{AnswersAs, GoodAtEnd, IsAuditOf, TakesLine, audited_at, judged_line, unsuccessful}
-use Rattle.cm_audit.specs.Judging.{DecidesAnswer, FollowsAnswer, JudgesLine, JudgesWith, ReadsAgain, UnlessNoMemory, judged}
+use Rattle.cm_audit.specs.Judging.{DecidesAnswer, FollowsAnswer, JudgesLine, JudgesWith, ReadsAgain, UnlessNoMemory, answer_of_bytes}
 use Rattle.cm_audit.specs.Taking.{StopsAtLine, TakesEach, TakesStream}
 use Rattle.cm_stream.specs.OnePass.{reads}
 use Rattle.cm_stream.proofs.OnePass.{is_read as reads_by_the_grammar}
@@ -124,7 +124,7 @@ module _ {W : Type 0} (settings : Settings) (follows : W → List Envelope → T
 
 module _ (settings : Settings) (follows : List Envelope → Type 0) where
   -- a good stream's lines were all read
-  followed_good : (bytes : List ℕ) (s : Summary) (counts : Counts) (success : Bool) (ls : List (List ℕ)) → AnswersAs (judged settings bytes) (Ok (record { verdict = verdict.Good counts; success = success }))
+  followed_good : (bytes : List ℕ) (s : Summary) (counts : Counts) (success : Bool) (ls : List (List ℕ)) → AnswersAs (answer_of_bytes settings bytes) (Ok (record { verdict = verdict.Good counts; success = success }))
       → (feed_of bytes).lines ≡ ls → follows (judged_in settings ls) → s.table ≡ table_of_envelopes settings.first_attempt (judged_in settings ls) → IsFollowed settings follows s.table bytes
   followed_good bytes s counts success ls told all follow table =
       let answer : Result Audited Trouble = Ok (record { verdict = verdict.Good counts; success = success }) in
@@ -251,7 +251,7 @@ module _ {W : Type 0} (follows : W → List Envelope → Type 0) (first : Judgin
       reads_weaker {P = TakesStream (JudgesLine follows) first new (Ok n)} {Q = JudgesWith first.settings (follows new.watch) new.last (summary_of new.state) answer} a c p
       (λ xs zs h. record {
         judges = record {
-          told = let end : judged first.settings xs ≡ answer_at_end (length (feed_of xs).lines + 1) (summary_of new.state) (finding_at_end (summary_of new.state)) = judged_all follows first nothing new xs None h.whole h.taken in
+          told = let end : answer_of_bytes first.settings xs ≡ answer_at_end (length (feed_of xs).lines + 1) (summary_of new.state) (finding_at_end (summary_of new.state)) = judged_all follows first nothing new xs None h.whole h.taken in
               sym (end ∙ rw (e, ← h.count) refl);
           read_failed = λ failed. cc;
           ahead = inl (omega (arith, h.count));
@@ -275,7 +275,7 @@ module _ {W : Type 0} (follows : W → List Envelope → Type 0) (first : Judgin
       (λ xs zs h.
       let lines = (feed_of xs).lines in
       let end : answer_at_end (length lines + 1) s (finding_at_end s) ≡ answer_at_end (length lines + 1) s None = rw e refl in
-      let told : AnswersAs (judged first.settings xs) answer = sym (judged_all follows first nothing new xs None h.whole h.taken ∙ end) in
+      let told : AnswersAs (answer_of_bytes first.settings xs) answer = sym (judged_all follows first nothing new xs None h.whole h.taken ∙ end) in
       let followed = so_far new lines h.taken in
       record {
         judges = record { told = told; read_failed = λ failed. cc; ahead = tt };

@@ -15,7 +15,7 @@ use Rattle.cm_stream.proofs.ByGrammar.{is_first, is_first_of}
 use Rattle.cm_stream.proofs.Streams.{answers_are_right}
 use Rattle.cm_state.proofs.Judged.{judged_is_told}
 use Rattle.cm_audit.specs.Audit.{AnswersAs, AnswersTold, GoodAtEnd, GoodAtEndIn, GoodHeard, GoodHeardIn, IsAuditOf, ShowNoFault, audited_at}
-use Rattle.cm_audit.specs.Judging.{judged, HoldNoFault, JudgesAs}
+use Rattle.cm_audit.specs.Judging.{answer_of_bytes, HoldNoFault, JudgesAs}
 use Rattle.cm_audit.specs.declared.stop.Stop.{Stop}
 use Rattle.cm_audit.specs.declared.stop.Stop.TheVariants as stop
 use Rattle.cm_audit.proofs.Deciding.{decides_good, shows_unsupported}
@@ -39,24 +39,24 @@ shown settings before after h = record {
 -- ---- the audit
 
 module _ (settings : Settings) where
-  same : (bytes : List ℕ) → judged settings bytes ≡ answer_for (first_fault settings bytes)
+  same : (bytes : List ℕ) → answer_of_bytes settings bytes ≡ answer_for (first_fault settings bytes)
   same bytes = judged_is_told settings (feed_of bytes).lines (feed_of bytes).trouble
 
-  as_reported : (bytes : List ℕ) (answer : Result Audited Trouble) → AnswersAs (judged settings bytes) answer → AnswersAs (answer_for (first_fault settings bytes)) answer
+  as_reported : (bytes : List ℕ) (answer : Result Audited Trouble) → AnswersAs (answer_of_bytes settings bytes) answer → AnswersAs (answer_for (first_fault settings bytes)) answer
   as_reported bytes (Ok v) h = h ∙ same bytes
   as_reported bytes (Err ReadFailed) h = tt
   as_reported bytes (Err LineTooLong) h = h ∙ same bytes
   as_reported bytes (Err StreamTooLong) h = h ∙ same bytes
   as_reported bytes (Err Memory) h = tt
 
-  as_told : (bytes : List ℕ) (answer : Result Audited Trouble) → AnswersAs (judged settings bytes) answer → AnswersTold settings bytes answer
+  as_told : (bytes : List ℕ) (answer : Result Audited Trouble) → AnswersAs (answer_of_bytes settings bytes) answer → AnswersTold settings bytes answer
   as_told bytes answer h = record { first = first_fault settings bytes; is_first = is_first settings bytes (first_fault settings bytes) refl; answers = as_reported bytes answer h }
 
-  good_run : (bytes : List ℕ) (answer : Result Audited Trouble) → AnswersAs (judged settings bytes) answer → GoodRunsOnly settings bytes answer
+  good_run : (bytes : List ℕ) (answer : Result Audited Trouble) → AnswersAs (answer_of_bytes settings bytes) answer → GoodRunsOnly settings bytes answer
   good_run bytes (Ok v) h = (answers_are_right settings bytes (Ok v) (h ∙ same bytes)).good
   good_run bytes (Err t) h = tt
 
-  none_good : (bytes : List ℕ) (answer : Result Audited Trouble) → AnswersAs (judged settings bytes) answer → NoneIsGood settings bytes (verdict_in answer)
+  none_good : (bytes : List ℕ) (answer : Result Audited Trouble) → AnswersAs (answer_of_bytes settings bytes) answer → NoneIsGood settings bytes (verdict_in answer)
   none_good bytes (Ok v) h = (answers_are_right settings bytes (Ok v) (h ∙ same bytes)).bad
   none_good bytes (Err t) h = tt
 

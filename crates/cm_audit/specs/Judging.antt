@@ -19,25 +19,26 @@ use Rattle.cm_audit.specs.declared.stop.Stop.{Stop}
 use Rattle.cm_audit.specs.declared.stop.Stop.TheVariants as stop
 
 -- the answer line by line, from the first line on, and then for the trouble or the end
-abbrev pub judged_from_first : Settings → List (List ℕ) → Option Trouble → Answer
-judged_from_first settings lines trouble =
+abbrev pub answer_from_first : Settings → List (List ℕ) → Option Trouble → Answer
+answer_from_first settings lines trouble =
     answer_of_lines settings (empty_summary settings.first_attempt) 1 lines trouble
 
-abbrev pub judged : Settings → List ℕ → Answer
-judged settings bytes = judged_from_first settings (feed_of bytes).lines (feed_of bytes).trouble
+abbrev pub answer_of_bytes : Settings → List ℕ → Answer
+answer_of_bytes settings bytes =
+    answer_from_first settings (feed_of bytes).lines (feed_of bytes).trouble
 
 -- `ShowNoFault`, where the lines are judged one by one
 pub record HoldNoFault (settings : Settings) (before after : List ℕ) : Type 0 where
   pub lines : List Line
   pub ahead : List ℕ
   pub begins : Begins before lines ahead after
-  pub faultless : judged_from_first settings (contents lines) (Some ReadFailed) ≡ Failed ReadFailed
+  pub faultless : answer_from_first settings (contents lines) (Some ReadFailed) ≡ Failed ReadFailed
   pub nothing : ShowNothing max_line_bytes max_stream_bytes (length (all_written lines)) ahead
 
 -- `IsAuditOf`, where the lines are judged one by one
 pub record JudgesAs (settings : Settings) (answer : Result Audited Trouble)
     (bytes rest : List ℕ) : Type 0 where
-  pub told : AnswersAs (judged settings bytes) answer
+  pub told : AnswersAs (answer_of_bytes settings bytes) answer
   pub read_failed : answer ≡ Err ReadFailed → HoldNoFault settings bytes rest
   pub ahead : ReadsUpTo (verdict_in answer) bytes rest
 

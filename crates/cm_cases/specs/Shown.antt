@@ -31,8 +31,8 @@ four_digits c =
     ∷ digit_char (c % 16) ∷ []
 
 -- a character by its number, as in JSON (RFC 8259, section 7)
-abbrev pub numbered : ℕ → List ℕ
-numbered c = codes "\\u" ++ four_digits c
+abbrev pub numbered_char : ℕ → List ℕ
+numbered_char c = codes "\\u" ++ four_digits c
 
 -- A backslash is doubled, five control characters have a letter and the other hidden ones their number; all else stands as it
 -- is.
@@ -44,7 +44,7 @@ shown_char c =
     else if c == 0xa then codes "\\n"
     else if c == 0xc then codes "\\f"
     else if c == 0xd then codes "\\r"
-    else if is_hidden c then numbered c
+    else if is_hidden c then numbered_char c
     else encode_utf8 c
 
 -- the text, character by character
@@ -67,7 +67,7 @@ is_numbered_in_json c = is_hidden c || is_other_space c || is_widthless c
 
 -- such a character has its number, and all else stands as it is
 abbrev pub json_char : ℕ → List ℕ
-json_char c = if is_numbered_in_json c then numbered c else encode_utf8 c
+json_char c = if is_numbered_in_json c then numbered_char c else encode_utf8 c
 
 -- JSON text, in whose strings alone such a character may stand, character by character
 abbrev pub shown_json : List ℕ → List ℕ

@@ -2,7 +2,7 @@
 ghost use Rattle.std.specs.Prelude.{◌≡◌, ◌<◌, ◌++◌, ◌∷◌, [], OnOk, string_bytes};
 ghost use Rattle.std.specs.Char.{digit_char};
 ghost use Rattle.cm_cases.specs.Shown.{four_digits, is_hidden, is_numbered_in_json, is_other_space, is_widthless};
-ghost use Rattle.cm_cases.specs.Shown.{json_char, numbered, shown_char, shown_json, shown_text};
+ghost use Rattle.cm_cases.specs.Shown.{json_char, numbered_char, shown_char, shown_json, shown_text};
 
 use std::alloc::AllocError;
 
@@ -68,7 +68,7 @@ fn add_number(text: &mut String, number: u32) -> Result<(), AllocError>
 
 /// Adds a character by its number.
 fn add_numbered(text: &mut String, c: char) -> Result<(), AllocError>
-    ensures { OnOk result (string_bytes text.new ≡ string_bytes text.old ++ numbered c) }
+    ensures { OnOk result (string_bytes text.new ≡ string_bytes text.old ++ numbered_char c) }
 {
     text.push_str("\\u")?;
     add_number(text, c as u32)

@@ -18,7 +18,7 @@ use Rattle.json.specs.Text.{code_unit, content, is_high_surrogate, is_low_surrog
 use Rattle.json.specs.Word.{is_operator, is_space}
 use Rattle.json.proofs.Printed.Strings.{escape_byte_plain}
 use Rattle.json.proofs.Printed.Utf8.{IsUtf8-are_ascii, are_ascii}
-use Rattle.cm_cases.specs.Shown.{is_numbered_in_json, json_char, numbered, shown_json}
+use Rattle.cm_cases.specs.Shown.{is_numbered_in_json, json_char, numbered_char, shown_json}
 
 -- ---- a test that holds of each number below another
 
@@ -109,7 +109,7 @@ small : (c : ℕ) → IsUnit c → c < 65536
 small c (inl h) = omega arith
 small c (inr h) = h.1
 
-number_stands : (c : ℕ) → IsUnit c → Stands (numbered c) (encode c)
+number_stands : (c : ℕ) → IsUnit c → Stands (numbered_char c) (encode c)
 unfolding content lex
 number_stands c unit = record {
   read = λ r. let none = no_surrogate c unit in rw (unit_of c (small c unit), none.0, none.1) refl;
@@ -167,7 +167,7 @@ unit_if_numbered c ok e =
 abbrev ascii_text : ℕ → List ℕ
 ascii_text c =
     if nat_lt 0 (escape_letter c) then 92 ∷ escape_letter c ∷ []
-    else if nat_lt c 32 || (c == 127) then numbered c
+    else if nat_lt c 32 || (c == 127) then numbered_char c
     else c ∷ []
 
 all_ascii : all_below (λ c. bytes_eq (shown_json (escape_byte c)) (ascii_text c)) 128 ≡ true
@@ -224,7 +224,7 @@ ascii_stands c h =
       | inl is ↦ rw is (letter_stands c is)
       | inr isnt ↦
           elim (cases_Bool (nat_lt c 32 || (c == 127))) [
-            | inl is ↦ rw (isnt, is) (subst (Stands (numbered c)) (encode_ascii c h) (number_stands c (inl (omega arith))))
+            | inl is ↦ rw (isnt, is) (subst (Stands (numbered_char c)) (encode_ascii c h) (number_stands c (inl (omega arith))))
             | inr none ↦
                 let both = no_letter c isnt in
                 let large : 32 ≤ c = ltb-false c 32 (or_parts (nat_lt c 32) (c == 127) none).0 in
@@ -322,13 +322,13 @@ digits_ascii = refl
 digit_ascii : (n : ℕ) → nat_lt (digit_char (n % 16)) 128 ≡ true
 digit_ascii n = below (λ d. nat_lt (digit_char d) 128) 16 digits_ascii (n % 16) (below_16 n)
 
-number_ascii : (c : ℕ) → are_ascii (numbered c) ≡ true
+number_ascii : (c : ℕ) → are_ascii (numbered_char c) ≡ true
 number_ascii c = rw (digit_ascii (c / 4096), digit_ascii (c / 256), digit_ascii (c / 16), digit_ascii c) refl
 
 json_char_utf8 : (c : ℕ) → scalar c ≡ true → IsUtf8 (json_char c)
 json_char_utf8 c ok =
     elim (cases_Bool (is_numbered_in_json c)) [
-      | inl is ↦ rw is (IsUtf8-are_ascii (numbered c) (number_ascii c))
+      | inl is ↦ rw is (IsUtf8-are_ascii (numbered_char c) (number_ascii c))
       | inr isnt ↦ rw isnt (IsUtf8-encode c ok)
     ]
 

@@ -5,7 +5,7 @@ use Rattle.std.specs.List.{Contains}
 use Rattle.cm_envelope.specs.declared.envelope.Source.{Source}
 use Rattle.cm_stream.specs.Readings.{IsReading, Refused}
 use Rattle.cm_stream.specs.References.{cases, is_good_case, run_hooks}
-use Rattle.cm_reasons.specs.Lines.{limited}
+use Rattle.cm_reasons.specs.Lines.{limited_text}
 use Rattle.cm_reasons.specs.RunReasons.{AreRefusedLines, bad_end, bad_hook_line, hook_causes, line_of_refused}
 use Rattle.cm_causes.specs.Causes.{case_causes, cause_of_case, exception_line}
 use Rattle.cm_causes.specs.Laws.{CasesHaveLines, ExceptionsHaveLines, HooksHaveLines, SourcesHaveLines}
@@ -45,4 +45,4 @@ sources_have_lines (x ∷ later) lines are s within refused =
     (contains_cases x later s within)
 
 pub exceptions_have_lines : ExceptionsHaveLines
-exceptions_have_lines policy es text are = (limited (case_causes policy es) ++ limited (hook_causes policy es) ++ limited are.refused, are.all)
+exceptions_have_lines policy es text are = (limited_text (case_causes policy es) ++ limited_text (hook_causes policy es) ++ limited_text are.refused, are.all)

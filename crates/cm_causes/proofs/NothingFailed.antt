@@ -14,7 +14,7 @@ use Rattle.cm_stream.specs.Calls.{calls_of}
 use Rattle.cm_stream.specs.References.{cases, is_good_case, run_hooks, sources}
 use Rattle.cm_stream.specs.Texts.{Utf8}
 use Rattle.std.specs.List.{filter}
-use Rattle.cm_reasons.specs.Lines.{ended, limited, more_text}
+use Rattle.cm_reasons.specs.Lines.{text_of_lines, limited_text, more_text}
 use Rattle.cm_reasons.specs.RunReasons.{AreRefusedLines, bad_end, bad_hook_line, hook_causes, line_of_refused}
 use Rattle.cm_causes.specs.Causes.{IsCauses, case_causes, cause_of_case, exception_line, nothing_failed, result_line, told_causes}
 use Rattle.cm_causes.specs.Laws.{NothingFailedIsAllWell}
@@ -63,10 +63,10 @@ refused_lines (s ∷ ss) lines are =
 
 -- ---- and so do all of them
 
-past : (lines : List (List ℕ)) → AllByRecursion BeginsOtherwise lines → (rest more : List ℕ) → limited lines ++ rest ≡ 110 ∷ more → rest ≡ 110 ∷ more
+past : (lines : List (List ℕ)) → AllByRecursion BeginsOtherwise lines → (rest more : List ℕ) → limited_text lines ++ rest ≡ 110 ∷ more → rest ≡ 110 ∷ more
 past [] h rest more e = e
 past (line ∷ lines) h rest more e =
-    let later = line_feed ∷ (ended (take 99 lines) ++ more_text (length (line ∷ lines) - 100)) in
+    let later = line_feed ∷ (text_of_lines (take 99 lines) ++ more_text (length (line ∷ lines) - 100)) in
     absurd (h.0 (later ++ rest) more (sym (append_assoc line later rest) ∙ ap (λ (t : List ℕ). t ++ rest) (sym (first_shown line lines)) ∙ e))
 
 no_exception_begins : (b : Bool) (more : List ℕ) → exception_line b ≡ 110 ∷ more → ⊥
@@ -75,9 +75,9 @@ no_exception_begins false more h = cc
 
 causes_begin : (policy : Policy) (es : List Envelope) (has_exception : Bool) (causes : List ℕ) → IsCauses policy es has_exception causes → (more : List ℕ) → causes ≡ 110 ∷ more → ⊥
 causes_begin policy es has_exception causes are more h =
-    let a = limited (case_causes policy es) in
-    let b = limited (hook_causes policy es) in
-    let c = limited are.refused in
+    let a = limited_text (case_causes policy es) in
+    let b = limited_text (hook_causes policy es) in
+    let c = limited_text are.refused in
     let end = exception_line has_exception in
     let apart : a ++ (b ++ (c ++ end)) ≡ 110 ∷ more = sym (append_assoc a b (c ++ end)) ∙ sym (append_assoc (a ++ b) c end) ∙ sym are.all ∙ h in
     let one = past (case_causes policy es) (each_map BeginsOtherwise (cause_of_case es) (λ c. case_line es c.id (result_of c.id (calls_of es))) (filter (λ c. not (is_good_case policy es c)) (cases es))) (b ++ (c ++ end)) more apart in

@@ -27,7 +27,7 @@ use Rattle.cm_stream.proofs.Lists.{all_here, any_here, find_none}
 use Rattle.cm_stream.proofs.NoFault.{good_have_no_fault}
 use Rattle.cm_stream.proofs.OnePass.{one_reading}
 use Rattle.cm_stream.proofs.Refuted.{CutAt, cut_at}
-use Rattle.cm_reasons.specs.Lines.{limited}
+use Rattle.cm_reasons.specs.Lines.{limited_text}
 use Rattle.cm_reasons.specs.RunReasons.{AreRefusedLines, bad_end, bad_hook_line, end_statuses, hook_causes, line_of_refused}
 use Rattle.cm_causes.specs.Causes.{IsCauses, case_causes, cause_of_case, exception_line}
 use Rattle.cm_causes.specs.Laws.{AreKnown, GoodWithoutSuccessHasCause, NoCauseIsAllWell}
@@ -120,9 +120,9 @@ no_cause policy es f text known are = (well, none)
   where
     well : text ≡ [] → AllWell policy es f
     well h =
-        let a = limited (case_causes policy es) in
-        let b = limited (hook_causes policy es) in
-        let c = limited are.refused in
+        let a = limited_text (case_causes policy es) in
+        let b = limited_text (hook_causes policy es) in
+        let c = limited_text are.refused in
         let three = both_empty (a ++ b ++ c) (exception_line f.has_exception) (sym are.all ∙ h) in
         let two = both_empty (a ++ b) c three.0 in
         let one = both_empty a b two.0 in
@@ -136,9 +136,9 @@ no_cause policy es f text known are = (well, none)
     none : AllWell policy es f → text ≡ []
     none w =
         are.all
-        ∙ (λ j. limited (all_pass (cause_of_case es) (is_good_case policy es) (cases es) w.each_case j)
-        ++ limited (no_hooks policy es w.each_hook j)
-        ++ limited (no_lines (sources es) are.refused w.each_source are.are_refused j)
+        ∙ (λ j. limited_text (all_pass (cause_of_case es) (is_good_case policy es) (cases es) w.each_case j)
+        ++ limited_text (no_hooks policy es w.each_hook j)
+        ++ limited_text (no_lines (sources es) are.refused w.each_source are.are_refused j)
         ++ exception_line (w.no_exception j))
 
 -- ---- a good stream without success

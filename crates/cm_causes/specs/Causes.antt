@@ -13,7 +13,7 @@ use Rattle.cm_stream.specs.References.{cases, if_any, is_good_case, sources}
 use Rattle.cm_stream.specs.Texts.{Utf8}
 use Rattle.cm_steps.specs.Attempts.{last_attempt, step_with}
 use Rattle.cm_steps.specs.Steps.{named_case_step}
-use Rattle.cm_reasons.specs.Lines.{limited}
+use Rattle.cm_reasons.specs.Lines.{limited_text}
 use Rattle.cm_reasons.specs.RunReasons.{AreRefusedLines, hook_causes}
 use Rattle.cm_reasons.specs.Words.{status_word}
 
@@ -56,8 +56,8 @@ pub record IsCauses (policy : Policy) (es : List Envelope) (has_exception : Bool
     (text : List ℕ) : Type 0 where
   pub refused : List (List ℕ)
   pub are_refused : AreRefusedLines (sources es) refused
-  pub all : text ≡ limited (case_causes policy es) ++ limited (hook_causes policy es)
-      ++ limited refused ++ exception_line has_exception
+  pub all : text ≡ limited_text (case_causes policy es) ++ limited_text (hook_causes policy es)
+      ++ limited_text refused ++ exception_line has_exception
 
 abbrev pub nothing_failed : List ℕ
 nothing_failed = codes "nothing failed" ++ line_feed ∷ []

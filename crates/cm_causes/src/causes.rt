@@ -10,7 +10,7 @@ ghost use Rattle.cm_cases.specs.Listed.{listing_of};
 ghost use Rattle.cm_cases.specs.Places.{case_scenario};
 ghost use Rattle.cm_steps.specs.Attempts.{is_quiet};
 ghost use Rattle.cm_steps.specs.Kept.{step_listing_of};
-ghost use Rattle.cm_reasons.specs.Lines.{limited};
+ghost use Rattle.cm_reasons.specs.Lines.{limited_text};
 ghost use Rattle.cm_reasons.specs.Words.{status_word};
 
 use cm_attempt::{CaseResult, Policy, Status, Track};
@@ -172,7 +172,7 @@ fn add_case_causes(
 ) -> Result<(), AllocError>
     ensures { OnOk result ((es : List SomeEnvelope) → trail.now ≡ trail_of es
         → case_results track.now ≡ results_of es
-        → string_bytes text.new ≡ string_bytes text.old ++ limited (case_causes policy es)) }
+        → string_bytes text.new ≡ string_bytes text.old ++ limited_text (case_causes policy es)) }
 {
     let bad = bad_results(alloc, track, policy)?;
     let places = trail.places(alloc, seed)?;

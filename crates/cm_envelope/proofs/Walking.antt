@@ -13,12 +13,12 @@ use Rattle.serde_json.specs.View.{view, members_view}
 use Rattle.serde_json.proofs.Views.{Entry, member_here, member_later}
 use Rattle.cm_envelope.specs.declared.member.Member.{Member}
 use Rattle.cm_envelope.specs.Member.{Named, unless_null}
-use Rattle.cm_envelope.specs.Members.{value_of, seen, noted, or_before, looked_for, AreFound}
+use Rattle.cm_envelope.specs.Members.{value_of, as_named, with_value, or_before, looked_for, AreFound}
 use Rattle.cm_envelope.proofs.Judged.{absent}
 
 -- once this member of the object is passed
 abbrev pub past : Entry → Named → Named
-past e m = cond (is_some (as_null (view e.1))) m (noted (string_bytes e.0) (view e.1) m)
+past e m = cond (is_some (as_null (view e.1))) m (with_value (string_bytes e.0) (view e.1) m)
 
 -- once these are
 abbrev pub past_all : List Entry → Named → Named
@@ -116,63 +116,63 @@ nothing_found d is ms = sym (map-id ms) ∙ same_maps _ _ (λ m. kept_before m.0
     kept_before name (Some d) = refl
 
 module _ (es : List Entry) (ms : List Named) (total : List Named) (so_far : map (past_all es) ms ≡ total) where
-  pub walk_goes_on : (e : Entry) (rest : List Entry) (new : List Named) → es ≡ e ∷ rest → is_some (as_null (view e.1)) ≡ false → new ≡ map (noted (string_bytes e.0) (view e.1)) ms → map (past_all rest) new ≡ total
+  pub walk_goes_on : (e : Entry) (rest : List Entry) (new : List Named) → es ≡ e ∷ rest → is_some (as_null (view e.1)) ≡ false → new ≡ map (with_value (string_bytes e.0) (view e.1)) ms → map (past_all rest) new ≡ total
   walk_goes_on e rest new is not_null noted_all = ap (map (past_all rest)) noted_all ∙ go ms ∙ sym (ap (λ es. map (past_all es) ms) is) ∙ so_far
     where
-      go : (ms : List Named) → map (past_all rest) (map (noted (string_bytes e.0) (view e.1)) ms) ≡ map (past_all (e ∷ rest)) ms
+      go : (ms : List Named) → map (past_all rest) (map (with_value (string_bytes e.0) (view e.1)) ms) ≡ map (past_all (e ∷ rest)) ms
       go [] = refl
-      go (m ∷ ms) = let first = ap (λ b. past_all rest (cond b m (noted (string_bytes e.0) (view e.1) m))) (sym not_null) in let others = go ms in λ i. first i ∷ others i
+      go (m ∷ ms) = let first = ap (λ b. past_all rest (cond b m (with_value (string_bytes e.0) (view e.1) m))) (sym not_null) in let others = go ms in λ i. first i ∷ others i
 
   pub walk_ends : es ≡ [] → ms ≡ total
   walk_ends none = sym (map-id ms) ∙ sym (ap (λ es. map (past_all es) ms) none) ∙ so_far
 
 -- ---- one of the members more is noted
 
-module _ (name : List ℕ) (d : Data) (old ms : List Member) (i : ℕ) (x : Member) (within : i < length ms) (long : length ms ≡ length old) (so_far : map seen ms ≡ map (noted name d) (take i (map seen old)) ++ drop i (map seen old)) (read : x ≡ get_or ms i x) where
-  one_more : set (map seen ms) i (noted name d (seen x)) ≡ map (noted name d) (take (i + 1) (map seen old)) ++ drop (i + 1) (map seen old)
+module _ (name : List ℕ) (d : Data) (old ms : List Member) (i : ℕ) (x : Member) (within : i < length ms) (long : length ms ≡ length old) (so_far : map as_named ms ≡ map (with_value name d) (take i (map as_named old)) ++ drop i (map as_named old)) (read : x ≡ get_or ms i x) where
+  one_more : set (map as_named ms) i (with_value name d (as_named x)) ≡ map (with_value name d) (take (i + 1) (map as_named old)) ++ drop (i + 1) (map as_named old)
   one_more =
-      let within_old : i < length (map seen old) = omega (arith, length-map old seen) in
-      map_over_more (noted name d) (map seen old) (map seen ms) i (seen x) within_old so_far (ap seen read ∙ sym (get_or-map seen ms i x (seen x) within))
+      let within_old : i < length (map as_named old) = omega (arith, length-map old as_named) in
+      map_over_more (with_value name d) (map as_named old) (map as_named ms) i (as_named x) within_old so_far (ap as_named read ∙ sym (get_or-map as_named ms i x (as_named x) within))
 
-  pub noted_here : (new : Member) → bytes_eq x.name.now name ≡ true → new.name ≡ x.name → value_of new ≡ Some d → map seen (set ms i new) ≡ map (noted name d) (take (i + 1) (map seen old)) ++ drop (i + 1) (map seen old)
-  noted_here new t same_name value = map-set seen ms i new ∙ ap (set (map seen ms) i) new_is ∙ one_more
+  pub noted_here : (new : Member) → bytes_eq x.name.now name ≡ true → new.name ≡ x.name → value_of new ≡ Some d → map as_named (set ms i new) ≡ map (with_value name d) (take (i + 1) (map as_named old)) ++ drop (i + 1) (map as_named old)
+  noted_here new t same_name value = map-set as_named ms i new ∙ ap (set (map as_named ms) i) new_is ∙ one_more
     where
-      new_is : seen new ≡ noted name d (seen x)
+      new_is : as_named new ≡ with_value name d (as_named x)
       new_is = rw t (pair same_name value)
         where
-          pair : new.name ≡ x.name → value_of new ≡ Some d → seen new ≡ the_same x.name.now (Some d)
+          pair : new.name ≡ x.name → value_of new ≡ Some d → as_named new ≡ the_same x.name.now (Some d)
           pair n v = λ i. ((n i).now, v i)
 
-  pub not_noted : bytes_eq x.name.now name ≡ false → map seen ms ≡ map (noted name d) (take (i + 1) (map seen old)) ++ drop (i + 1) (map seen old)
-  not_noted t = sym (set-get_or (map seen ms) i (seen x)) ∙ ap (set (map seen ms) i) (get_or-map seen ms i x (seen x) within ∙ ap seen (sym read) ∙ stays) ∙ one_more
+  pub not_noted : bytes_eq x.name.now name ≡ false → map as_named ms ≡ map (with_value name d) (take (i + 1) (map as_named old)) ++ drop (i + 1) (map as_named old)
+  not_noted t = sym (set-get_or (map as_named ms) i (as_named x)) ∙ ap (set (map as_named ms) i) (get_or-map as_named ms i x (as_named x) within ∙ ap as_named (sym read) ∙ stays) ∙ one_more
     where
-      stays : seen x ≡ noted name d (seen x)
+      stays : as_named x ≡ with_value name d (as_named x)
       stays = rw t
 
 -- ---- what was found of each
 
-module _ (ms : List Member) (ns : List Named) (is : map seen ms ≡ ns) where
-  pub nth : (i : ℕ) (x : Member) → i < length ns → seen (get_or ms i x) ≡ get_or ns i (seen x)
+module _ (ms : List Member) (ns : List Named) (is : map as_named ms ≡ ns) where
+  pub nth : (i : ℕ) (x : Member) → i < length ns → as_named (get_or ms i x) ≡ get_or ns i (as_named x)
   nth i x h =
-      let within : i < length ms = omega (arith, length-map ms seen, ap length is) in
-      sym (get_or-map seen ms i x (seen x) within) ∙ ap (λ l. get_or l i (seen x)) is
+      let within : i < length ms = omega (arith, length-map ms as_named, ap length is) in
+      sym (get_or-map as_named ms i x (as_named x) within) ∙ ap (λ l. get_or l i (as_named x)) is
 
-each_found : (d : Data) (new : List Member) (at : ℕ) (old : List Member) → ((j : ℕ) (x y : Member) → j < length old → seen (get_or new (at + j) x) ≡ looked_for d (seen (get_or old j y))) → AreFound d new at old
+each_found : (d : Data) (new : List Member) (at : ℕ) (old : List Member) → ((j : ℕ) (x y : Member) → j < length old → as_named (get_or new (at + j) x) ≡ looked_for d (as_named (get_or old j y))) → AreFound d new at old
 each_found d new at [] h = tt
 each_found d new at (m ∷ ms) h =
     let here : at + 0 ≡ at = omega arith in (
-      (λ x. subst (λ k. seen (get_or new k x) ≡ looked_for d (seen m)) here (h 0 x m (omega arith))),
-      each_found d new (at + 1) ms (λ j x y l. let later : at + suc j ≡ at + 1 + j = omega arith in subst (λ k. seen (get_or new k x) ≡ looked_for d (seen (get_or ms j y))) later (h (suc j) x y (omega arith))),
+      (λ x. subst (λ k. as_named (get_or new k x) ≡ looked_for d (as_named m)) here (h 0 x m (omega arith))),
+      each_found d new (at + 1) ms (λ j x y l. let later : at + suc j ≡ at + 1 + j = omega arith in subst (λ k. as_named (get_or new k x) ≡ looked_for d (as_named (get_or ms j y))) later (h (suc j) x y (omega arith))),
     )
 
-pub all_found : (d : Data) (old new : List Member) → map seen new ≡ map (looked_for d) (map seen old) → AreFound d new 0 old
+pub all_found : (d : Data) (old new : List Member) → map as_named new ≡ map (looked_for d) (map as_named old) → AreFound d new 0 old
 all_found d old new is =
     each_found d new 0 old
-    (λ j x y l. let here : j ≡ 0 + j = omega arith in subst (λ k. seen (get_or new k x) ≡ looked_for d (seen (get_or old j y))) here (go j x y l))
+    (λ j x y l. let here : j ≡ 0 + j = omega arith in subst (λ k. as_named (get_or new k x) ≡ looked_for d (as_named (get_or old j y))) here (go j x y l))
   where
-    go : (j : ℕ) (x y : Member) → j < length old → seen (get_or new j x) ≡ looked_for d (seen (get_or old j y))
+    go : (j : ℕ) (x y : Member) → j < length old → as_named (get_or new j x) ≡ looked_for d (as_named (get_or old j y))
     go j x y l =
-        let within : j < length (map seen old) = omega (arith, length-map old seen) in
-        nth new _ is j x (omega (arith, length-map (map seen old) (looked_for d), length-map old seen))
-        ∙ get_or-map (looked_for d) (map seen old) j (seen y) (seen x) within
-        ∙ ap (looked_for d) (get_or-map seen old j y (seen y) l)
+        let within : j < length (map as_named old) = omega (arith, length-map old as_named) in
+        nth new _ is j x (omega (arith, length-map (map as_named old) (looked_for d), length-map old as_named))
+        ∙ get_or-map (looked_for d) (map as_named old) j (as_named y) (as_named x) within
+        ∙ ap (looked_for d) (get_or-map as_named old j y (as_named y) l)

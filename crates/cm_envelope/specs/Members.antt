@@ -11,12 +11,12 @@ abbrev pub value_of : Member → Option Data
 value_of m = option_map (λ v. view v.now) m.value
 
 -- a member's name, and what was found of it
-abbrev pub seen : Member → Named
-seen m = (m.name.now, value_of m)
+abbrev pub as_named : Member → Named
+as_named m = (m.name.now, value_of m)
 
 -- a member that is given this value where it has this name
-abbrev pub noted : List ℕ → Data → Named → Named
-noted name d m = if bytes_eq m.0 name then (m.0, Some d) else m
+abbrev pub with_value : List ℕ → Data → Named → Named
+with_value name d m = if bytes_eq m.0 name then (m.0, Some d) else m
 
 -- What was found before stays where there is no other.
 abbrev pub or_before : Option Data → Option Data → Option Data
@@ -31,5 +31,5 @@ looked_for d m = (m.0, or_before (present_member m.0 d) m.1)
 abbrev pub AreFound : Data → List Member → ℕ → List Member → Type 0
 AreFound d found at [] = ⊤
 AreFound d found at (m ∷ ms) =
-    ((x : Member) → seen (slice_index_or found at x) ≡ looked_for d (seen m))
+    ((x : Member) → as_named (slice_index_or found at x) ≡ looked_for d (as_named m))
     × AreFound d found (at + 1) ms

@@ -5,7 +5,7 @@ ghost use Rattle.serde_json.specs.View.{view, items_view};
 ghost use Rattle.cm_envelope.specs.Member.{GivesMember, present_member, member_of, required_in, optional_in, optional_or_in};
 ghost use Rattle.cm_envelope.specs.Member.{as_whole_number, media_type_in, items_in, GivesMemberOf, values_in, each, good, nested_in};
 ghost use Rattle.cm_envelope.specs.Member.{optional_nested_in, list_in, object_in, has_one_of as has_one_member, all_items};
-ghost use Rattle.cm_envelope.specs.Members.{value_of, seen, noted, AreFound};
+ghost use Rattle.cm_envelope.specs.Members.{value_of, as_named, with_value, AreFound};
 ghost use Rattle.gk_document.specs.MediaType.{unless_empty};
 ghost use Rattle.serde_json.specs.Data.{Data};
 ghost use Rattle.cm_envelope.specs.Documents.{GivesNode, NodeRead, Ids, node_in, optional_node_in, each_node, nodes_in, node_number};
@@ -25,7 +25,7 @@ pub(crate) struct Member<'v> {
 
 /// The member of this name, which isn't looked for yet.
 fn member_named<'v>(name: &'static str) -> Member<'v>
-    ensures { seen result ≡ (name.now, None) }
+    ensures { as_named result ≡ (name.now, None) }
 {
     Member { name, value: None }
 }
@@ -45,8 +45,8 @@ fn find<'v>(object: &'v Value, members: &mut [Member<'v>])
 
 /// Keeps the value in the members of this name.
 fn note_member<'v>(members: &mut [Member<'v>], name: &str, value: &'v Value)
-    ensures { map seen members.new
-        ≡ map (noted name.now (view value.now)) (map seen members.old) }
+    ensures { map as_named members.new
+        ≡ map (with_value name.now (view value.now)) (map as_named members.old) }
 {
     for i in 0..members.len() {
         if members[i].name == name {
@@ -61,8 +61,8 @@ pub(crate) fn two_members<'v>(
     first: &'static str,
     second: &'static str,
 ) -> (Member<'v>, Member<'v>)
-    ensures first { seen result.0 ≡ member_of first.now (view object.now) }
-    ensures second { seen result.1 ≡ member_of second.now (view object.now) }
+    ensures first { as_named result.0 ≡ member_of first.now (view object.now) }
+    ensures second { as_named result.1 ≡ member_of second.now (view object.now) }
 {
     let mut members = [member_named(first), member_named(second)];
     find(object, &mut members);
@@ -77,9 +77,9 @@ pub(crate) fn three_members<'v>(
     second: &'static str,
     third: &'static str,
 ) -> (Member<'v>, Member<'v>, Member<'v>)
-    ensures first { seen result.0 ≡ member_of first.now (view object.now) }
-    ensures second { seen result.1 ≡ member_of second.now (view object.now) }
-    ensures third { seen result.2 ≡ member_of third.now (view object.now) }
+    ensures first { as_named result.0 ≡ member_of first.now (view object.now) }
+    ensures second { as_named result.1 ≡ member_of second.now (view object.now) }
+    ensures third { as_named result.2 ≡ member_of third.now (view object.now) }
 {
     let mut members = [
         member_named(first),
@@ -99,10 +99,10 @@ pub(crate) fn four_members<'v>(
     third: &'static str,
     fourth: &'static str,
 ) -> (Member<'v>, Member<'v>, Member<'v>, Member<'v>)
-    ensures first { seen result.0 ≡ member_of first.now (view object.now) }
-    ensures second { seen result.1 ≡ member_of second.now (view object.now) }
-    ensures third { seen result.2 ≡ member_of third.now (view object.now) }
-    ensures fourth { seen result.3 ≡ member_of fourth.now (view object.now) }
+    ensures first { as_named result.0 ≡ member_of first.now (view object.now) }
+    ensures second { as_named result.1 ≡ member_of second.now (view object.now) }
+    ensures third { as_named result.2 ≡ member_of third.now (view object.now) }
+    ensures fourth { as_named result.3 ≡ member_of fourth.now (view object.now) }
 {
     let mut members = [
         member_named(first),
@@ -117,7 +117,7 @@ pub(crate) fn four_members<'v>(
 
 /// The member of this name, by a look-up.
 pub(crate) fn look_up<'v>(object: &'v Value, name: &'static str) -> Member<'v>
-    ensures { seen result ≡ member_of name.now (view object.now) }
+    ensures { as_named result ≡ member_of name.now (view object.now) }
 {
     Member {
         name,

@@ -2,7 +2,7 @@
 ghost use Rattle.std.specs.Prelude.{◌≡◌, [], codes};
 ghost use Rattle.serde_json.specs.View.{view, items_view};
 ghost use Rattle.cm_envelope.specs.Member.{GivesMember, GivesMemberOf, all_items, required_in};
-ghost use Rattle.cm_envelope.specs.Members.{value_of, seen};
+ghost use Rattle.cm_envelope.specs.Members.{value_of, as_named};
 ghost use Rattle.cm_envelope.specs.Documents.{GivesNode, node_in, optional_node_in, each_node, children_of, background_in, rank_of as rank_of_child, are_in_order as children_are_in_order, ordered_children, as_line, location, cell, doc_string, mark_in, title_in, tag, row, data_table, argument_of, argument_in, heading_in, step, background, is_empty, is_object, table_of_rows, body_rows_in, example_table_in, tagged_heading_in, examples, scenario, body, rule_node, feature_heading_in, feature_body_in, feature, gherkin_document};
 
 use crate::envelope::GherkinDocument;
@@ -87,7 +87,7 @@ fn children_are_in_order(children: &[Value], in_feature: bool) -> bool
 /// The children, once each has its kind and they are in order.
 fn children_in<'v>(member: Member<'v>, in_feature: bool) -> Result<&'v [Value], MemberFault>
     ensures { GivesMemberOf (λ values. items_view values.now) result
-        (ordered_children in_feature (seen member.entry)) }
+        (ordered_children in_feature (as_named member.entry)) }
 {
     let children = member.items()?;
     if !children_are_in_order(children, in_feature) {
@@ -160,7 +160,7 @@ struct Mark {
 
 /// The id and the location of a node.
 fn read_tag_parts(alloc: Global, id: Member<'_>, location: Member<'_>) -> Result<Mark, MemberFault>
-    ensures { GivesMember result (mark_in (seen id.entry) (seen location.entry)) }
+    ensures { GivesMember result (mark_in (as_named id.entry) (as_named location.entry)) }
 {
     Ok(Mark {
         id: id.node_id(alloc)?,
@@ -208,7 +208,7 @@ struct Title {
 
 /// The keyword of a node, and its name or text.
 fn read_title(alloc: Global, keyword: Member<'_>, text: Member<'_>) -> Result<Title, MemberFault>
-    ensures { GivesMember result (title_in (seen keyword.entry) (seen text.entry)) }
+    ensures { GivesMember result (title_in (as_named keyword.entry) (as_named text.entry)) }
 {
     Ok(Title {
         keyword: keyword.text(alloc)?,
@@ -233,8 +233,8 @@ fn read_heading(
     text: Member<'_>,
     ids: &mut Sequence<NodeId>,
 ) -> Result<Heading, MemberFault>
-    ensures { GivesNode result ids.new (heading_in (seen id.entry) (seen location.entry)
-        (seen keyword.entry) (seen text.entry) ids.old) }
+    ensures { GivesNode result ids.new (heading_in (as_named id.entry) (as_named location.entry)
+        (as_named keyword.entry) (as_named text.entry) ids.old) }
 {
     let mark = read_tag_parts(alloc, id, location)?;
     let title = read_title(alloc, keyword, text)?;
@@ -264,8 +264,9 @@ fn read_tagged_heading(
     name: Member<'_>,
     ids: &mut Sequence<NodeId>,
 ) -> Result<TaggedHeading, MemberFault>
-    ensures { GivesNode result ids.new (tagged_heading_in (seen id.entry) (seen location.entry)
-        (seen tags.entry) (seen keyword.entry) (seen name.entry) ids.old) }
+    ensures { GivesNode result ids.new (tagged_heading_in (as_named id.entry)
+        (as_named location.entry) (as_named tags.entry) (as_named keyword.entry)
+        (as_named name.entry) ids.old) }
 {
     let mark = read_tag_parts(alloc, id, location)?;
     let tags = tags.nodes_of(alloc, ids)?;
@@ -319,7 +320,7 @@ fn read_step_argument(
     ids: &mut Sequence<NodeId>,
 ) -> Result<Option<Argument>, MemberFault>
     ensures { GivesNode result ids.new
-        (argument_in (seen data_table.entry) (seen doc_string.entry) ids.old) }
+        (argument_in (as_named data_table.entry) (as_named doc_string.entry) ids.old) }
 {
     let table = data_table.optional_node(alloc, ids)?;
     if data_table.is_present() && doc_string.is_present() {
@@ -422,7 +423,7 @@ fn table_of_rows(header: Option<Row>, body: Sequence<Row>) -> Option<ExampleTabl
 /// The rows of a table's body: each is an object, and a body that isn't empty needs a header.
 fn body_rows<'v>(member: Member<'v>, has_header: bool) -> Result<&'v [Value], MemberFault>
     ensures { GivesMemberOf (λ values. items_view values.now) result
-        (body_rows_in has_header (seen member.entry)) }
+        (body_rows_in has_header (as_named member.entry)) }
 {
     let rows = member.items()?;
     if !rows_are_objects(rows) {
@@ -442,7 +443,7 @@ fn example_table(
     ids: &mut Sequence<NodeId>,
 ) -> Result<Option<ExampleTable>, MemberFault>
     ensures { GivesNode result ids.new
-        (example_table_in (seen header.entry) (seen body.entry) ids.old) }
+        (example_table_in (as_named header.entry) (as_named body.entry) ids.old) }
 {
     let header = header.optional_node(alloc, ids)?;
     let rows = body_rows(body, header.is_some())?;
@@ -570,8 +571,9 @@ fn read_feature_heading(
     name: Member<'_>,
     ids: &mut Sequence<NodeId>,
 ) -> Result<FeatureHeading, MemberFault>
-    ensures { GivesNode result ids.new (feature_heading_in (seen location.entry)
-        (seen tags.entry) (seen language.entry) (seen keyword.entry) (seen name.entry) ids.old) }
+    ensures { GivesNode result ids.new (feature_heading_in (as_named location.entry)
+        (as_named tags.entry) (as_named language.entry) (as_named keyword.entry)
+        (as_named name.entry) ids.old) }
 {
     Ok(FeatureHeading {
         location: location.nested(alloc)?,
@@ -594,7 +596,7 @@ fn read_feature_body(
     member: Member<'_>,
     ids: &mut Sequence<NodeId>,
 ) -> Result<FeatureBody, MemberFault>
-    ensures { GivesNode result ids.new (feature_body_in (seen member.entry) ids.old) }
+    ensures { GivesNode result ids.new (feature_body_in (as_named member.entry) ids.old) }
 {
     let values = children_in(member, true)?;
     Ok(FeatureBody {

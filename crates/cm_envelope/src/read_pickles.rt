@@ -1,7 +1,7 @@
 //! How a pickle is read, member by member.
 ghost use Rattle.std.specs.Prelude.{◌≡◌};
 ghost use Rattle.cm_envelope.specs.Member.{GivesMember, optional_in};
-ghost use Rattle.cm_envelope.specs.Members.{value_of, seen};
+ghost use Rattle.cm_envelope.specs.Members.{value_of, as_named};
 ghost use Rattle.cm_envelope.specs.Pickles.{step_kind_of, as_step_kind, texts_in, lists_in, pickle, pickle_tag, pickle_step, pickle_argument, pickle_argument_of, pickle_table, pickle_row, pickle_cell, pickle_doc_string, pickle_argument_in};
 
 use crate::fault::MemberFault;
@@ -173,7 +173,8 @@ fn read_pickle_texts(
     language: Member<'_>,
 ) -> Result<PickleTexts, MemberFault>
     ensures { GivesMember result
-        (texts_in (seen id.entry) (seen uri.entry) (seen name.entry) (seen language.entry)) }
+        (texts_in (as_named id.entry) (as_named uri.entry) (as_named name.entry)
+        (as_named language.entry)) }
 {
     Ok(PickleTexts {
         id: id.text(alloc)?,
@@ -199,7 +200,7 @@ fn read_pickle_lists(
     steps: Member<'_>,
 ) -> Result<PickleLists, MemberFault>
     ensures { GivesMember result
-        (lists_in (seen ast_node_ids.entry) (seen tags.entry) (seen steps.entry)) }
+        (lists_in (as_named ast_node_ids.entry) (as_named tags.entry) (as_named steps.entry)) }
 {
     Ok(PickleLists {
         ast_node_ids: ast_node_ids.texts(alloc)?,

@@ -7,7 +7,7 @@ use Rattle.cm_envelope.specs.Lines.{line_feed}
 use Rattle.cm_envelope.specs.declared.envelope.Envelope.{Envelope}
 use Rattle.cm_envelope.specs.declared.envelope.Envelope.TheVariants as envelope
 use Rattle.cm_envelope.specs.declared.envelope.TestCaseStarted.{TestCaseStarted}
-use Rattle.cm_reasons.specs.Lines.{ended}
+use Rattle.cm_reasons.specs.Lines.{text_of_lines}
 use Rattle.cm_reasons.specs.RunReasons.{run_hook_lines}
 use Rattle.cm_steps.specs.Attempts.{start_of}
 use Rattle.cm_steps.specs.Steps.{case_step_text, named_case_step}
@@ -107,5 +107,5 @@ abbrev pub status_lines : (upto : List Envelope) → Envelope → List ℕ
 status_lines upto (envelope.TestStepFinished x) =
     option_map_or (status_of_step upto x.test_step_id) (start_of x.test_case_started_id upto) []
 status_lines upto (envelope.TestRunHookFinished f) =
-    ended (run_hook_lines f.test_run_hook_started_id upto)
+    text_of_lines (run_hook_lines f.test_run_hook_started_id upto)
 status_lines upto _ = []

@@ -5,7 +5,7 @@ use Rattle.cm_attempt.specs.declared.status.Policy.{Policy}
 use Rattle.cm_causes.specs.Causes.{IsTruthTold}
 use Rattle.cm_envelope.specs.declared.envelope.Envelope.{Envelope}
 use Rattle.cm_envelope.specs.declared.envelope.Envelope.TheVariants as envelope
-use Rattle.cm_reasons.specs.Lines.{ended, limited}
+use Rattle.cm_reasons.specs.Lines.{text_of_lines, limited_text}
 use Rattle.cm_reasons.specs.Reasons.{case_lines}
 use Rattle.cm_reasons.specs.RunReasons.{AreRefusedLines, first_source, open_hook_lines, run_hook_lines}
 use Rattle.cm_steps.specs.Attempts.{open_cases}
@@ -13,23 +13,23 @@ use Rattle.cm_stream.specs.References.{sources}
 
 -- `case URI:LINE NAME` of each test case with an attempt that isn't finished, a hundred at most
 abbrev pub open_case_lines : (upto : List Envelope) → List ℕ
-open_case_lines upto = limited (case_lines (codes "case") upto (open_cases upto))
+open_case_lines upto = limited_text (case_lines (codes "case") upto (open_cases upto))
 
 -- `hook ID` of each run hook that isn't finished, a hundred at most
 abbrev pub hook_open_lines : (upto : List Envelope) → List ℕ
-hook_open_lines upto = limited (open_hook_lines upto)
+hook_open_lines upto = limited_text (open_hook_lines upto)
 
 -- `hook ID` of the run hook whose end an envelope is
 abbrev pub ended_hook_lines : (upto : List Envelope) → Envelope → List ℕ
 ended_hook_lines upto (envelope.TestRunHookFinished f) =
-    ended (run_hook_lines f.test_run_hook_started_id upto)
+    text_of_lines (run_hook_lines f.test_run_hook_started_id upto)
 ended_hook_lines upto _ = []
 
 -- `refused URI:L:C N Name` of the source of a document, where it is refused
 abbrev pub IsRefusedAt : (upto : List Envelope) → Envelope → (text : List ℕ) → Type 0
 IsRefusedAt upto (envelope.GherkinDocument d) text =
     (lines : List (List ℕ)) × AreRefusedLines (first_source d.uri upto) lines
-    × (text ≡ ended lines)
+    × (text ≡ text_of_lines lines)
 IsRefusedAt upto _ text = text ≡ []
 
 -- why the run whose end an envelope is isn't successful, or that nothing failed
@@ -42,4 +42,4 @@ IsTruthAt policy upto _ text = text ≡ []
 abbrev pub IsToldAtEnd : List Envelope → (text : List ℕ) → Type 0
 IsToldAtEnd es text =
     (lines : List (List ℕ)) × AreRefusedLines (sources es) lines
-    × (text ≡ limited lines ++ open_case_lines es)
+    × (text ≡ limited_text lines ++ open_case_lines es)

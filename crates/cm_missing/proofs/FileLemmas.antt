@@ -4,7 +4,7 @@ use Rattle.std.specs.List.{AllByRecursion, flat_map}
 use Rattle.std.proofs.lemmas.List.{map-append}
 use Rattle.std.proofs.lemmas.List.Concat.{flat_map-append}
 use Rattle.std.proofs.lemmas.List.Sums.{sum_by-append}
-use Rattle.cm_reasons.specs.Lines.{ended}
+use Rattle.cm_reasons.specs.Lines.{text_of_lines}
 use Rattle.cm_stream.specs.Release.{Conditions}
 use Rattle.gk_document.specs.declared.tree.Document.{Document}
 use Rattle.gk_pickle.specs.Pickles.{pickles as compiled}
@@ -54,7 +54,7 @@ module _ (asked : Conditions) (files : List AskedFile) (f : AskedFile) (reading 
           map-append file_of m.reads (r ∷ []) ∙ ap (λ (fs : List AskedFile). fs ++ f ∷ []) m.are_read.0,
           all_push (λ (r : ReadFile). IsFileReading r.file.text r.reading) m.reads r m.are_read.1 is,
         );
-        text = k.text ∙ ap (λ (ls : List (List ℕ)). ended (take 100 ls)) lines;
+        text = k.text ∙ ap (λ (ls : List (List ℕ)). text_of_lines (take 100 ls)) lines;
         count = k.count ∙ ap length lines;
         scenarios = k.scenarios ∙ scenarios;
         unrun = k.unrun ∙ unrun;

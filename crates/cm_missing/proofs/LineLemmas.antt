@@ -14,7 +14,7 @@ use Rattle.gk_pickle.specs.InFeature.{ScenarioInFeature}
 use Rattle.gk_pickle.specs.Inherited.{Inherited}
 use Rattle.gk_pickle.specs.Pickles.{examples_pickles, outline_pickles, pickle_of, row_filling, table_pickles}
 use Rattle.gk_pickle.specs.Scenarios.{inherited_in, pickles_of_one}
-use Rattle.cm_reasons.specs.Lines.{ended}
+use Rattle.cm_reasons.specs.Lines.{text_of_lines}
 use Rattle.cm_missing.specs.PickleLines.{OneLineForEachPickle, lines_of_one, outline_lines, row_lines}
 
 -- ---- as many lines as pickles
@@ -53,14 +53,14 @@ lines_for_each (s ∷ ss) =
 
 -- ---- the lines that are shown
 
-pub one_shown : (lines : List (List ℕ)) (line old mid new : List ℕ) → length lines < 100 → old ≡ ended (take 100 lines) → mid ≡ old ++ line → new ≡ mid ++ 10 ∷ []
-    → new ≡ ended (take 100 (lines ++ line ∷ []))
+pub one_shown : (lines : List (List ℕ)) (line old mid new : List ℕ) → length lines < 100 → old ≡ text_of_lines (take 100 lines) → mid ≡ old ++ line → new ≡ mid ++ 10 ∷ []
+    → new ≡ text_of_lines (take 100 (lines ++ line ∷ []))
 one_shown lines line old mid new few o m n =
     let all : take 100 lines ≡ lines = take_all 100 lines (omega arith) in
     let more : take 100 (lines ++ line ∷ []) ≡ lines ++ line ∷ [] = take_all 100 (lines ++ line ∷ []) (omega (arith, length_push lines line)) in
-    n ∙ ap (λ (t : List ℕ). t ++ 10 ∷ []) m ∙ append_assoc old line (10 ∷ []) ∙ ap (λ (t : List ℕ). t ++ (line ++ 10 ∷ [])) (o ∙ ap ended all)
-    ∙ ap (λ (t : List ℕ). ended lines ++ t) (sym (append-nil (line ++ 10 ∷ []))) ∙ sym (flat_map-append (λ (l : List ℕ). l ++ 10 ∷ []) lines (line ∷ []))
-    ∙ ap ended (sym more)
+    n ∙ ap (λ (t : List ℕ). t ++ 10 ∷ []) m ∙ append_assoc old line (10 ∷ []) ∙ ap (λ (t : List ℕ). t ++ (line ++ 10 ∷ [])) (o ∙ ap text_of_lines all)
+    ∙ ap (λ (t : List ℕ). text_of_lines lines ++ t) (sym (append-nil (line ++ 10 ∷ []))) ∙ sym (flat_map-append (λ (l : List ℕ). l ++ 10 ∷ []) lines (line ∷ []))
+    ∙ ap text_of_lines (sym more)
 
-pub none_shown : (lines : List (List ℕ)) (line old new : List ℕ) → 100 ≤ length lines → old ≡ ended (take 100 lines) → new ≡ old → new ≡ ended (take 100 (lines ++ line ∷ []))
-none_shown lines line old new many o n = n ∙ o ∙ ap ended (sym (take-append-le 100 lines (line ∷ []) many))
+pub none_shown : (lines : List (List ℕ)) (line old new : List ℕ) → 100 ≤ length lines → old ≡ text_of_lines (take 100 lines) → new ≡ old → new ≡ text_of_lines (take 100 (lines ++ line ∷ []))
+none_shown lines line old new many o n = n ∙ o ∙ ap text_of_lines (sym (take-append-le 100 lines (line ∷ []) many))

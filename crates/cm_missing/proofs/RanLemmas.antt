@@ -1,7 +1,7 @@
 -- A file all of whose scenarios ran.
 use Rattle.std.proofs.Common.{◌≡◌, ◌∙◌, ap, sym, refl, subst, ℕ, zero, suc, ◌<◌, ◌+◌, Bool, true, false, List, [], ◌∷◌, ◌++◌, Option, Some, add-zero, append-nil, arith, cond, count_by, length, map, string_bytes, take}
 use Rattle.std.specs.List.{filter, flat_map}
-use Rattle.cm_reasons.specs.Lines.{ended}
+use Rattle.cm_reasons.specs.Lines.{text_of_lines}
 use Rattle.cm_stream.specs.Release.{Conditions}
 use Rattle.cm_stream.specs.Sources.{DuePickle}
 use Rattle.cm_stream.specs.Texts.{Utf8}
@@ -43,7 +43,7 @@ whole_told asked f count a =
 
 keeps_counted : (old new : Missing) (count : ℕ) → new ≡ record old { scenarios = old.scenarios + count } → KeepsMore old new (counted count)
 keeps_counted old new count is t k = record {
-  text = ap (λ (m : Missing). string_bytes m.text) is ∙ k.text ∙ ap (λ (ls : List (List ℕ)). ended (take 100 ls)) (sym (append-nil t.lines));
+  text = ap (λ (m : Missing). string_bytes m.text) is ∙ k.text ∙ ap (λ (ls : List (List ℕ)). text_of_lines (take 100 ls)) (sym (append-nil t.lines));
   count = ap (λ (m : Missing). m.count) is ∙ k.count ∙ ap length (sym (append-nil t.lines));
   scenarios = ap (λ (m : Missing). m.scenarios) is ∙ ap (λ n. n + count) k.scenarios;
   unrun = ap (λ (m : Missing). m.unrun) is ∙ k.unrun ∙ sym (add-zero t.unrun);

@@ -4,7 +4,7 @@ use Rattle.std.specs.List.{filter, flat_map}
 use Rattle.std.proofs.lemmas.List.{get_or_default, length-append, length_push, map-append}
 use Rattle.std.proofs.lemmas.List.Elements.{filter-append}
 use Rattle.std.proofs.lemmas.List.Sums.{sum_by-append}
-use Rattle.cm_reasons.specs.Lines.{ended}
+use Rattle.cm_reasons.specs.Lines.{text_of_lines}
 use Rattle.cm_stream.specs.Release.{Conditions}
 use Rattle.cm_stream.specs.ReleasedRuns.{may_be_left_out}
 use Rattle.cm_stream.specs.Sources.{DuePickle}
@@ -63,7 +63,7 @@ keeps_line old new line a t k = record {
 }
   where
     text : ((old.count < 100) × (string_bytes new.text ≡ string_bytes old.text ++ line ++ 10 ∷ [])) ⊎ ((100 ≤ old.count) × (string_bytes new.text ≡ string_bytes old.text))
-        → string_bytes new.text ≡ ended (take 100 (t.lines ++ line ∷ []))
+        → string_bytes new.text ≡ text_of_lines (take 100 (t.lines ++ line ∷ []))
     text (inl (few, e)) = one_shown t.lines line (string_bytes old.text) (string_bytes old.text ++ line) (string_bytes new.text) (omega (arith, few, k.count)) k.text refl e
     text (inr (many, e)) = none_shown t.lines line (string_bytes old.text) (string_bytes new.text) (omega (arith, many, k.count)) k.text e
 

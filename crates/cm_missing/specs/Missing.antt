@@ -2,7 +2,7 @@
 use Rattle.std.specs.Prelude.{◌≡◌, ◌⊎◌, ◌&&◌, ◌<◌, ℕ, suc, Bool, true, false, not, List, [], ◌∷◌, ◌++◌, Option, Some, None, IfSome, codes, count_by, decimal, length, map, slice_get, string_bytes, sum_by, take, unwrap_or}
 use Rattle.std.specs.List.{AllByRecursion, filter, flat_map}
 use Rattle.cm_cases.specs.Shown.{shown_text}
-use Rattle.cm_reasons.specs.Lines.{ended, most_lines}
+use Rattle.cm_reasons.specs.Lines.{text_of_lines, most_lines}
 use Rattle.cm_reasons.specs.Words.{kind_label}
 use Rattle.cm_stream.specs.Readings.{Accepted as accepted_as, IsReading}
 use Rattle.cm_stream.specs.Release.{Conditions}
@@ -152,7 +152,7 @@ IsUnrunCount asked files count =
 pub record IsMissingOf (asked : Conditions) (files : List AskedFile) (m : Missing) : Type 0 where
   pub reads : List ReadFile
   pub are_read : AreReadAs files reads
-  pub text : string_bytes m.text ≡ ended (take most_lines (lines_of asked reads))
+  pub text : string_bytes m.text ≡ text_of_lines (take most_lines (lines_of asked reads))
   pub count : m.count ≡ length (lines_of asked reads)
   pub scenarios : m.scenarios ≡ scenarios_in reads
   pub unrun : m.unrun ≡ unrun_in asked reads

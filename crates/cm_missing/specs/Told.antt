@@ -2,7 +2,7 @@
 -- promise depends on how it is put.
 use Rattle.std.specs.Prelude.{◌≡◌, ◌+◌, ℕ, List, [], ◌∷◌, ◌++◌, Result, Ok, Err, count_by, length, map, string_bytes, take}
 use Rattle.std.specs.List.{filter}
-use Rattle.cm_reasons.specs.Lines.{ended, most_lines}
+use Rattle.cm_reasons.specs.Lines.{text_of_lines, most_lines}
 use Rattle.cm_stream.specs.Release.{Conditions}
 use Rattle.cm_stream.specs.Texts.{Utf8}
 use Rattle.gk_document.specs.declared.tree.Document.{Document}
@@ -42,7 +42,7 @@ file_told asked f reading = record {
 
 -- this is kept
 pub record Keeps (m : Missing) (t : Told) : Type 0 where
-  pub text : string_bytes m.text ≡ ended (take most_lines t.lines)
+  pub text : string_bytes m.text ≡ text_of_lines (take most_lines t.lines)
   pub count : m.count ≡ length t.lines
   pub scenarios : m.scenarios ≡ t.scenarios
   pub unrun : m.unrun ≡ t.unrun

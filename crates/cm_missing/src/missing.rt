@@ -1,7 +1,7 @@
 //! What is missing of feature files.
 ghost use Rattle.std.specs.Prelude.{◌≡◌, ◌≢◌, ◌↔◌, ◌+◌, ◌++◌, ◌∷◌, [], List, ℕ, true, IfOk, OnErr, OnOk, length, option_map, string_bytes};
 ghost use Rattle.std.specs.Prelude.{drop};
-ghost use Rattle.cm_reasons.specs.Lines.{limited, more_text};
+ghost use Rattle.cm_reasons.specs.Lines.{limited_text, more_text};
 ghost use Rattle.cm_stream.specs.Release.{Conditions as SomeConditions, conditions_of};
 ghost use Rattle.gk_pickle.specs.Scenarios.{pickles_of_one};
 ghost use Rattle.gk_tree.specs.Views.{too_long};
@@ -296,7 +296,7 @@ impl Missing {
         ensures { OnOk result ((asked : SomeConditions) (files : List AskedFile)
             → IsMissingOf asked files self.now
             → (lines : List (List ℕ)) × AreMissingLines asked files lines
-            × (string_bytes text.new ≡ string_bytes text.old ++ limited lines)) }
+            × (string_bytes text.new ≡ string_bytes text.old ++ limited_text lines)) }
     {
         text.push_str(self.text.as_str())?;
         if self.count > MOST_LINES {

@@ -16,7 +16,7 @@ use Rattle.cm_cases.specs.Listed.{both_texts}
 use Rattle.cm_stream.specs.Texts.{Utf8}
 use Rattle.cm_stream.proofs.Lists.{or_no}
 use Rattle.cm_stream.proofs.Steps.{never}
-use Rattle.cm_ran.specs.Marks.{AlsoRan, marked_texts, ran, with_text}
+use Rattle.cm_ran.specs.Marks.{AlsoRan, marked_texts, has_run, with_text}
 use Rattle.cm_ran.specs.Rows.{flag_at, is_set_at}
 use Rattle.cm_ran.specs.declared.marks.Marks.{Marks}
 use Rattle.cm_ran.proofs.RowLemmas.{apart}
@@ -145,7 +145,7 @@ is_there o v e = subst IsSome e refl
 
 -- ---- no texts
 
-pub unmarked_at_first : (m : Marks) → marked_texts m ≡ [] → (text : Utf8) (place : ℕ) → ran m text place ≡ false
+pub unmarked_at_first : (m : Marks) → marked_texts m ≡ [] → (text : Utf8) (place : ℕ) → has_run m text place ≡ false
 unmarked_at_first m none text place =
     let missing : is_some (value_at m.rows text) ≡ false = text_found m.rows text ∙ ap (has_text text) none in
     rw (none_of (value_at m.rows text) missing) refl

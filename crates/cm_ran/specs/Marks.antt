@@ -17,8 +17,8 @@ abbrev pub marked_texts : Marks → List Utf8
 marked_texts m = map (λ text. text.now) (keys m.rows)
 
 -- the scenario at this place of the text, from 0, is marked; of a text that isn't there none is
-abbrev pub ran : Marks → (text : Utf8) → (place : ℕ) → Bool
-ran m text place = flag_at m.rows text place
+abbrev pub has_run : Marks → (text : Utf8) → (place : ℕ) → Bool
+has_run m text place = flag_at m.rows text place
 
 -- one text more, which stands there once
 abbrev pub with_text : Utf8 → List Utf8 → List Utf8
@@ -26,13 +26,13 @@ with_text text texts = if has_text text texts then texts else texts ++ text ∷ 
 
 -- no scenario is marked that wasn't, and none is lost
 abbrev pub HasSameFlags : (old new : Marks) → Type 0
-HasSameFlags old new = (text : Utf8) (place : ℕ) → ran new text place ≡ ran old text place
+HasSameFlags old new = (text : Utf8) (place : ℕ) → has_run new text place ≡ has_run old text place
 
 -- of the texts that are there, those scenarios are marked that were, and those that ran too
 abbrev pub AlsoRan : (old new : Marks) → (did_run : (text : Utf8) → (place : ℕ) → Bool) → Type 0
 AlsoRan old new did_run =
     (text : Utf8) (place : ℕ) → has_text text (marked_texts old) ≡ true
-    → ran new text place ≡ (ran old text place || did_run text place)
+    → has_run new text place ≡ (has_run old text place || did_run text place)
 
 -- The text is of the grammar, and compiles to so many pickles.
 pub record CompilesTo (text : Utf8) (count : ℕ) : Type 0 where

@@ -5,7 +5,7 @@ ghost use Rattle.std.specs.Str.{bytes_eq};
 ghost use Rattle.cm_cases.specs.Listed.{both_texts};
 ghost use Rattle.cm_envelope.specs.declared.envelope.Envelope.{Envelope as SomeEnvelope};
 ghost use Rattle.cm_reasons.specs.Trail.{trail_of};
-ghost use Rattle.cm_ran.specs.Marks.{AlsoRan, CompilesTo, HasSameFlags, HasWholeRows, Marked, marked_texts, ran, with_text};
+ghost use Rattle.cm_ran.specs.Marks.{AlsoRan, CompilesTo, HasSameFlags, HasWholeRows, Marked, marked_texts, has_run, with_text};
 ghost use Rattle.cm_attempt.specs.Table.{has_text};
 ghost use Rattle.cm_ran.specs.Compiled.{HasCompiled};
 ghost use Rattle.cm_ran.specs.Rows.{flag_at, is_set_at, row_at, flags_in};
@@ -26,7 +26,7 @@ impl<'a> Marks<'a> {
     /// No texts. It takes no memory.
     pub fn new(alloc: Global, seed: RandomState) -> Marks<'a>
         ensures texts { marked_texts result ≡ [] }
-        ensures unmarked { (text : List ℕ) (place : ℕ) → ran result text place ≡ false }
+        ensures unmarked { (text : List ℕ) (place : ℕ) → has_run result text place ≡ false }
         ensures rows { HasWholeRows result }
     {
         Marks {
@@ -71,7 +71,7 @@ impl<'a> Marks<'a> {
 
     /// Whether the scenario at the place of the text ran, from 0; of a text that isn't there none did.
     pub fn has_run(&self, text: &str, place: usize) -> bool
-        ensures { result ≡ ran self.now text.now place }
+        ensures { result ≡ has_run self.now text.now place }
     {
         match self.rows.get(text) {
             Some(row) => is_set(row.as_slice(), place),

@@ -2,19 +2,19 @@
 use Rattle.std.proofs.Common.{◌≡◌, ◌∙◌, ap, sym, ℕ, ◌-◌, ◌≤◌, List, [], ◌∷◌, ◌++◌, append-nil, append_assoc, arith, length, map, take, take_all, Result, Ok, Err}
 use Rattle.std.specs.Prelude.{OnOk, if◌then◌else◌, is_ok}
 use Rattle.std.proofs.lemmas.List.{length-map, take-map}
-use Rattle.cm_reasons.specs.Lines.{ended, limited, more_text}
+use Rattle.cm_reasons.specs.Lines.{text_of_lines, limited_text, more_text}
 
-pub few : {T : Type 0} (f : T → List ℕ) (items : List T) → length items ≤ 100 → ended (map f items) ≡ limited (map f items)
+pub few : {T : Type 0} (f : T → List ℕ) (items : List T) → length items ≤ 100 → text_of_lines (map f items) ≡ limited_text (map f items)
 few f items h =
     let none : length (map f items) - 100 ≡ 0 = omega (arith, length-map items f) in
     let short : length (map f items) ≤ 100 = omega (arith, length-map items f) in
-    sym (append-nil (ended (map f items))) ∙ (λ j. ended (sym (take_all 100 (map f items) short) j) ++ more_text (sym none j))
+    sym (append-nil (text_of_lines (map f items))) ∙ (λ j. text_of_lines (sym (take_all 100 (map f items) short) j) ++ more_text (sym none j))
 
-pub many : {T : Type 0} (f : T → List ℕ) (items : List T) → ended (map f (take 100 items)) ++ more_text (length items - 100) ≡ limited (map f items)
-many f items = λ j. ended (sym (take-map f 100 items) j) ++ more_text (sym (length-map items f) j - 100)
+pub many : {T : Type 0} (f : T → List ℕ) (items : List T) → text_of_lines (map f (take 100 items)) ++ more_text (length items - 100) ≡ limited_text (map f items)
+many f items = λ j. text_of_lines (sym (take-map f 100 items) j) ++ more_text (sym (length-map items f) j - 100)
 
 -- one line after another text
-pub one_ended : (start mid new line : List ℕ) → mid ≡ start ++ line → new ≡ mid ++ 10 ∷ [] → new ≡ start ++ ended (line ∷ [])
+pub one_ended : (start mid new line : List ℕ) → mid ≡ start ++ line → new ≡ mid ++ 10 ∷ [] → new ≡ start ++ text_of_lines (line ∷ [])
 one_ended start mid new line m n =
     n ∙ ap (λ (t : List ℕ). t ++ 10 ∷ []) m ∙ append_assoc start line (10 ∷ []) ∙ ap (λ (t : List ℕ). start ++ t) (sym (append-nil (line ++ 10 ∷ [])))
 

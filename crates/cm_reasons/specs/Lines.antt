@@ -4,8 +4,8 @@ use Rattle.std.specs.List.{flat_map}
 use Rattle.cm_envelope.specs.Lines.{line_feed}
 
 -- the lines, each with its end
-abbrev pub ended : List (List ℕ) → List ℕ
-ended lines = flat_map (λ line. line ++ line_feed ∷ []) lines
+abbrev pub text_of_lines : List (List ℕ) → List ℕ
+text_of_lines lines = flat_map (λ line. line ++ line_feed ∷ []) lines
 
 -- how many lines of a kind are shown
 abbrev pub most_lines : ℕ
@@ -17,5 +17,5 @@ more_text n =
     if n == 0 then [] else (codes "and " ++ decimal n ++ codes " more" ++ line_feed ∷ [])
 
 -- the first hundred of the lines, and how many more there are
-abbrev pub limited : List (List ℕ) → List ℕ
-limited lines = ended (take most_lines lines) ++ more_text (length lines - most_lines)
+abbrev pub limited_text : List (List ℕ) → List ℕ
+limited_text lines = text_of_lines (take most_lines lines) ++ more_text (length lines - most_lines)

@@ -4,7 +4,7 @@ ghost use Rattle.cm_cases.specs.Listed.{listing_of};
 ghost use Rattle.cm_stream.specs.References.{cases, pickles};
 ghost use Rattle.cm_envelope.specs.declared.envelope.Envelope.{Envelope as SomeEnvelope};
 ghost use Rattle.cm_reasons.specs.Trail.{trail_of};
-ghost use Rattle.cm_reasons.specs.Lines.{ended, limited, more_text};
+ghost use Rattle.cm_reasons.specs.Lines.{text_of_lines, limited_text, more_text};
 ghost use Rattle.cm_reasons.specs.Words.{kind_label, status_word};
 ghost use Rattle.cm_cases.specs.Places.{case_scenario, pickle_scenario};
 ghost use Rattle.cm_reasons.specs.Reasons.{case_lines, pickle_lines, step_ids, undefined_line, undefined_lines};
@@ -41,7 +41,7 @@ pub trait AddLine<T> {
 /// Adds the line of each item.
 fn add_each<T, L: AddLine<T>>(text: &mut String, lines: &L, items: &[T]) -> Result<(), AllocError>
     ensures { OnOk result ((es : List SomeEnvelope) → L.of lines.now es → string_bytes text.new
-        ≡ string_bytes text.old ++ ended (map (L.line lines.now es) items.now)) }
+        ≡ string_bytes text.old ++ text_of_lines (map (L.line lines.now es) items.now)) }
 {
     for item in items {
         lines.add(text, item)?;
@@ -72,7 +72,7 @@ pub fn add_limited<T, L: AddLine<T>>(
     items: &[T],
 ) -> Result<(), AllocError>
     ensures { OnOk result ((es : List SomeEnvelope) → L.of lines.now es → string_bytes text.new
-        ≡ string_bytes text.old ++ limited (map (L.line lines.now es) items.now)) }
+        ≡ string_bytes text.old ++ limited_text (map (L.line lines.now es) items.now)) }
 {
     let count = items.len() as u64;
     if count <= MOST_LINES {
@@ -92,7 +92,7 @@ fn limited_text<T, L: AddLine<T>>(
     items: &[T],
 ) -> Result<String, AllocError>
     ensures { IfOk result (λ text. (es : List SomeEnvelope) → L.of lines.now es
-        → string_bytes text ≡ limited (map (L.line lines.now es) items.now)) }
+        → string_bytes text ≡ limited_text (map (L.line lines.now es) items.now)) }
 {
     let mut text = String::new(alloc);
     add_limited(&mut text, lines, items)?;
@@ -174,7 +174,8 @@ fn pickle_lines(
     ids: &[&str],
 ) -> Result<String, AllocError>
     ensures { IfOk result (λ text. (es : List SomeEnvelope) → trail.now ≡ trail_of es
-        → string_bytes text ≡ limited (pickle_lines word.now es (map (λ id. id.now) ids.now))) }
+        → string_bytes text
+        ≡ limited_text (pickle_lines word.now es (map (λ id. id.now) ids.now))) }
 {
     let places = Places::of(alloc, seed, &trail.listing)?;
     let lines = PickleLines {
@@ -195,7 +196,7 @@ fn case_lines(
     ids: &[&str],
 ) -> Result<String, AllocError>
     ensures { IfOk result (λ text. (es : List SomeEnvelope) → trail.now ≡ trail_of es
-        → string_bytes text ≡ limited (case_lines word.now es (map (λ id. id.now) ids.now))) }
+        → string_bytes text ≡ limited_text (case_lines word.now es (map (λ id. id.now) ids.now))) }
 {
     let places = Places::of(alloc, seed, &trail.listing)?;
     let lines = CaseLines {
@@ -219,7 +220,7 @@ pub fn unrun_text(
 ) -> Result<String, AllocError>
     ensures { IfOk result (λ text. (es : List SomeEnvelope) → trail.now ≡ trail_of es
         → string_bytes text
-        ≡ limited (pickle_lines (codes "UNRUN") es (map (λ id. id.now) ids.now))) }
+        ≡ limited_text (pickle_lines (codes "UNRUN") es (map (λ id. id.now) ids.now))) }
 {
     pickle_lines(alloc, seed, trail, "UNRUN", ids)
 }
@@ -236,7 +237,7 @@ pub fn retried_text(
 ) -> Result<String, AllocError>
     ensures { IfOk result (λ text. (es : List SomeEnvelope) → trail.now ≡ trail_of es
         → string_bytes text
-        ≡ limited (pickle_lines (codes "RETRIED") es (map (λ id. id.now) ids.now))) }
+        ≡ limited_text (pickle_lines (codes "RETRIED") es (map (λ id. id.now) ids.now))) }
 {
     pickle_lines(alloc, seed, trail, "RETRIED", ids)
 }
@@ -253,7 +254,7 @@ pub fn skipped_text(
 ) -> Result<String, AllocError>
     ensures { IfOk result (λ text. (es : List SomeEnvelope) → trail.now ≡ trail_of es
         → string_bytes text
-        ≡ limited (case_lines (codes "SKIPPED") es (map (λ id. id.now) ids.now))) }
+        ≡ limited_text (case_lines (codes "SKIPPED") es (map (λ id. id.now) ids.now))) }
 {
     case_lines(alloc, seed, trail, "SKIPPED", ids)
 }
@@ -270,7 +271,7 @@ pub fn stepless_text(
 ) -> Result<String, AllocError>
     ensures { IfOk result (λ text. (es : List SomeEnvelope) → trail.now ≡ trail_of es
         → string_bytes text
-        ≡ limited (case_lines (codes "STEPLESS") es (map (λ id. id.now) ids.now))) }
+        ≡ limited_text (case_lines (codes "STEPLESS") es (map (λ id. id.now) ids.now))) }
 {
     case_lines(alloc, seed, trail, "STEPLESS", ids)
 }
@@ -328,7 +329,7 @@ pub fn undefined_text(
     steps: &[CaseStep<'_>],
 ) -> Result<String, AllocError>
     ensures { IfOk result (λ text. (es : List SomeEnvelope) → trail.now ≡ trail_of es
-        → string_bytes text ≡ limited (undefined_lines es (map step_ids steps.now))) }
+        → string_bytes text ≡ limited_text (undefined_lines es (map step_ids steps.now))) }
 {
     let places = Places::of(alloc, seed, &trail.listing)?;
     let lines = UndefinedLines {

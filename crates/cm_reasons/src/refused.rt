@@ -3,7 +3,7 @@ ghost use Rattle.std.specs.Prelude.{◌≡◌, ◌++◌, IfOk, List, OnOk, map, 
 ghost use Rattle.cm_stream.specs.References.{sources};
 ghost use Rattle.cm_envelope.specs.declared.envelope.Envelope.{Envelope as SomeEnvelope};
 ghost use Rattle.cm_reasons.specs.Trail.{trail_of};
-ghost use Rattle.cm_reasons.specs.Lines.{ended, limited};
+ghost use Rattle.cm_reasons.specs.Lines.{text_of_lines, limited_text};
 ghost use Rattle.std.specs.Str.{bytes_eq};
 ghost use Rattle.cm_reasons.specs.RunKept.{AreEntryLines, IsRefusalOf};
 ghost use Rattle.cm_reasons.specs.RunKept.{fault_line, refused_source_line};
@@ -93,7 +93,7 @@ fn refused_sources<'a>(
 pub fn add_refused(alloc: Global, text: &mut String, trail: &Trail) -> Result<(), AllocError>
     ensures { OnOk result ((es : List SomeEnvelope) → trail.now ≡ trail_of es
         → (lines : List (List ℕ)) × AreRefusedLines (sources es) lines
-        × (string_bytes text.new ≡ string_bytes text.old ++ limited lines)) }
+        × (string_bytes text.new ≡ string_bytes text.old ++ limited_text lines)) }
 {
     let refused = refused_sources(alloc, trail.run.sources.as_slice())?;
     add_limited(text, &RefusedLines, refused.as_slice())
@@ -119,7 +119,7 @@ pub fn add_refused_of(
 ) -> Result<(), AllocError>
     ensures { OnOk result ((es : List SomeEnvelope) → trail.now ≡ trail_of es
         → (lines : List (List ℕ)) × AreRefusedLines (first_source uri.now es) lines
-        × (string_bytes text.new ≡ string_bytes text.old ++ ended lines)) }
+        × (string_bytes text.new ≡ string_bytes text.old ++ text_of_lines lines)) }
 {
     let Some(source) = find_source(trail.run.sources.as_slice(), uri) else {
         return Ok(());

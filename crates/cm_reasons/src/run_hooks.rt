@@ -2,7 +2,7 @@
 ghost use Rattle.std.specs.Prelude.{◌≡◌, ◌++◌, IfOk, List, OnOk, map, ℕ, find, option_map, string_bytes};
 ghost use Rattle.cm_envelope.specs.declared.envelope.Envelope.{Envelope as SomeEnvelope};
 ghost use Rattle.cm_reasons.specs.Trail.{trail_of};
-ghost use Rattle.cm_reasons.specs.Lines.{ended, limited};
+ghost use Rattle.cm_reasons.specs.Lines.{text_of_lines, limited_text};
 ghost use Rattle.std.specs.Str.{bytes_eq};
 ghost use Rattle.cm_cases.specs.Firsts.{value_at};
 ghost use Rattle.cm_reasons.specs.RunKept.{bad_end_in, bad_entry_lines, bad_line, entry_line, open_entries};
@@ -81,7 +81,7 @@ pub fn add_open_hooks(
     trail: &Trail,
 ) -> Result<(), AllocError>
     ensures { OnOk result ((es : List SomeEnvelope) → trail.now ≡ trail_of es
-        → string_bytes text.new ≡ string_bytes text.old ++ limited (open_hook_lines es)) }
+        → string_bytes text.new ≡ string_bytes text.old ++ limited_text (open_hook_lines es)) }
 {
     let unfinished = open_hooks(alloc, seed, &trail.run)?;
     add_limited(text, &HookLines, unfinished.as_slice())
@@ -101,7 +101,7 @@ fn find_hook<'a>(hooks: &'a [RunHookEntry], id: &str) -> Option<&'a RunHookEntry
 pub fn add_run_hook(text: &mut String, trail: &Trail, run_hook: &str) -> Result<(), AllocError>
     ensures { OnOk result ((es : List SomeEnvelope) → trail.now ≡ trail_of es
         → string_bytes text.new
-        ≡ string_bytes text.old ++ ended (run_hook_lines run_hook.now es)) }
+        ≡ string_bytes text.old ++ text_of_lines (run_hook_lines run_hook.now es)) }
 {
     let Some(hook) = find_hook(trail.run.hooks.as_slice(), run_hook) else {
         return Ok(());
@@ -186,7 +186,7 @@ pub fn add_hook_causes(
     policy: Policy,
 ) -> Result<(), AllocError>
     ensures { OnOk result ((es : List SomeEnvelope) → trail.now ≡ trail_of es
-        → string_bytes text.new ≡ string_bytes text.old ++ limited (hook_causes policy es)) }
+        → string_bytes text.new ≡ string_bytes text.old ++ limited_text (hook_causes policy es)) }
 {
     let bad = bad_hooks(alloc, seed, &trail.run, policy)?;
     add_limited(text, &BadHookLines, bad.as_slice())

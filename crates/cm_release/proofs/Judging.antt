@@ -4,7 +4,7 @@ use Rattle.std.specs.Prelude.{codes}
 use Rattle.cm_attempt.specs.declared.status.Settings.{Settings}
 use Rattle.cm_attempt.specs.declared.status.Policy.{Policy}
 use Rattle.cm_envelope.specs.declared.envelope.Envelope.{Envelope}
-use Rattle.cm_reasons.specs.Lines.{limited}
+use Rattle.cm_reasons.specs.Lines.{limited_text}
 use Rattle.cm_reasons.specs.Reasons.{StepIds, case_lines, pickle_lines, undefined_lines}
 use Rattle.cm_reasons.specs.Trail.{trail_of}
 use Rattle.cm_stream.specs.Good.{Good, Sound}
@@ -28,11 +28,11 @@ use Rattle.cm_release.proofs.WholeLemmas.{counts_same, missed_same, retried_same
 module _ (policy : Policy) (asked : Conditions) (es : List Envelope) (good : Sound es) (found : Found) (is : IsFoundIn asked policy (kept_of es) found) where
   -- the lines are the reasons
   reasons : (held : Option Hold) (text : List ℕ) → AreLinesIn policy es found held text → AreReasons policy asked es held text
-  reasons (Some hold.Unrun) text h = h ∙ ap (λ (ids : List Utf8). limited (pickle_lines (codes "UNRUN") es ids)) (is.missed ∙ missed_same asked es)
-  reasons (Some hold.Retried) text h = h ∙ ap (λ (ids : List Utf8). limited (pickle_lines (codes "RETRIED") es ids)) (is.retried ∙ retried_same es)
-  reasons (Some hold.Skipped) text h = h ∙ ap (λ (ids : List Utf8). limited (case_lines (codes "SKIPPED") es ids)) (is.skipped ∙ skipped_same es)
-  reasons (Some hold.Stepless) text h = h ∙ ap (λ (ids : List Utf8). limited (case_lines (codes "STEPLESS") es ids)) (is.stepless ∙ stepless_same es)
-  reasons (Some hold.Undefined) text h = h ∙ ap (λ (steps : List StepIds). limited (undefined_lines es steps)) (is.undefined_steps ∙ undefined_same policy es good)
+  reasons (Some hold.Unrun) text h = h ∙ ap (λ (ids : List Utf8). limited_text (pickle_lines (codes "UNRUN") es ids)) (is.missed ∙ missed_same asked es)
+  reasons (Some hold.Retried) text h = h ∙ ap (λ (ids : List Utf8). limited_text (pickle_lines (codes "RETRIED") es ids)) (is.retried ∙ retried_same es)
+  reasons (Some hold.Skipped) text h = h ∙ ap (λ (ids : List Utf8). limited_text (case_lines (codes "SKIPPED") es ids)) (is.skipped ∙ skipped_same es)
+  reasons (Some hold.Stepless) text h = h ∙ ap (λ (ids : List Utf8). limited_text (case_lines (codes "STEPLESS") es ids)) (is.stepless ∙ stepless_same es)
+  reasons (Some hold.Undefined) text h = h ∙ ap (λ (steps : List StepIds). limited_text (undefined_lines es steps)) (is.undefined_steps ∙ undefined_same policy es good)
   reasons (Some hold.NotSuccessful) text h = h
   reasons (Some hold.Empty) text h = h
   reasons None text h = h

@@ -5,7 +5,7 @@ use Rattle.cm_attempt.specs.Table.{Table}
 use Rattle.cm_attempt.specs.declared.status.Policy.{Policy}
 use Rattle.cm_attempt.specs.declared.status.Settings.{Settings}
 use Rattle.cm_envelope.specs.declared.envelope.Envelope.{Envelope}
-use Rattle.cm_reasons.specs.Lines.{limited}
+use Rattle.cm_reasons.specs.Lines.{limited_text}
 use Rattle.cm_causes.specs.Causes.{IsCauses}
 use Rattle.cm_reasons.specs.Reasons.{case_lines, pickle_lines, step_ids, undefined_lines}
 use Rattle.cm_reasons.specs.Trail.{has_exception, trail_of}
@@ -37,15 +37,15 @@ abbrev pub AreLinesIn : Policy → List Envelope → Found → Option Hold → L
 AreLinesIn policy es found (Some hold.NotSuccessful) text =
     IsCauses policy es (has_exception es) text
 AreLinesIn policy es found (Some hold.Unrun) text =
-    text ≡ limited (pickle_lines (codes "UNRUN") es (texts_of found.missed.items))
+    text ≡ limited_text (pickle_lines (codes "UNRUN") es (texts_of found.missed.items))
 AreLinesIn policy es found (Some hold.Retried) text =
-    text ≡ limited (pickle_lines (codes "RETRIED") es (texts_of found.retried.items))
+    text ≡ limited_text (pickle_lines (codes "RETRIED") es (texts_of found.retried.items))
 AreLinesIn policy es found (Some hold.Skipped) text =
-    text ≡ limited (case_lines (codes "SKIPPED") es (texts_of found.skipped.items))
+    text ≡ limited_text (case_lines (codes "SKIPPED") es (texts_of found.skipped.items))
 AreLinesIn policy es found (Some hold.Stepless) text =
-    text ≡ limited (case_lines (codes "STEPLESS") es (texts_of found.stepless.items))
+    text ≡ limited_text (case_lines (codes "STEPLESS") es (texts_of found.stepless.items))
 AreLinesIn policy es found (Some hold.Undefined) text =
-    text ≡ limited (undefined_lines es (map step_ids found.undefined_steps.items))
+    text ≡ limited_text (undefined_lines es (map step_ids found.undefined_steps.items))
 AreLinesIn policy es found _ text = text ≡ []
 
 -- those of the envelopes that a trail is of, and whose results a table has

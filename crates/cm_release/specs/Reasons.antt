@@ -3,7 +3,7 @@ use Rattle.std.specs.Prelude.{◌≡◌, ℕ, List, [], Option, Some, None, code
 use Rattle.cm_attempt.specs.declared.status.Policy.{Policy}
 use Rattle.cm_causes.specs.Causes.{IsCauses}
 use Rattle.cm_envelope.specs.declared.envelope.Envelope.{Envelope}
-use Rattle.cm_reasons.specs.Lines.{limited}
+use Rattle.cm_reasons.specs.Lines.{limited_text}
 use Rattle.cm_reasons.specs.Reasons.{case_lines, missed_pickles, pickle_lines, retried_pickles, skipped_cases, stepless_cases, undefined_lines, undefined_steps}
 use Rattle.cm_reasons.specs.Trail.{has_exception}
 use Rattle.cm_stream.specs.Release.{Conditions}
@@ -15,15 +15,15 @@ abbrev pub AreReasonsOf : Policy → Conditions → List Envelope → Hold → L
 AreReasonsOf policy asked es hold.NotSuccessful text = IsCauses policy es (has_exception es) text
 AreReasonsOf policy asked es hold.Empty text = text ≡ []
 AreReasonsOf policy asked es hold.Unrun text =
-    text ≡ limited (pickle_lines (codes "UNRUN") es (missed_pickles asked es))
+    text ≡ limited_text (pickle_lines (codes "UNRUN") es (missed_pickles asked es))
 AreReasonsOf policy asked es hold.Retried text =
-    text ≡ limited (pickle_lines (codes "RETRIED") es (retried_pickles es))
+    text ≡ limited_text (pickle_lines (codes "RETRIED") es (retried_pickles es))
 AreReasonsOf policy asked es hold.Skipped text =
-    text ≡ limited (case_lines (codes "SKIPPED") es (skipped_cases es))
+    text ≡ limited_text (case_lines (codes "SKIPPED") es (skipped_cases es))
 AreReasonsOf policy asked es hold.Stepless text =
-    text ≡ limited (case_lines (codes "STEPLESS") es (stepless_cases es))
+    text ≡ limited_text (case_lines (codes "STEPLESS") es (stepless_cases es))
 AreReasonsOf policy asked es hold.Undefined text =
-    text ≡ limited (undefined_lines es (undefined_steps policy es))
+    text ≡ limited_text (undefined_lines es (undefined_steps policy es))
 
 -- that, where the run is held
 abbrev pub AreReasons : Policy → Conditions → List Envelope → Option Hold → List ℕ → Type 0

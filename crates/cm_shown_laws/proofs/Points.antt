@@ -9,7 +9,7 @@ use Rattle.std.proofs.lemmas.Str.{chars-encodes, encodes-append, encodes-chars, 
 use lib.Utf8.{encode, encodes, low_scalar, scalar, scalars}
 use Rattle.json.proofs.Printed.Utf8.{are_ascii}
 use Rattle.cm_envelope.specs.Lines.{line_feed}
-use Rattle.cm_cases.specs.Shown.{is_hidden, is_numbered_in_json, json_char, numbered, shown_char}
+use Rattle.cm_cases.specs.Shown.{is_hidden, is_numbered_in_json, json_char, numbered_char, shown_char}
 use Rattle.cm_shown_laws.specs.Texts.{HasNone, ShownJsonIsPlain, ShownTextsArePlain, UnlikeTextsAreShownUnlike}
 
 -- ---- a test that holds of each number below another
@@ -58,7 +58,7 @@ digits_ascii = refl
 digit_ascii : (n : ℕ) → nat_lt (digit_char (n % 16)) 128 ≡ true
 digit_ascii n = below (λ d. nat_lt (digit_char d) 128) 16 digits_ascii (n % 16) (below_16 n)
 
-number_ascii : (c : ℕ) → are_ascii (numbered c) ≡ true
+number_ascii : (c : ℕ) → are_ascii (numbered_char c) ≡ true
 number_ascii c = rw (digit_ascii (c / 4096), digit_ascii (c / 256), digit_ascii (c / 16), digit_ascii c) refl
 
 digits_bare : all_below (λ n. not (is_numbered_in_json (digit_char n))) 16 ≡ true
@@ -67,14 +67,14 @@ digits_bare = refl
 digit_bare : (n : ℕ) → is_numbered_in_json (digit_char (n % 16)) ≡ false
 digit_bare n = not-true (is_numbered_in_json (digit_char (n % 16))) (below (λ d. not (is_numbered_in_json (digit_char d))) 16 digits_bare (n % 16) (below_16 n))
 
-number_bare : (c : ℕ) → list_any is_numbered_in_json (numbered c) ≡ false
+number_bare : (c : ℕ) → list_any is_numbered_in_json (numbered_char c) ≡ false
 number_bare c = rw (digit_bare (c / 4096), digit_bare (c / 256), digit_bare (c / 16), digit_bare c) refl
 
 -- ---- the characters of what is shown
 
 -- the characters that are shown for one
 abbrev json_points : ℕ → List ℕ
-json_points c = if is_numbered_in_json c then numbered c else c ∷ []
+json_points c = if is_numbered_in_json c then numbered_char c else c ∷ []
 
 abbrev text_points : ℕ → List ℕ
 text_points c =
@@ -84,11 +84,11 @@ text_points c =
     else if c == 0xa then codes "\\n"
     else if c == 0xc then codes "\\f"
     else if c == 0xd then codes "\\r"
-    else if is_hidden c then numbered c
+    else if is_hidden c then numbered_char c
     else c ∷ []
 
 json_encoded : (c : ℕ) → encodes (json_points c) ≡ json_char c
-json_encoded c = encoded (is_numbered_in_json c) (numbered c) (c ∷ []) (numbered c) (encode c) (ascii_encodes (numbered c) (number_ascii c)) (append-nil (encode c))
+json_encoded c = encoded (is_numbered_in_json c) (numbered_char c) (c ∷ []) (numbered_char c) (encode c) (ascii_encodes (numbered_char c) (number_ascii c)) (append-nil (encode c))
 
 text_encoded : (c : ℕ) → encodes (text_points c) ≡ shown_char c
 text_encoded c =
@@ -98,7 +98,7 @@ text_encoded c =
     (encoded (c == 0xa) _ _ _ _ (ascii_encodes (codes "\\n") refl)
     (encoded (c == 0xc) _ _ _ _ (ascii_encodes (codes "\\f") refl)
     (encoded (c == 0xd) _ _ _ _ (ascii_encodes (codes "\\r") refl)
-    (encoded (is_hidden c) _ _ _ _ (ascii_encodes (numbered c) (number_ascii c)) (append-nil (encode c))))))))
+    (encoded (is_hidden c) _ _ _ _ (ascii_encodes (numbered_char c) (number_ascii c)) (append-nil (encode c))))))))
 
 -- what is asked of the characters that are shown for one
 abbrev PointsGood : (ℕ → Bool) → List ℕ → Type 0
@@ -106,7 +106,7 @@ PointsGood test xs = (scalars xs ≡ true) × (list_any test xs ≡ false)
 
 json_good : (c : ℕ) → scalar c ≡ true → PointsGood is_numbered_in_json (json_points c)
 json_good c ok =
-    one_of (PointsGood is_numbered_in_json) (is_numbered_in_json c) (numbered c) (c ∷ []) (λ h. (ascii_scalars (numbered c) (number_ascii c), number_bare c)) (λ h. (rw ok refl, rw h refl))
+    one_of (PointsGood is_numbered_in_json) (is_numbered_in_json c) (numbered_char c) (c ∷ []) (λ h. (ascii_scalars (numbered_char c) (number_ascii c), number_bare c)) (λ h. (rw ok refl, rw h refl))
 
 hidden_numbered : (c : ℕ) → is_numbered_in_json c ≡ false → is_hidden c ≡ false
 hidden_numbered c h = (or_parts (is_hidden c) _ (or_parts _ _ h).0).0
@@ -125,8 +125,8 @@ text_good c ok =
     (λ h. one_of (PointsGood is_hidden) (c == 0xa) _ _ (λ h. (refl, refl))
     (λ h. one_of (PointsGood is_hidden) (c == 0xc) _ _ (λ h. (refl, refl))
     (λ h. one_of (PointsGood is_hidden) (c == 0xd) _ _ (λ h. (refl, refl))
-    (λ h. one_of (PointsGood is_hidden) (is_hidden c) (numbered c) (c ∷ [])
-    (λ h. (ascii_scalars (numbered c) (number_ascii c), hidden_in (numbered c) (number_bare c))) (λ h. (rw ok refl, rw h refl))))))))
+    (λ h. one_of (PointsGood is_hidden) (is_hidden c) (numbered_char c) (c ∷ [])
+    (λ h. (ascii_scalars (numbered_char c) (number_ascii c), hidden_in (numbered_char c) (number_bare c))) (λ h. (rw ok refl, rw h refl))))))))
 
 -- ---- bytes
 
@@ -267,7 +267,7 @@ abbrev first_of : List ℕ → Read
 first_of [] = None
 first_of (x ∷ r) = if x == 0x5c then by_letter r else Some (x, r)
 
-number_back : (c : ℕ) (r : List ℕ) → c < 65536 → first_of (numbered c ++ r) ≡ Some (c, r)
+number_back : (c : ℕ) (r : List ℕ) → c < 65536 → first_of (numbered_char c ++ r) ≡ Some (c, r)
 number_back c r h =
     ap (λ (n : ℕ). Some (n, r))
     (rw (digit_back (c / 4096), digit_back (c / 256), digit_back (c / 16), digit_back c) (fits c h))

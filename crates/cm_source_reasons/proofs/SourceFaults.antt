@@ -41,7 +41,7 @@ use Rattle.cm_state.proofs.Checked.{findings_are_faults}
 use Rattle.cm_state.proofs.SourceTests.{first_left, no_document, not_zero, same_lack}
 use Rattle.cm_cases.specs.Places.{last_node, places_of, scenario_at}
 use Rattle.cm_cases.specs.Shown.{shown_text}
-use Rattle.cm_reasons.specs.Lines.{limited}
+use Rattle.cm_reasons.specs.Lines.{limited_text}
 use Rattle.cm_reasons.specs.declared.trail.Trail.{Trail}
 use Rattle.cm_differs.specs.Differences.{IsTreeDifference, pickle_difference}
 use Rattle.cm_differs.specs.DuePickles.{due_pickle}
@@ -140,7 +140,7 @@ module _ (upto es : List Envelope) (same : filter_map as_document upto ≡ filte
   same_line uri ids None = refl
 
   same_missing : (uri : Utf8) (ids : List Utf8) (due : List DuePickle) → missing_pickles upto uri ids due ≡ missing_pickles es uri ids due
-  same_missing uri ids due = ap (λ (f : DuePickle → List ℕ). limited (map f due)) (fun_ext (λ d. ap (λ (t : List ℕ). codes "missing" ++ t) (same_due uri ids d)))
+  same_missing uri ids due = ap (λ (f : DuePickle → List ℕ). limited_text (map f due)) (fun_ext (λ d. ap (λ (t : List ℕ). codes "missing" ++ t) (same_due uri ids d)))
 
   -- what a source lacks, by its row and by the lines
   lack_in : (uri : Utf8) (r : Reading) → lacks es uri r ≡ true → lack_lines upto (row_of uri r (documents_of uri es) (pickles_of uri es)) ≡ uri_line uri ++ missing_lines es uri r

@@ -18,7 +18,7 @@ use Rattle.cm_stream.specs.declared.laws.StreamFault.{StreamFault}
 use Rattle.cm_stream.specs.declared.laws.StreamFault.TheVariants as bad
 use Rattle.cm_cases.specs.Places.{scenario_text}
 use Rattle.cm_cases.specs.Shown.{shown_json, shown_text}
-use Rattle.cm_reasons.specs.Lines.{limited}
+use Rattle.cm_reasons.specs.Lines.{limited_text}
 use Rattle.cm_differs.specs.Differences.{IsTreeDifference, pickle_difference}
 use Rattle.cm_differs.specs.DuePickles.{due_pickle}
 use Rattle.cm_differs.specs.declared.difference.Difference.{Difference}
@@ -64,7 +64,7 @@ missing_document = codes "missing document" ++ line_feed ∷ []
 abbrev pub missing_pickles : List Envelope → (uri : Utf8) → (ids : List Utf8) → List DuePickle
     → List ℕ
 missing_pickles es uri ids due =
-    limited (map (λ d. codes "missing" ++ due_scenario es uri ids d) due)
+    limited_text (map (λ d. codes "missing" ++ due_scenario es uri ids d) due)
 
 -- what a source of this uri whose text is read so lacks after these envelopes: its document, or else those of its pickles that
 -- didn't come

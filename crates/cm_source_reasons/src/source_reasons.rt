@@ -13,7 +13,7 @@ ghost use Rattle.cm_source_reasons.specs.SourceReasons.{IsSourceReason, missing_
 ghost use Rattle.cm_source_reasons.specs.SourceReasons.{sides_text, uri_line, pickle_reason_text, due_line};
 ghost use Rattle.gk_pickle.specs.Rest.{title_of};
 ghost use Rattle.cm_cases.specs.Listed.{listing_of};
-ghost use Rattle.cm_reasons.specs.Lines.{ended, most_lines};
+ghost use Rattle.cm_reasons.specs.Lines.{text_of_lines, most_lines};
 ghost use Rattle.cm_state.specs.StateChecks.{lacks_by, find_source};
 ghost use Rattle.cm_audit.specs.Kept.{kept_row};
 ghost use Rattle.cm_source_reasons.specs.DueLines.{missing_line, scenario_of};
@@ -164,7 +164,7 @@ fn add_first(
     ensures left { OnOk result (map title_of due.new ≡ drop most_lines (map title_of due.old)) }
     ensures lines { OnOk result ((es : List SomeEnvelope) → lines.now.places.now ≡ listing_of es
         → string_bytes text.new ≡ string_bytes text.old
-        ++ ended (take most_lines
+        ++ text_of_lines (take most_lines
         (map (missing_line es lines.now.uri.now lines.now.ids.now) (map title_of due.old)))) }
 {
     for _shown in 0..MOST_LINES {
@@ -473,7 +473,7 @@ impl DueLines<'_, '_> {
     fn add_missing(&self, text: &mut String, due: &PickleTitle) -> Result<(), AllocError>
         ensures { OnOk result ((es : List SomeEnvelope) → self.now.places.now ≡ listing_of es
             → string_bytes text.new ≡ string_bytes text.old
-            ++ ended (missing_line es self.now.uri.now self.now.ids.now due.now ∷ [])) }
+            ++ text_of_lines (missing_line es self.now.uri.now self.now.ids.now due.now ∷ [])) }
     {
         text.push_str("missing")?;
         self.add_scenario(text, due.name.as_str(), due.nodes.as_slice())?;

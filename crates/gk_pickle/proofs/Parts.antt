@@ -8,7 +8,7 @@ use Rattle.std.specs.Str.{IsUtf8}
 use Rattle.gk_document.specs.declared.tree.Cell.{Cell}
 use Rattle.gk_pickle.specs.declared.filling.Open.{Open}
 use Rattle.gk_pickle.specs.declared.filling.Part.{Part}
-use Rattle.gk_pickle.specs.SinglePass.{is_bracket, HasNoBracket, columns_named, Reading, with_bytes, with_open, closed_placeholder, closed_in, with_cell_read, step, read_to, read, read_parts, AreWithin, replacement, closed_by, weight, byte_weight, work}
+use Rattle.gk_pickle.specs.SinglePass.{is_bracket, HasNoBracket, columns_named, Reading, with_bytes, with_open, closed_placeholder, closed_in, with_cell_read, step, read_to, reading_after, read_parts, AreWithin, replacement, closed_by, weight, byte_weight, work}
 use Rattle.gk_pickle.proofs.Reading.{Found, Reads, at_column, From, find_from, read_plain, deeper}
 
 pub ok_then : {T E : Type 0} (r : Result T E) {P Q : Type 0} → (P → Q) → OnOk r P → OnOk r Q
@@ -43,12 +43,12 @@ module _ (header row : List Cell) where
   abbrev reads : Reads
   reads = read_to (length row) header row
 
-  plain_read : (done : ℕ) (text : List ℕ) (r : Reading) → HasNoBracket text → read header row done text r ≡ with_bytes text r
-  plain_read done text r h = ap (λ t. read header row done t r) (sym (append-nil text)) ∙ read_plain reads header row done text [] r h
+  plain_read : (done : ℕ) (text : List ℕ) (r : Reading) → HasNoBracket text → reading_after header row done text r ≡ with_bytes text r
+  plain_read done text r h = ap (λ t. reading_after header row done t r) (sym (append-nil text)) ∙ read_plain reads header row done text [] r h
 
   cut_read : (done : ℕ) (text before after : List ℕ) (b : ℕ) (r : Reading) → text ≡ before ++ b ∷ after → HasNoBracket before
-      → read header row done text r ≡ read header row done after (step reads header row done b (with_bytes before r))
-  cut_read done text before after b r e h = ap (λ t. read header row done t r) e ∙ read_plain reads header row done before (b ∷ after) r h
+      → reading_after header row done text r ≡ reading_after header row done after (step reads header row done b (with_bytes before r))
+  cut_read done text before after b r e h = ap (λ t. reading_after header row done t r) e ∙ read_plain reads header row done before (b ∷ after) r h
 
   -- a part without brackets
   pub part_read : (part : Part) (ps : List Part) (r new : Reading) → HasNoBracket part.text.now → new ≡ with_bytes part.text.now r
@@ -65,7 +65,7 @@ module _ (header row : List Cell) where
         → read_parts header row (reverse all) new ≡ read_parts header row (part ∷ reverse items) r
     left_read a n =
         ap (λ ps. read_parts header row (reverse ps) new) a ∙ ap (λ ps. read_parts header row ps new) (reverse-append items (left ∷ []))
-        ∙ ap (λ s. read_parts header row (reverse items) (read header row part.done after.now s)) (n ∙ ap (step reads header row part.done b) m)
+        ∙ ap (λ s. read_parts header row (reverse items) (reading_after header row part.done after.now s)) (n ∙ ap (step reads header row part.done b) m)
         ∙ ap (read_parts header row (reverse items)) (sym (cut_read part.done part.text.now before after.now b r cut plain))
 
     pub open_read : all ≡ items ++ left ∷ [] → b ≡ 60 → new ≡ with_open part.done more
@@ -87,7 +87,7 @@ module _ (header row : List Cell) where
     left_read_of push u =
         ap (λ ps. read_parts header row (reverse ps) (step reads header row part.done b more)) u
         ∙ ap (λ ps. read_parts header row ps (step reads header row part.done b more)) (reverse-append items (left ∷ []))
-        ∙ ap (λ s. read_parts header row (reverse items) (read header row part.done after.now (step reads header row part.done b s))) m
+        ∙ ap (λ s. read_parts header row (reverse items) (reading_after header row part.done after.now (step reads header row part.done b s))) m
         ∙ ap (read_parts header row (reverse items)) (sym (cut_read part.done part.text.now before after.now b r cut plain))
 
     -- and what a cell brings
@@ -95,7 +95,7 @@ module _ (header row : List Cell) where
         → is_bracket b ≡ true → (b ≡ 60 → ⊥) → Some (column, cell.now) ≡ (closed_placeholder header row part.done more).0 → new ≡ (closed_placeholder header row part.done more).1 → column < length row
         → read_parts header row (reverse all) new ≡ read_parts header row (part ∷ reverse items) r
     bring_read column cell push u a bracket other found n l =
-        let whole : read header row (column + 1) cell.now new ≡ step reads header row part.done b more =
+        let whole : reading_after header row (column + 1) cell.now new ≡ step reads header row part.done b more =
         deeper header row (suc (length row)) (length row) (column + 1) (omega arith) (omega arith) (omega arith) cell.now new
         ∙ ap (reads (column + 1) cell.now) n
         ∙ ap (λ f. with_cell_read reads f (closed_placeholder header row part.done more).1) found ∙ sym (closing bracket other) in

@@ -8,7 +8,7 @@ use Rattle.std.proofs.lemmas.Slice.Eq.{bytes_eq-Decides}
 use Rattle.gk_document.specs.declared.tree.Cell.{Cell}
 use Rattle.gk_pickle.specs.declared.filling.Open.{Open}
 use Rattle.gk_pickle.specs.Fill.{placeholder, replaced_text, filled_text}
-use Rattle.gk_pickle.specs.SinglePass.{is_bracket, HasNoBracket, HaveNoBracket, columns_named, replacement, Reading, nothing_read, with_bytes, with_open, raised_opens, closed_by, closed_in, with_cell_read, step, read_by, read_to, read}
+use Rattle.gk_pickle.specs.SinglePass.{is_bracket, HasNoBracket, HaveNoBracket, columns_named, replacement, Reading, nothing_read, with_bytes, with_open, raised_opens, closed_by, closed_in, with_cell_read, step, read_by, read_to, reading_after}
 use Rattle.std.proofs.lemmas.Option.{slice_get_cases}
 use Rattle.gk_pickle.proofs.Replacing.{nowhere, starts, occurs, fits_of, first, not_at_front, length-placeholder}
 use Rattle.gk_pickle.proofs.Cutting.{split_at, place_of}
@@ -431,7 +431,7 @@ module _ (n : Cell) (ns : List Cell) (c : Cell) (cs : List Cell) where
         ∙ ap (λ t. (read_by by_others ns cs 0 t (shifted r)).out) (sym (not_at_front p c.value b bs (λ o. both_ways _ miss (starts (b ∷ bs) p o)))))
         (cases_Bool (starts_with nat_eq (b ∷ bs) p))
 
-pub one_reading_fills : (text : List ℕ) (header row : List Cell) → HaveNoBracket header → (read header row zero text nothing_read).out ≡ filled_text text header row
+pub one_reading_fills : (text : List ℕ) (header row : List Cell) → HaveNoBracket header → (reading_after header row zero text nothing_read).out ≡ filled_text text header row
 one_reading_fills text [] row h = out_read (read_to (length row) [] row) [] row zero (no_header row) text nothing_read
 one_reading_fills text (n ∷ ns) [] h = out_read (read_to zero (n ∷ ns) []) (n ∷ ns) [] zero (no_row (n ∷ ns)) text nothing_read
 one_reading_fills text (n ∷ ns) (c ∷ cs) h =

@@ -101,13 +101,14 @@ read_to (suc depth) header row done text r =
     read_by (read_to depth header row) header row done text r
 
 -- each cell in a cell is of a later column
-abbrev pub read : List Cell → List Cell → ℕ → List ℕ → Reading → Reading
-read header row done text r = read_to (suc (length row)) header row done text r
+abbrev pub reading_after : List Cell → List Cell → ℕ → List ℕ → Reading → Reading
+reading_after header row done text r = read_to (suc (length row)) header row done text r
 
 -- texts that are still to be read, each where as many columns are done
 abbrev pub read_parts : List Cell → List Cell → List Part → Reading → Reading
 read_parts header row [] r = r
-read_parts header row (p ∷ ps) r = read_parts header row ps (read header row p.done p.text.now r)
+read_parts header row (p ∷ ps) r =
+    read_parts header row ps (reading_after header row p.done p.text.now r)
 
 -- each of these `<` is in what is written, the first after the others
 abbrev pub AreOpenIn : List ℕ → List Open → Type 0

@@ -1,6 +1,6 @@
 use Rattle.std.proofs.Common.{◌∙◌, ap, ◌++◌, append_assoc, List, ℕ, ◌-◌, arith, length, length-take, map, string_bytes, take}
 use Rattle.cm_cases.proofs.ListingLemmas.{on_ok}
-use Rattle.cm_reasons.specs.Lines.{ended, more_text}
+use Rattle.cm_reasons.specs.Lines.{text_of_lines, more_text}
 use Rattle.cm_reasons.proofs.LineLemmas.{few, many}
 use Rattle.cm_reasons.proofs.reasons.add_limited.Goals as goal
 
@@ -17,5 +17,5 @@ returns g c =
     on_ok c.add_more.result c.add_more.ensures
     (λ more es of.
     more ∙ ap (λ (t : List ℕ). t ++ more_text (length c.args.items.now - 100)) (c.in_ok-add_each.ensures es of)
-    ∙ append_assoc (string_bytes c.args.text.now) (ended (map (g.L.AddLine.line c.args.lines.now es) (take 100 c.args.items.now))) (more_text (length c.args.items.now - 100))
+    ∙ append_assoc (string_bytes c.args.text.now) (text_of_lines (map (g.L.AddLine.line c.args.lines.now es) (take 100 c.args.items.now))) (more_text (length c.args.items.now - 100))
     ∙ ap (λ (t : List ℕ). string_bytes c.args.text.now ++ t) (many (g.L.AddLine.line c.args.lines.now es) c.args.items.now))

@@ -1,6 +1,6 @@
 use Rattle.std.proofs.Common.{◌≡◌, ◌∙◌, ◌-◌, ◌+◌, ◌++◌, ap, sym, suc, ℕ, [], arith, append-nil, map, string_bytes, take}
 use Rattle.gk_pickle.specs.Rest.{title_of}
-use Rattle.cm_reasons.specs.Lines.{ended}
+use Rattle.cm_reasons.specs.Lines.{text_of_lines}
 use Rattle.cm_source_reasons.specs.DueLines.{missing_line}
 use Rattle.cm_source_reasons.proofs.MissingLemmas.{none_left, one_line, one_passed}
 use Rattle.cm_source_reasons.proofs.source_reasons.add_first.Goals as goal
@@ -30,4 +30,4 @@ returns-clause-lines c es is =
     let old = string_bytes c.loop-shown.text in
     let due = map (missing_line es lines.uri.now lines.ids.now) (map title_of c.loop-shown.due) in
     let none : 100 - c.loop-shown._shown ≡ 0 = omega (arith, c.loop-shown-test.false) in
-    sym (ap (λ (k : ℕ). old ++ ended (take k due)) none ∙ append-nil old) ∙ c.loop-shown.invariant.lines es is
+    sym (ap (λ (k : ℕ). old ++ text_of_lines (take k due)) none ∙ append-nil old) ∙ c.loop-shown.invariant.lines es is

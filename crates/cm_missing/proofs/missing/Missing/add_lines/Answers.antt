@@ -1,12 +1,12 @@
 use Rattle.std.proofs.Common.{◌≡◌, ◌∙◌, ap, sym, refl, ◌++◌, ◌-◌, List, ℕ, append-nil, arith, length, string_bytes, take}
-use Rattle.cm_reasons.specs.Lines.{ended, more_text}
+use Rattle.cm_reasons.specs.Lines.{text_of_lines, more_text}
 use Rattle.cm_missing.specs.Missing.{lines_of}
 use Rattle.cm_missing.proofs.missing.Missing.add_lines.Goals as goal
 
 pub returns-else-self-gt-MOST_LINES : goal.returns-else-self-gt-MOST_LINES
 returns-else-self-gt-MOST_LINES c asked files m =
     let lines = lines_of asked m.reads in
-    let shown = ended (take 100 lines) in
+    let shown = text_of_lines (take 100 lines) in
     let none : length lines - 100 ≡ 0 = omega (arith, m.count, c.if-self-gt-MOST_LINES.false) in (
       lines,
       (m.reads, m.are_read, refl),
