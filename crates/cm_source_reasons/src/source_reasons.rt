@@ -497,11 +497,7 @@ impl DueLines<'_, '_> {
     ///
     /// # Errors
     /// Only where there is no memory for it.
-    fn add_due(
-        &self,
-        text: &mut String,
-        due: Option<&DuePickle>,
-    ) -> Result<(), AllocError>
+    fn add_due(&self, text: &mut String, due: Option<&DuePickle>) -> Result<(), AllocError>
         ensures { OnOk result ((es : List SomeEnvelope) → self.now.places.now ≡ listing_of es
             → string_bytes text.new ≡ string_bytes text.old
             ++ due_line es self.now.uri.now self.now.ids.now (option_map (λ d. d.now) due.entry)) }

@@ -220,12 +220,7 @@ impl Found {
     }
 
     /// What a look at a path showed.
-    fn take_look(
-        &mut self,
-        alloc: Global,
-        path: &str,
-        look: &Look,
-    ) -> Result<(), AllocError>
+    fn take_look(&mut self, alloc: Global, path: &str, look: &Look) -> Result<(), AllocError>
         ensures files { OnOk result (map string_bytes self.new.files.items
             ≡ map string_bytes self.old.files.items ++ files_shown path.now look.now) }
         ensures faults { OnOk result (map faulty self.new.faults.items
