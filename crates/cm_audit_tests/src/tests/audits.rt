@@ -6,11 +6,12 @@ use cm_attempt::{Policy, Settings};
 use cm_audit::{
     Audited, Counts, Stop, StreamFault, TakeLines, Verdict, audit_run, audit_with, take_lines,
 };
-use cm_audit_cases::audit_cases;
+use cm_audit_cases::{AuditedCases, audit_cases};
 use cm_envelope::Trouble;
 use devices::Pieces;
 use seeds::fixed_seed;
-use std::alloc::Global;
+use std::alloc::{AllocError, Global};
+use std::hash::RandomState;
 use std::test::Fail;
 
 // A run without test cases that says no success.
@@ -28,51 +29,83 @@ const HIDES_SUCCESS: Verdict = Verdict::Bad {
     fault: StreamFault::SuccessDiffers,
 };
 
-#[test]
-fn a_run_and_its_verdict_alone(rt: HostRuntime) -> Result<(), Fail> {
-    let (alloc, seed) = (rt.alloc(), fixed_seed()?);
-    let stream = idle_run(alloc)?;
+/// Whether the run is answered so, and whether its verdict alone is.
+fn both_hide_success(alloc: Global, seed: RandomState, bytes: &[u8]) -> (bool, bool) {
     let settings = Settings::from(Policy::PendingPasses);
-    let run = audit_run(alloc, seed, &mut Pieces::whole(stream.as_bytes()), settings);
+    let run = audit_run(alloc, seed, &mut Pieces::whole(bytes), settings);
     let wanted = Audited {
         verdict: HIDES_SUCCESS,
         success: false,
     };
-    assert!(rt; matches!(run, Ok(audited) if audited == wanted));
-    let mut source = Pieces::whole(stream.as_bytes());
-    let verdict = audit_with(alloc, seed, &mut source, Policy::PendingPasses);
-    assert!(rt; matches!(verdict, Ok(verdict) if verdict == HIDES_SUCCESS));
+    let verdict = audit_with(
+        alloc,
+        seed,
+        &mut Pieces::whole(bytes),
+        Policy::PendingPasses,
+    );
+    (
+        matches!(run, Ok(audited) if audited == wanted),
+        matches!(verdict, Ok(verdict) if verdict == HIDES_SUCCESS),
+    )
+}
+
+#[test]
+fn a_run_and_its_verdict_alone(rt: HostRuntime) -> Result<(), Fail> {
+    let seed = fixed_seed()?;
+    let stream = idle_run(rt.alloc())?;
+    let (run, verdict) = both_hide_success(rt.alloc(), seed, stream.as_bytes());
+    drop(stream);
+    assert!(rt; run && verdict);
     Ok(())
+}
+
+const ONE_CASE: Counts = Counts {
+    sources: 1,
+    pickles: 2,
+    cases: 1,
+    attempts: 1,
+    unrun: 1,
+};
+
+fn names_one_pickle(alloc: Global, cases: &AuditedCases) -> Result<bool, AllocError> {
+    let named = cases.listing.named_pickles(alloc)?;
+    Ok(named.as_slice() == ["p1"].as_slice())
+}
+
+/// Whether the stream has one case, which failed.
+fn has_one_case(alloc: Global, cases: &AuditedCases) -> Result<bool, AllocError> {
+    let is_named = names_one_pickle(alloc, cases)?;
+    let results = cases.attempts.results()?.len();
+    let is_good = cases.audited.verdict == Verdict::Good(ONE_CASE) && !cases.audited.success;
+    Ok(is_good && is_named && results == 1)
+}
+
+fn are_cases(alloc: Global, seed: RandomState, bytes: &[u8]) -> Result<bool, AllocError> {
+    let settings = Settings::from(Policy::Strict);
+    let Ok(cases) = audit_cases(alloc, seed, &mut Pieces::whole(bytes), settings) else {
+        return Ok(false);
+    };
+    let has_one = has_one_case(alloc, &cases);
+    drop(cases);
+    has_one
 }
 
 #[test]
 fn the_cases_of_a_good_stream(rt: HostRuntime) -> Result<(), Fail> {
-    let (alloc, seed) = (rt.alloc(), fixed_seed()?);
-    let run = "{\"hook\":{\"id\":\"early\"}}\n{\"testRunStarted\":{}}\n";
+    let seed = fixed_seed()?;
     let parts = [
         FEATURE,
         FIRST_PICKLE,
         SECOND_PICKLE,
-        run,
+        "{\"testRunStarted\":{}}\n",
         ATTEMPT,
         END_OF_ATTEMPT,
         UNSUCCESSFUL,
     ];
-    let stream = joined(alloc, &parts)?;
-    let settings = Settings::from(Policy::Strict);
-    let Ok(cases) = audit_cases(alloc, seed, &mut Pieces::whole(stream.as_bytes()), settings) else {
-        return Err(Fail::from("a trouble"));
-    };
-    let counts = Counts {
-        sources: 1,
-        pickles: 2,
-        cases: 1,
-        attempts: 1,
-        unrun: 1,
-    };
-    assert!(rt; cases.audited.verdict == Verdict::Good(counts) && !cases.audited.success);
-    assert!(rt; cases.listing.named_pickles(alloc)?.as_slice() == ["p1"].as_slice());
-    assert!(rt; cases.attempts.results()?.len() == 1);
+    let stream = joined(rt.alloc(), &parts)?;
+    let are_cases = are_cases(rt.alloc(), seed, stream.as_bytes());
+    drop(stream);
+    assert!(rt; are_cases?);
     Ok(())
 }
 

@@ -85,11 +85,18 @@ pub(crate) fn envelope_of(alloc: Global, line: &str) -> Result<Envelope, Fail> {
     }
 }
 
+fn note_line(alloc: Global, trail: &mut Trail, line: &str) -> Result<(), Fail> {
+    let envelope = envelope_of(alloc, line)?;
+    let noted = trail.note(alloc, &envelope);
+    drop(envelope);
+    Ok(noted?)
+}
+
 /// What the lines of reasons name of these lines.
 pub(crate) fn trail_of(alloc: Global, lines: &str) -> Result<Trail, Fail> {
     let mut trail = Trail::new(alloc);
     for line in lines.lines() {
-        trail.note(alloc, &envelope_of(alloc, line)?)?;
+        note_line(alloc, &mut trail, line)?;
     }
     Ok(trail)
 }
@@ -97,5 +104,7 @@ pub(crate) fn trail_of(alloc: Global, lines: &str) -> Result<Trail, Fail> {
 /// What they name of the whole stream.
 pub(crate) fn whole_trail(alloc: Global) -> Result<Trail, Fail> {
     let stream = whole(alloc)?;
-    trail_of(alloc, stream.as_str())
+    let trail = trail_of(alloc, stream.as_str());
+    drop(stream);
+    trail
 }
